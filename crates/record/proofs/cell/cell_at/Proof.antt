@@ -1,0 +1,16 @@
+-- `record::cell::cell_at` meets its contract. Assumes nothing.
+use mathlib.Core.Path.{_∙_, ap}
+use native.Mathlib.Omega.{arith}
+use lib.ListN.{length-drop}
+use borrow.Author.Needs.{needs}
+use Rattle.record.specs.Cells.{decode}
+use Rattle.record.proofs.cell.cell_at.Statement.{statement}
+use Rattle.record.proofs.cell.cell_at.Tie as tie
+
+pub cell-at-spec : {M : Type 1} → statement M
+cell-at-spec =
+    tie.close
+    (tie.spec
+    (λ c κs. search needs)
+    (λ c κs. rw (c .row-at .ensures, length-drop) (omega arith))
+    (λ c. c .decode .ensures ∙ ap decode (c .before .row-at .ensures)))

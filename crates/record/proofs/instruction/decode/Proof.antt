@@ -1,0 +1,34 @@
+-- `record::instruction::decode` meets its contract. Assumes nothing.
+use mathlib.Core.Path.{_∙_, ap}
+use mir.Syntax.{w32}
+use mir.Facts.{toZ-ofZ}
+use borrow.Author.Needs.{needs}
+use Rattle.record.specs.GraphRecords.{decode}
+use Rattle.record.proofs.instruction.decode.Statement.{statement}
+use Rattle.record.proofs.instruction.decode.Tie as tie
+
+pub decode-spec : {M : Type 1} → statement M
+unfolding decode
+decode-spec =
+    tie.close
+    (tie.spec
+    (λ c κs. search needs)
+    (λ c. search needs)
+    (λ c κs. search needs)
+    (λ c. search needs)
+    (λ c. search needs)
+    (λ c. search needs)
+    (λ c κs. search needs)
+    (λ c κs. search needs)
+    (λ c κs. search needs)
+    (λ c.
+    let d = c .before in
+    let e = d .before .before .before .before .before in
+    rw (
+      c .u32-at2 .ensures,
+      toZ-ofZ {w = w32} (record { sfits = d .signed .ok }),
+      d .signed .ensures,
+      d .before .u32-at .ensures,
+      e .u16-at2 .ensures,
+      e .before .before .u16-at .ensures,
+    )))

@@ -1,0 +1,22 @@
+-- `record::instruction::encode` meets its contract. Assumes nothing.
+use mathlib.Core.Path.{_∙_}
+use mir.Syntax.{w32}
+use mir.Val.{SFits}
+use mir.Facts.{toZ-ofZ}
+use borrow.Author.Needs.{needs}
+use Rattle.record.specs.GraphRecords.{encode}
+use Rattle.record.proofs.instruction.encode.Statement.{statement}
+use Rattle.record.proofs.instruction.encode.Tie as tie
+
+pub encode-spec : {M : Type 1} → statement M
+unfolding encode
+encode-spec =
+    tie.close
+    (tie.spec
+    (λ c κs. search needs)
+    (λ c κs. search needs)
+    (λ c.
+    let known = c .before .before .struct-told .given in
+    let fits : SFits w32 (c .before .before .before .before .before .args .r .constant) = record { sfits = known .1 .1 .1 .1 .0 .1 } in
+    let second = known .1 .1 .1 .0 in
+    (c .bytes-of .ensures ∙ rw (c .before .bits .ensures, toZ-ofZ fits), record { code = search needs; fanout = search needs; port1 = search needs; port2 = search needs; instruction1 = search needs; instruction2 = search needs; constant = fits; zeros = search needs })))

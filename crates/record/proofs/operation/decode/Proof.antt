@@ -1,0 +1,65 @@
+-- `record::operation::decode` meets its contract: an arm's code computes to its row, and the last arm's is in no row. Assumes nothing.
+use mathlib.Core.Path.{_≡_, refl, sym}
+use mathlib.Core.List.{List, [], _∷_}
+use Prim.Native.Nat.{ℕ}
+use borrow.Author.Tests.{ne-eqb}
+use Rattle.record.specs.declared.operation.Operation.the-variants.{Unknown}
+use Rattle.record.specs.GraphRecords.{Row, table, lookup, noRow, rowOf}
+use Rattle.record.proofs.operation.decode.Statement.{statement}
+use Rattle.record.proofs.operation.decode.Tie as tie
+
+-- n is no row's code
+abbrev Absent : List Row → ℕ → Type 0
+Absent [] n = Unit {0}
+Absent (r ∷ rs) n = (n ≡ r .code → ⊥) × Absent rs n
+
+absent : (rs : List Row) (n : ℕ) → Absent rs n → lookup rs n .operation ≡ Unknown
+absent [] n h = refl
+absent (r ∷ rs) n h = rw (ne-eqb n (r .code) (h .0)) (absent rs n (h .1))
+
+-- what the last arm knows, `c .match .rest`, has the last row's fact outermost: it is turned round, a row at a time
+abbrev Back : List Row → ℕ → Type 0
+Back [] n = Unit {0}
+Back (r ∷ rs) n = Back rs n × (n ≡ r .code → ⊥)
+
+abbrev onto : List Row → List Row → List Row
+onto [] acc = acc
+onto (r ∷ rs) acc = onto rs (r ∷ acc)
+
+turned : (rs acc : List Row) (n : ℕ) → Back rs n → Absent acc n → Absent (onto rs acc) n
+turned [] acc n h k = k
+turned (r ∷ rs) acc n h k = turned rs (r ∷ acc) n (h .0) (h .1, k)
+
+pub decode-spec : {M : Type 1} → statement M
+unfolding rowOf
+decode-spec =
+    tie.close
+    (tie.spec
+    (λ c. rw (c .match .keys1))
+    (λ c. rw (c .match .keys2))
+    (λ c. rw (c .match .keys3))
+    (λ c. rw (c .match .keys4))
+    (λ c. rw (c .match .keys5))
+    (λ c. rw (c .match .keys6))
+    (λ c. rw (c .match .keys7))
+    (λ c. rw (c .match .keys8))
+    (λ c. rw (c .match .keys9))
+    (λ c. rw (c .match .keys10))
+    (λ c. rw (c .match .keys11))
+    (λ c. rw (c .match .keys12))
+    (λ c. rw (c .match .keys13))
+    (λ c. rw (c .match .keys14))
+    (λ c. rw (c .match .keys15))
+    (λ c. rw (c .match .keys16))
+    (λ c. rw (c .match .keys17))
+    (λ c. rw (c .match .keys18))
+    (λ c. rw (c .match .keys19))
+    (λ c. rw (c .match .keys20))
+    (λ c. rw (c .match .keys21))
+    (λ c. rw (c .match .keys22))
+    (λ c. rw (c .match .keys23))
+    (λ c. rw (c .match .keys24))
+    (λ c. rw (c .match .keys25))
+    (λ c. rw (c .match .keys26))
+    (λ c. rw (c .match .keys27))
+    (λ c. sym (absent table (c .before .args .code) (turned (onto table []) [] (c .before .args .code) (c .match .rest) tt))))

@@ -1,0 +1,43 @@
+-- 01, "Firing": "A cell is absent, waiting or present." "A cell record has 8 bytes: value (0-3), state (4: 0 absent, 1 waiting, 2 present), zeros.
+-- The value is 0 until present." Assumes nothing.
+use Prim.Native.Nat.{ℕ, _*_}
+use mathlib.Core.Bool.{cond}
+use mathlib.Core.List.{List, [], _∷_, _++_}
+use lib.ListN.{drop}
+use lib.Dec.{eqb}
+use mir.Syntax.{w32}
+use mir.Val.{SFits}
+use Rattle.record.specs.Number.{byteAt, number32, signedOf, bitsOf, bytes32}
+use Rattle.record.specs.Table.{rows}
+use Rattle.record.specs.declared.cell.Cell.{Cell}
+use Rattle.record.specs.declared.cell.Cell.the-variants.{Absent, Waiting, Present}
+
+-- the cell of a value and a state; a state past 2, which no rule writes, reads as absent
+unfoldable pub cellOf : (bits state : ℕ) → Cell
+cellOf bits state = cond (eqb state 1) Waiting (cond (eqb state 2) (Present (signedOf bits)) Absent)
+
+-- the cell of the record that l starts with
+unfoldable pub decode : List ℕ → Cell
+decode l = cellOf (number32 l 0) (byteAt l 4)
+
+abbrev pub cellBytes : (value state : ℕ) → List ℕ
+cellBytes value state = bytes32 value ++ state ∷ 0 ∷ 0 ∷ 0 ∷ []
+
+unfoldable pub encode : Cell → List ℕ
+encode Absent = cellBytes 0 0
+encode Waiting = cellBytes 0 1
+encode (Present v) = cellBytes (bitsOf v) 2
+
+-- what a record can hold
+abbrev pub CellFits : Cell → Type 0
+CellFits Absent = Unit {0}
+CellFits Waiting = Unit {0}
+CellFits (Present v) = SFits w32 v
+
+-- the cell of record i
+abbrev pub cellAt : List ℕ → ℕ → Cell
+cellAt l i = decode (drop (i * 8) l)
+
+-- the cells of the first n records
+abbrev pub cells : ℕ → List ℕ → List Cell
+cells n l = rows 8 decode n l

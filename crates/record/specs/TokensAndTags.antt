@@ -1,0 +1,104 @@
+-- 01, "Tokens and tags", in its order. Assumes nothing.
+use Prim.Native.Nat.{ℕ, zero, suc, _+_, _*_, _/_, _%_, _^_, _<_}
+use mathlib.Core.Bool.{Bool, true, false, _&&_, cond}
+use mathlib.Core.List.{List, [], _∷_, _++_}
+use lib.ListN.{length, drop}
+use lib.Dec.{eqb}
+use mir.Syntax.{w32}
+use mir.Val.{SFits}
+use Rattle.record.specs.Number.{byteAt, number16, number32, number64, signedOf, bitsOf, bytes16, bytes32, bytes64}
+use Rattle.record.specs.Table.{rows, writtenOver}
+use Rattle.record.specs.declared.tag.Tag.{Tag}
+use Rattle.record.specs.declared.token.Token.{Token}
+use Rattle.record.specs.declared.token.Content.{Content}
+use Rattle.record.specs.declared.token.Content.the-variants.{Live, Spent, Deferred}
+
+-- ---- "A token record has 20 bytes: path (0-7), iteration (8), port (9), instruction (10-11), signed value (12-15), state (16), zeros (17-19).
+-- States: 0 live, 1 spent, 2 deferred."
+
+-- the content of a value and a state; a state past 2, which no rule writes, reads as deferred
+unfoldable pub contentOf : (bits state : ℕ) → Content
+contentOf bits state = cond (eqb state 0) (Live (signedOf bits)) (cond (eqb state 1) (Spent (signedOf bits)) (Deferred bits))
+
+-- the token of the record that l starts with
+unfoldable pub decode : List ℕ → Token
+decode l = record {
+  tag = record { path = number64 l 0; iteration = byteAt l 8; instruction = number16 l 10 };
+  port = byteAt l 9;
+  content = contentOf (number32 l 12) (byteAt l 16);
+}
+
+abbrev pub stateOf : Content → ℕ
+stateOf (Live v) = 0
+stateOf (Spent v) = 1
+stateOf (Deferred cell) = 2
+
+abbrev pub valueOf : Content → ℕ
+valueOf (Live v) = bitsOf v
+valueOf (Spent v) = bitsOf v
+valueOf (Deferred cell) = cell
+
+abbrev pub tokenBytes : (path iteration port instruction value state : ℕ) → List ℕ
+tokenBytes path iteration port instruction value state =
+    bytes64 path ++ iteration ∷ port ∷ bytes16 instruction ++ bytes32 value ++ state ∷ 0 ∷ 0 ∷ 0 ∷ []
+
+unfoldable pub encode : Token → List ℕ
+encode t = tokenBytes (t .tag .path) (t .tag .iteration) (t .port) (t .tag .instruction) (valueOf (t .content)) (stateOf (t .content))
+
+-- what the fields of a record can hold
+abbrev pub ContentFits : Content → Type 0
+ContentFits (Live v) = SFits w32 v
+ContentFits (Spent v) = SFits w32 v
+ContentFits (Deferred cell) = cell < 2 ^ 32
+
+pub record TokenFits (t : Token) : Type 0 where
+  pub path : t .tag .path < 2 ^ 64
+  pub iteration : t .tag .iteration < 2 ^ 8
+  pub instruction : t .tag .instruction < 2 ^ 16
+  pub port : t .port < 2 ^ 8
+  pub content : ContentFits (t .content)
+
+-- ---- "A tag is path, iteration and instruction; the root tag has path 0 and iteration 0."
+
+abbrev pub rootOf : (instruction : ℕ) → Tag
+rootOf i = record { path = 0; iteration = 0; instruction = i }
+
+-- the same path and iteration at another instruction
+abbrev pub toOf : Tag → (instruction : ℕ) → Tag
+toOf k i = record { path = k .path; iteration = k .iteration; instruction = i }
+
+unfoldable pub sameTag : Tag → Tag → Bool
+sameTag a b = eqb (a .path) (b .path) && (eqb (a .iteration) (b .iteration) && eqb (a .instruction) (b .instruction))
+
+-- ---- "Input tokens carry the root path and iteration, and state 0."
+
+-- of the record that l starts with; its zeros are zero
+unfoldable pub isInput : List ℕ → Bool
+isInput l = eqb (number64 l 0) 0 && (eqb (byteAt l 8) 0 && eqb (number32 l 16) 0)
+
+-- ---- "In a whole run a tag receives at most one token on each port."
+
+-- a token stands at a port of a tag
+unfoldable pub standsAt : Tag → (port : ℕ) → Token → Bool
+standsAt tag port t = eqb (t .port) port && sameTag (t .tag) tag
+
+-- ---- "The ledger takes every token in order of arrival, up to 2,048 records, and never drops one. Its capacity is the lent length divided by 20.
+-- Here and in every other buffer, bytes past what is written stay as lent."
+
+abbrev pub mostTokens : ℕ
+mostTokens = 2048
+
+abbrev pub capacityOf : (length : ℕ) → ℕ
+capacityOf n = n / 20
+
+-- the token of record i
+abbrev pub tokenAt : List ℕ → ℕ → Token
+tokenAt l i = decode (drop (i * 20) l)
+
+-- the tokens of the first n records
+abbrev pub tokens : ℕ → List ℕ → List Token
+tokens n l = rows 20 decode n l
+
+-- a ledger that took these tokens
+abbrev pub ledgerOf : List Token → (lent : List ℕ) → List ℕ
+ledgerOf ts lent = writtenOver encode ts lent

@@ -1,0 +1,140 @@
+// Token records of 20 bytes: a token read from its bytes, and written as bytes.
+use crate::number;
+use crate::table;
+use crate::tag::Tag;
+ghost use mathlib.Core.Path.{_≡_};
+ghost use Prim.Native.Nat.{_/_, _≤_, _<_};
+ghost use lib.ListN.{length};
+ghost use Rattle.record.specs.Table.{putRow};
+ghost use Rattle.record.specs.TokensAndTags as Tokens;
+ghost use Rattle.record.specs.TokensAndTags.{contentOf, stateOf, valueOf, tokenBytes, tokenAt, standsAt, ContentFits, TokenFits};
+
+// The value of a live or a spent token; of a deferred one the number of the cell that it waits for.
+pub enum Content {
+    Live(i32),
+    Spent(i32),
+    Deferred(u32),
+}
+
+pub struct Token {
+    pub tag: Tag,
+    pub port: u8,
+    pub content: Content,
+}
+
+// The content of a record's value and state.
+fn content_of(bits: u32, state: u8) -> Content
+    ensures { λ r. ⌜ r ≡ contentOf bits state ⌝ }
+{
+    match state {
+        0 => Content::Live(number::signed(bits)),
+        1 => Content::Spent(number::signed(bits)),
+        _ => Content::Deferred(bits),
+    }
+}
+
+// The token of the record that s starts with.
+pub fn decode(s: &[u8]) -> Token
+    requires { ⌜ 20 ≤ length (now s) ⌝ }
+    ensures { λ r. ⌜ r ≡ Tokens.decode (now (s .entry)) ⌝ }
+{
+    let tag = Tag {
+        path: number::u64_at(s, 0),
+        iteration: s[8],
+        instruction: number::u16_at(s, 10),
+    };
+    Token {
+        tag,
+        port: s[9],
+        content: content_of(number::u32_at(s, 12), s[16]),
+    }
+}
+
+fn state_of(content: Content) -> u8
+    ensures { λ r. ⌜ r ≡ stateOf content ⌝ }
+{
+    match content {
+        Content::Live(_) => 0,
+        Content::Spent(_) => 1,
+        Content::Deferred(_) => 2,
+    }
+}
+
+fn value_of(content: Content) -> u32
+    ensures { λ r. ⌜ (r ≡ valueOf content) × ContentFits content ⌝ }
+{
+    match content {
+        Content::Live(v) => number::bits(v),
+        Content::Spent(v) => number::bits(v),
+        Content::Deferred(cell) => cell,
+    }
+}
+
+// The bytes of a record's fields.
+fn bytes_of(path: u64, iteration: u8, port: u8, instruction: u16, value: u32, state: u8) -> [u8; 20]
+    ensures { λ r. ⌜ r ≡ tokenBytes path iteration port instruction value state ⌝ }
+{
+    let high = path / 4294967296;
+    [
+        (path % 256) as u8,
+        (path / 256 % 256) as u8,
+        (path / 65536 % 256) as u8,
+        (path / 65536 / 256 % 256) as u8,
+        (high % 256) as u8,
+        (high / 256 % 256) as u8,
+        (high / 65536 % 256) as u8,
+        (high / 65536 / 256 % 256) as u8,
+        iteration,
+        port,
+        (instruction % 256) as u8,
+        (instruction / 256 % 256) as u8,
+        (value % 256) as u8,
+        (value / 256 % 256) as u8,
+        (value / 65536 % 256) as u8,
+        (value / 65536 / 256 % 256) as u8,
+        state,
+        0,
+        0,
+        0,
+    ]
+}
+
+pub fn encode(t: Token) -> [u8; 20]
+    ensures { λ r. ⌜ (r ≡ Tokens.encode t) × TokenFits t ⌝ }
+{
+    let tag = t.tag;
+    let content = t.content;
+    bytes_of(
+        tag.path,
+        tag.iteration,
+        t.port,
+        tag.instruction,
+        value_of(content),
+        state_of(content),
+    )
+}
+
+// The token of record i of a ledger.
+pub fn token_at(ledger: &[u8], i: usize) -> Token
+    requires { ⌜ i < length (now ledger) / 20 ⌝ }
+    ensures { λ r. ⌜ r ≡ tokenAt (now (ledger .entry)) i ⌝ }
+{
+    decode(table::row_at(ledger, 20, i))
+}
+
+// Writes t as record i of a ledger; every other byte stays.
+pub fn put_token(ledger: &mut [u8], i: usize, t: Token)
+    requires { ⌜ i < length (now ledger) / 20 ⌝ }
+    ensures { λ _. ⌜ (now (ledger .exit) ≡ putRow 20 (now (ledger .entry)) i (Tokens.encode t)) × TokenFits t ⌝ }
+{
+    let bytes = encode(t);
+    table::put_row(ledger, 20, i, &bytes);
+}
+
+// Whether t stands at a port of a tag.
+pub fn stands_at(t: Token, tag: Tag, port: u8) -> bool
+    ensures { λ r. ⌜ r ≡ standsAt tag port t ⌝ }
+{
+    let own = t.tag;
+    t.port == port && own.same(tag)
+}
