@@ -1,3 +1,5 @@
 pub mod TwosComplement
 pub mod Computed
+pub mod Numbers
 pub mod Tables
+pub mod Records

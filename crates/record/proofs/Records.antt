@@ -1,0 +1,215 @@
+-- Round trips of each kind of record: a value is read back from its bytes, whatever follows them, and the bytes of a record whose unused bytes are zero
+-- are written back from its value. A record is read from its own bytes alone. With these, a table of such records reads as its list. Assumes nothing.
+use Prim.Native.Nat.{ℕ, zero, suc, _+_, _*_, _%_, _^_, _≤_, _<_}
+use mathlib.Core.Path.{_≡_, refl, sym, ap, _∙_}
+use mathlib.Core.Bool.{true, false}
+use mathlib.Core.List.{List, [], _∷_, _++_}
+use native.Mathlib.Omega.{arith}
+use native.Mathlib.Nat.{suc-inj}
+use lib.ListN.{length, getD, take, set}
+use lib.Seq.{getD-take}
+use lib.Dec.{T, ltb, ltb→lt}
+use Rattle.record.specs.Number.{byteAt, number16, number32, number64, signedOf, bitsOf, bytes16, bytes32, bytes64}
+use Rattle.record.specs.Table.{putRow, joined, rows, All}
+use Rattle.record.specs.GraphRecords as Graph
+use Rattle.record.specs.TokensAndTags as Tokens
+use Rattle.record.specs.TokensAndTags.{contentOf, stateOf, valueOf, tokenBytes, ContentFits, TokenFits, tokens}
+use Rattle.record.specs.Cells as Cells
+use Rattle.record.specs.Cells.{cellOf, CellFits, cells}
+use Rattle.record.specs.declared.instruction.Instruction.{Instruction}
+use Rattle.record.specs.declared.token.Token.{Token}
+use Rattle.record.specs.declared.token.Content.{Content}
+use Rattle.record.specs.declared.token.Content.the-variants.{Live, Spent, Deferred}
+use Rattle.record.specs.declared.cell.Cell.{Cell}
+use Rattle.record.specs.declared.cell.Cell.the-variants.{Absent, Waiting, Present}
+use Rattle.record.proofs.Numbers.{number16-bytes, number32-bytes, number64-bytes, fits16, fits32, fits64, number32-small, bytes16-number, bytes32-number, bytes64-number, bits-fit, signed-bits, bits-signed}
+use Rattle.record.proofs.Tables.{rows-put, rows-end, rows-joined}
+
+-- ---- a list as its elements
+
+-- f 0, f 1, .., n of them
+abbrev firsts : ℕ → (ℕ → ℕ) → List ℕ
+firsts zero f = []
+firsts (suc n) f = f 0 ∷ firsts n (λ k. f (suc k))
+
+elements : (n : ℕ) (l : List ℕ) → length l ≡ n → firsts n (byteAt l) ≡ l
+elements zero [] e = refl
+elements zero (x ∷ l) e = let z : _≡_ {A = ℕ} 0 1 = omega arith in absurd (omega arith)
+elements (suc n) [] e = let z : _≡_ {A = ℕ} 0 1 = omega arith in absurd (omega arith)
+elements (suc n) (x ∷ l) e = ap (λ (m : List ℕ). x ∷ m) (elements n l (suc-inj e))
+
+-- a byte of the first w is that of the whole
+front : (w : ℕ) (l : List ℕ) (k : ℕ) → T (ltb k w) → getD (take w l) k 0 ≡ getD l k 0
+front w l k t = getD-take w l k 0 (ltb→lt k w t)
+
+-- ---- instructions
+
+pub length-instruction : (r : Instruction) → length (Graph.encode r) ≡ 16
+unfolding Graph.encode
+length-instruction r = refl
+
+pub instruction-back : (r : Instruction) (rest : List ℕ) → Graph.InstructionFits r → Graph.decode (Graph.encode r ++ rest) ≡ r
+unfolding Graph.encode Graph.decode
+instruction-back r rest f =
+    rw (
+      number16-bytes (r .first .instruction) [],
+      fits16 _ (f .instruction1),
+      number16-bytes (r .second .instruction) [],
+      fits16 _ (f .instruction2),
+      number32-bytes (bitsOf (r .constant)) [],
+      fits32 _ (bits-fit _ (f .constant)),
+      signed-bits _ (f .constant),
+      number32-bytes (r .zeros) [],
+      fits32 _ (f .zeros),
+    )
+
+pub instruction-bytes-back : (l : List ℕ) → length l ≡ 16 → ((k : ℕ) → byteAt l k < 256) → Graph.encode (Graph.decode l) ≡ l
+unfolding Graph.encode Graph.decode
+instruction-bytes-back l e small =
+    let constant = ap (λ (n : ℕ). bytes32 n) (bits-signed (number32 l 8) (number32-small l small 8)) ∙ bytes32-number l small 8 in
+    (λ i. byteAt l 0 ∷ byteAt l 1 ∷ byteAt l 2 ∷ byteAt l 3 ∷ bytes16-number l small 4 i ++ bytes16-number l small 6 i ++ constant i ++ bytes32-number l small 12 i)
+    ∙ elements 16 l e
+
+-- ---- tokens
+
+content-back : (x : Content) → ContentFits x → contentOf (valueOf x % 4294967296) (stateOf x) ≡ x
+unfolding contentOf
+content-back (Live v) f = rw (fits32 _ (bits-fit v f), signed-bits v f)
+content-back (Spent v) f = rw (fits32 _ (bits-fit v f), signed-bits v f)
+content-back (Deferred n) f = rw (fits32 n f)
+
+pub length-token : (t : Token) → length (Tokens.encode t) ≡ 20
+unfolding Tokens.encode
+length-token t = refl
+
+pub token-back : (t : Token) (rest : List ℕ) → TokenFits t → Tokens.decode (Tokens.encode t ++ rest) ≡ t
+unfolding Tokens.encode Tokens.decode
+token-back t rest f =
+    rw (
+      number64-bytes (t .tag .path) [],
+      fits64 _ (f .path),
+      number16-bytes (t .tag .instruction) [],
+      fits16 _ (f .instruction),
+      number32-bytes (valueOf (t .content)) [],
+      content-back _ (f .content),
+    )
+
+-- what a record may hold whose bytes are written back: a state of the three, and zeros
+pub record ProperToken (l : List ℕ) : Type 0 where
+  pub size : length l ≡ 20
+  pub small : (k : ℕ) → byteAt l k < 256
+  pub state : byteAt l 16 < 3
+  pub zeros : (byteAt l 17 ≡ 0) × (byteAt l 18 ≡ 0) × (byteAt l 19 ≡ 0)
+
+state-back : (bits s : ℕ) → s < 3 → stateOf (contentOf bits s) ≡ s
+unfolding contentOf
+state-back bits zero h = refl
+state-back bits (suc zero) h = refl
+state-back bits (suc (suc zero)) h = refl
+state-back bits (suc (suc (suc s))) h = absurd (omega arith)
+
+value-back : (bits s : ℕ) → s < 3 → bits < 2 ^ 32 → valueOf (contentOf bits s) ≡ bits
+unfolding contentOf
+value-back bits zero k h = bits-signed bits h
+value-back bits (suc zero) k h = bits-signed bits h
+value-back bits (suc (suc zero)) k h = refl
+value-back bits (suc (suc (suc s))) k h = absurd (omega arith)
+
+pub token-bytes-back : (l : List ℕ) → ProperToken l → Tokens.encode (Tokens.decode l) ≡ l
+unfolding Tokens.encode Tokens.decode
+token-bytes-back l p =
+    let bytes = p .small in
+    let z = p .zeros in
+    let path = bytes64-number l bytes 0 ∙ (λ i. bytes32-number l bytes 0 i ++ bytes32-number l bytes 4 i) in
+    let value = ap (λ (n : ℕ). bytes32 n) (value-back (number32 l 12) (byteAt l 16) (p .state) (number32-small l bytes 12)) ∙ bytes32-number l bytes 12 in
+    let state = state-back (number32 l 12) (byteAt l 16) (p .state) in
+    (λ i. path i ++ byteAt l 8 ∷ byteAt l 9 ∷ bytes16-number l bytes 10 i ++ value i ++ state i ∷ sym (z .0) i ∷ sym (z .1) i ∷ sym (z .2) i ∷ [])
+    ∙ elements 20 l (p .size)
+
+-- ---- cells
+
+pub length-cell : (x : Cell) → length (Cells.encode x) ≡ 8
+unfolding Cells.encode
+length-cell Absent = refl
+length-cell Waiting = refl
+length-cell (Present v) = refl
+
+pub cell-back : (x : Cell) (rest : List ℕ) → CellFits x → Cells.decode (Cells.encode x ++ rest) ≡ x
+unfolding Cells.encode Cells.decode Cells.cellOf
+cell-back Absent rest f = refl
+cell-back Waiting rest f = refl
+cell-back (Present v) rest f = rw (number32-bytes (bitsOf v) [], fits32 _ (bits-fit v f), signed-bits v f)
+
+-- what a record may hold whose bytes are written back: a state of the three, zeros, and the value 0 until present
+pub record ProperCell (l : List ℕ) : Type 0 where
+  pub size : length l ≡ 8
+  pub small : (k : ℕ) → byteAt l k < 256
+  pub state : byteAt l 4 < 3
+  pub value : byteAt l 4 < 2 → number32 l 0 ≡ 0
+  pub zeros : (byteAt l 5 ≡ 0) × (byteAt l 6 ≡ 0) × (byteAt l 7 ≡ 0)
+
+cell-bytes : (bits s : ℕ) → s < 3 → (s < 2 → bits ≡ 0) → bits < 2 ^ 32 → Cells.encode (cellOf bits s) ≡ Cells.cellBytes bits s
+unfolding Cells.encode cellOf
+cell-bytes bits zero k z h = ap (λ (n : ℕ). Cells.cellBytes n 0) (sym (z (omega arith)))
+cell-bytes bits (suc zero) k z h = ap (λ (n : ℕ). Cells.cellBytes n 1) (sym (z (omega arith)))
+cell-bytes bits (suc (suc zero)) k z h = ap (λ (n : ℕ). Cells.cellBytes n 2) (bits-signed bits h)
+cell-bytes bits (suc (suc (suc s))) k z h = absurd (omega arith)
+
+pub cell-bytes-back : (l : List ℕ) → ProperCell l → Cells.encode (Cells.decode l) ≡ l
+unfolding Cells.decode
+cell-bytes-back l p =
+    let z = p .zeros in
+    cell-bytes (number32 l 0) (byteAt l 4) (p .state) (p .value) (number32-small l (p .small) 0)
+    ∙ (λ i. bytes32-number l (p .small) 0 i ++ byteAt l 4 ∷ sym (z .0) i ∷ sym (z .1) i ∷ sym (z .2) i ∷ [])
+    ∙ elements 8 l (p .size)
+
+-- ---- a record is read from its own bytes alone
+
+module _ (l : List ℕ) where
+  token-front : Tokens.decode (take 20 l) ≡ Tokens.decode l
+  unfolding Tokens.decode
+  token-front =
+      rw (
+        front 20 l 0 tt,
+        front 20 l 1 tt,
+        front 20 l 2 tt,
+        front 20 l 3 tt,
+        front 20 l 4 tt,
+        front 20 l 5 tt,
+        front 20 l 6 tt,
+        front 20 l 7 tt,
+        front 20 l 8 tt,
+        front 20 l 9 tt,
+        front 20 l 10 tt,
+        front 20 l 11 tt,
+        front 20 l 12 tt,
+        front 20 l 13 tt,
+        front 20 l 14 tt,
+        front 20 l 15 tt,
+        front 20 l 16 tt,
+      )
+
+  cell-front : Cells.decode (take 8 l) ≡ Cells.decode l
+  unfolding Cells.decode
+  cell-front = rw (front 8 l 0 tt, front 8 l 1 tt, front 8 l 2 tt, front 8 l 3 tt, front 8 l 4 tt)
+
+own : {A : Type 0} (w : ℕ) (read : List ℕ → A) → ((l : List ℕ) → read (take w l) ≡ read l) → (l m : List ℕ) → take w l ≡ take w m → read l ≡ read m
+own w read front l m e = sym (front l) ∙ ap read e ∙ front m
+
+-- ---- tables of tokens and of cells
+
+module _ (t : Token) (f : TokenFits t) where
+  pub tokens-put : (n i : ℕ) (l : List ℕ) → i < n → n * 20 ≤ length l → tokens n (putRow 20 l i (Tokens.encode t)) ≡ set (tokens n l) i t
+  tokens-put = rows-put 20 Tokens.decode (own 20 Tokens.decode token-front) (Tokens.encode t) t (length-token t) (λ r. token-back t r f)
+
+  pub tokens-end : (n : ℕ) (l : List ℕ) → suc n * 20 ≤ length l → tokens (suc n) (putRow 20 l n (Tokens.encode t)) ≡ tokens n l ++ t ∷ []
+  tokens-end = rows-end 20 Tokens.decode (own 20 Tokens.decode token-front) (Tokens.encode t) t (length-token t) (λ r. token-back t r f)
+
+pub tokens-joined : (ts : List Token) (r : List ℕ) → All TokenFits ts → tokens (length ts) (joined Tokens.encode ts ++ r) ≡ ts
+tokens-joined = rows-joined 20 Tokens.encode length-token Tokens.decode TokenFits token-back
+
+pub cells-put : (x : Cell) → CellFits x → (n i : ℕ) (l : List ℕ) → i < n → n * 8 ≤ length l → cells n (putRow 8 l i (Cells.encode x)) ≡ set (cells n l) i x
+cells-put x f = rows-put 8 Cells.decode (own 8 Cells.decode cell-front) (Cells.encode x) x (length-cell x) (λ r. cell-back x r f)
+
+pub cells-joined : (xs : List Cell) (r : List ℕ) → All CellFits xs → cells (length xs) (joined Cells.encode xs ++ r) ≡ xs
+cells-joined = rows-joined 8 Cells.encode length-cell Cells.decode CellFits cell-back
