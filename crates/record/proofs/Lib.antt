@@ -3,3 +3,4 @@ pub mod Computed
 pub mod Numbers
 pub mod Tables
 pub mod Records
+pub mod Calls
