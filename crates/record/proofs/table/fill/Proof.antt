@@ -16,23 +16,16 @@ Inv-loop dst₀ src i₀ dst i = (i ≤ length src) × (length dst ≡ length sr
 abbrev μ-loop : tie.MeasureT-loop
 μ-loop dst₀ src i₀ dst i = length src - i
 
-loop-holds : tie.Need-loop-holds Inv-loop μ-loop
-loop-holds c = (omega arith, c .pre, refl)
-
-shared-slice-read-dst : tie.Need-shared-slice-read-dst Inv-loop μ-loop
-shared-slice-read-dst c = omega arith
-
-slice-write-dst : tie.Need-slice-write-dst Inv-loop μ-loop
-slice-write-dst c = omega arith
-
-add-i : tie.Need-add-i Inv-loop μ-loop
-add-i c = omega arith
-
-loop-less : tie.Need-loop-less Inv-loop μ-loop
-loop-less c = omega arith
-
-loop-again : tie.Need-loop-again Inv-loop μ-loop
-loop-again c =
+pub fill-spec : {M : Type 1} → statement M
+fill-spec = tie.close (tie.spec
+    Inv-loop
+    μ-loop
+    (λ c. (omega arith, c .pre, refl))
+    (λ c. omega arith)
+    (λ c. omega arith)
+    (λ c. omega arith)
+    (λ c. omega arith)
+    (λ c.
     let l = c .before .before .loop in
     let s = c .before .before .before .args .src .now in
     let h : l .i < length s = omega arith in
@@ -40,28 +33,9 @@ loop-again c =
       omega arith,
       length-set (l .dst) (l .i) (getD s (l .i) 0) ∙ l .inv .1,
       rw add-one (take-suc-set (l .dst) (l .i) (getD s (l .i) 0) k ∙ rw (l .inv .2) (sym (take-suc s (l .i) 0 h))),
-    )
-
-same-length : tie.Need-same-length Inv-loop μ-loop
-same-length c = omega arith
-
-returns : tie.Need-returns Inv-loop μ-loop
-returns c =
+    ))
+    (λ c. omega arith)
+    (λ c.
     let l = c .before .loop in
     let s = c .before .before .args .src .now in
-    sym (take-all (l .i) (l .dst) (omega arith)) ∙ l .inv .2 ∙ take-all (l .i) s (omega arith)
-
-pub fill-spec : {M : Type 1} → statement M
-fill-spec =
-    tie.close
-    (tie.spec
-    Inv-loop
-    μ-loop
-    loop-holds
-    shared-slice-read-dst
-    slice-write-dst
-    add-i
-    loop-less
-    loop-again
-    same-length
-    returns)
+    sym (take-all (l .i) (l .dst) (omega arith)) ∙ l .inv .2 ∙ take-all (l .i) s (omega arith)))
