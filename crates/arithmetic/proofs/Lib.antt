@@ -1,0 +1,5 @@
+pub mod Cases
+pub mod Division
+pub mod Ranged
+pub mod Signed
+pub mod Unique
