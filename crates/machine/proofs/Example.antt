@@ -1,0 +1,96 @@
+-- A small program under two orders, computed: the runs end alike, and their ledgers are different lists; and how the
+-- theorems are cited for it. Assumes nothing.
+use mathlib.Core.Path.{_≡_, refl}
+use mathlib.Core.List.{[], _∷_}
+use Prim.Native.Nat.{ℕ, zero, suc, _+_}
+use native.Mathlib.Decide.{ℕ-discrete}
+use native.Mathlib.Omega.{arith}
+use Rattle.machine.specs.Machine.{Key, Token, Effect, refuse, send, read, write, Machine, State, live, spent, absent, present}
+use Rattle.machine.specs.Machine.{completed, run, machine}
+use Rattle.machine.specs.Orders.{CellsBelow, ReadsForSome, Lawful, Start, Same, Invariants}
+use Rattle.machine.proofs.Orders.{startGood, orders}
+use Rattle.machine.proofs.Reached.{reached-invariants, reached-picks}
+
+abbrev key : ℕ → ℕ → Key ℕ
+key τ p = record { tag = τ; port = p }
+
+abbrev token : ℕ → ℕ → ℕ → Token ℕ ℕ
+token τ p v = record { key = key τ p; content = live v }
+
+abbrev used : ℕ → ℕ → ℕ → Token ℕ ℕ
+used τ p v = record { key = key τ p; content = spent v }
+
+-- 0 fetches cell 0 for port 0 of 2; 1 stores its operand in cell 0 and signals to port 1 of 2; 2 adds and sends to 9, a result
+abbrev ports : ℕ → ℕ
+ports zero = 1
+ports (suc zero) = 1
+ports (suc (suc zero)) = 2
+ports (suc (suc (suc n))) = 0
+
+abbrev does : ℕ → ℕ → ℕ → Effect ℕ ℕ ℕ
+does zero v w = read 0 (key 2 0 ∷ [])
+does (suc zero) v w = write 0 v (key 2 1 ∷ [])
+does (suc (suc zero)) v w = send (v + w) (key 9 0 ∷ [])
+does (suc (suc (suc n))) v w = refuse 1
+
+abbrev small : Machine
+small = record {
+  Tag = ℕ;
+  Value = ℕ;
+  Refusal = ℕ;
+  same = ℕ-discrete;
+  arity = ports;
+  effect = does;
+  signal = 0;
+  ledgerFull = 8;
+  secondToken = 9;
+  secondWrite = 11;
+  capacity = 8;
+  cellCount = 1;
+}
+
+abbrev start : State ℕ ℕ
+start = record { tokens = token 0 0 5 ∷ token 1 0 7 ∷ []; cells = absent ∷ [] }
+
+first : run small 65535 [] start ≡ record {
+  outcome = completed;
+  firings = 3;
+  state = record { tokens = used 0 0 5 ∷ used 1 0 7 ∷ used 2 0 7 ∷ used 2 1 0 ∷ token 9 0 7 ∷ []; cells = present 7 ∷ [] };
+}
+unfolding machine
+first = refl
+
+second : run small 65535 (1 ∷ []) start ≡ record {
+  outcome = completed;
+  firings = 3;
+  state = record { tokens = used 0 0 5 ∷ used 1 0 7 ∷ used 2 1 0 ∷ used 2 0 7 ∷ token 9 0 7 ∷ []; cells = present 7 ∷ [] };
+}
+unfolding machine
+second = refl
+
+-- ---- the theorems' hypotheses hold here
+
+below : (τ v w : ℕ) → CellsBelow 1 (does τ v w)
+below zero v w = omega arith
+below (suc zero) v w = omega arith
+below (suc (suc zero)) v w = tt
+below (suc (suc (suc n))) v w = tt
+
+forSome : (τ v w : ℕ) → ReadsForSome (does τ v w)
+forSome zero v w = omega arith
+forSome (suc zero) v w = tt
+forSome (suc (suc zero)) v w = tt
+forSome (suc (suc (suc n))) v w = tt
+
+lawful : Lawful small
+lawful = record { cellsBelow = below; readsForSome = forSome }
+
+inputs : Start small start
+unfolding machine
+inputs = record { distinct = (refl, (refl, tt)); room = omega arith; allLive = ((5, refl), ((7, refl), tt)); absentCells = refl }
+
+applied : Same (run small 8 [] start) (run small 8 (1 ∷ []) start)
+applied = orders small lawful start (startGood small start inputs) 8 [] (1 ∷ [])
+
+atTheEnd : Invariants small start (reached-picks small start 8 [] .done) (reached-picks small start 8 [] .sent) (run small 8 [] start .state)
+atTheEnd = let e = reached-picks small start 8 [] in reached-invariants small lawful start inputs (e .done) (e .sent) (run small 8 [] start .state) (e .reached)

@@ -1,0 +1,10 @@
+-- The theorems (Enabled, Orders, Reached), what they are proved from (Swap, View, Store, Perm), and a computed example.
+-- Assumes nothing.
+pub mod Swap
+pub mod View
+pub mod Store
+pub mod Perm
+pub mod Enabled
+pub mod Orders
+pub mod Reached
+pub mod Example

@@ -1,0 +1,377 @@
+-- What holds of every state that is reached from the inputs (`reached-invariants`), and that a run ends in a state that is
+-- reached by its firings (`reached-run`, and for a list of picks `reached-picks`). Assumes nothing. The first takes the machine
+-- and that its instruction set is lawful.
+use mathlib.Core.Path.{_≡_, refl, sym, ap, subst, _∙_}
+use mathlib.Core.List.{List, [], _∷_, List·Memᴰ·head}
+use mathlib.Core.Option.{Option, none, some}
+use mathlib.Core.Bool.{Bool, true, false, cond}
+use Prim.Native.Nat.{ℕ, zero, suc, _+_, _≤_, _<_}
+use native.Mathlib.Decide.{ℕ-discrete}
+use native.Mathlib.Omega.{arith}
+use lib.ListN.{length, getD, replicate}
+use Rattle.machine.specs.Machine.{Key, Content, live, spent, deferred, Cell, absent, waiting, present, refuse, send, read, write, Machine, Activity, fired, notFired}
+use Rattle.machine.specs.Machine.{Outcome, completed, budgetSpent, refused, when, onOption, spend, cellAt, contentRead, Operands, firstPick, laterPicks}
+use Rattle.machine.specs.Machine.{Ledger, StateOf, EffectOf, FiredOf, EndOf, sameKey, at, find, look, operandOf, operands, spendAt, among, enabled, commit, fire, byPicks, runBy, run}
+use Rattle.machine.specs.Orders.{ReadsForSome, Lawful, Live, Spent, AllLive, Good, Start, keysOf, outputs, Reached, ReachedInvariants, Says, Ended, RunsEnd}
+use Rattle.machine.proofs.View.{when-yes, noneSome, falseTrue, omap, orElse, given, Source, value, fetched, resolve, settle, onlyAt, cellStep, cellAfter}
+use Rattle.machine.proofs.View.{View, DeltaOf, deltaOf, Allowed, change, apply, Ready, freshGet, operandKey, operandAt, operandLive}
+use Rattle.machine.proofs.Store.{spents, spentsLength, view}
+use Rattle.machine.proofs.Orders.{byPicksLawful, startGood, runEmpty, runZero, runFired, runRefused, fireResult}
+
+-- ---- contents and cells
+
+liveDeferred {ℓ} : {W : Type 0} {B : Type ℓ} {v : W} {c : ℕ} → live v ≡ deferred c → B
+liveDeferred p = absurd (let z : _≡_ {A = ℕ} 0 1 = cc in omega arith)
+
+spentDeferred {ℓ} : {W : Type 0} {B : Type ℓ} {v : W} {c : ℕ} → spent v ≡ deferred c → B
+spentDeferred p = absurd (let z : _≡_ {A = ℕ} 0 1 = cc in omega arith)
+
+liveSpent {ℓ} : {W : Type 0} {B : Type ℓ} {u v : W} → live u ≡ spent v → B
+liveSpent p = absurd (let z : _≡_ {A = ℕ} 0 1 = cc in omega arith)
+
+deferredSpent {ℓ} : {W : Type 0} {B : Type ℓ} {c : ℕ} {v : W} → deferred c ≡ spent v → B
+deferredSpent p = absurd (let z : _≡_ {A = ℕ} 0 1 = cc in omega arith)
+
+absentWaiting {ℓ} : {W : Type 0} {B : Type ℓ} → _≡_ {A = Cell W} absent waiting → B
+absentWaiting p = absurd (let z : _≡_ {A = ℕ} 0 1 = cc in omega arith)
+
+presentWaiting {ℓ} : {W : Type 0} {B : Type ℓ} {v : W} → present v ≡ waiting → B
+presentWaiting p = absurd (let z : _≡_ {A = ℕ} 0 1 = cc in omega arith)
+
+module _ {W : Type 0} where
+  someSame : (x y : Content W) → some x ≡ some y → x ≡ y
+  someSame x y e = cc
+
+  spendDeferred : (b : Bool) (y : Content W) (c : ℕ) → cond b (spend y) y ≡ deferred c → y ≡ deferred c
+  spendDeferred false y c e = e
+  spendDeferred true (live v) c e = spentDeferred e
+  spendDeferred true (spent v) c e = spentDeferred e
+  spendDeferred true (deferred i) c e = e
+
+  -- what is deferred after the writes was so before, and its cell is not written
+  settleDeferred : (f : ℕ → Option W) (y : Content W) (c : ℕ) → settle f y ≡ deferred c → (y ≡ deferred c) × (f c ≡ none)
+  settleDeferred f (live v) c e = liveDeferred e
+  settleDeferred f (spent v) c e = spentDeferred e
+  settleDeferred f (deferred i) c e = go (f i) refl e
+    where
+      go : (q : Option W) → f i ≡ q → onOption q (deferred i) live ≡ deferred c → (_≡_ {A = Content W} (deferred i) (deferred c)) × (f c ≡ none)
+      go none h g = (g, let z : i ≡ c = cc in rw z at h)
+      go (some v) h g = liveDeferred g
+
+  settleSpent : (f : ℕ → Option W) (y : Content W) (v : W) → settle f y ≡ spent v → y ≡ spent v
+  settleSpent f (live u) v e = liveSpent e
+  settleSpent f (spent u) v e = e
+  settleSpent f (deferred i) v e = go (f i) e
+    where
+      go : (q : Option W) → onOption q (deferred i) live ≡ spent v → deferred i ≡ spent v
+      go none g = g
+      go (some u) g = liveSpent g
+
+  spendSpent : (b : Bool) (v : W) → cond b (spend (spent v)) (spent v) ≡ spent v
+  spendSpent true v = refl
+  spendSpent false v = refl
+
+  spendKept : (b : Bool) (c : ℕ) → cond b (spend {W = W} (deferred c)) (deferred c) ≡ deferred c
+  spendKept true c = refl
+  spendKept false c = refl
+
+  -- no output is spent
+  resolveSpent : (cell : ℕ → Cell W) (o : Source W) (v : W) → ¬ (resolve cell o ≡ spent v)
+  resolveSpent cell (value u) v e = liveSpent e
+  resolveSpent cell (fetched c) v e = go (cell c) e
+    where
+      go : (x : Cell W) → contentRead c x ≡ spent v → ⊥
+      go absent g = deferredSpent g
+      go waiting g = deferredSpent g
+      go (present u) g = liveSpent g
+
+  stillWaiting : (b : Bool) (x : Cell W) → x ≡ waiting → cellStep none b x ≡ waiting
+  stillWaiting true x e = rw e
+  stillWaiting false x e = e
+
+  -- an output that is deferred on c comes from c, which the read leaves waiting
+  readWaiting : (f : Option W) (i c : ℕ) (x : Cell W) → contentRead i (cellStep f true x) ≡ deferred c → (i ≡ c) × (cellStep f true x ≡ waiting)
+  readWaiting (some v) i c x e = liveDeferred e
+  readWaiting none i c absent e = (cc, refl)
+  readWaiting none i c waiting e = (cc, refl)
+  readWaiting none i c (present v) e = liveDeferred e
+
+  absentCell : (n c : ℕ) → _≡_ {A = Cell W} (getD (replicate n absent) c absent) absent
+  absentCell zero c = refl
+  absentCell (suc n) zero = refl
+  absentCell (suc n) (suc c) = absentCell n c
+
+module _ (M : Machine) where
+  -- ---- effects
+
+  -- what is fetched is read, and what is read is fetched, for a key at least
+  record Shape (d : DeltaOf M) : Type 0 where
+    isRead : (c : ℕ) → d .source ≡ fetched c → d .reads c ≡ true
+    isFetched : (c : ℕ) → d .reads c ≡ true → (d .source ≡ fetched c) × (k : Key (M .Tag)) × (among M k (d .keys) ≡ true)
+
+  fetchedOnly : {W : Type 0} {v : W} {c : ℕ} → ¬ (value v ≡ fetched c)
+  fetchedOnly p = let z : _≡_ {A = ℕ} 0 1 = cc in omega arith
+
+  firstAmong : (ks : List (Key (M .Tag))) → 0 < length ks → (k : Key (M .Tag)) × (among M k ks ≡ true)
+  firstAmong [] h = absurd (omega arith)
+  firstAmong (k ∷ ks) h = (k, when-yes (sameKey M k k) _ _ refl)
+
+  sameDelta : (x d : DeltaOf M) → some x ≡ some d → x ≡ d
+  sameDelta x d e = cc
+
+  shapeOf : (e : EffectOf M) (d : DeltaOf M) → ReadsForSome e → deltaOf M e ≡ some d → Shape d
+  shapeOf (refuse r) d h e = noneSome e
+  shapeOf (send v keys) d h e = subst Shape (sameDelta _ d e) (record { isRead = λ c g. absurd (fetchedOnly g); isFetched = λ c g. falseTrue g })
+  shapeOf (write c v keys) d h e = subst Shape (sameDelta _ d e) (record { isRead = λ c g. absurd (fetchedOnly g); isFetched = λ c g. falseTrue g })
+  shapeOf (read c keys) d h e = subst Shape (sameDelta _ d e) shape
+    where
+      only : (i : ℕ) (q : Dec (i ≡ c)) → when q true false ≡ true → _≡_ {A = Source (M .Value)} (fetched c) (fetched i)
+      only i (yes p) g = ap fetched (sym p)
+      only i (no n) g = falseTrue g
+
+      shape : Shape (record { keys = keys; source = fetched c; writes = λ i. none; reads = onlyAt c true false })
+      shape = record {
+        isRead = λ i g. let z : i ≡ c = cc in when-yes (ℕ-discrete i c) true false z;
+        isFetched = λ i g. let (k, a) = firstAmong keys h in (only i (ℕ-discrete i c) g, k, a);
+      }
+
+  keysKnown : (e : EffectOf M) (d : DeltaOf M) → deltaOf M e ≡ some d → keysOf M e ≡ d .keys
+  keysKnown (refuse r) d e = noneSome e
+  keysKnown (send v keys) d e = cc
+  keysKnown (read c keys) d e = cc
+  keysKnown (write c v keys) d e = cc
+
+  -- ---- what a firing keeps, over the view
+
+  record Kept (v : View M) : Type 0 where
+    deferredWaits : (k : Key (M .Tag)) (c : ℕ) → v .tok k ≡ some (deferred c) → v .cell c ≡ waiting
+    waitingDefers : (c : ℕ) → v .cell c ≡ waiting → (k : Key (M .Tag)) × (v .tok k ≡ some (deferred c))
+    spentTogether : (τ : M .Tag) (p q : ℕ) → p < M .arity τ → q < M .arity τ → Spent (v .tok (at M τ p)) → Spent (v .tok (at M τ q))
+    othersUnspent : (τ : M .Tag) (p : ℕ) → M .arity τ ≤ p → ¬ (Spent (v .tok (at M τ p)))
+
+  module _ (v : View M) (τ : M .Tag) (d : DeltaOf M) (shape : Shape d) (al : Allowed M v d) (ready : (k : Key (M .Tag)) → operandOf M τ k ≡ true → Live (v .tok k)) (old : Kept v) where
+    keptDeferred : (k : Key (M .Tag)) (c : ℕ) → apply M τ d v .tok k ≡ some (deferred c) → cellAfter d (v .cell) c ≡ waiting
+    keptDeferred k c = go (v .tok k) (among M k (d .keys)) refl
+      where
+        here : (y : Content (M .Value)) → v .tok k ≡ some y → change M τ d k y ≡ deferred c → cellAfter d (v .cell) c ≡ waiting
+        here y f g =
+            let (h, w) = settleDeferred (d .writes) (spendAt M τ k y) c g in
+            let z = spendDeferred (operandOf M τ k) y c h in
+            rw w (stillWaiting (d .reads c) (v .cell c) (old .deferredWaits k c (f ∙ ap some z)))
+
+        output : (o : Source (M .Value)) → d .source ≡ o → resolve (cellAfter d (v .cell)) o ≡ deferred c → cellAfter d (v .cell) c ≡ waiting
+        output (value u) f g = liveDeferred g
+        output (fetched i) f g =
+            let r = shape .isRead i f in
+            let (z, w) = readWaiting (d .writes i) i c (v .cell i) (rw r at g) in
+            subst (λ j. cellAfter d (v .cell) j ≡ waiting) z (rw r w)
+
+        go : (x : Option (Content (M .Value))) (b : Bool) → v .tok k ≡ x → orElse (omap (change M τ d k) x) (given b (resolve (cellAfter d (v .cell)) (d .source))) ≡ some (deferred c) → cellAfter d (v .cell) c ≡ waiting
+        go (some y) b f g = here y f (someSame _ _ g)
+        go none true f g = output (d .source) refl (someSame _ _ g)
+        go none false f g = noneSome g
+
+    keptWaiting : (c : ℕ) → cellAfter d (v .cell) c ≡ waiting → (k : Key (M .Tag)) × (apply M τ d v .tok k ≡ some (deferred c))
+    keptWaiting c e = go (d .writes c) (d .reads c) refl refl e
+      where
+        before : d .writes c ≡ none → v .cell c ≡ waiting → (k : Key (M .Tag)) × (apply M τ d v .tok k ≡ some (deferred c))
+        before w h =
+            let (k, f) = old .waitingDefers c h in
+            (k, rw (f, spendKept (operandOf M τ k) c, w))
+
+        readNow : d .reads c ≡ true → (k : Key (M .Tag)) × (apply M τ d v .tok k ≡ some (deferred c))
+        readNow r =
+            let (f, k, a) = shape .isFetched c r in
+            (k, rw (freshGet M (v .tok) (d .keys) k (al .fresh) a, a, f, e))
+
+        go : (f : Option (M .Value)) (b : Bool) → d .writes c ≡ f → d .reads c ≡ b → cellStep f b (v .cell c) ≡ waiting → (k : Key (M .Tag)) × (apply M τ d v .tok k ≡ some (deferred c))
+        go (some u) b w r h = presentWaiting h
+        go none true w r h = readNow r
+        go none false w r h = before w h
+
+    spentKept : (k : Key (M .Tag)) → Spent (v .tok k) → Spent (apply M τ d v .tok k)
+    spentKept k (u, e) = (u, rw (e, spendSpent (operandOf M τ k) u))
+
+    spentBefore : (k : Key (M .Tag)) → operandOf M τ k ≡ false → Spent (apply M τ d v .tok k) → Spent (v .tok k)
+    spentBefore k o (u, e) = go (v .tok k) (among M k (d .keys)) refl e
+      where
+        here : (y : Content (M .Value)) → v .tok k ≡ some y → change M τ d k y ≡ spent u → Spent (v .tok k)
+        here y f g = (u, f ∙ ap some (settleSpent (d .writes) y u (rw o at g)))
+
+        go : (x : Option (Content (M .Value))) (b : Bool) → v .tok k ≡ x → orElse (omap (change M τ d k) x) (given b (resolve (cellAfter d (v .cell)) (d .source))) ≡ some (spent u) → Spent (v .tok k)
+        go (some y) b f g = here y f (someSame _ _ g)
+        go none true f g = absurd (resolveSpent (cellAfter d (v .cell)) (d .source) u (someSame _ _ g))
+        go none false f g = noneSome g
+
+    notOperand : (k : Key (M .Tag)) → ¬ ((τ ≡ k .tag) × (k .port < M .arity τ)) → operandOf M τ k ≡ false
+    notOperand k n = go (operandOf M τ k) refl
+      where
+        go : (b : Bool) → operandOf M τ k ≡ b → operandOf M τ k ≡ false
+        go true f = absurd (n (operandKey M τ k f))
+        go false f = f
+
+    -- the firing's own operands were live, and are all spent
+    ownSpent : (q : ℕ) → q < M .arity τ → Spent (apply M τ d v .tok (at M τ q))
+    ownSpent q h =
+        let o = operandAt M τ q h in
+        let (u, e) = ready (at M τ q) o in
+        (u, rw (e, o))
+
+    together : (σ : M .Tag) (p q : ℕ) → p < M .arity σ → q < M .arity σ → Spent (apply M τ d v .tok (at M σ p)) → Spent (apply M τ d v .tok (at M σ q))
+    together σ p q hp hq s = go (M .same τ σ)
+      where
+        go : Dec (τ ≡ σ) → Spent (apply M τ d v .tok (at M σ q))
+        go (yes e) = subst (λ x. Spent (apply M τ d v .tok (at M x q))) e (ownSpent q (subst (λ x. q < M .arity x) (sym e) hq))
+        go (no n) = spentKept (at M σ q) (old .spentTogether σ p q hp hq (spentBefore (at M σ p) (notOperand (at M σ p) (λ z. n (z .0))) s))
+
+    unspent : (σ : M .Tag) (p : ℕ) → M .arity σ ≤ p → ¬ (Spent (apply M τ d v .tok (at M σ p)))
+    unspent σ p h s = old .othersUnspent σ p h (spentBefore (at M σ p) (notOperand (at M σ p) no-operand) s)
+      where
+        no-operand : ¬ ((τ ≡ σ) × (p < M .arity τ))
+        no-operand (e, l) = let z : p < M .arity σ = subst (λ x. p < M .arity x) e l in omega arith
+
+    keptAfter : Kept (apply M τ d v)
+    keptAfter = record { deferredWaits = keptDeferred; waitingDefers = keptWaiting; spentTogether = together; othersUnspent = unspent }
+
+  -- ---- at the start
+
+  startLive : (ts : Ledger M) → AllLive M ts → (k : Key (M .Tag)) (y : Content (M .Value)) → find M k ts ≡ some y → (u : M .Value) × (y ≡ live u)
+  startLive [] h k y e = noneSome e
+  startLive (t ∷ ts) h k y e = go (sameKey M k (t .key)) (λ f. startLive ts (h .1) k y f) e
+    where
+      go : (q : Dec (k ≡ t .key)) → (find M k ts ≡ some y → (u : M .Value) × (y ≡ live u)) → when q (some (t .content)) (find M k ts) ≡ some y → (u : M .Value) × (y ≡ live u)
+      go (yes p) rec f = let (u, g) = h .0 in (u, someSame _ _ (sym f ∙ g))
+      go (no n) rec f = rec f
+
+  keptStart : (s : StateOf M) → Start M s → Kept (view M s)
+  keptStart s h = record {
+    deferredWaits = λ k c e. let (u, f) = startLive (s .tokens) (h .allLive) k (deferred c) e in liveDeferred (sym f);
+    waitingDefers = λ c e. absentWaiting (sym (absentCell (M .cellCount) c) ∙ ap (λ l. cellAt l c) (sym (h .absentCells)) ∙ e);
+    spentTogether = λ τ p q hp hq (w, e). let (u, f) = startLive (s .tokens) (h .allLive) (at M τ p) (spent w) e in liveSpent (sym f);
+    othersUnspent = λ τ p hp (w, e). let (u, f) = startLive (s .tokens) (h .allLive) (at M τ p) (spent w) e in liveSpent (sym f);
+  }
+
+  -- ---- a firing
+
+  firedReady : (s x : StateOf M) (τ : M .Tag) → fire M s τ ≡ fired x → Ready M (view M s) τ
+  unfolding fire
+  firedReady s x τ e = go (operands M (look M s) τ) refl e
+    where
+      go : (q : Option (Operands (M .Value))) → operands M (look M s) τ ≡ q
+          → _≡_ {A = FiredOf M} (onOption q (notFired (M .secondToken)) (λ p. commit M s τ (M .effect τ (p .left) (p .right)))) (fired x) → Ready M (view M s) τ
+      go none f g = absurd (let z : _≡_ {A = ℕ} 0 1 = cc in omega arith)
+      go (some p) f g = (p, f)
+
+  outputsKnown : (s : StateOf M) (τ : M .Tag) (p : Operands (M .Value)) (d : DeltaOf M) → operands M (look M s) τ ≡ some p → deltaOf M (M .effect τ (p .left) (p .right)) ≡ some d
+      → outputs M s τ ≡ length (d .keys)
+  outputsKnown s τ p d e f = rw e (ap length (keysKnown (M .effect τ (p .left) (p .right)) d f))
+
+  module _ (law : Lawful M) where
+    -- what a state that is reached keeps of the state s that it is reached from
+    record Carried (s : StateOf M) (f o : ℕ) (x : StateOf M) : Type 0 where
+      good : Good M x
+      count : length (x .tokens) ≡ length (s .tokens) + o
+      spending : spents M (s .tokens) + f ≤ spents M (x .tokens)
+      kept : Kept (view M s) → Kept (view M x)
+
+    carried : (s : StateOf M) → Good M s → (f o : ℕ) (x : StateOf M) → Reached M s f o x → Carried s f o x
+    carried s g zero o x (e, q) = subst (Carried s 0 o) (sym q) (record { good = g; count = omega arith; spending = omega arith; kept = λ h. h })
+    carried s g (suc f) o x (y, n, τ, r, e, q) = next (carried s g f n y r)
+      where
+        ready : Ready M (view M y) τ
+        ready = firedReady y x τ e
+
+        next : Carried s f n y → Carried s (suc f) o x
+        next h =
+            let (st, gx, more) = rw e at (fireResult M law y τ (h .good) ready) in
+            let c : length (y .tokens) + length (st .delta .keys) ≡ length (x .tokens) = ap (λ v. v .used) (st .result) in
+            let p = outputsKnown y τ (st .ops) (st .delta) (st .given) (st .known) in
+            let hc = h .count in
+            let hs = h .spending in
+            record {
+              good = gx;
+              count = omega arith;
+              spending = omega arith;
+              kept = λ z. subst Kept (st .result) (keptAfter (view M y) τ (st .delta)
+                  (shapeOf (M .effect τ (st .ops .left) (st .ops .right)) (st .delta) (law .readsForSome τ (st .ops .left) (st .ops .right)) (st .known))
+                  (st .allowed) (λ k. operandLive M (look M y) τ (st .ops) k (st .given)) (h .kept z));
+            }
+
+    pub reached-good : (s : StateOf M) → Good M s → (f o : ℕ) (x : StateOf M) → Reached M s f o x → Good M x
+    reached-good s g f o x r = carried s g f o x r .good
+
+    pub reached-count : (s : StateOf M) → Good M s → (f o : ℕ) (x : StateOf M) → Reached M s f o x → length (x .tokens) ≡ length (s .tokens) + o
+    reached-count s g f o x r = carried s g f o x r .count
+
+    pub reached-firings : (s : StateOf M) → Good M s → (f o : ℕ) (x : StateOf M) → Reached M s f o x → f ≤ length (x .tokens)
+    reached-firings s g f o x r = let h = carried s g f o x r .spending in let l = spentsLength M (x .tokens) in omega arith
+
+    pub reached-invariants : ReachedInvariants M
+    reached-invariants s st f o x r = record {
+      distinct = h .good .distinct;
+      room = h .good .room;
+      cellCount = h .good .cellCount;
+      firings = reached-firings s g f o x r;
+      count = h .count;
+      deferredWaits = k .deferredWaits;
+      waitingDefers = k .waitingDefers;
+      spentTogether = k .spentTogether;
+      othersUnspent = k .othersUnspent;
+    }
+      where
+        g : Good M s
+        g = startGood M s st
+
+        h : Carried s f o x
+        h = carried s g f o x r
+
+        k : Kept (view M x)
+        k = h .kept (keptStart s st)
+
+  -- ---- how a run ends
+
+  prepend : (s x : StateOf M) (τ : M .Tag) → fire M s τ ≡ fired x → (f o : ℕ) (y : StateOf M) → Reached M x f o y → Reached M s (suc f) (outputs M s τ + o) y
+  prepend s x τ e zero o y (h, q) = (s, 0, τ, (refl, refl), e ∙ ap fired (sym q), omega arith)
+  prepend s x τ e (suc f) o y (z, n, σ, r, g, q) = (z, outputs M s τ + n, σ, prepend s x τ e f n z r, g, omega arith)
+
+  saysLater : (o : Outcome (M .Refusal)) (b n : ℕ) (x : StateOf M) → Says M o b n x → Says M o (suc b) (suc n) x
+  saysLater completed b n x h = h
+  saysLater budgetSpent b n x (e, a, m) = (ap suc e, a, m)
+  saysLater (refused r p) b n x (l, a, m, q, e) = (omega arith, a, m, q, e)
+
+  endedAt : (s : StateOf M) (b f : ℕ) (o : Outcome (M .Refusal)) → Says M o b 0 s → Ended M s b f (record { outcome = o; firings = f; state = s })
+  endedAt s b f o h = record { done = 0; sent = 0; firings = omega arith; reached = (refl, refl); says = h }
+
+  pub reached-run : RunsEnd M
+  reached-run c ok s zero ps f = go (enabled M s) refl
+    where
+      go : (l : List (Activity (M .Tag))) → enabled M s ≡ l → Ended M s 0 f (runBy M c zero ps f s)
+      go [] e = rw (runEmpty M c zero ps f s e) (endedAt s 0 f completed e)
+      go (a ∷ more) e = rw (runZero M c ps f s a more e) (endedAt s 0 f budgetSpent (refl, a, rw e (List·Memᴰ·head refl)))
+  reached-run c ok s (suc b) ps f = go (enabled M s) refl (λ x. reached-run c ok x b (laterPicks ps) (suc f))
+    where
+      Rest : Type 0
+      Rest = (x : StateOf M) → Ended M x b (suc f) (runBy M c b (laterPicks ps) (suc f) x)
+
+      oneMore : (x : StateOf M) (τ : M .Tag) (e : EndOf M) → fire M s τ ≡ fired x → Ended M x b (suc f) e → Ended M s (suc b) f e
+      oneMore x τ e h r = record {
+        done = suc (r .done);
+        sent = outputs M s τ + r .sent;
+        firings = let z = r .firings in omega arith;
+        reached = prepend s x τ h (r .done) (r .sent) (e .state) (r .reached);
+        says = saysLater (e .outcome) b (r .done) (e .state) (r .says);
+      }
+
+      byFiring : (a : Activity (M .Tag)) (more : List (Activity (M .Tag))) → enabled M s ≡ a ∷ more → Rest → (y : FiredOf M) → fire M s (c s (firstPick ps) a more .tag) ≡ y
+          → Ended M s (suc b) f (runBy M c (suc b) ps f s)
+      byFiring a more e rest (notFired r) h = rw (runRefused M c b ps f s a more r e h)
+          (endedAt s (suc b) f (refused r (c s (firstPick ps) a more .place)) (omega arith, c s (firstPick ps) a more, rw e (ok s (firstPick ps) a more), refl, h))
+      byFiring a more e rest (fired x) h = rw (runFired M c b ps f s x a more e h) (oneMore x (c s (firstPick ps) a more .tag) (runBy M c b (laterPicks ps) (suc f) x) h (rest x))
+
+      go : (l : List (Activity (M .Tag))) → enabled M s ≡ l → Rest → Ended M s (suc b) f (runBy M c (suc b) ps f s)
+      go [] e rest = rw (runEmpty M c (suc b) ps f s e) (endedAt s (suc b) f completed e)
+      go (a ∷ more) e rest = byFiring a more e rest (fire M s (c s (firstPick ps) a more .tag)) refl
+
+  -- a run by picks
+  pub reached-picks : (s : StateOf M) (budget : ℕ) (picks : List ℕ) → Ended M s budget 0 (run M budget picks s)
+  reached-picks s b ps = reached-run (byPicks M) (byPicksLawful M) s b ps 0

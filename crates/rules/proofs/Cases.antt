@@ -1,0 +1,9 @@
+-- The table of worked cases holds: what the rules give is what the table says, in one fact over all rows. Assumes nothing.
+use mathlib.Core.Path.{_≡_, refl}
+use mathlib.Core.List.{map}
+use Rattle.rules.specs.Computed.{rules}
+use Rattle.rules.specs.Cases.{written, seenIn, seen, expected, cases}
+
+pub cases-hold : map seen cases ≡ map expected cases
+unfolding rules written seenIn seen expected
+cases-hold = refl

@@ -1,0 +1,49 @@
+-- 01, "The answer and the refusals": an answer in this paper's numbers. Assumes nothing.
+use Prim.Native.Nat.{ℕ}
+use Rattle.rules.specs.declared.answer.Refusal.{Refusal}
+use Rattle.rules.specs.declared.answer.Refusal.the-variants.{GraphLength, UnknownOperation, FanOut, BadArc, BadSite, BadInput, BadStore, LedgerFull, SecondToken, NoSuchCell, SecondWrite, OutOfRange, Iteration, TooDeep, NoCaller, UnknownSite, NoReturn}
+use Rattle.rules.specs.declared.answer.Outcome.{Outcome}
+use Rattle.rules.specs.declared.answer.Outcome.the-variants.{Completed, Spent, Refused}
+use Rattle.rules.specs.declared.answer.Answer.{Answer}
+
+-- the column "No."
+abbrev pub numberOf : Refusal → ℕ
+numberOf GraphLength = 1
+numberOf UnknownOperation = 2
+numberOf FanOut = 3
+numberOf BadArc = 4
+numberOf BadSite = 5
+numberOf BadInput = 6
+numberOf BadStore = 7
+numberOf LedgerFull = 8
+numberOf SecondToken = 9
+numberOf NoSuchCell = 10
+numberOf SecondWrite = 11
+numberOf OutOfRange = 12
+numberOf Iteration = 13
+numberOf TooDeep = 14
+numberOf NoCaller = 15
+numberOf UnknownSite = 16
+numberOf NoReturn = 17
+
+-- "An answer is completed, spent or refused with its number": one number for the three, 0 for completed and 100 for spent
+abbrev pub wordOf : Outcome → ℕ
+wordOf Completed = 0
+wordOf Spent = 100
+wordOf (Refused r place) = numberOf r
+
+-- "The place is 0 unless refused."
+abbrev pub placeIn : Outcome → ℕ
+placeIn Completed = 0
+placeIn Spent = 0
+placeIn (Refused r place) = place
+
+-- "each carries firings, tokens and a place"
+pub record Values : Type 0 where
+  pub word : ℕ
+  pub firings : ℕ
+  pub tokens : ℕ
+  pub place : ℕ
+
+abbrev pub valuesOf : Answer → Values
+valuesOf a = record { word = wordOf (a .outcome); firings = a .firings; tokens = a .tokens; place = placeIn (a .outcome) }

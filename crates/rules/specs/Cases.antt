@@ -1,0 +1,314 @@
+-- 01, "Cases": those with a star, and rows that tell the rules from plausible errors, as one table over bytes. proofs/Cases has the one fact over it.
+-- Assumes nothing.
+use Prim.Native.Nat.{ℕ, zero, suc, _*_}
+use mathlib.Core.Bool.{cond}
+use mathlib.Core.List.{List, [], _∷_, _++_, map}
+use lib.ListN.{replicate}
+use lib.IntN.{ℤ, pos, negsuc}
+use Rattle.record.specs.declared.tag.Tag.{Tag}
+use Rattle.record.specs.Number.{bitsOf, bytes16, bytes32}
+use Rattle.record.specs.GraphRecords.{graphOf}
+use Rattle.record.specs.TokensAndTags as Tokens
+use Rattle.machine.specs.Machine.{Key, Content, live, spent, deferred, Token, Cell, absent, waiting, present, Effect, send}
+use Rattle.rules.specs.declared.answer.Refusal.{Refusal}
+use Rattle.rules.specs.Answer.{Values, valuesOf}
+use Rattle.rules.specs.InstructionSet.{effectIn}
+use Rattle.rules.specs.Run.{tokenRecord, Result, refusedAtOnce, ranTo, result, answer}
+
+-- ---- how the rows are written
+
+-- a graph record: operation, constant, then the port and the instruction of each destination
+abbrev pub to0 : (code : ℕ) → ℤ → List ℕ
+to0 code k = code ∷ 0 ∷ 0 ∷ 0 ∷ bytes32 0 ++ bytes32 (bitsOf k) ++ bytes32 0
+
+abbrev pub to1 : (code : ℕ) → ℤ → (port instruction : ℕ) → List ℕ
+to1 code k p i = code ∷ 1 ∷ p ∷ 0 ∷ bytes16 i ++ bytes16 0 ++ bytes32 (bitsOf k) ++ bytes32 0
+
+abbrev pub to2 : (code : ℕ) → ℤ → (port1 instruction1 port2 instruction2 : ℕ) → List ℕ
+to2 code k p i q j = code ∷ 2 ∷ p ∷ q ∷ bytes16 i ++ bytes16 j ++ bytes32 (bitsOf k) ++ bytes32 0
+
+abbrev pub key : (path iteration instruction port : ℕ) → Key Tag
+key path n i p = record { tag = record { path = path; iteration = n; instruction = i }; port = p }
+
+abbrev pub token : (path iteration instruction port : ℕ) → Content ℤ → Token Tag ℤ
+token path n i p x = record { key = key path n i p; content = x }
+
+-- at the root path and iteration
+abbrev pub root : (instruction port : ℕ) → Content ℤ → Token Tag ℤ
+root i p x = token 0 0 i p x
+
+abbrev pub input : (instruction port : ℕ) → ℤ → List ℕ
+input i p v = Tokens.encode (tokenRecord (root i p (live v)))
+
+abbrev pub values : (word firings tokens place : ℕ) → Values
+values w f t p = record { word = w; firings = f; tokens = t; place = p }
+
+-- the words of an answer: a refusal is its number
+abbrev pub completed : ℕ
+completed = 0
+
+abbrev pub spentWord : ℕ
+spentWord = 100
+
+-- ---- a case
+
+-- a cell that is not absent, with its number
+pub data Numbered : Type 0 where
+  cell : (number : ℕ) → Cell ℤ → Numbered
+
+pub data Case : Type 0 where
+  -- a run: what is lent; the answer, the tokens of the ledger in order of arrival, the cells that are not absent
+  running : (graph inputs picks : List ℕ) → (budget capacity cells : ℕ) → Values → List (Token Tag ℤ) → List Numbered → Case
+  -- a firing at a tag: what is given; the effect
+  firing : (graph : List ℕ) → (cells : ℕ) → Tag → (a b : ℤ) → Effect Refusal Tag ℤ → Case
+
+pub data Seen : Type 0 where
+  ran : Values → List (Token Tag ℤ) → List Numbered → Seen
+  did : Effect Refusal Tag ℤ → Seen
+
+unfoldable pub written : ℕ → List (Cell ℤ) → List Numbered
+written i [] = []
+written i (absent ∷ xs) = written (suc i) xs
+written i (waiting ∷ xs) = cell i waiting ∷ written (suc i) xs
+written i (present v ∷ xs) = cell i (present v) ∷ written (suc i) xs
+
+unfoldable pub seenIn : Result → Seen
+seenIn (refusedAtOnce r p) = ran (valuesOf (answer (refusedAtOnce r p))) [] []
+seenIn (ranTo e) = ran (valuesOf (answer (ranTo e))) (e .state .tokens) (written 0 (e .state .cells))
+
+-- by the rules
+unfoldable pub seen : Case → Seen
+seen (running graph inputs picks budget capacity cells a ts cs) = seenIn (result graph inputs picks budget (20 * capacity) (8 * cells))
+seen (firing graph cells τ a b e) = did (effectIn (graphOf graph) cells τ a b)
+
+-- by the table
+unfoldable pub expected : Case → Seen
+expected (running graph inputs picks budget capacity cells a ts cs) = ran a ts cs
+expected (firing graph cells τ a b e) = did e
+
+-- ---- the starred cases
+
+-- 0 is the operation, of two operands, to 1 port 0; 1 is OUT
+abbrev pub binary : (code : ℕ) → List ℕ
+binary code = to1 code (pos 0) 0 1 ++ to0 3 (pos 0)
+
+abbrev pub operands : ℤ → ℤ → List ℕ
+operands a b = input 0 0 a ++ input 0 1 b
+
+-- the operation gives v
+abbrev pub gives : (code : ℕ) → ℤ → ℤ → ℤ → Case
+gives code a b v =
+    running (binary code) (operands a b) [] 2048 2048 8 (values completed 1 3 0) (root 0 0 (spent a) ∷ root 0 1 (spent b) ∷ root 1 0 (live v) ∷ []) []
+
+-- the operation is refused, and its operands stay live
+abbrev pub refuses : (code : ℕ) → ℤ → ℤ → (number : ℕ) → Case
+refuses code a b number =
+    running (binary code) (operands a b) [] 2048 2048 8 (values number 0 2 0) (root 0 0 (live a) ∷ root 0 1 (live b) ∷ []) []
+
+-- 0 is FETCH to 1 port 0; 1 is OUT; 2 is STORE. Cell 5 is fetched, and 40 stored to it
+abbrev pub fetchAndStore : (picks : List ℕ) → Case
+fetchAndStore picks =
+    running (to1 10 (pos 0) 0 1 ++ to0 3 (pos 0) ++ to0 11 (pos 0)) (input 0 0 (pos 5) ++ input 2 0 (pos 5) ++ input 2 1 (pos 40)) picks 2048 2048 8
+    (values completed 2 4 0)
+    (root 0 0 (spent (pos 5)) ∷ root 2 0 (spent (pos 5)) ∷ root 2 1 (spent (pos 40)) ∷ root 1 0 (live (pos 40)) ∷ [])
+    (cell 5 (present (pos 40)) ∷ [])
+
+-- 0 and 1 are STORE, both to cell 5; the first to fire is done, the other refused
+abbrev pub twoStores : (picks : List ℕ) → (place : ℕ) → (first second : ℤ → Content ℤ) → (stored : ℤ) → Case
+twoStores picks place first second stored =
+    running (to0 11 (pos 0) ++ to0 11 (pos 0)) (input 0 0 (pos 5) ++ input 0 1 (pos 1) ++ input 1 0 (pos 5) ++ input 1 1 (pos 2)) picks 2048 2048 8
+    (values 11 1 4 place)
+    (root 0 0 (first (pos 5)) ∷ root 0 1 (first (pos 1)) ∷ root 1 0 (second (pos 5)) ∷ root 1 1 (second (pos 2)) ∷ [])
+    (cell 5 (present stored) ∷ [])
+
+abbrev pub starred : List Case
+starred =
+    -- the printed example
+    gives 16 (pos 7) (negsuc 8) (negsuc 1)
+    -- budget 0; 1
+    ∷ running (binary 16) (operands (pos 7) (negsuc 8)) [] 0 2048 8 (values spentWord 0 2 0) (root 0 0 (live (pos 7)) ∷ root 0 1 (live (negsuc 8)) ∷ []) []
+    ∷ running (binary 16) (operands (pos 7) (negsuc 8)) [] 1 2048 8 (values completed 1 3 0)
+    (root 0 0 (spent (pos 7)) ∷ root 0 1 (spent (negsuc 8)) ∷ root 1 0 (live (negsuc 1)) ∷ [])
+    []
+    -- capacity 2; 1
+    ∷ running (binary 16) (operands (pos 7) (negsuc 8)) [] 2048 2 8 (values 8 0 2 0) (root 0 0 (live (pos 7)) ∷ root 0 1 (live (negsuc 8)) ∷ []) []
+    ∷ running (binary 16) (operands (pos 7) (negsuc 8)) [] 2048 1 8 (values 8 0 0 1) [] []
+    -- no inputs
+    ∷ running (binary 16) [] [] 2048 2048 8 (values completed 0 0 0) [] []
+    -- COPY with both destinations alike
+    ∷ running (to2 1 (pos 0) 0 1 0 1 ++ to0 3 (pos 0)) (input 0 0 (pos 7)) [] 2048 2048 8 (values 9 0 1 0) (root 0 0 (live (pos 7)) ∷ []) []
+    -- FETCH first; STORE first
+    ∷ fetchAndStore []
+    ∷ fetchAndStore (bytes16 1)
+    -- operands in ledger order; with first pick 1
+    ∷ twoStores [] 2 spent live (pos 1)
+    ∷ twoStores (bytes16 1) 0 live spent (pos 2)
+    -- -7 DIV 2, -7 REM 2, 7 DIV -2, -2,147,483,648 DIV -1
+    ∷ gives 19 (negsuc 6) (pos 2) (negsuc 2)
+    ∷ gives 20 (negsuc 6) (pos 2) (negsuc 0)
+    ∷ gives 19 (pos 7) (negsuc 1) (negsuc 2)
+    ∷ refuses 19 (negsuc 2147483647) (negsuc 0) 12
+    -- ENTER site 3 at path 0, iteration 2; NEXT at 254
+    ∷ firing (to2 8 (pos 3) 0 1 0 1 ++ to0 3 (pos 0)) 8 (record { path = 0; iteration = 2; instruction = 0 }) (pos 7) (pos 0) (send (pos 7) (key 770 0 1 0 ∷ []))
+    ∷ firing (to1 7 (pos 0) 0 1 ++ to0 3 (pos 0)) 8 (record { path = 0; iteration = 254; instruction = 0 }) (pos 7) (pos 0) (send (pos 7) (key 0 255 1 0 ∷ []))
+    ∷ []
+
+-- ---- rows that tell the rules from plausible errors
+
+-- 0 and 1 are COPY, both to 2, which is SINK. COPY 0 and SINK have fired when COPY 1 sends to the spent token's port
+abbrev pub secondAfterSpent : Case
+secondAfterSpent =
+    running (to1 1 (pos 0) 0 2 ++ to1 1 (pos 0) 0 2 ++ to0 2 (pos 0)) (input 0 0 (pos 7) ++ input 1 0 (pos 8)) (bytes16 0 ++ bytes16 1) 2048 2048 8
+    (values 9 2 3 1)
+    (root 0 0 (spent (pos 7)) ∷ root 1 0 (live (pos 8)) ∷ root 2 0 (spent (pos 7)) ∷ [])
+    []
+
+-- 0 and 1 are FETCH of cell 5, both to 2, which is OUT: the second is refused when it fetches, and no write is waited for
+abbrev pub secondDeferred : Case
+secondDeferred =
+    running (to1 10 (pos 0) 0 2 ++ to1 10 (pos 0) 0 2 ++ to0 3 (pos 0)) (input 0 0 (pos 5) ++ input 1 0 (pos 5)) [] 2048 2048 8
+    (values 9 1 3 1)
+    (root 0 0 (spent (pos 5)) ∷ root 1 0 (live (pos 5)) ∷ root 2 0 (deferred 5) ∷ [])
+    (cell 5 waiting ∷ [])
+
+-- 0 is ADD to 2, which is OUT, 1 is COPY to 3, which is OUT. Two activities are enabled, and a pick of 1 takes COPY
+abbrev pub countedOnce : Case
+countedOnce =
+    running (to1 16 (pos 0) 0 2 ++ to1 1 (pos 0) 0 3 ++ to0 3 (pos 0) ++ to0 3 (pos 0)) (input 0 0 (pos 7) ++ input 0 1 (pos 8) ++ input 1 0 (pos 9)) (bytes16 1) 2048 2048 8
+    (values completed 2 5 0)
+    (root 0 0 (spent (pos 7)) ∷ root 0 1 (spent (pos 8)) ∷ root 1 0 (spent (pos 9)) ∷ root 3 0 (live (pos 9)) ∷ root 2 0 (live (pos 15)) ∷ [])
+    []
+
+-- a read that nobody answers: the output is deferred and the cell waits
+abbrev pub nobodyWrites : Case
+nobodyWrites =
+    running (to1 10 (pos 0) 0 1 ++ to0 3 (pos 0)) (input 0 0 (pos 5)) [] 2048 2048 8 (values completed 1 2 0)
+    (root 0 0 (spent (pos 5)) ∷ root 1 0 (deferred 5) ∷ [])
+    (cell 5 waiting ∷ [])
+
+-- 0 is SWITCH to 1 or 2, both OUT
+abbrev pub switched : (control : ℤ) → (instruction : ℕ) → Case
+switched control i =
+    running (to2 5 (pos 0) 0 1 0 2 ++ to0 3 (pos 0) ++ to0 3 (pos 0)) (operands (pos 7) control) [] 2048 2048 8 (values completed 1 3 0)
+    (root 0 0 (spent (pos 7)) ∷ root 0 1 (spent control) ∷ root i 0 (live (pos 7)) ∷ [])
+    []
+
+-- 0 is STORE with a signal to 1, which is OUT
+abbrev pub signalled : Case
+signalled =
+    running (to1 11 (pos 0) 0 1 ++ to0 3 (pos 0)) (operands (pos 5) (pos 40)) [] 2048 2048 8 (values completed 1 3 0)
+    (root 0 0 (spent (pos 5)) ∷ root 0 1 (spent (pos 40)) ∷ root 1 0 (live (pos 0)) ∷ [])
+    (cell 5 (present (pos 40)) ∷ [])
+
+-- 0 is NEXT to 1, which enters site 3 at 2, which enters site 4 at 3, which leaves: back at 4, LEAVE, and then at 5, which is OUT
+abbrev pub nestedCalls : Case
+nestedCalls =
+    running (to1 7 (pos 0) 0 1 ++ to2 8 (pos 3) 0 2 0 5 ++ to2 8 (pos 4) 0 3 0 4 ++ to0 9 (pos 0) ++ to0 9 (pos 0) ++ to0 3 (pos 0)) (input 0 0 (pos 7)) [] 2048 2048 8
+    (values completed 5 6 0)
+    (root 0 0 (spent (pos 7))
+    ∷ token 0 1 1 0 (spent (pos 7))
+    ∷ token 769 0 2 0 (spent (pos 7))
+    ∷ token 50398208 0 3 0 (spent (pos 7))
+    ∷ token 769 0 4 0 (spent (pos 7))
+    ∷ token 0 1 5 0 (live (pos 7))
+    ∷ [])
+    []
+
+-- 0 enters site 1 at 0: four levels, and the fifth is refused
+abbrev pub callsItself : Case
+callsItself =
+    running (to2 8 (pos 1) 0 0 0 1 ++ to0 3 (pos 0)) (input 0 0 (pos 7)) [] 2048 2048 8
+    (values 14 4 5 4)
+    (root 0 0 (spent (pos 7))
+    ∷ token 256 0 0 0 (spent (pos 7))
+    ∷ token 16777472 0 0 0 (spent (pos 7))
+    ∷ token 1099528405248 0 0 0 (spent (pos 7))
+    ∷ token 72058693566333184 0 0 0 (live (pos 7))
+    ∷ [])
+    []
+
+-- i from 0 while i < 2, and the sum of the i: 0 is COPY, 1 LT 2, 2 SWITCH of i, 3 COPY, 4 ADD 1, 5 NEXT of i, 6 SWITCH of the sum, 7 ADD, 8 SINK, 9 OUT,
+-- 10 NEXT of the sum
+abbrev pub loop : Case
+loop =
+    running (
+    to2 1 (pos 0) 0 1 0 2
+    ++ to2 37 (pos 2) 1 2 1 6
+    ++ to2 5 (pos 0) 0 3 0 8
+    ++ to2 1 (pos 0) 0 4 1 7
+    ++ to1 32 (pos 1) 0 5
+    ++ to1 7 (pos 0) 0 0
+    ++ to2 5 (pos 0) 0 7 0 9
+    ++ to1 16 (pos 0) 0 10
+    ++ to0 2 (pos 0)
+    ++ to0 3 (pos 0)
+    ++ to1 7 (pos 0) 0 6)
+    (input 0 0 (pos 0) ++ input 6 0 (pos 0)) [] 2048 2048 8
+    (values completed 23 32 0)
+    (token 0 0 0 0 (spent (pos 0))
+    ∷ token 0 0 6 0 (spent (pos 0))
+    ∷ token 0 0 1 0 (spent (pos 0))
+    ∷ token 0 0 2 0 (spent (pos 0))
+    ∷ token 0 0 2 1 (spent (pos 1))
+    ∷ token 0 0 6 1 (spent (pos 1))
+    ∷ token 0 0 7 0 (spent (pos 0))
+    ∷ token 0 0 3 0 (spent (pos 0))
+    ∷ token 0 0 4 0 (spent (pos 0))
+    ∷ token 0 0 7 1 (spent (pos 0))
+    ∷ token 0 0 10 0 (spent (pos 0))
+    ∷ token 0 0 5 0 (spent (pos 1))
+    ∷ token 0 1 6 0 (spent (pos 0))
+    ∷ token 0 1 0 0 (spent (pos 1))
+    ∷ token 0 1 1 0 (spent (pos 1))
+    ∷ token 0 1 2 0 (spent (pos 1))
+    ∷ token 0 1 2 1 (spent (pos 1))
+    ∷ token 0 1 6 1 (spent (pos 1))
+    ∷ token 0 1 7 0 (spent (pos 0))
+    ∷ token 0 1 3 0 (spent (pos 1))
+    ∷ token 0 1 4 0 (spent (pos 1))
+    ∷ token 0 1 7 1 (spent (pos 1))
+    ∷ token 0 1 10 0 (spent (pos 1))
+    ∷ token 0 1 5 0 (spent (pos 2))
+    ∷ token 0 2 6 0 (spent (pos 1))
+    ∷ token 0 2 0 0 (spent (pos 2))
+    ∷ token 0 2 1 0 (spent (pos 2))
+    ∷ token 0 2 2 0 (spent (pos 2))
+    ∷ token 0 2 2 1 (spent (pos 0))
+    ∷ token 0 2 6 1 (spent (pos 0))
+    ∷ token 0 2 9 0 (live (pos 1))
+    ∷ token 0 2 8 0 (spent (pos 2))
+    ∷ [])
+    []
+
+-- refused in every order, by different numbers: 0 is DIV, by 0, and 1 is FETCH of cell -1
+abbrev pub bothRefused : (picks : List ℕ) → (number place : ℕ) → Case
+bothRefused picks number place =
+    running (to1 19 (pos 0) 0 2 ++ to1 10 (pos 0) 0 3 ++ to0 3 (pos 0) ++ to0 3 (pos 0)) (operands (pos 7) (pos 0) ++ input 1 0 (negsuc 0)) picks 2048 2048 8
+    (values number 0 3 place)
+    (root 0 0 (live (pos 7)) ∷ root 0 1 (live (pos 0)) ∷ root 1 0 (live (negsuc 0)) ∷ [])
+    []
+
+abbrev pub distinguishing : List Case
+distinguishing =
+    secondAfterSpent
+    ∷ secondDeferred
+    ∷ countedOnce
+    -- quotients rounded down; a refused firing that spends its operands
+    ∷ running (to1 35 (pos 2) 0 1 ++ to0 3 (pos 0)) (input 0 0 (negsuc 6)) [] 2048 2048 8 (values completed 1 2 0) (root 0 0 (spent (negsuc 6)) ∷ root 1 0 (live (negsuc 2)) ∷ []) []
+    ∷ refuses 19 (pos 7) (pos 0) 12
+    ∷ nobodyWrites
+    ∷ switched (pos 0) 2
+    ∷ switched (negsuc 0) 1
+    ∷ signalled
+    ∷ nestedCalls
+    ∷ callsItself
+    ∷ loop
+    ∷ bothRefused [] 12 0
+    ∷ bothRefused (bytes16 1) 10 2
+    -- refusal 3: SINK with an unused port, or a constant, not zero
+    ∷ running (2 ∷ 0 ∷ 1 ∷ replicate 13 0) [] [] 2048 2048 8 (values 3 0 0 0) [] []
+    ∷ running (to0 2 (pos 1)) [] [] 2048 2048 8 (values 3 0 0 0) [] []
+    ∷ []
+
+abbrev pub cases : List Case
+cases = starred ++ distinguishing

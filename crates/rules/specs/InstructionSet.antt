@@ -1,0 +1,140 @@
+-- 01, "Firing": the operations as an instance of the machine. An effect goes by the tag and the operands alone: it does not look at ledger or cells.
+-- Refusals 10 and 12 to 17 are here. Assumes nothing.
+use Prim.Native.Nat.{ℕ, zero, suc, _+_}
+use native.Mathlib.Decide.{ℕ-discrete}
+use mathlib.Core.Path.{_≡_, ap}
+use mathlib.Core.Bool.{Bool, true, false, cond}
+use mathlib.Core.Option.{Option, none, some}
+use mathlib.Core.List.{List, [], _∷_, map}
+use lib.ListN.{length}
+use lib.IntN.{ℤ, pos, negsuc, natAbs}
+use lib.Dec.{eqb, ltb}
+use Rattle.record.specs.declared.tag.Tag.{Tag}
+use Rattle.record.specs.declared.tag.Entered.{Entered}
+use Rattle.record.specs.declared.tag.Entered.the-variants.{In, TooDeep}
+use Rattle.record.specs.declared.tag.Left.{Left}
+use Rattle.record.specs.declared.tag.Left.the-variants.{To, NoCaller}
+use Rattle.record.specs.declared.tag.Next.{Next}
+use Rattle.record.specs.declared.tag.Next.the-variants.{Is, Last}
+use Rattle.record.specs.declared.instruction.Destination.{Destination}
+use Rattle.record.specs.declared.instruction.Instruction.{Instruction}
+use Rattle.record.specs.declared.operation.Operation.{Operation}
+use Rattle.record.specs.declared.operation.Operation.the-variants as Operations
+use Rattle.record.specs.TokensAndTags.{toOf}
+use Rattle.record.specs.Calls.{nextOf, enterOf, leaveOf}
+use Rattle.record.specs.GraphRecords.{destinations, operationOf, operandsOf}
+use Rattle.arithmetic.specs.declared.Computed.{Computed}
+use Rattle.arithmetic.specs.declared.Computed.the-variants.{Value, OutOfRange}
+use Rattle.arithmetic.specs.Arithmetic.{computeOf, eqZ}
+use Rattle.machine.specs.Machine.{Key, Effect, refuse, send, read, write, Machine, decideBoth}
+use Rattle.rules.specs.declared.answer.Refusal.{Refusal}
+use Rattle.rules.specs.declared.answer.Refusal.the-variants as Refusals
+use Rattle.rules.specs.Check.{instructionAt, entersSite}
+
+abbrev pub EffectHere : Type 0
+EffectHere = Effect Refusal Tag ℤ
+
+-- a port of an instruction under a tag's path and iteration
+abbrev pub keyUnder : Tag → Destination → Key Tag
+keyUnder τ d = record { tag = toOf τ (d .instruction); port = d .port }
+
+-- each destination in use, destination 1 first
+abbrev pub allUnder : Tag → Instruction → List (Key Tag)
+allUnder τ r = map (keyUnder τ) (destinations r)
+
+-- ---- operations
+
+-- 12: "result past 32 signed bits, or divisor 0"
+unfoldable pub sendComputed : Computed → List (Key Tag) → EffectHere
+sendComputed (Value v) keys = send v keys
+sendComputed OutOfRange keys = refuse Refusals.OutOfRange
+
+-- "SWITCH, port 0 to destination 1 if port 1 is not 0, else to destination 2"
+unfoldable pub sideOf : ℤ → Instruction → Destination
+sideOf control r = cond (eqZ control (pos 0)) (r .second) (r .first)
+
+-- "NEXT adds 1 to the iteration, 255 at most." 13: "NEXT at 255"
+unfoldable pub sendNext : Next → Instruction → ℤ → EffectHere
+sendNext (Is τ) r v = send v (allUnder τ r)
+sendNext Last r v = refuse Refusals.Iteration
+
+-- ENTER "sends its value, one token, to destination 1". 14: "ENTER at four levels"
+unfoldable pub sendEntered : Entered → Instruction → ℤ → EffectHere
+sendEntered (In τ) r v = send v (keyUnder τ (r .first) ∷ [])
+sendEntered TooDeep r v = refuse Refusals.TooDeep
+
+-- ENTER: "Destination 2, port 0, is the site's return instruction": that of the first ENTER of the site, and so of all
+unfoldable pub returnOf : (site : ℕ) → List Instruction → Option ℕ
+returnOf site [] = none
+returnOf site (r ∷ rs) = cond (entersSite (pos site) r) (some (r .second .instruction)) (returnOf site rs)
+
+-- LEAVE "sends its value, under that parent and iteration, to port 0 of return instruction plus its constant".
+-- 16: "no ENTER has the path's site". 17: "return instruction plus constant past the graph"
+unfoldable pub sendReturned : List Instruction → Option ℕ → (constant : ℕ) → Tag → ℤ → EffectHere
+sendReturned g none k τ v = refuse Refusals.UnknownSite
+sendReturned g (some i) k τ v = cond (ltb (i + k) (length g)) (send v (record { tag = toOf τ (i + k); port = 0 } ∷ [])) (refuse Refusals.NoReturn)
+
+-- 15: "LEAVE at path 0"
+unfoldable pub sendLeft : List Instruction → Left → Instruction → ℤ → EffectHere
+sendLeft g (To site τ) r v = sendReturned g (returnOf site g) (natAbs (r .constant)) τ v
+sendLeft g NoCaller r v = refuse Refusals.NoCaller
+
+-- 10: "cell number outside 0 to count minus 1"
+unfoldable pub onCell : (cells : ℕ) → ℤ → (ℕ → EffectHere) → EffectHere
+onCell cells (pos c) f = cond (ltb c cells) (f c) (refuse Refusals.NoSuchCell)
+onCell cells (negsuc c) f = refuse Refusals.NoSuchCell
+
+-- the table's operations: a and b are the operands on ports 0 and 1, keys the destinations in use under the same path and iteration
+unfoldable pub effectOf : Operation → List Instruction → (cells : ℕ) → Tag → Instruction → (a b : ℤ) → (keys : List (Key Tag)) → EffectHere
+effectOf Operations.Copy g cells τ r a b keys = send a keys
+effectOf Operations.Sink g cells τ r a b keys = send a []
+effectOf Operations.Out g cells τ r a b keys = send a []
+effectOf Operations.Const g cells τ r a b keys = send (r .constant) keys
+effectOf Operations.Switch g cells τ r a b keys = send a (keyUnder τ (sideOf b r) ∷ [])
+effectOf Operations.Gate g cells τ r a b keys = send a keys
+effectOf Operations.Next g cells τ r a b keys = sendNext (nextOf τ) r a
+effectOf Operations.Enter g cells τ r a b keys = sendEntered (enterOf τ (natAbs (r .constant))) r a
+effectOf Operations.Leave g cells τ r a b keys = sendLeft g (leaveOf τ) r a
+effectOf Operations.Fetch g cells τ r a b keys = onCell cells a (λ c. read c keys)
+effectOf Operations.Store g cells τ r a b keys = onCell cells a (λ c. write c b keys)
+effectOf (Operations.OnTwo o) g cells τ r a b keys = sendComputed (computeOf o a b) keys
+effectOf (Operations.OnConstant o) g cells τ r a b keys = sendComputed (computeOf o a (r .constant)) keys
+effectOf Operations.Unknown g cells τ r a b keys = send a []
+
+unfoldable pub effectIn : List Instruction → (cells : ℕ) → Tag → (a b : ℤ) → EffectHere
+effectIn g cells τ a b =
+    let r = instructionAt g (τ .instruction) in
+    effectOf (operationOf (r .code)) g cells τ r a b (allUnder τ r)
+
+-- ---- the machine of a graph
+
+-- "OUT, a result; never fires" (code 3): it waits for no operand
+unfoldable pub arityIn : List Instruction → Tag → ℕ
+arityIn g τ = let r = instructionAt g (τ .instruction) in cond (eqb (r .code) 3) 0 (operandsOf (r .code))
+
+-- tags are equal if instruction, iteration and path are; the instruction, which differs most often, is compared first
+unfoldable pub decideTag : Discrete Tag
+decideTag a b =
+    decideBoth {Q = (a .iteration ≡ b .iteration) × (a .path ≡ b .path)}
+    (λ p q. λ i. record { path = q .1 i; iteration = q .0 i; instruction = p i })
+    (λ e. ap (λ k. k .instruction) e)
+    (λ e. (ap (λ k. k .iteration) e, ap (λ k. k .path) e))
+    (ℕ-discrete (a .instruction) (b .instruction))
+    (decideBoth (λ p q. (p, q)) (λ e. e .0) (λ e. e .1) (ℕ-discrete (a .iteration) (b .iteration)) (ℕ-discrete (a .path) (b .path)))
+
+-- "signals of value 0"
+abbrev pub machineOf : List Instruction → (capacity cells : ℕ) → Machine
+machineOf g capacity cells = record {
+  Tag = Tag;
+  Value = ℤ;
+  Refusal = Refusal;
+  same = decideTag;
+  arity = arityIn g;
+  effect = effectIn g cells;
+  signal = pos 0;
+  ledgerFull = Refusals.LedgerFull;
+  secondToken = Refusals.SecondToken;
+  secondWrite = Refusals.SecondWrite;
+  capacity = capacity;
+  cellCount = cells;
+}

@@ -1,0 +1,6 @@
+pub mod Answer
+pub mod Check
+pub mod InstructionSet
+pub mod Run
+pub mod Computed
+pub mod Cases

@@ -1,0 +1,79 @@
+// What a run answers.
+ghost use mathlib.Core.Path.{_≡_};
+ghost use Rattle.rules.specs.Answer.{numberOf, wordOf};
+
+// The words of 01's table of refusals, 1 to 17 in this order.
+pub enum Refusal {
+    GraphLength,
+    UnknownOperation,
+    FanOut,
+    BadArc,
+    BadSite,
+    BadInput,
+    BadStore,
+    LedgerFull,
+    SecondToken,
+    NoSuchCell,
+    SecondWrite,
+    OutOfRange,
+    Iteration,
+    TooDeep,
+    NoCaller,
+    UnknownSite,
+    NoReturn,
+}
+
+// A refusal comes with its place.
+pub enum Outcome {
+    Completed,
+    Spent,
+    Refused(Refusal, usize),
+}
+
+pub struct Answer {
+    pub outcome: Outcome,
+    pub firings: usize,
+    pub tokens: usize,
+}
+
+// What a check before the first firing says.
+pub enum Checked {
+    Passed,
+    Failed(Refusal, usize),
+}
+
+// 01's number of a refusal.
+pub fn number(r: Refusal) -> u8
+    ensures { λ n. ⌜ n ≡ numberOf r ⌝ }
+{
+    match r {
+        Refusal::GraphLength => 1,
+        Refusal::UnknownOperation => 2,
+        Refusal::FanOut => 3,
+        Refusal::BadArc => 4,
+        Refusal::BadSite => 5,
+        Refusal::BadInput => 6,
+        Refusal::BadStore => 7,
+        Refusal::LedgerFull => 8,
+        Refusal::SecondToken => 9,
+        Refusal::NoSuchCell => 10,
+        Refusal::SecondWrite => 11,
+        Refusal::OutOfRange => 12,
+        Refusal::Iteration => 13,
+        Refusal::TooDeep => 14,
+        Refusal::NoCaller => 15,
+        Refusal::UnknownSite => 16,
+        Refusal::NoReturn => 17,
+    }
+}
+
+// An outcome in one number.
+pub fn word(outcome: Outcome) -> u8
+    ensures { λ n. ⌜ n ≡ wordOf outcome ⌝ }
+{
+    match outcome {
+        Outcome::Completed => 0,
+        Outcome::Spent => 100,
+        Outcome::Refused(r, _) => number(r),
+    }
+}
