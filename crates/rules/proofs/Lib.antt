@@ -1,3 +1,4 @@
 pub mod Cases
 pub mod Passed
 pub mod Lawful
+pub mod Inputs

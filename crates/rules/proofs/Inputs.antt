@@ -1,0 +1,102 @@
+-- Inputs that passed the check are a start: their keys are pairwise different, they fit the ledger, and each is live. Assumes nothing.
+use Prim.Native.Nat.{ℕ, zero, suc, _+_, _*_, _/_, _<_, _≤_}
+use mathlib.Core.Path.{_≡_, refl, sym, ap, _∙_, subst}
+use mathlib.Core.Bool.{Bool, true, false, not, _&&_, _||_, cond}
+use mathlib.Core.List.{List, [], _∷_, map}
+use mathlib.Core.Option.{none, some}
+use native.Mathlib.Omega.{arith}
+use native.Mathlib.Nat.{zero-add}
+use lib.ListN.{length, getD, take, drop, replicate, length-map}
+use lib.Dec.{eqb, leb, ltb}
+use lib.IntN.{ℤ}
+use borrow.Author.Tests.{leb-true, eqb-true, eq-eqb, not-true}
+use Rattle.record.specs.declared.tag.Tag.{Tag}
+use Rattle.record.specs.declared.token.Token.{Token}
+use Rattle.record.specs.declared.instruction.Instruction.{Instruction}
+use Rattle.record.specs.Number.{byteAt, number16, number32, number64, signedOf}
+use Rattle.record.specs.Table.{rows, allRows}
+use Rattle.record.specs.TokensAndTags.{isInput, standsAt, sameTag, contentOf}
+use Rattle.record.specs.TokensAndTags as Tokens
+use Rattle.machine.specs.Machine.{Key, live, absent, Machine, State, find, sameKey}
+use Rattle.machine.specs.Orders.{Live, Distinct, AllLive, Start}
+use Rattle.machine.proofs.View.{when-no, falseTrue}
+use Rattle.rules.specs.declared.answer.Refusal.the-variants as Refusals
+use Rattle.rules.specs.declared.answer.Checked.the-variants.{Passed}
+use Rattle.rules.specs.Check.{demand, _andThen_, any, inTurn, goodInput, secondInput, checkInputs, operandsAt}
+use Rattle.rules.specs.InstructionSet.{machineOf}
+use Rattle.rules.specs.Run.{contentHeld, tokenHeld, firstState}
+use Rattle.rules.proofs.Passed.{both, demand-passed, andThen-passed, turn-passed}
+
+-- ---- each is live
+
+input-live : (l : List ℕ) → isInput l ≡ true → Live (some (contentHeld (Tokens.decode l .content)))
+unfolding isInput Tokens.decode contentOf
+input-live l e =
+    let rest = both (eqb (number64 l 0) 0) _ e .1 in
+    let zeros : number32 l 16 ≡ 0 = eqb-true (number32 l 16) 0 (both (eqb (byteAt l 8) 0) (eqb (number32 l 16) 0) rest .1) in
+    let state : byteAt l 16 ≡ 0 = omega arith in
+    (signedOf (number32 l 12), rw state)
+
+module _ (g : List Instruction) (capacity cells : ℕ) where
+  abbrev M : Machine
+  M = machineOf g capacity cells
+
+  inputs-live : (n i : ℕ) (l : List ℕ) → inTurn (λ k good. demand good Refusals.BadInput k) i (rows 20 (goodInput g) n l) ≡ Passed → AllLive M (map tokenHeld (rows 20 Tokens.decode n l))
+  unfolding goodInput
+  inputs-live zero i l e = tt
+  inputs-live (suc n) i l e =
+      let parts = andThen-passed (demand (goodInput g l) Refusals.BadInput i) _ e in
+      let good = demand-passed (goodInput g l) Refusals.BadInput i (parts .0) in
+      (input-live l (both (isInput l) (ltb (byteAt l 9) (operandsAt g (number16 l 10))) good .0), inputs-live n (suc i) (drop 20 l) (parts .1))
+
+  -- ---- their keys are different
+
+  either : (a b : Bool) → (a || b) ≡ false → (a ≡ false) × (b ≡ false)
+  either true b e = (e, cc)
+  either false b e = (refl, e)
+
+  stands-there : (t u : Token) → tokenHeld t .key ≡ tokenHeld u .key → standsAt (u .tag) (u .port) t ≡ true
+  unfolding standsAt sameTag
+  stands-there t u e =
+      rw (
+        eq-eqb (t .port) (u .port) (ap (λ (k : Key Tag). k .port) e),
+        eq-eqb (t .tag .path) (u .tag .path) (ap (λ (k : Key Tag). k .tag .path) e),
+        eq-eqb (t .tag .iteration) (u .tag .iteration) (ap (λ (k : Key Tag). k .tag .iteration) e),
+        eq-eqb (t .tag .instruction) (u .tag .instruction) (ap (λ (k : Key Tag). k .tag .instruction) e),
+      )
+
+  -- none of the earlier stands where u does
+  abbrev Alone : List Token → Token → Type 0
+  Alone earlier u = any (standsAt (u .tag) (u .port)) earlier ≡ false
+
+  not-found : (d t : Token) (us : List Token) → ((k : ℕ) → k < length us → standsAt (getD us k d .tag) (getD us k d .port) t ≡ false) → find M (tokenHeld t .key) (map tokenHeld us) ≡ none
+  not-found d t [] h = refl
+  not-found d t (u ∷ us) h =
+      when-no (sameKey M (tokenHeld t .key) (tokenHeld u .key)) _ _ (λ e. falseTrue (sym (h 0 (omega arith)) ∙ stands-there t u e))
+      ∙ not-found d t us (λ k l. h (suc k) (omega arith))
+
+  all-different : (d : Token) (ts : List Token) → ((k : ℕ) → k < length ts → Alone (take k ts) (getD ts k d)) → Distinct M (map tokenHeld ts)
+  all-different d [] h = tt
+  all-different d (t ∷ ts) h = (
+    not-found d t ts (λ k l. either (standsAt (getD ts k d .tag) (getD ts k d .port) t) _ (h (suc k) (omega arith)) .0),
+    all-different d ts (λ k l. either (standsAt (getD ts k d .tag) (getD ts k d .port) t) _ (h (suc k) (omega arith)) .1),
+  )
+
+  -- ---- a start
+
+  pub start : (inputs : List ℕ) → checkInputs g capacity inputs ≡ Passed → Start M (firstState inputs cells)
+  unfolding checkInputs secondInput firstState
+  start inputs e =
+      let ts = allRows 20 Tokens.decode inputs in
+      let d = Tokens.decode [] in
+      let parts = andThen-passed (inTurn (λ k good. demand good Refusals.BadInput k) 0 (allRows 20 (goodInput g) inputs)) _ e in
+      let later = andThen-passed (demand (leb (length ts) capacity) Refusals.LedgerFull capacity) _ (parts .1) in
+      let apart : (k : ℕ) → k < length ts → Alone (take k ts) (getD ts k d) = λ k h.
+      let at = turn-passed (λ i t. demand (not (secondInput (take i ts) t)) Refusals.SecondToken i) d 0 ts (later .1) k h in
+      not-true _ (subst (λ (m : ℕ). not (secondInput (take m ts) (getD ts k d)) ≡ true) (zero-add k) (demand-passed (not (secondInput (take (0 + k) ts) (getD ts k d))) Refusals.SecondToken (0 + k) at)) in
+      record {
+        distinct = all-different d ts apart;
+        room = rw (length-map ts tokenHeld) (leb-true (length ts) capacity (demand-passed (leb (length ts) capacity) Refusals.LedgerFull capacity (later .0)));
+        allLive = inputs-live (length inputs / 20) 0 inputs (parts .0);
+        absentCells = refl;
+      }
