@@ -2,3 +2,4 @@ pub mod Cases
 pub mod Passed
 pub mod Lawful
 pub mod Inputs
+pub mod Orders

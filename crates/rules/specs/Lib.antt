@@ -4,3 +4,4 @@ pub mod InstructionSet
 pub mod Run
 pub mod Computed
 pub mod Cases
+pub mod Orders

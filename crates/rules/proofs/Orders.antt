@@ -1,0 +1,137 @@
+-- Demand 3 over the rules, proved: the checks do not look at the picks but for their length, and from inputs that passed the machine's theorem of any
+-- two orders holds. Assumes nothing.
+use Prim.Native.Nat.{ℕ, zero, suc, _+_, _*_, _/_, _%_, _<_, _≤_}
+use mathlib.Core.Path.{_≡_, refl, sym, ap, _∙_, subst}
+use mathlib.Core.Bool.{Bool, true, false, _&&_}
+use mathlib.Core.List.{List, [], _∷_, map, List·Permᴰ, List·Permᴰ·nil, List·Permᴰ·cons, List·Permᴰ·swap, List·Permᴰ·trans}
+use mathlib.Core.Logic.{_↔_}
+use mathlib.Core.Option.{none, some}
+use native.Mathlib.Omega.{arith}
+use lib.ListN.{length}
+use lib.Dec.{eqb, leb}
+use lib.IntN.{ℤ}
+use borrow.Author.Tests.{eqb-true, leb-true}
+use Rattle.record.specs.declared.tag.Tag.{Tag}
+use Rattle.record.specs.declared.token.Token as Record
+use Rattle.record.specs.Table.{whole, All}
+use Rattle.record.specs.GraphRecords.{graphOf}
+use Rattle.record.specs.TokensAndTags.{mostTokens, capacityOf}
+use Rattle.machine.specs.Machine.{Token, Machine, State, when, find, sameKey, run}
+use Rattle.machine.specs.Orders.{Distinct, Good, Same}
+use Rattle.machine.specs.Orders as Ends
+use Rattle.machine.proofs.View.{noneSome, keyPath}
+use Rattle.machine.proofs.Orders.{startGood, orders, neverSpent, refuses}
+use Rattle.machine.proofs.Reached.{reached-good, reached-picks}
+use Rattle.rules.specs.declared.answer.Checked.{Checked}
+use Rattle.rules.specs.declared.answer.Checked.the-variants.{Passed, Failed}
+use Rattle.rules.specs.Check.{_andThen_, checkGraph, checkStores, checkInputs, check, mostCells}
+use Rattle.rules.specs.InstructionSet.{machineOf}
+use Rattle.rules.specs.Run.{tokenRecord, cellRecord, firstState, picksOf, Result, refusedAtOnce, ranTo, unlessFailed, result, answer}
+use Rattle.rules.specs.Orders.{Completed, Spent, Refused, tokensOf, cellsOf, EachOnce, Alike, Agree, Allowed, AnyTwoOrders}
+use Rattle.rules.proofs.Passed.{both, andThen-passed}
+use Rattle.rules.proofs.Lawful.{lawful}
+use Rattle.rules.proofs.Inputs.{start}
+
+-- ---- lists
+
+perm-map : {A B : Type 0} (f : A → B) {l m : List A} → List·Permᴰ l m → List·Permᴰ (map f l) (map f m)
+perm-map f List·Permᴰ·nil = List·Permᴰ·nil
+perm-map f (List·Permᴰ·cons e d) = List·Permᴰ·cons (ap f e) (perm-map f d)
+perm-map f (List·Permᴰ·swap e d) = List·Permᴰ·swap (ap f e) (ap f d)
+perm-map f (List·Permᴰ·trans d e) = List·Permᴰ·trans (perm-map f d) (perm-map f e)
+
+-- ---- lengths
+
+-- whole records: as many bytes as so many records have
+whole-bytes : (width most n : ℕ) → whole width most n ≡ true → (n % width ≡ 0) × (n / width ≤ most)
+whole-bytes width most n e =
+    let parts = both (eqb (n % width) 0) (leb (n / width) most) e in
+    (eqb-true (n % width) 0 (parts .0), leb-true (n / width) most (parts .1))
+
+same-length : (n m : ℕ) → n % 20 ≡ 0 → m % 20 ≡ 0 → n / 20 ≡ m / 20 → n ≡ m
+same-length n m p q e = omega arith
+
+same-cells : (n m : ℕ) → n % 8 ≡ 0 → m % 8 ≡ 0 → n / 8 ≡ m / 8 → n ≡ m
+same-cells n m p q e = omega arith
+
+-- ---- runs from inputs that passed
+
+module _ (graph inputs : List ℕ) (capacity cells : ℕ) (few : capacity ≤ 2048) (passed : checkGraph graph ≡ Passed) (accepted : checkInputs (graphOf graph) capacity inputs ≡ Passed) where
+  abbrev M : Machine
+  M = machineOf (graphOf graph) capacity cells
+
+  abbrev s : State Tag ℤ
+  s = firstState inputs cells
+
+  good : Good M s
+  good = startGood M s (start (graphOf graph) capacity cells inputs accepted)
+
+  -- keys that differ in the machine differ as records
+  others : (t : Token Tag ℤ) (us : List (Token Tag ℤ)) → find M (t .key) us ≡ none
+      → All (λ (u : Record.Token). t .key .tag ≡ u .tag → t .key .port ≡ u .port → ⊥) (map tokenRecord us)
+  others t [] e = tt
+  others t (u ∷ us) e = go (sameKey M (t .key) (u .key)) (λ h. others t us h) e
+    where
+      Apart : Type 0
+      Apart = All (λ (v : Record.Token). t .key .tag ≡ v .tag → t .key .port ≡ v .port → ⊥) (map tokenRecord us)
+
+      go : (d : Dec (t .key ≡ u .key)) → (find M (t .key) us ≡ none → Apart) → when d (some (u .content)) (find M (t .key) us) ≡ none
+          → (t .key .tag ≡ u .key .tag → t .key .port ≡ u .key .port → ⊥) × Apart
+      go (yes p) rest h = noneSome (sym h)
+      go (no n) rest h = (λ p q. n (keyPath p q), rest h)
+
+  once : (ts : List (Token Tag ℤ)) → Distinct M ts → EachOnce (map tokenRecord ts)
+  once [] d = tt
+  once (t ∷ ts) d = (others t ts (d .0), once ts (d .1))
+
+  end : (picks : List ℕ) → Good M (run M 2048 picks s .state)
+  end picks =
+      let e = reached-picks M s 2048 picks in
+      reached-good M (lawful graph passed capacity cells) s good (e .done) (e .sent) _ (e .reached)
+
+  agree : (picks picks′ : List ℕ) → Agree (ranTo (run M 2048 picks s)) (ranTo (run M 2048 picks′ s))
+  unfolding answer
+  agree picks picks′ =
+      let law = lawful graph passed capacity cells in
+      let same = orders M law s good 2048 picks picks′ in
+      record {
+        completes = same .completes;
+        alike = λ c.
+        let a = same .alike c in
+        record {
+          firings = a .firings;
+          tokens = a .count;
+          cells = ap (map cellRecord) (a .cells);
+          sameTokens = perm-map tokenRecord (a .tokens);
+          eachOnce = once (run M 2048 picks s .state .tokens) (end picks .distinct);
+        };
+        refused = refuses M law s good 2048 picks picks′ few;
+        neverSpent = neverSpent M law s good 2048 picks few;
+      }
+
+-- ---- whole runs
+
+module _ (graph inputs picks picks′ : List ℕ) (ledger cells : ℕ) (a : Allowed picks ledger cells) (b : Allowed picks′ ledger cells) where
+  -- the checks look at no pick
+  same-check : check graph inputs picks ledger cells ≡ check graph inputs picks′ ledger cells
+  unfolding check checkStores
+  same-check = rw (a .allowedPicks, b .allowedPicks)
+
+  unfolded : (c : Checked) → check graph inputs picks ledger cells ≡ c → Agree (result graph inputs picks 2048 ledger cells) (result graph inputs picks′ 2048 ledger cells)
+  unfolding result unlessFailed check
+  unfolded (Failed r p) e =
+      let e′ = sym same-check ∙ e in
+      rw (e, e′) (record { completes = (λ h. h, λ h. h); alike = λ h. absurd h; refused = (λ h. h, λ h. h); neverSpent = λ h. h })
+  unfolded Passed e =
+      let e′ = sym same-check ∙ e in
+      let parts = andThen-passed (checkGraph graph) _ e in
+      let later = andThen-passed (checkStores (length inputs) (length picks) ledger cells) _ (parts .1) in
+      let few = whole-bytes 20 mostTokens ledger (a .allowedLedger) .1 in
+      rw (e, e′) (agree graph inputs (capacityOf ledger) (cells / 8) few (parts .0) (later .1) (picksOf picks) (picksOf picks′))
+
+pub any-two-orders : AnyTwoOrders
+any-two-orders graph inputs picks picks′ ledger ledger′ cells cells′ a b c d =
+    let l = same-length ledger ledger′ (whole-bytes 20 mostTokens ledger (a .allowedLedger) .0) (whole-bytes 20 mostTokens ledger′ (b .allowedLedger) .0) c in
+    let k = same-cells cells cells′ (whole-bytes 8 mostCells cells (a .allowedCells) .0) (whole-bytes 8 mostCells cells′ (b .allowedCells) .0) d in
+    let b′ : Allowed picks′ ledger cells = rw (l, k) b in
+    rw (← l, ← k) (unfolded graph inputs picks picks′ ledger cells a b′ (check graph inputs picks ledger cells) refl)

@@ -1,0 +1,79 @@
+-- Demand 3 over the rules: 01, "Any two orders". One claim about two whole runs over one graph and one list of inputs, for every two lists of picks.
+-- The statement; it is proved in proofs/Orders. Assumes nothing.
+use Prim.Native.Nat.{ℕ, _/_}
+use mathlib.Core.Path.{_≡_}
+use mathlib.Core.Bool.{true}
+use mathlib.Core.List.{List, [], _∷_, map, List·Permᴰ}
+use mathlib.Core.Logic.{_↔_}
+use lib.ListN.{length}
+use Rattle.record.specs.declared.token.Token.{Token}
+use Rattle.record.specs.declared.cell.Cell.{Cell}
+use Rattle.record.specs.Table.{whole, All}
+use Rattle.record.specs.TokensAndTags.{mostTokens, capacityOf}
+use Rattle.machine.specs.Machine.{End}
+use Rattle.machine.specs.Orders as Ends
+use Rattle.rules.specs.Check.{mostCells}
+use Rattle.rules.specs.Run.{tokenRecord, cellRecord, Result, refusedAtOnce, ranTo, result, answer}
+
+-- ---- how a run ended
+
+abbrev pub Completed : Result → Type 0
+Completed (refusedAtOnce r p) = ⊥
+Completed (ranTo e) = Ends.Completed (e .outcome)
+
+abbrev pub Spent : Result → Type 0
+Spent (refusedAtOnce r p) = ⊥
+Spent (ranTo e) = Ends.BudgetSpent (e .outcome)
+
+abbrev pub Refused : Result → Type 0
+Refused (refusedAtOnce r p) = Unit {0}
+Refused (ranTo e) = Ends.Refused (e .outcome)
+
+-- the tokens of the ledger in order of arrival, and the cells, as their records
+abbrev pub tokensOf : Result → List Token
+tokensOf (refusedAtOnce r p) = []
+tokensOf (ranTo e) = map tokenRecord (e .state .tokens)
+
+abbrev pub cellsOf : Result → List Cell
+cellsOf (refusedAtOnce r p) = []
+cellsOf (ranTo e) = map cellRecord (e .state .cells)
+
+-- "each once": no two tokens stand at one port of one tag
+abbrev pub EachOnce : List Token → Type 0
+EachOnce [] = Unit {0}
+EachOnce (t ∷ ts) = All (λ u. t .tag ≡ u .tag → t .port ≡ u .port → ⊥) ts × EachOnce ts
+
+-- ---- the claim
+
+-- of two runs that complete
+pub record Alike (x y : Result) : Type 0 where
+  -- "the numbers of firings and of tokens are the same"
+  pub firings : answer x .firings ≡ answer y .firings
+  pub tokens : answer x .tokens ≡ answer y .tokens
+  -- "the cells are equal"
+  pub cells : cellsOf x ≡ cellsOf y
+  -- "both ledgers hold the same tokens, each once, in whatever order they came"
+  pub sameTokens : List·Permᴰ (tokensOf x) (tokensOf y)
+  pub eachOnce : EachOnce (tokensOf x)
+
+pub record Agree (x y : Result) : Type 0 where
+  -- "one run completes exactly when the other does"
+  pub completes : Completed x ↔ Completed y
+  pub alike : Completed x → Alike x y
+  -- "If one order is refused, every order is"
+  pub refused : Refused x ↔ Refused y
+  -- a budget of 2,048 is never spent
+  pub neverSpent : ¬ (Spent x)
+
+-- "picks, ledger and cells of allowed length", the last two by their lengths in bytes
+pub record Allowed (picks : List ℕ) (ledger cells : ℕ) : Type 0 where
+  pub allowedPicks : whole 2 mostTokens (length picks) ≡ true
+  pub allowedLedger : whole 20 mostTokens ledger ≡ true
+  pub allowedCells : whole 8 mostCells cells ≡ true
+
+-- "Whatever graph and inputs are lent, and whichever two lists of picks order the firings, with equal ledger capacity and cell count, a budget of 2,048"
+abbrev pub AnyTwoOrders : Type 0
+AnyTwoOrders = (graph inputs picks picks′ : List ℕ) (ledger ledger′ cells cells′ : ℕ)
+    → Allowed picks ledger cells → Allowed picks′ ledger′ cells′
+    → capacityOf ledger ≡ capacityOf ledger′ → cells / 8 ≡ cells′ / 8
+    → Agree (result graph inputs picks 2048 ledger cells) (result graph inputs picks′ 2048 ledger′ cells′)
