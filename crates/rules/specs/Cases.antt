@@ -288,6 +288,39 @@ bothRefused picks number place =
     (root 0 0 (live (pos 7)) ∷ root 0 1 (live (pos 0)) ∷ root 1 0 (live (negsuc 0)) ∷ [])
     []
 
+-- 0 is COPY to 1 and to 2, both OUT: destination 1 first
+abbrev pub copied : Case
+copied =
+    running (to2 1 (pos 0) 0 1 0 2 ++ to0 3 (pos 0) ++ to0 3 (pos 0)) (input 0 0 (pos 7)) [] 2048 2048 8 (values completed 1 3 0)
+    (root 0 0 (spent (pos 7)) ∷ root 1 0 (live (pos 7)) ∷ root 2 0 (live (pos 7)) ∷ [])
+    []
+
+-- two faults at once, ledger full and second token: the number of the first is given
+abbrev pub fullBeforeSecond : Case
+fullBeforeSecond = running (to2 1 (pos 0) 0 1 0 1 ++ to0 3 (pos 0)) (input 0 0 (pos 7)) [] 2048 1 8 (values 8 0 1 0) (root 0 0 (live (pos 7)) ∷ []) []
+
+-- second write and ledger full: 0 is STORE, 1 is STORE with a signal to 2, which is OUT
+abbrev pub writeBeforeFull : Case
+writeBeforeFull =
+    running (to0 11 (pos 0) ++ to1 11 (pos 0) 0 2 ++ to0 3 (pos 0)) (input 0 0 (pos 5) ++ input 0 1 (pos 1) ++ input 1 0 (pos 5) ++ input 1 1 (pos 2)) [] 2048 4 8
+    (values 11 1 4 2)
+    (root 0 0 (spent (pos 5)) ∷ root 0 1 (spent (pos 1)) ∷ root 1 0 (live (pos 5)) ∷ root 1 1 (live (pos 2)) ∷ [])
+    (cell 5 (present (pos 1)) ∷ [])
+
+-- two reads of one cell wait, and one write answers both
+abbrev pub twoReads : Case
+twoReads =
+    running (to1 10 (pos 0) 0 2 ++ to1 10 (pos 0) 0 3 ++ to0 3 (pos 0) ++ to0 3 (pos 0) ++ to0 11 (pos 0)) (input 0 0 (pos 5) ++ input 1 0 (pos 5) ++ input 4 0 (pos 5) ++ input 4 1 (pos 40)) [] 2048 2048 8
+    (values completed 3 6 0)
+    (root 0 0 (spent (pos 5))
+    ∷ root 1 0 (spent (pos 5))
+    ∷ root 4 0 (spent (pos 5))
+    ∷ root 4 1 (spent (pos 40))
+    ∷ root 2 0 (live (pos 40))
+    ∷ root 3 0 (live (pos 40))
+    ∷ [])
+    (cell 5 (present (pos 40)) ∷ [])
+
 abbrev pub distinguishing : List Case
 distinguishing =
     secondAfterSpent
@@ -297,6 +330,10 @@ distinguishing =
     ∷ running (to1 35 (pos 2) 0 1 ++ to0 3 (pos 0)) (input 0 0 (negsuc 6)) [] 2048 2048 8 (values completed 1 2 0) (root 0 0 (spent (negsuc 6)) ∷ root 1 0 (live (negsuc 2)) ∷ []) []
     ∷ refuses 19 (pos 7) (pos 0) 12
     ∷ nobodyWrites
+    ∷ twoReads
+    ∷ copied
+    ∷ fullBeforeSecond
+    ∷ writeBeforeFull
     ∷ switched (pos 0) 2
     ∷ switched (negsuc 0) 1
     ∷ signalled
