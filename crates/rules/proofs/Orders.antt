@@ -97,14 +97,14 @@ module _ (graph inputs : List ℕ) (capacity cells : ℕ) (few : capacity ≤ 20
       record {
         completes = same .completes;
         alike = λ c.
-        let a = same .alike c in
-        record {
-          firings = a .firings;
-          tokens = a .count;
-          cells = ap (map cellRecord) (a .cells);
-          sameTokens = perm-map tokenRecord (a .tokens);
-          eachOnce = once (run M 2048 picks s .state .tokens) (end picks .distinct);
-        };
+            let a = same .alike c in
+            record {
+              firings = a .firings;
+              tokens = a .count;
+              cells = ap (map cellRecord) (a .cells);
+              sameTokens = perm-map tokenRecord (a .tokens);
+              eachOnce = once (run M 2048 picks s .state .tokens) (end picks .distinct);
+            };
         refused = refuses M law s good 2048 picks picks′ few;
         neverSpent = neverSpent M law s good 2048 picks few;
       }

@@ -1,0 +1,18 @@
+-- `chains::link` meets its contract. Assumes nothing.
+use mathlib.Core.Path.{refl}
+use borrow.Author.Needs.{needs}
+use Rattle.chains.proofs.link.Statement.{statement}
+use Rattle.chains.proofs.link.Tie as tie
+
+pub link-spec : {M : Type 1} → statement M
+link-spec = tie.close (tie.spec
+    (λ c. search needs)
+    (λ c. search needs)
+    (λ c. search needs)
+    (λ c. search needs)
+    (λ c. search needs)
+    (λ c. search needs)
+    (λ c. search needs)
+    (λ c. search needs)
+    (λ c. search needs)
+    (λ c. (refl, refl)))

@@ -1,0 +1,4 @@
+-- The definitions of chains of tokens. Assumes nothing.
+pub mod Search
+pub mod Chains
+pub mod Deferred

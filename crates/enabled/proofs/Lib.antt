@@ -1,0 +1,5 @@
+-- The laws of the enabled activities. Assumes nothing.
+pub mod Places
+pub mod Right
+pub mod Bytes
+pub mod Store

@@ -1,0 +1,166 @@
+-- Laws of the flags of the enabled activities: what keeps them right, and what they then say. Assumes nothing.
+use Prim.Native.Nat.{ℕ, zero, suc, _+_, _-_, _≤_, _<_}
+use mathlib.Core.Path.{_≡_, refl, sym, _∙_}
+use mathlib.Core.Bool.{Bool, true, false, _&&_, cond}
+use mathlib.Core.List.{List, [], _∷_, _++_, map-append}
+use native.Mathlib.Omega.{arith}
+use native.Mathlib.Nat.{not-suc-le-zero, le-of-suc-le-suc}
+use lib.Dec.{eqb}
+use lib.ListN.{length, getD, set, replicate, length-map}
+use lib.Seq.{map-set-same}
+use borrow.Author.Tests.{eqb-true, eq-eqb}
+use Rattle.record.specs.TokensAndTags.{sameTag}
+use Rattle.record.specs.declared.tag.Tag.{Tag}
+use Rattle.record.specs.declared.token.Token.{Token}
+use Rattle.flags.specs.Flags.{places}
+use Rattle.flags.specs.Marks.{bit, firstOf, placesWhere, marks}
+use Rattle.flags.specs.Marks as Marks
+use Rattle.flags.proofs.Marks.{first-le, where-agree, where-map, where-passes, places-lead, where-below, marked-none, marked-places, marked-append, marked-change}
+use Rattle.chains.proofs.Index.{and-left, and-right}
+use Rattle.enabled.specs.Enabled.{liveAt, allLive, arityOf, isEnabled, tagOf, tagsOf, tagSame, placeOf, leads, enabledPlaces}
+use Rattle.enabled.specs.Store.{Right}
+use Rattle.enabled.proofs.Places.{stands-other}
+
+-- ---- equality of tags
+
+pub tag-equal : (a b : Tag) → tagSame a b ≡ true → a ≡ b
+unfolding sameTag
+tag-equal a b e =
+    let p = eqb (b .path) (a .path) in
+    let i = eqb (b .iteration) (a .iteration) in
+    let n = eqb (b .instruction) (a .instruction) in
+    let y = and-right p (i && n) e in
+    let x : a .path ≡ b .path = sym (eqb-true _ _ (and-left p (i && n) e)) in
+    let u : a .iteration ≡ b .iteration = sym (eqb-true _ _ (and-left i n y)) in
+    let v : a .instruction ≡ b .instruction = sym (eqb-true _ _ (and-right i n y)) in
+    λ k. record { path = x k; iteration = u k; instruction = v k }
+
+pub tag-own : (a : Tag) → tagSame a a ≡ true
+unfolding sameTag
+tag-own a = rw (eq-eqb (a .path) (a .path) refl, eq-eqb (a .iteration) (a .iteration) refl, eq-eqb (a .instruction) (a .instruction) refl)
+
+tag-apart : (a b : Tag) → tagSame a b ≡ false → tagSame b a ≡ false
+tag-apart a b e = go (tagSame b a) refl
+  where
+    go : (t : Bool) → tagSame b a ≡ t → t ≡ false
+    go false d = refl
+    go true d = let h : tagSame a a ≡ false = rw (tag-equal b a d) at e in sym (tag-own a) ∙ h
+
+-- ---- where nothing changes for a tag
+
+all-same : (n : ℕ) (us ts : List Token) (y : Tag) → ((port : ℕ) → liveAt us y port ≡ liveAt ts y port) → allLive n us y ≡ allLive n ts y
+unfolding allLive
+all-same n us ts y e = rw (e 0, e 1)
+
+live-append : (y : Tag) (port : ℕ) (t : Token) → tagSame y (t .tag) ≡ false → (ts : List Token) → liveAt (ts ++ t ∷ []) y port ≡ liveAt ts y port
+live-append y port t e [] = rw (stands-other y port t e)
+live-append y port t e (x ∷ ts) = rw (live-append y port t e ts)
+
+-- a token is replaced by one of its tag
+live-set : (y : Tag) (port : ℕ) (u d : Token) (ts : List Token) (i : ℕ) → u .tag ≡ getD ts i d .tag → tagSame (u .tag) y ≡ false
+    → liveAt (set ts i u) y port ≡ liveAt ts y port
+live-set y port u d [] i e f = refl
+live-set y port u d (t ∷ ts) zero e f =
+    let a = tag-apart (u .tag) y f in
+    rw (stands-other y port u a, stands-other y port t (rw e at a))
+live-set y port u d (t ∷ ts) (suc i) e f = rw (live-set y port u d ts i e f)
+
+-- ---- places
+
+first-append : (t : Tag) (l : List Tag) → firstOf tagSame t (l ++ t ∷ []) ≡ firstOf tagSame t l
+first-append t [] = rw (tag-own t)
+first-append t (x ∷ l) = rw (first-append t l)
+
+first-below : (l : List Tag) (k d : Tag) (i : ℕ) → i < length l → getD l i d ≡ k → firstOf tagSame k l ≤ i
+first-below [] k d i h e = absurd (not-suc-le-zero h)
+first-below (x ∷ l) k d zero h e = rw (e, tag-own k) (omega arith)
+first-below (x ∷ l) k d (suc i) h e = go (tagSame k x) (first-below l k d i (le-of-suc-le-suc h) e)
+  where
+    go : (b : Bool) → firstOf tagSame k l ≤ i → cond b 0 (suc (firstOf tagSame k l)) ≤ suc i
+    go true ih = omega arith
+    go false ih = omega arith
+
+tag-at : (ts : List Token) (i : ℕ) (d : Token) → getD (tagsOf ts) i (d .tag) ≡ getD ts i d .tag
+tag-at [] i d = refl
+tag-at (t ∷ ts) zero d = refl
+tag-at (t ∷ ts) (suc i) d = tag-at ts i d
+
+tags-append : (ts : List Token) (t : Token) → tagsOf (ts ++ t ∷ []) ≡ tagsOf ts ++ t .tag ∷ []
+tags-append ts t = map-append tagOf ts (t ∷ [])
+
+-- the place of a token's tag, once the token is there
+pub place-append : (ts : List Token) (t : Token) → placeOf (ts ++ t ∷ []) (t .tag) < length ts + 1
+place-append ts t = rw (tags-append ts t, first-append (t .tag) (tagsOf ts)) (omega (arith, first-le tagSame (t .tag) (tagsOf ts), length-map ts tagOf))
+
+pub place-set : (ts : List Token) (i : ℕ) (u d : Token) → i < length ts → u .tag ≡ getD ts i d .tag → placeOf (set ts i u) (u .tag) < length ts
+place-set ts i u d h e =
+    let f = first-below (tagsOf ts) (u .tag) (d .tag) i (omega (arith, length-map ts tagOf)) (tag-at ts i d ∙ sym e) in
+    rw (map-set-same tagOf ts i u d e) (omega arith)
+
+-- ---- the flags
+
+module _ (arities : List ℕ) where
+  pub right-none : Right arities [] (replicate 2048 0)
+  unfolding Right
+  right-none = marked-none tagSame (isEnabled arities [])
+
+  -- the flags' ones are the places of the enabled activities, in order, each once
+  pub right-places : (ts : List Token) (flags : List ℕ) → Right arities ts flags → places flags ≡ enabledPlaces arities ts
+  unfolding Right enabledPlaces
+  right-places ts flags w =
+      marked-places tagSame tag-equal tag-own (isEnabled arities ts) (tagsOf ts) flags w
+      ∙ where-map tagOf (Marks.leads tagSame (isEnabled arities ts) (tagsOf ts)) 0 ts
+
+  -- the enabled by another test of place and token, and by recursion: for definitions of other crates
+  pub enabled-agree : (ts : List Token) (test : ℕ → Token → Bool) → ((i : ℕ) (t : Token) → i < length ts → getD ts i t ≡ t → leads arities ts i t ≡ test i t)
+      → enabledPlaces arities ts ≡ placesWhere test 0 ts
+  unfolding enabledPlaces
+  enabled-agree ts test e =
+      where-agree (leads arities ts) test 0 ts (λ i t h g. let z : 0 + i ≡ i = omega arith in rw z (e i t h g))
+
+  pub enabled-marks : (ts : List Token) → places (marks tagSame (isEnabled arities ts) (tagsOf ts)) ≡ enabledPlaces arities ts
+  unfolding enabledPlaces
+  enabled-marks ts =
+      places-lead tagSame tag-equal tag-own (isEnabled arities ts) (tagsOf ts)
+      ∙ where-map tagOf (Marks.leads tagSame (isEnabled arities ts) (tagsOf ts)) 0 ts
+
+  pub enabled-below : (ts : List Token) (k : ℕ) → k < length (enabledPlaces arities ts) → getD (enabledPlaces arities ts) k 0 < length ts
+  unfolding enabledPlaces
+  enabled-below ts k h = omega (arith, where-below _ 0 ts k h)
+
+  -- the token at the place of an enabled activity is the earliest of its tag, and its tag is enabled
+  pub enabled-leads : (ts : List Token) (d : Token) (k : ℕ) → k < length (enabledPlaces arities ts)
+      → let i = getD (enabledPlaces arities ts) k 0 in
+      (placeOf ts (getD ts i d .tag) ≡ i) × (isEnabled arities ts (getD ts i d .tag) ≡ true)
+  unfolding enabledPlaces
+  enabled-leads ts d k h =
+      let i = getD (placesWhere (leads arities ts) 0 ts) k 0 in
+      let z : i - 0 ≡ i = omega arith in
+      let w : leads arities ts i (getD ts i d) ≡ true = rw z at (where-passes (leads arities ts) 0 ts d k h .1) in
+      let a = eqb (placeOf ts (getD ts i d .tag)) i in
+      let b = isEnabled arities ts (getD ts i d .tag) in
+      (eqb-true (placeOf ts (getD ts i d .tag)) i (and-left a b w), and-right a b w)
+
+  -- a token arrives, and the flag of its tag is put
+  pub right-append : (ts : List Token) (t : Token) (flags : List ℕ) → length ts < 2048 → Right arities ts flags
+      → let us = ts ++ t ∷ [] in Right arities us (set flags (placeOf us (t .tag)) (bit (isEnabled arities us (t .tag))))
+  unfolding Right
+  right-append ts t flags h w =
+      let us = ts ++ t ∷ [] in
+      rw (tags-append ts t, first-append (t .tag) (tagsOf ts))
+      (marked-append tagSame tag-equal tag-own (isEnabled arities ts) (isEnabled arities us) (t .tag)
+      (λ y d. all-same (arityOf arities y) us ts y (λ port. live-append y port t (tag-apart (t .tag) y d) ts))
+      (tagsOf ts) flags (omega (arith, length-map ts tagOf)) w)
+
+  -- a token is replaced by one of its tag, and the flag of the tag is put
+  pub right-set : (ts : List Token) (i : ℕ) (u d : Token) (flags : List ℕ) → i < length ts → u .tag ≡ getD ts i d .tag → Right arities ts flags
+      → let us = set ts i u in Right arities us (set flags (placeOf us (u .tag)) (bit (isEnabled arities us (u .tag))))
+  unfolding Right
+  right-set ts i u d flags h e w =
+      let us = set ts i u in
+      let q : firstOf tagSame (u .tag) (tagsOf ts) < length ts = rw (map-set-same tagOf ts i u d e) at (place-set ts i u d h e) in
+      let p : firstOf tagSame (u .tag) (tagsOf ts) < length (tagsOf ts) = omega (arith, length-map ts tagOf) in
+      rw (map-set-same tagOf ts i u d e)
+      (marked-change tagSame tag-equal tag-own (isEnabled arities ts) (isEnabled arities us) (u .tag)
+      (λ y f. all-same (arityOf arities y) us ts y (λ port. live-set y port u d ts i e f))
+      (tagsOf ts) flags p w)

@@ -1,0 +1,108 @@
+-- Laws of the invariant: what `append` and `change` hand over to the chains and to the flags. Assumes nothing.
+use Prim.Native.Nat.{ℕ, zero, suc, _+_, _*_, _/_, _≤_, _<_}
+use mathlib.Core.Path.{_≡_}
+use mathlib.Core.List.{List, [], _∷_, _++_}
+use native.Mathlib.Omega.{arith}
+use native.Mathlib.Numerals.{add-one}
+use native.Mathlib.Nat.{le-of-suc-le-suc}
+use lib.ListN.{length, getD, set}
+use lib.Seq.{map-set-same}
+use Rattle.record.specs.Table.{putRow, All}
+use Rattle.record.specs.TokensAndTags.{tokens, tokenAt, decode, encode, TokenFits}
+use Rattle.record.proofs.Tables.{length-rows, getD-rows}
+use Rattle.record.proofs.Records.{tokens-put, tokens-end}
+use Rattle.record.specs.declared.token.Token.{Token}
+use Rattle.flags.specs.Flags.{Counted}
+use Rattle.flags.specs.Marks.{bit}
+use Rattle.chains.specs.Chains.{bucketKey, Indexed}
+use Rattle.chains.proofs.Chains.{chained-few, chained-same}
+use Rattle.enabled.specs.Enabled.{isEnabled, placeOf}
+use Rattle.enabled.specs.Store.{Known, Stored}
+use Rattle.enabled.proofs.Right.{place-append, place-set, right-append, right-set}
+use Rattle.enabled.proofs.Bytes.{bytes-end, bytes-put}
+
+-- ---- what holds of all tokens
+
+module _ (P : Token → Type 0) where
+  pub all-append : (ts : List Token) (t : Token) → All P ts → P t → All P (ts ++ t ∷ [])
+  all-append [] t w h = (h, tt)
+  all-append (x ∷ ts) t w h = (w .0, all-append ts t (w .1) h)
+
+  pub all-set : (ts : List Token) (i : ℕ) (t : Token) → All P ts → P t → All P (set ts i t)
+  all-set [] i t w h = w
+  all-set (x ∷ ts) zero t w h = (h, w .1)
+  all-set (x ∷ ts) (suc i) t w h = (w .0, all-set ts i t (w .1) h)
+
+  pub all-at : (ts : List Token) (i : ℕ) (d : Token) → i < length ts → All P ts → P (getD ts i d)
+  all-at [] i d h w = absurd (omega arith)
+  all-at (x ∷ ts) zero d h w = w .0
+  all-at (x ∷ ts) (suc i) d h w = all-at ts i d (le-of-suc-le-suc h) (w .1)
+
+pub known-few : (heads next l : List ℕ) (used : ℕ) → Known heads next l used → used ≤ 2048
+known-few heads next l used w = omega (arith, chained-few 4096 bucketKey heads next (tokens used l) (w .index), length-rows 20 decode used l)
+
+-- ---- token t was written, and the tokens are us: what holds before the flag of its tag is put, and once it is put
+
+pub record Moved (arities heads next flags m : List ℕ) (used : ℕ) (us : List Token) (t : Token) : Type 0 where
+  pub more : tokens used m ≡ us
+  pub known : Known heads next m used
+  pub place : placeOf (tokens used m) (t .tag) < used
+  pub stored : (flags′ counts′ : List ℕ) → flags′ ≡ set flags (placeOf (tokens used m) (t .tag)) (bit (isEnabled arities (tokens used m) (t .tag)))
+      → Counted flags′ counts′ → Stored arities heads next flags′ counts′ m used
+
+-- a token is added
+module _ (arities heads next flags counts l : List ℕ) (used : ℕ) (t : Token) (w : Stored arities heads next flags counts l used) (room : used < length l / 20) (few : used < 2048) (low : t .port < 2) (fits : TokenFits t) (m : List ℕ) (put : m ≡ putRow 20 l used (encode t)) (len : length m ≡ length l) (heads′ next′ : List ℕ) (index : Indexed heads′ next′ (tokens used l ++ t ∷ [])) where
+  pub added : Moved arities heads′ next′ flags m (used + 1) (tokens used l ++ t ∷ []) t
+  added =
+      let ts = tokens used l in
+      let n : length ts ≡ used = length-rows 20 decode used l in
+      let e : tokens (used + 1) m ≡ ts ++ t ∷ [] = rw (put, add-one) (tokens-end t fits used l (omega arith)) in
+      let known : Known heads′ next′ m (used + 1) = record {
+        room = rw len (omega arith);
+        index = rw e index;
+        ports = rw e (all-append (λ (x : Token). x .port < 2) ts t (w .known .ports) low);
+      } in
+      record {
+        more = e;
+        known = known;
+        place = rw e (omega (arith, place-append ts t));
+        stored = λ flags′ counts′ put′ c. record {
+          known = known;
+          bytes = rw (put, add-one) (bytes-end used l (w .bytes) t fits (omega arith));
+          fits = rw e (all-append TokenFits ts t (w .fits) fits);
+          counted = c;
+          right = rw (put′, e) (right-append arities ts t flags (omega arith) (w .right));
+        };
+      }
+
+-- a token is replaced
+module _ (arities heads next flags counts l : List ℕ) (used i : ℕ) (t : Token) (w : Stored arities heads next flags counts l used) (h : i < used) (a : t .tag ≡ tokenAt l i .tag) (b : t .port ≡ tokenAt l i .port) (fits : TokenFits t) (m : List ℕ) (put : m ≡ putRow 20 l i (encode t)) (len : length m ≡ length l) where
+  pub changed : Moved arities heads next flags m used (set (tokens used l) i t) t
+  changed =
+      let ts = tokens used l in
+      let d = tokenAt l i in
+      let n : length ts ≡ used = length-rows 20 decode used l in
+      let at : getD ts i d ≡ d = getD-rows 20 decode used i l d h in
+      let tag : t .tag ≡ getD ts i d .tag = rw at a in
+      let port : t .port ≡ getD ts i d .port = rw at b in
+      let key : bucketKey t ≡ bucketKey (getD ts i d) = rw (tag, port) in
+      let space : used * 20 ≤ length l = omega (arith, w .known .room) in
+      let e : tokens used m ≡ set ts i t = rw put (tokens-put t fits used i l h space) in
+      let ports = w .known .ports in
+      let known : Known heads next m used = record {
+        room = rw len (w .known .room);
+        index = rw e (chained-same 4096 bucketKey heads next ts (w .known .index) (set ts i t) (map-set-same bucketKey ts i t d key));
+        ports = rw e (all-set (λ (x : Token). x .port < 2) ts i t ports (rw port (all-at (λ (x : Token). x .port < 2) ts i d (omega arith) ports)));
+      } in
+      record {
+        more = e;
+        known = known;
+        place = rw e (omega (arith, place-set ts i t d (omega arith) tag));
+        stored = λ flags′ counts′ put′ c. record {
+          known = known;
+          bytes = rw put (bytes-put used l (w .bytes) t i h fits space);
+          fits = rw e (all-set TokenFits ts i t (w .fits) fits);
+          counted = c;
+          right = rw (put′, e) (right-set arities ts i t d flags (omega arith) tag (w .right));
+        };
+      }

@@ -1,0 +1,62 @@
+-- 01, "Firing": "An activity is enabled when all operands of its tag are live; OUT never is. Its place is the ledger position of its earliest
+-- operand. Enabled activities stand in order of place, each counted once." Assumes nothing.
+use Prim.Native.Nat.{ℕ}
+use mathlib.Core.Bool.{Bool, true, false, _&&_, cond}
+use mathlib.Core.List.{List, [], _∷_, map}
+use lib.ListN.{getD}
+use lib.Dec.{eqb}
+use Rattle.record.specs.TokensAndTags.{sameTag, standsAt}
+use Rattle.record.specs.declared.tag.Tag.{Tag}
+use Rattle.record.specs.declared.token.Token.{Token}
+use Rattle.record.specs.declared.token.Content.{Content}
+use Rattle.record.specs.declared.token.Content.the-variants.{Live, Spent, Deferred}
+use Rattle.flags.specs.Marks.{firstOf, placesWhere}
+
+-- ---- "all operands of its tag are live"
+
+abbrev pub isLive : Content → Bool
+isLive (Live v) = true
+isLive (Spent v) = false
+isLive (Deferred cell) = false
+
+-- the token at a port of a tag is live; of several there the first counts
+abbrev pub liveAt : List Token → Tag → (port : ℕ) → Bool
+liveAt [] tag port = false
+liveAt (t ∷ ts) tag port = cond (standsAt tag port t) (isLive (t .content)) (liveAt ts tag port)
+
+-- n operands of a tag are live: one, on port 0, or two, on ports 0 and 1. A result waits for none and is never enabled
+unfoldable pub allLive : (n : ℕ) → List Token → Tag → Bool
+allLive n ts tag = cond (eqb n 1) (liveAt ts tag 0) (cond (eqb n 2) (liveAt ts tag 0 && liveAt ts tag 1) false)
+
+-- how many operands the activities of a tag wait for, by a table with an entry for each instruction
+abbrev pub arityOf : (arities : List ℕ) → Tag → ℕ
+arityOf arities tag = getD arities (tag .instruction) 0
+
+abbrev pub isEnabled : (arities : List ℕ) → List Token → Tag → Bool
+isEnabled arities ts tag = allLive (arityOf arities tag) ts tag
+
+-- ---- "Its place is the ledger position of its earliest operand."
+
+abbrev pub tagOf : Token → Tag
+tagOf t = t .tag
+
+abbrev pub tagsOf : List Token → List Tag
+tagsOf ts = map tagOf ts
+
+abbrev pub tagSame : Tag → Tag → Bool
+tagSame a b = sameTag b a
+
+-- the place of the earliest token of a tag, or the number of tokens where there is none. The tokens of a tag are its operands: no rule makes
+-- one on a port that its instruction has not
+abbrev pub placeOf : List Token → Tag → ℕ
+placeOf ts tag = firstOf tagSame tag (tagsOf ts)
+
+-- ---- "Enabled activities stand in order of place, each counted once."
+
+-- the token at place i is the earliest of its tag, and its tag's operands are all live
+abbrev pub leads : (arities : List ℕ) → List Token → (i : ℕ) → Token → Bool
+leads arities ts i t = eqb (placeOf ts (t .tag)) i && isEnabled arities ts (t .tag)
+
+-- the places of the enabled activities, in order
+unfoldable pub enabledPlaces : (arities : List ℕ) → List Token → List ℕ
+enabledPlaces arities ts = placesWhere (leads arities ts) 0 ts

@@ -1,0 +1,3 @@
+-- The definitions of the enabled activities. Assumes nothing.
+pub mod Enabled
+pub mod Store

@@ -1,0 +1,48 @@
+-- What is kept beside the used records of a ledger: the chains by tag and port, and the flags of the enabled activities with their counts.
+-- Assumes nothing.
+use Prim.Native.Nat.{ℕ, _*_, _/_, _≤_, _<_}
+use mathlib.Core.Path.{_≡_}
+use mathlib.Core.Bool.{Bool, false, cond}
+use mathlib.Core.List.{List}
+use lib.ListN.{length, take}
+use lib.Dec.{ltb}
+use Rattle.record.specs.Table.{joined, All}
+use Rattle.record.specs.TokensAndTags.{encode, tokens, TokenFits}
+use Rattle.record.specs.declared.token.Token.{Token}
+use Rattle.flags.specs.Flags.{Counted}
+use Rattle.flags.specs.Marks.{Marked}
+use Rattle.chains.specs.declared.Found.{Found}
+use Rattle.chains.specs.declared.Found.the-variants.{At, Nothing}
+use Rattle.chains.specs.Chains.{Indexed}
+use Rattle.enabled.specs.Enabled.{isLive, isEnabled, tagsOf, tagSame}
+
+-- a ledger whose used records are indexed, and stand on ports 0 and 1
+pub record Known (heads next ledger : List ℕ) (used : ℕ) : Type 0 where
+  pub room : used ≤ length ledger / 20
+  pub index : Indexed heads next (tokens used ledger)
+  pub ports : All (λ (t : Token). t .port < 2) (tokens used ledger)
+
+-- the flags are those of the enabled activities
+unfoldable pub Right : (arities : List ℕ) → List Token → (flags : List ℕ) → Type 0
+Right arities ts flags = Marked tagSame (isEnabled arities ts) (tagsOf ts) flags
+
+-- the invariant of this crate; the used records are the bytes of their tokens, in every byte
+pub record Stored (arities heads next flags counts ledger : List ℕ) (used : ℕ) : Type 0 where
+  pub known : Known heads next ledger used
+  pub bytes : take (used * 20) ledger ≡ joined encode (tokens used ledger)
+  pub fits : All TokenFits (tokens used ledger)
+  pub counted : Counted flags counts
+  pub right : Right arities (tokens used ledger) flags
+
+-- ---- answers of a search
+
+abbrev pub placeOr : Found → (other : ℕ) → ℕ
+placeOr (At i) n = i
+placeOr Nothing n = n
+
+abbrev pub lower : ℕ → ℕ → ℕ
+lower a b = cond (ltb a b) a b
+
+abbrev pub liveFound : (ℕ → Token) → Found → Bool
+liveFound at (At i) = isLive (at i .content)
+liveFound at Nothing = false

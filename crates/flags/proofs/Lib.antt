@@ -1,0 +1,3 @@
+-- The laws of the flags of the enabled activities. Assumes nothing.
+pub mod Laws
+pub mod Marks

@@ -1,0 +1,3 @@
+-- The definitions of the flags of the enabled activities. Assumes nothing.
+pub mod Flags
+pub mod Marks

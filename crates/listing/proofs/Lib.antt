@@ -1,0 +1,11 @@
+-- The lemmas, and the laws of a listing: Laws, AnyTwoOrders and Answers are for crates above. Assumes nothing.
+pub mod Lists
+pub mod Sorting
+pub mod Keys
+pub mod Merging
+pub mod Halves
+pub mod RecordsAt
+pub mod Answers
+pub mod Laws
+pub mod AnyTwoOrders
+pub mod Examples

@@ -1,0 +1,156 @@
+-- What `arrive`, `spend` and `wake` hand over to the chains of deferred tokens. Assumes nothing.
+use Prim.Native.Nat.{ℕ, _+_, _-_, _*_, _≤_, _<_}
+use mathlib.Core.Path.{_≡_, refl, _∙_}
+use mathlib.Core.Bool.{Bool, true, false, cond}
+use mathlib.Core.List.{List, [], _∷_, _++_, map}
+use native.Mathlib.Omega.{arith}
+use lib.Dec.{eqb}
+use lib.IntN.{ℤ}
+use lib.ListN.{length, getD, set, drop}
+use lib.Seq.{map-set-same}
+use Rattle.record.specs.Table.{putRow, joined, All}
+use Rattle.record.specs.TokensAndTags.{tokens, tokenAt, decode, encode}
+use Rattle.record.proofs.Tables.{length-rows, getD-rows}
+use Rattle.record.specs.declared.token.Token.{Token}
+use Rattle.record.specs.declared.token.Content.{Content}
+use Rattle.record.specs.declared.token.Content.the-variants.{Live, Spent, Deferred}
+use Rattle.chains.specs.Deferred.{LowCell, keyOf, cellKey, Waiting, contentWoken, woken}
+use Rattle.chains.proofs.Chains.{chained-same}
+use Rattle.chains.proofs.Deferred.{Walk, walk-start, walk-step, walk-end, waiting-woken}
+use Rattle.enabled.specs.Store.{Stored}
+use Rattle.enabled.proofs.Bytes.{split, rest-put}
+use Rattle.enabled.proofs.Store.{all-append, all-set, all-at}
+use Rattle.matching.specs.Matching.{contentSpent, spentToken, Inside, Matching}
+
+abbrev Low : Token → Type 0
+Low t = LowCell (t .content)
+
+-- ---- a token arrives
+
+pub arrived : (arities heads next flags counts waiting later l : List ℕ) (used : ℕ) (t : Token) → LowCell (t .content)
+    → Matching arities heads next flags counts waiting later l used
+    → (heads′ next′ flags′ counts′ waiting′ later′ m : List ℕ) → tokens (used + 1) m ≡ tokens used l ++ t ∷ []
+    → Stored arities heads′ next′ flags′ counts′ m (used + 1)
+    → ((ts : List Token) → length ts ≡ used → Waiting waiting later ts → Waiting waiting′ later′ (ts ++ t ∷ []))
+    → Matching arities heads′ next′ flags′ counts′ waiting′ later′ m (used + 1)
+unfolding Inside
+arrived arities heads next flags counts waiting later l used t low w heads′ next′ flags′ counts′ waiting′ later′ m e s note = record {
+  inside = record {
+    store = s;
+    deferred = rw e (note (tokens used l) (length-rows 20 decode used l) (w .inside .deferred));
+    cells = rw e (all-append Low (tokens used l) t (w .inside .cells) low);
+  };
+}
+
+-- ---- a token is spent
+
+spent-key : (x : Content) → keyOf (contentSpent x) ≡ keyOf x
+spent-key (Live v) = refl
+spent-key (Spent v) = refl
+spent-key (Deferred n) = refl
+
+spent-low : (x : Content) → LowCell x → LowCell (contentSpent x)
+spent-low (Live v) w = tt
+spent-low (Spent v) w = tt
+spent-low (Deferred n) w = w
+
+pub spent-kept : (arities heads next flags counts l : List ℕ) (used i : ℕ) → i < used
+    → (flags′ counts′ m : List ℕ) → tokens used m ≡ set (tokens used l) i (spentToken (tokenAt l i))
+    → Stored arities heads next flags′ counts′ m used
+    → (waiting later : List ℕ) → Matching arities heads next flags counts waiting later l used → Matching arities heads next flags′ counts′ waiting later m used
+unfolding Inside
+spent-kept arities heads next flags counts l used i h flags′ counts′ m e s waiting later w =
+    let ts = tokens used l in
+    let d = tokenAt l i in
+    let u = spentToken d in
+    let n : length ts ≡ used = length-rows 20 decode used l in
+    let at : getD ts i d ≡ d = getD-rows 20 decode used i l d h in
+    let key : cellKey u ≡ cellKey (getD ts i d) = rw at (spent-key (d .content)) in
+    let low : LowCell (d .content) = rw at at (all-at Low ts i d (omega arith) (w .inside .cells)) in
+    record {
+      inside = record {
+        store = s;
+        deferred = rw e (chained-same 1024 cellKey waiting later ts (w .inside .deferred) (set ts i u) (map-set-same cellKey ts i u d key));
+        cells = rw e (all-set Low ts i u (w .inside .cells) (spent-low (d .content) low));
+      };
+    }
+
+-- ---- tokens are woken: the ledger was l at the start of the walk
+
+module _ (cell : ℕ) (v : ℤ) where
+  woken-low : (x : Content) → LowCell x → LowCell (contentWoken cell v x)
+  woken-low (Live x) w = tt
+  woken-low (Spent x) w = tt
+  woken-low (Deferred n) w = go (eqb n cell)
+    where
+      go : (b : Bool) → LowCell (cond b (Live v) (Deferred n))
+      go true = tt
+      go false = w
+
+  all-woken : (ts : List Token) → All Low ts → All Low (map (woken cell v) ts)
+  all-woken [] w = tt
+  all-woken (t ∷ ts) w = (woken-low (t .content) (w .0), all-woken ts (w .1))
+
+  pub record Waking (arities heads next later l : List ℕ) (used : ℕ) (flags counts m : List ℕ) (at : ℕ) : Type 0 where
+    pub size : length m ≡ length l
+    pub rest : drop (used * 20) m ≡ drop (used * 20) l
+    pub store : Stored arities heads next flags counts m used
+    pub walk : Walk cell v (tokens used l) (tokens used m) at
+
+  module _ (arities heads next flags counts waiting later l : List ℕ) (used : ℕ) (w : Matching arities heads next flags counts waiting later l used) (small : cell < 1024) where
+    pub waking-start : Waking arities heads next later l used flags counts l (getD waiting cell 0)
+    unfolding Inside
+    waking-start = record {
+      size = refl;
+      rest = refl;
+      store = w .inside .store;
+      walk = walk-start cell v waiting later (tokens used l) (tokenAt l 0) (w .inside .deferred) small;
+    }
+
+    module _ (flags₁ counts₁ m : List ℕ) (at : ℕ) (g : Waking arities heads next later l used flags₁ counts₁ m at) where
+      pub waking-low : at ≤ used
+      waking-low = omega (arith, g .walk .low, length-rows 20 decode used l)
+
+      -- one more is woken
+      pub waking-step : (at ≡ 0 → ⊥) → (flags₂ counts₂ m₂ : List ℕ) → length m₂ ≡ length m
+          → m₂ ≡ putRow 20 m (at - 1) (encode (woken cell v (tokenAt m (at - 1))))
+          → tokens used m₂ ≡ set (tokens used m) (at - 1) (woken cell v (tokenAt m (at - 1)))
+          → Stored arities heads next flags₂ counts₂ m₂ used
+          → (getD later (at - 1) 0 < at) × Waking arities heads next later l used flags₂ counts₂ m₂ (getD later (at - 1) 0)
+      unfolding Inside
+      waking-step z flags₂ counts₂ m₂ len put e s =
+          let us = tokens used m in
+          let i = at - 1 in
+          let d = tokenAt m i in
+          let low = waking-low in
+          let below : i < used = omega arith in
+          let here : getD us i d ≡ d = getD-rows 20 decode used i m d below in
+          let same : tokens used m₂ ≡ set us i (woken cell v (getD us i d)) = rw here e in
+          let next-step = walk-step cell v waiting later (tokens used l) d (w .inside .deferred) small us at z (g .walk) in (
+            next-step .0,
+            record {
+              size = len ∙ g .size;
+              rest = rw put (rest-put used m (g .store .bytes) (woken cell v d) i below) ∙ g .rest;
+              store = s;
+              walk = rw same (next-step .1);
+            },
+          )
+
+    -- all are woken
+    module _ (flags₁ counts₁ m : List ℕ) (g : Waking arities heads next later l used flags₁ counts₁ m 0) where
+      pub waking-tokens : tokens used m ≡ map (woken cell v) (tokens used l)
+      unfolding Inside
+      waking-tokens = walk-end cell v waiting later (tokens used l) (tokenAt l 0) (w .inside .deferred) small (tokens used m) (g .walk)
+
+      pub waking-ledger : m ≡ joined encode (map (woken cell v) (tokens used l)) ++ drop (used * 20) l
+      waking-ledger = split used m (g .store .bytes) ∙ (λ k. joined encode (waking-tokens k) ++ g .rest k)
+
+      pub waking-end : Matching arities heads next flags₁ counts₁ (set waiting cell 0) later m used
+      unfolding Inside
+      waking-end = record {
+        inside = record {
+          store = g .store;
+          deferred = rw waking-tokens (waiting-woken cell v (tokens used l) waiting later small (w .inside .deferred));
+          cells = rw waking-tokens (all-woken (tokens used l) (w .inside .cells));
+        };
+      }

@@ -1,0 +1,85 @@
+-- What callers may use of the matching store's invariant. Assumes nothing.
+use Prim.Native.Nat.{ℕ, _*_, _/_, _≤_, _<_}
+use mathlib.Core.Path.{_≡_, refl}
+use mathlib.Core.List.{List, _++_}
+use native.Mathlib.Omega.{arith}
+use lib.ListN.{length, getD, take, drop, replicate, length-replicate}
+use Rattle.record.specs.Table.{joined, All}
+use Rattle.record.specs.TokensAndTags.{tokens, decode, encode, TokenFits}
+use Rattle.record.proofs.Tables.{length-rows}
+use Rattle.record.specs.declared.token.Token.{Token}
+use Rattle.flags.specs.Flags.{places, Counted}
+use Rattle.flags.proofs.Laws.{zero-at, counted-none}
+use Rattle.chains.specs.Chains.{bucketKey}
+use Rattle.chains.specs.Deferred.{LowCell, cellKey}
+use Rattle.chains.proofs.Chains.{chained-none}
+use Rattle.enabled.specs.Enabled.{enabledPlaces}
+use Rattle.enabled.specs.Store.{Known, Stored}
+use Rattle.enabled.proofs.Right.{right-none, right-places, enabled-below}
+use Rattle.enabled.proofs.Bytes.{split}
+use Rattle.enabled.proofs.Store.{known-few}
+use Rattle.matching.specs.Matching.{Inside, Matching}
+
+-- arrays of zeros are right for a ledger with no used record
+pub matching-start : (arities ledger : List ℕ)
+    → Matching arities (replicate 4096 0) (replicate 2048 0) (replicate 2048 0) (replicate 32 0) (replicate 1024 0) (replicate 2048 0) ledger 0
+unfolding Inside
+matching-start arities ledger = record {
+  inside = record {
+    store = record {
+      known = record {
+        room = omega arith;
+        index = chained-none 4096 bucketKey (replicate 4096 0) (replicate 2048 0) (length-replicate {A = ℕ} 4096 0) (length-replicate {A = ℕ} 2048 0) (zero-at 4096);
+        ports = tt;
+      };
+      bytes = refl;
+      fits = tt;
+      counted = counted-none;
+      right = right-none arities;
+    };
+    deferred = chained-none 1024 cellKey (replicate 1024 0) (replicate 2048 0) (length-replicate {A = ℕ} 1024 0) (length-replicate {A = ℕ} 2048 0) (zero-at 1024);
+    cells = tt;
+  };
+}
+
+module _ {arities heads next flags counts waiting later ledger : List ℕ} {used : ℕ} (m : Matching arities heads next flags counts waiting later ledger used) where
+  -- what `find`, `enabled_count`, `enabled_at` and `spend` require
+  pub matching-stored : Stored arities heads next flags counts ledger used
+  unfolding Inside
+  matching-stored = m .inside .store
+
+  pub matching-known : Known heads next ledger used
+  matching-known = matching-stored .known
+
+  pub matching-counted : Counted flags counts
+  matching-counted = matching-stored .counted
+
+  -- the flags' ones are the places of the enabled activities
+  pub matching-places : places flags ≡ enabledPlaces arities (tokens used ledger)
+  matching-places = right-places arities (tokens used ledger) flags (matching-stored .right)
+
+  pub matching-enabled-below : (k : ℕ) → k < length (enabledPlaces arities (tokens used ledger)) → getD (enabledPlaces arities (tokens used ledger)) k 0 < used
+  matching-enabled-below k h = omega (arith, enabled-below arities (tokens used ledger) k h, length-rows 20 decode used ledger)
+
+  -- the used records
+  pub matching-room : used ≤ length ledger / 20
+  matching-room = matching-known .room
+
+  pub matching-few : used ≤ 2048
+  matching-few = known-few heads next ledger used matching-known
+
+  pub matching-bytes : take (used * 20) ledger ≡ joined encode (tokens used ledger)
+  matching-bytes = matching-stored .bytes
+
+  pub matching-ledger : ledger ≡ joined encode (tokens used ledger) ++ drop (used * 20) ledger
+  matching-ledger = split used ledger matching-bytes
+
+  pub matching-fits : All TokenFits (tokens used ledger)
+  matching-fits = matching-stored .fits
+
+  pub matching-ports : All (λ (t : Token). t .port < 2) (tokens used ledger)
+  matching-ports = matching-known .ports
+
+  pub matching-cells : All (λ (t : Token). LowCell (t .content)) (tokens used ledger)
+  unfolding Inside
+  matching-cells = m .inside .cells

@@ -1,0 +1,3 @@
+-- The laws of the matching store. Assumes nothing.
+pub mod Laws
+pub mod Changes

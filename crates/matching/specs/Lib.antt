@@ -1,0 +1,2 @@
+-- The definitions of the matching store. Assumes nothing.
+pub mod Matching

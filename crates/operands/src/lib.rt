@@ -1,0 +1,165 @@
+// Matching: the operands of a tag, and whether the outputs of a firing can go into the ledger.
+use chains::Found;
+use effect::output::Key;
+use effect::output::Outputs;
+use record::tag::Tag;
+use record::token;
+use record::token::Content;
+use rules::answer::Refusal;
+ghost use mathlib.Core.Path.{_≡_};
+ghost use Prim.Native.Nat.{_/_, _≤_, _<_};
+ghost use lib.ListN.{length};
+ghost use Rattle.record.specs.TokensAndTags.{tokens};
+ghost use Rattle.enabled.specs.Store.{Known};
+ghost use Rattle.operands.specs.Operands.{operandAt, matchedAt, isTaken, sameKeys, anyTakenOf, admittedOf};
+
+// A live operand, by its place and value.
+pub enum Operand {
+    Live(usize, i32),
+    Missing,
+}
+
+// The operands of a tag, by their places and values. Where one is waited for, it stands for both.
+pub enum Matched {
+    Both {
+        first: usize,
+        second: usize,
+        left: i32,
+        right: i32,
+    },
+    Missing,
+}
+
+pub enum Admitted {
+    Yes,
+    No(Refusal),
+}
+
+// The operand on a port of a tag.
+fn operand_on(
+    heads: &[u16; 4096],
+    next: &[u16; 2048],
+    ledger: &[u8],
+    used: usize,
+    tag: Tag,
+    port: u8,
+) -> Operand
+    requires { ⌜ Known (now heads) (now next) (now ledger) used ⌝ }
+    ensures { λ r. ⌜ r ≡ operandAt (tokens used (now (ledger .entry))) tag port ⌝ }
+{
+    let Found::At(i) = matching::find(heads, next, ledger, used, tag, port) else {
+        return Operand::Missing;
+    };
+    let t = token::token_at(ledger, i);
+    let content = t.content;
+    let Content::Live(v) = content else {
+        return Operand::Missing;
+    };
+    Operand::Live(i, v)
+}
+
+// All operands of a tag, if they are live.
+pub fn operands_of(
+    heads: &[u16; 4096],
+    next: &[u16; 2048],
+    ledger: &[u8],
+    used: usize,
+    tag: Tag,
+    arity: u8,
+) -> Matched
+    requires { ⌜ Known (now heads) (now next) (now ledger) used ⌝ }
+    ensures { λ r. ⌜ r ≡ matchedAt arity (tokens used (now (ledger .entry))) tag ⌝ }
+{
+    if arity == 0 {
+        return Matched::Missing;
+    }
+    let Operand::Live(first, left) = operand_on(heads, next, ledger, used, tag, 0) else {
+        return Matched::Missing;
+    };
+    if arity == 1 {
+        return Matched::Both {
+            first,
+            second: first,
+            left,
+            right: left,
+        };
+    }
+    let Operand::Live(second, right) = operand_on(heads, next, ledger, used, tag, 1) else {
+        return Matched::Missing;
+    };
+    Matched::Both {
+        first,
+        second,
+        left,
+        right,
+    }
+}
+
+// Whether a token stands there, of whatever state.
+fn taken(heads: &[u16; 4096], next: &[u16; 2048], ledger: &[u8], used: usize, key: Key) -> bool
+    requires { ⌜ Known (now heads) (now next) (now ledger) used ⌝ }
+    ensures { λ r. ⌜ r ≡ isTaken (tokens used (now (ledger .entry))) key ⌝ }
+{
+    let tag = key.tag;
+    let found = matching::find(heads, next, ledger, used, tag, key.port);
+    match found {
+        Found::At(_) => true,
+        Found::Nothing => false,
+    }
+}
+
+fn same_keys(a: Key, b: Key) -> bool
+    ensures { λ r. ⌜ r ≡ sameKeys a b ⌝ }
+{
+    let t = a.tag;
+    let u = b.tag;
+    a.port == b.port && t.same(u)
+}
+
+// Refusal 9: an output's tag and port taken, by a token or by the other output.
+fn any_taken(
+    heads: &[u16; 4096],
+    next: &[u16; 2048],
+    ledger: &[u8],
+    used: usize,
+    outputs: Outputs,
+) -> bool
+    requires { ⌜ Known (now heads) (now next) (now ledger) used ⌝ }
+    ensures { λ r. ⌜ r ≡ anyTakenOf (tokens used (now (ledger .entry))) outputs ⌝ }
+{
+    let first = outputs.first;
+    let second = outputs.second;
+    if outputs.count == 0 {
+        return false;
+    }
+    if taken(heads, next, ledger, used, first) {
+        return true;
+    }
+    if outputs.count == 1 {
+        return false;
+    }
+    if same_keys(first, second) {
+        return true;
+    }
+    taken(heads, next, ledger, used, second)
+}
+
+// Whether the outputs of a firing can go into the ledger: refusal 8, then 9.
+pub fn admit(
+    heads: &[u16; 4096],
+    next: &[u16; 2048],
+    ledger: &[u8],
+    used: usize,
+    outputs: Outputs,
+) -> Admitted
+    requires { ⌜ Known (now heads) (now next) (now ledger) used × (used ≤ 2048) ⌝ }
+    ensures { λ r. ⌜ r ≡ admittedOf (length (now (ledger .entry)) / 20) (tokens used (now (ledger .entry))) outputs ⌝ }
+{
+    if ledger.len() / 20 < used + (outputs.count as usize) {
+        return Admitted::No(Refusal::LedgerFull);
+    }
+    if any_taken(heads, next, ledger, used, outputs) {
+        return Admitted::No(Refusal::SecondToken);
+    }
+    Admitted::Yes
+}
