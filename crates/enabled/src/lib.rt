@@ -123,7 +123,7 @@ fn settle(
 }
 
 // How many operands the activities of an instruction wait for.
-fn arity(arities: &[u8], instruction: u16) -> u8
+pub fn arity(arities: &[u8], instruction: u16) -> u8
     ensures { λ r. ⌜ r ≡ getD (now (arities .entry)) instruction 0 ⌝ }
 {
     let i = instruction as usize;

@@ -1,0 +1,2 @@
+-- The definitions of what comes of an effect. Assumes nothing.
+pub mod Commit

@@ -1,0 +1,304 @@
+-- A firing, from matching to output, in the terms of the machine: what the code leaves is what the machine's `fire` gives, and what holds between
+-- firings holds again. Assumes nothing.
+use Prim.Native.Nat.{ℕ, zero, suc, _+_, _*_, _/_, _≤_, _<_}
+use mathlib.Core.Path.{_≡_, refl, sym, ap, _∙_, subst}
+use mathlib.Core.Bool.{Bool, true, false, cond}
+use mathlib.Core.List.{List, [], _∷_, _++_, map}
+use mathlib.Core.Option.{none, some}
+use native.Mathlib.Omega.{arith}
+use lib.ListN.{length, getD, set, length-append, length-map, length-set}
+use lib.Dec.{eqb}
+use lib.IntN.{ℤ, pos}
+use Rattle.record.specs.declared.tag.Tag.{Tag}
+use Rattle.record.specs.declared.token.Token as Record
+use Rattle.record.specs.declared.token.Content as RecordContent
+use Rattle.record.specs.declared.token.Content.the-variants.{Live}
+use Rattle.record.specs.declared.cell.Cell.the-variants.{Absent, Waiting, Present}
+use Rattle.record.specs.declared.cell.Cell as RecordCell
+use Rattle.record.specs.declared.instruction.Instruction.{Instruction}
+use Rattle.record.specs.Table.{All}
+use Rattle.record.specs.TokensAndTags.{tokens, tokenAt}
+use Rattle.record.specs.GraphRecords.{graphOf}
+use Rattle.record.specs.TokensAndTags as Tokens
+use Rattle.record.proofs.Tables.{length-rows, getD-rows}
+use Rattle.chains.specs.Deferred.{woken}
+use Rattle.matching.specs.Matching.{spentToken, Matching}
+use Rattle.matching.proofs.Laws.{matching-room}
+use Rattle.machine.specs.Machine.{Key, Machine, State, onOption, operands, look, fire, fired, notFired, commit, send, read, write, refuse}
+use Rattle.machine.specs.Orders.{Good, Reached, outputs}
+use Rattle.machine.proofs.Reached.{reached-good}
+use Rattle.rules.specs.declared.answer.Refusal.{Refusal}
+use Rattle.rules.specs.declared.answer.Refusal.the-variants.{SecondToken}
+use Rattle.rules.specs.declared.answer.Checked.the-variants.{Passed}
+use Rattle.rules.specs.Check.{operandsAt, checkGraph}
+use Rattle.rules.specs.InstructionSet.{arityIn, machineOf, effectIn}
+use Rattle.rules.proofs.Lawful.{lawful}
+use Rattle.effect.specs.declared.output.Key as EffectKey
+use Rattle.effect.specs.declared.output.Outputs.{Outputs}
+use Rattle.effect.specs.declared.operate.Effect.{Effect}
+use Rattle.effect.specs.declared.operate.Effect.the-variants.{Refuse, Send, Read, Write}
+use Rattle.effect.specs.Held.{keyHeld, keysHeld, keysOf, effectHeld, Counted, Arrives, AllSent, Effected}
+use Rattle.effect.proofs.Arrives.{arrives-port, arrives-inside}
+use Rattle.effect.proofs.Does.{records}
+use Rattle.held.specs.Held.{noToken, stateHeld}
+use Rattle.operands.specs.declared.Admitted.{Admitted}
+use Rattle.operands.specs.declared.Admitted.the-variants.{Yes, No}
+use Rattle.operands.specs.declared.Matched.{Matched}
+use Rattle.operands.specs.declared.Matched.the-variants.{Both, Missing}
+use Rattle.operands.specs.Operands.{matchedAt, admittedOf}
+use Rattle.operands.proofs.Held.{valuesOf, Places, matched-places, held-operands}
+use Rattle.outputs.specs.Outputs.{spendOne, spentAt, outputsBy, outputsOf, LowPortsBy, LowPorts, cellsIn, contentFetched, Kept, CellsKept, CellStore, Lent}
+use Rattle.commit.specs.declared.Fired.{Fired}
+use Rattle.commit.specs.declared.Fired.the-variants as Fires
+use Rattle.commit.specs.Commit.{Committed, done, refused, ifAdmitted, unlessPresent, committedOf, Left, Fitting}
+use Rattle.commit.proofs.Held.{firedOf, commit-held}
+use Rattle.fire.specs.Running.{machineFor, stateIn, Arrived, Running, Went, Stopped, Stepped, Prepared}
+
+-- ---- what holds of a token by its tag and port alone
+
+module _ (P : Record.Token → Type 0) where
+  abbrev ByKey : Type 0
+  ByKey = (t u : Record.Token) → t .tag ≡ u .tag → t .port ≡ u .port → P t → P u
+
+  all-map : (f : Record.Token → Record.Token) → ((t : Record.Token) → P t → P (f t)) → (ts : List Record.Token) → All P ts → All P (map f ts)
+  all-map f h [] a = tt
+  all-map f h (t ∷ ts) a = (h t (a .0), all-map f h ts (a .1))
+
+  all-append : (ts us : List Record.Token) → All P ts → All P us → All P (ts ++ us)
+  all-append [] us a b = b
+  all-append (t ∷ ts) us a b = (a .0, all-append ts us (a .1) b)
+
+  all-spent : ByKey → (i : ℕ) (ts : List Record.Token) → All P ts → All P (spendOne i ts)
+  unfolding spendOne
+  all-spent k i [] a = tt
+  all-spent k zero (t ∷ ts) a = (k t (spentToken t) refl refl (a .0), a .1)
+  all-spent k (suc i) (t ∷ ts) a = (a .0, all-spent k i ts (a .1))
+
+  all-spent-at : ByKey → (i j : ℕ) (ts : List Record.Token) → All P ts → All P (spentAt i j ts)
+  unfolding spentAt
+  all-spent-at k i j ts a = go (eqb i j)
+    where
+      go : (b : Bool) → All P (cond b (spendOne i ts) (spendOne j (spendOne i ts)))
+      go true = all-spent k i ts a
+      go false = all-spent k j (spendOne i ts) (all-spent k i ts a)
+
+-- ---- outputs
+
+sent-arrive : (g : List Instruction) (n : ℕ) (j k : EffectKey.Key) (x : RecordContent.Content) → All (Arrives g) (keysHeld n j k) → Arrived g (outputsBy n j k x)
+sent-arrive g zero j k x a = tt
+sent-arrive g (suc zero) j k x a = (a .0, tt)
+sent-arrive g (suc (suc n)) j k x a = (a .0, (a .1 .0, tt))
+
+low-ports : (g : List Instruction) (n : ℕ) (j k : EffectKey.Key) → All (Arrives g) (keysHeld n j k) → LowPortsBy n j k
+low-ports g zero j k a = tt
+low-ports g (suc zero) j k a = arrives-port g (keyHeld j) (a .0)
+low-ports g (suc (suc n)) j k a = (arrives-port g (keyHeld j) (a .0), arrives-port g (keyHeld k) (a .1 .0))
+
+-- what the code's commit requires of an effect
+pub fitting : (g : List Instruction) (cells : ℕ) (τ : Tag) (a b : ℤ) (e : Effect) → Effected g cells τ a b e → Fitting cells e
+fitting g cells τ a b (Refuse r) h = tt
+fitting g cells τ a b (Send v o) h = (h .counted, low-ports g (o .count) (o .first) (o .second) (h .arrives))
+fitting g cells τ a b (Read c o) h = (h .counted, low-ports g (o .count) (o .first) (o .second) (h .arrives), h .cellsBelow)
+fitting g cells τ a b (Write c v o) h = (h .counted, low-ports g (o .count) (o .first) (o .second) (h .arrives), h .cellsBelow)
+
+-- ---- tokens after a firing
+
+-- each stands at a port of an instruction, and none is dropped
+abbrev Grown : List Instruction → ℕ → Committed → Type 0
+Grown g n (done us ds) = Arrived g us × (n ≤ length us)
+Grown g n (refused r) = Unit {0}
+
+if-admitted : (g : List Instruction) (n : ℕ) (m : Admitted) (x : Committed) → Grown g n x → Grown g n (ifAdmitted m x)
+unfolding ifAdmitted
+if-admitted g n Yes x h = h
+if-admitted g n (No r) x h = tt
+
+unless-present : (g : List Instruction) (n : ℕ) (c : RecordCell.Cell) (x : Committed) → Grown g n x → Grown g n (unlessPresent c x)
+unfolding unlessPresent
+unless-present g n Absent x h = h
+unless-present g n Waiting x h = h
+unless-present g n (Present v) x h = tt
+
+length-spent : (i : ℕ) (ts : List Record.Token) → length (spendOne i ts) ≡ length ts
+unfolding spendOne
+length-spent i ts = length-set ts i _
+
+length-spent-at : (i j : ℕ) (ts : List Record.Token) → length (spentAt i j ts) ≡ length ts
+unfolding spentAt
+length-spent-at i j ts = go (eqb i j)
+  where
+    go : (b : Bool) → length (cond b (spendOne i ts) (spendOne j (spendOne i ts))) ≡ length ts
+    go true = length-spent i ts
+    go false = length-spent j (spendOne i ts) ∙ length-spent i ts
+
+module _ (g : List Instruction) (ts : List Record.Token) (h : Arrived g ts) (i j : ℕ) where
+  abbrev P : Record.Token → Type 0
+  P t = t .port < operandsAt g (t .tag .instruction)
+
+  by-key : (t u : Record.Token) → t .tag ≡ u .tag → t .port ≡ u .port → P t → P u
+  by-key t u p r l = rw (← p, ← r) l
+
+  with-outputs : (vs : List Record.Token) (o : Outputs) (x : RecordContent.Content) → All P vs → length vs ≡ length ts → All (Arrives g) (keysOf o) → Grown g (length ts) (done (vs ++ outputsOf x o) [])
+  with-outputs vs o x b e c = (all-append P vs (outputsOf x o) b (sent-arrive g (o .count) (o .first) (o .second) x c), omega (arith, length-append vs (outputsOf x o)))
+
+  grown : (capacity : ℕ) (cs : List RecordCell.Cell) (e : Effect) → AllSent (Arrives g) (effectHeld e) → Grown g (length ts) (committedOf capacity ts cs i j e)
+  unfolding committedOf
+  grown capacity cs (Refuse r) a = tt
+  grown capacity cs (Send v o) a =
+      let n = length ts in
+      let x = with-outputs (spentAt i j ts) o (Live v) (all-spent-at P by-key i j ts h) (length-spent-at i j ts) a in
+      if-admitted g n (admittedOf capacity ts o) _ x
+  grown capacity cs (Read c o) a =
+      let n = length ts in
+      let x = with-outputs (spentAt i j ts) o (contentFetched c (getD cs c Absent)) (all-spent-at P by-key i j ts h) (length-spent-at i j ts) a in
+      if-admitted g n (admittedOf capacity ts o) _ x
+  grown capacity cs (Write c v o) a =
+      let n = length ts in
+      let us = map (woken c v) (spentAt i j ts) in
+      let size : length us ≡ length ts = length-map (spentAt i j ts) (woken c v) ∙ length-spent-at i j ts in
+      let x = with-outputs us o (Live (pos 0)) (all-map P (woken c v) (λ t l. l) (spentAt i j ts) (all-spent-at P by-key i j ts h)) size a in
+      unless-present g n (getD cs c Absent) _ (if-admitted g n (admittedOf capacity ts o) _ x)
+
+-- ---- a firing
+
+module _ (graph : List ℕ) (passed : checkGraph graph ≡ Passed) {arities heads next flags counts waiting later ledger cells : List ℕ} {used : ℕ}
+    (now : Running (graphOf graph) arities heads next flags counts waiting later ledger cells used) (τ : Tag) (few : arityIn (graphOf graph) τ ≤ 2) where
+  abbrev g : List Instruction
+  g = graphOf graph
+
+  abbrev M : Machine
+  M = machineFor (graphOf graph) ledger cells
+
+  abbrev s : State Tag ℤ
+  s = stateIn ledger cells used
+
+  -- operands that are missing
+  pub fire-missing : matchedAt (arityIn (graphOf graph) τ) (tokens used ledger) τ ≡ Missing → fire M s τ ≡ notFired SecondToken
+  unfolding fire
+  fire-missing e = rw (held-operands (graphOf graph) (length ledger / 20) (length cells / 8) (tokens used ledger) (cellsIn cells) τ few ∙ ap valuesOf e)
+
+  -- operands that matching found
+  module _ (i j : ℕ) (v w : ℤ) (matched : matchedAt (arityIn (graphOf graph) τ) (tokens used ledger) τ ≡ Both i j v w) where
+    pub places : Places (arityIn (graphOf graph) τ) (tokens used ledger) τ i j v w
+    places = matched-places (tokens used ledger) τ (arityIn (graphOf graph) τ) few matched
+
+    fire-found : fire M s τ ≡ commit M s τ (effectIn (graphOf graph) (length cells / 8) τ v w)
+    unfolding fire
+    fire-found = rw (held-operands (graphOf graph) (length ledger / 20) (length cells / 8) (tokens used ledger) (cellsIn cells) τ few ∙ ap valuesOf matched)
+
+    module _ (e : Effect) (does : Effected (graphOf graph) (length cells / 8) τ v w e) where
+      fire-committed : fire M s τ ≡ firedOf (committedOf (length ledger / 20) (tokens used ledger) (cellsIn cells) i j e)
+      fire-committed =
+          fire-found
+          ∙ ap (commit M s τ) (sym (does .held))
+          ∙ commit-held (graphOf graph) (length ledger / 20) (length cells / 8) (tokens used ledger) (cellsIn cells) τ i j v w (now .good .distinct) places e (does .counted)
+
+      good-after : (x : State Tag ℤ) → fire M s τ ≡ fired x → Good M x
+      good-after x f = reached-good M (lawful graph passed (length ledger / 20) (length cells / 8)) s (now .good) 1 (0 + outputs M s τ) x (s, 0, τ, (refl, refl), f, refl)
+
+      module _ (heads′ next′ flags′ counts′ waiting′ later′ ledger′ cells′ : List ℕ) where
+        -- done: the tokens and cells that it left are those of the machine
+        went : (n : ℕ) (us : List Record.Token) (ds : List RecordCell.Cell) → fire M s τ ≡ fired (stateHeld us ds) → Arrived (graphOf graph) us × (length (tokens used ledger) ≤ length us)
+            → Kept arities heads′ next′ flags′ counts′ waiting′ later′ ledger′ n us ledger → CellsKept cells′ ds cells
+            → Went (graphOf graph) τ arities heads′ next′ flags′ counts′ waiting′ later′ ledger′ cells′ n used ledger cells
+        went n us ds f a k c =
+            let same : stateHeld us ds ≡ stateIn ledger′ cells′ n = λ x. stateHeld (sym (k .held) x) (sym (c .held) x) in
+            record {
+              step = f ∙ ap fired same;
+              running = record {
+                matching = k .matching;
+                few = rw (k .size) (now .few);
+                store = c .store;
+                arrived = rw (k .held) (a .0);
+                good =
+                    subst (λ (b : ℕ). Good (machineOf (graphOf graph) (b / 20) (length cells′ / 8)) (stateIn ledger′ cells′ n)) (sym (k .size))
+                    (subst (λ (b : ℕ). Good (machineOf (graphOf graph) (length ledger / 20) (b / 8)) (stateIn ledger′ cells′ n)) (sym (c .size))
+                    (subst (λ (x : State Tag ℤ). Good M x) same (good-after (stateHeld us ds) f)));
+              };
+              grown = omega (arith, a .1, length-rows 20 Tokens.decode used ledger, length-rows 20 Tokens.decode n ledger′, ap length (k .held));
+              size = k .size;
+              rest = k .rest;
+              cellSize = c .size;
+            }
+
+        -- refused: ledger and cells are as they were
+        stopped : (r : Refusal) → fire M s τ ≡ notFired r → ledger′ ≡ ledger → cells′ ≡ cells → Matching arities heads′ next′ flags′ counts′ waiting′ later′ ledger′ used
+            → Stopped r (graphOf graph) τ arities heads′ next′ flags′ counts′ waiting′ later′ ledger′ cells′ used ledger cells
+        stopped r f l c m = record {
+          step = f;
+          running = record {
+            matching = m;
+            few = rw l (now .few);
+            store = rw c (now .store);
+            arrived = rw l (now .arrived);
+            good = rw (l, c) (now .good);
+          };
+          sameLedger = l;
+          sameCells = c;
+        }
+
+        pub stepped : (r : Fired) → Left r (committedOf (length ledger / 20) (tokens used ledger) (cellsIn cells) i j e) arities heads′ next′ flags′ counts′ waiting′ later′ ledger′ cells′ used ledger cells
+            → Stepped r (graphOf graph) τ arities heads′ next′ flags′ counts′ waiting′ later′ ledger′ cells′ used ledger cells
+        stepped r h = go r (committedOf (length ledger / 20) (tokens used ledger) (cellsIn cells) i j e) fire-committed
+            (grown (graphOf graph) (tokens used ledger) (now .arrived) i j (length ledger / 20) (cellsIn cells) e (does .arrives)) h
+          where
+            go : (q : Fired) (x : Committed) → fire M s τ ≡ firedOf x → Grown (graphOf graph) (length (tokens used ledger)) x
+                → Left q x arities heads′ next′ flags′ counts′ waiting′ later′ ledger′ cells′ used ledger cells → Stepped q (graphOf graph) τ arities heads′ next′ flags′ counts′ waiting′ later′ ledger′ cells′ used ledger cells
+            go (Fires.Done n) (done us ds) f a l = went n us ds f a (l .0) (l .1)
+            go (Fires.Done n) (refused q) f a l = absurd l
+            go (Fires.Refused q) (done us ds) f a l = absurd l
+            go (Fires.Refused q) (refused p) f a l = stopped q (f ∙ ap notFired (sym (l .0))) (l .1) (l .2) (l .3)
+
+-- ---- what the code finds
+
+at-place : (P : Record.Token → Type 0) (d : Record.Token) (ts : List Record.Token) (i : ℕ) → i < length ts → All P ts → P (getD ts i d)
+at-place P d [] i h a = absurd (omega arith)
+at-place P d (t ∷ ts) zero h a = a .0
+at-place P d (t ∷ ts) (suc i) h a = at-place P d ts i (omega arith) (a .1)
+
+module _ (graph returns : List ℕ) {arities heads next flags counts waiting later ledger cells : List ℕ} {used : ℕ} (ready : Prepared graph returns arities)
+    (now : Running (graphOf graph) arities heads next flags counts waiting later ledger cells used) (place : ℕ) (within : place < used) where
+  pub room : place < length ledger / 20
+  room = omega (arith, matching-room (now .matching))
+
+  -- the token at the place is of an instruction of the graph
+  pub inside : (t : Record.Token) → t ≡ tokenAt ledger place → t .tag .instruction < length graph / 16
+  inside t e =
+      let size = length-rows 20 Tokens.decode used ledger in
+      let here = at-place (λ (u : Record.Token). u .port < operandsAt (graphOf graph) (u .tag .instruction)) noToken (tokens used ledger) place (omega arith) (now .arrived) in
+      let same : getD (tokens used ledger) place noToken ≡ t = getD-rows 20 Tokens.decode used place ledger noToken within ∙ sym e in
+      let arrives : t .port < operandsAt (graphOf graph) (t .tag .instruction) = subst (λ (u : Record.Token). u .port < operandsAt (graphOf graph) (u .tag .instruction)) same here in
+      omega (arith, arrives-inside (graphOf graph) (record { tag = t .tag; port = t .port }) arrives, records graph)
+
+  -- what matching found for it
+  pub matched-here : (t : Record.Token) (a : ℕ) (m : Matched) → t ≡ tokenAt ledger place → a ≡ getD arities (t .tag .instruction) 0 → m ≡ matchedAt a (tokens used ledger) (t .tag)
+      → matchedAt (arityIn (graphOf graph) (tokenAt ledger place .tag)) (tokens used ledger) (tokenAt ledger place .tag) ≡ m
+  matched-here t a m e f q =
+      sym
+      (q
+      ∙ ap (λ (n : ℕ). matchedAt n (tokens used ledger) (t .tag)) (f ∙ ready .aritiesRight (t .tag) .0)
+      ∙ ap (λ (u : Record.Token). matchedAt (arityIn (graphOf graph) (u .tag)) (tokens used ledger) (u .tag)) e)
+
+  -- what commit is lent
+  pub lent-here : (i j : ℕ) (v w : ℤ) → matchedAt (arityIn (graphOf graph) (tokenAt ledger place .tag)) (tokens used ledger) (tokenAt ledger place .tag) ≡ Both i j v w
+      → Lent arities heads next flags counts waiting later ledger cells used i j
+  lent-here i j v w e =
+      let τ = tokenAt ledger place .tag in
+      let p = matched-places (tokens used ledger) τ (arityIn (graphOf graph) τ) (ready .aritiesRight τ .1) e in
+      let size = length-rows 20 Tokens.decode used ledger in
+      record { matching = now .matching; few = now .few; first = omega (arith, p .firstWithin); second = omega (arith, p .secondWithin); store = now .store }
+
+  -- from matching to output
+  pub stepped-here : (t : Record.Token) → t ≡ tokenAt ledger place → (i j : ℕ) (v w : ℤ)
+      → matchedAt (arityIn (graphOf graph) (tokenAt ledger place .tag)) (tokens used ledger) (tokenAt ledger place .tag) ≡ Both i j v w
+      → (a b : ℤ) → a ≡ v → b ≡ w → (e : Effect) → Effected (graphOf graph) (length cells / 8) (t .tag) a b e
+      → (heads′ next′ flags′ counts′ waiting′ later′ ledger′ cells′ : List ℕ) (r : Fired)
+      → Left r (committedOf (length ledger / 20) (tokens used ledger) (cellsIn cells) i j e) arities heads′ next′ flags′ counts′ waiting′ later′ ledger′ cells′ used ledger cells
+      → Stepped r (graphOf graph) (tokenAt ledger place .tag) arities heads′ next′ flags′ counts′ waiting′ later′ ledger′ cells′ used ledger cells
+  stepped-here t same i j v w matched a b p q e does heads′ next′ flags′ counts′ waiting′ later′ ledger′ cells′ r left =
+      let τ = tokenAt ledger place .tag in
+      let does′ : Effected (graphOf graph) (length cells / 8) τ v w e =
+      subst (λ (y : ℤ). Effected (graphOf graph) (length cells / 8) τ v y e) q
+      (subst (λ (x : ℤ). Effected (graphOf graph) (length cells / 8) τ x b e) p
+      (subst (λ (u : Record.Token). Effected (graphOf graph) (length cells / 8) (u .tag) a b e) same does)) in
+      stepped graph (ready .passed) now τ (ready .aritiesRight τ .1) i j v w matched e does′ heads′ next′ flags′ counts′ waiting′ later′ ledger′ cells′ r left

@@ -1,0 +1,71 @@
+-- What holds between firings of the arrays, the ledger and the cells, and what a firing makes of them in the terms of the machine. Assumes nothing.
+use Prim.Native.Nat.{ℕ, _*_, _/_, _≤_, _<_}
+use mathlib.Core.Path.{_≡_}
+use mathlib.Core.List.{List}
+use lib.ListN.{length, drop}
+use lib.IntN.{ℤ}
+use Rattle.record.specs.declared.tag.Tag.{Tag}
+use Rattle.record.specs.declared.token.Token as Record
+use Rattle.record.specs.declared.instruction.Instruction.{Instruction}
+use Rattle.record.specs.Table.{All}
+use Rattle.record.specs.GraphRecords.{graphOf}
+use Rattle.record.specs.TokensAndTags.{tokens}
+use Rattle.machine.specs.Machine.{Machine, State, fire, fired, notFired}
+use Rattle.machine.specs.Orders.{Good}
+use Rattle.rules.specs.declared.answer.Refusal.{Refusal}
+use Rattle.rules.specs.declared.answer.Checked.the-variants.{Passed}
+use Rattle.rules.specs.Check.{operandsAt, checkGraph}
+use Rattle.rules.specs.InstructionSet.{machineOf}
+use Rattle.held.specs.Held.{stateHeld, Arities}
+use Rattle.effect.specs.Held.{Returns}
+use Rattle.matching.specs.Matching.{Matching}
+use Rattle.outputs.specs.Outputs.{cellsIn, CellStore}
+use Rattle.commit.specs.declared.Fired.{Fired}
+use Rattle.commit.specs.declared.Fired.the-variants as Fires
+
+-- the machine of a graph over a ledger and cells, and its state there
+abbrev pub machineFor : List Instruction → (ledger cells : List ℕ) → Machine
+machineFor g ledger cells = machineOf g (length ledger / 20) (length cells / 8)
+
+abbrev pub stateIn : (ledger cells : List ℕ) → (used : ℕ) → State Tag ℤ
+stateIn ledger cells used = stateHeld (tokens used ledger) (cellsIn cells)
+
+-- each token stands at a port of an instruction of the graph
+abbrev pub Arrived : List Instruction → List Record.Token → Type 0
+Arrived g ts = All (λ (t : Record.Token). t .port < operandsAt g (t .tag .instruction)) ts
+
+-- between firings
+pub record Running (g : List Instruction) (arities heads next flags counts waiting later ledger cells : List ℕ) (used : ℕ) : Type 0 where
+  pub matching : Matching arities heads next flags counts waiting later ledger used
+  pub few : length ledger / 20 ≤ 2048
+  pub store : CellStore cells
+  pub arrived : Arrived g (tokens used ledger)
+  pub good : Good (machineFor g ledger cells) (stateIn ledger cells used)
+
+-- a firing that was done left n tokens
+pub record Went (g : List Instruction) (τ : Tag) (arities heads next flags counts waiting later ledger′ cells′ : List ℕ) (n used : ℕ) (ledger cells : List ℕ) : Type 0 where
+  pub step : fire (machineFor g ledger cells) (stateIn ledger cells used) τ ≡ fired (stateIn ledger′ cells′ n)
+  pub running : Running g arities heads next flags counts waiting later ledger′ cells′ n
+  pub grown : used ≤ n
+  pub size : length ledger′ ≡ length ledger
+  pub rest : drop (n * 20) ledger′ ≡ drop (n * 20) ledger
+  pub cellSize : length cells′ ≡ length cells
+
+-- a firing that was refused left ledger and cells as it found them
+pub record Stopped (r : Refusal) (g : List Instruction) (τ : Tag) (arities heads next flags counts waiting later ledger′ cells′ : List ℕ) (used : ℕ) (ledger cells : List ℕ) : Type 0 where
+  pub step : fire (machineFor g ledger cells) (stateIn ledger cells used) τ ≡ notFired r
+  pub running : Running g arities heads next flags counts waiting later ledger′ cells′ used
+  pub sameLedger : ledger′ ≡ ledger
+  pub sameCells : cells′ ≡ cells
+
+abbrev pub Stepped : Fired → List Instruction → Tag → (arities heads next flags counts waiting later ledger′ cells′ : List ℕ) → (used : ℕ) → (ledger cells : List ℕ) → Type 0
+Stepped (Fires.Done n) g τ arities heads next flags counts waiting later ledger′ cells′ used ledger cells =
+    Went g τ arities heads next flags counts waiting later ledger′ cells′ n used ledger cells
+Stepped (Fires.Refused r) g τ arities heads next flags counts waiting later ledger′ cells′ used ledger cells =
+    Stopped r g τ arities heads next flags counts waiting later ledger′ cells′ used ledger cells
+
+-- what a run has of its graph: it passed the check, and the tables made of it are right
+pub record Prepared (graph returns arities : List ℕ) : Type 0 where
+  pub passed : checkGraph graph ≡ Passed
+  pub returnsRight : Returns returns (graphOf graph)
+  pub aritiesRight : Arities (graphOf graph) arities

@@ -1,0 +1,2 @@
+-- The definitions of what a firing writes. Assumes nothing.
+pub mod Outputs

@@ -1,0 +1,109 @@
+-- What a firing makes of a ledger's tokens and of the cells, as lists of their records, and what the code keeps beside the bytes. Assumes nothing.
+use Prim.Native.Nat.{ℕ, zero, suc, _*_, _/_, _≤_, _<_}
+use mathlib.Core.Path.{_≡_}
+use mathlib.Core.Bool.{Bool, true, false, cond}
+use mathlib.Core.List.{List, [], _∷_}
+use lib.ListN.{length, getD, set, drop}
+use lib.Dec.{eqb}
+use Rattle.record.specs.declared.token.Token.{Token}
+use Rattle.record.specs.declared.token.Content.{Content}
+use Rattle.record.specs.declared.token.Content.the-variants.{Live, Deferred}
+use Rattle.record.specs.declared.cell.Cell.{Cell}
+use Rattle.record.specs.declared.cell.Cell.the-variants.{Absent, Waiting, Present}
+use Rattle.record.specs.Table.{joined, All}
+use Rattle.record.specs.TokensAndTags.{tokens}
+use Rattle.record.specs.Cells as Cells
+use Rattle.matching.specs.Matching.{spentToken, Matching}
+use Rattle.effect.specs.declared.output.Key.{Key}
+use Rattle.effect.specs.declared.output.Outputs.{Outputs}
+use Rattle.held.specs.Held.{noToken}
+
+-- ---- the tokens
+
+unfoldable pub spendOne : (place : ℕ) → List Token → List Token
+spendOne i ts = set ts i (spentToken (getD ts i noToken))
+
+-- the operands at two places are spent; where one was waited for, both are its place
+unfoldable pub spentAt : (first second : ℕ) → List Token → List Token
+spentAt i j ts = cond (eqb i j) (spendOne i ts) (spendOne j (spendOne i ts))
+
+abbrev pub tokenOut : Content → Key → Token
+tokenOut x k = record { tag = k .tag; port = k .port; content = x }
+
+abbrev pub outputsBy : (count : ℕ) → (first second : Key) → Content → List Token
+outputsBy zero j k x = []
+outputsBy (suc zero) j k x = tokenOut x j ∷ []
+outputsBy (suc (suc n)) j k x = tokenOut x j ∷ tokenOut x k ∷ []
+
+-- the outputs, destination 1 first, with one content
+abbrev pub outputsOf : Content → Outputs → List Token
+outputsOf x o = outputsBy (o .count) (o .first) (o .second) x
+
+abbrev pub LowPortsBy : (count : ℕ) → (first second : Key) → Type 0
+LowPortsBy zero j k = Unit {0}
+LowPortsBy (suc zero) j k = j .port < 2
+LowPortsBy (suc (suc n)) j k = (j .port < 2) × (k .port < 2)
+
+-- the outputs are at ports 0 and 1
+abbrev pub LowPorts : Outputs → Type 0
+LowPorts o = LowPortsBy (o .count) (o .first) (o .second)
+
+-- ---- the cells
+
+abbrev pub cellsIn : List ℕ → List Cell
+cellsIn l = Cells.cells (length l / 8) l
+
+-- a store of whole cells, at most 1,024, in every byte those of its cells
+pub record CellStore (l : List ℕ) : Type 0 where
+  pub bytes : l ≡ joined Cells.encode (cellsIn l)
+  pub fits : All Cells.CellFits (cellsIn l)
+  pub few : length l / 8 ≤ 1024
+
+-- FETCH: a cell without a value is waiting
+abbrev pub cellFetched : Cell → Cell
+cellFetched Absent = Waiting
+cellFetched Waiting = Waiting
+cellFetched (Present v) = Present v
+
+abbrev pub cellsFetched : (number : ℕ) → List Cell → List Cell
+cellsFetched c cs = set cs c (cellFetched (getD cs c Absent))
+
+-- FETCH: the value of a present cell; otherwise the outputs are deferred
+abbrev pub contentFetched : (number : ℕ) → Cell → Content
+contentFetched c Absent = Deferred c
+contentFetched c Waiting = Deferred c
+contentFetched c (Present v) = Live v
+
+abbrev pub isPresent : Cell → Bool
+isPresent Absent = false
+isPresent Waiting = false
+isPresent (Present v) = true
+
+-- ---- what the code leaves
+
+-- the arrays are right, together with two that the code does not hold
+pub record Matched (arities heads next flags counts ledger : List ℕ) (used : ℕ) : Type 0 where
+  pub waiting : List ℕ
+  pub later : List ℕ
+  pub matching : Matching arities heads next flags counts waiting later ledger used
+
+-- the arrays are right for a ledger that has these tokens, and the bytes past them are as they were
+pub record Kept (arities heads next flags counts waiting later ledger′ : List ℕ) (used : ℕ) (ts : List Token) (ledger : List ℕ) : Type 0 where
+  pub matching : Matching arities heads next flags counts waiting later ledger′ used
+  pub held : tokens used ledger′ ≡ ts
+  pub size : length ledger′ ≡ length ledger
+  pub rest : drop (used * 20) ledger′ ≡ drop (used * 20) ledger
+
+-- the cells are these
+pub record CellsKept (cells′ : List ℕ) (cs : List Cell) (cells : List ℕ) : Type 0 where
+  pub store : CellStore cells′
+  pub held : cellsIn cells′ ≡ cs
+  pub size : length cells′ ≡ length cells
+
+-- what a firing is lent
+pub record Lent (arities heads next flags counts waiting later ledger cells : List ℕ) (used i j : ℕ) : Type 0 where
+  pub matching : Matching arities heads next flags counts waiting later ledger used
+  pub few : length ledger / 20 ≤ 2048
+  pub first : i < used
+  pub second : j < used
+  pub store : CellStore cells
