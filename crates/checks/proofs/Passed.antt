@@ -1,0 +1,214 @@
+-- What a graph and what inputs have that passed their checks. Assumes nothing.
+use Prim.Native.Nat.{ℕ, suc, _+_, _*_, _/_, _%_, _≤_, _<_}
+use native.Mathlib.Omega.{arith}
+use native.Mathlib.Nat.{zero-add}
+use mathlib.Core.Path.{_≡_, refl, sym, _∙_}
+use mathlib.Core.Bool.{Bool, true, false, not, _&&_, cond}
+use mathlib.Core.Option.{some}
+use mathlib.Core.List.{List, [], _∷_}
+use lib.ListN.{length, getD, take, drop}
+use lib.Dec.{eqb, leb, ltb}
+use lib.IntN.{pos, natAbs}
+use borrow.Author.Tests.{eqb-true, leb-true, ltb-true, ltb-false, lt-ltb, not-true}
+use Rattle.record.specs.declared.instruction.Destination.{Destination}
+use Rattle.record.specs.declared.instruction.Instruction.{Instruction}
+use Rattle.record.specs.GraphRecords.{decode, isGraphLength, graphOf, destinations, inUse, rowOf, operandsOf}
+use Rattle.record.specs.Number.{byteAt, number16, number32, number64}
+use Rattle.record.specs.Table.{whole, allRows}
+use Rattle.record.specs.TokensAndTags.{isInput}
+use Rattle.record.proofs.Tables.{length-rows, getD-rows}
+use Rattle.record.specs.TokensAndTags as Tokens
+use Rattle.rules.specs.declared.answer.Refusal.the-variants.{GraphLength, BadInput, SecondToken}
+use Rattle.rules.specs.declared.answer.Checked.the-variants.{Passed}
+use Rattle.rules.specs.Check.{demand, all, instructionAt, operandsAt, fanOutAllowed, unusedAreZero, goodArc, within, entersSite, goodSite, checkRecord, checkGraph, checkStores, goodInput, secondInput, checkInputs, check}
+use Rattle.rules.specs.InstructionSet.{returnOf}
+use Rattle.checks.specs.Inputs.{tokensOf}
+use Rattle.checks.specs.Tables.{returnEntry}
+use Rattle.checks.proofs.Turns.{and-true-left, and-true-right, both-passed, demanded, each-passed, all-at}
+use Rattle.checks.proofs.Constants.{within-is}
+use Rattle.checks.proofs.Graphs.{length-graph, past}
+use Rattle.checks.proofs.Tokens.{length-tokens, in-tokens}
+
+-- ---- the graph
+
+-- a record that passed
+pub record GoodRecord (g : List Instruction) (i : ℕ) (r : Instruction) : Type 0 where
+  pub known : leb 1 (operandsOf (r .code)) ≡ true
+  pub fields : (fanOutAllowed r && unusedAreZero r) ≡ true
+  pub arcs : all (goodArc g) (destinations r) ≡ true
+  pub site : goodSite (take i g) r ≡ true
+
+pub passed-record : (g : List Instruction) (i : ℕ) (r : Instruction) → checkRecord g i r ≡ Passed → GoodRecord g i r
+unfolding checkRecord
+passed-record g i r e =
+    let a = both-passed _ _ e in
+    let b = both-passed _ _ (a .1) in
+    let c = both-passed _ _ (b .1) in
+    record { known = demanded _ _ _ (a .0); fields = demanded _ _ _ (b .0); arcs = demanded _ _ _ (c .0); site = demanded _ _ _ (c .1) }
+
+module _ (l : List ℕ) (passed : checkGraph l ≡ Passed) where
+  -- 1 to 256 whole records
+  pub passed-length : (1 ≤ length (graphOf l)) × (length (graphOf l) ≤ 256) × (length l ≡ length (graphOf l) * 16)
+  unfolding checkGraph
+  passed-length =
+      let e = demanded (isGraphLength (length l)) _ _ (both-passed _ _ passed .0) in
+      let a = leb-true 1 (length l) (and-true-left (leb 1 (length l)) _ e) in
+      let w = and-true-right (leb 1 (length l)) _ e in
+      let b = eqb-true (length l % 16) 0 (and-true-left (eqb (length l % 16) 0) _ w) in
+      let c = leb-true (length l / 16) 256 (and-true-right (eqb (length l % 16) 0) _ w) in
+      let n = length-graph l in
+      (omega arith, omega arith, omega arith)
+
+  pub passed-at : (i : ℕ) → i < length (graphOf l) → GoodRecord (graphOf l) i (instructionAt (graphOf l) i)
+  unfolding checkGraph instructionAt
+  passed-at i h =
+      passed-record (graphOf l) i (getD (graphOf l) i (decode []))
+      (rw (zero-add i) at (each-passed (checkRecord (graphOf l)) 0 (graphOf l) (both-passed (demand (isGraphLength (length l)) GraphLength 0) _ passed .1) i h (decode [])))
+
+-- a port below an operand count is one of an instruction in the graph
+inside : (g : List Instruction) (i port : ℕ) → port < operandsAt g i → i < length g
+inside g i port p = go (ltb i (length g)) refl
+  where
+    go : (b : Bool) → ltb i (length g) ≡ b → i < length g
+    go true q = ltb-true i (length g) q
+    go false q = absurd (omega (arith, past g i (ltb-false i (length g) q)))
+
+-- an arc that is good ends in the graph
+pub good-arc : (g : List Instruction) (d : Destination) → goodArc g d ≡ true → (d .instruction < length g) × (d .port < operandsAt g (d .instruction))
+unfolding goodArc
+good-arc g d e = let p = ltb-true (d .port) (operandsAt g (d .instruction)) e in (inside g (d .instruction) (d .port) p, p)
+
+-- the destinations in use
+pub passed-arc : (g : List Instruction) (i : ℕ) (r : Instruction) → GoodRecord g i r → (k : ℕ) → k < length (destinations r) → (d : Destination)
+    → (getD (destinations r) k d .instruction < length g) × (getD (destinations r) k d .port < operandsAt g (getD (destinations r) k d .instruction))
+passed-arc g i r good k h d = good-arc g (getD (destinations r) k d) (all-at (goodArc g) (destinations r) (good .arcs) k h d)
+
+-- the constants of ENTER and LEAVE
+pub enter-constant : (g : List Instruction) (i : ℕ) (r : Instruction) → GoodRecord g i r → r .code ≡ 8
+    → (r .constant ≡ pos (natAbs (r .constant))) × (1 ≤ natAbs (r .constant)) × (natAbs (r .constant) ≤ 255)
+unfolding goodSite
+enter-constant g i r good e = within-is 1 255 (r .constant) (and-true-left (within 1 255 (r .constant)) _ (rw e at (good .site)))
+
+pub leave-constant : (g : List Instruction) (i : ℕ) (r : Instruction) → GoodRecord g i r → r .code ≡ 9
+    → (r .constant ≡ pos (natAbs (r .constant))) × (0 ≤ natAbs (r .constant)) × (natAbs (r .constant) ≤ 255)
+unfolding goodSite
+leave-constant g i r good e = within-is 0 255 (r .constant) (rw e at (good .site))
+
+-- the return of an ENTER is in the graph
+pub enter-return : (g : List Instruction) (i : ℕ) (r : Instruction) → GoodRecord g i r → r .code ≡ 8 → r .second .instruction < length g
+unfolding fanOutAllowed rowOf
+enter-return g i r good e =
+    let f = and-true-left (fanOutAllowed r) _ (good .fields) in
+    let a = leb-true 2 (r .fanout) (rw e at (and-true-left (leb (rowOf (r .code) .leastFanOut) (r .fanout)) _ f)) in
+    let b = leb-true (r .fanout) 2 (rw e at (and-true-right (leb (rowOf (r .code) .leastFanOut) (r .fanout)) _ f)) in
+    let n : r .fanout ≡ 2 = omega arith in
+    let arcs : all (goodArc g) (inUse 2 (r .first) (r .second)) ≡ true = rw n at (good .arcs) in
+    good-arc g (r .second) (all-at (goodArc g) (inUse 2 (r .first) (r .second)) arcs 1 (omega arith) (r .second)) .0
+
+-- a return that is found is some ENTER's
+found-return : (n site : ℕ) (rs : List Instruction) (d : Instruction) → ((k : ℕ) → k < length rs → getD rs k d .code ≡ 8 → getD rs k d .second .instruction < n)
+    → (i : ℕ) → returnOf site rs ≡ some i → i < n
+unfolding returnOf entersSite
+found-return n site [] d small i e = let z : _≡_ {A = ℕ} 0 1 = cc in absurd (omega arith)
+found-return n site (r ∷ rs) d small i e = go (entersSite (pos site) r) refl e (found-return n site rs d (λ k h. small (suc k) (omega arith)) i)
+  where
+    go : (b : Bool) → entersSite (pos site) r ≡ b → cond b (some (r .second .instruction)) (returnOf site rs) ≡ some i → (returnOf site rs ≡ some i → i < n) → i < n
+    go true p e later =
+        let s : r .second .instruction ≡ i = cc in
+        let h = small 0 (omega arith) (eqb-true (r .code) 8 (and-true-left (eqb (r .code) 8) _ p)) in
+        omega arith
+    go false p e later = later e
+
+pub return-inside : (l : List ℕ) → checkGraph l ≡ Passed → (site i : ℕ) → returnOf site (graphOf l) ≡ some i → i < length (graphOf l)
+unfolding instructionAt
+return-inside l passed site i e =
+    found-return (length (graphOf l)) site (graphOf l) (decode []) (λ k h c. enter-return (graphOf l) k (instructionAt (graphOf l) k) (passed-at l passed k h) c) i e
+
+-- so its entry in the table of returns is 1 more
+pub return-entry : (l : List ℕ) → checkGraph l ≡ Passed → (site i : ℕ) → returnOf site (graphOf l) ≡ some i → returnEntry (returnOf site (graphOf l)) ≡ suc i
+return-entry l passed site i e = rw (e, lt-ltb i 65535 (omega (arith, return-inside l passed site i e, passed-length l passed .1)))
+
+-- ---- the stores, by their lengths in bytes
+
+pub record GoodStores (inputs picks ledger cells : ℕ) : Type 0 where
+  pub inputRecords : (inputs % 20 ≡ 0) × (inputs / 20 ≤ 2048)
+  pub pickRecords : (picks % 2 ≡ 0) × (picks / 2 ≤ 2048)
+  pub tokenRecords : (ledger % 20 ≡ 0) × (ledger / 20 ≤ 2048)
+  pub cellRecords : (cells % 8 ≡ 0) × (cells / 8 ≤ 1024)
+
+passed-whole : (width most n : ℕ) → whole width most n ≡ true → (n % width ≡ 0) × (n / width ≤ most)
+passed-whole width most n e = (eqb-true (n % width) 0 (and-true-left (eqb (n % width) 0) _ e), leb-true (n / width) most (and-true-right (eqb (n % width) 0) _ e))
+
+pub passed-stores : (inputs picks ledger cells : ℕ) → checkStores inputs picks ledger cells ≡ Passed → GoodStores inputs picks ledger cells
+unfolding checkStores
+passed-stores inputs picks ledger cells e =
+    let a = demanded _ _ _ e in
+    let b = and-true-right (whole 20 2048 inputs) _ a in
+    let c = and-true-right (whole 2 2048 picks) _ b in
+    record {
+      inputRecords = passed-whole 20 2048 inputs (and-true-left (whole 20 2048 inputs) _ a);
+      pickRecords = passed-whole 2 2048 picks (and-true-left (whole 2 2048 picks) _ b);
+      tokenRecords = passed-whole 20 2048 ledger (and-true-left (whole 20 2048 ledger) _ c);
+      cellRecords = passed-whole 8 1024 cells (and-true-right (whole 20 2048 ledger) _ c);
+    }
+
+-- ---- the inputs
+
+-- an input record that passed
+pub record GoodInput (g : List Instruction) (l : List ℕ) : Type 0 where
+  pub path : number64 l 0 ≡ 0
+  pub iteration : byteAt l 8 ≡ 0
+  pub state : byteAt l 16 ≡ 0
+  pub zeros : (byteAt l 17 ≡ 0) × (byteAt l 18 ≡ 0) × (byteAt l 19 ≡ 0)
+  pub instruction : number16 l 10 < length g
+  pub port : byteAt l 9 < operandsAt g (number16 l 10)
+
+pub passed-input : (g : List Instruction) (l : List ℕ) → goodInput g l ≡ true → GoodInput g l
+unfolding goodInput isInput
+passed-input g l e =
+    let a = and-true-left (isInput l) _ e in
+    let b = and-true-right (eqb (number64 l 0) 0) _ a in
+    let z = eqb-true (number32 l 16) 0 (and-true-right (eqb (byteAt l 8) 0) _ b) in
+    let p = ltb-true (byteAt l 9) (operandsAt g (number16 l 10)) (and-true-right (isInput l) _ e) in
+    record {
+      path = eqb-true (number64 l 0) 0 (and-true-left (eqb (number64 l 0) 0) _ a);
+      iteration = eqb-true (byteAt l 8) 0 (and-true-left (eqb (byteAt l 8) 0) _ b);
+      state = omega arith;
+      zeros = (omega arith, omega arith, omega arith);
+      instruction = inside g (number16 l 10) (byteAt l 9) p;
+      port = p;
+    }
+
+pub record GoodInputs (g : List Instruction) (capacity : ℕ) (inputs : List ℕ) : Type 0 where
+  pub fit : length (tokensOf inputs) ≤ capacity
+  pub good : (i : ℕ) → i < length inputs / 20 → goodInput g (drop (i * 20) inputs) ≡ true
+  pub alone : (i : ℕ) → i < length inputs / 20 → secondInput (take i (tokensOf inputs)) (Tokens.tokenAt inputs i) ≡ false
+
+pub passed-inputs : (g : List Instruction) (capacity : ℕ) (inputs : List ℕ) → checkInputs g capacity inputs ≡ Passed → GoodInputs g capacity inputs
+unfolding checkInputs
+passed-inputs g capacity inputs e =
+    let a = both-passed _ _ e in
+    let b = both-passed _ _ (a .1) in
+    let n = length inputs / 20 in
+    record {
+      fit = leb-true _ _ (demanded _ _ _ (b .0));
+      good = λ i h.
+          sym (getD-rows 20 (goodInput g) n i inputs true h)
+          ∙ demanded _ BadInput (0 + i) (each-passed (λ k x. demand x BadInput k) 0 (allRows 20 (goodInput g) inputs) (a .0) i (omega (arith, length-rows 20 (goodInput g) n inputs)) true);
+      alone = λ i h.
+          let d = Tokens.decode [] in
+          let ts = tokensOf inputs in
+          let q : not (secondInput (take (0 + i) ts) (getD ts i d)) ≡ true =
+          demanded _ SecondToken (0 + i) (each-passed (λ k t. demand (not (secondInput (take k ts) t)) SecondToken k) 0 ts (b .1) i (omega (arith, length-tokens inputs)) d) in
+          not-true _ (rw (zero-add i, in-tokens inputs i h d) at q);
+    }
+
+-- ---- all of it
+
+pub passed-check : (graph inputs picks : List ℕ) (ledger cells : ℕ) → check graph inputs picks ledger cells ≡ Passed
+    → (checkGraph graph ≡ Passed) × (checkStores (length inputs) (length picks) ledger cells ≡ Passed) × (checkInputs (graphOf graph) (ledger / 20) inputs ≡ Passed)
+unfolding check
+passed-check graph inputs picks ledger cells e =
+    let a = both-passed (checkGraph graph) _ e in
+    let b = both-passed (checkStores (length inputs) (length picks) ledger cells) _ (a .1) in
+    (a .0, b .0, b .1)

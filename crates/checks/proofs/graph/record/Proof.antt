@@ -1,0 +1,15 @@
+-- `checks::graph::record` meets its contract. Each test is that of the rule. Assumes nothing.
+use borrow.Author.Needs.{needs}
+use Rattle.rules.specs.Check.{checkRecord}
+use Rattle.checks.proofs.graph.record.Statement.{statement}
+use Rattle.checks.proofs.graph.record.Tie as tie
+
+pub record-spec : {M : Type 1} → statement M
+unfolding checkRecord
+record-spec = tie.close (tie.spec
+    (λ c κs. search needs)
+    (λ c κs. search needs)
+    (λ c κs. search needs)
+    (λ c κs. search needs)
+    (λ c κs. search needs)
+    (λ c. rw (← c .before .before .before .before .operands .ensures, ← c .before .before .before .good2 .ensures, ← c .before .before .all-good .ensures, ← c .before .good3 .ensures _ (c .before .before .before .before .before .before .pre)) (c .first-fault .ensures)))

@@ -1,0 +1,64 @@
+-- `checks::graph::records` meets its contract. The invariant: the first i records passed, so that the rest decides, and the table has the sites of these i. Assumes nothing.
+use Prim.Native.Nat.{_≤_, _<_, _-_, _/_}
+use native.Mathlib.Omega.{arith}
+use mathlib.Core.Path.{_≡_, refl, sym, _∙_}
+use lib.ListN.{length, take, drop}
+use borrow.Author.Needs.{needs}
+use Rattle.record.specs.GraphRecords.{graphOf}
+use Rattle.rules.specs.Check.{inTurn, checkRecord}
+use Rattle.checks.specs.Sites.{Sites}
+use Rattle.checks.proofs.Turns.{stopped, take-next, turn, turn-end}
+use Rattle.checks.proofs.Passed.{passed-record}
+use Rattle.checks.proofs.Graphs.{length-graph, in-graph}
+use Rattle.checks.proofs.Sites.{no-sites, note-sites, length-at-site}
+use Rattle.checks.proofs.graph.records.Statement.{statement}
+use Rattle.checks.proofs.graph.records.Tie as tie
+
+abbrev Inv-loop : tie.InvT-loop
+Inv-loop graph sites₀ i₀ sites i =
+    (i ≤ length graph / 16)
+    × (inTurn (checkRecord (graphOf graph)) 0 (graphOf graph) ≡ inTurn (checkRecord (graphOf graph)) i (drop i (graphOf graph)))
+    × Sites (take i (graphOf graph)) sites
+    × (length sites ≡ 256)
+
+abbrev μ-loop : tie.MeasureT-loop
+μ-loop graph sites₀ i₀ sites i = length graph / 16 - i
+
+pub records-spec : {M : Type 1} → statement M
+records-spec = tie.close (tie.spec
+    Inv-loop
+    μ-loop
+    (λ c. (omega arith, refl, no-sites, refl))
+    (λ c κs. omega arith)
+    (λ c κs. c .before .before .before .loop .inv .2)
+    (λ c. search needs)
+    (λ c. search needs)
+    (λ c.
+    let l = c .before .before .before .before .before .before .loop in
+    let g = c .before .before .before .before .before .before .before .before .args .graph .now in
+    let r = c .before .before .before .before .instruction-at .result in
+    let h : l .i < length g / 16 = omega arith in
+    let e = in-graph g (l .i) h r ∙ sym (c .before .before .before .before .instruction-at .ensures) in
+    let t = l .inv .1 ∙ turn (checkRecord (graphOf g)) (graphOf g) (l .i) r (omega (arith, length-graph g)) e (sym (c .before .before .«record» .ensures)) in
+    stopped _ _ _ _ (c .enum-told2 .given .1) ∙ sym t)
+    (λ c κs. search needs)
+    (λ c. omega arith)
+    (λ c. omega arith)
+    (λ c.
+    let l = c .before .before .before .before .before .before .before .before .loop in
+    let g = c .before .before .before .before .before .before .before .before .before .before .args .graph .now in
+    let r = c .before .before .before .before .before .before .instruction-at .result in
+    let h : l .i < length g / 16 = omega arith in
+    let e = in-graph g (l .i) h r ∙ sym (c .before .before .before .before .before .before .instruction-at .ensures) in
+    let t = l .inv .1 ∙ turn (checkRecord (graphOf g)) (graphOf g) (l .i) r (omega (arith, length-graph g)) e (sym (c .before .before .before .before .«record» .ensures)) in
+    let p = c .before .before .enum-told .given .1 in
+    let good = passed-record (graphOf g) (l .i) r (sym (c .before .before .before .before .«record» .ensures) ∙ p) in
+    let n = note-sites (take (l .i) (graphOf g)) (l .sites) (l .inv .2) r (l .inv .3) (good .site) in (
+      omega arith,
+      t ∙ rw p,
+      rw (take-next (graphOf g) (l .i) r (omega (arith, length-graph g)) e, c .note .ensures) n,
+      rw (c .note .ensures) (length-at-site (l .sites) r _ ∙ l .inv .3),
+    ))
+    (λ c.
+    let g = c .before .before .before .args .graph .now in
+    sym (c .before .loop .inv .1 ∙ turn-end (checkRecord (graphOf g)) (graphOf g) (c .before .loop .i) (omega (arith, length-graph g)))))

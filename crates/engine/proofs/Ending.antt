@@ -1,0 +1,79 @@
+-- The end of a run: ledger and cells hold, in every byte, the machine's tokens and cells. Assumes nothing.
+use Prim.Native.Nat.{ℕ, zero, suc, _*_, _/_, _≤_}
+use mathlib.Core.Path.{_≡_, refl, sym, ap, _∙_}
+use mathlib.Core.List.{List, [], _∷_, _++_, map, append-nil}
+use native.Mathlib.Omega.{arith}
+use lib.ListN.{length, drop, length-map, drop-of-length-le}
+use lib.IntN.{ℤ}
+use Rattle.record.specs.declared.token.Token as Record
+use Rattle.record.specs.declared.token.Content as RecordContent
+use Rattle.record.specs.declared.token.Content.the-variants.{Live, Spent, Deferred}
+use Rattle.record.specs.declared.cell.Cell as RecordCell
+use Rattle.record.specs.declared.cell.Cell.the-variants.{Absent, Waiting, Present}
+use Rattle.record.specs.declared.instruction.Instruction.{Instruction}
+use Rattle.record.specs.Table.{joined, writtenOver}
+use Rattle.record.specs.TokensAndTags.{tokens, ledgerOf}
+use Rattle.record.specs.TokensAndTags as Tokens
+use Rattle.record.specs.Cells as Cells
+use Rattle.record.proofs.Tables.{length-rows, length-joined}
+use Rattle.record.proofs.Records.{length-token}
+use Rattle.matching.proofs.Laws.{matching-ledger}
+use Rattle.machine.specs.Machine.{Outcome, end}
+use Rattle.rules.specs.declared.answer.Refusal.{Refusal}
+use Rattle.rules.specs.Run.{contentHeld, contentRecord, tokenHeld, tokenRecord, cellRecord, outcomeOf}
+use Rattle.held.specs.Held.{cellHeld}
+use Rattle.outputs.specs.Outputs.{cellsIn}
+use Rattle.fire.specs.Running.{machineFor, stateIn, Running}
+use Rattle.engine.specs.Turns.{Left}
+
+-- ---- records and the machine's tokens and cells, there and back
+
+content-back : (x : RecordContent.Content) → contentRecord (contentHeld x) ≡ x
+content-back (Live v) = refl
+content-back (Spent v) = refl
+content-back (Deferred c) = refl
+
+tokens-back : (ts : List Record.Token) → map tokenRecord (map tokenHeld ts) ≡ ts
+tokens-back [] = refl
+tokens-back (t ∷ ts) = λ i. record { tag = t .tag; port = t .port; content = content-back (t .content) i } ∷ tokens-back ts i
+
+cell-back : (x : RecordCell.Cell) → cellRecord (cellHeld x) ≡ x
+cell-back Absent = refl
+cell-back Waiting = refl
+cell-back (Present v) = refl
+
+cells-back : (cs : List RecordCell.Cell) → map cellRecord (map cellHeld cs) ≡ cs
+cells-back [] = refl
+cells-back (c ∷ cs) = λ i. cell-back c i ∷ cells-back cs i
+
+-- ---- the end
+
+module _ (g : List Instruction) {arities heads next flags counts waiting later ledger′ cells′ : List ℕ} {n : ℕ}
+    (last : Running g arities heads next flags counts waiting later ledger′ cells′ n) (ledger cells : List ℕ)
+    (rest : drop (n * 20) ledger′ ≡ drop (n * 20) ledger) (cellSize : length cells′ ≡ length cells) where
+  size : length (tokens n ledger′) ≡ n
+  size = length-rows 20 Tokens.decode n ledger′
+
+  ledger-left : ledger′ ≡ ledgerOf (map tokenRecord (map tokenHeld (tokens n ledger′))) ledger
+  ledger-left =
+      let bytes : length (joined Tokens.encode (tokens n ledger′)) ≡ n * 20 = length-joined 20 Tokens.encode length-token (tokens n ledger′) ∙ ap (λ (k : ℕ). k * 20) size in
+      matching-ledger (last .matching)
+      ∙ ap (λ (l : List ℕ). joined Tokens.encode (tokens n ledger′) ++ l) (rest ∙ ap (λ (k : ℕ). drop k ledger) (sym bytes))
+      ∙ sym (ap (λ (ts : List Record.Token). ledgerOf ts ledger) (tokens-back (tokens n ledger′)))
+
+  cells-left : cells′ ≡ writtenOver Cells.encode (map cellRecord (map cellHeld (cellsIn cells′))) cells
+  cells-left =
+      let b = last .store .bytes in
+      let short : length cells ≤ length (joined Cells.encode (cellsIn cells′)) = omega (arith, ap length b, cellSize) in
+      let none : drop (length (joined Cells.encode (cellsIn cells′))) cells ≡ [] = drop-of-length-le cells short in
+      b
+      ∙ sym (append-nil (joined Cells.encode (cellsIn cells′)))
+      ∙ ap (λ (l : List ℕ). joined Cells.encode (cellsIn cells′) ++ l) (sym none)
+      ∙ sym (ap (λ (cs : List RecordCell.Cell). writtenOver Cells.encode cs cells) (cells-back (cellsIn cells′)))
+
+  pub left : (o : Outcome Refusal) (f : ℕ) → Left (end (machineFor g ledger cells) o f (stateIn ledger′ cells′ n)) (record { outcome = outcomeOf o; firings = f; tokens = n }) ledger cells ledger′ cells′
+  left o f = record {
+    answered = λ i. record { outcome = outcomeOf o; firings = f; tokens = sym (length-map (tokens n ledger′) tokenHeld ∙ size) i };
+    ledgerLeft = ledger-left;
+    cellsLeft = cells-left;
+  }

@@ -1,0 +1,133 @@
+-- The loop of a run: what holds after so many firings, and that a turn, a refusal, nothing enabled and a spent budget end it as the machine's run ends.
+-- Assumes nothing.
+use Prim.Native.Nat.{ℕ, zero, suc, _+_, _-_, _*_, _/_, _≤_, _<_}
+use mathlib.Core.Path.{_≡_, refl, sym, ap, _∙_, subst}
+use mathlib.Core.List.{List, [], _∷_}
+use native.Mathlib.Omega.{arith}
+use native.Mathlib.Numerals.{add-one}
+use lib.ListN.{length, drop}
+use lib.IntN.{ℤ}
+use Rattle.record.specs.declared.tag.Tag.{Tag}
+use Rattle.record.specs.declared.instruction.Instruction.{Instruction}
+use Rattle.record.specs.TokensAndTags.{tokens}
+use Rattle.enabled.specs.Enabled.{enabledPlaces}
+use Rattle.flags.specs.Flags.{places}
+use Rattle.machine.specs.Machine.{Machine, Outcome, completed, budgetSpent, End, laterPicks, byPicks, runBy, end}
+use Rattle.matching.proofs.Laws.{matching-places}
+use Rattle.accept.specs.Accept.{tailOf}
+use Rattle.accept.proofs.Laws.{tail-drop}
+use Rattle.outputs.proofs.Laws.{rest-on}
+use Rattle.rules.specs.declared.answer.Refusal.{Refusal}
+use Rattle.rules.specs.declared.answer.Outcome as AnswerOutcome
+use Rattle.rules.specs.InstructionSet.{machineOf}
+use Rattle.rules.specs.Run.{outcomeOf}
+use Rattle.held.specs.Held.{Arities}
+use Rattle.fire.specs.Running.{machineFor, stateIn, Running}
+use Rattle.engine.specs.Turns.{Advanced, Halted, Left, endOf, restOutcome}
+use Rattle.engine.proofs.Turning.{ended, spent-here}
+use Rattle.engine.proofs.Ending.{left}
+
+-- after so many firings, from a ledger and cells as lent
+pub record SoFar (g : List Instruction) (ledger₀ cells₀ : List ℕ) (start budget : ℕ) (picks arities heads next flags counts waiting later ledger cells : List ℕ) (used firings : ℕ) : Type 0 where
+  pub within : firings ≤ budget
+  pub running : Running g arities heads next flags counts waiting later ledger cells used
+  pub size : length ledger ≡ length ledger₀
+  pub rest : drop (used * 20) ledger ≡ drop (used * 20) ledger₀
+  pub cellSize : length cells ≡ length cells₀
+  -- the run that is left to do
+  pub toDo : endOf g ledger₀ cells₀ start budget picks
+      ≡ runBy (machineFor g ledger₀ cells₀) (byPicks (machineFor g ledger₀ cells₀)) (budget - firings) (drop firings picks) firings (stateIn ledger cells used)
+
+later-drop : (k : ℕ) (xs : List ℕ) → laterPicks (drop k xs) ≡ drop (suc k) xs
+later-drop k xs = go (drop k xs) ∙ tail-drop k xs
+  where
+    go : (ys : List ℕ) → laterPicks ys ≡ tailOf ys
+    go [] = refl
+    go (y ∷ ys) = refl
+
+module _ (g : List Instruction) (ledger₀ cells₀ : List ℕ) (start budget : ℕ) (picks : List ℕ) {arities heads next flags counts waiting later : List ℕ} where
+  pub begun : Running g arities heads next flags counts waiting later ledger₀ cells₀ start → SoFar g ledger₀ cells₀ start budget picks arities heads next flags counts waiting later ledger₀ cells₀ start 0
+  begun r = record {
+    within = omega arith;
+    running = r;
+    size = refl;
+    rest = refl;
+    cellSize = refl;
+    toDo = let e : budget ≡ budget - 0 = omega arith in ap (λ (b : ℕ). runBy (machineFor g ledger₀ cells₀) (byPicks (machineFor g ledger₀ cells₀)) b picks 0 (stateIn ledger₀ cells₀ start)) e;
+  }
+
+  module _ {ledger cells : List ℕ} {used firings : ℕ} (so : SoFar g ledger₀ cells₀ start budget picks arities heads next flags counts waiting later ledger cells used firings) where
+    abbrev M₀ : Machine
+    M₀ = machineFor g ledger₀ cells₀
+
+    -- what holds at the lengths of these buffers holds at those of the lent ones, which are the same
+    as-lent : (P : (capacity count : ℕ) → Type 0) → P (length ledger / 20) (length cells / 8) → P (length ledger₀ / 20) (length cells₀ / 8)
+    as-lent P h = subst (λ (b : ℕ). P (length ledger₀ / 20) (b / 8)) (so .cellSize) (subst (λ (b : ℕ). P (b / 20) (length cells / 8)) (so .size) h)
+
+    to-do : (b : ℕ) → budget - firings ≡ b → endOf g ledger₀ cells₀ start budget picks ≡ runBy M₀ (byPicks M₀) b (drop firings picks) firings (stateIn ledger cells used)
+    to-do b e = so .toDo ∙ ap (λ (n : ℕ). runBy M₀ (byPicks M₀) n (drop firings picks) firings (stateIn ledger cells used)) e
+
+    -- a turn that fired
+    pub advanced : firings < budget → (heads′ next′ flags′ counts′ waiting′ later′ ledger′ cells′ : List ℕ) (n : ℕ)
+        → Advanced g (drop firings picks) arities heads′ next′ flags′ counts′ waiting′ later′ ledger′ cells′ n used ledger cells
+        → SoFar g ledger₀ cells₀ start budget picks arities heads′ next′ flags′ counts′ waiting′ later′ ledger′ cells′ n (firings + 1)
+    advanced h heads′ next′ flags′ counts′ waiting′ later′ ledger′ cells′ n a =
+        let s = stateIn ledger cells used in
+        let s′ = stateIn ledger′ cells′ n in
+        let b = budget - suc firings in
+        let step : runBy M₀ (byPicks M₀) (suc b) (drop firings picks) firings s ≡ runBy M₀ (byPicks M₀) b (laterPicks (drop firings picks)) (suc firings) s′ =
+        as-lent
+        (λ p q. runBy (machineOf g p q) (byPicks (machineOf g p q)) (suc b) (drop firings picks) firings s ≡ runBy (machineOf g p q) (byPicks (machineOf g p q)) b (laterPicks (drop firings picks)) (suc firings) s′)
+        (a .goesOn b firings) in
+        let then : runBy M₀ (byPicks M₀) b (laterPicks (drop firings picks)) (suc firings) s′ ≡ runBy M₀ (byPicks M₀) b (drop (suc firings) picks) (suc firings) s′ =
+        ap (λ (ps : List ℕ). runBy M₀ (byPicks M₀) b ps (suc firings) s′) (later-drop firings picks) in
+        record {
+          within = omega arith;
+          running = a .running;
+          size = a .size ∙ so .size;
+          rest = a .rest ∙ rest-on ledger ledger₀ used n (a .grown) (so .rest);
+          cellSize = a .cellSize ∙ so .cellSize;
+          toDo = rw (add-one firings) (to-do (suc b) (omega arith) ∙ step ∙ then);
+        }
+
+    ends-as : (o : Outcome Refusal) (w : AnswerOutcome.Outcome) {heads′ next′ flags′ counts′ waiting′ later′ ledger′ cells′ : List ℕ} → outcomeOf o ≡ w
+        → endOf g ledger₀ cells₀ start budget picks ≡ end M₀ o firings (stateIn ledger cells used)
+        → Running g arities heads′ next′ flags′ counts′ waiting′ later′ ledger′ cells′ used → ledger′ ≡ ledger → cells′ ≡ cells
+        → Left (endOf g ledger₀ cells₀ start budget picks) (record { outcome = w; firings = firings; tokens = used }) ledger₀ cells₀ ledger′ cells′
+    ends-as o w {ledger′ = ledger′} {cells′ = cells′} told e r l c =
+        let there : end M₀ o firings (stateIn ledger′ cells′ used) ≡ endOf g ledger₀ cells₀ start budget picks =
+        (λ i. end M₀ o firings (stateIn (l i) (c i) used)) ∙ sym e in
+        subst (λ (x : AnswerOutcome.Outcome). Left (endOf g ledger₀ cells₀ start budget picks) (record { outcome = x; firings = firings; tokens = used }) ledger₀ cells₀ ledger′ cells′) told
+        (subst (λ (x : End Refusal Tag ℤ). Left x (record { outcome = outcomeOf o; firings = firings; tokens = used }) ledger₀ cells₀ ledger′ cells′) there
+        (left g r ledger₀ cells₀ (ap (drop (used * 20)) l ∙ so .rest) (ap length c ∙ so .cellSize) o firings))
+
+    -- a turn that ended the run
+    pub halted : firings < budget → (o : AnswerOutcome.Outcome) (heads′ next′ flags′ counts′ waiting′ later′ ledger′ cells′ : List ℕ)
+        → Halted o g (drop firings picks) arities heads′ next′ flags′ counts′ waiting′ later′ ledger′ cells′ used ledger cells
+        → Left (endOf g ledger₀ cells₀ start budget picks) (record { outcome = o; firings = firings; tokens = used }) ledger₀ cells₀ ledger′ cells′
+    halted h o heads′ next′ flags′ counts′ waiting′ later′ ledger′ cells′ a =
+        let s = stateIn ledger cells used in
+        let b = budget - suc firings in
+        let step : runBy M₀ (byPicks M₀) (suc b) (drop firings picks) firings s ≡ end M₀ (a .outcome) firings s =
+        as-lent (λ p q. runBy (machineOf g p q) (byPicks (machineOf g p q)) (suc b) (drop firings picks) firings s ≡ end (machineOf g p q) (a .outcome) firings s) (a .ends b firings) in
+        ends-as (a .outcome) o (a .told) (to-do (suc b) (omega arith) ∙ step) (a .running) (a .sameLedger) (a .sameCells)
+
+    -- the budget is spent
+    pub finished : budget ≤ firings → Arities g arities → (w : AnswerOutcome.Outcome) → w ≡ restOutcome (length (places flags))
+        → Left (endOf g ledger₀ cells₀ start budget picks) (record { outcome = w; firings = firings; tokens = used }) ledger₀ cells₀ ledger cells
+    finished h right w e = go (length (places flags)) refl
+      where
+        same : length (places flags) ≡ length (enabledPlaces arities (tokens used ledger))
+        same = ap length (matching-places (so .running .matching))
+
+        go : (n : ℕ) → length (places flags) ≡ n → Left (endOf g ledger₀ cells₀ start budget picks) (record { outcome = w; firings = firings; tokens = used }) ledger₀ cells₀ ledger cells
+        go zero z =
+            let s = stateIn ledger cells used in
+            let stop = as-lent (λ p q. runBy (machineOf g p q) (byPicks (machineOf g p q)) 0 (drop firings picks) firings s ≡ end (machineOf g p q) completed firings s)
+            (ended g arities right ledger cells used (so .running .arrived) 0 (drop firings picks) firings (sym same ∙ z)) in
+            ends-as completed w (sym (e ∙ ap restOutcome z)) (to-do 0 (omega arith) ∙ stop) (so .running) refl refl
+        go (suc n) z =
+            let s = stateIn ledger cells used in
+            let stop = as-lent (λ p q. runBy (machineOf g p q) (byPicks (machineOf g p q)) 0 (drop firings picks) firings s ≡ end (machineOf g p q) budgetSpent firings s)
+            (spent-here g arities right ledger cells used (so .running .arrived) (drop firings picks) firings (λ q. let y : suc n ≡ 0 = sym z ∙ same ∙ q in omega arith)) in
+            ends-as budgetSpent w (sym (e ∙ ap restOutcome z)) (to-do 0 (omega arith) ∙ stop) (so .running) refl refl

@@ -1,0 +1,190 @@
+-- A turn of the run: what is enabled by the arrays is what the machine has enabled, and the activity that a pick takes is the one that fires.
+-- Assumes nothing.
+use Prim.Native.Nat.{ℕ, zero, suc, _+_, _*_, _/_, _%_, _≤_, _<_}
+use mathlib.Core.Path.{_≡_, refl, sym, ap, _∙_, subst}
+use mathlib.Core.Bool.{Bool, true, false, cond}
+use mathlib.Core.List.{List, [], _∷_, _++_, map}
+use native.Mathlib.Omega.{arith}
+use native.Mathlib.Nat.{mod-lt}
+use lib.ListN.{length, getD, drop, length-map}
+use lib.Dec.{eqb}
+use lib.IntN.{ℤ}
+use Rattle.record.specs.declared.tag.Tag.{Tag}
+use Rattle.record.specs.declared.token.Token as Record
+use Rattle.record.specs.declared.instruction.Instruction.{Instruction}
+use Rattle.record.specs.Table.{All}
+use Rattle.record.specs.GraphRecords.{operandsOf, graphOf}
+use Rattle.record.specs.TokensAndTags.{tokens, tokenAt}
+use Rattle.record.specs.TokensAndTags as Tokens
+use Rattle.record.proofs.Tables.{getD-rows}
+use Rattle.flags.specs.Flags.{places}
+use Rattle.matching.proofs.Laws.{matching-places, matching-enabled-below}
+use Rattle.accept.specs.Accept.{headOr0}
+use Rattle.accept.proofs.Laws.{head-drop}
+use Rattle.enabled.specs.Enabled.{enabledPlaces}
+use Rattle.machine.specs.Machine.{Machine, State, Activity, Outcome, completed, budgetSpent, enabled, firstPick, laterPicks, pickOf, byPicks, runBy, end, fire, fired, notFired}
+use Rattle.machine.specs.Machine as Machines
+use Rattle.machine.proofs.Orders.{runEmpty, runZero, runFired, runRefused}
+use Rattle.rules.specs.declared.answer.Refusal.{Refusal}
+use Rattle.rules.specs.declared.answer.Outcome.the-variants as Outcomes
+use Rattle.rules.specs.Check.{instructionAt, operandsAt}
+use Rattle.rules.specs.InstructionSet.{arityIn}
+use Rattle.rules.specs.Run.{picksOf}
+use Rattle.held.specs.Held.{noToken, stateHeld, Arities, OnPorts}
+use Rattle.held.proofs.Enabled.{held-enabled}
+use Rattle.outputs.specs.Outputs.{cellsIn}
+use Rattle.fire.specs.Running.{machineFor, stateIn, Arrived, Running, Went, Stopped, Prepared}
+use Rattle.engine.specs.Turns.{Advanced, Halted}
+
+-- ---- ports
+
+on-port : (g : List Instruction) (t : Record.Token) → t .port < operandsAt g (t .tag .instruction) → 0 < arityIn g (t .tag) → t .port < arityIn g (t .tag)
+unfolding arityIn operandsAt
+on-port g t h k = go (eqb (instructionAt g (t .tag .instruction) .code) 3) k
+  where
+    go : (b : Bool) → 0 < cond b 0 (operandsOf (instructionAt g (t .tag .instruction) .code)) → t .port < cond b 0 (operandsOf (instructionAt g (t .tag .instruction) .code))
+    go true l = absurd (omega arith)
+    go false l = h
+
+pub on-ports : (g : List Instruction) (ts : List Record.Token) → Arrived g ts → OnPorts g ts
+on-ports g [] a = tt
+on-ports g (t ∷ ts) a = (on-port g t (a .0), on-ports g ts (a .1))
+
+-- ---- picks
+
+getD-map : {A B : Type 0} (f : A → B) (xs : List A) (k : ℕ) (d : A) (e : B) → k < length xs → getD (map f xs) k e ≡ f (getD xs k d)
+getD-map f [] k d e h = absurd (omega arith)
+getD-map f (x ∷ xs) zero d e h = refl
+getD-map f (x ∷ xs) (suc k) d e h = getD-map f xs k d e (omega arith)
+
+module _ (g : List Instruction) (arities : List ℕ) (right : Arities g arities) (ledger cells : List ℕ) (used : ℕ) (arrived : Arrived g (tokens used ledger)) where
+  abbrev M : Machine
+  M = machineFor g ledger cells
+
+  abbrev s : State Tag ℤ
+  s = stateIn ledger cells used
+
+  abbrev activity : ℕ → Activity Tag
+  activity p = record { place = p; tag = getD (tokens used ledger) p noToken .tag }
+
+  enabled-here : enabled M s ≡ map activity (enabledPlaces arities (tokens used ledger))
+  enabled-here = held-enabled g (length ledger / 20) (length cells / 8) arities (tokens used ledger) (cellsIn cells) noToken right (on-ports g (tokens used ledger) arrived)
+
+  -- nothing is enabled
+  pub ended : (b : ℕ) (picks : List ℕ) (f : ℕ) → length (enabledPlaces arities (tokens used ledger)) ≡ 0 → runBy M (byPicks M) b picks f s ≡ end M completed f s
+  ended b picks f e = runEmpty M (byPicks M) b picks f s (enabled-here ∙ go (enabledPlaces arities (tokens used ledger)) e)
+    where
+      go : (l : List ℕ) → length l ≡ 0 → map activity l ≡ []
+      go [] h = refl
+      go (p ∷ l) h = absurd (omega arith)
+
+  -- something is, and the budget is spent
+  pub spent-here : (picks : List ℕ) (f : ℕ) → (length (enabledPlaces arities (tokens used ledger)) ≡ 0 → ⊥) → runBy M (byPicks M) 0 picks f s ≡ end M budgetSpent f s
+  spent-here picks f n = go (enabledPlaces arities (tokens used ledger)) refl n
+    where
+      go : (l : List ℕ) → enabledPlaces arities (tokens used ledger) ≡ l → (length l ≡ 0 → ⊥) → runBy M (byPicks M) 0 picks f s ≡ end M budgetSpent f s
+      go [] e h = absurd (h refl)
+      go (p ∷ l) e h = runZero M (byPicks M) picks f s (activity p) (map activity l) (enabled-here ∙ ap (map activity) e)
+
+  -- the activity that a pick takes, of as many as there are
+  picked : (pick : ℕ) (p : ℕ) (l : List ℕ) → pickOf M pick (activity p) (map activity l) ≡ activity (getD (p ∷ l) (pick % length (p ∷ l)) 0)
+  picked pick p l =
+      let size : length (map activity (p ∷ l)) ≡ length (p ∷ l) = length-map (p ∷ l) activity in
+      ap (λ (n : ℕ). getD (activity p ∷ map activity l) (pick % n) (activity p)) size ∙ getD-map activity (p ∷ l) (pick % length (p ∷ l)) 0 (activity p) (mod-lt pick (omega arith))
+
+  module _ (picks : List ℕ) (place : ℕ) (some : length (enabledPlaces arities (tokens used ledger)) ≡ 0 → ⊥)
+      (chosen : place ≡ getD (enabledPlaces arities (tokens used ledger)) (firstPick picks % length (enabledPlaces arities (tokens used ledger))) 0) where
+    pub goes-on : (x : State Tag ℤ) → fire M s (getD (tokens used ledger) place noToken .tag) ≡ fired x → (b f : ℕ) → runBy M (byPicks M) (suc b) picks f s ≡ runBy M (byPicks M) b (laterPicks picks) (suc f) x
+    goes-on x e b f = go (enabledPlaces arities (tokens used ledger)) refl some chosen
+      where
+        go : (l : List ℕ) → enabledPlaces arities (tokens used ledger) ≡ l → (length l ≡ 0 → ⊥) → place ≡ getD l (firstPick picks % length l) 0
+            → runBy M (byPicks M) (suc b) picks f s ≡ runBy M (byPicks M) b (laterPicks picks) (suc f) x
+        go [] q h c = absurd (h refl)
+        go (p ∷ l) q h c =
+            runFired M (byPicks M) b picks f s x (activity p) (map activity l) (enabled-here ∙ ap (map activity) q)
+            (ap (λ (a : Activity Tag). fire M s (a .tag)) (picked (firstPick picks) p l ∙ ap activity (sym c)) ∙ e)
+
+    pub halts : (r : Refusal) → fire M s (getD (tokens used ledger) place noToken .tag) ≡ notFired r → (b f : ℕ) → runBy M (byPicks M) (suc b) picks f s ≡ end M (Machines.refused r place) f s
+    halts r e b f = go (enabledPlaces arities (tokens used ledger)) refl some chosen
+      where
+        go : (l : List ℕ) → enabledPlaces arities (tokens used ledger) ≡ l → (length l ≡ 0 → ⊥) → place ≡ getD l (firstPick picks % length l) 0
+            → runBy M (byPicks M) (suc b) picks f s ≡ end M (Machines.refused r place) f s
+        go [] q h c = absurd (h refl)
+        go (p ∷ l) q h c =
+            let pick = picked (firstPick picks) p l ∙ ap activity (sym c) in
+            runRefused M (byPicks M) b picks f s (activity p) (map activity l) r (enabled-here ∙ ap (map activity) q) (ap (λ (a : Activity Tag). fire M s (a .tag)) pick ∙ e)
+            ∙ ap (λ (a : Activity Tag). end M (Machines.refused r (a .place)) f s) pick
+
+-- ---- what the code finds
+
+first-pick : (k : ℕ) (xs : List ℕ) → firstPick (drop k xs) ≡ getD xs k 0
+first-pick k xs = go (drop k xs) ∙ head-drop k xs
+  where
+    go : (ys : List ℕ) → firstPick ys ≡ headOr0 ys
+    go [] = refl
+    go (y ∷ ys) = refl
+
+module _ (graph returns picks : List ℕ) {arities heads next flags counts waiting later ledger cells : List ℕ} {used : ℕ} (ready : Prepared graph returns arities)
+    (now : Running (graphOf graph) arities heads next flags counts waiting later ledger cells used) (firings : ℕ) where
+  abbrev later-picks : List ℕ
+  later-picks = drop firings (picksOf picks)
+
+  count : (e : ℕ) → e ≡ length (places flags) → e ≡ length (enabledPlaces arities (tokens used ledger))
+  count e h = h ∙ ap length (matching-places (now .matching))
+
+  pub turn-none : (e : ℕ) → e ≡ length (places flags) → e ≡ 0 → Halted Outcomes.Completed (graphOf graph) later-picks arities heads next flags counts waiting later ledger cells used ledger cells
+  turn-none e h z = record {
+    outcome = completed;
+    told = refl;
+    ends = λ b f. ended (graphOf graph) arities (ready .aritiesRight) ledger cells used (now .arrived) (suc b) later-picks f (sym (count e h) ∙ z);
+    running = now;
+    sameLedger = refl;
+    sameCells = refl;
+  }
+
+  module _ (e pick place : ℕ) (all : e ≡ length (places flags)) (some : e ≡ 0 → ⊥) (here : pick ≡ getD (picksOf picks) firings 0) (taken : place ≡ getD (places flags) (pick % e) 0) where
+    chosen : place ≡ getD (enabledPlaces arities (tokens used ledger)) (firstPick later-picks % length (enabledPlaces arities (tokens used ledger))) 0
+    chosen =
+        taken
+        ∙ ap (λ (l : List ℕ). getD l (pick % e) 0) (matching-places (now .matching))
+        ∙ ap (λ (n : ℕ). getD (enabledPlaces arities (tokens used ledger)) (n % e) 0) (here ∙ sym (first-pick firings (picksOf picks)))
+        ∙ ap (λ (n : ℕ). getD (enabledPlaces arities (tokens used ledger)) (firstPick later-picks % n) 0) (count e all)
+
+    pub below : pick % e < length (places flags)
+    below = subst (λ (n : ℕ). pick % e < n) all (mod-lt pick (omega arith))
+
+    pub place-below : place < used
+    place-below =
+        let k = subst (λ (n : ℕ). pick % e < n) (count e all) (mod-lt pick (omega arith)) in
+        subst (λ (n : ℕ). n < used) (sym (taken ∙ ap (λ (l : List ℕ). getD l (pick % e) 0) (matching-places (now .matching)))) (matching-enabled-below (now .matching) (pick % e) k)
+
+    enabled-some : length (enabledPlaces arities (tokens used ledger)) ≡ 0 → ⊥
+    enabled-some z = some (count e all ∙ z)
+
+    that-tag : tokenAt ledger place .tag ≡ getD (tokens used ledger) place noToken .tag
+    that-tag = ap (λ (t : Record.Token). t .tag) (sym (getD-rows 20 Tokens.decode used place ledger noToken place-below))
+
+    module _ {heads′ next′ flags′ counts′ waiting′ later′ ledger′ cells′ : List ℕ} where
+      pub turn-done : {n : ℕ} → Went (graphOf graph) (tokenAt ledger place .tag) arities heads′ next′ flags′ counts′ waiting′ later′ ledger′ cells′ n used ledger cells
+          → Advanced (graphOf graph) later-picks arities heads′ next′ flags′ counts′ waiting′ later′ ledger′ cells′ n used ledger cells
+      turn-done w = record {
+        goesOn = goes-on (graphOf graph) arities (ready .aritiesRight) ledger cells used (now .arrived) later-picks place enabled-some chosen _
+            (ap (fire (machineFor (graphOf graph) ledger cells) (stateIn ledger cells used)) (sym that-tag) ∙ w .step);
+        running = w .running;
+        grown = w .grown;
+        size = w .size;
+        rest = w .rest;
+        cellSize = w .cellSize;
+      }
+
+      pub turn-refused : {r : Refusal} → Stopped r (graphOf graph) (tokenAt ledger place .tag) arities heads′ next′ flags′ counts′ waiting′ later′ ledger′ cells′ used ledger cells
+          → Halted (Outcomes.Refused r place) (graphOf graph) later-picks arities heads′ next′ flags′ counts′ waiting′ later′ ledger′ cells′ used ledger cells
+      turn-refused {r} w = record {
+        outcome = Machines.refused r place;
+        told = refl;
+        ends = halts (graphOf graph) arities (ready .aritiesRight) ledger cells used (now .arrived) later-picks place enabled-some chosen r
+            (ap (fire (machineFor (graphOf graph) ledger cells) (stateIn ledger cells used)) (sym that-tag) ∙ w .step);
+        running = w .running;
+        sameLedger = w .sameLedger;
+        sameCells = w .sameCells;
+      }

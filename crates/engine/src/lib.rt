@@ -1,0 +1,139 @@
+// The engine: a graph and its inputs are checked, and fired under picks.
+use commit::Fired;
+use rules::answer::Answer;
+use rules::answer::Checked;
+use rules::answer::Outcome;
+ghost use Prim.Native.Nat.{ℕ, _/_, _≤_, _<_};
+ghost use mathlib.Core.Path.{_≡_};
+ghost use lib.ListN.{length, drop};
+ghost use Rattle.record.specs.GraphRecords.{graphOf};
+ghost use Rattle.flags.specs.Flags.{Counted, places};
+ghost use Rattle.rules.specs.Check.{checkGraph};
+ghost use Rattle.rules.specs.Run.{picksOf, result, Ran};
+ghost use Rattle.fire.specs.Running.{Prepared, Running};
+ghost use Rattle.engine.specs.Turns.{Turned, Left, restOutcome, endOf};
+
+// What a turn of a run comes to: an activity fired and left so many tokens, or the run is at its end.
+pub enum Turn {
+    Fired(usize),
+    Ended(Outcome),
+}
+
+// The activity that the pick takes fires, if one is enabled.
+fn take_turn(
+    graph: &[u8],
+    returns: &[u16; 256],
+    picks: &[u8],
+    firings: usize,
+    arities: &[u8],
+    heads: &mut [u16; 4096],
+    next: &mut [u16; 2048],
+    flags: &mut [u8; 2048],
+    counts: &mut [u8; 32],
+    waiting: &mut [u16; 1024],
+    later: &mut [u16; 2048],
+    ledger: &mut [u8],
+    cells: &mut [u8],
+    used: usize,
+) -> Turn
+    requires { ⌜ Prepared (now graph) (now returns) (now arities) × Running (graphOf (now graph)) (now arities) (now heads) (now next) (now flags) (now counts) (now waiting) (now later) (now ledger) (now cells) used ⌝ }
+    ensures { λ r. ⌜ Turned r (graphOf (now (graph .entry))) (drop firings (picksOf (now (picks .entry)))) (now (arities .entry)) (now (heads .exit)) (now (next .exit)) (now (flags .exit)) (now (counts .exit)) (now (waiting .exit)) (now (later .exit)) (now (ledger .exit)) (now (cells .exit)) used (now (ledger .entry)) (now (cells .entry)) ⌝ }
+{
+    let e = matching::enabled_count(flags, counts);
+    if e == 0 {
+        return Turn::Ended(Outcome::Completed);
+    }
+    let number = accept::pick_at(picks, firings) % e;
+    let place = matching::enabled_at(flags, counts, number);
+    let fired = fire::fire(
+        graph,
+        returns,
+        arities,
+        heads,
+        next,
+        flags,
+        counts,
+        waiting,
+        later,
+        ledger,
+        cells,
+        used,
+        place,
+    );
+    match fired {
+        Fired::Done(n) => Turn::Fired(n),
+        Fired::Refused(r) => Turn::Ended(Outcome::Refused(r, place)),
+    }
+}
+
+// How a run ends whose budget is spent: completed is tried first.
+fn rest(flags: &[u8; 2048], counts: &[u8; 32]) -> Outcome
+    requires { ⌜ Counted (now flags) (now counts) ⌝ }
+    ensures { λ r. ⌜ r ≡ restOutcome (length (places (now (flags .entry)))) ⌝ }
+{
+    if matching::enabled_count(flags, counts) == 0 {
+        Outcome::Completed
+    } else {
+        Outcome::Spent
+    }
+}
+
+// A run goes on from a state, with picks and a budget.
+fn proceed(
+    graph: &[u8],
+    returns: &[u16; 256],
+    picks: &[u8],
+    budget: usize,
+    arities: &[u8],
+    heads: &mut [u16; 4096],
+    next: &mut [u16; 2048],
+    flags: &mut [u8; 2048],
+    counts: &mut [u8; 32],
+    waiting: &mut [u16; 1024],
+    later: &mut [u16; 2048],
+    ledger: &mut [u8],
+    cells: &mut [u8],
+    start: usize,
+) -> Answer
+    requires { ⌜ Prepared (now graph) (now returns) (now arities) × Running (graphOf (now graph)) (now arities) (now heads) (now next) (now flags) (now counts) (now waiting) (now later) (now ledger) (now cells) start ⌝ }
+    ensures { λ r. ⌜ Left (endOf (graphOf (now (graph .entry))) (now (ledger .entry)) (now (cells .entry)) start budget (picksOf (now (picks .entry)))) r (now (ledger .entry)) (now (cells .entry)) (now (ledger .exit)) (now (cells .exit)) ⌝ }
+{
+    let mut used = start;
+    let mut firings = 0;
+    while firings < budget {
+        let turned = take_turn(
+            graph,
+            returns,
+            picks,
+            firings,
+            arities,
+            heads,
+            next,
+            flags,
+            counts,
+            waiting,
+            later,
+            ledger,
+            cells,
+            used,
+        );
+        match turned {
+            Turn::Fired(n) => {
+                used = n;
+                firings += 1;
+            }
+            Turn::Ended(outcome) => {
+                return Answer {
+                    outcome,
+                    firings,
+                    tokens: used,
+                };
+            }
+        }
+    }
+    Answer {
+        outcome: rest(flags, counts),
+        firings,
+        tokens: used,
+    }
+}
