@@ -4,6 +4,7 @@ use record::instruction;
 use record::instruction::Instruction;
 use record::operation;
 ghost use mathlib.Core.Path.{_≡_};
+ghost use lib.ListN.{length};
 ghost use mathlib.Core.Option.{some};
 ghost use Rattle.record.specs.GraphRecords.{graphOf};
 ghost use Rattle.record.specs.TokensAndTags.{rootOf};
@@ -29,7 +30,7 @@ fn arity_at(graph: &[u8], i: usize) -> u8
 
 // The operand counts.
 pub fn arities(graph: &[u8], out: &mut [u8; 256])
-    ensures { λ _. ⌜ Arities (graphOf (now (graph .entry))) (now (out .exit)) ⌝ }
+    ensures { λ _. ⌜ Arities (graphOf (now (graph .entry))) (now (out .exit)) × (length (now (out .exit)) ≡ 256) ⌝ }
 {
     *out = [0u8; 256];
     let mut i = 0;

@@ -1,4 +1,6 @@
 // The engine: a graph and its inputs are checked, and fired under picks.
+use checks::graph;
+use checks::tables;
 use commit::Fired;
 use rules::answer::Answer;
 use rules::answer::Checked;
@@ -8,9 +10,11 @@ ghost use mathlib.Core.Path.{_≡_};
 ghost use lib.ListN.{length, drop};
 ghost use Rattle.record.specs.GraphRecords.{graphOf};
 ghost use Rattle.flags.specs.Flags.{Counted, places};
-ghost use Rattle.rules.specs.Check.{checkGraph};
-ghost use Rattle.rules.specs.Run.{picksOf, result, Ran};
-ghost use Rattle.fire.specs.Running.{Prepared, Running};
+ghost use Rattle.machine.specs.Machine.{run as Machine·run};
+ghost use Rattle.rules.specs.declared.answer.Checked.the-variants.{Passed};
+ghost use Rattle.rules.specs.Check.{checkGraph, check};
+ghost use Rattle.rules.specs.Run.{picksOf, firstState, result, Ran};
+ghost use Rattle.fire.specs.Running.{machineFor, Prepared, Running};
 ghost use Rattle.engine.specs.Turns.{Turned, Left, restOutcome, endOf};
 
 // What a turn of a run comes to: an activity fired and left so many tokens, or the run is at its end.
@@ -135,5 +139,87 @@ fn proceed(
         outcome: rest(flags, counts),
         firings,
         tokens: used,
+    }
+}
+
+// A run that passed every check: all cells are set absent, the inputs go into the ledger, and it
+// proceeds.
+fn accepted(
+    graph: &[u8],
+    inputs: &[u8],
+    picks: &[u8],
+    budget: usize,
+    ledger: &mut [u8],
+    cells: &mut [u8],
+) -> Answer
+    requires { ⌜ check (now graph) (now inputs) (now picks) (length (now ledger)) (length (now cells)) ≡ Passed ⌝ }
+    ensures { λ r. ⌜ Left (Machine·run (machineFor (graphOf (now (graph .entry))) (now (ledger .entry)) (now (cells .entry))) budget (picksOf (now (picks .entry))) (firstState (now (inputs .entry)) (length (now (cells .entry)) / 8))) r (now (ledger .entry)) (now (cells .entry)) (now (ledger .exit)) (now (cells .exit)) ⌝ }
+{
+    let mut arities = [0u8; 256];
+    let mut returns = [0u16; 256];
+    let mut heads = [0u16; 4096];
+    let mut next = [0u16; 2048];
+    let mut flags = [0u8; 2048];
+    let mut counts = [0u8; 32];
+    let mut waiting = [0u16; 1024];
+    let mut later = [0u16; 2048];
+    tables::arities(graph, &mut arities);
+    tables::returns(graph, &mut returns);
+    accept::clear(cells);
+    let used = accept::inputs(
+        &arities,
+        &mut heads,
+        &mut next,
+        &mut flags,
+        &mut counts,
+        &mut waiting,
+        &mut later,
+        ledger,
+        inputs,
+    );
+    proceed(
+        graph,
+        &returns,
+        picks,
+        budget,
+        &arities,
+        &mut heads,
+        &mut next,
+        &mut flags,
+        &mut counts,
+        &mut waiting,
+        &mut later,
+        ledger,
+        cells,
+        used,
+    )
+}
+
+// Refusals 1 to 5, without a run.
+pub fn check_graph(graph: &[u8]) -> Checked
+    ensures { λ r. ⌜ r ≡ checkGraph (now (graph .entry)) ⌝ }
+{
+    graph::check(graph)
+}
+
+// A run over lent bytes: its answer, and what it leaves in ledger and cells, are what the rules give.
+pub fn run(
+    graph: &[u8],
+    inputs: &[u8],
+    picks: &[u8],
+    budget: u16,
+    ledger: &mut [u8],
+    cells: &mut [u8],
+) -> Answer
+    ensures { λ r. ⌜ Ran (result (now (graph .entry)) (now (inputs .entry)) (now (picks .entry)) budget (length (now (ledger .entry))) (length (now (cells .entry)))) r (now (ledger .entry)) (now (ledger .exit)) (now (cells .entry)) (now (cells .exit)) ⌝ }
+{
+    let checked = checks::check(graph, inputs, picks, ledger.len(), cells.len());
+    match checked {
+        Checked::Failed(r, place) => Answer {
+            outcome: Outcome::Refused(r, place),
+            firings: 0,
+            tokens: 0,
+        },
+        Checked::Passed => accepted(graph, inputs, picks, budget as usize, ledger, cells),
     }
 }

@@ -33,4 +33,4 @@ arities-spec = tie.close (tie.spec
       length-set (l .out) (l .i) (c .arity-at .result) ∙ l .inv .1,
       entry-next (λ k. arityIn (graphOf (c .before .before .before .before .before .args .graph .now)) (rootOf k)) (l .out) (l .i) (c .arity-at .result) (omega arith) (l .inv .2) (c .arity-at .ensures),
     ))
-    (λ c. λ τ h. c .before .loop .inv .2 (τ .instruction) (omega arith)))
+    (λ c. ((λ τ h. c .before .loop .inv .2 (τ .instruction) (omega arith)), c .before .loop .inv .1)))
