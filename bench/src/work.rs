@@ -1,0 +1,292 @@
+//! The graphs that are measured, each for a number of tokens.
+
+const COPY: u8 = 1;
+const OUT: u8 = 3;
+const CONST: u8 = 4;
+const SWITCH: u8 = 5;
+const GATE: u8 = 6;
+const NEXT: u8 = 7;
+const ENTER: u8 = 8;
+const LEAVE: u8 = 9;
+const FETCH: u8 = 10;
+const STORE: u8 = 11;
+const ADD: u8 = 16;
+const MUL: u8 = 18;
+const ADD_CONSTANT: u8 = 32;
+const SUB_CONSTANT: u8 = 33;
+const LT_CONSTANT: u8 = 37;
+const LE_CONSTANT: u8 = 38;
+
+/// A graph with its inputs.
+#[derive(Default)]
+pub struct Work {
+    pub graph: Vec<u8>,
+    pub inputs: Vec<u8>,
+}
+
+impl Work {
+    /// Adds an instruction; its arcs are drawn later.
+    fn add(&mut self, code: u8, constant: i32) -> u16 {
+        let number = (self.graph.len() / 16) as u16;
+        let mut record = [0; 16];
+        record[0] = code;
+        record[8..12].copy_from_slice(&constant.to_le_bytes());
+        self.graph.extend(record);
+        number
+    }
+
+    /// Draws the next arc of an instruction.
+    fn arc(&mut self, from: u16, to: u16, port: u8) {
+        let record = &mut self.graph[16 * usize::from(from)..][..16];
+        let number = usize::from(record[1]);
+        record[1] += 1;
+        record[2 + number] = port;
+        record[4 + 2 * number..6 + 2 * number].copy_from_slice(&to.to_le_bytes());
+    }
+
+    fn input(&mut self, to: u16, port: u8, value: i32) {
+        let mut record = [0; 20];
+        record[9] = port;
+        record[10..12].copy_from_slice(&to.to_le_bytes());
+        record[12..16].copy_from_slice(&value.to_le_bytes());
+        self.inputs.extend(record);
+    }
+
+    /// A loop of an index from 0 while it is below the number of passes; answers
+    /// the COPY that gives the index to the body on its second destination, and
+    /// the SWITCH, whose second destination is the exit.
+    fn index_loop(&mut self, passes: i32) -> (u16, u16) {
+        let index = self.add(COPY, 0);
+        let test = self.add(LT_CONSTANT, passes);
+        let switch = self.add(SWITCH, 0);
+        let body = self.add(COPY, 0);
+        let step = self.add(ADD_CONSTANT, 1);
+        let next = self.add(NEXT, 0);
+        self.arc(index, test, 0);
+        self.arc(index, switch, 0);
+        self.arc(test, switch, 1);
+        self.arc(switch, body, 0);
+        self.arc(body, step, 0);
+        self.arc(step, next, 0);
+        self.arc(next, index, 0);
+        self.input(index, 0, 0);
+        (body, switch)
+    }
+}
+
+/// C[j] = A[j] + B[j]: cells j, 100 + j and 200 + j. The ledger is filled to the
+/// last record by inputs at OUT.
+pub fn vector_sum(tokens: usize) -> Work {
+    let mut work = Work::default();
+    let elements = (tokens - 5) / 21;
+    let (body, switch) = work.index_loop(elements as i32);
+    let end = work.add(OUT, 0);
+    work.arc(switch, end, 0);
+    let [fork, both] = [work.add(COPY, 0), work.add(COPY, 0)];
+    let [a, b, c] = [work.add(FETCH, 0), work.add(FETCH, 0), work.add(STORE, 0)];
+    let b_cell = work.add(ADD_CONSTANT, 100);
+    let c_cell = work.add(ADD_CONSTANT, 200);
+    let sum = work.add(ADD, 0);
+    work.arc(body, fork, 0);
+    work.arc(fork, a, 0);
+    work.arc(fork, both, 0);
+    work.arc(both, b_cell, 0);
+    work.arc(both, c_cell, 0);
+    work.arc(a, sum, 0);
+    work.arc(b_cell, b, 0);
+    work.arc(b, sum, 1);
+    work.arc(sum, c, 1);
+    work.arc(c_cell, c, 0);
+    for first in [0, 100] {
+        for element in 0..elements as i32 {
+            let store = work.add(STORE, 0);
+            work.input(store, 0, first + element);
+            work.input(store, 1, 3 * element - first);
+        }
+    }
+    for _ in 21 * elements + 5..tokens {
+        let out = work.add(OUT, 0);
+        work.input(out, 0, 0);
+    }
+    work
+}
+
+/// A loop of eight tokens a pass: 255 passes for 2,048 tokens.
+pub fn long_loop(tokens: usize) -> Work {
+    let mut work = Work::default();
+    let index = work.add(COPY, 0);
+    let test = work.add(LT_CONSTANT, ((tokens - 5) / 8) as i32);
+    let switch = work.add(SWITCH, 0);
+    let step = work.add(ADD_CONSTANT, 2);
+    let back = work.add(SUB_CONSTANT, 1);
+    let copy = work.add(COPY, 0);
+    let next = work.add(NEXT, 0);
+    let end = work.add(OUT, 0);
+    work.arc(index, test, 0);
+    work.arc(index, switch, 0);
+    work.arc(test, switch, 1);
+    work.arc(switch, step, 0);
+    work.arc(switch, end, 0);
+    work.arc(step, back, 0);
+    work.arc(back, copy, 0);
+    work.arc(copy, next, 0);
+    work.arc(next, index, 0);
+    work.input(index, 0, 0);
+    work
+}
+
+/// Half of all tokens wait, 1,024 of 2,048: reads of cell 0 are deferred until one
+/// STORE wakes them all, then they wait for partners, as some inputs do from the
+/// start.
+pub fn waiting(tokens: usize) -> Work {
+    let mut work = Work::default();
+    let reads = (28 * tokens / 2048).max(1);
+    let alone = tokens / 16;
+    let passes = (tokens - alone - 12) / (4 * reads + 7);
+    let (body, switch) = work.index_loop(passes as i32);
+    // The STORE gets its operands from the loop's exit by way of some COPYs, so
+    // that it comes after all reads when the oldest activity is taken first.
+    let mut exit = work.add(CONST, 0);
+    work.arc(switch, exit, 0);
+    for _ in 0..5 {
+        let copy = work.add(COPY, 0);
+        work.arc(exit, copy, 0);
+        exit = copy;
+    }
+    let store = work.add(STORE, 0);
+    work.arc(exit, store, 0);
+    work.arc(exit, store, 1);
+    let cell = work.add(CONST, 0);
+    work.arc(body, cell, 0);
+    read_tree(&mut work, cell, reads);
+    for _ in 0..alone {
+        let add = work.add(ADD, 0);
+        let out = add - 1;
+        work.arc(
+            add,
+            if work.graph[16 * usize::from(out)] == ADD {
+                out
+            } else {
+                add
+            },
+            1,
+        );
+        work.input(add, 0, 1);
+    }
+    work
+}
+
+/// A tree of COPYs from one instruction to the given number of FETCHes, each of
+/// which sends to two GATEs whose other operand never comes.
+fn read_tree(work: &mut Work, from: u16, reads: usize) {
+    let mut leaves = vec![from];
+    while leaves.len() < reads {
+        let leaf = leaves.remove(0);
+        let copy = work.add(COPY, 0);
+        work.arc(leaf, copy, 0);
+        leaves.extend([copy, copy]);
+    }
+    for leaf in leaves {
+        let fetch = work.add(FETCH, 0);
+        work.arc(leaf, fetch, 0);
+        for _ in 0..2 {
+            let gate = work.add(GATE, 0);
+            work.arc(gate, gate, 1);
+            work.arc(fetch, gate, 0);
+        }
+    }
+}
+
+/// A loop that calls the factorial of 3, which recurs down to the fourth level.
+pub fn recursion(tokens: usize) -> Work {
+    let mut work = Work::default();
+    let (body, switch) = work.index_loop(((tokens - 5) / 46) as i32);
+    let [end, result] = [work.add(OUT, 0), work.add(OUT, 0)];
+    let three = work.add(CONST, 3);
+    let main = work.add(ENTER, 1);
+    let [n, deeper] = [work.add(COPY, 0), work.add(COPY, 0)];
+    let flat = work.add(LE_CONSTANT, 0);
+    let which = work.add(SWITCH, 0);
+    let one = work.add(CONST, 1);
+    let minus = work.add(SUB_CONSTANT, 1);
+    let again = work.add(ENTER, 2);
+    let times = work.add(MUL, 0);
+    let leave = work.add(LEAVE, 0);
+    work.arc(switch, end, 0);
+    work.arc(body, three, 0);
+    work.arc(three, main, 0);
+    for (from, to, port) in [
+        (main, n, 0),
+        (main, result, 0),
+        (n, flat, 0),
+        (n, which, 0),
+        (flat, which, 1),
+        (which, one, 0),
+        (which, deeper, 0),
+        (one, leave, 0),
+        (deeper, minus, 0),
+        (deeper, times, 1),
+        (minus, again, 0),
+        (again, n, 0),
+        (again, times, 0),
+        (times, leave, 0),
+    ] {
+        work.arc(from, to, port);
+    }
+    work
+}
+
+#[cfg(test)]
+mod tests {
+    use super::*;
+    use second::{run, Answer, Outcome};
+
+    const SIZES: [usize; 5] = [128, 256, 512, 1024, 2048];
+
+    /// The answer, and the number of records in a state.
+    fn counted(work: &Work, size: usize, budget: u16, state: u8) -> (Answer, usize) {
+        let mut ledger = vec![0; 20 * size];
+        let mut cells = vec![0; 8 * 1024];
+        let answer = run(
+            &work.graph,
+            &work.inputs,
+            &[],
+            budget,
+            &mut ledger,
+            &mut cells,
+        );
+        let used = &ledger[..20 * answer.tokens];
+        (
+            answer,
+            used.chunks(20).filter(|record| record[16] == state).count(),
+        )
+    }
+
+    #[test]
+    fn every_work_completes_and_nearly_fills_its_ledger() {
+        for size in SIZES {
+            for work in [
+                vector_sum(size),
+                long_loop(size),
+                waiting(size),
+                recursion(size),
+            ] {
+                let (answer, _) = counted(&work, size, 2048, 0);
+                assert_eq!(answer.outcome, Outcome::Completed);
+                assert!(answer.tokens > 3 * size / 4, "{} of {size}", answer.tokens);
+            }
+            assert_eq!(counted(&vector_sum(size), size, 2048, 0).0.tokens, size);
+        }
+    }
+
+    #[test]
+    fn one_store_wakes_all_reads() {
+        let work = waiting(2048);
+        let (answer, live) = counted(&work, 2048, 2048, 0);
+        assert_eq!(live, 1024);
+        // The last firing is the STORE.
+        let before = counted(&work, 2048, answer.firings as u16 - 1, 2).1;
+        let after = counted(&work, 2048, answer.firings as u16, 2).1;
+        assert_eq!((before, after), (896, 0));
+    }
+}

@@ -1,0 +1,37 @@
+-- The run as a number, from the engine's promise. Assumes nothing.
+use borrow.Author.Needs.{needs}
+use mathlib.Core.Path.{ap, _∙_}
+use Rattle.rules.specs.Answer.{valuesOf}
+use Rattle.abi.specs.Numbers.{packed}
+use Rattle.abi.proofs.ttda_run.Statement.{statement}
+use Rattle.abi.proofs.ttda_run.Tie as tie
+use Rattle.abi.proofs.ttda_run.Reads as reads
+use Rattle.abi.proofs.ttda_run.Lts as lts
+use Rattle.abi.proofs.number_of.Reads as number-of-reads
+use Rattle.engine.proofs.run.Reads as run-reads
+
+-- src/lib.rt:50:15
+run-requires : tie.Need-run-requires
+run-requires c κs = search needs
+
+-- src/lib.rt:50:5
+number-of-requires : tie.Need-number-of-requires
+number-of-requires c κs = search needs
+
+-- src/lib.rt:37:1
+same-length : tie.Need-same-length
+same-length c = search needs
+
+-- src/lib.rt:37:1
+same-length-2 : tie.Need-same-length-2
+same-length-2 c = search needs
+
+-- src/lib.rt:37:1
+returns : tie.Need-returns
+returns c =
+    let ran = c .before .before .before .before .before .run .ensures in
+    (c .number-of .ensures ∙ ap (λ a. packed (valuesOf a)) (ran .answered), (ran .ledgerLeft, ran .cellsLeft))
+
+pub ttda-run-spec : {M : Type 1} → statement M
+ttda-run-spec =
+    tie.close (tie.spec run-requires number-of-requires same-length same-length-2 returns)

@@ -1,0 +1,2 @@
+-- The definitions of what crosses to Rust and C. Assumes nothing.
+pub mod Numbers

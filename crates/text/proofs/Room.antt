@@ -1,0 +1,224 @@
+-- How long a text is at most, so that a buffer can be lent in which every text fits: 74 bytes for the answer, 56 a token and 46 a cell. Assumes nothing.
+use Prim.Native.Nat.{ℕ, zero, suc, _+_, _*_, _/_, _^_, _≤_, _<_}
+use native.Mathlib.Omega.{arith}
+use native.Mathlib.Nat.{suc-mul, le-trans}
+use mathlib.Core.Path.{_≡_, refl, ap, _∙_}
+use mathlib.Core.Bool.{Bool, true, false, cond}
+use mathlib.Core.List.{List, [], _∷_, _++_, map}
+use borrow.Author.Tests.{leb-true, le-leb}
+use lib.Dec.{eqb, leb}
+use lib.IntN.{ℤ, pos, negsuc}
+use lib.ListN.{length, drop, length-append}
+use lib.Seq.{getD-drop}
+use mir.Syntax.{w32}
+use mir.Val.{SFits}
+use mir.Facts.{sfits-toZ}
+use Rattle.record.specs.Number.{byteAt, number32, signedOf}
+use Rattle.record.specs.Table.{rows, joined}
+use Rattle.record.specs.TokensAndTags as Tokens
+use Rattle.record.specs.TokensAndTags.{contentOf}
+use Rattle.record.specs.Cells as Cells
+use Rattle.record.specs.Cells.{cellOf, CellFits}
+use Rattle.record.specs.declared.token.Token.{Token}
+use Rattle.record.specs.declared.token.Content.{Content}
+use Rattle.record.specs.declared.token.Content.the-variants.{Live, Spent, Deferred}
+use Rattle.record.specs.declared.cell.Cell.{Cell}
+use Rattle.record.specs.declared.cell.Cell.the-variants.{Absent, Waiting, Present}
+use Rattle.record.proofs.Numbers.{number16-small, number32-small}
+use Rattle.rules.specs.Answer.{numberOf, placeIn}
+use Rattle.rules.specs.declared.answer.Refusal.{Refusal}
+use Rattle.rules.specs.declared.answer.Refusal.the-variants.{GraphLength, UnknownOperation, FanOut, BadArc, BadSite, BadInput, BadStore, LedgerFull, SecondToken, NoSuchCell, SecondWrite, OutOfRange, Iteration, TooDeep, NoCaller, UnknownSite, NoReturn}
+use Rattle.rules.specs.declared.answer.Outcome.{Outcome}
+use Rattle.rules.specs.declared.answer.Outcome.the-variants as Outcomes
+use Rattle.rules.specs.declared.answer.Answer.{Answer}
+use Rattle.text.specs.Words.{bytes}
+use Rattle.text.specs.Text.{decimal, signedDecimal, line, outcomeFields, stateWord, valueIn, answerLine, tokenLine, statedLine, cellLine, cellLines, printed, printedOf}
+use Rattle.text.specs.declared.Printed.the-variants.{Done, TooSmall}
+use Rattle.text.specs.Room.{AnswerFits, Bytes}
+use Rattle.text.proofs.Decimals.{at-most, short}
+use Rattle.text.proofs.Whole.{joined-append}
+
+-- ---- a line by its fields: each has at most so many bytes, and one byte behind it
+
+abbrev Each : List (List ℕ) → List ℕ → Type 0
+Each [] [] = Unit {0}
+Each [] (k ∷ ks) = ⊥
+Each (f ∷ fs) [] = ⊥
+Each (f ∷ fs) (k ∷ ks) = (length f ≤ k) × Each fs ks
+
+abbrev size : List ℕ → ℕ
+size [] = 0
+size (k ∷ ks) = k + 1 + size ks
+
+line-within : (f : List ℕ) (fs : List (List ℕ)) (k : ℕ) (ks : List ℕ) → length f ≤ k → Each fs ks → length (line (f ∷ fs)) ≤ size (k ∷ ks)
+line-within f [] k [] h e = omega (arith, length-append f (10 ∷ []))
+line-within f [] k (l ∷ ks) h e = absurd e
+line-within f (g ∷ fs) k [] h e = absurd e
+line-within f (g ∷ fs) k (l ∷ ks) h e = omega (arith, length-append f (32 ∷ line (g ∷ fs)), line-within g fs l ks (e .0) (e .1))
+
+-- ---- numbers
+
+-- 11 bytes at most for 32 bits, signed
+signed-short : (z : ℤ) → SFits w32 z → length (signedDecimal z) ≤ 11
+signed-short (pos n) f = omega (arith, at-most 9 n (omega (arith, f .sfits)))
+signed-short (negsuc n) f = omega (arith, at-most 9 (suc n) (omega (arith, f .sfits)))
+
+bits-short : (b : ℕ) → b < 2 ^ 32 → SFits w32 (signedOf b)
+unfolding signedOf
+bits-short b h = sfits-toZ (record { fits = h })
+
+number-short : (r : Refusal) → numberOf r < 100
+number-short GraphLength = omega arith
+number-short UnknownOperation = omega arith
+number-short FanOut = omega arith
+number-short BadArc = omega arith
+number-short BadSite = omega arith
+number-short BadInput = omega arith
+number-short BadStore = omega arith
+number-short LedgerFull = omega arith
+number-short SecondToken = omega arith
+number-short NoSuchCell = omega arith
+number-short SecondWrite = omega arith
+number-short OutOfRange = omega arith
+number-short Iteration = omega arith
+number-short TooDeep = omega arith
+number-short NoCaller = omega arith
+number-short UnknownSite = omega arith
+number-short NoReturn = omega arith
+
+-- ---- the first line
+
+by-outcome : (o : Outcome) (f t p : ℕ) → f < 2 ^ 64 → t < 2 ^ 64 → p < 2 ^ 64 → length (line (outcomeFields o ++ decimal f ∷ decimal t ∷ decimal p ∷ [])) ≤ 74
+by-outcome Outcomes.Completed f t p hf ht hp =
+    le-trans (line-within (bytes "completed") (decimal f ∷ decimal t ∷ decimal p ∷ []) 9 (20 ∷ 20 ∷ 20 ∷ []) (omega arith) (short f hf, (short t ht, (short p hp, tt)))) (omega arith)
+by-outcome Outcomes.Spent f t p hf ht hp =
+    le-trans (line-within (bytes "spent") (decimal f ∷ decimal t ∷ decimal p ∷ []) 5 (20 ∷ 20 ∷ 20 ∷ []) (omega arith) (short f hf, (short t ht, (short p hp, tt)))) (omega arith)
+by-outcome (Outcomes.Refused r place) f t p hf ht hp =
+    line-within (bytes "refused") (decimal (numberOf r) ∷ decimal f ∷ decimal t ∷ decimal p ∷ []) 7 (2 ∷ 20 ∷ 20 ∷ 20 ∷ []) (omega arith)
+    (at-most 1 (numberOf r) (number-short r), (short f hf, (short t ht, (short p hp, tt))))
+
+pub answer-short : (a : Answer) → AnswerFits a → length (answerLine a) ≤ 74
+unfolding answerLine
+answer-short a h = by-outcome (a .outcome) (a .firings) (a .tokens) (placeIn (a .outcome)) (h .firings) (h .tokens) (h .place)
+
+-- ---- the line of a token whose fields are those of a record
+
+word-short : (c : Content) → length (stateWord c) ≤ 8
+word-short (Live v) = omega arith
+word-short (Spent v) = omega arith
+word-short (Deferred cell) = omega arith
+
+value-short : (c : Content) → Tokens.ContentFits c → length (signedDecimal (valueIn c)) ≤ 11
+value-short (Live v) h = signed-short v h
+value-short (Spent v) h = signed-short v h
+value-short (Deferred cell) h = signed-short (signedOf cell) (bits-short cell h)
+
+pub token-short : (t : Token) → Tokens.TokenFits t → length (tokenLine t) ≤ 56
+unfolding tokenLine
+token-short t h =
+    let i = decimal (t .tag .iteration) in
+    let j = decimal (t .tag .instruction) in
+    line-within (decimal (t .tag .path)) (i ∷ j ∷ decimal (t .port) ∷ signedDecimal (valueIn (t .content)) ∷ stateWord (t .content) ∷ [])
+    20 (3 ∷ 5 ∷ 3 ∷ 11 ∷ 8 ∷ [])
+    (short (t .tag .path) (h .path)) (
+      at-most 2 (t .tag .iteration) (omega (arith, h .iteration)),
+      (
+        at-most 4 (t .tag .instruction) (omega (arith, h .instruction)),
+        (at-most 2 (t .port) (omega (arith, h .port)), (value-short (t .content) (h .content), (word-short (t .content), tt))),
+      ),
+    )
+
+-- ---- the line of a cell
+
+stated-short : (k : ℕ) (word : List ℕ) (v : ℤ) → k < 2 ^ 64 → length word ≤ 7 → SFits w32 v → length (statedLine k word v) ≤ 46
+stated-short k word v h w f =
+    line-within (bytes "cell") (decimal k ∷ word ∷ signedDecimal v ∷ []) 4 (20 ∷ 7 ∷ 11 ∷ []) (omega arith) (short k h, (w, (signed-short v f, tt)))
+
+pub cell-short : (k : ℕ) (x : Cell) → k < 2 ^ 64 → CellFits x → length (cellLine k x) ≤ 46
+unfolding cellLine
+cell-short k Absent h f = omega arith
+cell-short k Waiting h f = stated-short k (bytes "waiting") (pos 0) h (omega arith) (record { sfits = omega arith })
+cell-short k (Present v) h f = stated-short k (bytes "present") v h (omega arith) f
+
+-- ---- the records of a buffer of bytes
+
+bytes-drop : (n : ℕ) (l : List ℕ) → Bytes l → Bytes (drop n l)
+bytes-drop n l b k = rw (getD-drop n l k 0) (b (n + k))
+
+content-fits : (bits state : ℕ) → bits < 2 ^ 32 → Tokens.ContentFits (contentOf bits state)
+unfolding contentOf
+content-fits bits state h = go (eqb state 0) (eqb state 1)
+  where
+    go : (p q : Bool) → Tokens.ContentFits (cond p (Live (signedOf bits)) (cond q (Spent (signedOf bits)) (Deferred bits)))
+    go true q = bits-short bits h
+    go false true = bits-short bits h
+    go false false = h
+
+token-fits : (l : List ℕ) → Bytes l → Tokens.TokenFits (Tokens.decode l)
+unfolding Tokens.decode
+token-fits l b = record {
+  path = omega (arith, number32-small l b 0, number32-small l b 4);
+  iteration = b 8;
+  instruction = number16-small l b 10;
+  port = b 9;
+  content = content-fits (number32 l 12) (byteAt l 16) (number32-small l b 12);
+}
+
+cell-fits : (l : List ℕ) → Bytes l → CellFits (Cells.decode l)
+unfolding Cells.decode cellOf
+cell-fits l b = go (eqb (byteAt l 4) 1) (eqb (byteAt l 4) 2)
+  where
+    go : (p q : Bool) → CellFits (cond p Waiting (cond q (Present (signedOf (number32 l 0))) Absent))
+    go true q = tt
+    go false true = bits-short (number32 l 0) (number32-small l b 0)
+    go false false = tt
+
+tokens-within : (n : ℕ) (l : List ℕ) → Bytes l → length (joined (λ (x : List ℕ). x) (map tokenLine (rows 20 Tokens.decode n l))) ≤ n * 56
+tokens-within zero l b = omega arith
+tokens-within (suc n) l b =
+    let rest = joined (λ (x : List ℕ). x) (map tokenLine (rows 20 Tokens.decode n (drop 20 l))) in
+    omega (arith, length-append (tokenLine (Tokens.decode l)) rest, token-short (Tokens.decode l) (token-fits l b), tokens-within n (drop 20 l) (bytes-drop 20 l b), suc-mul n 56)
+
+cells-within : (k n : ℕ) (l : List ℕ) → k + n ≤ 2 ^ 64 → Bytes l → length (joined (λ (x : List ℕ). x) (cellLines k (rows 8 Cells.decode n l))) ≤ n * 46
+cells-within k zero l h b = omega arith
+cells-within k (suc n) l h b =
+    let rest = joined (λ (x : List ℕ). x) (cellLines (suc k) (rows 8 Cells.decode n (drop 8 l))) in
+    omega (arith, length-append (cellLine k (Cells.decode l)) rest, cell-short k (Cells.decode l) (omega arith) (cell-fits l b), cells-within (suc k) n (drop 8 l) (omega arith) (bytes-drop 8 l b), suc-mul n 46)
+
+-- ---- the whole text
+
+pub text-within : (a : Answer) (listing cells : List ℕ) → AnswerFits a → Bytes listing → Bytes cells → length cells < 2 ^ 64
+    → length (printed a listing cells) ≤ 74 + (length listing / 20 * 56 + length cells / 8 * 46)
+unfolding printed
+text-within a listing cells f bl bc h =
+    let n = length listing / 20 in
+    let m = length cells / 8 in
+    let ts = map tokenLine (rows 20 Tokens.decode n listing) in
+    let cs = cellLines 0 (rows 8 Cells.decode m cells) in
+    let jt = joined (λ (x : List ℕ). x) ts in
+    let jc = joined (λ (x : List ℕ). x) cs in
+    let e : length (joined (λ (x : List ℕ). x) (ts ++ cs)) ≡ length jt + length jc = ap length (joined-append ts cs) ∙ length-append jt jc in
+    omega (
+      arith,
+      length-append (answerLine a) (joined (λ (x : List ℕ). x) (ts ++ cs)),
+      e,
+      answer-short a f,
+      tokens-within n listing bl,
+      cells-within 0 m cells (omega arith) bc,
+    )
+
+-- where there is so much room, printing is done
+pub fits-in : (a : Answer) (listing cells out : List ℕ) → AnswerFits a → Bytes listing → Bytes cells → length cells < 2 ^ 64
+    → 74 + (length listing / 20 * 56 + length cells / 8 * 46) ≤ length out → printedOf (printed a listing cells) out ≡ Done (length (printed a listing cells))
+unfolding printedOf
+fits-in a listing cells out f bl bc h room =
+    rw (le-leb (length (printed a listing cells)) (length out) (omega (arith, text-within a listing cells f bl bc h)))
+
+-- and what is written is within what is lent
+pub done-within : (text out : List ℕ) (n : ℕ) → printedOf text out ≡ Done n → n ≤ length out
+unfolding printedOf
+done-within text out n e = go (leb (length text) (length out)) refl e
+  where
+    go : (b : Bool) → leb (length text) (length out) ≡ b → cond b (Done (length text)) TooSmall ≡ Done n → n ≤ length out
+    go true p q = let r : length text ≡ n = cc in omega (arith, leb-true (length text) (length out) p)
+    go false p q = let z : _≡_ {A = ℕ} 0 1 = cc in absurd (omega arith)

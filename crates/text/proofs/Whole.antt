@@ -1,0 +1,128 @@
+-- Lemmas on the lines one after another: which one stands where, and the text of the first j of them. Assumes nothing.
+use Prim.Native.Nat.{ℕ, zero, suc, _+_, _-_, _*_, _/_, _≤_, _<_}
+use native.Mathlib.Omega.{arith}
+use native.Mathlib.Numerals.{add-one}
+use native.Mathlib.Nat.{not-suc-le-zero, le-of-suc-le-suc, suc-mul, zero-mul, add-comm, zero-add}
+use mathlib.Core.Path.{_≡_, refl, sym, ap, _∙_}
+use mathlib.Core.List.{List, [], _∷_, _++_, map, append-assoc, append-nil}
+use lib.ListN.{length, getD, take, drop, length-append, length-drop, length-map, take-append-drop, List·getD-append}
+use lib.Seq.{take-suc, take-all, drop-drop, getD-append-add, take-at, drop-append-add, length-take-le}
+use Rattle.record.specs.Table.{rows, joined, written}
+use Rattle.record.specs.TokensAndTags as Tokens
+use Rattle.record.specs.Cells as Cells
+use Rattle.record.specs.declared.cell.Cell.{Cell}
+use Rattle.record.proofs.Tables.{length-rows, getD-rows}
+use Rattle.rules.specs.declared.answer.Answer.{Answer}
+use Rattle.text.specs.Text.{tokenLine, cellLine, cellLines, lines}
+
+-- ---- which line stands where
+
+map-rows : {A B : Type 0} (f : A → B) (w : ℕ) (dec : List ℕ → A) (n : ℕ) (l : List ℕ) → map f (rows w dec n l) ≡ rows w (λ b. f (dec b)) n l
+map-rows f w dec zero l = refl
+map-rows f w dec (suc n) l = rw (map-rows f w dec n (drop w l))
+
+length-cells : (k : ℕ) (xs : List Cell) → length (cellLines k xs) ≡ length xs
+length-cells k [] = refl
+length-cells k (x ∷ xs) = ap suc (length-cells (suc k) xs)
+
+cell-line : (k m i : ℕ) (l : List ℕ) → i < m → getD (cellLines k (rows 8 Cells.decode m l)) i [] ≡ cellLine (k + i) (Cells.decode (drop (i * 8) l))
+cell-line k zero i l h = absurd (not-suc-le-zero h)
+cell-line k (suc m) zero l h = let e : k ≡ k + 0 = omega arith in rw (zero-mul 8, ← e)
+cell-line k (suc m) (suc i) l h =
+    let e : suc k + i ≡ k + suc i = omega arith in
+    cell-line (suc k) m i (drop 8 l) (le-of-suc-le-suc h) ∙ rw (drop-drop (i * 8) 8 l, suc-mul i 8, add-comm (i * 8) 8, e)
+
+module _ (a : Answer) (listing cells : List ℕ) where
+  abbrev n : ℕ
+  n = length listing / 20
+
+  abbrev m : ℕ
+  m = length cells / 8
+
+  abbrev tokens : List (List ℕ)
+  tokens = map tokenLine (rows 20 Tokens.decode n listing)
+
+  abbrev below : List (List ℕ)
+  below = cellLines 0 (rows 8 Cells.decode m cells)
+
+  length-tokens : length tokens ≡ n
+  length-tokens = length-map (rows 20 Tokens.decode n listing) tokenLine ∙ length-rows 20 Tokens.decode n listing
+
+  pub length-lines : length (lines a listing cells) ≡ 1 + (n + m)
+  length-lines =
+      omega (arith, length-append tokens below, length-tokens, length-cells 0 (rows 8 Cells.decode m cells), length-rows 8 Cells.decode m cells)
+
+  pub line-token : (j : ℕ) → (j ≡ 0 → ⊥) → j ≤ n → getD (lines a listing cells) j [] ≡ tokenLine (Tokens.tokenAt listing (j - 1))
+  line-token zero z h = absurd (z refl)
+  line-token (suc i) z h =
+      let e : suc i - 1 ≡ i = omega arith in
+      let lt : i < n = omega arith in
+      rw e (List·getD-append tokens below [] i (omega (arith, length-tokens))
+      ∙ ap (λ (l : List (List ℕ)). getD l i []) (map-rows tokenLine 20 Tokens.decode n listing)
+      ∙ getD-rows 20 (λ b. tokenLine (Tokens.decode b)) n i listing [] lt)
+
+  pub line-cell : (j : ℕ) → n < j → j < 1 + (n + m) → getD (lines a listing cells) j [] ≡ cellLine (j - 1 - n) (Cells.cellAt cells (j - 1 - n))
+  line-cell zero h k = absurd (omega arith)
+  line-cell (suc i) h k =
+      let x = suc i - 1 - n in
+      let e : i ≡ length tokens + x = omega (arith, length-tokens) in
+      let z : 0 + x ≡ x = zero-add x in
+      ap (λ (p : ℕ). getD (tokens ++ below) p []) e ∙ getD-append-add tokens below x [] ∙ cell-line 0 m x cells (omega arith) ∙ rw z
+
+-- ---- the text of the first j lines
+
+pub joined-append : (xs ys : List (List ℕ)) → joined (λ (l : List ℕ). l) (xs ++ ys) ≡ joined (λ (l : List ℕ). l) xs ++ joined (λ (l : List ℕ). l) ys
+joined-append [] ys = refl
+joined-append (x ∷ xs) ys = rw (joined-append xs ys) (sym (append-assoc x (joined (λ (l : List ℕ). l) xs) (joined (λ (l : List ℕ). l) ys)))
+
+module _ (ls : List (List ℕ)) where
+  abbrev pub made : ℕ → List ℕ
+  made j = joined (λ (l : List ℕ). l) (take j ls)
+
+  pub made-next : (j : ℕ) → j < length ls → made (j + 1) ≡ made j ++ getD ls j []
+  made-next j h =
+      ap made (add-one j) ∙ ap (joined (λ (l : List ℕ). l)) (take-suc ls j [] h) ∙ joined-append (take j ls) (getD ls j [] ∷ [])
+      ∙ ap (λ (l : List ℕ). made j ++ l) (append-nil (getD ls j []))
+
+  pub made-longer : (j : ℕ) → j < length ls → length (made (j + 1)) ≡ length (made j) + length (getD ls j [])
+  made-longer j h = ap length (made-next j h) ∙ length-append (made j) (getD ls j [])
+
+  pub made-all : (j : ℕ) → length ls ≤ j → made j ≡ joined (λ (l : List ℕ). l) ls
+  made-all j h = ap (joined (λ (l : List ℕ). l)) (take-all j ls h)
+
+  pub made-within : (j : ℕ) → length (made j) ≤ length (joined (λ (l : List ℕ). l) ls)
+  made-within j =
+      let e = ap (λ (l : List (List ℕ)). length (joined (λ (l : List ℕ). l) l)) (take-append-drop j ls) in
+      omega (arith, e, ap length (joined-append (take j ls) (drop j ls)), length-append (made j) (joined (λ (l : List ℕ). l) (drop j ls)))
+
+-- a text written behind another one, in a buffer that was lent
+pub written-behind : (t s lent : List ℕ) → written (t ++ drop (length t) lent) (length t) s ≡ (t ++ s) ++ drop (length t + length s) lent
+unfolding written
+written-behind t s lent =
+    let d = drop (length t) lent in
+    rw (take-at t d (length t) refl, drop-append-add t d (length s), drop-drop (length s) (length t) lent) (sym (append-assoc t s (drop (length t + length s) lent)))
+
+-- the length of a line that was made in an array
+pub line-length : (k : ℕ) (l x : List ℕ) → k ≤ 128 → length l ≡ 128 → take k l ≡ x → length x ≡ k
+line-length k l x h e p = ap length (sym p) ∙ length-take-le k l (omega arith)
+
+-- and as a part of that array
+pub part : (k : ℕ) (l x : List ℕ) → take k l ≡ x → take (k - 0) l ≡ x
+part k l x p = let e : k - 0 ≡ k = omega arith in rw e p
+
+-- ---- a buffer that was lent, with the first j lines at its start: `at` is their length
+
+module _ (ls : List (List ℕ)) (lent : List ℕ) (room : length (joined (λ (l : List ℕ). l) ls) ≤ length lent) (at j : ℕ) where
+  module _ (out : List ℕ) where
+    pub kept-length : at ≡ length (made ls j) → out ≡ made ls j ++ drop at lent → length out ≡ length lent
+    kept-length ea eo = ap length eo ∙ length-append (made ls j) (drop at lent) ∙ omega (arith, length-drop at lent, made-within ls j)
+
+    pub next : (s : List ℕ) (k : ℕ) → j < length ls → at ≡ length (made ls j) → out ≡ made ls j ++ drop at lent → s ≡ getD ls j [] → length (getD ls j []) ≡ k
+        → written out at s ≡ made ls (j + 1) ++ drop (at + k) lent
+    next s k lt ea eo es ek =
+        let t = made ls j in
+        let g = getD ls j [] in
+        rw (eo, ea, es, ← ek) (written-behind t g lent ∙ ap (λ (x : List ℕ). x ++ drop (length t + length g) lent) (sym (made-next ls j lt)))
+
+  pub next-fits : j < length ls → at ≡ length (made ls j) → at + length (getD ls j []) ≤ length lent
+  next-fits lt ea = omega (arith, made-longer ls j lt, made-within ls (j + 1))

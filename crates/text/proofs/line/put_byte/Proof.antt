@@ -1,0 +1,14 @@
+-- `text::line::put_byte` meets its contract. Assumes nothing.
+use borrow.Author.Needs.{needs}
+use Rattle.text.proofs.Lines.{added-byte}
+use Rattle.text.proofs.line.put_byte.Statement.{statement}
+use Rattle.text.proofs.line.put_byte.Tie as tie
+
+pub put-byte-spec : {M : Type 1} → statement M
+put-byte-spec =
+    tie.close
+    (tie.spec
+    (λ c. search needs)
+    (λ c. search needs)
+    (λ c. search needs)
+    (λ c. added-byte (c .args .line .now) (c .args .at) (c .args .b) (c .pre)))

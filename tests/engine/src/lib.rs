@@ -1,0 +1,71 @@
+//! The engine under test. Its answers stay packed as the C functions give them,
+//! so that a comparison sees every bit.
+
+/// The word of a completed run in a packed answer; a refused run has the
+/// refusal's number.
+pub const COMPLETED: u64 = 0;
+/// The word of a run whose budget is spent.
+pub const SPENT: u64 = 100;
+
+extern "C" {
+    fn ttda_run(
+        graph: *const u8,
+        graph_len: usize,
+        inputs: *const u8,
+        inputs_len: usize,
+        picks: *const u8,
+        picks_len: usize,
+        budget: u16,
+        ledger: *mut u8,
+        ledger_len: usize,
+        cells: *mut u8,
+        cells_len: usize,
+    ) -> u64;
+
+    fn ttda_list(ledger: *const u8, ledger_len: usize, out: *mut u8, out_len: usize) -> u64;
+}
+
+/// The packed answer of a word with its firings, tokens and place.
+pub fn packed(word: u64, firings: usize, tokens: usize, place: usize) -> u64 {
+    word + ((firings as u64) << 16) + ((tokens as u64) << 32) + ((place as u64) << 48)
+}
+
+/// The parts of a packed answer: word, firings, tokens and place.
+pub fn unpacked(answer: u64) -> (u64, u64, u64, u64) {
+    let part = |number: u32| answer >> (16 * number) & 0xffff;
+    (part(0), part(1), part(2), part(3))
+}
+
+/// Runs the engine; the answer is packed.
+pub fn run(
+    graph: &[u8],
+    inputs: &[u8],
+    picks: &[u8],
+    budget: u16,
+    ledger: &mut [u8],
+    cells: &mut [u8],
+) -> u64 {
+    // SAFETY: every pointer comes with the length of its own slice, and the two
+    // written ones are borrowed exclusively.
+    unsafe {
+        ttda_run(
+            graph.as_ptr(),
+            graph.len(),
+            inputs.as_ptr(),
+            inputs.len(),
+            picks.as_ptr(),
+            picks.len(),
+            budget,
+            ledger.as_mut_ptr(),
+            ledger.len(),
+            cells.as_mut_ptr(),
+            cells.len(),
+        )
+    }
+}
+
+/// Sorts the used records of a ledger into `out`; answers 0 or 7.
+pub fn list(ledger: &[u8], out: &mut [u8]) -> u64 {
+    // SAFETY: as in `run`.
+    unsafe { ttda_list(ledger.as_ptr(), ledger.len(), out.as_mut_ptr(), out.len()) }
+}

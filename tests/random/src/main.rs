@@ -1,0 +1,281 @@
+//! Random and damaged runs of the engine against the second emulator.
+//!
+//! Usage: random [RUNS [SEED]] [--keep]. The same numbers give the same runs. The
+//! last line is "N passed, M failed"; the exit status is 1 if a run failed or if
+//! an answer, refusal or operation that can be reached never came up, so fewer
+//! than a few thousand runs may fail for that. A failed run's files graph, inputs
+//! and picks are written to random-failures/SEED-RUN; with --keep every run's files
+//! are written to random-failures/current beforehand, for an engine that crashes.
+
+mod case;
+mod damage;
+mod generate;
+mod orders;
+mod prng;
+mod records;
+mod shapes;
+mod tally;
+
+use std::fs;
+use std::path::Path;
+use std::process::ExitCode;
+
+use case::{compare, compare_listing, Case, Clock, Left};
+use prng::Prng;
+use tally::Tally;
+
+const DEFAULT_RUNS: u64 = 20_000;
+const DEFAULT_SEED: u64 = 1;
+/// Failures that are written out; later ones are only counted.
+const WRITTEN_FAILURES: u64 = 10;
+
+struct Harness {
+    seed: u64,
+    wanted: u64,
+    keep: bool,
+    runs: u64,
+    groups: u64,
+    listings: u64,
+    agreements: u64,
+    failed: u64,
+    tally: Tally,
+    clock: Clock,
+}
+
+impl Harness {
+    /// Compares one run and counts it.
+    fn run(&mut self, case: &Case) -> Left {
+        if self.keep {
+            write_files(case, "random-failures/current");
+        }
+        let (left, result) = compare(case, &mut self.clock);
+        self.runs += 1;
+        self.tally.count(case, &left);
+        if let Err(reason) = result {
+            self.fail(case, &reason);
+        }
+        left
+    }
+
+    fn fail(&mut self, case: &Case, reason: &str) {
+        self.failed += 1;
+        if self.failed > WRITTEN_FAILURES {
+            return;
+        }
+        println!(
+            "seed {}, group {}, run {}, {}:",
+            self.seed, self.groups, self.runs, case.kind
+        );
+        println!("  {reason}");
+        println!(
+            "  budget {}, ledger {} bytes, cells {} bytes",
+            case.budget, case.ledger_bytes, case.cells_bytes
+        );
+        write_files(
+            case,
+            &format!("random-failures/{}-{}", self.seed, self.runs),
+        );
+    }
+
+    fn done(&self) -> bool {
+        self.runs >= self.wanted
+    }
+
+    /// One graph under many orders, with other budgets, and damaged.
+    fn group(&mut self, prng: &mut Prng) {
+        self.groups += 1;
+        let case = first_case(prng);
+        self.all_orders(&case, prng);
+        for _ in 0..2 {
+            let mut case = case.clone();
+            case.budget = [0, 1, 2, prng.below(40) as u16, 65_535][prng.below(5)];
+            case.garbage = prng.word();
+            case.picks = vec![0; 2 * prng.below(30)];
+            prng.fill(&mut case.picks);
+            self.run(&case);
+        }
+        for _ in 0..4 {
+            let mut case = case.clone();
+            case.garbage = prng.word();
+            case.picks = vec![0; 2 * prng.below(30)];
+            prng.fill(&mut case.picks);
+            damage::damage(&mut case, prng);
+            self.run(&case);
+        }
+        if prng.one_in(4) {
+            self.arbitrary_listing(&case, prng);
+        }
+    }
+
+    /// Every list of picks, then demand 3 between the first order and each other
+    /// one, and the budget that is just enough or one too small.
+    fn all_orders(&mut self, case: &Case, prng: &mut Prng) {
+        let mut first: Option<Left> = None;
+        for picks in orders::pick_lists(case, prng) {
+            let mut case = case.clone();
+            case.picks = picks;
+            case.garbage = prng.word();
+            let left = self.run(&case);
+            match &first {
+                None => {
+                    let exact = left.answer.firings as u16;
+                    first = Some(left);
+                    case.budget = exact.saturating_sub(prng.below(2) as u16);
+                    self.run(&case);
+                }
+                Some(first) => {
+                    self.agreements += 1;
+                    if let Err(reason) = orders::agree(first, &left) {
+                        self.fail(&case, &reason);
+                    }
+                }
+            }
+        }
+    }
+
+    /// The listing of records that no run makes: equal keys, any bytes, and
+    /// lengths that are refused.
+    fn arbitrary_listing(&mut self, case: &Case, prng: &mut Prng) {
+        self.listings += 1;
+        let count = if prng.one_in(40) {
+            2047 + prng.below(3)
+        } else {
+            prng.below(40)
+        };
+        let mut records = vec![0; 20 * count];
+        prng.fill(&mut records);
+        for record in records.chunks_exact_mut(20) {
+            if prng.one_in(2) {
+                record[..12].fill(0);
+                let key = [0, 1, 7, 8, 9, 10, 11][prng.below(7)];
+                record[key] = prng.below(3) as u8;
+            }
+        }
+        if prng.one_in(10) {
+            records.truncate(prng.below(records.len() + 1));
+        }
+        let mut out = records.len();
+        if prng.one_in(10) {
+            out = [out + 20, out.saturating_sub(20), out + 1][prng.below(3)];
+        }
+        if let Err(reason) = compare_listing(&records, out, prng) {
+            self.fail(case, &format!("of arbitrary records: {reason}"));
+        }
+    }
+}
+
+/// Writes the files of a case, so that it can be run by hand.
+fn write_files(case: &Case, folder: &str) {
+    let path = Path::new(folder);
+    let written = fs::create_dir_all(path)
+        .and_then(|()| fs::write(path.join("graph"), &case.graph))
+        .and_then(|()| fs::write(path.join("inputs"), &case.inputs))
+        .and_then(|()| fs::write(path.join("picks"), &case.picks));
+    if let Err(error) = written {
+        println!("  {folder} could not be written: {error}");
+    }
+}
+
+/// A graph with no picks and budget 2,048. The capacity is mostly enough,
+/// sometimes just enough or too small.
+fn first_case(prng: &mut Prng) -> Case {
+    let subject = shapes::subject(prng);
+    let cells = match prng.below(12) {
+        0 => prng.below(subject.cells + 1),
+        1 | 2 => subject.cells,
+        3 => 1024,
+        _ => subject.cells + prng.below(4),
+    };
+    let mut case = Case {
+        kind: subject.kind,
+        graph: subject.graph,
+        inputs: subject.inputs,
+        picks: Vec::new(),
+        budget: 2048,
+        ledger_bytes: 2048 * 20,
+        cells_bytes: 8 * cells.min(1024),
+        garbage: prng.word(),
+    };
+    let mut ledger = vec![0; case.ledger_bytes];
+    let mut room = vec![0; case.cells_bytes];
+    let (graph, inputs) = (&case.graph, &case.inputs);
+    let used = second::run(graph, inputs, &[], 2048, &mut ledger, &mut room).tokens;
+    let capacity = match prng.below(16) {
+        0 => 2048,
+        1 | 2 => used,
+        3 => used.saturating_sub(1 + prng.below(3)),
+        4 => prng.below(used + 1),
+        _ => used + prng.below(20),
+    };
+    case.ledger_bytes = 20 * capacity.min(2048);
+    case
+}
+
+/// The number of runs and the seed, by default if they are not given.
+fn numbers(arguments: &[String]) -> Result<(u64, u64), String> {
+    let number = |text: &String| text.parse().map_err(|_| format!("not a number: {text}"));
+    let numbers = arguments
+        .iter()
+        .map(number)
+        .collect::<Result<Vec<u64>, _>>()?;
+    match numbers[..] {
+        [] => Ok((DEFAULT_RUNS, DEFAULT_SEED)),
+        [runs] => Ok((runs, DEFAULT_SEED)),
+        [runs, seed] => Ok((runs, seed)),
+        _ => Err("too many numbers".to_string()),
+    }
+}
+
+fn main() -> ExitCode {
+    let mut arguments: Vec<String> = std::env::args().skip(1).collect();
+    let keep = arguments.iter().any(|argument| argument == "--keep");
+    arguments.retain(|argument| argument != "--keep");
+    let (wanted, seed) = match numbers(&arguments) {
+        Ok(numbers) => numbers,
+        Err(error) => {
+            eprintln!("{error}\nusage: random [RUNS [SEED]] [--keep]");
+            return ExitCode::from(2);
+        }
+    };
+    let mut harness = Harness {
+        seed,
+        wanted,
+        keep,
+        runs: 0,
+        groups: 0,
+        listings: 0,
+        agreements: 0,
+        failed: 0,
+        tally: Tally::new(),
+        clock: Clock::default(),
+    };
+    let mut prng = Prng::new(seed);
+    while !harness.done() {
+        harness.group(&mut prng);
+    }
+    report(&harness)
+}
+
+fn report(harness: &Harness) -> ExitCode {
+    println!(
+        "seed {}: {} graphs, {} runs",
+        harness.seed, harness.groups, harness.runs
+    );
+    println!("pairs of orders compared: {}", harness.agreements);
+    println!("listings of arbitrary records: {}", harness.listings);
+    println!(
+        "time in the engine {:.2?}, in the second {:.2?}",
+        harness.clock.engine, harness.clock.second
+    );
+    let missing = harness.tally.print();
+    if missing > 0 {
+        println!("{missing} that can be reached never came up");
+    }
+    let failed = harness.failed + missing as u64;
+    println!(
+        "{} passed, {} failed",
+        harness.runs.saturating_sub(harness.failed),
+        failed
+    );
+    ExitCode::from(u8::from(failed > 0))
+}

@@ -1,0 +1,168 @@
+//! How often each answer, refusal and operation came up.
+
+use second::Outcome;
+
+use crate::case::{Case, Left};
+
+const NAMES: [(u8, &str); 27] = [
+    (1, "COPY"),
+    (2, "SINK"),
+    (3, "OUT"),
+    (4, "CONST"),
+    (5, "SWITCH"),
+    (6, "GATE"),
+    (7, "NEXT"),
+    (8, "ENTER"),
+    (9, "LEAVE"),
+    (10, "FETCH"),
+    (11, "STORE"),
+    (16, "ADD"),
+    (17, "SUB"),
+    (18, "MUL"),
+    (19, "DIV"),
+    (20, "REM"),
+    (21, "LT"),
+    (22, "LE"),
+    (23, "EQ"),
+    (32, "ADD constant"),
+    (33, "SUB constant"),
+    (34, "MUL constant"),
+    (35, "DIV constant"),
+    (36, "REM constant"),
+    (37, "LT constant"),
+    (38, "LE constant"),
+    (39, "EQ constant"),
+];
+
+const WORDS: [&str; 17] = [
+    "graph length",
+    "unknown operation",
+    "fan-out",
+    "bad arc",
+    "bad site",
+    "bad input",
+    "bad store",
+    "ledger full",
+    "second token",
+    "no such cell",
+    "second write",
+    "out of range",
+    "iteration",
+    "too deep",
+    "no caller",
+    "unknown site",
+    "no return",
+];
+
+pub struct Tally {
+    completed: u64,
+    spent: u64,
+    refused: u64,
+    refusals: [u64; 18],
+    refused_inputs: [u64; 18],
+    fired: [u64; 256],
+    /// Tokens that came to an OUT; it never fires.
+    results: u64,
+    deferred: u64,
+    deepest: u64,
+    largest: usize,
+}
+
+impl Tally {
+    pub fn new() -> Tally {
+        Tally {
+            completed: 0,
+            spent: 0,
+            refused: 0,
+            refusals: [0; 18],
+            refused_inputs: [0; 18],
+            fired: [0; 256],
+            results: 0,
+            deferred: 0,
+            deepest: 0,
+            largest: 0,
+        }
+    }
+
+    pub fn count(&mut self, case: &Case, left: &Left) {
+        match left.answer.outcome {
+            Outcome::Completed => self.completed += 1,
+            Outcome::Spent => self.spent += 1,
+            Outcome::Refused(refusal) => {
+                self.refused += 1;
+                self.refusals[usize::from(refusal.number)] += 1;
+                if left.answer.refused_at_once() {
+                    self.refused_inputs[usize::from(refusal.number)] += 1;
+                }
+            }
+        }
+        self.largest = self.largest.max(left.answer.tokens);
+        for record in left.used().chunks_exact(20) {
+            self.count_token(case, record);
+        }
+    }
+
+    /// A firing spends exactly one token on port 0.
+    fn count_token(&mut self, case: &Case, record: &[u8]) {
+        let instruction = usize::from(u16::from_le_bytes([record[10], record[11]]));
+        let code = case.graph[16 * instruction];
+        match record[16] {
+            1 if record[9] == 0 => self.fired[usize::from(code)] += 1,
+            2 => self.deferred += 1,
+            _ => {}
+        }
+        if code == 3 {
+            self.results += 1;
+        }
+        let levels = (0..4).filter(|level| record[2 * level + 1] != 0).count() as u64;
+        self.deepest = self.deepest.max(levels);
+    }
+
+    /// Prints all counts; answers how many that can be reached are 0.
+    pub fn print(&self) -> usize {
+        let mut lines = Lines { missing: 0 };
+        println!("answers:");
+        lines.count("completed", self.completed);
+        lines.count("spent", self.spent);
+        lines.count("refused", self.refused);
+        println!("refusals:");
+        for (word, number) in WORDS.iter().zip(1..) {
+            let (name, count) = (format!("{number} {word}"), self.refusals[number]);
+            match number {
+                16 => println!("  {name:<28}{count:>10}  (cannot be reached)"),
+                _ => lines.count(&name, count),
+            }
+        }
+        for number in [8, 9] {
+            lines.count(
+                &format!("{number} of the inputs"),
+                self.refused_inputs[number],
+            );
+        }
+        println!("operations fired:");
+        for (code, name) in NAMES {
+            match code {
+                3 => lines.count("3 OUT (tokens received)", self.results),
+                _ => lines.count(&format!("{code} {name}"), self.fired[usize::from(code)]),
+            }
+        }
+        println!("further:");
+        lines.count("tokens left deferred", self.deferred);
+        lines.count("most levels of a path", self.deepest);
+        lines.count("most tokens of a run", self.largest as u64);
+        lines.missing
+    }
+}
+
+/// The printed lines, and how many of them are 0.
+struct Lines {
+    missing: usize,
+}
+
+impl Lines {
+    fn count(&mut self, name: &str, count: u64) {
+        let note = if count == 0 { "  never came up" } else { "" };
+        self.missing += usize::from(count == 0);
+        println!("  {name:<28}{count:>10}{note}");
+    }
+}

@@ -1,0 +1,252 @@
+//! A second emulator of the tagged-token machine with a ledger.
+//!
+//! It is written from the rules (document 01) alone and shares nothing with the
+//! engine, so that a run of both over the same bytes is a test of the engine.
+//! Instructions and tokens are parsed once, the matching store is a map by
+//! path, iteration, instruction and port, and the lent buffers are written once,
+//! at the end of the run.
+
+mod arithmetic;
+mod graph;
+mod listing;
+mod machine;
+mod places;
+mod printing;
+mod token;
+
+pub use graph::{operand_count, Graph};
+pub use listing::list;
+pub use printing::print;
+
+use std::collections::HashSet;
+
+use machine::Machine;
+use token::{KeyHashing, State, Token};
+
+/// Bytes of a graph record (01, "Graph records").
+pub const GRAPH_RECORD: usize = 16;
+/// Bytes of a token record (01, "Tokens and tags").
+pub const TOKEN_RECORD: usize = 20;
+/// Bytes of a cell record (01, "Firing").
+pub const CELL_RECORD: usize = 8;
+/// Bytes of a pick (01, "The printed listing").
+pub const PICK_RECORD: usize = 2;
+/// Most records of inputs, picks or ledger (01, refusal 7).
+pub const MOST_RECORDS: usize = 2048;
+/// Most cells (01, refusal 7).
+pub const MOST_CELLS: usize = 1024;
+
+/// A refusal by its number in the table of 01, with its place.
+#[derive(Clone, Copy, Debug, PartialEq, Eq)]
+pub struct Refusal {
+    pub number: u8,
+    pub place: usize,
+}
+
+/// How a run ended (01, "The answer and the refusals").
+#[derive(Clone, Copy, Debug, PartialEq, Eq)]
+pub enum Outcome {
+    Completed,
+    Spent,
+    Refused(Refusal),
+}
+
+/// The answer to a run: its outcome with the counts of firings and tokens.
+#[derive(Clone, Copy, Debug, PartialEq, Eq)]
+pub struct Answer {
+    pub outcome: Outcome,
+    pub firings: usize,
+    pub tokens: usize,
+}
+
+impl Answer {
+    /// The place of a refusal; 0 otherwise.
+    pub fn place(&self) -> usize {
+        match self.outcome {
+            Outcome::Refused(refusal) => refusal.place,
+            Outcome::Completed | Outcome::Spent => 0,
+        }
+    }
+
+    /// The number of a refusal; `None` otherwise.
+    pub fn refusal(&self) -> Option<u8> {
+        match self.outcome {
+            Outcome::Refused(refusal) => Some(refusal.number),
+            Outcome::Completed | Outcome::Spent => None,
+        }
+    }
+
+    /// Whether the run was refused before a firing was tried. A firing has at
+    /// least one operand, so a refusal without tokens precedes all firings.
+    pub fn refused_at_once(&self) -> bool {
+        self.refusal().is_some() && self.tokens == 0
+    }
+}
+
+/// Runs a graph under the given picks; the lent ledger and cells are written as
+/// 01 says, and stay as lent when the run is refused before any firing.
+pub fn run(
+    graph: &[u8],
+    inputs: &[u8],
+    picks: &[u8],
+    budget: u16,
+    ledger: &mut [u8],
+    cells: &mut [u8],
+) -> Answer {
+    let choose = |firing: usize, _enabled: usize| match picks.get(2 * firing..2 * firing + 2) {
+        Some(pick) => u16::from_le_bytes([pick[0], pick[1]]),
+        // 01, "Firing": once picks run out, the first is taken.
+        None => 0,
+    };
+    run_checked(graph, inputs, picks.len(), budget, ledger, cells, choose)
+}
+
+/// Runs a graph with picks given one by one: `choose` gets the number of firings
+/// done and the number of enabled activities, and answers with a pick.
+pub fn run_choosing(
+    graph: &[u8],
+    inputs: &[u8],
+    budget: u16,
+    ledger: &mut [u8],
+    cells: &mut [u8],
+    choose: impl FnMut(usize, usize) -> u16,
+) -> Answer {
+    run_checked(graph, inputs, 0, budget, ledger, cells, choose)
+}
+
+/// The list of picks that a choosing function makes over a whole run with the
+/// given capacity and number of cells.
+pub fn picks_of(
+    graph: &[u8],
+    inputs: &[u8],
+    capacity: usize,
+    cell_count: usize,
+    mut choose: impl FnMut(usize, usize) -> u16,
+) -> Vec<u8> {
+    let mut picks = Vec::new();
+    let mut ledger = vec![0; capacity * TOKEN_RECORD];
+    let mut cells = vec![0; cell_count * CELL_RECORD];
+    let budget = MOST_RECORDS as u16;
+    run_choosing(
+        graph,
+        inputs,
+        budget,
+        &mut ledger,
+        &mut cells,
+        |firing, enabled| {
+            let pick = choose(firing, enabled);
+            picks.extend_from_slice(&pick.to_le_bytes());
+            pick
+        },
+    );
+    picks
+}
+
+/// The picks that always take the enabled activity with the latest place.
+pub fn picks_newest_first(
+    graph: &[u8],
+    inputs: &[u8],
+    capacity: usize,
+    cell_count: usize,
+) -> Vec<u8> {
+    picks_of(graph, inputs, capacity, cell_count, |_, enabled| {
+        (enabled - 1) as u16
+    })
+}
+
+fn run_checked(
+    graph: &[u8],
+    inputs: &[u8],
+    picks_length: usize,
+    budget: u16,
+    ledger: &mut [u8],
+    cells: &mut [u8],
+    choose: impl FnMut(usize, usize) -> u16,
+) -> Answer {
+    let lengths = Lengths {
+        inputs: inputs.len(),
+        picks: picks_length,
+        ledger: ledger.len(),
+        cells: cells.len(),
+    };
+    match prepare(graph, inputs, &lengths) {
+        Err(refusal) => Answer {
+            outcome: Outcome::Refused(refusal),
+            firings: 0,
+            tokens: 0,
+        },
+        Ok((graph, tokens)) => {
+            let capacity = lengths.ledger / TOKEN_RECORD;
+            let cell_count = lengths.cells / CELL_RECORD;
+            let mut machine = Machine::new(&graph, capacity, cell_count, &tokens);
+            let answer = machine.run(usize::from(budget), choose);
+            machine.write(ledger, cells);
+            answer
+        }
+    }
+}
+
+/// The lengths of the lent buffers, in bytes.
+struct Lengths {
+    inputs: usize,
+    picks: usize,
+    ledger: usize,
+    cells: usize,
+}
+
+impl Lengths {
+    /// 01, refusal 7.
+    fn check(&self) -> Result<(), Refusal> {
+        let fits = |length: usize, record: usize, most: usize| {
+            length.is_multiple_of(record) && length / record <= most
+        };
+        if fits(self.inputs, TOKEN_RECORD, MOST_RECORDS)
+            && fits(self.picks, PICK_RECORD, MOST_RECORDS)
+            && fits(self.ledger, TOKEN_RECORD, MOST_RECORDS)
+            && fits(self.cells, CELL_RECORD, MOST_CELLS)
+        {
+            Ok(())
+        } else {
+            Err(Refusal {
+                number: 7,
+                place: 0,
+            })
+        }
+    }
+}
+
+/// All checks before the first firing, in the order of 01: 1; records in turn,
+/// each 2 to 5; 7; inputs in turn for 6; 8; 9 by input in turn.
+fn prepare(graph: &[u8], inputs: &[u8], lengths: &Lengths) -> Result<(Graph, Vec<Token>), Refusal> {
+    let graph = Graph::parse(graph)?;
+    lengths.check()?;
+    let mut tokens = Vec::with_capacity(lengths.inputs / TOKEN_RECORD);
+    for (place, record) in inputs.chunks_exact(TOKEN_RECORD).enumerate() {
+        let token = input_token(record, &graph).ok_or(Refusal { number: 6, place })?;
+        tokens.push(token);
+    }
+    let capacity = lengths.ledger / TOKEN_RECORD;
+    if tokens.len() > capacity {
+        // The first input that doesn't fit.
+        return Err(Refusal {
+            number: 8,
+            place: capacity,
+        });
+    }
+    let mut taken = HashSet::with_capacity_and_hasher(tokens.len(), KeyHashing::default());
+    for (place, token) in tokens.iter().enumerate() {
+        if !taken.insert(token.key()) {
+            return Err(Refusal { number: 9, place });
+        }
+    }
+    Ok((graph, tokens))
+}
+
+/// The token of an input record, or `None` for refusal 6: the root path and
+/// iteration, state 0, zeros, and an instruction and port that exist.
+fn input_token(record: &[u8], graph: &Graph) -> Option<Token> {
+    let token = Token::parse(record)?;
+    let root = token.path == 0 && token.iteration == 0 && token.state == State::Live;
+    let operands = graph.operands(usize::from(token.instruction))?;
+    (root && token.port < operands).then_some(token)
+}

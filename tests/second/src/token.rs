@@ -1,0 +1,144 @@
+//! Tokens, their tags, and I-structure cells.
+
+use std::hash::{BuildHasherDefault, Hash, Hasher};
+
+use crate::{CELL_RECORD, TOKEN_RECORD};
+
+/// The state of a token (01, "Tokens and tags").
+#[derive(Clone, Copy, Debug, PartialEq, Eq)]
+pub enum State {
+    Live,
+    Spent,
+    Deferred,
+}
+
+/// A token; path, iteration and instruction are its tag.
+#[derive(Clone, Copy, Debug, PartialEq, Eq)]
+pub struct Token {
+    pub path: u64,
+    pub iteration: u8,
+    pub port: u8,
+    pub instruction: u16,
+    pub value: i32,
+    pub state: State,
+}
+
+impl Token {
+    /// The token of a record, or `None` for an unknown state or bytes 17-19 that
+    /// are not zero.
+    pub fn parse(record: &[u8]) -> Option<Token> {
+        let state = match record[16] {
+            0 => State::Live,
+            1 => State::Spent,
+            2 => State::Deferred,
+            _ => return None,
+        };
+        if record[17..TOKEN_RECORD] != [0; 3] {
+            return None;
+        }
+        Some(Token {
+            path: u64::from_le_bytes(record[0..8].try_into().ok()?),
+            iteration: record[8],
+            port: record[9],
+            instruction: u16::from_le_bytes([record[10], record[11]]),
+            value: i32::from_le_bytes(record[12..16].try_into().ok()?),
+            state,
+        })
+    }
+
+    pub fn record(&self) -> [u8; TOKEN_RECORD] {
+        let mut record = [0; TOKEN_RECORD];
+        record[0..8].copy_from_slice(&self.path.to_le_bytes());
+        record[8] = self.iteration;
+        record[9] = self.port;
+        record[10..12].copy_from_slice(&self.instruction.to_le_bytes());
+        record[12..16].copy_from_slice(&self.value.to_le_bytes());
+        record[16] = self.state as u8;
+        record
+    }
+
+    pub fn key(&self) -> Key {
+        Key {
+            path: self.path,
+            iteration: self.iteration,
+            instruction: self.instruction,
+            port: self.port,
+        }
+    }
+}
+
+/// A tag with a port: what a run gives to at most one token. Its order is that
+/// of the listing.
+#[derive(Clone, Copy, Debug, PartialEq, Eq, PartialOrd, Ord)]
+pub struct Key {
+    pub path: u64,
+    pub iteration: u8,
+    pub instruction: u16,
+    pub port: u8,
+}
+
+impl Hash for Key {
+    fn hash<H: Hasher>(&self, hasher: &mut H) {
+        hasher.write_u64(self.path);
+        let [low, high] = self.instruction.to_le_bytes();
+        hasher.write_u32(u32::from_le_bytes([self.iteration, self.port, low, high]));
+    }
+}
+
+/// A multiplying hasher: keys come from a graph of at most 256 instructions, and
+/// the matching store is consulted several times in a firing.
+#[derive(Default)]
+pub struct KeyHasher(u64);
+
+impl KeyHasher {
+    fn mix(&mut self, word: u64) {
+        self.0 = (self.0.rotate_left(5) ^ word).wrapping_mul(0x517c_c1b7_2722_0a95);
+    }
+}
+
+impl Hasher for KeyHasher {
+    fn write(&mut self, bytes: &[u8]) {
+        for &byte in bytes {
+            self.mix(u64::from(byte));
+        }
+    }
+
+    fn write_u32(&mut self, word: u32) {
+        self.mix(u64::from(word));
+    }
+
+    fn write_u64(&mut self, word: u64) {
+        self.mix(word);
+    }
+
+    fn finish(&self) -> u64 {
+        self.0 ^ (self.0 >> 32)
+    }
+}
+
+/// The hasher's builder, for the matching store's map.
+pub type KeyHashing = BuildHasherDefault<KeyHasher>;
+
+/// An I-structure cell; a waiting one has the ledger positions of the records
+/// deferred on it.
+#[derive(Clone, Debug, PartialEq, Eq)]
+pub enum Cell {
+    Absent,
+    Waiting(Vec<usize>),
+    Present(i32),
+}
+
+impl Cell {
+    /// The cell's record; the value is 0 until present (01, "Firing").
+    pub fn record(&self) -> [u8; CELL_RECORD] {
+        let (value, state) = match self {
+            Cell::Absent => (0, 0),
+            Cell::Waiting(_) => (0, 1),
+            Cell::Present(value) => (*value, 2),
+        };
+        let mut record = [0; CELL_RECORD];
+        record[0..4].copy_from_slice(&i32::to_le_bytes(value));
+        record[4] = state;
+        record
+    }
+}

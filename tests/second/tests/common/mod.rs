@@ -1,0 +1,212 @@
+//! Records and runs for the tests.
+#![allow(dead_code)]
+
+use second::{list, print, run, Answer, Outcome, Refusal};
+
+pub const COPY: u8 = 1;
+pub const SINK: u8 = 2;
+pub const OUT: u8 = 3;
+pub const CONST: u8 = 4;
+pub const SWITCH: u8 = 5;
+pub const GATE: u8 = 6;
+pub const NEXT: u8 = 7;
+pub const ENTER: u8 = 8;
+pub const LEAVE: u8 = 9;
+pub const FETCH: u8 = 10;
+pub const STORE: u8 = 11;
+pub const ADD: u8 = 16;
+pub const DIV: u8 = 19;
+pub const REM: u8 = 20;
+pub const ADD_CONSTANT: u8 = 32;
+
+/// A graph record with the given arcs (instruction, port) and constant.
+pub fn instruction(code: u8, arcs: &[(u16, u8)], constant: i32) -> [u8; 16] {
+    let mut record = [0; 16];
+    record[0] = code;
+    record[1] = arcs.len() as u8;
+    for (number, &(target, port)) in arcs.iter().enumerate() {
+        record[2 + number] = port;
+        record[4 + 2 * number..6 + 2 * number].copy_from_slice(&target.to_le_bytes());
+    }
+    record[8..12].copy_from_slice(&constant.to_le_bytes());
+    record
+}
+
+pub fn graph(records: &[[u8; 16]]) -> Vec<u8> {
+    records.concat()
+}
+
+/// A token record of the root tag.
+pub fn input(instruction: u16, port: u8, value: i32) -> [u8; 20] {
+    token(0, 0, instruction, port, value, 0)
+}
+
+pub fn token(
+    path: u64,
+    iteration: u8,
+    instruction: u16,
+    port: u8,
+    value: i32,
+    state: u8,
+) -> [u8; 20] {
+    let mut record = [0; 20];
+    record[0..8].copy_from_slice(&path.to_le_bytes());
+    record[8] = iteration;
+    record[9] = port;
+    record[10..12].copy_from_slice(&instruction.to_le_bytes());
+    record[12..16].copy_from_slice(&value.to_le_bytes());
+    record[16] = state;
+    record
+}
+
+pub fn inputs(records: &[[u8; 20]]) -> Vec<u8> {
+    records.concat()
+}
+
+pub fn picks(numbers: &[u16]) -> Vec<u8> {
+    numbers
+        .iter()
+        .flat_map(|number| number.to_le_bytes())
+        .collect()
+}
+
+pub fn completed(firings: usize, tokens: usize) -> Answer {
+    Answer {
+        outcome: Outcome::Completed,
+        firings,
+        tokens,
+    }
+}
+
+pub fn spent(firings: usize, tokens: usize) -> Answer {
+    Answer {
+        outcome: Outcome::Spent,
+        firings,
+        tokens,
+    }
+}
+
+pub fn refused(number: u8, firings: usize, tokens: usize, place: usize) -> Answer {
+    Answer {
+        outcome: Outcome::Refused(Refusal { number, place }),
+        firings,
+        tokens,
+    }
+}
+
+/// What is lent to a run; the lengths of ledger and cells are in bytes.
+#[derive(Clone)]
+pub struct Lent {
+    pub graph: Vec<u8>,
+    pub inputs: Vec<u8>,
+    pub picks: Vec<u8>,
+    pub budget: u16,
+    pub ledger_bytes: usize,
+    pub cells_bytes: usize,
+}
+
+/// What a run leaves.
+pub struct Left {
+    pub answer: Answer,
+    pub ledger: Vec<u8>,
+    pub cells: Vec<u8>,
+}
+
+pub fn lend(records: &[[u8; 16]], tokens: &[[u8; 20]]) -> Lent {
+    Lent {
+        graph: graph(records),
+        inputs: inputs(tokens),
+        picks: Vec::new(),
+        budget: 2048,
+        ledger_bytes: 2048 * 20,
+        cells_bytes: 1024 * 8,
+    }
+}
+
+impl Lent {
+    pub fn picks(mut self, numbers: &[u16]) -> Lent {
+        self.picks = picks(numbers);
+        self
+    }
+
+    pub fn budget(mut self, budget: u16) -> Lent {
+        self.budget = budget;
+        self
+    }
+
+    pub fn capacity(mut self, records: usize) -> Lent {
+        self.ledger_bytes = 20 * records;
+        self
+    }
+
+    pub fn cells(mut self, count: usize) -> Lent {
+        self.cells_bytes = 8 * count;
+        self
+    }
+
+    /// Runs over ledger and cells that hold garbage, and checks what every run
+    /// has to keep: bytes past what is written, and a second run over other
+    /// garbage leaves the same.
+    pub fn run(&self) -> Left {
+        let left = self.run_over(0xa5);
+        let other = self.run_over(0x3c);
+        let used = 20 * left.answer.tokens;
+        assert_eq!(left.answer, other.answer);
+        assert_eq!(left.ledger[..used], other.ledger[..used]);
+        assert!(left.ledger[used..].iter().all(|&byte| byte == 0xa5));
+        assert!(other.ledger[used..].iter().all(|&byte| byte == 0x3c));
+        if left.answer.refused_at_once() {
+            assert!(left.cells.iter().all(|&byte| byte == 0xa5));
+        } else {
+            assert_eq!(left.cells, other.cells);
+        }
+        left
+    }
+
+    fn run_over(&self, garbage: u8) -> Left {
+        let mut ledger = vec![garbage; self.ledger_bytes];
+        let mut cells = vec![garbage; self.cells_bytes];
+        let answer = run(
+            &self.graph,
+            &self.inputs,
+            &self.picks,
+            self.budget,
+            &mut ledger,
+            &mut cells,
+        );
+        Left {
+            answer,
+            ledger,
+            cells,
+        }
+    }
+
+    pub fn answer(&self) -> Answer {
+        self.run().answer
+    }
+}
+
+impl Left {
+    /// The printed text; the cells of a run that was refused at once are those
+    /// of the printing program, which start as zeros.
+    pub fn text(&self) -> String {
+        let used = &self.ledger[..20 * self.answer.tokens];
+        let mut listing = vec![0; used.len()];
+        assert_eq!(list(used, &mut listing), 0);
+        let zeros = vec![0; self.cells.len()];
+        let cells = if self.answer.refused_at_once() {
+            &zeros
+        } else {
+            &self.cells
+        };
+        String::from_utf8(print(&self.answer, &listing, cells)).unwrap()
+    }
+
+    pub fn record(&self, position: usize) -> &[u8] {
+        &self.ledger[20 * position..20 * position + 20]
+    }
+
+    pub fn cell(&self, number: usize) -> &[u8] {
+        &self.cells[8 * number..8 * number + 8]
+    }
+}

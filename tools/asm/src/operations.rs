@@ -1,0 +1,110 @@
+//! The operations of 01 ("Graph records") by name.
+
+use std::ops::RangeInclusive;
+
+/// What the constant of an operation means in the text.
+#[derive(Clone, Copy, Debug, PartialEq, Eq)]
+pub enum Constant {
+    /// The operation has none.
+    Unused,
+    /// A number behind the operation's name.
+    Value,
+    /// `site` and a number, 1 to 255.
+    Site,
+    /// A number, 0 to 255, that is added to the return instruction.
+    Offset,
+}
+
+#[derive(Clone, Copy, Debug)]
+pub struct Operation {
+    pub code: u8,
+    pub name: &'static str,
+    pub operands: u8,
+    fan_out: (u8, u8),
+    pub constant: Constant,
+}
+
+impl Operation {
+    pub fn fan_outs(&self) -> RangeInclusive<u8> {
+        self.fan_out.0..=self.fan_out.1
+    }
+}
+
+const fn operation(
+    code: u8,
+    name: &'static str,
+    operands: u8,
+    fan_out: (u8, u8),
+    constant: Constant,
+) -> Operation {
+    Operation {
+        code,
+        name,
+        operands,
+        fan_out,
+        constant,
+    }
+}
+
+const OPERATIONS: [Operation; 19] = [
+    operation(1, "COPY", 1, (1, 2), Constant::Unused),
+    operation(2, "SINK", 1, (0, 0), Constant::Unused),
+    operation(3, "OUT", 1, (0, 0), Constant::Unused),
+    operation(4, "CONST", 1, (1, 2), Constant::Value),
+    operation(5, "SWITCH", 2, (2, 2), Constant::Unused),
+    operation(6, "GATE", 2, (1, 2), Constant::Unused),
+    operation(7, "NEXT", 1, (1, 2), Constant::Unused),
+    operation(8, "ENTER", 1, (2, 2), Constant::Site),
+    operation(9, "LEAVE", 1, (0, 0), Constant::Offset),
+    operation(10, "FETCH", 1, (1, 2), Constant::Unused),
+    operation(11, "STORE", 2, (0, 2), Constant::Unused),
+    operation(16, "ADD", 2, (1, 2), Constant::Unused),
+    operation(17, "SUB", 2, (1, 2), Constant::Unused),
+    operation(18, "MUL", 2, (1, 2), Constant::Unused),
+    operation(19, "DIV", 2, (1, 2), Constant::Unused),
+    operation(20, "REM", 2, (1, 2), Constant::Unused),
+    operation(21, "LT", 2, (1, 2), Constant::Unused),
+    operation(22, "LE", 2, (1, 2), Constant::Unused),
+    operation(23, "EQ", 2, (1, 2), Constant::Unused),
+];
+
+/// The code of an arithmetic operation with the constant on the right is that
+/// with two operands plus this.
+const WITH_CONSTANT: u8 = 16;
+
+/// The operation of a code, `None` for an unknown one.
+pub fn by_code(code: u8) -> Option<Operation> {
+    match code {
+        32..=39 => by_code(code - WITH_CONSTANT).map(with_constant),
+        _ => OPERATIONS
+            .into_iter()
+            .find(|operation| operation.code == code),
+    }
+}
+
+/// The operation of a name in either case.
+pub fn by_name(name: &str) -> Option<Operation> {
+    OPERATIONS
+        .into_iter()
+        .find(|operation| operation.name.eq_ignore_ascii_case(name))
+}
+
+/// Whether a constant may stand behind the name, which makes the operation one
+/// with a single operand.
+pub fn is_arithmetic(operation: &Operation) -> bool {
+    (16..=23).contains(&operation.code)
+}
+
+pub fn with_constant(operation: Operation) -> Operation {
+    Operation {
+        code: operation.code + WITH_CONSTANT,
+        operands: 1,
+        constant: Constant::Value,
+        ..operation
+    }
+}
+
+/// The operand count of a code, 0 for an unknown one.
+pub fn operand_count(code: u8) -> u8 {
+    by_code(code).map_or(0, |operation| operation.operands)
+}

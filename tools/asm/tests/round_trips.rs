@@ -1,0 +1,132 @@
+//! Text to files to text to files, over random files of whole records.
+
+use asm::{assemble, disassemble, Files};
+
+/// A small generator of random numbers (splitmix64).
+struct Prng(u64);
+
+impl Prng {
+    fn word(&mut self) -> u64 {
+        self.0 = self.0.wrapping_add(0x9e37_79b9_7f4a_7c15);
+        let mut z = self.0;
+        z = (z ^ (z >> 30)).wrapping_mul(0xbf58_476d_1ce4_e5b9);
+        z = (z ^ (z >> 27)).wrapping_mul(0x94d0_49bb_1331_11eb);
+        z ^ (z >> 31)
+    }
+
+    fn below(&mut self, end: usize) -> usize {
+        (self.word() % end as u64) as usize
+    }
+}
+
+/// Assembles the text of the files, which gives the same files, and again.
+fn round_trip(files: &Files) -> String {
+    let text = disassemble(files).unwrap();
+    let again = assemble(&text).unwrap_or_else(|error| panic!("{error} in\n{text}"));
+    assert_eq!(&again, files, "{text}");
+    assert_eq!(disassemble(&again).unwrap(), text);
+    text
+}
+
+/// A record that is often well-formed: a known code, its fan-out, arcs into the
+/// graph and a small constant where one is used.
+fn record(prng: &mut Prng, count: usize) -> [u8; 16] {
+    const CODES: [u8; 27] = [
+        1, 2, 3, 4, 5, 6, 7, 8, 9, 10, 11, 16, 17, 18, 19, 20, 21, 22, 23, 32, 33, 34, 35, 36, 37,
+        38, 39,
+    ];
+    let code = CODES[prng.below(CODES.len())];
+    let fan_out = match code {
+        2 | 3 | 9 => 0,
+        5 | 8 => 2,
+        11 => prng.below(3),
+        _ => 1 + prng.below(2),
+    };
+    let mut record = [0; 16];
+    record[0] = code;
+    record[1] = fan_out as u8;
+    for arc in 0..fan_out {
+        record[2 + arc] = u8::from(prng.below(12) == 0);
+        let absent = usize::from(prng.below(20) == 0);
+        let target = prng.below(count + absent) as u16;
+        record[4 + 2 * arc..6 + 2 * arc].copy_from_slice(&target.to_le_bytes());
+    }
+    if matches!(code, 4 | 8 | 9 | 32..=39) {
+        let constant = match code {
+            8 | 9 => prng.below(4) as i32,
+            _ => prng.word() as i32,
+        };
+        record[8..12].copy_from_slice(&constant.to_le_bytes());
+    }
+    if prng.below(10) == 0 {
+        record[prng.below(16)] = prng.word() as u8;
+    }
+    record
+}
+
+fn random_files(prng: &mut Prng) -> Files {
+    let count = 1 + prng.below(40);
+    let mut files = Files::default();
+    for _ in 0..count {
+        files.graph.extend(record(prng, count));
+    }
+    for _ in 0..prng.below(10) {
+        let mut input = [0; 20];
+        input[9] = prng.below(2) as u8;
+        input[10] = prng.below(count + 1) as u8;
+        input[12..16].copy_from_slice(&(prng.word() as i32).to_le_bytes());
+        if prng.below(6) == 0 {
+            input[prng.below(20)] = prng.word() as u8;
+        }
+        files.inputs.extend(input);
+    }
+    for _ in 0..prng.below(50) {
+        files.picks.extend((prng.word() as u16).to_le_bytes());
+    }
+    files
+}
+
+#[test]
+fn random_graphs() {
+    let mut prng = Prng(1);
+    let (mut typed, mut raw) = (0, 0);
+    for _ in 0..3000 {
+        let text = round_trip(&random_files(&mut prng));
+        raw += text.matches(" raw ").count();
+        typed += text.matches(" -> ").count();
+    }
+    assert!(typed > 10_000 && raw > 1_000, "{typed} typed, {raw} raw");
+}
+
+#[test]
+fn arbitrary_bytes() {
+    let mut prng = Prng(2);
+    for _ in 0..500 {
+        let mut bytes = |length: usize| (0..length).map(|_| prng.word() as u8).collect();
+        let files = Files {
+            graph: bytes(16 * 20),
+            inputs: bytes(20 * 10),
+            picks: bytes(2 * 40),
+        };
+        round_trip(&files);
+    }
+    round_trip(&Files::default());
+    round_trip(&Files {
+        graph: vec![2; 16 * 300],
+        inputs: vec![0; 20 * 3000],
+        picks: vec![9; 9000],
+    });
+}
+
+#[test]
+fn all_single_byte_changes_of_a_graph() {
+    let text = "a: ENTER site 1 -> b.0 return c\nb: LEAVE 0\nc: ADD 1 -> d.0\nd: STORE -> d.1\n";
+    let files = assemble(text).unwrap();
+    for at in 0..files.graph.len() {
+        for value in 0..=255 {
+            let mut changed = files.clone();
+            changed.graph[at] = value;
+            round_trip(&changed);
+        }
+    }
+}
