@@ -1,0 +1,111 @@
+// Prints what a run of the files `graph`, `inputs` and `picks` of the current folder leaves (01, "The
+// printed listing"), or says on standard error why it cannot.
+use libc::ENOENT;
+use libc::STDOUT_FILENO;
+use listing::Listed;
+use rules::answer::Answer;
+use text::Printed;
+ghost use mathlib.Core.Path.{_≡_};
+ghost use Prim.Native.Nat.{_≤_};
+ghost use lib.ListN.{length};
+
+const BUDGET: u16 = 2048;
+
+// Reads a file to the start of buf, and answers how many bytes, or -1 after saying why not. A missing
+// file counts as empty. Where the file is longer than buf, buf is longer than what a run accepts.
+fn read_file(path: &[u8], buf: &mut [u8]) -> isize {
+    let fd = os::open_read(path);
+    if fd < 0 {
+        if os::errno() == ENOENT {
+            return 0;
+        }
+        os::fail(path);
+        return -1;
+    }
+    let n = io::read_full(fd, buf);
+    // `read_full` stops at a read that fails as at the end: this one tells them apart.
+    let mut more = [0u8; 1];
+    let after = libc::read(fd, &mut more);
+    if after < 0 {
+        os::fail(path);
+        libc::close(fd);
+        return -1;
+    }
+    libc::close(fd);
+    n as isize
+}
+
+// The bytes of so many records, at most the ledger's.
+fn used_bytes(tokens: usize, ledger: &[u8]) -> usize
+    ensures { λ r. ⌜ r ≤ length (now (ledger .entry)) ⌝ }
+{
+    if tokens <= ledger.len() / 20 {
+        tokens * 20
+    } else {
+        ledger.len()
+    }
+}
+
+// Prints the whole text or, where it cannot, a line on standard error.
+fn put(answer: Answer, listing: &[u8], cells: &[u8], out: &mut [u8]) {
+    match text::print(answer, listing, cells, out) {
+        Printed::Done(n) => {
+            if !io::write_all(STDOUT_FILENO, &out[..n]) {
+                os::fail(b"write");
+            }
+        }
+        Printed::TooSmall => {
+            os::fail(b"text");
+        }
+    }
+}
+
+// Runs, lists and prints, with the buffers that it is lent.
+fn show(
+    graph: &[u8],
+    inputs: &[u8],
+    picks: &[u8],
+    ledger: &mut [u8],
+    cells: &mut [u8],
+    sorted: &mut [u8],
+    out: &mut [u8],
+)
+    requires { ⌜ length (now sorted) ≡ length (now ledger) ⌝ }
+{
+    let answer = engine::run(graph, inputs, picks, BUDGET, ledger, cells);
+    let used = used_bytes(answer.tokens, ledger);
+    match listing::list(&ledger[..used], &mut sorted[..used]) {
+        Listed::Done => put(answer, &sorted[..used], cells, out),
+        Listed::BadStore => os::fail(b"ledger"),
+    }
+}
+
+fn main() {
+    // Each a record longer than the longest that a run accepts.
+    let mut graph = [0u8; 4112];
+    let mut inputs = [0u8; 40980];
+    let mut picks = [0u8; 4098];
+    let g = read_file(b"graph", &mut graph);
+    let i = read_file(b"inputs", &mut inputs);
+    let p = read_file(b"picks", &mut picks);
+    if g < 0 || i < 0 || p < 0 {
+        return;
+    }
+    let g = io::count(g, &graph);
+    let i = io::count(i, &inputs);
+    let p = io::count(p, &picks);
+    let mut ledger = [0u8; 40960];
+    let mut cells = [0u8; 8192];
+    let mut sorted = [0u8; 40960];
+    // Room for every text (`text-within` of the crate text).
+    let mut out = [0u8; 161866];
+    show(
+        &graph[..g],
+        &inputs[..i],
+        &picks[..p],
+        &mut ledger,
+        &mut cells,
+        &mut sorted,
+        &mut out,
+    );
+}
