@@ -3,3 +3,4 @@ pub mod Passed
 pub mod Lawful
 pub mod Inputs
 pub mod Orders
+pub mod Left
