@@ -1,8 +1,11 @@
-// Prints what a run of the files `graph`, `inputs` and `picks` of the current folder leaves (01, "The
-// printed listing"), or says on standard error why it cannot.
+// Prints what a run of the files `graph`, `inputs` and `picks` leaves (01, "The printed listing"), or says
+// on standard error why it cannot. The files are those of the folder that the first argument names, or
+// of the current one.
+use libc::ENAMETOOLONG;
 use libc::ENOENT;
 use libc::STDOUT_FILENO;
 use listing::Listed;
+use record::table;
 use rules::answer::Answer;
 use text::Printed;
 ghost use mathlib.Core.Path.{_≡_};
@@ -32,6 +35,40 @@ fn read_file(path: &[u8], buf: &mut [u8]) -> isize {
         return -1;
     }
     libc::close(fd);
+    n as isize
+}
+
+// Reads a file of a folder, of the current one where the folder's name is empty.
+fn read_in(folder: &[u8], name: &[u8], buf: &mut [u8]) -> isize
+    requires { ⌜ (length (now folder) ≤ 4000) × (length (now name) ≤ 6) ⌝ }
+{
+    let n = folder.len();
+    if n == 0 {
+        return read_file(name, buf);
+    }
+    let mut path = io::buffer();
+    table::write_at(&mut path, 0, folder);
+    path[n] = b'/';
+    table::write_at(&mut path, n + 1, name);
+    read_file(&path[..n + 1 + name.len()], buf)
+}
+
+// Puts the first argument at the start of buf, and answers its length, 0 without one, or -1 after
+// saying why it names no folder.
+fn folder_in(buf: &mut [u8]) -> isize {
+    let n = os::arg(1, buf);
+    if os::errno() == ENAMETOOLONG {
+        os::fail(b"folder");
+        return -1;
+    }
+    if n > 0 {
+        let fd = os::open_read(&buf[..n]);
+        if fd < 0 {
+            os::fail(&buf[..n]);
+            return -1;
+        }
+        libc::close(fd);
+    }
     n as isize
 }
 
@@ -80,14 +117,17 @@ fn show(
     }
 }
 
-fn main() {
+// Reads the three files of a folder, and shows their run.
+fn show_folder(folder: &[u8])
+    requires { ⌜ length (now folder) ≤ 4000 ⌝ }
+{
     // Each a record longer than the longest that a run accepts.
     let mut graph = [0u8; 4112];
     let mut inputs = [0u8; 40980];
     let mut picks = [0u8; 4098];
-    let g = read_file(b"graph", &mut graph);
-    let i = read_file(b"inputs", &mut inputs);
-    let p = read_file(b"picks", &mut picks);
+    let g = read_in(folder, b"graph", &mut graph);
+    let i = read_in(folder, b"inputs", &mut inputs);
+    let p = read_in(folder, b"picks", &mut picks);
     if g < 0 || i < 0 || p < 0 {
         return;
     }
@@ -108,4 +148,14 @@ fn main() {
         &mut sorted,
         &mut out,
     );
+}
+
+fn main() {
+    let mut folder = [0u8; 4000];
+    let n = folder_in(&mut folder);
+    if n < 0 {
+        return;
+    }
+    let n = io::count(n, &folder);
+    show_folder(&folder[..n]);
 }
