@@ -1,4 +1,4 @@
--- The theorems (Enabled, Orders, Reached), what they are proved from (Swap, View, Store, Perm), and a computed example.
+-- The theorems (Enabled, Orders, Reached, Kept), what they are proved from (Swap, View, Store, Perm), and a computed example.
 -- Assumes nothing.
 pub mod Swap
 pub mod View
@@ -7,4 +7,5 @@ pub mod Perm
 pub mod Enabled
 pub mod Orders
 pub mod Reached
+pub mod Kept
 pub mod Example
