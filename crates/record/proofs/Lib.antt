@@ -3,4 +3,5 @@ pub mod Computed
 pub mod Numbers
 pub mod Tables
 pub mod Records
+pub mod Fitting
 pub mod Calls

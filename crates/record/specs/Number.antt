@@ -1,6 +1,6 @@
 -- Numbers in bytes. "Numbers are little-endian" (01, opening); signed ones are in two's complement at 32 bits.
 -- A byte past the end of a list reads as 0. Assumes nothing.
-use Prim.Native.Nat.{ℕ, _+_, _*_, _/_, _%_}
+use Prim.Native.Nat.{ℕ, _+_, _*_, _/_, _%_, _<_}
 use mathlib.Core.List.{List, [], _∷_, _++_}
 use lib.ListN.{getD}
 use lib.IntN.{ℤ}
@@ -20,6 +20,10 @@ number32 l k = number16 l k + 65536 * number16 l (k + 2)
 
 abbrev pub number64 : List ℕ → ℕ → ℕ
 number64 l k = number32 l k + 4294967296 * number32 l (k + 4)
+
+-- a list of bytes
+abbrev pub Bytes : List ℕ → Type 0
+Bytes l = (k : ℕ) → byteAt l k < 256
 
 -- ---- the bytes of a number
 

@@ -1,6 +1,8 @@
 pub mod Cases
 pub mod Passed
+pub mod PassedGraph
 pub mod Lawful
 pub mod Inputs
+pub mod Fits
 pub mod Orders
 pub mod Left

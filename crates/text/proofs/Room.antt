@@ -6,25 +6,22 @@ use mathlib.Core.Path.{_≡_, refl, ap, _∙_}
 use mathlib.Core.Bool.{Bool, true, false, cond}
 use mathlib.Core.List.{List, [], _∷_, _++_, map}
 use borrow.Author.Tests.{leb-true, le-leb}
-use lib.Dec.{eqb, leb}
+use lib.Dec.{leb}
 use lib.IntN.{ℤ, pos, negsuc}
 use lib.ListN.{length, drop, length-append}
-use lib.Seq.{getD-drop}
 use mir.Syntax.{w32}
 use mir.Val.{SFits}
-use mir.Facts.{sfits-toZ}
-use Rattle.record.specs.Number.{byteAt, number32, signedOf}
+use Rattle.record.specs.Number.{Bytes, signedOf}
 use Rattle.record.specs.Table.{rows, joined}
 use Rattle.record.specs.TokensAndTags as Tokens
-use Rattle.record.specs.TokensAndTags.{contentOf}
 use Rattle.record.specs.Cells as Cells
-use Rattle.record.specs.Cells.{cellOf, CellFits}
+use Rattle.record.specs.Cells.{CellFits}
 use Rattle.record.specs.declared.token.Token.{Token}
 use Rattle.record.specs.declared.token.Content.{Content}
 use Rattle.record.specs.declared.token.Content.the-variants.{Live, Spent, Deferred}
 use Rattle.record.specs.declared.cell.Cell.{Cell}
 use Rattle.record.specs.declared.cell.Cell.the-variants.{Absent, Waiting, Present}
-use Rattle.record.proofs.Numbers.{number16-small, number32-small}
+use Rattle.record.proofs.Fitting.{bytes-drop, signed-fits, token-fits, cell-fits}
 use Rattle.rules.specs.Answer.{numberOf, placeIn}
 use Rattle.rules.specs.declared.answer.Refusal.{Refusal}
 use Rattle.rules.specs.declared.answer.Refusal.the-variants.{GraphLength, UnknownOperation, FanOut, BadArc, BadSite, BadInput, BadStore, LedgerFull, SecondToken, NoSuchCell, SecondWrite, OutOfRange, Iteration, TooDeep, NoCaller, UnknownSite, NoReturn}
@@ -34,7 +31,7 @@ use Rattle.rules.specs.declared.answer.Answer.{Answer}
 use Rattle.text.specs.Words.{bytes}
 use Rattle.text.specs.Text.{decimal, signedDecimal, line, outcomeFields, stateWord, valueIn, answerLine, tokenLine, statedLine, cellLine, cellLines, printed, printedOf}
 use Rattle.text.specs.declared.Printed.the-variants.{Done, TooSmall}
-use Rattle.text.specs.Room.{AnswerFits, Bytes}
+use Rattle.text.specs.Room.{AnswerFits}
 use Rattle.text.proofs.Decimals.{at-most, short}
 use Rattle.text.proofs.Whole.{joined-append}
 
@@ -62,10 +59,6 @@ line-within f (g ∷ fs) k (l ∷ ks) h e = omega (arith, length-append f (32 �
 signed-short : (z : ℤ) → SFits w32 z → length (signedDecimal z) ≤ 11
 signed-short (pos n) f = omega (arith, at-most 9 n (omega (arith, f .sfits)))
 signed-short (negsuc n) f = omega (arith, at-most 9 (suc n) (omega (arith, f .sfits)))
-
-bits-short : (b : ℕ) → b < 2 ^ 32 → SFits w32 (signedOf b)
-unfolding signedOf
-bits-short b h = sfits-toZ (record { fits = h })
 
 number-short : (r : Refusal) → numberOf r < 100
 number-short GraphLength = omega arith
@@ -111,7 +104,7 @@ word-short (Deferred cell) = omega arith
 value-short : (c : Content) → Tokens.ContentFits c → length (signedDecimal (valueIn c)) ≤ 11
 value-short (Live v) h = signed-short v h
 value-short (Spent v) h = signed-short v h
-value-short (Deferred cell) h = signed-short (signedOf cell) (bits-short cell h)
+value-short (Deferred cell) h = signed-short (signedOf cell) (signed-fits cell h)
 
 pub token-short : (t : Token) → Tokens.TokenFits t → length (tokenLine t) ≤ 56
 unfolding tokenLine
@@ -141,37 +134,6 @@ cell-short k Waiting h f = stated-short k (bytes "waiting") (pos 0) h (omega ari
 cell-short k (Present v) h f = stated-short k (bytes "present") v h (omega arith) f
 
 -- ---- the records of a buffer of bytes
-
-bytes-drop : (n : ℕ) (l : List ℕ) → Bytes l → Bytes (drop n l)
-bytes-drop n l b k = rw (getD-drop n l k 0) (b (n + k))
-
-content-fits : (bits state : ℕ) → bits < 2 ^ 32 → Tokens.ContentFits (contentOf bits state)
-unfolding contentOf
-content-fits bits state h = go (eqb state 0) (eqb state 1)
-  where
-    go : (p q : Bool) → Tokens.ContentFits (cond p (Live (signedOf bits)) (cond q (Spent (signedOf bits)) (Deferred bits)))
-    go true q = bits-short bits h
-    go false true = bits-short bits h
-    go false false = h
-
-token-fits : (l : List ℕ) → Bytes l → Tokens.TokenFits (Tokens.decode l)
-unfolding Tokens.decode
-token-fits l b = record {
-  path = omega (arith, number32-small l b 0, number32-small l b 4);
-  iteration = b 8;
-  instruction = number16-small l b 10;
-  port = b 9;
-  content = content-fits (number32 l 12) (byteAt l 16) (number32-small l b 12);
-}
-
-cell-fits : (l : List ℕ) → Bytes l → CellFits (Cells.decode l)
-unfolding Cells.decode cellOf
-cell-fits l b = go (eqb (byteAt l 4) 1) (eqb (byteAt l 4) 2)
-  where
-    go : (p q : Bool) → CellFits (cond p Waiting (cond q (Present (signedOf (number32 l 0))) Absent))
-    go true q = tt
-    go false true = bits-short (number32 l 0) (number32-small l b 0)
-    go false false = tt
 
 tokens-within : (n : ℕ) (l : List ℕ) → Bytes l → length (joined (λ (x : List ℕ). x) (map tokenLine (rows 20 Tokens.decode n l))) ≤ n * 56
 tokens-within zero l b = omega arith
