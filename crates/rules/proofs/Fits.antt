@@ -1,5 +1,5 @@
--- Every token and every cell of a run fits its record, where graph and inputs are bytes and passed the check: so that the bytes of a token tell
--- which token it is. Assumes nothing.
+-- Every token and every cell of a run fits its record, where graph and inputs are bytes: so that the bytes of a token tell which token it is.
+-- The tokens fit the ledger, and the cells are as many as there are. Assumes nothing.
 use Prim.Native.Nat.{ℕ, zero, suc, _+_, _*_, _/_, _%_, _^_, _<_, _≤_}
 use mathlib.Core.Path.{_≡_, refl, sym, subst, _∙_}
 use mathlib.Core.Bool.{Bool, true, false, cond}
@@ -7,7 +7,7 @@ use mathlib.Core.List.{List, [], _∷_, map}
 use mathlib.Core.Option.{Option, none, some}
 use native.Mathlib.Omega.{arith}
 use native.Mathlib.Decide.{decLe}
-use lib.ListN.{length, getD, replicate}
+use lib.ListN.{length, getD, replicate, length-map}
 use lib.Dec.{eqb, leb, ltb}
 use lib.IntN.{ℤ, pos, negsuc, natAbs}
 use mir.Syntax.{w32}
@@ -40,16 +40,19 @@ use Rattle.arithmetic.specs.Arithmetic.{computeOf, eqZ}
 use Rattle.arithmetic.proofs.Ranged.{value-fits}
 use Rattle.machine.specs.Machine.{Key, Content, live, spent, deferred, Token, Cell, absent, waiting, present, Effect, refuse, send, read, write, Machine, State, run}
 use Rattle.machine.specs.Orders.{Live, AllLive, Start}
+use Rattle.machine.proofs.Orders.{startGood}
+use Rattle.machine.proofs.Reached.{reached-good, reached-picks}
 use Rattle.machine.proofs.Kept.{Each, OfContent, OfToken, OfCell, OfState, OfEffect, Keeps, run-keeps}
 use Rattle.rules.specs.declared.answer.Checked.{Checked}
 use Rattle.rules.specs.declared.answer.Checked.the-variants.{Passed, Failed}
 use Rattle.rules.specs.declared.answer.Refusal.the-variants as Refusals
 use Rattle.rules.specs.Check.{instructionAt, within, checkGraph, checkStores, check, mostCells}
 use Rattle.rules.specs.InstructionSet.{EffectHere, keyUnder, allUnder, sideOf, sendComputed, sendNext, sendEntered, sendReturned, returnOf, sendLeft, onCell, effectOf, effectIn, machineOf}
-use Rattle.rules.specs.Run.{contentHeld, contentRecord, tokenHeld, tokenRecord, cellRecord, firstState, picksOf, unlessFailed, result}
+use Rattle.rules.specs.Run.{contentHeld, contentRecord, tokenHeld, tokenRecord, cellRecord, firstState, picksOf, Result, refusedAtOnce, ranTo, unlessFailed, result}
 use Rattle.rules.specs.Orders.{tokensOf, cellsOf}
 use Rattle.rules.proofs.Passed.{both, demand-passed, andThen-passed, getD-past}
 use Rattle.rules.proofs.PassedGraph.{of-graph, at-most, enter-site}
+use Rattle.rules.proofs.Lawful.{lawful}
 use Rattle.rules.proofs.Inputs.{start}
 
 -- ---- keys
@@ -261,14 +264,6 @@ module _ (graph : List ℕ) (bytes : Bytes graph) (passed : checkGraph graph ≡
   cell-records [] h = tt
   cell-records (x ∷ xs) h = (cell-record x (h .0), cell-records xs (h .1))
 
-  run-fits : cells ≤ 1024 → (inputs : List ℕ) → Bytes inputs → Start (machineOf g capacity cells) (firstState inputs cells) → (budget : ℕ) (picks : List ℕ)
-      → All TokenFits (map tokenRecord (run (machineOf g capacity cells) budget picks (firstState inputs cells) .state .tokens))
-      × All CellFits (map cellRecord (run (machineOf g capacity cells) budget picks (firstState inputs cells) .state .cells))
-  run-fits few-cells inputs b s budget picks =
-      let x = run (machineOf g capacity cells) budget picks (firstState inputs cells) .state in
-      let fits = run-keeps (machineOf g capacity cells) KeyFits (SFits w32) keeps (firstState inputs cells) (start-fits inputs b s) budget picks in
-      (token-records few-cells (x .tokens) (fits .tokens), cell-records (x .cells) (fits .cells))
-
 -- ---- whole runs
 
 cells-few : (inputs picks ledger cells : ℕ) → checkStores inputs picks ledger cells ≡ Passed → cells / 8 ≤ mostCells
@@ -279,17 +274,44 @@ cells-few inputs picks ledger cells e =
     let last = both (whole 2 mostTokens picks) _ later .1 in
     leb-true (cells / 8) mostCells (both (eqb (cells % 8) 0) _ (both (whole 20 mostTokens ledger) _ last .1) .1)
 
+-- a run that was not refused at once leaves as many cells as there are
+abbrev pub CellCount : Result → ℕ → Type 0
+CellCount (refusedAtOnce r p) n = Unit {0}
+CellCount (ranTo e) n = length (cellsOf (ranTo e)) ≡ n
+
+pub record AllFit (x : Result) (capacity count : ℕ) : Type 0 where
+  pub tokens : All TokenFits (tokensOf x)
+  pub cells : All CellFits (cellsOf x)
+  pub room : length (tokensOf x) ≤ capacity
+  pub cellCount : CellCount x count
+
+run-fits : (graph : List ℕ) → Bytes graph → checkGraph graph ≡ Passed → (capacity cells : ℕ) → cells ≤ mostCells → (inputs : List ℕ) → Bytes inputs
+    → Start (machineOf (graphOf graph) capacity cells) (firstState inputs cells) → (budget : ℕ) (picks : List ℕ)
+    → AllFit (ranTo (run (machineOf (graphOf graph) capacity cells) budget picks (firstState inputs cells))) capacity cells
+run-fits graph graphBytes passed capacity cells few inputs inputBytes begun budget picks =
+    let M = machineOf (graphOf graph) capacity cells in
+    let s = firstState inputs cells in
+    let x = run M budget picks s .state in
+    let fits = run-keeps M KeyFits (SFits w32) (keeps graph graphBytes passed capacity cells) s (start-fits graph graphBytes passed capacity cells inputs inputBytes begun) budget picks in
+    let e = reached-picks M s budget picks in
+    let good = reached-good M (lawful graph passed capacity cells) s (startGood M s begun) (e .done) (e .sent) x (e .reached) in
+    record {
+      tokens = token-records graph graphBytes passed capacity cells few (x .tokens) (fits .tokens);
+      cells = cell-records graph graphBytes passed capacity cells (x .cells) (fits .cells);
+      room = rw (length-map (x .tokens) tokenRecord) (good .room);
+      cellCount = length-map (x .cells) cellRecord ∙ good .cellCount;
+    }
+
 module _ (graph inputs picks : List ℕ) (budget ledger cells : ℕ) (graphBytes : Bytes graph) (inputBytes : Bytes inputs) where
-  pub result-fits : All TokenFits (tokensOf (result graph inputs picks budget ledger cells)) × All CellFits (cellsOf (result graph inputs picks budget ledger cells))
+  pub result-fits : AllFit (result graph inputs picks budget ledger cells) (capacityOf ledger) (cells / 8)
   unfolding result unlessFailed check checkStores
   result-fits = go (check graph inputs picks ledger cells) refl
     where
-      go : (c : Checked) → check graph inputs picks ledger cells ≡ c
-          → All TokenFits (tokensOf (result graph inputs picks budget ledger cells)) × All CellFits (cellsOf (result graph inputs picks budget ledger cells))
-      go (Failed r p) e = rw e (tt, tt)
+      go : (c : Checked) → check graph inputs picks ledger cells ≡ c → AllFit (result graph inputs picks budget ledger cells) (capacityOf ledger) (cells / 8)
+      go (Failed r p) e = rw e (record { tokens = tt; cells = tt; room = omega arith; cellCount = tt })
       go Passed e =
           let parts = andThen-passed (checkGraph graph) _ e in
           let later = andThen-passed (checkStores (length inputs) (length picks) ledger cells) _ (parts .1) in
           let few : cells / 8 ≤ mostCells = cells-few (length inputs) (length picks) ledger cells (later .0) in
-          let run = run-fits graph graphBytes (parts .0) (capacityOf ledger) (cells / 8) few inputs inputBytes (start (graphOf graph) (capacityOf ledger) (cells / 8) inputs (later .1)) budget (picksOf picks) in
-          rw e run
+          let begun = start (graphOf graph) (capacityOf ledger) (cells / 8) inputs (later .1) in
+          rw e (run-fits graph graphBytes (parts .0) (capacityOf ledger) (cells / 8) few inputs inputBytes begun budget (picksOf picks))

@@ -34,7 +34,7 @@ use Rattle.rules.proofs.Inputs.{start}
 
 -- ---- lists
 
-perm-map : {A B : Type 0} (f : A → B) {l m : List A} → List·Permᴰ l m → List·Permᴰ (map f l) (map f m)
+pub perm-map : {A B : Type 0} (f : A → B) {l m : List A} → List·Permᴰ l m → List·Permᴰ (map f l) (map f m)
 perm-map f List·Permᴰ·nil = List·Permᴰ·nil
 perm-map f (List·Permᴰ·cons e d) = List·Permᴰ·cons (ap f e) (perm-map f d)
 perm-map f (List·Permᴰ·swap e d) = List·Permᴰ·swap (ap f e) (ap f d)
@@ -43,7 +43,7 @@ perm-map f (List·Permᴰ·trans d e) = List·Permᴰ·trans (perm-map f d) (per
 -- ---- lengths
 
 -- whole records: as many bytes as so many records have
-whole-bytes : (width most n : ℕ) → whole width most n ≡ true → (n % width ≡ 0) × (n / width ≤ most)
+pub whole-bytes : (width most n : ℕ) → whole width most n ≡ true → (n % width ≡ 0) × (n / width ≤ most)
 whole-bytes width most n e =
     let parts = both (eqb (n % width) 0) (leb (n / width) most) e in
     (eqb-true (n % width) 0 (parts .0), leb-true (n / width) most (parts .1))

@@ -1,0 +1,147 @@
+-- Demand 3, whole, proved: any two runs over one graph and one list of inputs agree, in every byte. From demand 3 over the rules, and from what it
+-- takes to go from tokens to bytes: every token of a run fits its record. Assumes nothing.
+use Prim.Native.Nat.{ℕ, _*_, _/_, _%_, _≤_}
+use mathlib.Core.Path.{_≡_, refl, sym, ap, _∙_, subst}
+use mathlib.Core.List.{List, [], _∷_, _++_, map, append-nil, List·Permᴰ}
+use mathlib.Core.Logic.{_↔_}
+use native.Mathlib.Omega.{arith}
+use lib.ListN.{length, take, drop, length-map}
+use lib.ListN.{drop-of-length-le}
+use Rattle.record.specs.declared.token.Token.{Token}
+use Rattle.record.specs.Number.{Bytes}
+use Rattle.record.specs.Table.{All, joined}
+use Rattle.record.specs.TokensAndTags.{encode, TokenFits, mostTokens, capacityOf, ledgerOf}
+use Rattle.record.specs.Cells as Cells
+use Rattle.record.proofs.Records.{length-token, length-cell}
+use Rattle.record.proofs.Tables.{length-joined}
+use Rattle.machine.specs.Machine as Machine
+use Rattle.machine.specs.Orders as Ends
+use Rattle.rules.specs.declared.answer.Refusal.{Refusal}
+use Rattle.rules.specs.declared.answer.Outcome.{Outcome}
+use Rattle.rules.specs.declared.answer.Outcome.the-variants as Outcomes
+use Rattle.rules.specs.declared.answer.Answer.{Answer}
+use Rattle.rules.specs.Check.{mostCells}
+use Rattle.rules.specs.Run.{Result, refusedAtOnce, ranTo, outcomeOf, result, ledgerAfter, cellsAfter, tokenRecord}
+use Rattle.rules.specs.Run as Run
+use Rattle.rules.specs.Orders.{tokensOf, cellsOf, EachOnce}
+use Rattle.rules.specs.Orders as Rules
+use Rattle.rules.proofs.Orders.{any-two-orders, perm-map, whole-bytes}
+use Rattle.rules.proofs.Fits.{CellCount, result-fits}
+use Rattle.listing.specs.Listing.{keyOf, records, answer, outAfter}
+use Rattle.listing.specs.Sorted.{Pairwise, DifferentKeys}
+use Rattle.listing.specs.Orders.{Lent, Left, RanOn, AllowedLent, Completed, Spent, Refused, used, Alike, Agree, AnyTwoOrders}
+use Rattle.listing.proofs.Lists.{all-of}
+use Rattle.listing.proofs.Laws.{records-joined}
+use Rattle.listing.proofs.AnyTwoOrders.{places-differ, used-records, length-tokens, list-orders}
+
+-- ---- how a run ended: its result and its answer say the same
+
+record SameEnd (x : Result) (o : Outcome) : Type 0 where
+  completes : Rules.Completed x ↔ Completed o
+  refuses : Rules.Refused x ↔ Refused o
+  spends : Spent o → Rules.Spent x
+
+same-end : (x : Result) → SameEnd x (Run.answer x .outcome)
+unfolding Run.answer
+same-end (refusedAtOnce r p) = record { completes = (λ h. h, λ h. h); refuses = (λ h. h, λ h. h); spends = λ h. h }
+same-end (ranTo e) = go (e .outcome)
+  where
+    go : (o : Machine.Outcome Refusal) → SameEnd (ranTo (record { outcome = o; firings = e .firings; state = e .state })) (outcomeOf o)
+    go Machine.completed = record { completes = (λ h. h, λ h. h); refuses = (λ h. h, λ h. h); spends = λ h. h }
+    go Machine.budgetSpent = record { completes = (λ h. h, λ h. h); refuses = (λ h. h, λ h. h); spends = λ h. h }
+    go (Machine.refused r p) = record { completes = (λ h. h, λ h. h); refuses = (λ h. h, λ h. h); spends = λ h. h }
+
+is-completed : (o : Outcome) → Completed o → o ≡ Outcomes.Completed
+is-completed Outcomes.Completed h = refl
+is-completed Outcomes.Spent h = absurd h
+is-completed (Outcomes.Refused r place) h = absurd h
+
+-- ---- what a run that completes leaves, in bytes
+
+used-bytes : (x : Result) → Rules.Completed x → (lent : List ℕ) → take (Run.answer x .tokens * 20) (ledgerAfter x lent) ≡ joined encode (tokensOf x)
+unfolding Run.answer ledgerAfter
+used-bytes (refusedAtOnce r p) h lent = absurd h
+used-bytes (ranTo e) h lent =
+    ap (λ (n : ℕ). take (n * 20) (ledgerOf (tokensOf (ranTo e)) lent)) (sym (length-map (e .state .tokens) tokenRecord)) ∙ used-records (tokensOf (ranTo e)) lent
+
+cell-bytes : (x : Result) → Rules.Completed x → (lent : List ℕ) → length lent % 8 ≡ 0 → CellCount x (length lent / 8) → cellsAfter x lent ≡ joined Cells.encode (cellsOf x)
+unfolding cellsAfter
+cell-bytes (refusedAtOnce r p) h lent whole count = absurd h
+cell-bytes (ranTo e) h lent whole count =
+    let written = joined Cells.encode (cellsOf (ranTo e)) in
+    let n : length written ≡ length (cellsOf (ranTo e)) * 8 = length-joined 8 Cells.encode length-cell (cellsOf (ranTo e)) in
+    let all : length lent ≤ length written = omega arith in
+    ap (λ (l : List ℕ). written ++ l) (drop-of-length-le lent all) ∙ append-nil written
+
+-- ---- tokens and their records
+
+all-apart : (t : Token) (us : List Token) → All (λ u. t .tag ≡ u .tag → t .port ≡ u .port → ⊥) us → All (λ u. (t .tag ≡ u .tag) × (t .port ≡ u .port) → ⊥) us
+all-apart t [] h = tt
+all-apart t (u ∷ us) h = (λ e. h .0 (e .0) (e .1), all-apart t us (h .1))
+
+once-apart : (ts : List Token) → EachOnce ts → Pairwise (λ t u. (t .tag ≡ u .tag) × (t .port ≡ u .port) → ⊥) ts
+once-apart [] h = tt
+once-apart (t ∷ ts) h = (all-apart t ts (h .0), once-apart ts (h .1))
+
+records-of : (ts : List Token) → records (joined encode ts) ≡ map encode ts
+records-of ts = records-joined encode ts (all-of (λ t. length (encode t) ≡ 20) length-token ts)
+
+-- ---- two runs
+
+module _ (graph inputs : List ℕ) (graphBytes : Bytes graph) (inputBytes : Bytes inputs) (l m : Lent) (a : AllowedLent l) (b : AllowedLent m)
+    (capacities : capacityOf (length (l .ledger)) ≡ capacityOf (length (m .ledger))) (counts : length (l .cells) / 8 ≡ length (m .cells) / 8)
+    (x y : Left) (ranX : RanOn graph inputs l x) (ranY : RanOn graph inputs m y) where
+  abbrev resultOf : Lent → Result
+  resultOf k = result graph inputs (k .picks) 2048 (length (k .ledger)) (length (k .cells))
+
+  agreed : Rules.Agree (resultOf l) (resultOf m)
+  agreed = any-two-orders graph inputs (l .picks) (m .picks) (length (l .ledger)) (length (m .ledger)) (length (l .cells)) (length (m .cells)) a b capacities counts
+
+  ended : (k : Lent) (z : Left) → RanOn graph inputs k z → SameEnd (resultOf k) (z .answer .outcome)
+  ended k z ran = subst (λ (r : Answer). SameEnd (resultOf k) (r .outcome)) (sym (ran .answered)) (same-end (resultOf k))
+
+  used-of : (k : Lent) (z : Left) → RanOn graph inputs k z → Rules.Completed (resultOf k) → used z ≡ joined encode (tokensOf (resultOf k))
+  used-of k z ran c = rw (ran .answered, ran .ledgerLeft) (used-bytes (resultOf k) c (k .ledger))
+
+  cells-of : (k : Lent) → AllowedLent k → (z : Left) → RanOn graph inputs k z → Rules.Completed (resultOf k) → z .cells ≡ joined Cells.encode (cellsOf (resultOf k))
+  cells-of k ok z ran c =
+      let fits = result-fits graph inputs (k .picks) 2048 (length (k .ledger)) (length (k .cells)) graphBytes inputBytes in
+      ran .cellsLeft ∙ cell-bytes (resultOf k) c (k .cells) (whole-bytes 8 mostCells (length (k .cells)) (ok .allowedCells) .0) (fits .cellCount)
+
+  alike : Completed (x .answer .outcome) → Alike x y
+  alike done =
+      let cx = ended l x ranX .completes .1 done in
+      let cy = agreed .completes .0 cx in
+      let same = agreed .alike cx in
+      let ts = tokensOf (resultOf l) in
+      let us = tokensOf (resultOf m) in
+      let ux = used-of l x ranX cx in
+      let uy = used-of m y ranY cy in
+      let fits = result-fits graph inputs (l .picks) 2048 (length (l .ledger)) (length (l .cells)) graphBytes inputBytes in
+      let few = whole-bytes 20 mostTokens (length (l .ledger)) (a .allowedLedger) .1 in
+      let outcomes : x .answer .outcome ≡ y .answer .outcome = is-completed (x .answer .outcome) done ∙ sym (is-completed (y .answer .outcome) (ended m y ranY .completes .0 cy)) in
+      let firings : x .answer .firings ≡ y .answer .firings = rw (ranX .answered, ranY .answered) (same .firings) in
+      let tokens : x .answer .tokens ≡ y .answer .tokens = rw (ranX .answered, ranY .answered) (same .tokens) in
+      record {
+        answers = λ i. record { outcome = outcomes i; firings = firings i; tokens = tokens i };
+        cells = cells-of l a x ranX cx ∙ ap (joined Cells.encode) (same .cells) ∙ sym (cells-of m b y ranY cy);
+        sameTokens = rw (ux, uy, records-of ts, records-of us) (perm-map encode (same .sameTokens));
+        listings = λ out out′ e e′.
+            rw (ux, uy)
+            (list-orders out out′ (same .sameTokens) (places-differ ts (once-apart ts (same .eachOnce))) (fits .tokens) (omega (arith, fits .room, few))
+            (e ∙ ap length ux ∙ length-tokens ts) (e′ ∙ ap length uy ∙ length-tokens us));
+      }
+
+  agree : Agree x y
+  agree =
+      let ex = ended l x ranX in
+      let ey = ended m y ranY in
+      record {
+        completes = (λ h. ey .completes .0 (agreed .completes .0 (ex .completes .1 h)), λ h. ex .completes .0 (agreed .completes .1 (ey .completes .1 h)));
+        alike = alike;
+        refused = (λ h. ey .refuses .0 (agreed .refused .0 (ex .refuses .1 h)), λ h. ex .refuses .0 (agreed .refused .1 (ey .refuses .1 h)));
+        neverSpent = λ h. agreed .neverSpent (ex .spends h);
+      }
+
+pub any-two-orders-agree : AnyTwoOrders
+any-two-orders-agree graph inputs bg bi l m a b c d x y rx ry = agree graph inputs bg bi l m a b c d x y rx ry

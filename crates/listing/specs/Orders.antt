@@ -1,0 +1,88 @@
+-- Demand 3, whole: 01, "Any two orders". One claim about two runs over one graph and one list of inputs, in bytes: for every two lists of picks,
+-- and whatever ledger and cells held before. It speaks of what `run` (crate engine) and `list` promise, `Ran` and `answer` with `outAfter`.
+-- The statement; it is proved in proofs/Orders. Assumes nothing.
+use Prim.Native.Nat.{ℕ, _*_, _/_}
+use mathlib.Core.Path.{_≡_}
+use mathlib.Core.List.{List, List·Permᴰ}
+use mathlib.Core.Logic.{_↔_}
+use lib.ListN.{length, take}
+use Rattle.record.specs.Number.{Bytes}
+use Rattle.record.specs.TokensAndTags.{capacityOf}
+use Rattle.rules.specs.declared.answer.Answer.{Answer}
+use Rattle.rules.specs.declared.answer.Outcome.{Outcome}
+use Rattle.rules.specs.declared.answer.Outcome.the-variants as Outcomes
+use Rattle.rules.specs.Run.{result, Ran}
+use Rattle.rules.specs.Orders.{Allowed}
+use Rattle.listing.specs.Listing.{records, answer, outAfter}
+
+-- ---- a run
+
+-- what a run is lent beside graph and inputs
+pub record Lent : Type 0 where
+  pub picks : List ℕ
+  pub ledger : List ℕ
+  pub cells : List ℕ
+
+-- what it answers, and every byte of the two buffers afterwards
+pub record Left : Type 0 where
+  pub answer : Answer
+  pub ledger : List ℕ
+  pub cells : List ℕ
+
+-- the promise of `run`, at "a budget of 2,048"
+abbrev pub RanOn : (graph inputs : List ℕ) → Lent → Left → Type 0
+RanOn graph inputs l x = Ran (result graph inputs (l .picks) 2048 (length (l .ledger)) (length (l .cells))) (x .answer) (l .ledger) (x .ledger) (l .cells) (x .cells)
+
+-- "neither refused by 7 for a buffer other than the inputs"
+abbrev pub AllowedLent : Lent → Type 0
+AllowedLent l = Allowed (l .picks) (length (l .ledger)) (length (l .cells))
+
+-- ---- how it ended
+
+abbrev pub Completed : Outcome → Type 0
+Completed Outcomes.Completed = Unit {0}
+Completed Outcomes.Spent = ⊥
+Completed (Outcomes.Refused r place) = ⊥
+
+abbrev pub Spent : Outcome → Type 0
+Spent Outcomes.Completed = ⊥
+Spent Outcomes.Spent = Unit {0}
+Spent (Outcomes.Refused r place) = ⊥
+
+abbrev pub Refused : Outcome → Type 0
+Refused Outcomes.Completed = ⊥
+Refused Outcomes.Spent = ⊥
+Refused (Outcomes.Refused r place) = Unit {0}
+
+-- the first t ledger records, of t tokens, which `list` is lent
+abbrev pub used : Left → List ℕ
+used x = take (x .answer .tokens * 20) (x .ledger)
+
+-- ---- the claim
+
+-- of two runs that complete
+pub record Alike (x y : Left) : Type 0 where
+  -- "If one run completes with f firings and t tokens, so does the other."
+  pub answers : x .answer ≡ y .answer
+  -- "All cell bytes are equal."
+  pub cells : x .cells ≡ y .cells
+  -- "The first t ledger records of one run are those of the other in some order, in every byte of each, states included"
+  pub sameTokens : List·Permᴰ (records (used x)) (records (used y))
+  -- "The listings of the two, in outputs of their length, are equal in every byte": `list` is done with both
+  pub listings : (out out′ : List ℕ) → length out ≡ length (used x) → length out′ ≡ length (used y)
+      → (answer (used x) out ≡ 0) × (answer (used y) out′ ≡ 0) × (outAfter (used x) out ≡ outAfter (used y) out′)
+
+pub record Agree (x y : Left) : Type 0 where
+  pub completes : Completed (x .answer .outcome) ↔ Completed (y .answer .outcome)
+  pub alike : Completed (x .answer .outcome) → Alike x y
+  -- "If one run is refused, so is the other"
+  pub refused : Refused (x .answer .outcome) ↔ Refused (y .answer .outcome)
+  -- a budget of 2,048 is never spent
+  pub neverSpent : ¬ (Spent (x .answer .outcome))
+
+-- "two whole runs over one graph and one list of inputs, for every two lists of picks [..] Capacity and cell count are equal [..] What ledger and
+-- cells held beforehand may differ."
+abbrev pub AnyTwoOrders : Type 0
+AnyTwoOrders = (graph inputs : List ℕ) → Bytes graph → Bytes inputs → (l m : Lent) → AllowedLent l → AllowedLent m
+    → capacityOf (length (l .ledger)) ≡ capacityOf (length (m .ledger)) → length (l .cells) / 8 ≡ length (m .cells) / 8
+    → (x y : Left) → RanOn graph inputs l x → RanOn graph inputs m y → Agree x y
