@@ -166,7 +166,7 @@ cell-bytes-back l p =
 -- ---- a record is read from its own bytes alone
 
 module _ (l : List ℕ) where
-  token-front : Tokens.decode (take 20 l) ≡ Tokens.decode l
+  pub token-front : Tokens.decode (take 20 l) ≡ Tokens.decode l
   unfolding Tokens.decode
   token-front =
       rw (

@@ -1,15 +1,47 @@
--- What follows from `result`, `ledgerAfter` and `cellsAfter` for a reader of 01, "The answer and the refusals". Assumes nothing.
-use Prim.Native.Nat.{ℕ}
-use mathlib.Core.Path.{_≡_, refl}
-use mathlib.Core.List.{List}
-use lib.ListN.{length}
+-- What a run leaves, for a reader of 01: a refusal before any firing writes nothing; a run first sets all cells absent and writes its inputs; a refused
+-- firing leaves ledger and cells as it found them; bytes past what is written stay as lent. All of it follows from `result`, `answer`, `ledgerAfter` and
+-- `cellsAfter`, by which the promise of `run` is made. Assumes nothing.
+use Prim.Native.Nat.{ℕ, zero, suc, _+_, _*_, _/_, _%_, _<_, _≤_}
+use mathlib.Core.Path.{_≡_, refl, sym, ap, _∙_, subst}
+use mathlib.Core.Bool.{Bool, true, _&&_}
+use mathlib.Core.List.{List, [], _∷_, _++_, map, append-nil}
+use native.Mathlib.Omega.{arith}
+use native.Mathlib.Nat.{suc-mul, add-comm}
+use native.Mathlib.Decide.{decLe}
+use borrow.Author.Tests.{eqb-true}
+use lib.Dec.{eqb, leb, ltb}
+use lib.IntN.{ℤ}
+use lib.ListN.{length, getD, take, drop, replicate, length-map, length-drop, length-replicate, replicate-append-replicate, drop-of-length-le}
+use lib.Seq.{getD-take, length-take-le, drop-at, take-all}
+use Rattle.record.specs.declared.tag.Tag.{Tag}
+use Rattle.record.specs.declared.token.Token as Record
+use Rattle.record.specs.declared.token.Content.the-variants.{Live, Spent, Deferred}
+use Rattle.record.specs.declared.token.Content as RecordContent
+use Rattle.record.specs.declared.cell.Cell.the-variants.{Absent}
+use Rattle.record.specs.declared.instruction.Instruction.{Instruction}
+use Rattle.record.specs.Number.{Bytes, byteAt, number16, number32, number64}
+use Rattle.record.specs.Table.{rows, allRows, joined, whole, writtenOver}
+use Rattle.record.specs.GraphRecords.{graphOf}
+use Rattle.record.specs.TokensAndTags.{isInput, mostTokens, capacityOf, ledgerOf}
+use Rattle.record.specs.TokensAndTags as Tokens
+use Rattle.record.specs.Cells as Cells
+use Rattle.record.proofs.Records.{ProperToken, token-bytes-back, token-front, length-token}
+use Rattle.record.proofs.Fitting.{bytes-drop}
+use Rattle.record.proofs.Tables.{length-joined, rows-raw}
+use Rattle.machine.specs.Machine.{absent, refused, Machine, State, end, budgetSpent, End, run}
+use Rattle.machine.specs.Machine as Machine
+use Rattle.machine.proofs.Refused.{refused-picks, run-zero}
 use Rattle.rules.specs.declared.answer.Refusal.{Refusal}
+use Rattle.rules.specs.declared.answer.Refusal.the-variants as Refusals
 use Rattle.rules.specs.declared.answer.Outcome.the-variants as Outcomes
-use Rattle.rules.specs.declared.answer.Checked.the-variants.{Failed}
-use Rattle.rules.specs.Check.{check}
-use Rattle.rules.specs.Run.{Result, refusedAtOnce, unlessFailed, result, answer, ledgerAfter, cellsAfter}
+use Rattle.rules.specs.declared.answer.Checked.the-variants.{Passed, Failed}
+use Rattle.rules.specs.Check.{demand, inTurn, goodInput, operandsAt, checkGraph, checkStores, checkInputs, check, mostCells}
+use Rattle.rules.specs.InstructionSet.{machineOf}
+use Rattle.rules.specs.Run.{contentHeld, contentRecord, tokenHeld, tokenRecord, cellRecord, firstState, picksOf, Result, refusedAtOnce, ranTo, outcomeOf, unlessFailed, result, answer, ledgerAfter, cellsAfter}
+use Rattle.rules.proofs.Passed.{both, demand-passed, andThen-passed, getD-past}
 
--- "All these answer 0 firings and 0 tokens and write no buffer."
+-- ---- "All these answer 0 firings and 0 tokens and write no buffer."
+
 pub record Untouched (x : Result) (r : Refusal) (place : ℕ) (ledger cells : List ℕ) : Type 0 where
   pub answered : answer x ≡ record { outcome = Outcomes.Refused r place; firings = 0; tokens = 0 }
   pub ledgerLeft : ledgerAfter x ledger ≡ ledger
@@ -23,3 +55,131 @@ at-once r place ledger cells = record { answered = refl; ledgerLeft = refl; cell
 pub refused-before-firing : (graph inputs picks : List ℕ) (budget : ℕ) (ledger cells : List ℕ) (r : Refusal) (place : ℕ) → check graph inputs picks (length ledger) (length cells) ≡ Failed r place → Untouched (result graph inputs picks budget (length ledger) (length cells)) r place ledger cells
 unfolding result unlessFailed
 refused-before-firing graph inputs picks budget ledger cells r place failed = rw failed (at-once r place ledger cells)
+
+-- ---- "Here and in every other buffer, bytes past what is written stay as lent."
+
+-- the used records are as many as the answer has tokens
+pub rest-as-lent : (x : Result) (ledger : List ℕ) → drop (answer x .tokens * 20) (ledgerAfter x ledger) ≡ drop (answer x .tokens * 20) ledger
+unfolding answer ledgerAfter
+rest-as-lent (refusedAtOnce r p) ledger = refl
+rest-as-lent (ranTo e) ledger =
+    let ts = map tokenRecord (e .state .tokens) in
+    let n : length (joined Tokens.encode ts) ≡ length (e .state .tokens) * 20 = length-joined 20 Tokens.encode length-token ts ∙ ap (λ (k : ℕ). k * 20) (length-map (e .state .tokens) tokenRecord) in
+    drop-at (joined Tokens.encode ts) _ (length (e .state .tokens) * 20) n ∙ ap (λ (k : ℕ). drop k ledger) n
+
+-- ---- a refused firing
+
+-- "ledger and cells stay as before this firing, and the run ends": the same run with a budget of the firings that were done is stopped right before the
+-- refused one, and leaves the same
+pub record AsBefore (x before : Result) (ledger cells : List ℕ) : Type 0 where
+  pub stopped : answer before ≡ record { outcome = Outcomes.Spent; firings = answer x .firings; tokens = answer x .tokens }
+  pub ledgerLeft : ledgerAfter x ledger ≡ ledgerAfter before ledger
+  pub cellsLeft : cellsAfter x cells ≡ cellsAfter before cells
+
+as-before : (e d : End Refusal Tag ℤ) → d ≡ record { outcome = budgetSpent; firings = e .firings; state = e .state } → (ledger cells : List ℕ) → AsBefore (ranTo e) (ranTo d) ledger cells
+unfolding answer ledgerAfter cellsAfter
+as-before e d same ledger cells = rw same (record { stopped = refl; ledgerLeft = refl; cellsLeft = refl })
+
+pub refused-firing : (graph inputs picks : List ℕ) (budget : ℕ) (ledger cells : List ℕ) → check graph inputs picks (length ledger) (length cells) ≡ Passed → (r : Refusal) (place : ℕ)
+    → answer (result graph inputs picks budget (length ledger) (length cells)) .outcome ≡ Outcomes.Refused r place
+    → AsBefore (result graph inputs picks budget (length ledger) (length cells))
+    (result graph inputs picks (answer (result graph inputs picks budget (length ledger) (length cells)) .firings) (length ledger) (length cells))
+    ledger cells
+unfolding result unlessFailed answer
+refused-firing graph inputs picks budget ledger cells passed r place refusing =
+    let M = machineOf (graphOf graph) (capacityOf (length ledger)) (length cells / 8) in
+    let s = firstState inputs (length cells / 8) in
+    let e = run M budget (picksOf picks) s in
+    rw passed (as-before e (run M (e .firings) (picksOf picks) s) (refused-picks M s budget (picksOf picks) r place (is-refused (e .outcome) r place (rw passed at refusing))) ledger cells)
+  where
+    is-refused : (o : Machine.Outcome Refusal) (q : Refusal) (p : ℕ) → outcomeOf o ≡ Outcomes.Refused q p → o ≡ refused q p
+    is-refused Machine.completed q p h = let z : _≡_ {A = ℕ} 0 1 = cc in absurd (omega arith)
+    is-refused Machine.budgetSpent q p h = let z : _≡_ {A = ℕ} 0 1 = cc in absurd (omega arith)
+    is-refused (refused t n) q p h = cc
+
+-- ---- "An accepted run first sets all cells absent and writes its inputs to the ledger."
+
+-- the record that l starts with, written back
+input-back : (l : List ℕ) → Bytes l → 20 ≤ length l → isInput l ≡ true → Tokens.encode (Tokens.decode l) ≡ take 20 l
+unfolding isInput
+input-back l b long good =
+    let rest = both (eqb (number64 l 0) 0) _ good .1 in
+    let zeros : number32 l 16 ≡ 0 = eqb-true (number32 l 16) 0 (both (eqb (byteAt l 8) 0) _ rest .1) in
+    let front : (k : ℕ) → k < 20 → byteAt (take 20 l) k ≡ byteAt l k = λ k h. getD-take 20 l k 0 h in
+    ap Tokens.encode (sym (token-front l))
+    ∙ token-bytes-back (take 20 l) (record {
+      size = length-take-le 20 l long;
+      small = λ k. small k (decLe (suc k) 20);
+      state = rw (front 16 (omega arith)) (omega arith);
+      zeros = (rw (front 17 (omega arith)) (omega arith), rw (front 18 (omega arith)) (omega arith), rw (front 19 (omega arith)) (omega arith));
+    })
+  where
+    small : (k : ℕ) → Dec (suc k ≤ 20) → byteAt (take 20 l) k < 256
+    small k (yes h) = rw (getD-take 20 l k 0 h) (b k)
+    small k (no n) = rw (getD-past (take 20 l) k 0 (omega (arith, length-take-le 20 l long))) (omega arith)
+
+inputs-back : (g : List Instruction) (n i : ℕ) (l : List ℕ) → Bytes l → n * 20 ≤ length l → inTurn (λ k good. demand good Refusals.BadInput k) i (rows 20 (goodInput g) n l) ≡ Passed
+    → joined Tokens.encode (rows 20 Tokens.decode n l) ≡ joined (λ (r : List ℕ). r) (rows 20 (take 20) n l)
+unfolding goodInput
+inputs-back g zero i l b long e = refl
+inputs-back g (suc n) i l b long e =
+    let parts = andThen-passed (demand (goodInput g l) Refusals.BadInput i) _ e in
+    let good = both (isInput l) (ltb (byteAt l 9) (operandsAt g (number16 l 10))) (demand-passed (goodInput g l) Refusals.BadInput i (parts .0)) .0 in
+    let later = inputs-back g n (suc i) (drop 20 l) (bytes-drop 20 l b) (omega (arith, length-drop 20 l, suc-mul n 20)) (parts .1) in
+    λ j. input-back l b (omega (arith, suc-mul n 20)) good j ++ later j
+
+held-back : (ts : List Record.Token) → map tokenRecord (map tokenHeld ts) ≡ ts
+held-back [] = refl
+held-back (t ∷ ts) = λ j. record { tag = t .tag; port = t .port; content = content (t .content) j } ∷ held-back ts j
+  where
+    content : (x : RecordContent.Content) → contentRecord (contentHeld x) ≡ x
+    content (Live v) = refl
+    content (Spent v) = refl
+    content (Deferred c) = refl
+
+absent-bytes : (n : ℕ) → joined Cells.encode (map cellRecord (replicate n absent)) ≡ replicate (n * 8) 0
+unfolding Cells.encode
+absent-bytes zero = refl
+absent-bytes (suc n) = rw (absent-bytes n, suc-mul n 8, add-comm (n * 8) 8) (replicate-append-replicate 8 (n * 8) 0)
+
+stores-whole : (inputs picks ledger cells : ℕ) → checkStores inputs picks ledger cells ≡ Passed → (inputs % 20 ≡ 0) × (cells % 8 ≡ 0)
+unfolding checkStores
+stores-whole inputs picks ledger cells e =
+    let all = both (whole 20 mostTokens inputs) _ (demand-passed _ Refusals.BadStore 0 e) in
+    let later = both (whole 2 mostTokens picks) _ (all .1) .1 in
+    let last = both (whole 20 mostTokens ledger) _ later .1 in
+    (eqb-true (inputs % 20) 0 (both (eqb (inputs % 20) 0) _ (all .0) .0), eqb-true (cells % 8) 0 (both (eqb (cells % 8) 0) _ last .0))
+
+first-left : (g : List Instruction) (capacity : ℕ) (picks inputs ledger cells : List ℕ) → Bytes inputs → length inputs % 20 ≡ 0 → length cells % 8 ≡ 0 → checkInputs g capacity inputs ≡ Passed
+    → (ledgerAfter (ranTo (run (machineOf g capacity (length cells / 8)) 0 picks (firstState inputs (length cells / 8)))) ledger ≡ inputs ++ drop (length inputs) ledger)
+    × (cellsAfter (ranTo (run (machineOf g capacity (length cells / 8)) 0 picks (firstState inputs (length cells / 8)))) cells ≡ replicate (length cells) 0)
+unfolding ledgerAfter cellsAfter firstState checkInputs
+first-left g capacity picks inputs ledger cells b wi wc passed =
+    let n = length inputs / 20 in
+    let s = firstState inputs (length cells / 8) in
+    let state = run-zero (machineOf g capacity (length cells / 8)) s picks in
+    let good = andThen-passed (inTurn (λ k ok. demand ok Refusals.BadInput k) 0 (allRows 20 (goodInput g) inputs)) _ passed .0 in
+    let tokens : joined Tokens.encode (map tokenRecord (s .tokens)) ≡ inputs =
+    ap (joined Tokens.encode) (held-back (allRows 20 Tokens.decode inputs)) ∙ inputs-back g n 0 inputs b (omega arith) good ∙ rows-raw 20 n inputs ∙ take-all (n * 20) inputs (omega arith) in
+    let none : List ℕ = replicate (length cells) 0 in
+    let bytes : length cells / 8 * 8 ≡ length cells = omega arith in
+    let zeros : joined Cells.encode (map cellRecord (s .cells)) ≡ none = absent-bytes (length cells / 8) ∙ ap (λ (k : ℕ). replicate k 0) bytes in
+    let long : length cells ≤ length none = omega (arith, length-replicate {A = ℕ} (length cells) 0) in
+    let rest : drop (length none) cells ≡ [] = drop-of-length-le cells long in (
+      ap (λ (x : State Tag ℤ). ledgerOf (map tokenRecord (x .tokens)) ledger) state ∙ ap (λ (l : List ℕ). l ++ drop (length l) ledger) tokens,
+      ap (λ (x : State Tag ℤ). writtenOver Cells.encode (map cellRecord (x .cells)) cells) state
+          ∙ ap (λ (l : List ℕ). l ++ drop (length l) cells) zeros
+          ∙ ap (λ (l : List ℕ). none ++ l) rest
+          ∙ append-nil none,
+    )
+
+-- before the first firing the ledger has the inputs' bytes and then what it was lent with, and every byte of the cells is 0
+pub accepted-first : (graph inputs picks : List ℕ) (ledger cells : List ℕ) → Bytes inputs → check graph inputs picks (length ledger) (length cells) ≡ Passed
+    → (ledgerAfter (result graph inputs picks 0 (length ledger) (length cells)) ledger ≡ inputs ++ drop (length inputs) ledger)
+    × (cellsAfter (result graph inputs picks 0 (length ledger) (length cells)) cells ≡ replicate (length cells) 0)
+unfolding result unlessFailed check
+accepted-first graph inputs picks ledger cells b passed =
+    let parts = andThen-passed (checkGraph graph) _ passed in
+    let later = andThen-passed (checkStores (length inputs) (length picks) (length ledger) (length cells)) _ (parts .1) in
+    let wholes = stores-whole (length inputs) (length picks) (length ledger) (length cells) (later .0) in
+    rw passed (first-left (graphOf graph) (capacityOf (length ledger)) (picksOf picks) inputs ledger cells b (wholes .0) (wholes .1) (later .1))
