@@ -38,7 +38,8 @@ use Rattle.rules.specs.Check.{all, goodArc, instructionAt, operandsAt, checkGra
 use Rattle.rules.specs.InstructionSet.{EffectHere, keyUnder, allUnder, sideOf, sendComputed, sendNext, sendEntered, sendReturned, sendLeft, returnOf, onCell, effectOf, effectIn}
 use Rattle.effect.specs.Held.{Arrives, AllSent}
 use Rattle.rules.proofs.Passed.{both}
-use Rattle.effect.proofs.Passed.{Good, of-graph, two-operands, switch-two, enter-two}
+use Rattle.rules.proofs.PassedGraph.{Good, of-graph, two-operands}
+use Rattle.effect.proofs.Passed.{switch-two, enter-two}
 
 -- past the graph stands an unknown operation
 past : (g : List Instruction) (i : ℕ) → length g ≤ i → instructionAt g i ≡ Graph.decode []
