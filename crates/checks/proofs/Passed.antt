@@ -22,12 +22,12 @@ use Rattle.rules.specs.declared.answer.Refusal.the-variants.{GraphLength, BadIn
 use Rattle.rules.specs.declared.answer.Checked.the-variants.{Passed}
 use Rattle.rules.specs.Check.{demand, all, instructionAt, operandsAt, fanOutAllowed, unusedAreZero, goodArc, within, entersSite, goodSite, checkRecord, checkGraph, checkStores, goodInput, secondInput, checkInputs, check}
 use Rattle.rules.specs.InstructionSet.{returnOf}
-use Rattle.checks.specs.Inputs.{tokensOf}
-use Rattle.checks.specs.Tables.{returnEntry}
-use Rattle.checks.proofs.Turns.{and-true-left, and-true-right, both-passed, demanded, each-passed, all-at}
-use Rattle.checks.proofs.Constants.{within-is}
-use Rattle.checks.proofs.Graphs.{length-graph, past}
-use Rattle.checks.proofs.Tokens.{length-tokens, in-tokens}
+use Rattle.inputs.specs.Inputs.{tokensOf}
+use Rattle.tables.specs.Tables.{returnEntry}
+use Rattle.fields.proofs.Turns.{and-true-left, and-true-right, both-passed, demanded, each-passed, all-at}
+use Rattle.fields.proofs.Constants.{within-is}
+use Rattle.fields.proofs.Graphs.{length-graph, past}
+use Rattle.inputs.proofs.Tokens.{length-tokens, in-tokens}
 
 -- ---- the graph
 

@@ -1,14 +1,8 @@
-// What is refused before any firing is tried (01, "The answer and the refusals"), and two tables that spare a run from
-// looking through the graph.
-mod arc;
+// What is refused before any firing is tried (01, "The answer and the refusals"), in its order: the
+// graph record by record, the stores, the inputs.
 mod buffer;
-mod constant;
-mod fan_out;
 pub mod graph;
-pub mod inputs;
-mod site;
 pub mod stores;
-pub mod tables;
 
 use rules::answer::Checked;
 ghost use mathlib.Core.Path.{_≡_};

@@ -39,10 +39,10 @@ use Rattle.rules.specs.InstructionSet.{arityIn, machineOf, returnOf}
 use Rattle.rules.specs.Run.{contentHeld, tokenHeld, tokenRecord, cellRecord, firstState}
 use Rattle.rules.proofs.Inputs.{start}
 use Rattle.rules.proofs.Lawful.{lawful}
-use Rattle.checks.specs.Tables as Tables
+use Rattle.tables.specs.Tables as Tables
 use Rattle.checks.proofs.Passed.{passed-check, passed-length, return-entry, GoodStores, passed-stores, GoodInputs, passed-inputs, passed-input}
-use Rattle.checks.proofs.Entries.{arity-small}
-use Rattle.checks.proofs.Graphs.{arity-past}
+use Rattle.tables.proofs.Entries.{arity-small}
+use Rattle.fields.proofs.Graphs.{arity-past}
 use Rattle.effect.specs.Held.{entryOf, Returns}
 use Rattle.effect.proofs.Arrives.{arrives-port}
 use Rattle.held.specs.Held.{cellHeld, stateHeld, Arities}

@@ -1,6 +1,5 @@
 // The engine: a graph and its inputs are checked, and fired under picks.
 use checks::graph;
-use checks::tables;
 use commit::Fired;
 use rules::answer::Answer;
 use rules::answer::Checked;

@@ -1,3 +1,0 @@
-pub mod Inputs
-pub mod Sites
-pub mod Tables

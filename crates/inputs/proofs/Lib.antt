@@ -1,0 +1,2 @@
+-- What holds of the tokens of the inputs. Assumes nothing.
+pub mod Tokens

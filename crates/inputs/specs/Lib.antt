@@ -1,0 +1,2 @@
+-- The definitions of the check of inputs, as the code goes about it. Assumes nothing.
+pub mod Inputs

@@ -1,0 +1,2 @@
+-- What holds of the entries of the tables. Assumes nothing.
+pub mod Entries

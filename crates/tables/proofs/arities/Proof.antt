@@ -1,0 +1,36 @@
+-- `checks::tables::arities` meets its contract. The invariant: the first i entries are right. Assumes nothing.
+use Prim.Native.Nat.{ℕ, _≤_, _<_, _-_}
+use native.Mathlib.Omega.{arith}
+use mathlib.Core.Path.{_≡_, refl, _∙_}
+use lib.ListN.{length, getD, length-set}
+use borrow.Author.Needs.{needs}
+use Rattle.record.specs.TokensAndTags.{rootOf}
+use Rattle.record.specs.GraphRecords.{graphOf}
+use Rattle.rules.specs.InstructionSet.{arityIn}
+use Rattle.tables.proofs.Entries.{entry-next}
+use Rattle.tables.proofs.arities.Statement.{statement}
+use Rattle.tables.proofs.arities.Tie as tie
+
+abbrev Inv-loop : tie.InvT-loop
+Inv-loop graph out₀ i₀ out i = (i ≤ 256) × (length out ≡ 256) × ((k : ℕ) → k < i → getD out k 0 ≡ arityIn (graphOf graph) (rootOf k))
+
+abbrev μ-loop : tie.MeasureT-loop
+μ-loop graph out₀ i₀ out i = 256 - i
+
+pub arities-spec : {M : Type 1} → statement M
+unfolding arityIn
+arities-spec = tie.close (tie.spec
+    Inv-loop
+    μ-loop
+    (λ c. (omega arith, refl, λ k h. absurd (omega arith)))
+    (λ c κs. search needs)
+    (λ c. omega arith)
+    (λ c. omega arith)
+    (λ c. omega arith)
+    (λ c.
+    let l = c .before .before .loop in (
+      omega arith,
+      length-set (l .out) (l .i) (c .arity-at .result) ∙ l .inv .1,
+      entry-next (λ k. arityIn (graphOf (c .before .before .before .before .before .args .graph .now)) (rootOf k)) (l .out) (l .i) (c .arity-at .result) (omega arith) (l .inv .2) (c .arity-at .ensures),
+    ))
+    (λ c. ((λ τ h. c .before .loop .inv .2 (τ .instruction) (omega arith)), c .before .loop .inv .1)))
