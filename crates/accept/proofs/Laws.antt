@@ -4,7 +4,7 @@ use mathlib.Core.Path.{_≡_, refl, sym, _∙_}
 use mathlib.Core.List.{List, [], _∷_, append-nil}
 use native.Mathlib.Nat.{suc-mul, add-comm}
 use lib.ListN.{getD, drop, replicate, length-replicate, replicate-append-replicate}
-use Rattle.record.specs.Table.{joined, All}
+use Rattle.table.specs.Table.{joined, All}
 use Rattle.record.specs.Cells as Cells
 use Rattle.record.specs.Cells.{CellFits}
 use Rattle.record.specs.declared.cell.Cell.the-variants.{Absent}

@@ -7,10 +7,10 @@ use native.Mathlib.Numerals.{add-one}
 use native.Mathlib.Nat.{suc-mul, add-comm}
 use lib.ListN.{length, take, drop, length-append}
 use lib.Seq.{drop-at, drop-drop, length-take-le}
-use Rattle.record.specs.Table.{allRows, putRow, All}
+use Rattle.table.specs.Table.{allRows, putRow, All}
 use Rattle.record.specs.TokensAndTags.{tokens, tokenAt, decode, encode}
 use Rattle.record.specs.declared.token.Token.{Token}
-use Rattle.record.proofs.Tables.{length-rows, getD-rows}
+use Rattle.table.proofs.Tables.{length-rows, getD-rows}
 use Rattle.record.proofs.Records.{length-token}
 use Rattle.enabled.proofs.Store.{all-at}
 use Rattle.matching.specs.Matching.{Matching}

@@ -3,7 +3,7 @@ use Prim.Native.Nat.{ℕ, _*_, _/_, _<_}
 use mathlib.Core.Path.{_≡_}
 use mathlib.Core.List.{List, [], _∷_}
 use lib.ListN.{length, drop}
-use Rattle.record.specs.Table.{allRows}
+use Rattle.table.specs.Table.{allRows}
 use Rattle.record.specs.TokensAndTags.{tokens, decode}
 use Rattle.record.specs.declared.token.Token.{Token}
 use Rattle.chains.specs.Deferred.{LowCell}

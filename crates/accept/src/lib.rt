@@ -1,12 +1,11 @@
 // What an accepted run does before its first firing, and how it reads its picks: the cells are cleared, and the
 // input tokens are written to the ledger.
-use record::number;
 use record::token;
 ghost use mathlib.Core.Path.{_≡_};
 ghost use Prim.Native.Nat.{_/_, _≤_, _<_};
 ghost use lib.ListN.{length, getD, replicate};
-ghost use Rattle.record.specs.Number.{number16};
-ghost use Rattle.record.specs.Table.{allRows, All};
+ghost use Rattle.number.specs.Number.{number16};
+ghost use Rattle.table.specs.Table.{allRows, All};
 ghost use Rattle.record.specs.TokensAndTags.{decode};
 ghost use Rattle.matching.specs.Matching.{Matching};
 ghost use Rattle.accept.specs.Accept.{Proper, Accepted};

@@ -8,7 +8,7 @@ use lib.Dec.{eqb}
 use lib.ListN.{length, getD, drop, length-map}
 use borrow.Author.Tests.{eqb-true, eqb-false}
 use Rattle.record.specs.TokensAndTags.{tokens, tokenAt, decode, standsAt, sameTag}
-use Rattle.record.proofs.Tables.{getD-rows, length-rows}
+use Rattle.table.proofs.Tables.{getD-rows, length-rows}
 use Rattle.record.specs.declared.tag.Tag.{Tag}
 use Rattle.record.specs.declared.token.Token.{Token}
 use Rattle.chains.specs.Search.{firstFrom, foundOf, Within}

@@ -6,8 +6,8 @@ use mathlib.Core.List.{List, [], _∷_}
 use native.Mathlib.Omega.{arith}
 use lib.ListN.{length, getD, drop, drop-of-length-le}
 use lib.Seq.{drop-cons}
-use Rattle.record.specs.Table.{rows, All}
-use Rattle.record.proofs.Tables.{getD-rows, length-rows}
+use Rattle.table.specs.Table.{rows, All}
+use Rattle.table.proofs.Tables.{getD-rows, length-rows}
 use Rattle.chains.specs.declared.Found.{Found}
 use Rattle.chains.specs.declared.Found.the-variants.{At, Nothing}
 use Rattle.chains.specs.Search.{firstFrom, foundOf, Within}

@@ -13,10 +13,10 @@ use borrow.Author.Tests.{eqb-true, leb-true, ltb-true, ltb-false, lt-ltb, not-tr
 use Rattle.record.specs.declared.instruction.Destination.{Destination}
 use Rattle.record.specs.declared.instruction.Instruction.{Instruction}
 use Rattle.record.specs.GraphRecords.{decode, isGraphLength, graphOf, destinations, inUse, rowOf, operandsOf}
-use Rattle.record.specs.Number.{byteAt, number16, number32, number64}
-use Rattle.record.specs.Table.{whole, allRows}
+use Rattle.number.specs.Number.{byteAt, number16, number32, number64}
+use Rattle.table.specs.Table.{whole, allRows}
 use Rattle.record.specs.TokensAndTags.{isInput}
-use Rattle.record.proofs.Tables.{length-rows, getD-rows}
+use Rattle.table.proofs.Tables.{length-rows, getD-rows}
 use Rattle.record.specs.TokensAndTags as Tokens
 use Rattle.rules.specs.declared.answer.Refusal.the-variants.{GraphLength, BadInput, SecondToken}
 use Rattle.rules.specs.declared.answer.Checked.the-variants.{Passed}

@@ -13,7 +13,7 @@ use Rattle.record.specs.declared.token.Token.{Token}
 use Rattle.record.specs.declared.token.Content.the-variants.{Live}
 use Rattle.record.specs.declared.cell.Cell.{Cell}
 use Rattle.record.specs.declared.cell.Cell.the-variants.{Absent, Waiting, Present}
-use Rattle.record.proofs.Tables.{length-rows}
+use Rattle.table.proofs.Tables.{length-rows}
 use Rattle.chains.specs.Deferred.{woken}
 use Rattle.rules.specs.declared.answer.Refusal.{Refusal}
 use Rattle.rules.specs.declared.answer.Refusal.the-variants.{LedgerFull, SecondToken, SecondWrite}

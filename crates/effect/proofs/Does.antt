@@ -15,7 +15,7 @@ use mir.Val.{Fits}
 use Rattle.record.specs.declared.tag.Tag.{Tag}
 use Rattle.record.specs.declared.instruction.Destination.{Destination}
 use Rattle.record.specs.GraphRecords.{decode, graphOf, inUse}
-use Rattle.record.proofs.Tables.{length-rows}
+use Rattle.table.proofs.Tables.{length-rows}
 use Rattle.record.specs.TokensAndTags.{toOf}
 use Rattle.machine.specs.Machine as Machine
 use Rattle.machine.specs.Machine.{refuse, send, read, write}

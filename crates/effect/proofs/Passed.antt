@@ -10,7 +10,7 @@ use Rattle.record.specs.declared.instruction.Instruction.{Instruction}
 use Rattle.record.specs.declared.operation.Operation.the-variants.{Switch, Enter}
 use Rattle.record.specs.GraphRecords.{rowOf, operationOf, graphOf, instructionIn, destinations}
 use Rattle.record.specs.GraphRecords as Graph
-use Rattle.record.proofs.Tables.{getD-rows}
+use Rattle.table.proofs.Tables.{getD-rows}
 use Rattle.rules.specs.declared.answer.Checked.the-variants.{Passed}
 use Rattle.rules.specs.Check.{instructionAt, checkGraph}
 use Rattle.rules.proofs.Passed.{both}

@@ -10,7 +10,7 @@ use lib.Dec.{ltb}
 use Rattle.record.specs.declared.tag.Tag.{Tag}
 use Rattle.record.specs.declared.instruction.Instruction.{Instruction}
 use Rattle.record.specs.declared.operation.Operation.the-variants.{Enter, Leave}
-use Rattle.record.specs.Table.{All}
+use Rattle.table.specs.Table.{All}
 use Rattle.record.specs.GraphRecords.{graphOf, operationOf}
 use Rattle.machine.specs.Machine as Machine
 use Rattle.machine.specs.Machine.{refuse, send, read, write}

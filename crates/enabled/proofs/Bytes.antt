@@ -6,9 +6,9 @@ use mathlib.Core.List.{List, [], _∷_, _++_}
 use native.Mathlib.Omega.{arith}
 use lib.ListN.{length, set, take, drop, length-append, length-set, take-append-drop}
 use lib.Seq.{take-at, drop-at}
-use Rattle.record.specs.Table.{putRow, joined}
+use Rattle.table.specs.Table.{putRow, joined}
 use Rattle.record.specs.TokensAndTags.{tokens, decode, encode, TokenFits}
-use Rattle.record.proofs.Tables.{length-joined, put-joined, put-end, length-rows}
+use Rattle.table.proofs.Tables.{length-joined, put-joined, put-end, length-rows}
 use Rattle.record.proofs.Records.{length-token, tokens-put, tokens-end}
 use Rattle.record.specs.declared.token.Token.{Token}
 

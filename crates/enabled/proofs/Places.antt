@@ -8,9 +8,9 @@ use native.Mathlib.Omega.{arith}
 use lib.Dec.{ltb, eqb}
 use lib.ListN.{length, getD}
 use borrow.Author.Tests.{eqb-true, eqb-false, eq-eqb, lt-ltb, le-ltb, ltb-true, ltb-false}
-use Rattle.record.specs.Table.{All}
+use Rattle.table.specs.Table.{All}
 use Rattle.record.specs.TokensAndTags.{tokens, tokenAt, decode, sameTag, standsAt}
-use Rattle.record.proofs.Tables.{getD-rows, length-rows}
+use Rattle.table.proofs.Tables.{getD-rows, length-rows}
 use Rattle.record.specs.declared.tag.Tag.{Tag}
 use Rattle.record.specs.declared.token.Token.{Token}
 use Rattle.chains.specs.declared.Found.{Found}

@@ -7,9 +7,9 @@ use native.Mathlib.Numerals.{add-one}
 use native.Mathlib.Nat.{le-of-suc-le-suc}
 use lib.ListN.{length, getD, set}
 use lib.Seq.{map-set-same}
-use Rattle.record.specs.Table.{putRow, All}
+use Rattle.table.specs.Table.{putRow, All}
 use Rattle.record.specs.TokensAndTags.{tokens, tokenAt, decode, encode, TokenFits}
-use Rattle.record.proofs.Tables.{length-rows, getD-rows}
+use Rattle.table.proofs.Tables.{length-rows, getD-rows}
 use Rattle.record.proofs.Records.{tokens-put, tokens-end}
 use Rattle.record.specs.declared.token.Token.{Token}
 use Rattle.flags.specs.Flags.{Counted}

@@ -6,7 +6,7 @@ use mathlib.Core.Bool.{Bool, false, cond}
 use mathlib.Core.List.{List}
 use lib.ListN.{length, take}
 use lib.Dec.{ltb}
-use Rattle.record.specs.Table.{joined, All}
+use Rattle.table.specs.Table.{joined, All}
 use Rattle.record.specs.TokensAndTags.{encode, tokens, TokenFits}
 use Rattle.record.specs.declared.token.Token.{Token}
 use Rattle.flags.specs.Flags.{Counted}

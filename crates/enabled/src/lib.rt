@@ -9,7 +9,7 @@ ghost use mathlib.Core.Path.{_≡_};
 ghost use mathlib.Core.List.{[], _∷_, _++_};
 ghost use Prim.Native.Nat.{_+_, _/_, _≤_, _<_};
 ghost use lib.ListN.{length, getD, set};
-ghost use Rattle.record.specs.Table.{putRow};
+ghost use Rattle.table.specs.Table.{putRow};
 ghost use Rattle.record.specs.TokensAndTags.{encode, tokens, tokenAt};
 ghost use Rattle.flags.specs.Flags.{Counted};
 ghost use Rattle.flags.specs.Marks.{bit};

@@ -11,11 +11,11 @@ use Rattle.record.specs.declared.token.Content.the-variants.{Live, Spent, Defer
 use Rattle.record.specs.declared.cell.Cell as RecordCell
 use Rattle.record.specs.declared.cell.Cell.the-variants.{Absent, Waiting, Present}
 use Rattle.record.specs.declared.instruction.Instruction.{Instruction}
-use Rattle.record.specs.Table.{joined, writtenOver}
+use Rattle.table.specs.Table.{joined, writtenOver}
 use Rattle.record.specs.TokensAndTags.{tokens, ledgerOf}
 use Rattle.record.specs.TokensAndTags as Tokens
 use Rattle.record.specs.Cells as Cells
-use Rattle.record.proofs.Tables.{length-rows, length-joined}
+use Rattle.table.proofs.Tables.{length-rows, length-joined}
 use Rattle.record.proofs.Records.{length-token}
 use Rattle.matching.proofs.Laws.{matching-ledger}
 use Rattle.machine.specs.Machine.{Outcome, end}

@@ -16,13 +16,13 @@ use Rattle.record.specs.declared.token.Content as RecordContent
 use Rattle.record.specs.declared.token.Content.the-variants.{Live, Spent, Deferred}
 use Rattle.record.specs.declared.cell.Cell.the-variants.{Absent}
 use Rattle.record.specs.declared.instruction.Instruction.{Instruction}
-use Rattle.record.specs.Number.{byteAt, number16}
-use Rattle.record.specs.Table.{All, rows, allRows, joined}
+use Rattle.number.specs.Number.{byteAt, number16}
+use Rattle.table.specs.Table.{All, rows, allRows, joined}
 use Rattle.record.specs.GraphRecords.{graphOf}
 use Rattle.record.specs.TokensAndTags.{tokens}
 use Rattle.record.specs.TokensAndTags as Tokens
 use Rattle.record.specs.Cells as Cells
-use Rattle.record.proofs.Tables.{length-rows, length-joined}
+use Rattle.table.proofs.Tables.{length-rows, length-joined}
 use Rattle.record.proofs.Records.{length-token, length-cell}
 use Rattle.chains.specs.Deferred.{LowCell}
 use Rattle.machine.specs.Machine.{Machine, State, End, absent, run}

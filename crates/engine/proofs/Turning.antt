@@ -12,11 +12,11 @@ use lib.IntN.{ℤ}
 use Rattle.record.specs.declared.tag.Tag.{Tag}
 use Rattle.record.specs.declared.token.Token as Record
 use Rattle.record.specs.declared.instruction.Instruction.{Instruction}
-use Rattle.record.specs.Table.{All}
+use Rattle.table.specs.Table.{All}
 use Rattle.record.specs.GraphRecords.{operandsOf, graphOf}
 use Rattle.record.specs.TokensAndTags.{tokens, tokenAt}
 use Rattle.record.specs.TokensAndTags as Tokens
-use Rattle.record.proofs.Tables.{getD-rows}
+use Rattle.table.proofs.Tables.{getD-rows}
 use Rattle.flags.specs.Flags.{places}
 use Rattle.matching.proofs.Laws.{matching-places, matching-enabled-below}
 use Rattle.accept.specs.Accept.{headOr0}

@@ -16,11 +16,11 @@ use Rattle.record.specs.declared.token.Content.the-variants.{Live}
 use Rattle.record.specs.declared.cell.Cell.the-variants.{Absent, Waiting, Present}
 use Rattle.record.specs.declared.cell.Cell as RecordCell
 use Rattle.record.specs.declared.instruction.Instruction.{Instruction}
-use Rattle.record.specs.Table.{All}
+use Rattle.table.specs.Table.{All}
 use Rattle.record.specs.TokensAndTags.{tokens, tokenAt}
 use Rattle.record.specs.GraphRecords.{graphOf}
 use Rattle.record.specs.TokensAndTags as Tokens
-use Rattle.record.proofs.Tables.{length-rows, getD-rows}
+use Rattle.table.proofs.Tables.{length-rows, getD-rows}
 use Rattle.chains.specs.Deferred.{woken}
 use Rattle.matching.specs.Matching.{spentToken, Matching}
 use Rattle.matching.proofs.Laws.{matching-room}

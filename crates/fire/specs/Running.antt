@@ -7,7 +7,7 @@ use lib.IntN.{ℤ}
 use Rattle.record.specs.declared.tag.Tag.{Tag}
 use Rattle.record.specs.declared.token.Token as Record
 use Rattle.record.specs.declared.instruction.Instruction.{Instruction}
-use Rattle.record.specs.Table.{All}
+use Rattle.table.specs.Table.{All}
 use Rattle.record.specs.GraphRecords.{graphOf}
 use Rattle.record.specs.TokensAndTags.{tokens}
 use Rattle.machine.specs.Machine.{Machine, State, fire, fired, notFired}

@@ -11,7 +11,7 @@ use borrow.Author.Tests.{eqb-true, eqb-false}
 use Rattle.record.specs.declared.tag.Tag.{Tag}
 use Rattle.record.specs.declared.token.Token.{Token}
 use Rattle.record.specs.TokensAndTags.{decode, tokenAt, sameTag, standsAt}
-use Rattle.record.proofs.Tables.{length-rows, getD-rows}
+use Rattle.table.proofs.Tables.{length-rows, getD-rows}
 use Rattle.rules.specs.Check.{any}
 use Rattle.inputs.specs.Inputs.{tokensOf, entryOf, Seen}
 use Rattle.fields.proofs.Turns.{or-false, any-append, and-true-left, and-true-right}

@@ -7,7 +7,7 @@ use lib.ListN.{getD, take}
 use Rattle.record.specs.declared.tag.Tag.{Tag}
 use Rattle.record.specs.declared.token.Token.{Token}
 use Rattle.record.specs.declared.instruction.Instruction.{Instruction}
-use Rattle.record.specs.Table.{allRows}
+use Rattle.table.specs.Table.{allRows}
 use Rattle.record.specs.TokensAndTags.{decode, standsAt}
 use Rattle.rules.specs.declared.answer.Refusal.the-variants.{BadInput, SecondToken}
 use Rattle.rules.specs.declared.answer.Checked.{Checked}

@@ -1,7 +1,5 @@
 // Refusals 6, 8 and 9: the inputs.
 use fields::arc;
-use record::number;
-use record::table;
 use record::tag::Tag;
 use record::token;
 use record::token::Token;

@@ -8,12 +8,12 @@ use native.Mathlib.Omega.{arith}
 use lib.ListN.{length, take, drop, length-map}
 use lib.ListN.{drop-of-length-le}
 use Rattle.record.specs.declared.token.Token.{Token}
-use Rattle.record.specs.Number.{Bytes}
-use Rattle.record.specs.Table.{All, joined}
+use Rattle.number.specs.Number.{Bytes}
+use Rattle.table.specs.Table.{All, joined}
 use Rattle.record.specs.TokensAndTags.{encode, TokenFits, mostTokens, capacityOf, ledgerOf}
 use Rattle.record.specs.Cells as Cells
 use Rattle.record.proofs.Records.{length-token, length-cell}
-use Rattle.record.proofs.Tables.{length-joined}
+use Rattle.table.proofs.Tables.{length-joined}
 use Rattle.machine.specs.Machine as Machine
 use Rattle.machine.specs.Orders as Ends
 use Rattle.rules.specs.declared.answer.Refusal.{Refusal}

@@ -8,9 +8,9 @@ use lib.Dec.{eqb}
 use lib.IntN.{ℤ}
 use lib.ListN.{length, getD, set, drop}
 use lib.Seq.{map-set-same}
-use Rattle.record.specs.Table.{putRow, joined, All}
+use Rattle.table.specs.Table.{putRow, joined, All}
 use Rattle.record.specs.TokensAndTags.{tokens, tokenAt, decode, encode}
-use Rattle.record.proofs.Tables.{length-rows, getD-rows}
+use Rattle.table.proofs.Tables.{length-rows, getD-rows}
 use Rattle.record.specs.declared.token.Token.{Token}
 use Rattle.record.specs.declared.token.Content.{Content}
 use Rattle.record.specs.declared.token.Content.the-variants.{Live, Spent, Deferred}

@@ -4,9 +4,9 @@ use mathlib.Core.Path.{_≡_, refl}
 use mathlib.Core.List.{List, _++_}
 use native.Mathlib.Omega.{arith}
 use lib.ListN.{length, getD, take, drop, replicate, length-replicate}
-use Rattle.record.specs.Table.{joined, All}
+use Rattle.table.specs.Table.{joined, All}
 use Rattle.record.specs.TokensAndTags.{tokens, decode, encode, TokenFits}
-use Rattle.record.proofs.Tables.{length-rows}
+use Rattle.table.proofs.Tables.{length-rows}
 use Rattle.record.specs.declared.token.Token.{Token}
 use Rattle.flags.specs.Flags.{places, Counted}
 use Rattle.flags.proofs.Laws.{zero-at, counted-none}

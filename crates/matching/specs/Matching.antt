@@ -1,7 +1,7 @@
 -- The invariant of the matching store, and what becomes of a token that is spent. Assumes nothing.
 use Prim.Native.Nat.{ℕ}
 use mathlib.Core.List.{List}
-use Rattle.record.specs.Table.{All}
+use Rattle.table.specs.Table.{All}
 use Rattle.record.specs.TokensAndTags.{tokens}
 use Rattle.record.specs.declared.token.Token.{Token}
 use Rattle.record.specs.declared.token.Content.{Content}

@@ -10,7 +10,7 @@ ghost use mathlib.Core.Path.{_≡_};
 ghost use mathlib.Core.List.{List, [], _∷_, _++_, map};
 ghost use Prim.Native.Nat.{ℕ, _+_, _*_, _/_, _<_};
 ghost use lib.ListN.{length, getD, set, drop};
-ghost use Rattle.record.specs.Table.{putRow, joined};
+ghost use Rattle.table.specs.Table.{putRow, joined};
 ghost use Rattle.record.specs.TokensAndTags.{encode, tokens, tokenAt, standsAt};
 ghost use Rattle.flags.specs.Flags.{places, Counted};
 ghost use Rattle.chains.specs.Search.{firstFrom, Within};

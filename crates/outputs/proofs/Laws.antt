@@ -11,7 +11,7 @@ use lib.ListN.{length, getD, set, take, drop, length-append, length-drop, length
 use lib.Seq.{length-take-le, drop-drop, drop-at, set-getD}
 use borrow.Author.Tests.{eq-eqb, ne-eqb}
 use denote.Enum.Declared.{tagOf}
-use Rattle.record.specs.Table.{putRow, joined, All}
+use Rattle.table.specs.Table.{putRow, joined, All}
 use Rattle.record.specs.TokensAndTags.{tokens, tokenAt, decode, encode}
 use Rattle.record.specs.Cells as Cells
 use Rattle.record.specs.declared.token.Token.{Token}
@@ -20,7 +20,7 @@ use Rattle.record.specs.declared.token.Content.the-variants.{Deferred}
 use Rattle.record.specs.declared.cell.Cell.{Cell}
 use Rattle.record.specs.declared.cell.Cell.the-variants.{Absent, Waiting, Present}
 use Rattle.record.proofs.cell.Cell.{the-type}
-use Rattle.record.proofs.Tables.{length-joined, put-joined, length-rows, getD-rows}
+use Rattle.table.proofs.Tables.{length-joined, put-joined, length-rows, getD-rows}
 use Rattle.record.proofs.Records.{length-token, length-cell, cells-put}
 use Rattle.chains.specs.Deferred.{woken}
 use Rattle.matching.specs.Matching.{spentToken, Matching}

@@ -10,7 +10,7 @@ use Rattle.record.specs.declared.token.Content.{Content}
 use Rattle.record.specs.declared.token.Content.the-variants.{Live, Deferred}
 use Rattle.record.specs.declared.cell.Cell.{Cell}
 use Rattle.record.specs.declared.cell.Cell.the-variants.{Absent, Waiting, Present}
-use Rattle.record.specs.Table.{joined, All}
+use Rattle.table.specs.Table.{joined, All}
 use Rattle.record.specs.TokensAndTags.{tokens}
 use Rattle.record.specs.Cells as Cells
 use Rattle.matching.specs.Matching.{spentToken, Matching}

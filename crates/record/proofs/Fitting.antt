@@ -9,8 +9,8 @@ use lib.Dec.{eqb}
 use mir.Syntax.{w32}
 use mir.Val.{SFits}
 use mir.Facts.{sfits-toZ}
-use Rattle.record.specs.Number.{Bytes, byteAt, number32, signedOf}
-use Rattle.record.specs.Table.{rows, All}
+use Rattle.number.specs.Number.{Bytes, byteAt, number32, signedOf}
+use Rattle.table.specs.Table.{rows, All}
 use Rattle.record.specs.GraphRecords as Graph
 use Rattle.record.specs.TokensAndTags as Tokens
 use Rattle.record.specs.TokensAndTags.{contentOf, ContentFits, TokenFits}
@@ -18,7 +18,7 @@ use Rattle.record.specs.Cells as Cells
 use Rattle.record.specs.Cells.{cellOf, CellFits}
 use Rattle.record.specs.declared.token.Content.the-variants.{Live, Spent, Deferred}
 use Rattle.record.specs.declared.cell.Cell.the-variants.{Absent, Waiting, Present}
-use Rattle.record.proofs.Numbers.{number16-small, number32-small}
+use Rattle.number.proofs.Numbers.{number16-small, number32-small}
 
 pub bytes-drop : (n : ℕ) (l : List ℕ) → Bytes l → Bytes (drop n l)
 bytes-drop n l b k = rw (getD-drop n l k 0) (b (n + k))

@@ -1,7 +1,5 @@
-pub mod TwosComplement
+-- Tables by computation, round trips, what is read from bytes fits, and calls within calls. Assumes nothing.
 pub mod Computed
-pub mod Numbers
-pub mod Tables
 pub mod Records
 pub mod Fitting
 pub mod Calls

@@ -9,8 +9,8 @@ use native.Mathlib.Nat.{suc-inj}
 use lib.ListN.{length, getD, take, set}
 use lib.Seq.{getD-take}
 use lib.Dec.{T, ltb, ltb→lt}
-use Rattle.record.specs.Number.{byteAt, number16, number32, number64, signedOf, bitsOf, bytes16, bytes32, bytes64}
-use Rattle.record.specs.Table.{putRow, joined, rows, All}
+use Rattle.number.specs.Number.{byteAt, number16, number32, number64, signedOf, bitsOf, bytes16, bytes32, bytes64}
+use Rattle.table.specs.Table.{putRow, joined, rows, All}
 use Rattle.record.specs.GraphRecords as Graph
 use Rattle.record.specs.TokensAndTags as Tokens
 use Rattle.record.specs.TokensAndTags.{contentOf, stateOf, valueOf, tokenBytes, ContentFits, TokenFits, tokens}
@@ -22,8 +22,8 @@ use Rattle.record.specs.declared.token.Content.{Content}
 use Rattle.record.specs.declared.token.Content.the-variants.{Live, Spent, Deferred}
 use Rattle.record.specs.declared.cell.Cell.{Cell}
 use Rattle.record.specs.declared.cell.Cell.the-variants.{Absent, Waiting, Present}
-use Rattle.record.proofs.Numbers.{number16-bytes, number32-bytes, number64-bytes, fits16, fits32, fits64, number32-small, bytes16-number, bytes32-number, bytes64-number, bits-fit, signed-bits, bits-signed}
-use Rattle.record.proofs.Tables.{rows-put, rows-end, rows-joined}
+use Rattle.number.proofs.Numbers.{number16-bytes, number32-bytes, number64-bytes, fits16, fits32, fits64, number32-small, bytes16-number, bytes32-number, bytes64-number, bits-fit, signed-bits, bits-signed}
+use Rattle.table.proofs.Tables.{rows-put, rows-end, rows-joined}
 
 -- ---- a list as its elements
 

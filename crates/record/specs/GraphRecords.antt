@@ -7,8 +7,8 @@ use lib.Dec.{eqb, leb}
 use lib.IntN.{ℤ, pos}
 use mir.Syntax.{w32}
 use mir.Val.{SFits}
-use Rattle.record.specs.Number.{byteAt, number16, number32, signedOf, bitsOf, bytes16, bytes32}
-use Rattle.record.specs.Table.{whole, allRows}
+use Rattle.number.specs.Number.{byteAt, number16, number32, signedOf, bitsOf, bytes16, bytes32}
+use Rattle.table.specs.Table.{whole, allRows}
 use Rattle.record.specs.declared.instruction.Destination.{Destination}
 use Rattle.record.specs.declared.instruction.Instruction.{Instruction}
 use Rattle.record.specs.declared.operation.Arithmetic.{Arithmetic}

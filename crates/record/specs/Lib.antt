@@ -1,5 +1,4 @@
-pub mod Number
-pub mod Table
+-- 01, "Graph records", "Tokens and tags", and of "Firing" the cells and the tags of calls. Assumes nothing.
 pub mod GraphRecords
 pub mod TokensAndTags
 pub mod Calls

@@ -1,10 +1,8 @@
 // Cell records of 8 bytes: an I-structure cell read from its bytes, and written as bytes.
-use crate::number;
-use crate::table;
 ghost use mathlib.Core.Path.{_≡_};
 ghost use Prim.Native.Nat.{_/_, _≤_, _<_};
 ghost use lib.ListN.{length};
-ghost use Rattle.record.specs.Table.{putRow};
+ghost use Rattle.table.specs.Table.{putRow};
 ghost use Rattle.record.specs.Cells as Cells;
 
 // 01, "Firing": a cell is absent, waiting or present.

@@ -1,10 +1,8 @@
 // Graph records of 16 bytes: an instruction read from its bytes, and written as bytes.
-use crate::number;
-use crate::table;
 ghost use mathlib.Core.Path.{_≡_};
 ghost use Prim.Native.Nat.{_/_, _≤_, _<_};
 ghost use lib.ListN.{length};
-ghost use Rattle.record.specs.Table.{putRow};
+ghost use Rattle.table.specs.Table.{putRow};
 ghost use Rattle.record.specs.GraphRecords as Graph;
 ghost use Rattle.record.specs.GraphRecords.{instructionBytes, instructionIn, InstructionFits};
 

@@ -1,11 +1,9 @@
 // Token records of 20 bytes: a token read from its bytes, and written as bytes.
-use crate::number;
-use crate::table;
 use crate::tag::Tag;
 ghost use mathlib.Core.Path.{_≡_};
 ghost use Prim.Native.Nat.{_/_, _≤_, _<_};
 ghost use lib.ListN.{length};
-ghost use Rattle.record.specs.Table.{putRow};
+ghost use Rattle.table.specs.Table.{putRow};
 ghost use Rattle.record.specs.TokensAndTags as Tokens;
 ghost use Rattle.record.specs.TokensAndTags.{contentOf, stateOf, valueOf, tokenBytes, tokenAt, standsAt, ContentFits, TokenFits};
 

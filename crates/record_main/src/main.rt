@@ -4,7 +4,6 @@ use record::cell::Cell;
 use record::instruction;
 use record::instruction::Destination;
 use record::instruction::Instruction;
-use record::number;
 use record::operation;
 use record::tag::Entered;
 use record::tag::Left;

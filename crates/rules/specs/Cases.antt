@@ -6,7 +6,7 @@ use mathlib.Core.List.{List, [], _∷_, _++_, map}
 use lib.ListN.{replicate}
 use lib.IntN.{ℤ, pos, negsuc}
 use Rattle.record.specs.declared.tag.Tag.{Tag}
-use Rattle.record.specs.Number.{bitsOf, bytes16, bytes32}
+use Rattle.number.specs.Number.{bitsOf, bytes16, bytes32}
 use Rattle.record.specs.GraphRecords.{graphOf}
 use Rattle.record.specs.TokensAndTags as Tokens
 use Rattle.machine.specs.Machine.{Key, Content, live, spent, deferred, Token, Cell, absent, waiting, present, Effect, send}

@@ -1,5 +1,5 @@
 -- What a computed case looks through: a proof with the line `unfolding rules` computes with every definition of 01. Assumes nothing.
-use Rattle.record.specs.Number.{signedOf, bitsOf}
+use Rattle.number.specs.Number.{signedOf, bitsOf}
 use Rattle.record.specs.GraphRecords.{rowOf, usesConstant}
 use Rattle.record.specs.GraphRecords as Graph
 use Rattle.record.specs.TokensAndTags.{contentOf, isInput, sameTag, standsAt}

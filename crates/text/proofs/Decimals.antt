@@ -11,7 +11,7 @@ use lib.ListN.{length, length-append}
 use lib.IntN.{ℤ, pos, negsuc}
 use mir.Syntax.{w32}
 use mir.Val.{SFits}
-use Rattle.record.specs.Number.{bitsOf}
+use Rattle.number.specs.Number.{bitsOf}
 use Rattle.text.specs.Text.{digit, digitsBy, decimal, signedDecimal}
 
 -- more steps than enough change nothing

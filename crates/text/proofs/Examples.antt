@@ -4,7 +4,7 @@ use mathlib.Core.Path.{_≡_, refl}
 use mathlib.Core.List.{List, [], _∷_, _++_}
 use lib.IntN.{pos, negsuc}
 use lib.ListN.{replicate}
-use Rattle.record.specs.Number.{signedOf}
+use Rattle.number.specs.Number.{signedOf}
 use Rattle.record.specs.TokensAndTags as Tokens
 use Rattle.record.specs.TokensAndTags.{tokenBytes, contentOf}
 use Rattle.record.specs.Cells as Cells

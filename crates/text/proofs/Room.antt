@@ -11,8 +11,8 @@ use lib.IntN.{ℤ, pos, negsuc}
 use lib.ListN.{length, drop, length-append}
 use mir.Syntax.{w32}
 use mir.Val.{SFits}
-use Rattle.record.specs.Number.{Bytes, signedOf}
-use Rattle.record.specs.Table.{rows, joined}
+use Rattle.number.specs.Number.{Bytes, signedOf}
+use Rattle.table.specs.Table.{rows, joined}
 use Rattle.record.specs.TokensAndTags as Tokens
 use Rattle.record.specs.Cells as Cells
 use Rattle.record.specs.Cells.{CellFits}

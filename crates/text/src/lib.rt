@@ -2,7 +2,6 @@
 mod line;
 
 use record::cell;
-use record::table;
 use record::token;
 use rules::answer::Answer;
 ghost use mathlib.Core.Path.{_≡_};

@@ -2,8 +2,6 @@
 // number of bytes made before, and answers the number made after. 128 bytes are room for the longest
 // line with 20 digits to each number.
 use record::cell::Cell;
-use record::number;
-use record::table;
 use record::token::Content;
 use record::token::Token;
 use rules::answer;

@@ -5,7 +5,6 @@ use libc::ENAMETOOLONG;
 use libc::ENOENT;
 use libc::STDOUT_FILENO;
 use listing::Listed;
-use record::table;
 use rules::answer::Answer;
 use text::Printed;
 ghost use mathlib.Core.Path.{_≡_};

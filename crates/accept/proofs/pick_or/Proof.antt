@@ -7,9 +7,9 @@ use native.Mathlib.Nat.{add-zero}
 use borrow.Author.Needs.{needs}
 use lib.ListN.{length, drop, List·getD-eq-default}
 use lib.Seq.{getD-drop}
-use Rattle.record.specs.Number.{number16}
-use Rattle.record.specs.Table.{allRows}
-use Rattle.record.proofs.Tables.{length-rows, getD-rows}
+use Rattle.number.specs.Number.{number16}
+use Rattle.table.specs.Table.{allRows}
+use Rattle.table.proofs.Tables.{length-rows, getD-rows}
 use Rattle.accept.proofs.pick_or.Statement.{statement}
 use Rattle.accept.proofs.pick_or.Tie as tie
 

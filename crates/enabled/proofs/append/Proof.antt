@@ -6,7 +6,7 @@ use native.Mathlib.Omega.{arith}
 use borrow.Author.Needs.{needs}
 use lib.ListN.{length}
 use Rattle.record.specs.TokensAndTags.{tokens, decode}
-use Rattle.record.proofs.Tables.{length-rows}
+use Rattle.table.proofs.Tables.{length-rows}
 use Rattle.enabled.proofs.Store.{Moved, added}
 use Rattle.enabled.proofs.append.Statement.{statement}
 use Rattle.enabled.proofs.append.Tie as tie

@@ -5,9 +5,9 @@ use mathlib.Core.Bool.{Bool}
 use mathlib.Core.Path.{_≡_, refl, sym, ap, _∙_}
 use lib.ListN.{length, drop, length-drop}
 use borrow.Author.Tests.{not-true, not-false}
-use Rattle.record.proofs.Tables.{length-rows, getD-rows}
+use Rattle.table.proofs.Tables.{length-rows, getD-rows}
 use Rattle.record.specs.GraphRecords.{graphOf}
-use Rattle.record.specs.Table.{allRows}
+use Rattle.table.specs.Table.{allRows}
 use Rattle.rules.specs.Check.{demand, inTurn, goodInput}
 use Rattle.rules.specs.declared.answer.Refusal.the-variants.{BadInput}
 use Rattle.inputs.specs.Inputs.{checkFields}

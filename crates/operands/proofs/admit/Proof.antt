@@ -3,7 +3,7 @@ use mathlib.Core.Path.{sym, _∙_}
 use borrow.Author.Needs.{needs}
 use borrow.Author.Tests.{lt-ltb, le-ltb}
 use Rattle.record.specs.TokensAndTags.{decode}
-use Rattle.record.proofs.Tables.{length-rows}
+use Rattle.table.proofs.Tables.{length-rows}
 use Rattle.operands.specs.Operands.{admittedOf}
 use Rattle.operands.proofs.admit.Statement.{statement}
 use Rattle.operands.proofs.admit.Tie as tie

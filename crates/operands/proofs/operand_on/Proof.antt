@@ -14,7 +14,7 @@ use Rattle.record.specs.declared.token.Content.{Content}
 use Rattle.record.specs.declared.token.Content.the-variants.{Live, Spent, Deferred}
 use Rattle.record.proofs.token.Content.{the-type}
 use Rattle.record.specs.TokensAndTags.{decode}
-use Rattle.record.proofs.Tables.{getD-rows}
+use Rattle.table.proofs.Tables.{getD-rows}
 use Rattle.held.specs.Held.{noToken}
 use Rattle.operands.specs.declared.Operand.the-variants as Operands
 use Rattle.operands.specs.Operands.{operandOf, operandFound, operandAt}

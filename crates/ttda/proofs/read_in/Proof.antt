@@ -9,7 +9,7 @@ use Rattle.ttda.proofs.read_in.Tie as tie
 use Rattle.ttda.proofs.read_in.Reads as reads
 use Rattle.ttda.proofs.read_in.Lts as lts
 use Rattle.io.proofs.buffer.Reads as buffer-reads
-use Rattle.record.proofs.table.write_at.Reads as write-at-reads
+use Rattle.table.proofs.write_at.Reads as write-at-reads
 use Rattle.ttda.proofs.read_file.Reads as read-file-reads
 
 -- src/main.rt:47:9

@@ -5,7 +5,7 @@ use mir.Facts.{toZ-ofZ}
 use mir.Syntax.{w32}
 use mir.Val.{SFits}
 use native.Mathlib.Omega.{arith}
-use Rattle.record.specs.Number.{bitsOf}
+use Rattle.number.specs.Number.{bitsOf}
 use Rattle.record.specs.TokensAndTags.{valueOf}
 use Rattle.record.proofs.token.value_of.Statement.{statement}
 use Rattle.record.proofs.token.value_of.Tie as tie

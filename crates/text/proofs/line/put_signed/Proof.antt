@@ -4,7 +4,7 @@ use native.Mathlib.Omega.{arith}
 use Prim.Native.Nat.{_-_}
 use mathlib.Core.Path.{_≡_}
 use mir.Facts.{toZ-ofZ}
-use Rattle.record.specs.Number.{bitsOf}
+use Rattle.number.specs.Number.{bitsOf}
 use Rattle.text.proofs.Decimals.{signed-up, signed-down}
 use Rattle.text.proofs.Lines.{both}
 use Rattle.text.proofs.line.put_signed.Statement.{statement}

@@ -3,10 +3,10 @@ use borrow.Author.Needs.{needs}
 use native.Mathlib.Omega.{arith}
 use mir.Facts.{toZ-ofZ}
 use mir.Syntax.{w32}
-use Rattle.record.specs.Number.{bitsOf}
-use Rattle.record.proofs.TwosComplement.{at-pos, at-neg, down}
-use Rattle.record.proofs.number.bits.Statement.{statement}
-use Rattle.record.proofs.number.bits.Tie as tie
+use Rattle.number.specs.Number.{bitsOf}
+use Rattle.number.proofs.TwosComplement.{at-pos, at-neg, down}
+use Rattle.number.proofs.bits.Statement.{statement}
+use Rattle.number.proofs.bits.Tie as tie
 
 pub bits-spec : {M : Type 1} → statement M
 unfolding bitsOf

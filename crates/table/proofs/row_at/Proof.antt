@@ -1,9 +1,9 @@
 -- `record::table::row_at` meets its contract. Assumes nothing.
 use Prim.Native.Nat.{_*_}
 use borrow.Author.Needs.{needs}
-use Rattle.record.proofs.Tables.{tail-part}
-use Rattle.record.proofs.table.row_at.Statement.{statement}
-use Rattle.record.proofs.table.row_at.Tie as tie
+use Rattle.table.proofs.Tables.{tail-part}
+use Rattle.table.proofs.row_at.Statement.{statement}
+use Rattle.table.proofs.row_at.Tie as tie
 
 pub row-at-spec : {M : Type 1} → statement M
 row-at-spec =

@@ -5,9 +5,9 @@ use Prim.Native.Nat.{_-_}
 use mathlib.Core.Path.{_≡_, ap}
 use mir.Syntax.{w32}
 use mir.Val.{toZ}
-use Rattle.record.specs.Number.{signedOf}
-use Rattle.record.proofs.number.signed.Statement.{statement}
-use Rattle.record.proofs.number.signed.Tie as tie
+use Rattle.number.specs.Number.{signedOf}
+use Rattle.number.proofs.signed.Statement.{statement}
+use Rattle.number.proofs.signed.Tie as tie
 
 pub signed-spec : {M : Type 1} → statement M
 unfolding signedOf

@@ -8,7 +8,7 @@ use lib.IntN.{ℤ}
 use mir.Syntax.{w32}
 use mir.Val.{SFits, Fits}
 use mir.Facts.{toZ-ofZ, ofZ-toZ, fits-ofZ}
-use Rattle.record.specs.Number.{byteAt, number16, number32, number64, signedOf, bitsOf, bytes16, bytes32, bytes64}
+use Rattle.number.specs.Number.{byteAt, number16, number32, number64, signedOf, bitsOf, bytes16, bytes32, bytes64}
 
 -- ---- from the bytes of a number, whatever follows
 

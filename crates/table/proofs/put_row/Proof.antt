@@ -1,9 +1,9 @@
 -- `record::table::put_row` meets its contract. Assumes nothing.
 use mathlib.Core.Path.{_∙_}
 use borrow.Author.Needs.{needs}
-use Rattle.record.proofs.Tables.{written-row}
-use Rattle.record.proofs.table.put_row.Statement.{statement}
-use Rattle.record.proofs.table.put_row.Tie as tie
+use Rattle.table.proofs.Tables.{written-row}
+use Rattle.table.proofs.put_row.Statement.{statement}
+use Rattle.table.proofs.put_row.Tie as tie
 
 pub put-row-spec : {M : Type 1} → statement M
 put-row-spec =

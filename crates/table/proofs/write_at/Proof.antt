@@ -3,10 +3,10 @@ use borrow.Rule.Slice.PartMut.{post-is}
 use native.Mathlib.Omega.{arith}
 use Prim.Native.Nat.{_+_}
 use lib.ListN.{length}
-use Rattle.record.specs.Table.{written}
+use Rattle.table.specs.Table.{written}
 use borrow.Author.Needs.{needs}
-use Rattle.record.proofs.table.write_at.Statement.{statement}
-use Rattle.record.proofs.table.write_at.Tie as tie
+use Rattle.table.proofs.write_at.Statement.{statement}
+use Rattle.table.proofs.write_at.Tie as tie
 
 pub write-at-spec : {M : Type 1} → statement M
 unfolding written

@@ -7,8 +7,8 @@ use mathlib.Core.Path.{_≡_, refl, sym, ap, _∙_}
 use lib.ListN.{length, getD, take, length-set}
 use lib.Seq.{take-suc, take-suc-set, take-all}
 use denote.Ref.{now}
-use Rattle.record.proofs.table.fill.Statement.{statement}
-use Rattle.record.proofs.table.fill.Tie as tie
+use Rattle.table.proofs.fill.Statement.{statement}
+use Rattle.table.proofs.fill.Tie as tie
 
 abbrev Inv-loop : tie.InvT-loop
 Inv-loop dst₀ src i₀ dst i = (i ≤ length src) × (length dst ≡ length src) × (take i dst ≡ take i src)

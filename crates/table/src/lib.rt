@@ -2,7 +2,7 @@
 ghost use mathlib.Core.Path.{_≡_};
 ghost use Prim.Native.Nat.{_+_, _*_, _≤_};
 ghost use lib.ListN.{length, drop};
-ghost use Rattle.record.specs.Table.{written, putRow};
+ghost use Rattle.table.specs.Table.{written, putRow};
 
 // The buffer from record i on.
 pub fn row_at(s: &[u8], width: usize, i: usize) -> &[u8]
