@@ -87,6 +87,7 @@ pub fn input(cases: &[Case]) -> Vec<u8> {
     let mut bytes = number(cases.len()).to_vec();
     for case in cases {
         let lent = &case.lent;
+        bytes.push(b'\n');
         let numbers = [
             number(usize::from(lent.budget)),
             number(TOKEN_RECORD * lent.first),
@@ -98,8 +99,8 @@ pub fn input(cases: &[Case]) -> Vec<u8> {
         put(&mut bytes, &lent.ledger);
         put(&mut bytes, &lent.cells);
         put(&mut bytes, &Part::of(numbers.concat()));
-        bytes.push(b'\n');
     }
+    bytes.push(b'\n');
     bytes
 }
 
@@ -121,7 +122,7 @@ pub fn output(cases: &[Case], emulator: &Emulator) -> Vec<u8> {
     for case in cases {
         text.extend(lines(case, &emulator(&case.lent)));
     }
-    text.extend(format!("{} cases\n", cases.len()).into_bytes());
+    text.extend(format!("cases {}, all\n", cases.len()).into_bytes());
     text
 }
 

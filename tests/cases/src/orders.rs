@@ -2,11 +2,12 @@
 //! turn for 6; then 8; then 9 by input in turn. In a firing: 10 to 17 in rising
 //! order, then 8, then 9.
 //!
-//! In a firing these pairs can meet: each of 10, 11, 12, 13, 14, 15 and 17 with 8,
-//! 10, 11 and 12 with 9, and 8 with 9. Others cannot: 10 and 11 speak of a cell
-//! that is absent and one that is present, 11 to 14 of different operations, and
-//! where 13 to 17 is given there is no output whose tag could be taken. 15 comes
-//! before 17 where the constant alone is past the graph.
+//! In a firing these pairs can meet: each of 10, 11, 12, 13, 14, 15 and 17 with 8;
+//! 10, 11 and 12 with 9; and 8 with 9. No others can: 10 speaks of a cell that is
+//! not there and 11 of one that is present; 11, 12, 13, 14 and the group 15 to 17
+//! belong to different operations; and where one of 13 to 17 is given, there is no
+//! output whose tag could be taken. 15 comes before 17 also where the constant
+//! alone is past the graph.
 
 use crate::lent::*;
 use crate::paper::{turning, two_stores};

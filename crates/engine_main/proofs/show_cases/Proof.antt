@@ -6,10 +6,10 @@ use Rattle.engine_main.proofs.show_cases.Statement.{statement}
 use Rattle.engine_main.proofs.show_cases.Tie as tie
 
 abbrev Inv-loop : tie.InvT-loop
-Inv-loop n shown₀ t3 shown = Unit
+Inv-loop n shown₀ shown = Unit
 
 abbrev μ-loop : tie.MeasureT-loop
-μ-loop n shown₀ t3 shown = n - shown
+μ-loop n shown₀ shown = n - shown
 
 pub show-cases-spec : {M : Type 1} → statement M
 show-cases-spec =
@@ -19,9 +19,9 @@ show-cases-spec =
     μ-loop
     (λ c. tt)
     (λ c κs. search needs)
-    (λ c. search needs)
-    (λ c κs. search needs)
     (λ c. tt)
+    (λ c κs. search needs)
+    (λ c κs. search needs)
     (λ c. omega arith)
     (λ c. omega arith)
     (λ c. tt)
