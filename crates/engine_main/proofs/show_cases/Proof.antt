@@ -1,0 +1,28 @@
+-- `engine_main::show_cases` is safe and ends: it shows no more than so many cases. Assumes nothing.
+use Prim.Native.Nat.{_-_}
+use native.Mathlib.Omega.{arith}
+use borrow.Author.Needs.{needs}
+use Rattle.engine_main.proofs.show_cases.Statement.{statement}
+use Rattle.engine_main.proofs.show_cases.Tie as tie
+
+abbrev Inv-loop : tie.InvT-loop
+Inv-loop n shown₀ shown = Unit
+
+abbrev μ-loop : tie.MeasureT-loop
+μ-loop n shown₀ shown = n - shown
+
+pub show-cases-spec : {M : Type 1} → statement M
+show-cases-spec =
+    tie.close
+    (tie.spec
+    Inv-loop
+    μ-loop
+    (λ c. tt)
+    (λ c κs. search needs)
+    (λ c. tt)
+    (λ c κs. search needs)
+    (λ c κs. search needs)
+    (λ c. omega arith)
+    (λ c. omega arith)
+    (λ c. tt)
+    (λ c. tt))
