@@ -1,6 +1,6 @@
 /* The run, the listing and the printed lines of target/staticlib/libabi.a, which `rt staticlib abi` makes. Numbers and
    records are little-endian; README.md gives the formats. No function keeps a pointer, and each may be called from any
-   thread; two buffers of one call must not overlap where one of them is written. */
+   thread. No pointer is NULL, even with length 0, and a buffer that is written overlaps no other of the same call. */
 #ifndef TTDA_H
 #define TTDA_H
 
