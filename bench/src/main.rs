@@ -1,6 +1,7 @@
 //! The engine and the second emulator on the same work, in one process. Prints a
-//! table in Markdown: for every work and size the median time of both, how it
-//! grows with the size, and firings in a second.
+//! table in Markdown: for every work and size the median time of both, the engine's
+//! time for one firing, and firings in a second; and for every work how much the
+//! time for one firing grows from 256 to 2,048 tokens.
 
 mod work;
 
@@ -32,16 +33,19 @@ const KINDS: [Kind; 5] = [
 fn main() {
     println!("Time of one run, median of {FEWEST} to {MOST} runs of each emulator in turn. The");
     println!("buffers are not cleared: each run finds ledger and cells as the run before it");
-    println!("left them. The second emulator allocates its tables in every run. Growth is");
-    println!("the engine's time against that of the size before.");
+    println!("left them. The second emulator allocates its tables in every run.");
     println!();
     println!(
-        "| work | size | tokens | firings | engine | growth | second | engine / second | \
+        "| work | size | tokens | firings | engine | engine, a firing | second | engine / second | \
          engine firings/s | second firings/s |"
     );
     println!("|---|---:|---:|---:|---:|---:|---:|---:|---:|---:|");
-    for kind in KINDS {
-        measure_runs(kind);
+    let growths = KINDS.map(|kind| (kind.0, measure_runs(kind)));
+    println!();
+    println!("The engine's time for one firing at 2,048 tokens against that at 256:");
+    println!();
+    for (name, growth) in growths {
+        println!("- {name}: {growth:.2}");
     }
     println!();
     println!("The listing, against a stable sort of parsed records by Rust's own library");
@@ -154,8 +158,10 @@ fn growth(time: Duration, before: Option<Duration>) -> String {
     before.map_or("-".to_string(), |before| ratio(time, before))
 }
 
-fn measure_runs((name, work, newest): Kind) {
-    let mut before = None;
+/// Measures one kind of work; answers how much the engine's time for one firing
+/// grows from 256 to 2,048 tokens.
+fn measure_runs((name, work, newest): Kind) -> f64 {
+    let mut per_firing = Vec::new();
     for size in SIZES {
         let mut lent = Lent::new(work(size), size, newest);
         let answer = lent.agreed();
@@ -168,20 +174,25 @@ fn measure_runs((name, work, newest): Kind) {
                 same.second();
             },
         );
+        let nanoseconds = engine_time.as_secs_f64() * 1e9 / answer.firings as f64;
+        per_firing.push((size, nanoseconds));
         let rate = |time: Duration| format!("{:.0}", answer.firings as f64 / time.as_secs_f64());
         println!(
-            "| {name} | {size} | {} | {} | {} | {} | {} | {} | {} | {} |",
+            "| {name} | {size} | {} | {} | {} | {nanoseconds:.0} ns | {} | {} | {} | {} |",
             answer.tokens,
             answer.firings,
             microseconds(engine_time),
-            growth(engine_time, before),
             microseconds(second_time),
             ratio(engine_time, second_time),
             rate(engine_time),
             rate(second_time),
         );
-        before = Some(engine_time);
     }
+    let at = |wanted: usize| {
+        let found = per_firing.iter().find(|(size, _)| *size == wanted);
+        found.expect("a measured size").1
+    };
+    at(2048) / at(256)
 }
 
 /// How the records lie before they are listed.

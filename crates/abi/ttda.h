@@ -1,5 +1,6 @@
-/* The run and the listing of target/staticlib/libabi.a, which `rt staticlib abi` makes. Numbers and records are
-   little-endian; README.md gives the formats. */
+/* The run, the listing and the printed lines of target/staticlib/libabi.a, which `rt staticlib abi` makes. Numbers and
+   records are little-endian; README.md gives the formats. No function keeps a pointer, and each may be called from any
+   thread. No pointer is NULL, even with length 0, and a buffer that is written overlaps no other of the same call. */
 #ifndef TTDA_H
 #define TTDA_H
 
@@ -19,5 +20,18 @@ uint64_t ttda_run(const uint8_t *graph, size_t graph_len,
    untouched. */
 uint64_t ttda_list(const uint8_t *ledger, size_t ledger_len,
                    uint8_t *out, size_t out_len);
+
+/* What ttda_print answers where it writes nothing. A text has 12 bytes at least, so neither is a length. */
+#define TTDA_TOO_SMALL 0
+#define TTDA_NO_ANSWER 1
+
+/* Prints an answer of ttda_run, a listing of ttda_list and the cells to the start of out, as the program does: the number
+   of bytes, with the bytes of out behind them untouched. TTDA_TOO_SMALL if the text does not fit, TTDA_NO_ANSWER if the
+   number is no answer's (another word, or a place though nothing is refused), both with out untouched. 74 bytes, 56 for
+   each token and 46 for each cell are room enough. Bytes past the last whole record are passed over. */
+uint64_t ttda_print(uint64_t answer,
+                    const uint8_t *listing, size_t listing_len,
+                    const uint8_t *cells, size_t cells_len,
+                    uint8_t *out, size_t out_len);
 
 #endif

@@ -1,7 +1,93 @@
--- An answer as one number. Assumes nothing.
-use Prim.Native.Nat.{ℕ, _+_, _*_, _%_}
-use Rattle.rules.specs.Answer.{Values}
+-- An answer as one number, the way back, and what printing answers. Assumes nothing.
+use Prim.Native.Nat.{ℕ, _+_, _*_, _/_, _%_, _^_}
+use mathlib.Core.Bool.{cond}
+use mathlib.Core.List.{List, [], _∷_}
+use lib.Dec.{eqb}
+use Rattle.rules.specs.Answer.{Values, numberOf}
+use Rattle.rules.specs.declared.answer.Refusal.{Refusal}
+use Rattle.rules.specs.declared.answer.Refusal.the-variants.{GraphLength, UnknownOperation, FanOut, BadArc, BadSite, BadInput, BadStore, LedgerFull, SecondToken, NoSuchCell, SecondWrite, OutOfRange, Iteration, TooDeep, NoCaller, UnknownSite, NoReturn}
+use Rattle.rules.specs.declared.answer.Outcome.{Outcome}
+use Rattle.rules.specs.declared.answer.Outcome.the-variants.{Completed, Spent, Refused}
+use Rattle.text.specs.Text.{printed, printedOf, outAfter}
+use Rattle.text.specs.declared.Printed.{Printed}
+use Rattle.text.specs.declared.Printed.the-variants.{Done, TooSmall}
+use Rattle.abi.specs.declared.Numbered.{Numbered}
+use Rattle.abi.specs.declared.Numbered.the-variants.{One, NoRefusal}
+use Rattle.abi.specs.declared.Named.{Named}
+use Rattle.abi.specs.declared.Named.the-variants.{Ended, NoOutcome}
+use Rattle.abi.specs.declared.Unpacked.{Unpacked}
+use Rattle.abi.specs.declared.Unpacked.the-variants.{Answered, NoAnswer}
 
--- word, firings, tokens and place, 16 bits each, the word lowest
+-- ---- word, firings, tokens and place, 16 bits each, the word lowest
+
 abbrev pub packed : Values → ℕ
 packed v = v .word + v .firings % 65536 * 65536 + v .tokens % 65536 * 4294967296 + v .place % 65536 * 281474976710656
+
+-- ---- the way back
+
+-- all of them, in the order of 01's table
+abbrev pub refusals : List Refusal
+refusals =
+    GraphLength
+    ∷ UnknownOperation
+    ∷ FanOut
+    ∷ BadArc
+    ∷ BadSite
+    ∷ BadInput
+    ∷ BadStore
+    ∷ LedgerFull
+    ∷ SecondToken
+    ∷ NoSuchCell
+    ∷ SecondWrite
+    ∷ OutOfRange
+    ∷ Iteration
+    ∷ TooDeep
+    ∷ NoCaller
+    ∷ UnknownSite
+    ∷ NoReturn
+    ∷ []
+
+-- the one of some with a number
+abbrev pub lookup : List Refusal → ℕ → Numbered
+lookup [] n = NoRefusal
+lookup (r ∷ rs) n = cond (eqb n (numberOf r)) (One r) (lookup rs n)
+
+unfoldable pub refusalOf : ℕ → Numbered
+refusalOf n = lookup refusals n
+
+-- "The place is 0 unless refused."
+abbrev pub unplaced : Outcome → (place : ℕ) → Named
+unplaced o place = cond (eqb place 0) (Ended o) NoOutcome
+
+abbrev pub placed : Numbered → (place : ℕ) → Named
+placed (One r) place = Ended (Refused r place)
+placed NoRefusal place = NoOutcome
+
+-- the outcome with a word and a place
+unfoldable pub outcomeOf : (word place : ℕ) → Named
+outcomeOf word place =
+    cond (eqb word 0) (unplaced Completed place) (cond (eqb word 100) (unplaced Spent place) (placed (refusalOf word) place))
+
+abbrev pub counted : Named → (firings tokens : ℕ) → Unpacked
+counted (Ended o) firings tokens = Answered (record { outcome = o; firings = firings; tokens = tokens })
+counted NoOutcome firings tokens = NoAnswer
+
+-- the answer with a number; none where no outcome has the number's word and place
+unfoldable pub unpacked : ℕ → Unpacked
+unpacked n = counted (outcomeOf (n % 65536) (n / 281474976710656)) (n / 65536 % 65536) (n / 4294967296 % 65536)
+
+-- ---- what printing answers and leaves
+
+-- the number of bytes, and 0 where they do not fit: no text is empty
+abbrev pub lengthOf : Printed → ℕ
+lengthOf (Done n) = n
+lengthOf TooSmall = 0
+
+-- 1 where there is no answer to print: no text is so short
+abbrev pub printAnswer : Unpacked → (listing cells out : List ℕ) → ℕ
+printAnswer (Answered a) listing cells out = lengthOf (printedOf (printed a listing cells) out)
+printAnswer NoAnswer listing cells out = 1
+
+abbrev pub printAfter : Unpacked → (listing cells out : List ℕ) → List ℕ
+printAfter (Answered a) listing cells out = outAfter (printed a listing cells) out
+printAfter NoAnswer listing cells out = out

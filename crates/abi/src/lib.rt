@@ -1,9 +1,11 @@
-// What Rust and C link: the run and the listing over numbers and byte slices, with the promises of the
-// crates behind them.
+// What Rust and C link: the run, the listing and the printed lines over numbers and byte slices, with the
+// promises of the crates behind them.
 use listing::Listed;
 use rules::answer;
 use rules::answer::Answer;
 use rules::answer::Outcome;
+use rules::answer::Refusal;
+use text::Printed;
 ghost use mathlib.Core.Path.{_≡_};
 ghost use lib.ListN.{length};
 ghost use Rattle.rules.specs.Answer.{placeIn, valuesOf};
@@ -11,7 +13,25 @@ ghost use Rattle.rules.specs.Run.{result, ledgerAfter, cellsAfter};
 ghost use Rattle.rules.specs.Run.{answer as Run·answer};
 ghost use Rattle.listing.specs.Listing.{outAfter};
 ghost use Rattle.listing.specs.Listing.{answer as Listing·answer};
-ghost use Rattle.abi.specs.Numbers.{packed};
+ghost use Rattle.abi.specs.Numbers.{packed, refusalOf, unplaced, outcomeOf, unpacked, printAnswer, printAfter};
+
+// What a word says of a refusal.
+enum Numbered {
+    One(Refusal),
+    NoRefusal,
+}
+
+// What a word and a place say of an outcome.
+enum Named {
+    Ended(Outcome),
+    NoOutcome,
+}
+
+// What a number says of an answer.
+enum Unpacked {
+    Answered(Answer),
+    NoAnswer,
+}
 
 fn place_of(outcome: Outcome) -> usize
     ensures { λ r. ⌜ r ≡ placeIn outcome ⌝ }
@@ -32,6 +52,78 @@ fn number_of(a: Answer) -> u64
         + ((a.firings % 65536) as u64) * 65536
         + ((a.tokens % 65536) as u64) * 4294967296
         + ((place_of(outcome) % 65536) as u64) * 281474976710656
+}
+
+// The refusal with 01's number.
+fn refusal_of(word: u64) -> Numbered
+    ensures { λ r. ⌜ r ≡ refusalOf word ⌝ }
+{
+    match word {
+        1 => Numbered::One(Refusal::GraphLength),
+        2 => Numbered::One(Refusal::UnknownOperation),
+        3 => Numbered::One(Refusal::FanOut),
+        4 => Numbered::One(Refusal::BadArc),
+        5 => Numbered::One(Refusal::BadSite),
+        6 => Numbered::One(Refusal::BadInput),
+        7 => Numbered::One(Refusal::BadStore),
+        8 => Numbered::One(Refusal::LedgerFull),
+        9 => Numbered::One(Refusal::SecondToken),
+        10 => Numbered::One(Refusal::NoSuchCell),
+        11 => Numbered::One(Refusal::SecondWrite),
+        12 => Numbered::One(Refusal::OutOfRange),
+        13 => Numbered::One(Refusal::Iteration),
+        14 => Numbered::One(Refusal::TooDeep),
+        15 => Numbered::One(Refusal::NoCaller),
+        16 => Numbered::One(Refusal::UnknownSite),
+        17 => Numbered::One(Refusal::NoReturn),
+        _ => Numbered::NoRefusal,
+    }
+}
+
+// An outcome whose place is 0.
+fn unplaced(outcome: Outcome, place: usize) -> Named
+    ensures { λ r. ⌜ r ≡ unplaced outcome place ⌝ }
+{
+    if place == 0 {
+        Named::Ended(outcome)
+    } else {
+        Named::NoOutcome
+    }
+}
+
+// The outcome with a word and a place.
+fn outcome_of(word: u64, place: usize) -> Named
+    ensures { λ r. ⌜ r ≡ outcomeOf word place ⌝ }
+{
+    if word == 0 {
+        unplaced(Outcome::Completed, place)
+    } else if word == 100 {
+        unplaced(Outcome::Spent, place)
+    } else {
+        let numbered = refusal_of(word);
+        match numbered {
+            Numbered::One(r) => Named::Ended(Outcome::Refused(r, place)),
+            Numbered::NoRefusal => Named::NoOutcome,
+        }
+    }
+}
+
+// The answer that `number_of` made a number of.
+fn unpack(number: u64) -> Unpacked
+    ensures { λ r. ⌜ r ≡ unpacked number ⌝ }
+{
+    let firings = (number / 65536 % 65536) as usize;
+    let tokens = (number / 4294967296 % 65536) as usize;
+    let place = (number / 281474976710656) as usize;
+    let named = outcome_of(number % 65536, place);
+    match named {
+        Named::Ended(outcome) => Unpacked::Answered(Answer {
+            outcome,
+            firings,
+            tokens,
+        }),
+        Named::NoOutcome => Unpacked::NoAnswer,
+    }
 }
 
 #[no_mangle]
@@ -58,5 +150,19 @@ pub extern "C" fn ttda_list(ledger: &[u8], out: &mut [u8]) -> u64
     match listed {
         Listed::Done => 0,
         Listed::BadStore => 7,
+    }
+}
+
+#[no_mangle]
+pub extern "C" fn ttda_print(answer: u64, listing: &[u8], cells: &[u8], out: &mut [u8]) -> u64
+    ensures { λ r. ⌜ r ≡ printAnswer (unpacked answer) (now (listing .entry)) (now (cells .entry)) (now (out .entry)) ⌝ }
+    ensures { λ _. ⌜ now (out .exit) ≡ printAfter (unpacked answer) (now (listing .entry)) (now (cells .entry)) (now (out .entry)) ⌝ }
+{
+    let Unpacked::Answered(a) = unpack(answer) else {
+        return 1;
+    };
+    match text::print(a, listing, cells, out) {
+        Printed::Done(n) => n as u64,
+        Printed::TooSmall => 0,
     }
 }

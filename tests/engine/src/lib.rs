@@ -6,6 +6,10 @@
 pub const COMPLETED: u64 = 0;
 /// The word of a run whose budget is spent.
 pub const SPENT: u64 = 100;
+/// What `print` answers when the text does not fit.
+pub const TOO_SMALL: u64 = 0;
+/// What `print` answers to a number that is no packed answer.
+pub const NO_ANSWER: u64 = 1;
 
 extern "C" {
     fn ttda_run(
@@ -23,6 +27,16 @@ extern "C" {
     ) -> u64;
 
     fn ttda_list(ledger: *const u8, ledger_len: usize, out: *mut u8, out_len: usize) -> u64;
+
+    fn ttda_print(
+        answer: u64,
+        listing: *const u8,
+        listing_len: usize,
+        cells: *const u8,
+        cells_len: usize,
+        out: *mut u8,
+        out_len: usize,
+    ) -> u64;
 }
 
 /// The packed answer of a word with its firings, tokens and place.
@@ -68,4 +82,21 @@ pub fn run(
 pub fn list(ledger: &[u8], out: &mut [u8]) -> u64 {
     // SAFETY: as in `run`.
     unsafe { ttda_list(ledger.as_ptr(), ledger.len(), out.as_mut_ptr(), out.len()) }
+}
+
+/// Prints a packed answer, a listing and cells to the start of `out`; answers the
+/// number of bytes, `TOO_SMALL` or `NO_ANSWER`.
+pub fn print(answer: u64, listing: &[u8], cells: &[u8], out: &mut [u8]) -> u64 {
+    // SAFETY: as in `run`.
+    unsafe {
+        ttda_print(
+            answer,
+            listing.as_ptr(),
+            listing.len(),
+            cells.as_ptr(),
+            cells.len(),
+            out.as_mut_ptr(),
+            out.len(),
+        )
+    }
 }

@@ -100,6 +100,9 @@ fn check(folder: &Path, name: &str) -> Result<usize, String> {
     if first != due.left {
         return Err("the engine leaves other bytes than the second emulator".to_string());
     }
+    if first.text() != expected {
+        return Err("the engine prints other lines than expected".to_string());
+    }
     let lists = pick_lists(&files);
     for (number, picks) in lists.iter().enumerate() {
         let other = engine_run(&files, picks);
@@ -114,6 +117,18 @@ struct Left {
     answer: u64,
     listing: Vec<u8>,
     cells: Vec<u8>,
+}
+
+impl Left {
+    /// The lines that the engine prints, in a buffer of just their length.
+    fn text(&self) -> Vec<u8> {
+        let mut room = vec![0; 80 + 3 * self.listing.len() + 6 * self.cells.len()];
+        let length = engine::print(self.answer, &self.listing, &self.cells, &mut room);
+        let mut text = vec![0; length as usize];
+        let again = engine::print(self.answer, &self.listing, &self.cells, &mut text);
+        assert_eq!(again, length, "a text fits a buffer of its length");
+        text
+    }
 }
 
 /// Runs and lists as the program does.

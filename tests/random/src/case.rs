@@ -2,7 +2,7 @@
 
 use std::time::{Duration, Instant};
 
-use second::{Answer, Outcome};
+use second::{Answer, Outcome, Refusal};
 
 use crate::prng::Prng;
 
@@ -90,7 +90,27 @@ pub fn packed(answer: &Answer) -> u64 {
     engine::packed(word, answer.firings, answer.tokens, answer.place())
 }
 
-/// Runs both and compares answer, ledger, cells and listing.
+/// The answer of a number, by the words of ttda.h: an unknown word is no answer's,
+/// nor is a place where nothing is refused.
+fn answer_of(number: u64) -> Option<Answer> {
+    let (word, firings, tokens, place) = engine::unpacked(number);
+    let outcome = match (word, place) {
+        (engine::COMPLETED, 0) => Outcome::Completed,
+        (engine::SPENT, 0) => Outcome::Spent,
+        (1..=17, _) => Outcome::Refused(Refusal {
+            number: word as u8,
+            place: place as usize,
+        }),
+        _ => return None,
+    };
+    Some(Answer {
+        outcome,
+        firings: firings as usize,
+        tokens: tokens as usize,
+    })
+}
+
+/// Runs both and compares answer, ledger, cells, listing and printed lines.
 pub fn compare(case: &Case, clock: &mut Clock) -> (Left, Result<(), String>) {
     let mut prng = Prng::new(case.garbage);
     let mut ledger = vec![0; case.ledger_bytes];
@@ -126,7 +146,8 @@ pub fn compare(case: &Case, clock: &mut Clock) -> (Left, Result<(), String>) {
         listing,
     };
     let result = check_run(&left, engine_answer, &engine_ledger, &engine_cells)
-        .and_then(|()| compare_listing(left.used(), left.used().len(), &mut prng));
+        .and_then(|()| compare_listing(left.used(), left.used().len(), &mut prng))
+        .and_then(|()| compare_printing(&left, &mut prng));
     (left, result)
 }
 
@@ -175,4 +196,54 @@ pub fn compare_listing(records: &[u8], out_bytes: usize, prng: &mut Prng) -> Res
         return Err("listing: bytes outside the output were written".to_string());
     }
     equal("listing", found.contents(), &due)
+}
+
+/// Compares the lines that both print of a run, and now and then those of another
+/// answer, which may be none.
+fn compare_printing(left: &Left, prng: &mut Prng) -> Result<(), String> {
+    // A run that is refused at once leaves the cells as lent, any bytes here; the
+    // program lends zeros.
+    let cells = match left.answer.refused_at_once() {
+        true => vec![0; left.cells.len()],
+        false => left.cells.clone(),
+    };
+    compare_text(packed(&left.answer), &left.listing, &cells, prng)?;
+    if prng.one_in(4) {
+        let word = [prng.below(20), prng.below(65_536), 100][prng.below(3)] as u64;
+        let place = if prng.one_in(2) { 0 } else { prng.word() >> 48 };
+        let counts = prng.word() >> 16 & 0xffff_ffff;
+        let number = word | counts << 16 | place << 48;
+        compare_text(number, &left.listing, &cells, prng)?;
+    }
+    Ok(())
+}
+
+fn compare_text(number: u64, listing: &[u8], cells: &[u8], prng: &mut Prng) -> Result<(), String> {
+    let text = answer_of(number).map(|answer| second::print(&answer, listing, cells));
+    let length = text.as_ref().map_or(100, Vec::len);
+    let room = match prng.below(6) {
+        0 => length - 1,
+        1 => prng.below(length),
+        2 | 3 => length,
+        _ => length + prng.below(40),
+    };
+    let mut due = vec![0; room];
+    prng.fill(&mut due);
+    let mut found = Guarded::new(&due, 16 + prng.below(8));
+    let due_code = match text {
+        None => engine::NO_ANSWER,
+        Some(text) if text.len() > room => engine::TOO_SMALL,
+        Some(text) => {
+            due[..text.len()].copy_from_slice(&text);
+            text.len() as u64
+        }
+    };
+    let code = engine::print(number, listing, cells, found.lent());
+    if code != due_code {
+        return Err(format!("printing {number}: answer {code}, due {due_code}"));
+    }
+    if !found.intact() {
+        return Err("printing: bytes outside the output were written".to_string());
+    }
+    equal("printed text", found.contents(), &due)
 }

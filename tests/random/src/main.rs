@@ -1,11 +1,12 @@
 //! Random and damaged runs of the engine against the second emulator.
 //!
-//! Usage: random [RUNS [SEED]] [--keep]. The same numbers give the same runs. The
+//! Usage: random [RUNS [SEED]] [--keep] [--first]. The same numbers give the same runs. The
 //! last line is "N passed, M failed"; the exit status is 1 if a run failed or if
 //! an answer, refusal or operation that can be reached never came up, so fewer
 //! than a few thousand runs may fail for that. A failed run's files graph, inputs
 //! and picks are written to random-failures/SEED-RUN; with --keep every run's files
 //! are written to random-failures/current beforehand, for an engine that crashes.
+//! With --first the runs end with the group in which the first one failed.
 
 mod case;
 mod damage;
@@ -33,6 +34,7 @@ struct Harness {
     seed: u64,
     wanted: u64,
     keep: bool,
+    first: bool,
     runs: u64,
     groups: u64,
     listings: u64,
@@ -78,7 +80,7 @@ impl Harness {
     }
 
     fn done(&self) -> bool {
-        self.runs >= self.wanted
+        self.runs >= self.wanted || self.first && self.failed > 0
     }
 
     /// One graph under many orders, with other budgets, and damaged.
@@ -227,20 +229,22 @@ fn numbers(arguments: &[String]) -> Result<(u64, u64), String> {
 }
 
 fn main() -> ExitCode {
-    let mut arguments: Vec<String> = std::env::args().skip(1).collect();
-    let keep = arguments.iter().any(|argument| argument == "--keep");
-    arguments.retain(|argument| argument != "--keep");
+    let (flags, arguments): (Vec<String>, Vec<String>) = std::env::args()
+        .skip(1)
+        .partition(|argument| argument == "--keep" || argument == "--first");
+    let given = |name: &str| flags.iter().any(|flag| flag == name);
     let (wanted, seed) = match numbers(&arguments) {
         Ok(numbers) => numbers,
         Err(error) => {
-            eprintln!("{error}\nusage: random [RUNS [SEED]] [--keep]");
+            eprintln!("{error}\nusage: random [RUNS [SEED]] [--keep] [--first]");
             return ExitCode::from(2);
         }
     };
     let mut harness = Harness {
         seed,
         wanted,
-        keep,
+        keep: given("--keep"),
+        first: given("--first"),
         runs: 0,
         groups: 0,
         listings: 0,

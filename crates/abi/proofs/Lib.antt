@@ -1,0 +1,2 @@
+-- The laws of what crosses to Rust and C. Assumes nothing.
+pub mod Laws

@@ -1,0 +1,24 @@
+-- `abi::outcome_of` meets its contract. Assumes nothing.
+use borrow.Author.Needs.{needs}
+use borrow.Author.Tests.{eq-eqb, ne-eqb}
+use mathlib.Core.Path.{sym, _∙_}
+use Rattle.abi.specs.Numbers.{outcomeOf}
+use Rattle.abi.proofs.outcome_of.Statement.{statement}
+use Rattle.abi.proofs.outcome_of.Tie as tie
+
+pub outcome-of-spec : {M : Type 1} → statement M
+unfolding outcomeOf
+outcome-of-spec = tie.close (tie.spec
+    (λ c κs. search needs)
+    (λ c κs. search needs)
+    (λ c κs. search needs)
+    (λ c. search needs)
+    (λ c. search needs)
+    (λ c. rw (eq-eqb _ _ (c .before .if1 .taken)) (c .unplaced .ensures))
+    (λ c. rw (ne-eqb _ _ (c .before .before .if1 .left), eq-eqb _ _ (c .before .if2 .taken)) (c .unplaced2 .ensures))
+    (λ c.
+    let d = c .before .before .before in
+    rw (ne-eqb _ _ (d .before .before .if1 .left), ne-eqb _ _ (d .before .if2 .left), sym (d .refusal-of .ensures) ∙ c .before .numbered .given .1))
+    (λ c.
+    let d = c .before .before in
+    rw (ne-eqb _ _ (d .before .before .if1 .left), ne-eqb _ _ (d .before .if2 .left), sym (d .refusal-of .ensures) ∙ c .enum-told .given .1)))
