@@ -1,21 +1,6 @@
 //! The graphs that are measured, each for a number of tokens.
 
-const COPY: u8 = 1;
-const OUT: u8 = 3;
-const CONST: u8 = 4;
-const SWITCH: u8 = 5;
-const GATE: u8 = 6;
-const NEXT: u8 = 7;
-const ENTER: u8 = 8;
-const LEAVE: u8 = 9;
-const FETCH: u8 = 10;
-const STORE: u8 = 11;
-const ADD: u8 = 16;
-const MUL: u8 = 18;
-const ADD_CONSTANT: u8 = 32;
-const SUB_CONSTANT: u8 = 33;
-const LT_CONSTANT: u8 = 37;
-const LE_CONSTANT: u8 = 38;
+use layout::*;
 
 /// A graph with its inputs.
 #[derive(Default)]
@@ -28,10 +13,7 @@ impl Work {
     /// Adds an instruction; its arcs are drawn later.
     fn add(&mut self, code: u8, constant: i32) -> u16 {
         let number = (self.graph.len() / 16) as u16;
-        let mut record = [0; 16];
-        record[0] = code;
-        record[8..12].copy_from_slice(&constant.to_le_bytes());
-        self.graph.extend(record);
+        self.graph.extend(layout::instruction(code, &[], constant));
         number
     }
 
@@ -45,11 +27,7 @@ impl Work {
     }
 
     fn input(&mut self, to: u16, port: u8, value: i32) {
-        let mut record = [0; 20];
-        record[9] = port;
-        record[10..12].copy_from_slice(&to.to_le_bytes());
-        record[12..16].copy_from_slice(&value.to_le_bytes());
-        self.inputs.extend(record);
+        self.inputs.extend(layout::input(to, port, value));
     }
 
     /// A loop of an index from 0 while it is below the number of passes; answers
@@ -57,10 +35,10 @@ impl Work {
     /// the SWITCH, whose second destination is the exit.
     fn index_loop(&mut self, passes: i32) -> (u16, u16) {
         let index = self.add(COPY, 0);
-        let test = self.add(LT_CONSTANT, passes);
+        let test = self.add(LT + WITH_CONSTANT, passes);
         let switch = self.add(SWITCH, 0);
         let body = self.add(COPY, 0);
-        let step = self.add(ADD_CONSTANT, 1);
+        let step = self.add(ADD + WITH_CONSTANT, 1);
         let next = self.add(NEXT, 0);
         self.arc(index, test, 0);
         self.arc(index, switch, 0);
@@ -84,8 +62,8 @@ pub fn vector_sum(tokens: usize) -> Work {
     work.arc(switch, end, 0);
     let [fork, both] = [work.add(COPY, 0), work.add(COPY, 0)];
     let [a, b, c] = [work.add(FETCH, 0), work.add(FETCH, 0), work.add(STORE, 0)];
-    let b_cell = work.add(ADD_CONSTANT, 100);
-    let c_cell = work.add(ADD_CONSTANT, 200);
+    let b_cell = work.add(ADD + WITH_CONSTANT, 100);
+    let c_cell = work.add(ADD + WITH_CONSTANT, 200);
     let sum = work.add(ADD, 0);
     work.arc(body, fork, 0);
     work.arc(fork, a, 0);
@@ -115,10 +93,10 @@ pub fn vector_sum(tokens: usize) -> Work {
 pub fn long_loop(tokens: usize) -> Work {
     let mut work = Work::default();
     let index = work.add(COPY, 0);
-    let test = work.add(LT_CONSTANT, ((tokens - 5) / 8) as i32);
+    let test = work.add(LT + WITH_CONSTANT, ((tokens - 5) / 8) as i32);
     let switch = work.add(SWITCH, 0);
-    let step = work.add(ADD_CONSTANT, 2);
-    let back = work.add(SUB_CONSTANT, 1);
+    let step = work.add(ADD + WITH_CONSTANT, 2);
+    let back = work.add(SUB + WITH_CONSTANT, 1);
     let copy = work.add(COPY, 0);
     let next = work.add(NEXT, 0);
     let end = work.add(OUT, 0);
@@ -205,10 +183,10 @@ pub fn recursion(tokens: usize) -> Work {
     let three = work.add(CONST, 3);
     let main = work.add(ENTER, 1);
     let [n, deeper] = [work.add(COPY, 0), work.add(COPY, 0)];
-    let flat = work.add(LE_CONSTANT, 0);
+    let flat = work.add(LE + WITH_CONSTANT, 0);
     let which = work.add(SWITCH, 0);
     let one = work.add(CONST, 1);
-    let minus = work.add(SUB_CONSTANT, 1);
+    let minus = work.add(SUB + WITH_CONSTANT, 1);
     let again = work.add(ENTER, 2);
     let times = work.add(MUL, 0);
     let leave = work.add(LEAVE, 0);

@@ -1,26 +1,9 @@
 //! What is lent to a run: records, and the buffers that hold them.
 
-pub const COPY: u8 = 1;
-pub const SINK: u8 = 2;
-pub const OUT: u8 = 3;
-pub const CONST: u8 = 4;
-pub const SWITCH: u8 = 5;
-pub const GATE: u8 = 6;
-pub const NEXT: u8 = 7;
-pub const ENTER: u8 = 8;
-pub const LEAVE: u8 = 9;
-pub const FETCH: u8 = 10;
-pub const STORE: u8 = 11;
-pub const ADD: u8 = 16;
-pub const SUB: u8 = 17;
-pub const MUL: u8 = 18;
-pub const DIV: u8 = 19;
-pub const REM: u8 = 20;
-pub const LT: u8 = 21;
-pub const LE: u8 = 22;
-pub const EQ: u8 = 23;
-/// Added to the code of an arithmetic operation: the constant on the right.
-pub const WITH_CONSTANT: u8 = 16;
+pub use layout::{
+    ADD, CONST, COPY, DIV, ENTER, EQ, FETCH, GATE, LE, LEAVE, LT, MUL, NEXT, OUT, REM, SINK, STORE,
+    SUB, SWITCH, WITH_CONSTANT,
+};
 
 pub const GRAPH_RECORD: usize = 16;
 pub const TOKEN_RECORD: usize = 20;
@@ -37,15 +20,7 @@ pub fn op(code: u8, arcs: &[(u16, u8)]) -> Instruction {
 
 /// A graph record with a constant.
 pub fn with(code: u8, constant: i32, arcs: &[(u16, u8)]) -> Instruction {
-    let mut record = [0; GRAPH_RECORD];
-    record[0] = code;
-    record[1] = arcs.len() as u8;
-    for (number, &(target, port)) in arcs.iter().enumerate() {
-        record[2 + number] = port;
-        record[4 + 2 * number..6 + 2 * number].copy_from_slice(&target.to_le_bytes());
-    }
-    record[8..12].copy_from_slice(&constant.to_le_bytes());
-    record
+    layout::instruction(code, arcs, constant)
 }
 
 /// A record with one byte put in its place.
@@ -56,11 +31,7 @@ pub fn byte<const N: usize>(mut record: [u8; N], at: usize, value: u8) -> [u8; N
 
 /// A live token of the root tag: instruction, port and value.
 pub fn token(instruction: u16, port: u8, value: i32) -> Token {
-    let mut record = [0; TOKEN_RECORD];
-    record[9] = port;
-    record[10..12].copy_from_slice(&instruction.to_le_bytes());
-    record[12..16].copy_from_slice(&value.to_le_bytes());
-    record
+    layout::input(instruction, port, value)
 }
 
 /// A present cell.

@@ -2,27 +2,7 @@
 
 use crate::prng::Prng;
 
-pub const COPY: u8 = 1;
-pub const SINK: u8 = 2;
-pub const OUT: u8 = 3;
-pub const CONST: u8 = 4;
-pub const SWITCH: u8 = 5;
-pub const GATE: u8 = 6;
-pub const NEXT: u8 = 7;
-pub const ENTER: u8 = 8;
-pub const LEAVE: u8 = 9;
-pub const FETCH: u8 = 10;
-pub const STORE: u8 = 11;
-pub const ADD: u8 = 16;
-pub const SUB: u8 = 17;
-pub const MUL: u8 = 18;
-pub const DIV: u8 = 19;
-pub const REM: u8 = 20;
-pub const LT: u8 = 21;
-pub const LE: u8 = 22;
-pub const EQ: u8 = 23;
-/// Added to the code of an arithmetic operation: the constant on the right.
-pub const WITH_CONSTANT: u8 = 16;
+pub use layout::*;
 
 /// One instruction: its code, its destinations in use and its constant.
 #[derive(Clone)]
@@ -37,17 +17,7 @@ pub struct Instruction {
 
 impl Instruction {
     fn record(&self) -> [u8; 16] {
-        let mut record = [0; 16];
-        record[0] = self.code;
-        record[1] = self.arcs.len() as u8;
-        for (number, &(target, port)) in self.arcs.iter().enumerate() {
-            record[2 + number] = port;
-            let [low, high] = target.to_le_bytes();
-            record[4 + 2 * number] = low;
-            record[5 + 2 * number] = high;
-        }
-        record[8..12].copy_from_slice(&self.constant.to_le_bytes());
-        record
+        layout::instruction(self.code, &self.arcs, self.constant)
     }
 }
 
@@ -124,16 +94,7 @@ impl Draft {
     pub fn input_bytes(&self) -> Vec<u8> {
         self.inputs
             .iter()
-            .flat_map(|&input| input_record(input))
+            .flat_map(|&(instruction, port, value)| layout::input(instruction, port, value))
             .collect()
     }
-}
-
-/// An input record with the root tag.
-pub fn input_record((instruction, port, value): Input) -> [u8; 20] {
-    let mut record = [0; 20];
-    record[9] = port;
-    record[10..12].copy_from_slice(&instruction.to_le_bytes());
-    record[12..16].copy_from_slice(&value.to_le_bytes());
-    record
 }

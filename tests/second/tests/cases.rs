@@ -169,7 +169,7 @@ fn counting(passes: i32) -> Lent {
         instruction(COPY, &[(1, 0), (2, 0)], 0),
         instruction(37, &[(2, 1)], passes),
         instruction(SWITCH, &[(3, 0), (5, 0)], 0),
-        instruction(ADD_CONSTANT, &[(4, 0)], 1),
+        instruction(ADD + WITH_CONSTANT, &[(4, 0)], 1),
         instruction(NEXT, &[(0, 0)], 0),
         instruction(OUT, &[], 0),
     ];

@@ -3,60 +3,10 @@
 
 use second::{list, print, run, Answer, Outcome, Refusal};
 
-pub const COPY: u8 = 1;
-pub const SINK: u8 = 2;
-pub const OUT: u8 = 3;
-pub const CONST: u8 = 4;
-pub const SWITCH: u8 = 5;
-pub const GATE: u8 = 6;
-pub const NEXT: u8 = 7;
-pub const ENTER: u8 = 8;
-pub const LEAVE: u8 = 9;
-pub const FETCH: u8 = 10;
-pub const STORE: u8 = 11;
-pub const ADD: u8 = 16;
-pub const DIV: u8 = 19;
-pub const REM: u8 = 20;
-pub const ADD_CONSTANT: u8 = 32;
-
-/// A graph record with the given arcs (instruction, port) and constant.
-pub fn instruction(code: u8, arcs: &[(u16, u8)], constant: i32) -> [u8; 16] {
-    let mut record = [0; 16];
-    record[0] = code;
-    record[1] = arcs.len() as u8;
-    for (number, &(target, port)) in arcs.iter().enumerate() {
-        record[2 + number] = port;
-        record[4 + 2 * number..6 + 2 * number].copy_from_slice(&target.to_le_bytes());
-    }
-    record[8..12].copy_from_slice(&constant.to_le_bytes());
-    record
-}
+pub use layout::*;
 
 pub fn graph(records: &[[u8; 16]]) -> Vec<u8> {
     records.concat()
-}
-
-/// A token record of the root tag.
-pub fn input(instruction: u16, port: u8, value: i32) -> [u8; 20] {
-    token(0, 0, instruction, port, value, 0)
-}
-
-pub fn token(
-    path: u64,
-    iteration: u8,
-    instruction: u16,
-    port: u8,
-    value: i32,
-    state: u8,
-) -> [u8; 20] {
-    let mut record = [0; 20];
-    record[0..8].copy_from_slice(&path.to_le_bytes());
-    record[8] = iteration;
-    record[9] = port;
-    record[10..12].copy_from_slice(&instruction.to_le_bytes());
-    record[12..16].copy_from_slice(&value.to_le_bytes());
-    record[16] = state;
-    record
 }
 
 pub fn inputs(records: &[[u8; 20]]) -> Vec<u8> {
