@@ -1,4 +1,5 @@
--- Laws of the flags and their counts: how a change of one flag changes the counts, and how a search passes a flag and a block. Assumes nothing.
+-- Laws of the flags and their counts: how a change of one flag changes the counts, how a search passes flags and blocks, and the sum of eight
+-- numbers. Assumes nothing.
 use Prim.Native.Nat.{ℕ, zero, suc, _+_, _-_, _*_, _/_, _%_, _≤_, _<_}
 use mathlib.Core.Path.{_≡_, refl, sym, ap, _∙_}
 use mathlib.Core.Bool.{Bool, true, false}
@@ -11,6 +12,7 @@ use lib.Dec.{ltb, eqb}
 use lib.ListN.{length, getD, take, drop, set, length-drop, length-set, drop-of-length-le, replicate, length-replicate}
 use lib.Seq.{drop-drop, take-set-lt, take-set-le, drop-set-lt, drop-set-add, getD-take, getD-drop, length-take-le, drop-cons, getD-set-same, getD-set-other}
 use borrow.Author.Tests.{le-ltb, lt-ltb, ltb-true, ltb-false, eqb-true, eqb-false}
+use Rattle.number.specs.Number.{number16, number32, number64}
 use Rattle.flags.specs.Flags.{placesFrom, places, ones, place, blocks, Counted}
 
 below-or : (a b : ℕ) → (a < b) ⊎ (b ≤ a)
@@ -59,8 +61,9 @@ module _ (l : List ℕ) (i k : ℕ) (h : i < length l) where
       let v : k < getD l i 0 + ones (drop (suc i) l) = rw (drop-cons l i 0 h) at u in
       rw add-one (omega arith, rw (drop-cons l i 0 h, le-ltb k (getD l i 0) g) (omega arith))
 
-pub ones-from : (l : List ℕ) (i : ℕ) → i < length l → ones (drop i l) ≡ getD l i 0 + ones (drop (i + 1) l)
-ones-from l i h = rw (add-one, drop-cons l i 0 h)
+-- w flags, and those behind them
+pub ones-next : (w i : ℕ) (l : List ℕ) → ones (drop i l) ≡ ones (take w (drop i l)) + ones (drop (i + w) l)
+ones-next w i l = rw (← drop-drop w i l) (ones-split w (drop i l))
 
 pub ones-past : (l : List ℕ) (i : ℕ) → length l ≤ i → ones (drop i l) ≡ 0
 ones-past l i h = rw (drop-of-length-le l h)
@@ -76,15 +79,21 @@ place-skip (suc m) k (x ∷ l) h g =
     let e : (k - x) - ones (take m l) ≡ k - (x + ones (take m l)) = omega arith in
     place-later k x l (omega arith) ∙ ap suc (place-skip m (k - x) l (le-of-suc-le-suc h) (omega arith)) ∙ rw e (omega arith)
 
--- a block is passed
-pub block-passed : (l : List ℕ) (b k n : ℕ) → b * 64 + 64 ≤ length l → n ≡ ones (take 64 (drop (b * 64) l)) → n ≤ k → k < ones (drop (b * 64) l)
-    → (k - n < ones (drop ((b + 1) * 64) l)) × (b * 64 + place k (drop (b * 64) l) ≡ (b + 1) * 64 + place (k - n) (drop ((b + 1) * 64) l))
-block-passed l b k n h e g u =
-    let d = drop (b * 64) l in
-    let a : (b + 1) * 64 ≡ b * 64 + 64 = omega arith in
-    let s = ones-split 64 d in
-    let p = place-skip 64 k d (omega (arith, length-drop (b * 64) l)) (omega arith) in
-    rw (a, ← drop-drop 64 (b * 64) l, e) (omega arith, omega arith)
+-- the search passes w flags
+pub passed : (w : ℕ) (l : List ℕ) (i k n : ℕ) → i + w ≤ length l → n ≡ ones (take w (drop i l)) → n ≤ k → k < ones (drop i l)
+    → (k - n < ones (drop (i + w) l)) × (i + place k (drop i l) ≡ i + w + place (k - n) (drop (i + w) l))
+passed w l i k n h e g u =
+    let d = drop i l in
+    let s = ones-split w d in
+    let p = place-skip w k d (omega (arith, length-drop i l)) (omega arith) in
+    rw (← drop-drop w i l, e) (omega arith, omega arith)
+
+-- m blocks are passed
+pub blocks-passed : (m : ℕ) (l : List ℕ) (b k n : ℕ) → b * 64 + m * 64 ≤ length l → n ≡ ones (take (m * 64) (drop (b * 64) l)) → n ≤ k → k < ones (drop (b * 64) l)
+    → (k - n < ones (drop ((b + m) * 64) l)) × (b * 64 + place k (drop (b * 64) l) ≡ (b + m) * 64 + place (k - n) (drop ((b + m) * 64) l))
+blocks-passed m l b k n h e g u =
+    let a : (b + m) * 64 ≡ b * 64 + m * 64 = omega arith in
+    rw a (passed (m * 64) l (b * 64) k n h e g u)
 
 pub place-lt : (k : ℕ) (l : List ℕ) → k < ones l → place k l < length l
 place-lt k [] h = absurd (not-suc-le-zero h)
@@ -92,6 +101,33 @@ place-lt k (x ∷ l) h = ⊎-elim
     (λ g. rw (lt-ltb k x g) (omega arith))
     (λ g. rw (le-ltb k x g) (omega (arith, place-lt (k - x) l (omega arith))))
     (below-or k x)
+
+-- ---- eight at a time
+
+pub ones-part : (m n k : ℕ) (l : List ℕ) → ones (take (m + n) (drop k l)) ≡ ones (take m (drop k l)) + ones (take n (drop (k + m) l))
+ones-part m n k l =
+    let e : k + (m + n) ≡ k + m + n = omega arith in
+    let w = rw e at (ones-next (m + n) k l) in
+    omega (arith, ones-next m k l, ones-next n (k + m) l)
+
+ones-one : (l : List ℕ) (k : ℕ) → ones (take 1 (drop k l)) ≡ getD l k 0
+ones-one [] zero = refl
+ones-one [] (suc k) = refl
+ones-one (x ∷ l) zero = omega arith
+ones-one (x ∷ l) (suc k) = ones-one l k
+
+pub two-is : (l : List ℕ) (k : ℕ) → ones (take 2 (drop k l)) ≡ getD l k 0 + getD l (k + 1) 0
+two-is l k = omega (arith, ones-part 1 1 k l, ones-one l k, ones-one l (k + 1))
+
+-- where the number in the bytes is 0, each byte is
+two-zero : (l : List ℕ) (k : ℕ) → number16 l k ≡ 0 → ones (take 2 (drop k l)) ≡ 0
+two-zero l k h = omega (arith, two-is l k)
+
+four-zero : (l : List ℕ) (k : ℕ) → number32 l k ≡ 0 → ones (take 4 (drop k l)) ≡ 0
+four-zero l k h = omega (arith, ones-part 2 2 k l, two-zero l k (omega arith), two-zero l (k + 2) (omega arith))
+
+pub eight-zero : (l : List ℕ) (k : ℕ) → number64 l k ≡ 0 → ones (take 8 (drop k l)) ≡ 0
+eight-zero l k h = omega (arith, ones-part 4 4 k l, four-zero l k (omega arith), four-zero l (k + 4) (omega arith))
 
 -- ---- the list of places
 
@@ -133,6 +169,13 @@ getD-blocks (suc n) zero l h = refl
 getD-blocks (suc n) (suc i) l h =
     let e : 64 + i * 64 ≡ suc i * 64 = omega arith in
     getD-blocks n i (drop 64 l) (le-of-suc-le-suc h) ∙ rw (drop-drop (i * 64) 64 l, e)
+
+pub blocks-from : (n b : ℕ) (l : List ℕ) → length l ≡ n * 64 → ones (drop b (blocks n l)) ≡ ones (drop (b * 64) l)
+blocks-from n zero l h = ones-blocks n l h
+blocks-from zero (suc b) l h = sym (ones-past l (suc b * 64) (omega arith))
+blocks-from (suc n) (suc b) l h =
+    let e : 64 + b * 64 ≡ suc b * 64 = omega arith in
+    blocks-from n b (drop 64 l) (omega (arith, length-drop 64 l)) ∙ rw (drop-drop (b * 64) 64 l, e)
 
 -- one flag is changed
 blocks-here : (n i v : ℕ) (l : List ℕ) → suc n * 64 ≤ length l → i < 64
@@ -186,6 +229,16 @@ module _ (flags counts : List ℕ) (w : Counted flags counts) where
 
   pub count-all : ones counts ≡ ones flags
   count-all = ap ones (w .same) ∙ ones-blocks 32 flags (w .size)
+
+  count-from : (b : ℕ) → ones (drop b counts) ≡ ones (drop (b * 64) flags)
+  count-from b = ap (λ (q : List ℕ). ones (drop b q)) (w .same) ∙ blocks-from 32 b flags (w .size)
+
+  -- the counts of m blocks
+  pub counts-are : (m b : ℕ) → ones (take m (drop b counts)) ≡ ones (take (m * 64) (drop (b * 64) flags))
+  counts-are m b =
+      let a : (b + m) * 64 ≡ b * 64 + m * 64 = omega arith in
+      let f = rw a at (count-from (b + m)) in
+      omega (arith, ones-next m b counts, ones-next (m * 64) (b * 64) flags, count-from b)
 
   pub counted-set : (i v : ℕ) → i < 2048 → v ≤ 1 → Counted (set flags i v) (set counts (i / 64) (getD counts (i / 64) 0 + v - getD flags i 0))
   counted-set i v h g = record {
