@@ -3,7 +3,6 @@
 use chains::Found;
 use record::tag::Tag;
 use record::token;
-use record::token::Content;
 use record::token::Token;
 ghost use mathlib.Core.Path.{_≡_};
 ghost use mathlib.Core.List.{[], _∷_, _++_};
@@ -14,18 +13,8 @@ ghost use Rattle.record.specs.TokensAndTags.{encode, tokens, tokenAt};
 ghost use Rattle.flags.specs.Flags.{Counted};
 ghost use Rattle.flags.specs.Marks.{bit};
 ghost use Rattle.chains.specs.Search.{Within};
-ghost use Rattle.enabled.specs.Enabled.{isLive, liveAt, allLive, placeOf};
-ghost use Rattle.enabled.specs.Store.{Known, Stored, placeOr, liveFound};
-
-fn is_live(x: Content) -> bool
-    ensures { λ r. ⌜ r ≡ isLive x ⌝ }
-{
-    match x {
-        Content::Live(_) => true,
-        Content::Spent(_) => false,
-        Content::Deferred(_) => false,
-    }
-}
+ghost use Rattle.enabled.specs.Enabled.{allLive, placeOf};
+ghost use Rattle.enabled.specs.Store.{Known, Stored, placeOr, lower, liveFound, readyOf};
 
 fn place_or(f: Found, other: usize) -> usize
     ensures { λ r. ⌜ r ≡ placeOr f other ⌝ }
@@ -36,70 +25,44 @@ fn place_or(f: Found, other: usize) -> usize
     }
 }
 
+// Whether what was found is live: the state of its record is 0.
 fn live(ledger: &[u8], f: Found) -> bool
     requires { ⌜ Within f (length (now ledger) / 20) ⌝ }
     ensures { λ r. ⌜ r ≡ liveFound (tokenAt (now (ledger .entry))) f ⌝ }
 {
     match f {
-        Found::At(i) => {
-            let t = token::token_at(ledger, i);
-            let content = t.content;
-            is_live(content)
-        }
+        Found::At(i) => ledger[i * 20 + 16] == 0,
         Found::Nothing => false,
     }
 }
 
-// Whether the token at a port of a tag is live.
-fn live_at(
-    heads: &[u16; 4096],
-    next: &[u16; 2048],
-    ledger: &[u8],
-    used: usize,
-    tag: Tag,
-    port: u8,
-) -> bool
-    requires { ⌜ Known (now heads) (now next) (now ledger) used ⌝ }
-    ensures { λ r. ⌜ r ≡ liveAt (tokens used (now (ledger .entry))) tag port ⌝ }
-{
-    live(ledger, chains::find(heads, next, ledger, used, tag, port))
-}
-
-// Whether all of a tag's operands are live.
-fn ready(
-    heads: &[u16; 4096],
-    next: &[u16; 2048],
-    ledger: &[u8],
-    used: usize,
-    tag: Tag,
-    operands: u8,
-) -> bool
-    requires { ⌜ Known (now heads) (now next) (now ledger) used ⌝ }
-    ensures { λ r. ⌜ r ≡ allLive operands (tokens used (now (ledger .entry))) tag ⌝ }
+// Whether all operands of an activity are live, where f and g stand on its ports.
+fn ready(ledger: &[u8], f: Found, g: Found, operands: u8) -> bool
+    requires { ⌜ Within f (length (now ledger) / 20) × Within g (length (now ledger) / 20) ⌝ }
+    ensures { λ r. ⌜ r ≡ readyOf operands (liveFound (tokenAt (now (ledger .entry))) f) (liveFound (tokenAt (now (ledger .entry))) g) ⌝ }
 {
     if operands == 1 {
-        return live_at(heads, next, ledger, used, tag, 0);
+        return live(ledger, f);
     }
     if operands == 2 {
-        if live_at(heads, next, ledger, used, tag, 0) {
-            return live_at(heads, next, ledger, used, tag, 1);
+        if live(ledger, f) {
+            return live(ledger, g);
         }
         return false;
     }
     false
 }
 
-// The place of the earliest token of a tag.
-fn first_of(heads: &[u16; 4096], next: &[u16; 2048], ledger: &[u8], used: usize, tag: Tag) -> usize
-    requires { ⌜ Known (now heads) (now next) (now ledger) used ⌝ }
-    ensures { λ r. ⌜ r ≡ placeOf (tokens used (now (ledger .entry))) tag ⌝ }
+// The place of the earliest token of a tag, where f and g stand on its ports.
+fn first_of(f: Found, g: Found, used: usize) -> usize
+    ensures { λ r. ⌜ r ≡ lower (placeOr f used) (placeOr g used) ⌝ }
 {
-    let a = place_or(chains::find(heads, next, ledger, used, tag, 0), used);
-    let b = place_or(chains::find(heads, next, ledger, used, tag, 1), used);
+    let a = place_or(f, used);
+    let b = place_or(g, used);
     if a < b { a } else { b }
 }
 
-// Puts the flag of a tag's activity right.
+// Puts the flag of a tag's activity right, by what its two ports have.
 fn settle(
     flags: &mut [u8; 2048],
     counts: &mut [u8; 32],
@@ -114,11 +77,13 @@ fn settle(
     ensures { λ _. ⌜ now (flags .exit) ≡ set (now (flags .entry)) (placeOf (tokens used (now (ledger .entry))) tag) (bit (allLive operands (tokens used (now (ledger .entry))) tag)) ⌝ }
     ensures { λ _. ⌜ Counted (now (flags .exit)) (now (counts .exit)) ⌝ }
 {
-    let i = first_of(heads, next, ledger, used, tag);
-    if ready(heads, next, ledger, used, tag, operands) {
-        flags::raise(flags, counts, i);
+    let f = chains::find(heads, next, ledger, used, tag, 0);
+    let g = chains::find(heads, next, ledger, used, tag, 1);
+    let place = first_of(f, g, used);
+    if ready(ledger, f, g, operands) {
+        flags::raise(flags, counts, place);
     } else {
-        flags::lower(flags, counts, i);
+        flags::lower(flags, counts, place);
     }
 }
 
