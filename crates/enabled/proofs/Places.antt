@@ -8,7 +8,7 @@ use native.Mathlib.Omega.{arith}
 use lib.Dec.{ltb, eqb}
 use lib.ListN.{length, getD, drop}
 use lib.Seq.{getD-drop}
-use borrow.Author.Tests.{eqb-true, eqb-false, eq-eqb, lt-ltb, le-ltb, ltb-true, ltb-false}
+use borrow.Author.Tests.{eqb-true, eqb-false, eq-eqb, ne-eqb, lt-ltb, le-ltb, ltb-true, ltb-false}
 use Rattle.table.specs.Table.{All}
 use Rattle.number.specs.Number.{byteAt, number32, signedOf}
 use Rattle.record.specs.TokensAndTags.{contentOf, tokens, tokenAt, decode, sameTag, standsAt}
@@ -103,13 +103,17 @@ module _ (tag : Tag) where
   seek-later : (port : ℕ) (t : Token) (ts : List Token) → standsAt tag port t ≡ false → seek port (t ∷ ts) ≡ suc (seek port ts)
   seek-later port t ts e = rw (first-cons (standsAt tag port) t ts, e) (place-shift (firstFrom (standsAt tag port) 0 ts) (length ts))
 
-  stands-tag : (port : ℕ) (t : Token) → t .port ≡ port → sameTag (t .tag) tag ≡ true → standsAt tag port t ≡ true
+  pub stands-tag : (port : ℕ) (t : Token) → t .port ≡ port → sameTag (t .tag) tag ≡ true → standsAt tag port t ≡ true
   unfolding standsAt
   stands-tag port t e s = rw (eq-eqb (t .port) port e, s)
 
   pub stands-other : (port : ℕ) (t : Token) → sameTag (t .tag) tag ≡ false → standsAt tag port t ≡ false
   unfolding standsAt
   stands-other port t s = rw s (and-false (eqb (t .port) port))
+
+  pub stands-away : (port : ℕ) (t : Token) → (t .port ≡ port → ⊥) → standsAt tag port t ≡ false
+  unfolding standsAt
+  stands-away port t z = rw (ne-eqb (t .port) port z)
 
   first-tag : (ts : List Token) → All (λ (t : Token). t .port < 2) ts → placeOf ts tag ≡ lower (seek 0 ts) (seek 1 ts)
   first-tag [] w = refl
