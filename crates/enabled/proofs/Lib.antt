@@ -3,3 +3,4 @@ pub mod Places
 pub mod Right
 pub mod Bytes
 pub mod Store
+pub mod Spending

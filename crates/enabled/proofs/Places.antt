@@ -1,18 +1,21 @@
--- Laws of the answers of searches: the token that was found is the one that `liveAt` asks, and the lower of two places is the earliest of a tag.
+-- Laws of the answers of searches: a record's state says whether its token is live, the token that was found is the one that `liveAt` asks, and the lower of two places is the earliest of a tag.
 -- Assumes nothing.
-use Prim.Native.Nat.{ℕ, zero, suc, _≤_, _<_}
+use Prim.Native.Nat.{ℕ, zero, suc, _+_, _*_, _≤_, _<_}
 use mathlib.Core.Path.{_≡_, refl, sym, ap, _∙_}
 use mathlib.Core.Bool.{Bool, true, false, _&&_, cond}
 use mathlib.Core.List.{List, [], _∷_}
 use native.Mathlib.Omega.{arith}
 use lib.Dec.{ltb, eqb}
-use lib.ListN.{length, getD}
-use borrow.Author.Tests.{eqb-true, eqb-false, eq-eqb, lt-ltb, le-ltb, ltb-true, ltb-false}
+use lib.ListN.{length, getD, drop}
+use lib.Seq.{getD-drop}
+use borrow.Author.Tests.{eqb-true, eqb-false, eq-eqb, ne-eqb, lt-ltb, le-ltb, ltb-true, ltb-false}
 use Rattle.table.specs.Table.{All}
-use Rattle.record.specs.TokensAndTags.{tokens, tokenAt, decode, sameTag, standsAt}
+use Rattle.number.specs.Number.{byteAt, number32, signedOf}
+use Rattle.record.specs.TokensAndTags.{contentOf, tokens, tokenAt, decode, sameTag, standsAt}
 use Rattle.table.proofs.Tables.{getD-rows, length-rows}
 use Rattle.record.specs.declared.tag.Tag.{Tag}
 use Rattle.record.specs.declared.token.Token.{Token}
+use Rattle.record.specs.declared.token.Content.the-variants.{Live, Spent, Deferred}
 use Rattle.chains.specs.declared.Found.{Found}
 use Rattle.chains.specs.declared.Found.the-variants.{At, Nothing}
 use Rattle.chains.specs.Search.{firstFrom, Within}
@@ -20,6 +23,21 @@ use Rattle.chains.proofs.Search.{shift, first-cons}
 use Rattle.chains.proofs.Index.{found-within}
 use Rattle.enabled.specs.Enabled.{isLive, liveAt, placeOf}
 use Rattle.enabled.specs.Store.{placeOr, lower, liveFound}
+
+-- ---- the state of a record
+
+live-content : (bits state : ℕ) → isLive (contentOf bits state) ≡ eqb state 0
+unfolding contentOf
+live-content bits state = go (eqb state 0) (eqb state 1)
+  where
+    go : (a b : Bool) → isLive (cond a (Live (signedOf bits)) (cond b (Spent (signedOf bits)) (Deferred bits))) ≡ a
+    go true b = refl
+    go false true = refl
+    go false false = refl
+
+pub live-state : (l : List ℕ) (i : ℕ) → isLive (tokenAt l i .content) ≡ eqb (getD l (i * 20 + 16) 0) 0
+unfolding decode
+live-state l i = live-content (number32 (drop (i * 20) l) 12) (byteAt (drop (i * 20) l) 16) ∙ rw (getD-drop (i * 20) l 16 0)
 
 -- ---- the token at a port of a tag
 
@@ -85,13 +103,17 @@ module _ (tag : Tag) where
   seek-later : (port : ℕ) (t : Token) (ts : List Token) → standsAt tag port t ≡ false → seek port (t ∷ ts) ≡ suc (seek port ts)
   seek-later port t ts e = rw (first-cons (standsAt tag port) t ts, e) (place-shift (firstFrom (standsAt tag port) 0 ts) (length ts))
 
-  stands-tag : (port : ℕ) (t : Token) → t .port ≡ port → sameTag (t .tag) tag ≡ true → standsAt tag port t ≡ true
+  pub stands-tag : (port : ℕ) (t : Token) → t .port ≡ port → sameTag (t .tag) tag ≡ true → standsAt tag port t ≡ true
   unfolding standsAt
   stands-tag port t e s = rw (eq-eqb (t .port) port e, s)
 
   pub stands-other : (port : ℕ) (t : Token) → sameTag (t .tag) tag ≡ false → standsAt tag port t ≡ false
   unfolding standsAt
   stands-other port t s = rw s (and-false (eqb (t .port) port))
+
+  pub stands-away : (port : ℕ) (t : Token) → (t .port ≡ port → ⊥) → standsAt tag port t ≡ false
+  unfolding standsAt
+  stands-away port t z = rw (ne-eqb (t .port) port z)
 
   first-tag : (ts : List Token) → All (λ (t : Token). t .port < 2) ts → placeOf ts tag ≡ lower (seek 0 ts) (seek 1 ts)
   first-tag [] w = refl

@@ -2,10 +2,10 @@
 -- Assumes nothing.
 use Prim.Native.Nat.{ℕ, _*_, _/_, _≤_, _<_}
 use mathlib.Core.Path.{_≡_}
-use mathlib.Core.Bool.{Bool, false, cond}
+use mathlib.Core.Bool.{Bool, false, _&&_, cond}
 use mathlib.Core.List.{List}
 use lib.ListN.{length, take}
-use lib.Dec.{ltb}
+use lib.Dec.{eqb, ltb}
 use Rattle.table.specs.Table.{joined, All}
 use Rattle.record.specs.TokensAndTags.{encode, tokens, TokenFits}
 use Rattle.record.specs.declared.token.Token.{Token}
@@ -46,3 +46,7 @@ lower a b = cond (ltb a b) a b
 abbrev pub liveFound : (ℕ → Token) → Found → Bool
 liveFound at (At i) = isLive (at i .content)
 liveFound at Nothing = false
+
+-- of n operands all are live, where a and b say it of ports 0 and 1
+abbrev pub readyOf : (n : ℕ) → (a b : Bool) → Bool
+readyOf n a b = cond (eqb n 1) a (cond (eqb n 2) (a && b) false)

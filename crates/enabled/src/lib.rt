@@ -1,31 +1,22 @@
-// The enabled activities of a ledger, kept as flags by place: a token is added, or one is changed, and the flag of
-// its activity is put right.
+// The enabled activities of a ledger, kept as flags by place: a token is added, or one is changed or spent, and the
+// flag of its activity is put right.
 use chains::Found;
 use record::tag::Tag;
 use record::token;
-use record::token::Content;
 use record::token::Token;
 ghost use mathlib.Core.Path.{_≡_};
+ghost use mathlib.Core.Bool.{_&&_, _||_};
 ghost use mathlib.Core.List.{[], _∷_, _++_};
-ghost use Prim.Native.Nat.{_+_, _/_, _≤_, _<_};
+ghost use Prim.Native.Nat.{_+_, _*_, _/_, _≤_, _<_};
+ghost use lib.Dec.{eqb};
 ghost use lib.ListN.{length, getD, set};
 ghost use Rattle.table.specs.Table.{putRow};
 ghost use Rattle.record.specs.TokensAndTags.{encode, tokens, tokenAt};
 ghost use Rattle.flags.specs.Flags.{Counted};
 ghost use Rattle.flags.specs.Marks.{bit};
 ghost use Rattle.chains.specs.Search.{Within};
-ghost use Rattle.enabled.specs.Enabled.{isLive, liveAt, allLive, placeOf};
-ghost use Rattle.enabled.specs.Store.{Known, Stored, placeOr, liveFound};
-
-fn is_live(x: Content) -> bool
-    ensures { λ r. ⌜ r ≡ isLive x ⌝ }
-{
-    match x {
-        Content::Live(_) => true,
-        Content::Spent(_) => false,
-        Content::Deferred(_) => false,
-    }
-}
+ghost use Rattle.enabled.specs.Enabled.{liveAt, allLive, spentToken, placeOf};
+ghost use Rattle.enabled.specs.Store.{Known, Stored, placeOr, lower, liveFound, readyOf};
 
 fn place_or(f: Found, other: usize) -> usize
     ensures { λ r. ⌜ r ≡ placeOr f other ⌝ }
@@ -36,70 +27,64 @@ fn place_or(f: Found, other: usize) -> usize
     }
 }
 
+// Whether what was found is live: the state of its record is 0.
 fn live(ledger: &[u8], f: Found) -> bool
     requires { ⌜ Within f (length (now ledger) / 20) ⌝ }
     ensures { λ r. ⌜ r ≡ liveFound (tokenAt (now (ledger .entry))) f ⌝ }
 {
     match f {
-        Found::At(i) => {
-            let t = token::token_at(ledger, i);
-            let content = t.content;
-            is_live(content)
-        }
+        Found::At(i) => ledger[i * 20 + 16] == 0,
         Found::Nothing => false,
     }
 }
 
-// Whether the token at a port of a tag is live.
-fn live_at(
-    heads: &[u16; 4096],
-    next: &[u16; 2048],
-    ledger: &[u8],
-    used: usize,
-    tag: Tag,
-    port: u8,
-) -> bool
-    requires { ⌜ Known (now heads) (now next) (now ledger) used ⌝ }
-    ensures { λ r. ⌜ r ≡ liveAt (tokens used (now (ledger .entry))) tag port ⌝ }
-{
-    live(ledger, chains::find(heads, next, ledger, used, tag, port))
-}
-
-// Whether all of a tag's operands are live.
-fn ready(
-    heads: &[u16; 4096],
-    next: &[u16; 2048],
-    ledger: &[u8],
-    used: usize,
-    tag: Tag,
-    operands: u8,
-) -> bool
-    requires { ⌜ Known (now heads) (now next) (now ledger) used ⌝ }
-    ensures { λ r. ⌜ r ≡ allLive operands (tokens used (now (ledger .entry))) tag ⌝ }
+// Whether all operands of an activity are live, where f and g stand on its ports.
+fn ready(ledger: &[u8], f: Found, g: Found, operands: u8) -> bool
+    requires { ⌜ Within f (length (now ledger) / 20) × Within g (length (now ledger) / 20) ⌝ }
+    ensures { λ r. ⌜ r ≡ readyOf operands (liveFound (tokenAt (now (ledger .entry))) f) (liveFound (tokenAt (now (ledger .entry))) g) ⌝ }
 {
     if operands == 1 {
-        return live_at(heads, next, ledger, used, tag, 0);
+        return live(ledger, f);
     }
     if operands == 2 {
-        if live_at(heads, next, ledger, used, tag, 0) {
-            return live_at(heads, next, ledger, used, tag, 1);
+        if live(ledger, f) {
+            return live(ledger, g);
         }
         return false;
     }
     false
 }
 
-// The place of the earliest token of a tag.
-fn first_of(heads: &[u16; 4096], next: &[u16; 2048], ledger: &[u8], used: usize, tag: Tag) -> usize
-    requires { ⌜ Known (now heads) (now next) (now ledger) used ⌝ }
-    ensures { λ r. ⌜ r ≡ placeOf (tokens used (now (ledger .entry))) tag ⌝ }
+// The place of the earliest token of a tag, where f and g stand on its ports.
+fn first_of(f: Found, g: Found, used: usize) -> usize
+    ensures { λ r. ⌜ r ≡ lower (placeOr f used) (placeOr g used) ⌝ }
 {
-    let a = place_or(chains::find(heads, next, ledger, used, tag, 0), used);
-    let b = place_or(chains::find(heads, next, ledger, used, tag, 1), used);
+    let a = place_or(f, used);
+    let b = place_or(g, used);
     if a < b { a } else { b }
 }
 
-// Puts the flag of a tag's activity right.
+// Whether token i has its activity's flag and stands on port 0, for which every activity waits.
+fn leads(flags: &[u8; 2048], ledger: &[u8], i: usize) -> bool
+    requires { ⌜ (i < 2048) × (i < length (now ledger) / 20) ⌝ }
+    ensures { λ r. ⌜ r ≡ eqb (getD (now (flags .entry)) i 0) 1 && eqb (getD (now (ledger .entry)) (i * 20 + 9) 0) 0 ⌝ }
+{
+    flags[i] == 1 && ledger[i * 20 + 9] == 0
+}
+
+// Whether t's activity can hang on t: that of a second operand does not where the first is not live.
+fn matters(heads: &[u16; 4096], next: &[u16; 2048], ledger: &[u8], used: usize, t: Token) -> bool
+    requires { ⌜ Known (now heads) (now next) (now ledger) used ⌝ }
+    ensures { λ r. ⌜ r ≡ eqb (t .port) 0 || liveAt (tokens used (now (ledger .entry))) (t .tag) 0 ⌝ }
+{
+    if t.port == 0 {
+        return true;
+    }
+    let tag = t.tag;
+    live(ledger, chains::find(heads, next, ledger, used, tag, 0))
+}
+
+// Puts the flag of a tag's activity right, by what its two ports have.
 fn settle(
     flags: &mut [u8; 2048],
     counts: &mut [u8; 32],
@@ -114,11 +99,13 @@ fn settle(
     ensures { λ _. ⌜ now (flags .exit) ≡ set (now (flags .entry)) (placeOf (tokens used (now (ledger .entry))) tag) (bit (allLive operands (tokens used (now (ledger .entry))) tag)) ⌝ }
     ensures { λ _. ⌜ Counted (now (flags .exit)) (now (counts .exit)) ⌝ }
 {
-    let i = first_of(heads, next, ledger, used, tag);
-    if ready(heads, next, ledger, used, tag, operands) {
-        flags::raise(flags, counts, i);
+    let f = chains::find(heads, next, ledger, used, tag, 0);
+    let g = chains::find(heads, next, ledger, used, tag, 1);
+    let place = first_of(f, g, used);
+    if ready(ledger, f, g, operands) {
+        flags::raise(flags, counts, place);
     } else {
-        flags::lower(flags, counts, i);
+        flags::lower(flags, counts, place);
     }
 }
 
@@ -174,4 +161,38 @@ pub fn change(
     token::put_token(ledger, i, t);
     let operands = arity(arities, tag.instruction);
     settle(flags, counts, heads, next, ledger, used, tag, operands);
+}
+
+// Token i is spent: where it is live its state byte is written, any other stays. The ports of its tag are looked up
+// only where the flag of its activity can be at another place.
+pub fn spend(
+    arities: &[u8],
+    heads: &[u16; 4096],
+    next: &[u16; 2048],
+    flags: &mut [u8; 2048],
+    counts: &mut [u8; 32],
+    ledger: &mut [u8],
+    used: usize,
+    i: usize,
+)
+    requires { ⌜ Stored (now arities) (now heads) (now next) (now flags) (now counts) (now ledger) used × (i < used) ⌝ }
+    ensures { λ _. ⌜ now (ledger .exit) ≡ putRow 20 (now (ledger .entry)) i (encode (spentToken (tokenAt (now (ledger .entry)) i))) ⌝ }
+    ensures { λ _. ⌜ tokens used (now (ledger .exit)) ≡ set (tokens used (now (ledger .entry))) i (spentToken (tokenAt (now (ledger .entry)) i)) ⌝ }
+    ensures { λ _. ⌜ Stored (now (arities .entry)) (now (heads .entry)) (now (next .entry)) (now (flags .exit)) (now (counts .exit)) (now (ledger .exit)) used ⌝ }
+{
+    let state = i * 20 + 16;
+    if ledger[state] != 0 {
+        return;
+    }
+    ledger[state] = 1;
+    if leads(flags, ledger, i) {
+        flags::lower(flags, counts, i);
+        return;
+    }
+    let t = token::token_at(ledger, i);
+    if matters(heads, next, ledger, used, t) {
+        let tag = t.tag;
+        let operands = arity(arities, tag.instruction);
+        settle(flags, counts, heads, next, ledger, used, tag, operands);
+    }
 }

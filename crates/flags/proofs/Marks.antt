@@ -5,7 +5,7 @@ use mathlib.Core.Bool.{Bool, true, false, _&&_, cond}
 use mathlib.Core.List.{List, [], _∷_, _++_, map, append-assoc}
 use native.Mathlib.Omega.{arith}
 use native.Mathlib.Nat.{not-suc-le-zero, le-of-suc-le-suc}
-use lib.ListN.{length, getD, set, replicate, length-append}
+use lib.ListN.{length, getD, set, replicate, length-append, List·getD-append}
 use lib.Dec.{eqb}
 use lib.Seq.{set-append-left}
 use borrow.Author.Tests.{eq-eqb, ne-eqb}
@@ -138,6 +138,48 @@ module _ {A : Type 0} (same : A → A → Bool) where
     pub marked-places : (on : A → Bool) (l : List A) (flags : List ℕ) → Marked same on l flags → places flags ≡ placesWhere (leads same on l) 0 l
     unfolding Marked
     marked-places on l flags w = ap places w ∙ places-zeros 0 (2048 - length l) (marks same on l) ∙ places-lead on l
+
+    -- a mark stands at the place of an enabled tag
+    mark-leads : (on : A → Bool) (l : List A) (i : ℕ) (d : A) → i < length l → getD (marks same on l) i 0 ≡ 1
+        → (firstOf same (getD l i d) l ≡ i) × (on (getD l i d) ≡ true)
+    mark-leads on [] i d h e = absurd (not-suc-le-zero h)
+    mark-leads on (x ∷ l) zero d h e = rw (own x) (refl, one (on x) e)
+      where
+        one : (b : Bool) → bit b ≡ 1 → b ≡ true
+        one true e = refl
+        one false e = absurd (omega arith)
+    mark-leads on (x ∷ l) (suc i) d h e = go (same x (getD l i d)) refl (mark-leads (without same x on) l i d (le-of-suc-le-suc h) e)
+      where
+        go : (b : Bool) → same x (getD l i d) ≡ b → (firstOf same (getD l i d) l ≡ i) × (cond b false (on (getD l i d)) ≡ true)
+            → (cond (same (getD l i d) x) 0 (suc (firstOf same (getD l i d) l)) ≡ suc i) × (on (getD l i d) ≡ true)
+        go true q w = let z : _≡_ {A = ℕ} 0 1 = cc in absurd (omega arith)
+        go false q w = rw (apart x (getD l i d) q) (ap suc (w .0), w .1)
+
+    -- the mark at the place of a tag says whether the tag is enabled
+    mark-first : (on : A → Bool) (t : A) (l : List A) → firstOf same t l < length l → getD (marks same on l) (firstOf same t l) 0 ≡ bit (on t)
+    mark-first on t [] h = absurd (not-suc-le-zero h)
+    mark-first on t (x ∷ l) h = go (same t x) refl h (mark-first (without same x on) t l)
+      where
+        go : (b : Bool) → same t x ≡ b → cond b 0 (suc (firstOf same t l)) < suc (length l)
+            → (firstOf same t l < length l → getD (marks same (without same x on) l) (firstOf same t l) 0 ≡ bit (cond (same x t) false (on t)))
+            → getD (bit (on x) ∷ marks same (without same x on) l) (cond b 0 (suc (firstOf same t l))) 0 ≡ bit (on t)
+        go true q h ih = ap (λ (y : A). bit (on y)) (sym (equal t x q))
+        go false q h ih = ih (le-of-suc-le-suc h) ∙ rw (apart t x q)
+
+    mark-flag : (on : A → Bool) (l : List A) (flags : List ℕ) (i : ℕ) → i < length l → Marked same on l flags → getD flags i 0 ≡ getD (marks same on l) i 0
+    unfolding Marked
+    mark-flag on l flags i h w =
+        ap (λ (f : List ℕ). getD f i 0) w ∙ List·getD-append (marks same on l) (replicate (2048 - length l) 0) 0 i (omega (arith, length-marks on l))
+
+    -- a flag that is raised stands at the place of its tag
+    pub marked-leads : (on : A → Bool) (l : List A) (flags : List ℕ) (i : ℕ) (d : A) → i < length l → Marked same on l flags → getD flags i 0 ≡ 1
+        → firstOf same (getD l i d) l ≡ i
+    marked-leads on l flags i d h w e = mark-leads on l i d h (sym (mark-flag on l flags i h w) ∙ e) .0
+
+    -- the flag at the place of a tag says whether the tag is enabled
+    pub marked-first : (on : A → Bool) (l : List A) (flags : List ℕ) (t : A) → firstOf same t l < length l → Marked same on l flags
+        → getD flags (firstOf same t l) 0 ≡ bit (on t)
+    marked-first on l flags t h w = mark-flag on l flags (firstOf same t l) h w ∙ mark-first on t l h
 
     agree-without : (f g : A → Bool) (t x : A) → ((y : A) → same t y ≡ false → g y ≡ f y) → (y : A) → same t y ≡ false → without same x g y ≡ without same x f y
     agree-without f g t x e y d = rw (e y d)

@@ -16,7 +16,7 @@ ghost use Rattle.flags.specs.Flags.{places, Counted};
 ghost use Rattle.chains.specs.Search.{firstFrom, Within};
 ghost use Rattle.chains.specs.Deferred as Deferred;
 ghost use Rattle.enabled.specs.Store.{Known, Stored};
-ghost use Rattle.matching.specs.Matching.{contentSpent, spentToken, Matching};
+ghost use Rattle.matching.specs.Matching.{spentToken, Matching};
 
 // The first token that stands at a port of a tag.
 pub fn find(
@@ -71,28 +71,6 @@ pub fn arrive(
     chains::note(waiting, later, used, t);
 }
 
-fn content_spent(x: Content) -> Content
-    ensures { λ r. ⌜ r ≡ contentSpent x ⌝ }
-{
-    match x {
-        Content::Live(v) => Content::Spent(v),
-        Content::Spent(v) => Content::Spent(v),
-        Content::Deferred(cell) => Content::Deferred(cell),
-    }
-}
-
-fn spent(t: Token) -> Token
-    ensures { λ r. ⌜ r ≡ spentToken t ⌝ }
-{
-    let tag = t.tag;
-    let content = t.content;
-    Token {
-        tag,
-        port: t.port,
-        content: content_spent(content),
-    }
-}
-
 // Token i is spent. A deferred token stays as it is, so the chains of deferred tokens do too.
 pub fn spend(
     arities: &[u8],
@@ -109,18 +87,7 @@ pub fn spend(
     ensures { λ _. ⌜ tokens used (now (ledger .exit)) ≡ set (tokens used (now (ledger .entry))) i (spentToken (tokenAt (now (ledger .entry)) i)) ⌝ }
     ensures { λ _. ⌜ ((waiting later : List ℕ) → Matching (now (arities .entry)) (now (heads .entry)) (now (next .entry)) (now (flags .entry)) (now (counts .entry)) waiting later (now (ledger .entry)) used → Matching (now (arities .entry)) (now (heads .entry)) (now (next .entry)) (now (flags .exit)) (now (counts .exit)) waiting later (now (ledger .exit)) used) ⌝ }
 {
-    let t = token::token_at(ledger, i);
-    enabled::change(
-        arities,
-        heads,
-        next,
-        flags,
-        counts,
-        ledger,
-        used,
-        i,
-        spent(t),
-    );
+    enabled::spend(arities, heads, next, flags, counts, ledger, used, i);
 }
 
 fn content_woken(x: Content, cell: u32, v: i32) -> Content

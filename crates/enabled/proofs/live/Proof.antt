@@ -1,16 +1,25 @@
 -- `enabled::live` meets its contract. Assumes nothing.
-use mathlib.Core.Path.{_∙_}
+use Prim.Native.Nat.{_/_, _<_}
+use mathlib.Core.Path.{sym, _∙_}
+use native.Mathlib.Omega.{arith}
 use borrow.Author.Needs.{needs}
+use lib.ListN.{length}
+use Rattle.enabled.proofs.Places.{live-state}
 use Rattle.enabled.proofs.live.Statement.{statement}
 use Rattle.enabled.proofs.live.Tie as tie
+
+-- what was found lies in the ledger
+inside : (c : tie.After-known-told) → c .before .f .given .0 .0 < length (c .before .before .before .args .ledger .now) / 20
+inside c = rw (c .before .f .given .1) at (c .before .before .before .pre)
 
 pub live-spec : {M : Type 1} → statement M
 live-spec = tie.close (tie.spec
     (λ c. search needs)
-    (λ c κs. rw (c .before .f .given .1) at (c .before .before .before .before .pre))
-    (λ c κs. search needs)
+    (λ c. omega (arith, inside c))
+    (λ c. omega (arith, inside c))
+    (λ c. omega (arith, inside (c .before)))
     (λ c. search needs)
     (λ c.
-    let r = c .before in
-    c .is-live .ensures ∙ rw (r .token-at .ensures, r .before .before .f .given .1))
+    let d = c .before .before in
+    rw (d .f .given .1) (sym (live-state (d .before .before .args .ledger .now) (d .f .given .0 .0))))
     (λ c. search needs))
