@@ -1,6 +1,6 @@
 -- Laws of the flags and their counts: how a change of one flag changes the counts, how a search passes flags and blocks, and the sum of eight
 -- numbers. Assumes nothing.
-use Prim.Native.Nat.{ℕ, zero, suc, _+_, _-_, _*_, _/_, _%_, _≤_, _<_}
+use Prim.Native.Nat.{ℕ, zero, suc, _+_, _-_, _*_, _/_, _%_, _^_, _≤_, _<_}
 use mathlib.Core.Path.{_≡_, refl, sym, ap, _∙_}
 use mathlib.Core.Bool.{Bool, true, false}
 use mathlib.Core.List.{List, [], _∷_, _++_}
@@ -36,6 +36,11 @@ pub ones-at : (l : List ℕ) (i : ℕ) → getD l i 0 ≤ ones l
 ones-at [] i = omega arith
 ones-at (x ∷ l) zero = omega arith
 ones-at (x ∷ l) (suc i) = omega (arith, ones-at l i)
+
+getD-past : (l : List ℕ) (i : ℕ) → length l ≤ i → getD l i 0 ≡ 0
+getD-past [] i h = refl
+getD-past (x ∷ l) zero h = absurd (not-suc-le-zero h)
+getD-past (x ∷ l) (suc i) h = getD-past l i (le-of-suc-le-suc h)
 
 pub ones-le : (n : ℕ) (l : List ℕ) → ((i : ℕ) → getD l i 0 ≤ 1) → ones (take n l) ≤ n
 ones-le zero l b = omega arith
@@ -88,6 +93,11 @@ passed w l i k n h e g u =
     let p = place-skip w k d (omega (arith, length-drop i l)) (omega arith) in
     rw (← drop-drop w i l, e) (omega arith, omega arith)
 
+-- zeros are passed
+pub zeros-passed : (w : ℕ) (l : List ℕ) (i k : ℕ) → i + w ≤ length l → ones (take w (drop i l)) ≡ 0 → k < ones (drop i l)
+    → (k < ones (drop (i + w) l)) × (i + place k (drop i l) ≡ i + w + place k (drop (i + w) l))
+zeros-passed w l i k h z u = let e : k - 0 ≡ k = omega arith in rw e at (passed w l i k 0 h (sym z) (omega arith) u)
+
 -- m blocks are passed
 pub blocks-passed : (m : ℕ) (l : List ℕ) (b k n : ℕ) → b * 64 + m * 64 ≤ length l → n ≡ ones (take (m * 64) (drop (b * 64) l)) → n ≤ k → k < ones (drop (b * 64) l)
     → (k - n < ones (drop ((b + m) * 64) l)) × (b * 64 + place k (drop (b * 64) l) ≡ (b + m) * 64 + place (k - n) (drop ((b + m) * 64) l))
@@ -104,7 +114,7 @@ place-lt k (x ∷ l) h = ⊎-elim
 
 -- ---- eight at a time
 
-pub ones-part : (m n k : ℕ) (l : List ℕ) → ones (take (m + n) (drop k l)) ≡ ones (take m (drop k l)) + ones (take n (drop (k + m) l))
+ones-part : (m n k : ℕ) (l : List ℕ) → ones (take (m + n) (drop k l)) ≡ ones (take m (drop k l)) + ones (take n (drop (k + m) l))
 ones-part m n k l =
     let e : k + (m + n) ≡ k + m + n = omega arith in
     let w = rw e at (ones-next (m + n) k l) in
@@ -116,7 +126,7 @@ ones-one [] (suc k) = refl
 ones-one (x ∷ l) zero = omega arith
 ones-one (x ∷ l) (suc k) = ones-one l k
 
-pub two-is : (l : List ℕ) (k : ℕ) → ones (take 2 (drop k l)) ≡ getD l k 0 + getD l (k + 1) 0
+two-is : (l : List ℕ) (k : ℕ) → ones (take 2 (drop k l)) ≡ getD l k 0 + getD l (k + 1) 0
 two-is l k = omega (arith, ones-part 1 1 k l, ones-one l k, ones-one l (k + 1))
 
 -- where the number in the bytes is 0, each byte is
@@ -128,6 +138,44 @@ four-zero l k h = omega (arith, ones-part 2 2 k l, two-zero l k (omega arith), t
 
 pub eight-zero : (l : List ℕ) (k : ℕ) → number64 l k ≡ 0 → ones (take 8 (drop k l)) ≡ 0
 eight-zero l k h = omega (arith, ones-part 4 4 k l, four-zero l k (omega arith), four-zero l (k + 4) (omega arith))
+
+-- two numbers below 256, or four, are had back from the number whose bytes they are
+bytes2 : (a b x : ℕ) → a < 256 → b < 256 → x ≡ a + 256 * b → x % 256 + x / 256 ≡ a + b
+bytes2 a b x p q e = omega arith
+
+bytes4 : (a b c d y : ℕ) → a < 256 → b < 256 → c < 256 → d < 256 → y ≡ a + 256 * b + 65536 * (c + 256 * d)
+    → y % 65536 % 256 + y % 65536 / 256 + (y / 65536 % 256 + y / 65536 / 256) ≡ a + b + (c + d)
+bytes4 a b c d y p q r t e =
+    let low = bytes2 a b (y % 65536) p q (omega arith) in
+    let high = bytes2 c d (y / 65536) r t (omega arith) in
+    λ i. low i + high i
+
+-- no sum of two leaves 32 bits
+pub sum32-fits : (x z : ℕ) → x ≤ 1077952576 → z ≤ 1077952576 → (x + z < 2 ^ 32) × ((x + z) / 65536 < 65536)
+sum32-fits x z h g = (omega arith, omega arith)
+
+module _ (l : List ℕ) (small : (i : ℕ) → getD l i 0 ≤ 64) where
+  pub number32-most : (k x : ℕ) → x ≡ number32 l k → x ≤ 1077952576
+  number32-most k x e = omega (arith, small k, small (k + 1), small (k + 2), small (k + 2 + 1))
+
+  pub eight-is : (k x z : ℕ) → x ≡ number32 l k → z ≡ number32 l (k + 4)
+      → (x + z) % 65536 % 256 + (x + z) % 65536 / 256 + ((x + z) / 65536 % 256 + (x + z) / 65536 / 256) ≡ ones (take 8 (drop k l))
+  eight-is k x z e f =
+      let at : ℕ → ℕ = λ i. getD l i 0 in
+      let most : (i j : ℕ) → at i + at j < 256 = λ i j. omega (arith, small i, small j) in
+      let p =
+      bytes4
+      (at k + at (k + 4))
+      (at (k + 1) + at (k + 4 + 1))
+      (at (k + 2) + at (k + 4 + 2))
+      (at (k + 2 + 1) + at (k + 4 + 2 + 1))
+      (x + z)
+      (most k (k + 4))
+      (most (k + 1) (k + 4 + 1))
+      (most (k + 2) (k + 4 + 2))
+      (most (k + 2 + 1) (k + 4 + 2 + 1))
+      (omega arith) in
+      p ∙ omega (arith, ones-part 4 4 k l, ones-part 2 2 k l, ones-part 2 2 (k + 4) l, two-is l k, two-is l (k + 2), two-is l (k + 4), two-is l (k + 4 + 2))
 
 -- ---- the list of places
 
@@ -218,6 +266,9 @@ module _ (flags counts : List ℕ) (w : Counted flags counts) where
   count-small b h =
       let z = ones-le 64 (drop (b * 64) flags) (λ i. rw (getD-drop (b * 64) flags i 0) (w .binary (b * 64 + i))) in
       omega (arith, count-is b h)
+
+  pub counts-small : (b : ℕ) → getD counts b 0 ≤ 64
+  counts-small b = ⊎-elim (λ h. count-small b h) (λ h. omega (arith, getD-past counts b (omega (arith, counts-length)))) (below-or b 32)
 
   pub count-at : (i : ℕ) → i < 2048 → getD flags i 0 ≤ getD counts (i / 64) 0
   count-at i h =

@@ -6,7 +6,7 @@ use native.Mathlib.Omega.{arith}
 use lib.ListN.{drop}
 use borrow.Author.Needs.{needs}
 use Rattle.flags.specs.Flags.{ones}
-use Rattle.flags.proofs.Laws.{ones-next, ones-past, counts-length, count-all, ones-places}
+use Rattle.flags.proofs.Laws.{ones-next, ones-past, counts-length, counts-small, count-all, ones-places}
 use Rattle.flags.proofs.count.Statement.{statement}
 use Rattle.flags.proofs.count.Tie as tie
 
@@ -23,7 +23,8 @@ count-spec = tie.close (tie.spec
     (λ c. (omega arith, omega arith, omega arith, omega arith))
     (λ c κs.
     let s = c .before .before .before in
-    omega (arith, counts-length (s .args .flags .now) (s .args .counts .now) (s .pre)))
+    let n = counts-length (s .args .flags .now) (s .args .counts .now) (s .pre) in
+    (omega arith, counts-small (s .args .flags .now) (s .args .counts .now) (s .pre)))
     (λ c. search needs)
     (λ c. search needs)
     (λ c. search needs)

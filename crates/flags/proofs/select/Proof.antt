@@ -6,7 +6,7 @@ use native.Mathlib.Omega.{arith}
 use lib.ListN.{drop}
 use borrow.Author.Needs.{needs}
 use Rattle.flags.specs.Flags.{ones, place}
-use Rattle.flags.proofs.Laws.{counts-length, counts-are, blocks-passed, place-lt, none-left, ones-places, place-places}
+use Rattle.flags.proofs.Laws.{counts-length, counts-small, counts-are, blocks-passed, place-lt, none-left, ones-places, place-places}
 use Rattle.flags.proofs.select.Statement.{statement}
 use Rattle.flags.proofs.select.Tie as tie
 
@@ -24,7 +24,8 @@ select-spec = tie.close (tie.spec
     (λ c. (refl, omega (arith, ones-places 0 (c .args .flags .now) (c .pre .0 .binary)), omega arith))
     (λ c κs.
     let s = c .before .before .before in
-    omega (arith, counts-length (s .args .flags .now) (s .args .counts .now) (s .pre .0)))
+    let n = counts-length (s .args .flags .now) (s .args .counts .now) (s .pre .0) in
+    (omega arith, counts-small (s .args .flags .now) (s .args .counts .now) (s .pre .0)))
     (λ c κs.
     let s = c .before .before .before .before .before in
     (s .pre .0, c .before .before .before .before .loop .inv .1))

@@ -27,7 +27,7 @@ select-block-spec = tie.close (tie.spec
     (λ c. search needs)
     (λ c κs.
     let s = c .before .before .before .before .before in
-    (s .pre .0 .size, omega arith, c .before .before .before .before .loop .inv .0))
+    (s .pre .0 .size, s .pre .0 .binary, omega arith, c .before .before .before .before .loop .inv .0))
     (λ c. c .select-from .ensures ∙ sym (c .before .before .before .before .before .loop .inv .1))
     (λ c. search needs)
     (λ c. search needs)

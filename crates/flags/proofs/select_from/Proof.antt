@@ -6,7 +6,7 @@ use native.Mathlib.Omega.{arith}
 use lib.ListN.{drop}
 use borrow.Author.Needs.{needs}
 use Rattle.flags.specs.Flags.{ones, place}
-use Rattle.flags.proofs.Laws.{passed, none-left}
+use Rattle.flags.proofs.Laws.{passed, zeros-passed, none-left, eight-zero}
 use Rattle.flags.proofs.select_from.Statement.{statement}
 use Rattle.flags.proofs.select_from.Tie as tie
 
@@ -21,19 +21,32 @@ pub select-from-spec : {M : Type 1} → statement M
 select-from-spec = tie.close (tie.spec
     Inv-loop
     μ-loop
-    (λ c. (c .pre .1, c .pre .2, refl))
+    (λ c. (c .pre .2, c .pre .3, refl))
     (λ c κs. search needs)
+    (λ c. search needs)
+    (λ c. search needs)
+    (λ c.
+    let d = c .before .before .before .before in
+    let f = d .before .args .flags .now in
+    let z = eight-zero f (d .loop .i) (sym (c .before .u64-at .ensures) ∙ c .if1 .taken) in
+    let p = zeros-passed 8 f (d .loop .i) (d .loop .left) (omega arith) z (d .loop .inv .1) in
+    (omega arith, p .0, d .loop .inv .2 ∙ p .1))
     (λ c κs.
-    let s = c .before .before .before .before .before in
-    (s .pre .0, c .before .before .before .before .loop .inv .1))
-    (λ c. c .select-flag .ensures ∙ sym (c .before .before .before .before .before .loop .inv .2))
+    let s = c .before .before .before .before .before .before in
+    (omega arith, λ i. omega (arith, s .pre .1 i)))
+    (λ c κs.
+    let d = c .before .before .before .before .before .before .before in
+    (d .before .pre .0, d .loop .inv .1))
+    (λ c.
+    let d = c .before .before .before .before .before .before .before .before in
+    c .select-flag .ensures ∙ sym (d .loop .inv .2))
     (λ c. search needs)
     (λ c. search needs)
     (λ c.
-    let s = c .before .before .before .before .before in
-    let l = c .before .before .before .before .loop in
-    let p = passed 8 (s .args .flags .now) (l .i) (l .left) (c .before .eight .result) (omega arith) (c .before .eight .ensures .0) (c .if1 .left) (l .inv .1) in
-    (omega arith, p .0, l .inv .2 ∙ p .1))
+    let d = c .before .before .before .before .before .before .before in
+    let e = c .before .eight in
+    let p = passed 8 (d .before .args .flags .now) (d .loop .i) (d .loop .left) (e .result) (omega arith) (e .ensures .0) (c .if2 .left) (d .loop .inv .1) in
+    (omega arith, p .0, d .loop .inv .2 ∙ p .1))
     (λ c.
-    let s = c .before .before in
-    absurd (none-left (s .args .flags .now) (c .before .loop .i) (c .before .loop .left) (omega arith) (c .before .loop .inv .1))))
+    let l = c .before .loop in
+    absurd (none-left (c .before .before .args .flags .now) (l .i) (l .left) (omega arith) (l .inv .1))))
