@@ -1,18 +1,18 @@
 -- Laws of the flags and their counts: how a change of one flag changes the counts, how a search passes flags and blocks, and the sum of eight
--- numbers. Assumes nothing.
-use Prim.Native.Nat.{ℕ, zero, suc, _+_, _-_, _*_, _/_, _%_, _^_, _≤_, _<_}
+-- flags. Assumes nothing.
+use Prim.Native.Nat.{ℕ, zero, suc, _+_, _-_, _*_, _/_, _%_, _≤_, _<_}
 use mathlib.Core.Path.{_≡_, refl, sym, ap, _∙_}
 use mathlib.Core.Bool.{Bool, true, false}
 use mathlib.Core.List.{List, [], _∷_, _++_}
 use mathlib.Core.Logic.{_⊎_, inl, inr, ⊎-elim}
 use native.Mathlib.Omega.{arith}
 use native.Mathlib.Numerals.{add-one}
-use native.Mathlib.Nat.{not-suc-le-zero, le-of-suc-le-suc}
+use native.Mathlib.Nat.{not-suc-le-zero, le-of-suc-le-suc, mod-eq-of-lt, add-mul-mod-self-left}
 use lib.Dec.{ltb, eqb}
 use lib.ListN.{length, getD, take, drop, set, length-drop, length-set, drop-of-length-le, replicate, length-replicate}
 use lib.Seq.{drop-drop, take-set-lt, take-set-le, drop-set-lt, drop-set-add, getD-take, getD-drop, length-take-le, drop-cons, getD-set-same, getD-set-other}
 use borrow.Author.Tests.{le-ltb, lt-ltb, ltb-true, ltb-false, eqb-true, eqb-false}
-use Rattle.number.specs.Number.{number16, number32, number64}
+use Rattle.number.specs.Number.{number64}
 use Rattle.flags.specs.Flags.{placesFrom, places, ones, place, blocks, Counted}
 
 below-or : (a b : ℕ) → (a < b) ⊎ (b ≤ a)
@@ -36,11 +36,6 @@ pub ones-at : (l : List ℕ) (i : ℕ) → getD l i 0 ≤ ones l
 ones-at [] i = omega arith
 ones-at (x ∷ l) zero = omega arith
 ones-at (x ∷ l) (suc i) = omega (arith, ones-at l i)
-
-getD-past : (l : List ℕ) (i : ℕ) → length l ≤ i → getD l i 0 ≡ 0
-getD-past [] i h = refl
-getD-past (x ∷ l) zero h = absurd (not-suc-le-zero h)
-getD-past (x ∷ l) (suc i) h = getD-past l i (le-of-suc-le-suc h)
 
 pub ones-le : (n : ℕ) (l : List ℕ) → ((i : ℕ) → getD l i 0 ≤ 1) → ones (take n l) ≤ n
 ones-le zero l b = omega arith
@@ -66,8 +61,11 @@ module _ (l : List ℕ) (i k : ℕ) (h : i < length l) where
       let v : k < getD l i 0 + ones (drop (suc i) l) = rw (drop-cons l i 0 h) at u in
       rw add-one (omega arith, rw (drop-cons l i 0 h, le-ltb k (getD l i 0) g) (omega arith))
 
+pub ones-from : (l : List ℕ) (i : ℕ) → i < length l → ones (drop i l) ≡ getD l i 0 + ones (drop (i + 1) l)
+ones-from l i h = rw (add-one, drop-cons l i 0 h)
+
 -- w flags, and those behind them
-pub ones-next : (w i : ℕ) (l : List ℕ) → ones (drop i l) ≡ ones (take w (drop i l)) + ones (drop (i + w) l)
+ones-next : (w i : ℕ) (l : List ℕ) → ones (drop i l) ≡ ones (take w (drop i l)) + ones (drop (i + w) l)
 ones-next w i l = rw (← drop-drop w i l) (ones-split w (drop i l))
 
 pub ones-past : (l : List ℕ) (i : ℕ) → length l ≤ i → ones (drop i l) ≡ 0
@@ -98,12 +96,12 @@ pub zeros-passed : (w : ℕ) (l : List ℕ) (i k : ℕ) → i + w ≤ length l �
     → (k < ones (drop (i + w) l)) × (i + place k (drop i l) ≡ i + w + place k (drop (i + w) l))
 zeros-passed w l i k h z u = let e : k - 0 ≡ k = omega arith in rw e at (passed w l i k 0 h (sym z) (omega arith) u)
 
--- m blocks are passed
-pub blocks-passed : (m : ℕ) (l : List ℕ) (b k n : ℕ) → b * 64 + m * 64 ≤ length l → n ≡ ones (take (m * 64) (drop (b * 64) l)) → n ≤ k → k < ones (drop (b * 64) l)
-    → (k - n < ones (drop ((b + m) * 64) l)) × (b * 64 + place k (drop (b * 64) l) ≡ (b + m) * 64 + place (k - n) (drop ((b + m) * 64) l))
-blocks-passed m l b k n h e g u =
-    let a : (b + m) * 64 ≡ b * 64 + m * 64 = omega arith in
-    rw a (passed (m * 64) l (b * 64) k n h e g u)
+-- a block is passed
+pub block-passed : (l : List ℕ) (b k n : ℕ) → b * 64 + 64 ≤ length l → n ≡ ones (take 64 (drop (b * 64) l)) → n ≤ k → k < ones (drop (b * 64) l)
+    → (k - n < ones (drop ((b + 1) * 64) l)) × (b * 64 + place k (drop (b * 64) l) ≡ (b + 1) * 64 + place (k - n) (drop ((b + 1) * 64) l))
+block-passed l b k n h e g u =
+    let a : (b + 1) * 64 ≡ b * 64 + 64 = omega arith in
+    rw a (passed 64 l (b * 64) k n h e g u)
 
 pub place-lt : (k : ℕ) (l : List ℕ) → k < ones l → place k l < length l
 place-lt k [] h = absurd (not-suc-le-zero h)
@@ -129,53 +127,37 @@ ones-one (x ∷ l) (suc k) = ones-one l k
 two-is : (l : List ℕ) (k : ℕ) → ones (take 2 (drop k l)) ≡ getD l k 0 + getD l (k + 1) 0
 two-is l k = omega (arith, ones-part 1 1 k l, ones-one l k, ones-one l (k + 1))
 
--- where the number in the bytes is 0, each byte is
-two-zero : (l : List ℕ) (k : ℕ) → number16 l k ≡ 0 → ones (take 2 (drop k l)) ≡ 0
-two-zero l k h = omega (arith, two-is l k)
-
-four-zero : (l : List ℕ) (k : ℕ) → number32 l k ≡ 0 → ones (take 4 (drop k l)) ≡ 0
-four-zero l k h = omega (arith, ones-part 2 2 k l, two-zero l k (omega arith), two-zero l (k + 2) (omega arith))
-
-pub eight-zero : (l : List ℕ) (k : ℕ) → number64 l k ≡ 0 → ones (take 8 (drop k l)) ≡ 0
-eight-zero l k h = omega (arith, ones-part 4 4 k l, four-zero l k (omega arith), four-zero l (k + 4) (omega arith))
-
--- two numbers below 256, or four, are had back from the number whose bytes they are
-bytes2 : (a b x : ℕ) → a < 256 → b < 256 → x ≡ a + 256 * b → x % 256 + x / 256 ≡ a + b
-bytes2 a b x p q e = omega arith
-
-bytes4 : (a b c d y : ℕ) → a < 256 → b < 256 → c < 256 → d < 256 → y ≡ a + 256 * b + 65536 * (c + 256 * d)
-    → y % 65536 % 256 + y % 65536 / 256 + (y / 65536 % 256 + y / 65536 / 256) ≡ a + b + (c + d)
-bytes4 a b c d y p q r t e =
-    let low = bytes2 a b (y % 65536) p q (omega arith) in
-    let high = bytes2 c d (y / 65536) r t (omega arith) in
-    λ i. low i + high i
-
--- no sum of two leaves 32 bits
-pub sum32-fits : (x z : ℕ) → x ≤ 1077952576 → z ≤ 1077952576 → (x + z < 2 ^ 32) × ((x + z) / 65536 < 65536)
-sum32-fits x z h g = (omega arith, omega arith)
-
-module _ (l : List ℕ) (small : (i : ℕ) → getD l i 0 ≤ 64) where
-  pub number32-most : (k x : ℕ) → x ≡ number32 l k → x ≤ 1077952576
-  number32-most k x e = omega (arith, small k, small (k + 1), small (k + 2), small (k + 2 + 1))
-
-  pub eight-is : (k x z : ℕ) → x ≡ number32 l k → z ≡ number32 l (k + 4)
-      → (x + z) % 65536 % 256 + (x + z) % 65536 / 256 + ((x + z) / 65536 % 256 + (x + z) / 65536 / 256) ≡ ones (take 8 (drop k l))
-  eight-is k x z e f =
-      let at : ℕ → ℕ = λ i. getD l i 0 in
-      let most : (i j : ℕ) → at i + at j < 256 = λ i j. omega (arith, small i, small j) in
-      let p =
-      bytes4
-      (at k + at (k + 4))
-      (at (k + 1) + at (k + 4 + 1))
-      (at (k + 2) + at (k + 4 + 2))
-      (at (k + 2 + 1) + at (k + 4 + 2 + 1))
-      (x + z)
-      (most k (k + 4))
-      (most (k + 1) (k + 4 + 1))
-      (most (k + 2) (k + 4 + 2))
-      (most (k + 2 + 1) (k + 4 + 2 + 1))
-      (omega arith) in
-      p ∙ omega (arith, ones-part 4 4 k l, ones-part 2 2 k l, ones-part 2 2 (k + 4) l, two-is l k, two-is l (k + 2), two-is l (k + 4), two-is l (k + 4 + 2))
+-- the number in eight bytes leaves their sum: 256 leaves 1
+pub eight-is : (l : List ℕ) (k : ℕ) → ((i : ℕ) → getD l i 0 ≤ 1) → number64 l k % 255 ≡ ones (take 8 (drop k l))
+eight-is l k small =
+    let at : ℕ → ℕ = λ i. getD l i 0 in
+    let low = at k + at (k + 1) + at (k + 2) + at (k + 2 + 1) in
+    let high = at (k + 4) + at (k + 4 + 1) + at (k + 4 + 2) + at (k + 4 + 2 + 1) in
+    let rest =
+    at (k + 1)
+    + 257 * at (k + 2)
+    + 65793 * at (k + 2 + 1)
+    + 16843009 * at (k + 4)
+    + 4311810305 * at (k + 4 + 1)
+    + 1103823438081 * at (k + 4 + 2)
+    + 282578800148737 * at (k + 4 + 2 + 1) in
+    let e : number64 l k ≡ (low + high) + 255 * rest = omega arith in
+    let h : low + high < 255 =
+    omega (
+      arith,
+      small k,
+      small (k + 1),
+      small (k + 2),
+      small (k + 2 + 1),
+      small (k + 4),
+      small (k + 4 + 1),
+      small (k + 4 + 2),
+      small (k + 4 + 2 + 1),
+    ) in
+    ap (λ (x : ℕ). x % 255) e
+    ∙ add-mul-mod-self-left (low + high) 255 rest
+    ∙ mod-eq-of-lt h
+    ∙ omega (arith, ones-part 4 4 k l, ones-part 2 2 k l, ones-part 2 2 (k + 4) l, two-is l k, two-is l (k + 2), two-is l (k + 4), two-is l (k + 4 + 2))
 
 -- ---- the list of places
 
@@ -217,13 +199,6 @@ getD-blocks (suc n) zero l h = refl
 getD-blocks (suc n) (suc i) l h =
     let e : 64 + i * 64 ≡ suc i * 64 = omega arith in
     getD-blocks n i (drop 64 l) (le-of-suc-le-suc h) ∙ rw (drop-drop (i * 64) 64 l, e)
-
-pub blocks-from : (n b : ℕ) (l : List ℕ) → length l ≡ n * 64 → ones (drop b (blocks n l)) ≡ ones (drop (b * 64) l)
-blocks-from n zero l h = ones-blocks n l h
-blocks-from zero (suc b) l h = sym (ones-past l (suc b * 64) (omega arith))
-blocks-from (suc n) (suc b) l h =
-    let e : 64 + b * 64 ≡ suc b * 64 = omega arith in
-    blocks-from n b (drop 64 l) (omega (arith, length-drop 64 l)) ∙ rw (drop-drop (b * 64) 64 l, e)
 
 -- one flag is changed
 blocks-here : (n i v : ℕ) (l : List ℕ) → suc n * 64 ≤ length l → i < 64
@@ -267,9 +242,6 @@ module _ (flags counts : List ℕ) (w : Counted flags counts) where
       let z = ones-le 64 (drop (b * 64) flags) (λ i. rw (getD-drop (b * 64) flags i 0) (w .binary (b * 64 + i))) in
       omega (arith, count-is b h)
 
-  pub counts-small : (b : ℕ) → getD counts b 0 ≤ 64
-  counts-small b = ⊎-elim (λ h. count-small b h) (λ h. omega (arith, getD-past counts b (omega (arith, counts-length)))) (below-or b 32)
-
   pub count-at : (i : ℕ) → i < 2048 → getD flags i 0 ≤ getD counts (i / 64) 0
   count-at i h =
       let q = i / 64 * 64 in
@@ -280,16 +252,6 @@ module _ (flags counts : List ℕ) (w : Counted flags counts) where
 
   pub count-all : ones counts ≡ ones flags
   count-all = ap ones (w .same) ∙ ones-blocks 32 flags (w .size)
-
-  count-from : (b : ℕ) → ones (drop b counts) ≡ ones (drop (b * 64) flags)
-  count-from b = ap (λ (q : List ℕ). ones (drop b q)) (w .same) ∙ blocks-from 32 b flags (w .size)
-
-  -- the counts of m blocks
-  pub counts-are : (m b : ℕ) → ones (take m (drop b counts)) ≡ ones (take (m * 64) (drop (b * 64) flags))
-  counts-are m b =
-      let a : (b + m) * 64 ≡ b * 64 + m * 64 = omega arith in
-      let f = rw a at (count-from (b + m)) in
-      omega (arith, ones-next m b counts, ones-next (m * 64) (b * 64) flags, count-from b)
 
   pub counted-set : (i v : ℕ) → i < 2048 → v ≤ 1 → Counted (set flags i v) (set counts (i / 64) (getD counts (i / 64) 0 + v - getD flags i 0))
   counted-set i v h g = record {
