@@ -28,15 +28,6 @@ liveAt (t ∷ ts) tag port = cond (standsAt tag port t) (isLive (t .content)) (l
 unfoldable pub allLive : (n : ℕ) → List Token → Tag → Bool
 allLive n ts tag = cond (eqb n 1) (liveAt ts tag 0) (cond (eqb n 2) (liveAt ts tag 0 && liveAt ts tag 1) false)
 
--- "A firing spends its operands, whose values stay". A deferred token has no value yet, and stays
-abbrev pub contentSpent : Content → Content
-contentSpent (Live v) = Spent v
-contentSpent (Spent v) = Spent v
-contentSpent (Deferred cell) = Deferred cell
-
-abbrev pub spentToken : Token → Token
-spentToken t = record { tag = t .tag; port = t .port; content = contentSpent (t .content) }
-
 -- how many operands the activities of a tag wait for, by a table with an entry for each instruction
 abbrev pub arityOf : (arities : List ℕ) → Tag → ℕ
 arityOf arities tag = getD arities (tag .instruction) 0
@@ -69,3 +60,14 @@ leads arities ts i t = eqb (placeOf ts (t .tag)) i && isEnabled arities ts (t .t
 -- the places of the enabled activities, in order
 unfoldable pub enabledPlaces : (arities : List ℕ) → List Token → List ℕ
 enabledPlaces arities ts = placesWhere (leads arities ts) 0 ts
+
+-- ---- "A firing spends its operands, whose values stay"
+
+-- a deferred token has no value yet, and stays
+abbrev pub contentSpent : Content → Content
+contentSpent (Live v) = Spent v
+contentSpent (Spent v) = Spent v
+contentSpent (Deferred cell) = Deferred cell
+
+abbrev pub spentToken : Token → Token
+spentToken t = record { tag = t .tag; port = t .port; content = contentSpent (t .content) }
