@@ -26,7 +26,8 @@ use Rattle.rules.specs.InstructionSet.{EffectHere, onCell, sendReturned}
 use Rattle.effect.specs.declared.output.Key.{Key}
 use Rattle.effect.specs.declared.output.Outputs.{Outputs}
 use Rattle.effect.specs.declared.operate.Effect.{Effect}
-use Rattle.effect.specs.declared.operate.Effect.the-variants.{Refuse, Send, Read, Write}
+use Rattle.effect.specs.declared.operate.Effect.the-variants.{Refuse, Act}
+use Rattle.effect.specs.declared.operate.Action.the-variants.{Send, Read, Write}
 use Rattle.effect.specs.declared.operate.Named.the-variants.{Cell, NoSuchCell}
 use Rattle.effect.specs.Held.{keyHeld, keysHeld, keysOf, Sends, Does, namedOf, entryOf}
 
@@ -57,13 +58,13 @@ both-used (suc (suc n)) d e h k = refl
 pub sends-key : {o : Outputs} {k : Key} {j : Machine.Key Tag} → keyHeld k ≡ j → Sends o (keyHeld k ∷ []) → Sends o (j ∷ [])
 sends-key e s = rw (← e) s
 
-pub sent : {v w : ℤ} {o : Outputs} {keys : List (Machine.Key Tag)} → v ≡ w → Sends o keys → Does (Send v o) (send w keys)
+pub sent : {v w : ℤ} {o : Outputs} {keys : List (Machine.Key Tag)} → v ≡ w → Sends o keys → Does (Act (Send v) o) (send w keys)
 sent e s = record { held = rw (e, s .held); counted = s .counted }
 
-pub looked-up : {c : ℕ} {o : Outputs} {keys : List (Machine.Key Tag)} → Sends o keys → Does (Read c o) (read c keys)
+pub looked-up : {c : ℕ} {o : Outputs} {keys : List (Machine.Key Tag)} → Sends o keys → Does (Act (Read c) o) (read c keys)
 looked-up s = record { held = rw (s .held); counted = s .counted }
 
-pub written : {c : ℕ} {v w : ℤ} {o : Outputs} {keys : List (Machine.Key Tag)} → v ≡ w → Sends o keys → Does (Write c v o) (write c w keys)
+pub written : {c : ℕ} {v w : ℤ} {o : Outputs} {keys : List (Machine.Key Tag)} → v ≡ w → Sends o keys → Does (Act (Write c v) o) (write c w keys)
 written e s = record { held = rw (e, s .held); counted = s .counted }
 
 -- the same value otherwise named

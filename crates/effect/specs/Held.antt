@@ -20,7 +20,9 @@ use Rattle.rules.specs.InstructionSet.{EffectHere, returnOf, effectIn}
 use Rattle.effect.specs.declared.output.Key.{Key}
 use Rattle.effect.specs.declared.output.Outputs.{Outputs}
 use Rattle.effect.specs.declared.operate.Effect.{Effect}
-use Rattle.effect.specs.declared.operate.Effect.the-variants.{Refuse, Send, Read, Write}
+use Rattle.effect.specs.declared.operate.Effect.the-variants.{Refuse, Act}
+use Rattle.effect.specs.declared.operate.Action.{Action}
+use Rattle.effect.specs.declared.operate.Action.the-variants.{Send, Read, Write}
 use Rattle.effect.specs.declared.operate.Named.{Named}
 use Rattle.effect.specs.declared.operate.Named.the-variants.{Cell, NoSuchCell}
 
@@ -38,18 +40,19 @@ keysHeld (suc (suc n)) j k = keyHeld j ∷ keyHeld k ∷ []
 abbrev pub keysOf : Outputs → List (Machine.Key Tag)
 keysOf o = keysHeld (o .count) (o .first) (o .second)
 
+abbrev pub actionHeld : Action → List (Machine.Key Tag) → EffectHere
+actionHeld (Send v) keys = send v keys
+actionHeld (Read c) keys = read c keys
+actionHeld (Write c v) keys = write c v keys
+
 abbrev pub effectHeld : Effect → EffectHere
 effectHeld (Refuse r) = refuse r
-effectHeld (Send v o) = send v (keysOf o)
-effectHeld (Read c o) = read c (keysOf o)
-effectHeld (Write c v o) = write c v (keysOf o)
+effectHeld (Act a o) = actionHeld a (keysOf o)
 
 -- the count of the outputs is at most 2, and so is the number of the keys (length-keys of proofs/Does)
 abbrev pub Counted : Effect → Type 0
 Counted (Refuse r) = Unit {0}
-Counted (Send v o) = o .count ≤ 2
-Counted (Read c o) = o .count ≤ 2
-Counted (Write c v o) = o .count ≤ 2
+Counted (Act a o) = o .count ≤ 2
 
 -- ---- what is promised
 

@@ -5,7 +5,6 @@ use arithmetic::Computed;
 use record::instruction::Destination;
 use record::instruction::Instruction;
 use record::operation;
-use record::operation::Arithmetic;
 use record::operation::Operation;
 use record::tag::Entered;
 use record::tag::Left;
@@ -21,21 +20,25 @@ ghost use lib.ListN.{length};
 ghost use lib.IntN.{natAbs};
 ghost use Rattle.record.specs.GraphRecords.{graphOf, operationOf};
 ghost use Rattle.record.specs.Calls.{nextOf, enterOf, leaveOf};
-ghost use Rattle.arithmetic.specs.Arithmetic.{computeOf};
 ghost use Rattle.rules.specs.Check.{within};
 ghost use Rattle.rules.specs.InstructionSet.{keyUnder, allUnder, sideOf, sendComputed, sendNext, sendEntered, sendReturned, sendLeft, onCell, effectOf};
 ghost use Rattle.machine.specs.Machine as Machine;
 ghost use Rattle.effect.specs.Held.{Does, Returns, entryOf, namedOf, Ready};
 
+// What an instruction does beside spending its operands.
+pub enum Action {
+    // A value to each output.
+    Send(i32),
+    // A cell's value to each output.
+    Read(u32),
+    // A value to a cell, and a signal to each output.
+    Write(u32, i32),
+}
+
 // What an instruction asks for, once its operands are there.
 pub enum Effect {
     Refuse(Refusal),
-    // A value to each output.
-    Send(i32, Outputs),
-    // A cell's value to each output.
-    Read(u32, Outputs),
-    // A value to a cell, and a signal to each output.
-    Write(u32, i32, Outputs),
+    Act(Action, Outputs),
 }
 
 // What an operand names, where a cell is asked for.
@@ -56,28 +59,28 @@ fn byte(constant: i32) -> u8
 fn send_all(v: i32, tag: Tag, r: Instruction) -> Effect
     ensures { λ e. ⌜ Does e (Machine.send v (allUnder tag r)) ⌝ }
 {
-    Effect::Send(v, output::under(tag, r))
+    Effect::Act(Action::Send(v), output::under(tag, r))
 }
 
 // A value to one destination.
 fn send_to(v: i32, tag: Tag, d: Destination) -> Effect
     ensures { λ e. ⌜ Does e (Machine.send v (keyUnder tag d ∷ [])) ⌝ }
 {
-    Effect::Send(v, output::one(output::key_under(tag, d)))
+    Effect::Act(Action::Send(v), output::one(output::key_under(tag, d)))
 }
 
 // No output: the operands are spent all the same.
 fn send_none(v: i32, tag: Tag) -> Effect
     ensures { λ e. ⌜ Does e (Machine.send v []) ⌝ }
 {
-    Effect::Send(v, output::none(tag))
+    Effect::Act(Action::Send(v), output::none(tag))
 }
 
 // 12: "result past 32 signed bits, or divisor 0".
-fn computed(o: Arithmetic, a: i32, b: i32, tag: Tag, r: Instruction) -> Effect
-    ensures { λ e. ⌜ Does e (sendComputed (computeOf o a b) (allUnder tag r)) ⌝ }
+fn computed(c: Computed, tag: Tag, r: Instruction) -> Effect
+    ensures { λ e. ⌜ Does e (sendComputed c (allUnder tag r)) ⌝ }
 {
-    let Computed::Value(v) = arithmetic::compute(o, a, b) else {
+    let Computed::Value(v) = c else {
         return Effect::Refuse(Refusal::OutOfRange);
     };
     send_all(v, tag, r)
@@ -176,7 +179,7 @@ fn fetch(a: i32, cells: usize, tag: Tag, r: Instruction) -> Effect
     let Named::Cell(c) = cell_of(a, cells) else {
         return Effect::Refuse(Refusal::NoSuchCell);
     };
-    Effect::Read(c, output::under(tag, r))
+    Effect::Act(Action::Read(c), output::under(tag, r))
 }
 
 fn store(a: i32, b: i32, cells: usize, tag: Tag, r: Instruction) -> Effect
@@ -185,7 +188,7 @@ fn store(a: i32, b: i32, cells: usize, tag: Tag, r: Instruction) -> Effect
     let Named::Cell(c) = cell_of(a, cells) else {
         return Effect::Refuse(Refusal::NoSuchCell);
     };
-    Effect::Write(c, b, output::under(tag, r))
+    Effect::Act(Action::Write(c, b), output::under(tag, r))
 }
 
 // The effect of an instruction r under a tag, by its operation.
@@ -215,8 +218,8 @@ pub fn operate(
         Operation::Leave => leave(a, graph, returns, tag, r),
         Operation::Fetch => fetch(a, cells, tag, r),
         Operation::Store => store(a, b, cells, tag, r),
-        Operation::OnTwo(x) => computed(x, a, b, tag, r),
-        Operation::OnConstant(x) => computed(x, a, k, tag, r),
+        Operation::OnTwo(x) => computed(arithmetic::compute(x, a, b), tag, r),
+        Operation::OnConstant(x) => computed(arithmetic::compute(x, a, k), tag, r),
         Operation::Unknown => send_none(a, tag),
     }
 }

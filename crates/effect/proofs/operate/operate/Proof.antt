@@ -59,7 +59,9 @@ operate-spec = tie.close (tie.spec
     (λ c κs. search needs)
     (λ c. search needs)
     (λ c κs. search needs)
+    (λ c κs. search needs)
     (λ c. search needs)
+    (λ c κs. search needs)
     (λ c κs. search needs)
     (λ c. search needs)
     (λ c κs. search needs)
@@ -74,6 +76,8 @@ operate-spec = tie.close (tie.spec
     (λ c. arm (c .before .before .before) (c .before .enum-told9 .given .1) (c .leave .ensures))
     (λ c. arm (c .before .before .before) (c .before .enum-told10 .given .1) (c .fetch .ensures))
     (λ c. arm (c .before .before .before) (c .before .enum-told11 .given .1) (c .store .ensures))
-    (λ c. arm (c .before .before .before .before) (c .before .before .o .given .1) (c .computed .ensures))
-    (λ c. arm (c .before .before .before .before) (c .before .before .o2 .given .1) (rw (toZ-ofZ (constant-fits (c .before .before .before .before))) at (c .computed2 .ensures)))
+    (λ c. arm (c .before .before .before .before .before) (c .before .before .before .o .given .1) (rw (c .before .compute .ensures) at (c .computed .ensures)))
+    (λ c.
+    let d = c .before .before .before .before .before in
+    arm d (c .before .before .before .o2 .given .1) (rw (c .before .compute2 .ensures, toZ-ofZ (constant-fits d)) at (c .computed2 .ensures)))
     (λ c. arm (c .before .before .before) (c .before .enum-told12 .given .1) (c .send-none3 .ensures)))
