@@ -20,14 +20,17 @@ use Rattle.record.specs.declared.token.Content.the-variants.{Deferred}
 use Rattle.record.specs.declared.cell.Cell.{Cell}
 use Rattle.record.specs.declared.cell.Cell.the-variants.{Absent, Waiting, Present}
 use Rattle.record.proofs.cell.Cell.{the-type}
+use Rattle.effect.proofs.operate.Action as Actions
 use Rattle.table.proofs.Tables.{length-joined, put-joined, length-rows, getD-rows}
 use Rattle.record.proofs.Records.{length-token, length-cell, cells-put}
-use Rattle.chains.specs.Deferred.{woken}
+use Rattle.chains.specs.Deferred.{LowCell, woken}
 use Rattle.matching.specs.Matching.{spentToken, Matching}
 use Rattle.matching.proofs.Laws.{matching-room}
 use Rattle.effect.specs.declared.output.Key.{Key}
+use Rattle.effect.specs.declared.operate.Action.{Action}
+use Rattle.effect.specs.declared.operate.Action.the-variants.{Send, Read, Write}
 use Rattle.held.specs.Held.{noToken}
-use Rattle.outputs.specs.Outputs.{spendOne, spentAt, tokenOut, outputsBy, LowPortsBy, cellsIn, CellStore, cellFetched, cellsFetched, contentFetched, isPresent, Kept, CellsKept}
+use Rattle.outputs.specs.Outputs.{spendOne, spentAt, tokenOut, outputsBy, LowPortsBy, cellsIn, CellStore, cellFetched, cellsFetched, contentFetched, isPresent, OnCells, contentBy, wokenBy, writesAgain, Kept, CellsKept}
 
 -- ---- one record of a table is replaced
 
@@ -260,3 +263,33 @@ no-value Absent k = record { shut = refl; waits = refl; defers = λ n. refl }
 no-value Waiting k = record { shut = refl; waits = refl; defers = λ n. refl }
 no-value (Present v) (inl e) = absurd (omega arith)
 no-value (Present v) (inr e) = absurd (omega arith)
+
+-- ---- actions
+
+-- an action that writes no cell
+pub record NoWrite (a : Action) : Type 0 where
+  pub wakes : (ts : List Token) → wokenBy a ts ≡ ts
+  pub once : (cs : List Cell) → writesAgain a cs ≡ false
+
+pub no-write : (a : Action) → (tagOf Actions.the-type a ≡ 0) ⊎ (tagOf Actions.the-type a ≡ 1) → NoWrite a
+no-write (Send v) k = record { wakes = λ ts. refl; once = λ cs. refl }
+no-write (Read c) k = record { wakes = λ ts. refl; once = λ cs. refl }
+no-write (Write c v) (inl e) = absurd (omega arith)
+no-write (Write c v) (inr e) = absurd (omega arith)
+
+-- among more cells
+pub on-more : (a : Action) {n m : ℕ} → n ≤ m → OnCells n a → OnCells m a
+on-more (Send v) h o = tt
+on-more (Read c) h o = omega arith
+on-more (Write c v) h o = omega arith
+
+-- what is deferred is so on the action's own cell
+pub low-content : (a : Action) (cs : List Cell) → OnCells 1024 a → LowCell (contentBy a cs)
+low-content (Send v) cs o = tt
+low-content (Read c) cs o = go (getD cs c Absent)
+  where
+    go : (x : Cell) → LowCell (contentFetched c x)
+    go Absent = o
+    go Waiting = o
+    go (Present v) = tt
+low-content (Write c v) cs o = tt

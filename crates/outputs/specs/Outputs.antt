@@ -2,9 +2,10 @@
 use Prim.Native.Nat.{ℕ, zero, suc, _*_, _/_, _≤_, _<_}
 use mathlib.Core.Path.{_≡_}
 use mathlib.Core.Bool.{Bool, true, false, cond}
-use mathlib.Core.List.{List, [], _∷_}
+use mathlib.Core.List.{List, [], _∷_, map}
 use lib.ListN.{length, getD, set, drop}
 use lib.Dec.{eqb}
+use lib.IntN.{pos}
 use Rattle.record.specs.declared.token.Token.{Token}
 use Rattle.record.specs.declared.token.Content.{Content}
 use Rattle.record.specs.declared.token.Content.the-variants.{Live, Deferred}
@@ -13,7 +14,10 @@ use Rattle.record.specs.declared.cell.Cell.the-variants.{Absent, Waiting, Prese
 use Rattle.table.specs.Table.{joined, All}
 use Rattle.record.specs.TokensAndTags.{tokens}
 use Rattle.record.specs.Cells as Cells
+use Rattle.chains.specs.Deferred.{woken}
 use Rattle.matching.specs.Matching.{spentToken, Matching}
+use Rattle.effect.specs.declared.operate.Action.{Action}
+use Rattle.effect.specs.declared.operate.Action.the-variants.{Send, Read, Write}
 use Rattle.effect.specs.declared.output.Key.{Key}
 use Rattle.effect.specs.declared.output.Outputs.{Outputs}
 use Rattle.held.specs.Held.{noToken}
@@ -78,6 +82,38 @@ abbrev pub isPresent : Cell → Bool
 isPresent Absent = false
 isPresent Waiting = false
 isPresent (Present v) = true
+
+-- ---- an action
+
+-- the cell that an action names is one of so many
+abbrev pub OnCells : (cells : ℕ) → Action → Type 0
+OnCells n (Send v) = Unit {0}
+OnCells n (Read c) = c < n
+OnCells n (Write c v) = c < n
+
+-- the content of its outputs: a value, what FETCH finds, or a signal of value 0
+abbrev pub contentBy : Action → List Cell → Content
+contentBy (Send v) cs = Live v
+contentBy (Read c) cs = contentFetched c (getD cs c Absent)
+contentBy (Write c v) cs = Live (pos 0)
+
+-- what it makes of the cells
+abbrev pub cellsBy : Action → List Cell → List Cell
+cellsBy (Send v) cs = cs
+cellsBy (Read c) cs = cellsFetched c cs
+cellsBy (Write c v) cs = set cs c (Present v)
+
+-- and of the tokens of the ledger: a write wakes those that are deferred on its cell
+abbrev pub wokenBy : Action → List Token → List Token
+wokenBy (Send v) ts = ts
+wokenBy (Read c) ts = ts
+wokenBy (Write c v) ts = map (woken c v) ts
+
+-- whether it writes a cell that is present
+abbrev pub writesAgain : Action → List Cell → Bool
+writesAgain (Send v) cs = false
+writesAgain (Read c) cs = false
+writesAgain (Write c v) cs = isPresent (getD cs c Absent)
 
 -- ---- what the code leaves
 

@@ -1,5 +1,6 @@
 // What a firing writes: its operands are spent, cells are read or written, deferred tokens wake, and
 // its outputs go into the ledger. Whether it may is settled before.
+use effect::operate::Action;
 use effect::output::Key;
 use effect::output::Outputs;
 use record::cell;
@@ -7,16 +8,14 @@ use record::cell::Cell;
 use record::token::Content;
 use record::token::Token;
 ghost use mathlib.Core.Path.{_≡_};
-ghost use mathlib.Core.List.{List, [], _∷_, _++_, map};
+ghost use mathlib.Core.List.{List, [], _∷_, _++_};
 ghost use Prim.Native.Nat.{ℕ, _+_, _/_, _≤_, _<_};
-ghost use lib.ListN.{length, getD, set};
-ghost use lib.IntN.{pos};
+ghost use lib.ListN.{length, getD};
 ghost use Rattle.record.specs.TokensAndTags.{tokens};
-ghost use Rattle.record.specs.Cells as Cells;
 ghost use Rattle.record.specs.declared.cell.Cell.the-variants.{Absent};
-ghost use Rattle.chains.specs.Deferred.{LowCell, woken};
+ghost use Rattle.chains.specs.Deferred.{LowCell};
 ghost use Rattle.matching.specs.Matching.{Matching};
-ghost use Rattle.outputs.specs.Outputs.{Matched, Kept, CellsKept, spentAt, tokenOut, outputsOf, LowPorts, cellsIn, cellsFetched, contentFetched, isPresent, Lent};
+ghost use Rattle.outputs.specs.Outputs.{Matched, Kept, CellStore, CellsKept, spentAt, tokenOut, outputsOf, LowPorts, cellsIn, cellsFetched, contentFetched, OnCells, contentBy, cellsBy, wokenBy, writesAgain, Lent};
 
 // The operands are spent; where one was waited for, both places are its place.
 fn spend_operands(
@@ -133,8 +132,74 @@ fn append_outputs(
     used + 2
 }
 
-// The operands are spent, and the outputs go in with one content.
-pub fn send(
+// FETCH: the content of its outputs is the value of a present cell; otherwise they are deferred, and the cell waits.
+fn fetch(cells: &mut [u8], number: u32) -> Content
+    requires { ⌜ CellStore (now cells) × (number < length (now cells) / 8) ⌝ }
+    ensures { λ r. ⌜ r ≡ contentFetched number (getD (cellsIn (now (cells .entry))) number Absent) ⌝ }
+    ensures { λ _. ⌜ CellsKept (now (cells .exit)) (cellsFetched number (cellsIn (now (cells .entry)))) (now (cells .entry)) ⌝ }
+{
+    let i = number as usize;
+    let found = cell::cell_at(cells, i);
+    let Cell::Present(v) = found else {
+        cell::put_cell(cells, i, Cell::Waiting);
+        return Content::Deferred(number);
+    };
+    Content::Live(v)
+}
+
+// What an action makes of the cells; the answer is the content of its outputs. Those of STORE are signals of value 0.
+fn change_cells(cells: &mut [u8], action: Action) -> Content
+    requires { ⌜ CellStore (now cells) × OnCells (length (now cells) / 8) action ⌝ }
+    ensures { λ r. ⌜ r ≡ contentBy action (cellsIn (now (cells .entry))) ⌝ }
+    ensures { λ _. ⌜ CellsKept (now (cells .exit)) (cellsBy action (cellsIn (now (cells .entry)))) (now (cells .entry)) ⌝ }
+{
+    match action {
+        Action::Send(v) => Content::Live(v),
+        Action::Read(number) => fetch(cells, number),
+        Action::Write(number, v) => {
+            cell::put_cell(cells, number as usize, Cell::Present(v));
+            Content::Live(0)
+        }
+    }
+}
+
+// A write wakes the tokens that are deferred on its cell.
+fn wake(
+    arities: &[u8],
+    heads: &[u16; 4096],
+    next: &[u16; 2048],
+    flags: &mut [u8; 2048],
+    counts: &mut [u8; 32],
+    waiting: &mut [u16; 1024],
+    later: &[u16; 2048],
+    ledger: &mut [u8],
+    used: usize,
+    action: Action,
+)
+    requires { ⌜ Matching (now arities) (now heads) (now next) (now flags) (now counts) (now waiting) (now later) (now ledger) used × OnCells 1024 action ⌝ }
+    ensures { λ _. ⌜ Kept (now (arities .entry)) (now (heads .entry)) (now (next .entry)) (now (flags .exit)) (now (counts .exit)) (now (waiting .exit)) (now (later .entry)) (now (ledger .exit)) used
+        (wokenBy action (tokens used (now (ledger .entry)))) (now (ledger .entry)) ⌝ }
+{
+    let Action::Write(number, v) = action else {
+        return;
+    };
+    matching::wake(
+        arities,
+        heads,
+        next,
+        flags,
+        counts,
+        waiting,
+        later,
+        ledger,
+        used,
+        number,
+        v,
+    );
+}
+
+// A firing that nothing refuses: how many tokens the ledger then has.
+pub fn carry_out(
     arities: &[u8],
     heads: &mut [u16; 4096],
     next: &mut [u16; 2048],
@@ -143,15 +208,17 @@ pub fn send(
     waiting: &mut [u16; 1024],
     later: &mut [u16; 2048],
     ledger: &mut [u8],
+    cells: &mut [u8],
     used: usize,
     first: usize,
     second: usize,
+    action: Action,
     outputs: Outputs,
-    content: Content,
 ) -> usize
-    requires { ⌜ Matching (now arities) (now heads) (now next) (now flags) (now counts) (now waiting) (now later) (now ledger) used × (first < used) × (second < used) × (used + outputs .count ≤ length (now ledger) / 20) × (length (now ledger) / 20 ≤ 2048) × (outputs .count ≤ 2) × LowPorts outputs × LowCell content ⌝ }
+    requires { ⌜ Lent (now arities) (now heads) (now next) (now flags) (now counts) (now waiting) (now later) (now ledger) (now cells) used first second × (used + outputs .count ≤ length (now ledger) / 20) × (outputs .count ≤ 2) × LowPorts outputs × OnCells (length (now cells) / 8) action ⌝ }
     ensures { λ r. ⌜ (r ≡ used + outputs .count) × Kept (now (arities .entry)) (now (heads .exit)) (now (next .exit)) (now (flags .exit)) (now (counts .exit)) (now (waiting .exit)) (now (later .exit)) (now (ledger .exit)) (used + outputs .count)
-        (spentAt first second (tokens used (now (ledger .entry))) ++ outputsOf content outputs) (now (ledger .entry)) ⌝ }
+        (wokenBy action (spentAt first second (tokens used (now (ledger .entry)))) ++ outputsOf (contentBy action (cellsIn (now (cells .entry)))) outputs) (now (ledger .entry))
+        × CellsKept (now (cells .exit)) (cellsBy action (cellsIn (now (cells .entry)))) (now (cells .entry)) ⌝ }
 {
     spend_operands(
         arities,
@@ -163,6 +230,19 @@ pub fn send(
         used,
         first,
         second,
+    );
+    let content = change_cells(cells, action);
+    wake(
+        arities,
+        heads,
+        next,
+        flags,
+        counts,
+        waiting,
+        later,
+        ledger,
+        used,
+        action,
     );
     append_outputs(
         arities,
@@ -179,132 +259,14 @@ pub fn send(
     )
 }
 
-// FETCH: the value of a present cell goes on; otherwise the outputs are deferred, and the cell waits.
-pub fn fetch(
-    arities: &[u8],
-    heads: &mut [u16; 4096],
-    next: &mut [u16; 2048],
-    flags: &mut [u8; 2048],
-    counts: &mut [u8; 32],
-    waiting: &mut [u16; 1024],
-    later: &mut [u16; 2048],
-    ledger: &mut [u8],
-    cells: &mut [u8],
-    used: usize,
-    first: usize,
-    second: usize,
-    outputs: Outputs,
-    number: u32,
-) -> usize
-    requires { ⌜ Lent (now arities) (now heads) (now next) (now flags) (now counts) (now waiting) (now later) (now ledger) (now cells) used first second × (used + outputs .count ≤ length (now ledger) / 20) × (outputs .count ≤ 2) × LowPorts outputs × (number < length (now cells) / 8) ⌝ }
-    ensures { λ r. ⌜ (r ≡ used + outputs .count) × Kept (now (arities .entry)) (now (heads .exit)) (now (next .exit)) (now (flags .exit)) (now (counts .exit)) (now (waiting .exit)) (now (later .exit)) (now (ledger .exit)) (used + outputs .count)
-        (spentAt first second (tokens used (now (ledger .entry))) ++ outputsOf (contentFetched number (getD (cellsIn (now (cells .entry))) number Absent)) outputs) (now (ledger .entry))
-        × CellsKept (now (cells .exit)) (cellsFetched number (cellsIn (now (cells .entry)))) (now (cells .entry)) ⌝ }
+// Whether an action writes a cell that is present.
+pub fn writes_again(cells: &[u8], action: Action) -> bool
+    requires { ⌜ OnCells (length (now cells) / 8) action ⌝ }
+    ensures { λ r. ⌜ r ≡ writesAgain action (cellsIn (now (cells .entry))) ⌝ }
 {
-    let i = number as usize;
-    let found = cell::cell_at(cells, i);
-    let Cell::Present(v) = found else {
-        cell::put_cell(cells, i, Cell::Waiting);
-        return send(
-            arities,
-            heads,
-            next,
-            flags,
-            counts,
-            waiting,
-            later,
-            ledger,
-            used,
-            first,
-            second,
-            outputs,
-            Content::Deferred(number),
-        );
+    let Action::Write(number, _) = action else {
+        return false;
     };
-    send(
-        arities,
-        heads,
-        next,
-        flags,
-        counts,
-        waiting,
-        later,
-        ledger,
-        used,
-        first,
-        second,
-        outputs,
-        Content::Live(v),
-    )
-}
-
-// STORE to a cell that is not present: it is, its deferred tokens wake, and signals of value 0 go out.
-pub fn store(
-    arities: &[u8],
-    heads: &mut [u16; 4096],
-    next: &mut [u16; 2048],
-    flags: &mut [u8; 2048],
-    counts: &mut [u8; 32],
-    waiting: &mut [u16; 1024],
-    later: &mut [u16; 2048],
-    ledger: &mut [u8],
-    cells: &mut [u8],
-    used: usize,
-    first: usize,
-    second: usize,
-    outputs: Outputs,
-    number: u32,
-    v: i32,
-) -> usize
-    requires { ⌜ Lent (now arities) (now heads) (now next) (now flags) (now counts) (now waiting) (now later) (now ledger) (now cells) used first second × (used + outputs .count ≤ length (now ledger) / 20) × (outputs .count ≤ 2) × LowPorts outputs × (number < length (now cells) / 8) ⌝ }
-    ensures { λ r. ⌜ (r ≡ used + outputs .count) × Kept (now (arities .entry)) (now (heads .exit)) (now (next .exit)) (now (flags .exit)) (now (counts .exit)) (now (waiting .exit)) (now (later .exit)) (now (ledger .exit)) (used + outputs .count)
-        (map (woken number v) (spentAt first second (tokens used (now (ledger .entry)))) ++ outputsOf (Content.Live (pos 0)) outputs) (now (ledger .entry))
-        × CellsKept (now (cells .exit)) (set (cellsIn (now (cells .entry))) number (Cell.Present v)) (now (cells .entry)) ⌝ }
-{
-    spend_operands(
-        arities,
-        heads,
-        next,
-        flags,
-        counts,
-        ledger,
-        used,
-        first,
-        second,
-    );
-    cell::put_cell(cells, number as usize, Cell::Present(v));
-    matching::wake(
-        arities,
-        heads,
-        next,
-        flags,
-        counts,
-        waiting,
-        later,
-        ledger,
-        used,
-        number,
-        v,
-    );
-    append_outputs(
-        arities,
-        heads,
-        next,
-        flags,
-        counts,
-        waiting,
-        later,
-        ledger,
-        used,
-        outputs,
-        Content::Live(0),
-    )
-}
-
-pub fn is_present(cells: &[u8], number: u32) -> bool
-    requires { ⌜ number < length (now cells) / 8 ⌝ }
-    ensures { λ r. ⌜ r ≡ isPresent (Cells.cellAt (now (cells .entry)) number) ⌝ }
-{
     let found = cell::cell_at(cells, number as usize);
     if let Cell::Present(_) = found {
         true
