@@ -22,17 +22,18 @@ use Rattle.rules.specs.InstructionSet.{arityIn, machineOf}
 use Rattle.rules.specs.Run.{contentHeld, tokenHeld}
 use Rattle.effect.specs.declared.output.Outputs.{Outputs}
 use Rattle.effect.specs.declared.operate.Effect.{Effect}
-use Rattle.effect.specs.declared.operate.Effect.the-variants.{Refuse, Send, Read, Write}
+use Rattle.effect.specs.declared.operate.Effect.the-variants.{Refuse, Act}
+use Rattle.effect.specs.declared.operate.Action.the-variants.{Send, Read, Write}
 use Rattle.effect.specs.Held.{keysOf, effectHeld, Counted}
 use Rattle.held.specs.Held.{cellHeld, stateHeld}
 use Rattle.operands.specs.declared.Admitted.{Admitted}
 use Rattle.operands.specs.declared.Admitted.the-variants.{Yes, No}
 use Rattle.operands.specs.Operands.{admittedOf}
 use Rattle.operands.proofs.Held.{byAdmitted, Places, held-admitted}
-use Rattle.outputs.specs.Outputs.{spentAt, outputsOf, cellsFetched, contentFetched}
+use Rattle.outputs.specs.Outputs.{spentAt, outputsOf, cellsFetched, contentFetched, isPresent}
 use Rattle.outputs.proofs.Spent.{map-map, spent-one, spent-two}
 use Rattle.outputs.proofs.Held.{outputs-held, woken-held, cell-held, set-held, fetched-cell, fetched-content}
-use Rattle.commit.specs.Commit.{Committed, done, refused, ifAdmitted, unlessPresent, committedOf}
+use Rattle.commit.specs.Commit.{Committed, done, refused, ifAdmitted, committedOf}
 
 -- in the terms of the machine
 abbrev pub firedOf : Committed → Fired Refusal Tag ℤ
@@ -69,8 +70,7 @@ module _ (g : List Instruction) (capacity cells : ℕ) (ts : List Record.Token) 
       ∙ admitted-held (admittedOf capacity ts o) (done (us ++ outputsOf x o) ds) _
       (λ i. fired (record { tokens = (ap (λ l. l ++ map (output y) (keysOf o)) p ∙ ap (λ z. map tokenHeld us ++ map (output z) (keysOf o)) r ∙ appended us o x) i; cells = q i }))
 
-  write-held : (c : RecordCell.Cell) (f : Fired Refusal Tag ℤ) (x : Committed) → f ≡ firedOf x → ifPresent (cellHeld c) (notFired SecondWrite) f ≡ firedOf (unlessPresent c x)
-  unfolding unlessPresent
+  write-held : (c : RecordCell.Cell) (f : Fired Refusal Tag ℤ) (x : Committed) → f ≡ firedOf x → ifPresent (cellHeld c) (notFired SecondWrite) f ≡ firedOf (cond (isPresent c) (refused SecondWrite) x)
   write-held Absent f x e = e
   write-held Waiting f x e = e
   write-held (Present v) f x e = refl
@@ -79,12 +79,12 @@ module _ (g : List Instruction) (capacity cells : ℕ) (ts : List Record.Token) 
       → commit M (stateHeld ts cs) tag (effectHeld e) ≡ firedOf (committedOf capacity ts cs i j e)
   unfolding commit committedOf
   commit-held tag i j v w d p (Refuse r) h = refl
-  commit-held tag i j v w d p (Send x o) h = goes-in o h _ (spentAt i j ts) _ cs (live x) (Live x) (spent-held tag i j v w d p) refl refl
-  commit-held tag i j v w d p (Read c o) h =
+  commit-held tag i j v w d p (Act (Send x) o) h = goes-in o h _ (spentAt i j ts) _ cs (live x) (Live x) (spent-held tag i j v w d p) refl refl
+  commit-held tag i j v w d p (Act (Read c) o) h =
       goes-in o h _ (spentAt i j ts) _ (cellsFetched c cs) _ (contentFetched c (getD cs c Absent)) (spent-held tag i j v w d p)
       (ap (λ y. set (map cellHeld cs) c (cellRead y)) (cell-held cs c) ∙ ap (λ y. set (map cellHeld cs) c y) (fetched-cell (getD cs c Absent)) ∙ set-held cs c _)
       (ap (contentRead c) (cell-held cs c) ∙ fetched-content c (getD cs c Absent))
-  commit-held tag i j v w d p (Write c x o) h =
+  commit-held tag i j v w d p (Act (Write c x) o) h =
       let written = admit M (stateHeld ts cs) (map (changed (λ k y. fill c x (spendAt M tag k y))) (map tokenHeld ts)) (set (map cellHeld cs) c (present x)) (live (pos 0)) (keysOf o) in
       ap (λ y. ifPresent y (notFired SecondWrite) written) (cell-held cs c)
       ∙ write-held (getD cs c Absent) written _

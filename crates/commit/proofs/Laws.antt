@@ -2,29 +2,26 @@
 use Prim.Native.Nat.{ℕ, _+_, _≤_}
 use mathlib.Core.Path.{_≡_, refl, ap, _∙_}
 use mathlib.Core.Bool.{Bool, true, false, cond}
-use mathlib.Core.List.{List, _++_, map}
+use mathlib.Core.List.{List, _++_}
 use native.Mathlib.Omega.{arith}
 use lib.Dec.{ltb}
-use lib.ListN.{length, getD, set}
-use lib.IntN.{ℤ, pos}
+use lib.ListN.{length}
 use borrow.Author.Tests.{ltb-false}
 use Rattle.record.specs.TokensAndTags.{tokens, decode}
 use Rattle.record.specs.declared.token.Token.{Token}
-use Rattle.record.specs.declared.token.Content.the-variants.{Live}
 use Rattle.record.specs.declared.cell.Cell.{Cell}
-use Rattle.record.specs.declared.cell.Cell.the-variants.{Absent, Waiting, Present}
 use Rattle.table.proofs.Tables.{length-rows}
-use Rattle.chains.specs.Deferred.{woken}
 use Rattle.rules.specs.declared.answer.Refusal.{Refusal}
 use Rattle.rules.specs.declared.answer.Refusal.the-variants.{LedgerFull, SecondToken, SecondWrite}
 use Rattle.effect.specs.declared.output.Outputs.{Outputs}
 use Rattle.effect.specs.declared.operate.Effect.{Effect}
-use Rattle.effect.specs.declared.operate.Effect.the-variants.{Refuse, Send, Read, Write}
+use Rattle.effect.specs.declared.operate.Effect.the-variants.{Refuse, Act}
+use Rattle.effect.specs.declared.operate.Action.{Action}
 use Rattle.operands.specs.declared.Admitted.{Admitted}
 use Rattle.operands.specs.declared.Admitted.the-variants.{Yes, No}
 use Rattle.operands.specs.Operands.{anyTakenOf, admittedOf}
-use Rattle.outputs.specs.Outputs.{spentAt, outputsOf, cellsFetched, contentFetched, isPresent, Kept, CellsKept, Lent}
-use Rattle.commit.specs.Commit.{Committed, done, refused, ifAdmitted, unlessPresent, committedOf, Left}
+use Rattle.outputs.specs.Outputs.{spentAt, outputsOf, contentBy, cellsBy, wokenBy, writesAgain, Kept, CellsKept, Lent}
+use Rattle.commit.specs.Commit.{Committed, done, refused, ifAdmitted, committedOf, Left}
 use Rattle.commit.specs.declared.Fired.the-variants as Fires
 
 -- ---- the outputs of an admitted firing have room
@@ -47,58 +44,19 @@ admitted-room capacity used l o e =
 
 -- ---- the outcome, by what is known of it
 
-present-refused : (y : Cell) (x : Committed) → isPresent y ≡ true → unlessPresent y x ≡ refused SecondWrite
-unfolding unlessPresent
-present-refused Absent x e = let z : _≡_ {A = ℕ} 0 1 = ap (λ (b : Bool). cond b 1 0) e in absurd (omega arith)
-present-refused Waiting x e = let z : _≡_ {A = ℕ} 0 1 = ap (λ (b : Bool). cond b 1 0) e in absurd (omega arith)
-present-refused (Present v) x e = refl
-
-not-present : (y : Cell) (x : Committed) → isPresent y ≡ false → unlessPresent y x ≡ x
-unfolding unlessPresent
-not-present Absent x e = refl
-not-present Waiting x e = refl
-not-present (Present v) x e = let z : _≡_ {A = ℕ} 1 0 = ap (λ (b : Bool). cond b 1 0) e in absurd (omega arith)
-
-module _ (capacity : ℕ) (ts : List Token) (cs : List Cell) (i j : ℕ) (o : Outputs) where
-  module _ {r : Refusal} (e : admittedOf capacity ts o ≡ No r) where
-    no-outputs : (x : Committed) → ifAdmitted (admittedOf capacity ts o) x ≡ refused r
-    unfolding ifAdmitted
-    no-outputs x = rw e
-
-    pub send-refused : (v : ℤ) → committedOf capacity ts cs i j (Send v o) ≡ refused r
-    unfolding committedOf
-    send-refused v = no-outputs _
-
-    pub read-refused : (c : ℕ) → committedOf capacity ts cs i j (Read c o) ≡ refused r
-    unfolding committedOf
-    read-refused c = no-outputs _
-
-    pub write-refused : (c : ℕ) (v : ℤ) → isPresent (getD cs c Absent) ≡ false → committedOf capacity ts cs i j (Write c v o) ≡ refused r
-    unfolding committedOf
-    write-refused c v h = not-present (getD cs c Absent) _ h ∙ no-outputs _
-
-  pub second-write : (c : ℕ) (v : ℤ) → isPresent (getD cs c Absent) ≡ true → committedOf capacity ts cs i j (Write c v o) ≡ refused SecondWrite
+module _ (capacity : ℕ) (ts : List Token) (cs : List Cell) (i j : ℕ) (a : Action) (o : Outputs) where
+  pub second-write : writesAgain a cs ≡ true → committedOf capacity ts cs i j (Act a o) ≡ refused SecondWrite
   unfolding committedOf
-  second-write c v h = present-refused (getD cs c Absent) _ h
+  second-write h = rw h
 
-  -- w is v, as the machine reads it back
-  module _ (e : admittedOf capacity ts o ≡ Yes) where
-    outputs : (x : Committed) → ifAdmitted (admittedOf capacity ts o) x ≡ x
-    unfolding ifAdmitted
-    outputs x = rw e
+  module _ (once : writesAgain a cs ≡ false) where
+    pub act-refused : {r : Refusal} → admittedOf capacity ts o ≡ No r → committedOf capacity ts cs i j (Act a o) ≡ refused r
+    unfolding committedOf ifAdmitted
+    act-refused e = rw (once, e)
 
-    pub send-done : {v w : ℤ} → w ≡ v → committedOf capacity ts cs i j (Send v o) ≡ done (spentAt i j ts ++ outputsOf (Live w) o) cs
-    unfolding committedOf
-    send-done s = rw s (outputs _)
-
-    pub read-done : (c : ℕ) → committedOf capacity ts cs i j (Read c o) ≡ done (spentAt i j ts ++ outputsOf (contentFetched c (getD cs c Absent)) o) (cellsFetched c cs)
-    unfolding committedOf
-    read-done c = outputs _
-
-    pub write-done : (c : ℕ) {v w : ℤ} → w ≡ v → isPresent (getD cs c Absent) ≡ false
-        → committedOf capacity ts cs i j (Write c v o) ≡ done (map (woken c w) (spentAt i j ts) ++ outputsOf (Live (pos 0)) o) (set cs c (Present w))
-    unfolding committedOf
-    write-done c s h = rw s (not-present (getD cs c Absent) _ h ∙ outputs _)
+    pub act-done : admittedOf capacity ts o ≡ Yes → committedOf capacity ts cs i j (Act a o) ≡ done (wokenBy a (spentAt i j ts) ++ outputsOf (contentBy a cs) o) (cellsBy a cs)
+    unfolding committedOf ifAdmitted
+    act-done e = rw (once, e)
 
 pub effect-refused : (capacity : ℕ) (ts : List Token) (cs : List Cell) (i j : ℕ) {e : Effect} {r : Refusal} → e ≡ Refuse r → committedOf capacity ts cs i j e ≡ refused r
 unfolding committedOf
