@@ -8,12 +8,10 @@ use mathlib.Core.Option.{none, some}
 use native.Mathlib.Omega.{arith}
 use lib.ListN.{length, getD, set, length-append, length-map, length-set}
 use lib.Dec.{eqb}
-use lib.IntN.{ℤ, pos}
+use lib.IntN.{ℤ}
 use Rattle.record.specs.declared.tag.Tag.{Tag}
 use Rattle.record.specs.declared.token.Token as Record
 use Rattle.record.specs.declared.token.Content as RecordContent
-use Rattle.record.specs.declared.token.Content.the-variants.{Live}
-use Rattle.record.specs.declared.cell.Cell.the-variants.{Absent, Waiting, Present}
 use Rattle.record.specs.declared.cell.Cell as RecordCell
 use Rattle.record.specs.declared.instruction.Instruction.{Instruction}
 use Rattle.table.specs.Table.{All}
@@ -25,10 +23,10 @@ use Rattle.chains.specs.Deferred.{woken}
 use Rattle.matching.specs.Matching.{spentToken, Matching}
 use Rattle.matching.proofs.Laws.{matching-room}
 use Rattle.machine.specs.Machine.{Key, Machine, State, onOption, operands, look, fire, fired, notFired, commit, send, read, write, refuse}
-use Rattle.machine.specs.Orders.{Good, Reached, outputs}
+use Rattle.machine.specs.Orders.{Good, Reached, CellsBelow, outputs}
 use Rattle.machine.proofs.Reached.{reached-good}
 use Rattle.rules.specs.declared.answer.Refusal.{Refusal}
-use Rattle.rules.specs.declared.answer.Refusal.the-variants.{SecondToken}
+use Rattle.rules.specs.declared.answer.Refusal.the-variants.{SecondToken, SecondWrite}
 use Rattle.rules.specs.declared.answer.Checked.the-variants.{Passed}
 use Rattle.rules.specs.Check.{operandsAt, checkGraph}
 use Rattle.rules.specs.InstructionSet.{arityIn, machineOf, effectIn}
@@ -36,8 +34,10 @@ use Rattle.rules.proofs.Lawful.{lawful}
 use Rattle.effect.specs.declared.output.Key as EffectKey
 use Rattle.effect.specs.declared.output.Outputs.{Outputs}
 use Rattle.effect.specs.declared.operate.Effect.{Effect}
-use Rattle.effect.specs.declared.operate.Effect.the-variants.{Refuse, Send, Read, Write}
-use Rattle.effect.specs.Held.{keyHeld, keysHeld, keysOf, effectHeld, Counted, Arrives, AllSent, Effected}
+use Rattle.effect.specs.declared.operate.Effect.the-variants.{Refuse, Act}
+use Rattle.effect.specs.declared.operate.Action.{Action}
+use Rattle.effect.specs.declared.operate.Action.the-variants.{Send, Read, Write}
+use Rattle.effect.specs.Held.{keyHeld, keysHeld, keysOf, actionHeld, effectHeld, Counted, Arrives, AllSent, Effected}
 use Rattle.effect.proofs.Arrives.{arrives-port, arrives-inside}
 use Rattle.effect.proofs.Does.{records}
 use Rattle.held.specs.Held.{noToken, stateHeld}
@@ -47,10 +47,10 @@ use Rattle.operands.specs.declared.Matched.{Matched}
 use Rattle.operands.specs.declared.Matched.the-variants.{Both, Missing}
 use Rattle.operands.specs.Operands.{matchedAt, admittedOf}
 use Rattle.operands.proofs.Held.{valuesOf, Places, matched-places, held-operands}
-use Rattle.outputs.specs.Outputs.{spendOne, spentAt, outputsBy, outputsOf, LowPortsBy, LowPorts, cellsIn, contentFetched, Kept, CellsKept, CellStore, Lent}
+use Rattle.outputs.specs.Outputs.{spendOne, spentAt, outputsBy, outputsOf, LowPortsBy, LowPorts, cellsIn, OnCells, contentBy, wokenBy, writesAgain, Kept, CellsKept, CellStore, Lent}
 use Rattle.commit.specs.declared.Fired.{Fired}
 use Rattle.commit.specs.declared.Fired.the-variants as Fires
-use Rattle.commit.specs.Commit.{Committed, done, refused, ifAdmitted, unlessPresent, committedOf, Left, Fitting}
+use Rattle.commit.specs.Commit.{Committed, done, refused, ifAdmitted, committedOf, Left, Fitting}
 use Rattle.commit.proofs.Held.{firedOf, commit-held}
 use Rattle.fire.specs.Running.{machineFor, stateIn, Arrived, Running, Went, Stopped, Stepped, Prepared}
 
@@ -94,12 +94,22 @@ low-ports g zero j k a = tt
 low-ports g (suc zero) j k a = arrives-port g (keyHeld j) (a .0)
 low-ports g (suc (suc n)) j k a = (arrives-port g (keyHeld j) (a .0), arrives-port g (keyHeld k) (a .1 .0))
 
+-- an action's outputs and its cell, as its effect has them
+sent-keys : (P : Key Tag → Type 0) (a : Action) (keys : List (Key Tag)) → AllSent P (actionHeld a keys) → All P keys
+sent-keys P (Send v) keys h = h
+sent-keys P (Read c) keys h = h
+sent-keys P (Write c v) keys h = h
+
+on-cells : (n : ℕ) (a : Action) (keys : List (Key Tag)) → CellsBelow n (actionHeld a keys) → OnCells n a
+on-cells n (Send v) keys h = tt
+on-cells n (Read c) keys h = h
+on-cells n (Write c v) keys h = h
+
 -- what the code's commit requires of an effect
 pub fitting : (g : List Instruction) (cells : ℕ) (τ : Tag) (a b : ℤ) (e : Effect) → Effected g cells τ a b e → Fitting cells e
 fitting g cells τ a b (Refuse r) h = tt
-fitting g cells τ a b (Send v o) h = (h .counted, low-ports g (o .count) (o .first) (o .second) (h .arrives))
-fitting g cells τ a b (Read c o) h = (h .counted, low-ports g (o .count) (o .first) (o .second) (h .arrives), h .cellsBelow)
-fitting g cells τ a b (Write c v o) h = (h .counted, low-ports g (o .count) (o .first) (o .second) (h .arrives), h .cellsBelow)
+fitting g cells τ a b (Act x o) h =
+    (h .counted, low-ports g (o .count) (o .first) (o .second) (sent-keys (Arrives g) x (keysOf o) (h .arrives)), on-cells cells x (keysOf o) (h .cellsBelow))
 
 -- ---- tokens after a firing
 
@@ -113,11 +123,9 @@ unfolding ifAdmitted
 if-admitted g n Yes x h = h
 if-admitted g n (No r) x h = tt
 
-unless-present : (g : List Instruction) (n : ℕ) (c : RecordCell.Cell) (x : Committed) → Grown g n x → Grown g n (unlessPresent c x)
-unfolding unlessPresent
-unless-present g n Absent x h = h
-unless-present g n Waiting x h = h
-unless-present g n (Present v) x h = tt
+unless-again : (g : List Instruction) (n : ℕ) (again : Bool) (x : Committed) → Grown g n x → Grown g n (cond again (refused SecondWrite) x)
+unless-again g n true x h = tt
+unless-again g n false x h = h
 
 length-spent : (i : ℕ) (ts : List Record.Token) → length (spendOne i ts) ≡ length ts
 unfolding spendOne
@@ -141,23 +149,23 @@ module _ (g : List Instruction) (ts : List Record.Token) (h : Arrived g ts) (i j
   with-outputs : (vs : List Record.Token) (o : Outputs) (x : RecordContent.Content) → All P vs → length vs ≡ length ts → All (Arrives g) (keysOf o) → Grown g (length ts) (done (vs ++ outputsOf x o) [])
   with-outputs vs o x b e c = (all-append P vs (outputsOf x o) b (sent-arrive g (o .count) (o .first) (o .second) x c), omega (arith, length-append vs (outputsOf x o)))
 
+  length-woken : (a : Action) (us : List Record.Token) → length (wokenBy a us) ≡ length us
+  length-woken (Send v) us = refl
+  length-woken (Read c) us = refl
+  length-woken (Write c v) us = length-map us (woken c v)
+
+  all-woken : (a : Action) (us : List Record.Token) → All P us → All P (wokenBy a us)
+  all-woken (Send v) us b = b
+  all-woken (Read c) us b = b
+  all-woken (Write c v) us b = all-map P (woken c v) (λ t l. l) us b
+
   grown : (capacity : ℕ) (cs : List RecordCell.Cell) (e : Effect) → AllSent (Arrives g) (effectHeld e) → Grown g (length ts) (committedOf capacity ts cs i j e)
   unfolding committedOf
   grown capacity cs (Refuse r) a = tt
-  grown capacity cs (Send v o) a =
-      let n = length ts in
-      let x = with-outputs (spentAt i j ts) o (Live v) (all-spent-at P by-key i j ts h) (length-spent-at i j ts) a in
-      if-admitted g n (admittedOf capacity ts o) _ x
-  grown capacity cs (Read c o) a =
-      let n = length ts in
-      let x = with-outputs (spentAt i j ts) o (contentFetched c (getD cs c Absent)) (all-spent-at P by-key i j ts h) (length-spent-at i j ts) a in
-      if-admitted g n (admittedOf capacity ts o) _ x
-  grown capacity cs (Write c v o) a =
-      let n = length ts in
-      let us = map (woken c v) (spentAt i j ts) in
-      let size : length us ≡ length ts = length-map (spentAt i j ts) (woken c v) ∙ length-spent-at i j ts in
-      let x = with-outputs us o (Live (pos 0)) (all-map P (woken c v) (λ t l. l) (spentAt i j ts) (all-spent-at P by-key i j ts h)) size a in
-      unless-present g n (getD cs c Absent) _ (if-admitted g n (admittedOf capacity ts o) _ x)
+  grown capacity cs (Act x o) a =
+      let us = spentAt i j ts in
+      let out = with-outputs (wokenBy x us) o (contentBy x cs) (all-woken x us (all-spent-at P by-key i j ts h)) (length-woken x us ∙ length-spent-at i j ts) (sent-keys (Arrives g) x (keysOf o) a) in
+      unless-again g (length ts) (writesAgain x cs) _ (if-admitted g (length ts) (admittedOf capacity ts o) _ out)
 
 -- ---- a firing
 
