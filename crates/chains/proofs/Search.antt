@@ -2,7 +2,7 @@
 use Prim.Native.Nat.{ℕ, zero, suc, _-_, _*_, _≤_, _<_}
 use mathlib.Core.Path.{_≡_, refl, ap}
 use mathlib.Core.Bool.{Bool, true, false, cond}
-use mathlib.Core.List.{List, [], _∷_}
+use mathlib.Core.List.{List, [], _∷_, _++_}
 use native.Mathlib.Omega.{arith}
 use lib.ListN.{length, getD, drop, drop-of-length-le}
 use lib.Seq.{drop-cons}
@@ -63,6 +63,17 @@ module _ {A : Type 0} (p : A → Bool) where
       go true q f ih e = let z : _≡_ {A = ℕ} 0 1 = cc in absurd (omega arith)
       go false q (At j) ih e = let z : _≡_ {A = ℕ} 0 1 = cc in absurd (omega arith)
       go false q Nothing ih e = (q, ih refl)
+
+  -- the first that passes is added at the end
+  pub first-added : (t : A) (ts : List A) → firstFrom p 0 ts ≡ Nothing → p t ≡ true → firstFrom p 0 (ts ++ t ∷ []) ≡ At (length ts)
+  first-added t [] e h = rw h
+  first-added t (x ∷ ts) e h = rw (first-cons p x (ts ++ t ∷ [])) (go (p x) (firstFrom p 0 ts) (λ g. first-added t ts g h) (rw (first-cons p x ts) at e))
+    where
+      go : (b : Bool) (f : Found) → (f ≡ Nothing → firstFrom p 0 (ts ++ t ∷ []) ≡ At (length ts)) → cond b (At 0) (shift f) ≡ Nothing
+          → cond b (At 0) (shift (firstFrom p 0 (ts ++ t ∷ []))) ≡ At (suc (length ts))
+      go true f ih e = let z : _≡_ {A = ℕ} 0 1 = cc in absurd (omega arith)
+      go false (At j) ih e = let z : _≡_ {A = ℕ} 0 1 = cc in absurd (omega arith)
+      go false Nothing ih e = ap shift (ih refl)
 
 pub within-more : (f : Found) (m n : ℕ) → m ≤ n → Within f m → Within f n
 within-more (At i) m n h w = omega arith

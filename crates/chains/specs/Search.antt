@@ -1,7 +1,11 @@
 -- A search of a list from its front. Assumes nothing.
 use Prim.Native.Nat.{ℕ, zero, suc, _<_}
+use mathlib.Core.Path.{_≡_}
 use mathlib.Core.Bool.{Bool, cond}
 use mathlib.Core.List.{List, [], _∷_}
+use Rattle.record.specs.TokensAndTags.{standsAt}
+use Rattle.record.specs.declared.tag.Tag.{Tag}
+use Rattle.record.specs.declared.token.Token.{Token}
 use Rattle.chains.specs.declared.Found.{Found}
 use Rattle.chains.specs.declared.Found.the-variants.{At, Nothing}
 
@@ -19,3 +23,7 @@ foundOf (suc i) = At i
 abbrev pub Within : Found → ℕ → Type 0
 Within (At i) n = i < n
 Within Nothing n = Unit {0}
+
+-- no token stands at a port of a tag: one that arrives there is no second
+abbrev pub Free : List Token → Tag → (port : ℕ) → Type 0
+Free ts tag port = firstFrom (standsAt tag port) 0 ts ≡ Nothing

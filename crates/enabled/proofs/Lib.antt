@@ -3,4 +3,5 @@ pub mod Places
 pub mod Right
 pub mod Bytes
 pub mod Store
+pub mod Arriving
 pub mod Spending

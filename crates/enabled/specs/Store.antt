@@ -50,3 +50,7 @@ liveFound at Nothing = false
 -- of n operands all are live, where a and b say it of ports 0 and 1
 abbrev pub readyOf : (n : ℕ) → (a b : Bool) → Bool
 readyOf n a b = cond (eqb n 1) a (cond (eqb n 2) (a && b) false)
+
+-- the same, where a says it of a port below 2 and b of the other
+abbrev pub readyWith : (n port : ℕ) → (a b : Bool) → Bool
+readyWith n port a b = cond (eqb port 0) (readyOf n a b) (readyOf n b a)

@@ -14,9 +14,9 @@ ghost use Rattle.table.specs.Table.{putRow};
 ghost use Rattle.record.specs.TokensAndTags.{encode, tokens, tokenAt};
 ghost use Rattle.flags.specs.Flags.{Counted};
 ghost use Rattle.flags.specs.Marks.{bit};
-ghost use Rattle.chains.specs.Search.{Within};
+ghost use Rattle.chains.specs.Search.{Within, Free};
 ghost use Rattle.enabled.specs.Enabled.{liveAt, allLive, spentToken, placeOf};
-ghost use Rattle.enabled.specs.Store.{Known, Stored, placeOr, lower, liveFound, readyOf};
+ghost use Rattle.enabled.specs.Store.{Known, Stored, placeOr, lower, liveFound, readyOf, readyWith};
 
 fn place_or(f: Found, other: usize) -> usize
     ensures { λ r. ⌜ r ≡ placeOr f other ⌝ }
@@ -53,6 +53,18 @@ fn ready(ledger: &[u8], f: Found, g: Found, operands: u8) -> bool
         return false;
     }
     false
+}
+
+// The same, where `own` stands on a port and `other` on the other one.
+fn ready_with(ledger: &[u8], port: u8, own: Found, other: Found, operands: u8) -> bool
+    requires { ⌜ Within own (length (now ledger) / 20) × Within other (length (now ledger) / 20) ⌝ }
+    ensures { λ r. ⌜ r ≡ readyWith operands port (liveFound (tokenAt (now (ledger .entry))) own) (liveFound (tokenAt (now (ledger .entry))) other) ⌝ }
+{
+    if port == 0 {
+        ready(ledger, own, other, operands)
+    } else {
+        ready(ledger, other, own, operands)
+    }
 }
 
 // The place of the earliest token of a tag, where f and g stand on its ports.
@@ -117,7 +129,8 @@ pub fn arity(arities: &[u8], instruction: u16) -> u8
     if i < arities.len() { arities[i] } else { 0 }
 }
 
-// Adds t after the used records.
+// Adds t after the used records. Its key is free, so its own record is what a search of its port would find; and a flag
+// that was raised stays, so there is one to put only where t's activity is ready.
 pub fn append(
     arities: &[u8],
     heads: &mut [u16; 4096],
@@ -128,7 +141,7 @@ pub fn append(
     used: usize,
     t: Token,
 )
-    requires { ⌜ Stored (now arities) (now heads) (now next) (now flags) (now counts) (now ledger) used × (used < length (now ledger) / 20) × (used < 2048) × (t .port < 2) ⌝ }
+    requires { ⌜ Stored (now arities) (now heads) (now next) (now flags) (now counts) (now ledger) used × (used < length (now ledger) / 20) × (used < 2048) × (t .port < 2) × Free (tokens used (now ledger)) (t .tag) (t .port) ⌝ }
     ensures { λ _. ⌜ now (ledger .exit) ≡ putRow 20 (now (ledger .entry)) used (encode t) ⌝ }
     ensures { λ _. ⌜ tokens (used + 1) (now (ledger .exit)) ≡ tokens used (now (ledger .entry)) ++ t ∷ [] ⌝ }
     ensures { λ _. ⌜ Stored (now (arities .entry)) (now (heads .exit)) (now (next .exit)) (now (flags .exit)) (now (counts .exit)) (now (ledger .exit)) (used + 1) ⌝ }
@@ -136,8 +149,11 @@ pub fn append(
     let tag = t.tag;
     token::put_token(ledger, used, t);
     chains::insert(heads, next, used, t);
+    let other = chains::find(heads, next, ledger, used + 1, tag, 1 - t.port);
     let operands = arity(arities, tag.instruction);
-    settle(flags, counts, heads, next, ledger, used + 1, tag, operands);
+    if ready_with(ledger, t.port, Found::At(used), other, operands) {
+        flags::raise(flags, counts, place_or(other, used));
+    }
 }
 
 // Puts t, of the same tag and port, in the place of token i.

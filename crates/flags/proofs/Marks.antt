@@ -7,11 +7,11 @@ use native.Mathlib.Omega.{arith}
 use native.Mathlib.Nat.{not-suc-le-zero, le-of-suc-le-suc}
 use lib.ListN.{length, getD, set, replicate, length-append, List·getD-append}
 use lib.Dec.{eqb}
-use lib.Seq.{set-append-left}
+use lib.Seq.{set-append-left, getD-append-add}
 use borrow.Author.Tests.{eq-eqb, ne-eqb}
 use Rattle.flags.specs.Flags.{placesFrom, places}
 use Rattle.flags.specs.Marks.{bit, placesWhere, firstOf, leads, without, marks, Marked}
-use Rattle.flags.proofs.Laws.{places-zeros}
+use Rattle.flags.proofs.Laws.{places-zeros, zero-at}
 
 -- tests that agree from a place on
 where-same : {A : Type 0} (p q : ℕ → A → Bool) (i : ℕ) (l : List A) → ((j : ℕ) (x : A) → i ≤ j → p j x ≡ q j x) → placesWhere p i l ≡ placesWhere q i l
@@ -88,6 +88,15 @@ module _ {A : Type 0} (same : A → A → Bool) where
   pub marked-none : (f : A → Bool) → Marked same f [] (replicate 2048 0)
   unfolding Marked
   marked-none f = refl
+
+  -- past the tokens no flag is raised
+  pub marked-past : (f : A → Bool) (l : List A) (flags : List ℕ) (i : ℕ) → length l ≤ i → Marked same f l flags → getD flags i 0 ≡ 0
+  unfolding Marked
+  marked-past f l flags i h w =
+      let m = marks same f l in
+      let n = i - length l in
+      let k : i ≡ length m + n = omega (arith, length-marks f l) in
+      rw (w, k) (getD-append-add m (replicate (2048 - length l) 0) n 0 ∙ zero-at (2048 - length l) n)
 
   pub marked-same : (f g : A → Bool) → ((y : A) → g y ≡ f y) → (l : List A) (flags : List ℕ) → Marked same f l flags → Marked same g l flags
   unfolding Marked

@@ -13,7 +13,7 @@ ghost use lib.ListN.{length, getD, set, drop};
 ghost use Rattle.table.specs.Table.{putRow, joined};
 ghost use Rattle.record.specs.TokensAndTags.{encode, tokens, tokenAt, standsAt};
 ghost use Rattle.flags.specs.Flags.{places, Counted};
-ghost use Rattle.chains.specs.Search.{firstFrom, Within};
+ghost use Rattle.chains.specs.Search.{firstFrom, Within, Free};
 ghost use Rattle.chains.specs.Deferred as Deferred;
 ghost use Rattle.enabled.specs.Store.{Known, Stored};
 ghost use Rattle.matching.specs.Matching.{spentToken, Matching};
@@ -49,7 +49,7 @@ pub fn enabled_at(flags: &[u8; 2048], counts: &[u8; 32], k: usize) -> usize
     flags::select(flags, counts, k)
 }
 
-// A token arrives: it becomes record `used`.
+// A token arrives where none stands: it becomes record `used`.
 pub fn arrive(
     arities: &[u8],
     heads: &mut [u16; 4096],
@@ -62,7 +62,7 @@ pub fn arrive(
     used: usize,
     t: Token,
 )
-    requires { ⌜ Matching (now arities) (now heads) (now next) (now flags) (now counts) (now waiting) (now later) (now ledger) used × (used < length (now ledger) / 20) × (used < 2048) × (t .port < 2) × Deferred.LowCell (t .content) ⌝ }
+    requires { ⌜ Matching (now arities) (now heads) (now next) (now flags) (now counts) (now waiting) (now later) (now ledger) used × (used < length (now ledger) / 20) × (used < 2048) × (t .port < 2) × Deferred.LowCell (t .content) × Free (tokens used (now ledger)) (t .tag) (t .port) ⌝ }
     ensures { λ _. ⌜ now (ledger .exit) ≡ putRow 20 (now (ledger .entry)) used (encode t) ⌝ }
     ensures { λ _. ⌜ tokens (used + 1) (now (ledger .exit)) ≡ tokens used (now (ledger .entry)) ++ t ∷ [] ⌝ }
     ensures { λ _. ⌜ Matching (now (arities .entry)) (now (heads .exit)) (now (next .exit)) (now (flags .exit)) (now (counts .exit)) (now (waiting .exit)) (now (later .exit)) (now (ledger .exit)) (used + 1) ⌝ }

@@ -1,13 +1,20 @@
--- `enabled::append` meets its contract. Assumes nothing.
+-- `enabled::append` meets its contract: of the arriving token's own port nothing has to be found, and where its activity is not ready the flags stay.
+-- Assumes nothing.
 use Prim.Native.Nat.{_+_}
-use mathlib.Core.Path.{_≡_, _∙_}
+use mathlib.Core.Path.{_≡_, sym, _∙_}
+use mathlib.Core.Bool.{false}
 use mathlib.Core.List.{[], _∷_, _++_}
 use native.Mathlib.Omega.{arith}
 use borrow.Author.Needs.{needs}
 use lib.ListN.{length}
 use Rattle.record.specs.TokensAndTags.{tokens, decode}
 use Rattle.table.proofs.Tables.{length-rows}
+use Rattle.chains.proofs.Search.{within-more}
+use Rattle.enabled.specs.Enabled.{isEnabled, placeOf}
+use Rattle.enabled.specs.Store.{placeOr}
+use Rattle.enabled.proofs.Right.{right-wait}
 use Rattle.enabled.proofs.Store.{Moved, added}
+use Rattle.enabled.proofs.Arriving.{arriving-place, arriving-ready}
 use Rattle.enabled.proofs.append.Statement.{statement}
 use Rattle.enabled.proofs.append.Tie as tie
 
@@ -24,16 +31,58 @@ entered c =
     (p .ensures .1) (p .last .0) (p .ensures .0) k (c .insert .last .0) (c .insert .last .1 .0)
     (c .insert .ensures (tokens (a .used) l) (length-rows 20 decode (a .used) l) (s .pre .0 .known .index))
 
+-- the place of its tag
+here : (c : tie.After-find) → let a = c .before .before .before .before .before .before .before .before .before .before .before .before .before .before .before .args in
+    placeOf (tokens (a .used + 1) (c .before .before .before .before .before .before .before .before .before .before .put-token .last .0)) (a .t .tag) ≡ placeOr (c .find .result) (a .used)
+here c =
+    let s = c .before .before .before .before .before .before .before .before .before .before .before .before .before .before .before in
+    let a = s .args in
+    let e = entered (c .before .before .before .before .before) in
+    arriving-place (tokens (a .used) (a .ledger .now)) (a .t) (a .used) (c .before .before .before .before .before .before .before .before .before .before .put-token .last .0) (e .more) (length-rows 20 decode (a .used) (a .ledger .now)) (s .pre .4) (s .pre .3)
+    (c .find .result) (c .find .ensures .0) (e .known .ports) (c .find .ensures .1)
+
+-- whether its activity is enabled
+whole : (c : tie.After-ready-with) → let a = c .before .before .before .before .before .before .before .before .before .before .before .before .before .before .before .before .before .before .args in
+    c .ready-with .result ≡ isEnabled (a .arities .now) (tokens (a .used + 1) (c .before .before .before .before .before .before .before .before .before .before .before .before .before .put-token .last .0)) (a .t .tag)
+whole c =
+    let s = c .before .before .before .before .before .before .before .before .before .before .before .before .before .before .before .before .before .before in
+    let a = s .args in
+    let f = c .before .before .before .find in
+    let e = entered (c .before .before .before .before .before .before .before .before) in
+    c .ready-with .ensures
+    ∙ arriving-ready (tokens (a .used) (a .ledger .now)) (a .t) (a .used) (c .before .before .before .before .before .before .before .before .before .before .before .before .before .put-token .last .0) (e .more) (length-rows 20 decode (a .used) (a .ledger .now)) (s .pre .4) (s .pre .3)
+    (f .result) (f .ensures .0) (c .before .before .arity .result)
+    ∙ rw (c .before .before .arity .ensures)
+
 pub append-spec : {M : Type 1} → statement M
 append-spec = tie.close (tie.spec
     (λ c κs. search needs)
     (λ c κs. search needs)
-    (λ c κs. search needs)
     (λ c. search needs)
+    (λ c. search needs)
+    (λ c κs. let e = entered (c .before .before .before .before) in (e .known .room, e .known .index))
+    (λ c κs. search needs)
     (λ c κs.
-    let e = entered (c .before .before .before .before .before .before) in
-    (c .before .before .before .before .before .before .before .before .before .before .before .before .before .before .before .before .pre .0 .counted, e .known, e .place))
+    let e = entered (c .before .before .before .before .before .before .before) in
+    let f = c .before .before .find in
+    (omega (arith, e .known .room), within-more (f .result) _ _ (e .known .room) (f .ensures .1)))
+    (λ c κs. search needs)
+    (λ c κs.
+    let s = c .before .before .before .before .before .before .before .before .before .before .before .before .before .before .before .before .before .before .before .before .before .before in
+    let e = entered (c .before .before .before .before .before .before .before .before .before .before .before .before) in
+    (omega (arith, e .place, here (c .before .before .before .before .before .before .before), s .pre .2), s .pre .0 .counted))
     (λ c. search needs)
     (λ c.
-    let e = entered (c .before .before .before .before .before .before .before) in
-    (c .before .before .before .before .before .before .before .before .before .before .before .before .put-token .ensures .0, (e .more, e .stored (c .settle .last .0) (c .settle .last .1 .0) (c .settle .ensures .0 ∙ rw (c .before .before .before .before .before .before .arity .ensures)) (c .settle .ensures .1)))))
+    let e = entered (c .before .before .before .before .before .before .before .before .before .before .before .before .before) in
+    let on = sym (whole (c .before .before .before .before .before)) ∙ c .before .before .before .before .if1 .taken in
+    let flags = c .raise .ensures .0 ∙ rw (c .before .place-or .ensures, here (c .before .before .before .before .before .before .before .before), on) in
+    (c .before .before .before .before .before .before .before .before .before .before .before .before .before .before .before .before .before .before .put-token .ensures .0, (e .more, e .stored (c .raise .last .0) (c .raise .last .1 .0) flags (c .raise .ensures .1))))
+    (λ c. search needs)
+    (λ c.
+    let s = c .before .before .before .before .before .before .before .before .before .before .before .before .before .before .before .before .before .before .before in
+    let a = s .args in
+    let e = entered (c .before .before .before .before .before .before .before .before .before) in
+    let ts = tokens (a .used) (a .ledger .now) in
+    let off : isEnabled (a .arities .now) (ts ++ a .t ∷ []) (a .t .tag) ≡ false = rw (e .more) at (sym (whole (c .before)) ∙ c .if1 .left) in
+    let wait = right-wait (a .arities .now) ts (a .t) (a .flags .now) (s .pre .0 .right) off in
+    (c .before .before .before .before .before .before .before .before .before .before .before .before .before .before .put-token .ensures .0, (e .more, e .stored (a .flags .now) (a .counts .now) (rw (e .more) wait) (s .pre .0 .counted)))))

@@ -7,7 +7,7 @@ use Rattle.matching.proofs.arrive.Tie as tie
 
 pub arrive-spec : {M : Type 1} → statement M
 arrive-spec = tie.close (tie.spec
-    (λ c κs. let p = c .before .before .before .before .before .before .before .pre in (matching-stored (p .0), p .1, p .2, p .3))
+    (λ c κs. let p = c .before .before .before .before .before .before .before .pre in (matching-stored (p .0), p .1, p .2, p .3, p .5))
     (λ c κs. search needs)
     (λ c. search needs)
     (λ c.
