@@ -1,7 +1,7 @@
 -- Laws of what a firing leaves in a ledger and in the cells: one step of it, and two steps in turn. Assumes nothing.
 use Prim.Native.Nat.{ℕ, zero, suc, _+_, _-_, _*_, _/_, _≤_, _<_}
 use mathlib.Core.Path.{_≡_, refl, sym, ap, _∙_}
-use mathlib.Core.Bool.{false}
+use mathlib.Core.Bool.{Bool, true, false, cond}
 use mathlib.Core.Logic.{_⊎_, inl, inr}
 use mathlib.Core.List.{List, [], _∷_, _++_, map, append-assoc, append-nil}
 use native.Mathlib.Omega.{arith}
@@ -9,11 +9,13 @@ use native.Mathlib.Nat.{add-zero}
 use lib.IntN.{ℤ}
 use lib.ListN.{length, getD, set, take, drop, length-append, length-drop, length-map}
 use lib.Seq.{length-take-le, drop-drop, drop-at, set-getD}
+use lib.Dec.{eqb}
 use borrow.Author.Tests.{eq-eqb, ne-eqb}
 use denote.Enum.Declared.{tagOf}
 use Rattle.table.specs.Table.{putRow, joined, All}
-use Rattle.record.specs.TokensAndTags.{tokens, tokenAt, decode, encode}
+use Rattle.record.specs.TokensAndTags.{tokens, tokenAt, decode, encode, standsAt}
 use Rattle.record.specs.Cells as Cells
+use Rattle.record.specs.declared.tag.Tag.{Tag}
 use Rattle.record.specs.declared.token.Token.{Token}
 use Rattle.record.specs.declared.token.Content.{Content}
 use Rattle.record.specs.declared.token.Content.the-variants.{Deferred}
@@ -23,14 +25,17 @@ use Rattle.record.proofs.cell.Cell.{the-type}
 use Rattle.effect.proofs.operate.Action as Actions
 use Rattle.table.proofs.Tables.{length-joined, put-joined, length-rows, getD-rows}
 use Rattle.record.proofs.Records.{length-token, length-cell, cells-put}
+use Rattle.chains.specs.declared.Found.the-variants.{At, Nothing}
+use Rattle.chains.specs.Search.{firstFrom, Free}
 use Rattle.chains.specs.Deferred.{LowCell, woken}
 use Rattle.matching.specs.Matching.{spentToken, Matching}
 use Rattle.matching.proofs.Laws.{matching-room}
 use Rattle.effect.specs.declared.output.Key.{Key}
+use Rattle.effect.specs.declared.output.Outputs.{Outputs}
 use Rattle.effect.specs.declared.operate.Action.{Action}
 use Rattle.effect.specs.declared.operate.Action.the-variants.{Send, Read, Write}
 use Rattle.held.specs.Held.{noToken}
-use Rattle.outputs.specs.Outputs.{spendOne, spentAt, tokenOut, outputsBy, LowPortsBy, cellsIn, CellStore, cellFetched, cellsFetched, contentFetched, isPresent, OnCells, contentBy, wokenBy, writesAgain, Kept, CellsKept}
+use Rattle.outputs.specs.Outputs.{spendOne, spentAt, tokenOut, outputsBy, LowPortsBy, FreeKeysBy, FreeKeys, cellsIn, CellStore, cellFetched, cellsFetched, contentFetched, isPresent, OnCells, contentBy, wokenBy, writesAgain, Kept, CellsKept}
 
 -- ---- one record of a table is replaced
 
@@ -174,6 +179,60 @@ module _ (i j : ℕ) (ts : List Token) {arities heads next flags counts waiting 
       → Kept arities heads next flags′ counts′ waiting later l′ used (spentAt i j ts) start
   kept-spent-two k k′ e = kept-as (kept-again k (spendOne j) used (omega arith) k′) (sym (spent-two i j ts e))
 
+-- ---- what is free stays free
+
+module _ (p : Token → Bool) where
+  -- where every token keeps its key
+  search-map : (f : Token → Token) → ((t : Token) → p (f t) ≡ p t) → (ts : List Token) (n : ℕ) → firstFrom p n (map f ts) ≡ firstFrom p n ts
+  search-map f h [] n = refl
+  search-map f h (t ∷ ts) n = rw (h t, search-map f h ts (suc n))
+
+  search-set : (ts : List Token) (i : ℕ) (u : Token) → p u ≡ p (getD ts i noToken) → (n : ℕ) → firstFrom p n (set ts i u) ≡ firstFrom p n ts
+  search-set [] i u h n = refl
+  search-set (t ∷ ts) zero u h n = rw h
+  search-set (t ∷ ts) (suc i) u h n = rw (search-set ts i u h (suc n))
+
+  -- where one arrives elsewhere
+  free-append : (ts : List Token) (u : Token) (n : ℕ) → firstFrom p n ts ≡ Nothing → p u ≡ false → firstFrom p n (ts ++ u ∷ []) ≡ Nothing
+  free-append [] u n e h = rw h
+  free-append (t ∷ ts) u n e h = go (p t) e (λ e. free-append ts u (suc n) e h)
+    where
+      go : (b : Bool) → cond b (At n) (firstFrom p (suc n) ts) ≡ Nothing → (firstFrom p (suc n) ts ≡ Nothing → firstFrom p (suc n) (ts ++ u ∷ []) ≡ Nothing)
+          → cond b (At n) (firstFrom p (suc n) (ts ++ u ∷ [])) ≡ Nothing
+      go true e later = e
+      go false e later = later e
+
+module _ (tag : Tag) (port : ℕ) where
+  search-spent : (i : ℕ) (ts : List Token) → firstFrom (standsAt tag port) 0 (spendOne i ts) ≡ firstFrom (standsAt tag port) 0 ts
+  unfolding spendOne standsAt
+  search-spent i ts = search-set (standsAt tag port) ts i (spentToken (getD ts i noToken)) refl 0
+
+  search-spent-at : (i j : ℕ) (ts : List Token) → firstFrom (standsAt tag port) 0 (spentAt i j ts) ≡ firstFrom (standsAt tag port) 0 ts
+  unfolding spentAt
+  search-spent-at i j ts = go (eqb i j)
+    where
+      go : (b : Bool) → firstFrom (standsAt tag port) 0 (cond b (spendOne i ts) (spendOne j (spendOne i ts))) ≡ firstFrom (standsAt tag port) 0 ts
+      go true = search-spent i ts
+      go false = search-spent j (spendOne i ts) ∙ search-spent i ts
+
+  search-woken : (a : Action) (ts : List Token) → firstFrom (standsAt tag port) 0 (wokenBy a ts) ≡ firstFrom (standsAt tag port) 0 ts
+  unfolding standsAt
+  search-woken (Send v) ts = refl
+  search-woken (Read c) ts = refl
+  search-woken (Write c v) ts = search-map (standsAt tag port) (woken c v) (λ t. refl) ts 0
+
+  free-carried : (a : Action) (i j : ℕ) (ts : List Token) → Free ts tag port → Free (wokenBy a (spentAt i j ts)) tag port
+  free-carried a i j ts f = search-woken a (spentAt i j ts) ∙ search-spent-at i j ts ∙ f
+
+-- the keys of the outputs are free when the operands are spent and tokens woken, too
+pub keys-carried : (a : Action) (i j : ℕ) (ts : List Token) (o : Outputs) → FreeKeys ts o → FreeKeys (wokenBy a (spentAt i j ts)) o
+keys-carried a i j ts o = go (o .count)
+  where
+    go : (n : ℕ) → FreeKeysBy ts n (o .first) (o .second) → FreeKeysBy (wokenBy a (spentAt i j ts)) n (o .first) (o .second)
+    go zero f = tt
+    go (suc zero) f = free-carried (o .first .tag) (o .first .port) a i j ts f
+    go (suc (suc n)) f = (free-carried (o .first .tag) (o .first .port) a i j ts (f .0), free-carried (o .second .tag) (o .second .port) a i j ts (f .1), f .2)
+
 -- ---- outputs
 
 module _ (j k : Key) (n : ℕ) (some-out : n ≡ 0 → ⊥) (low : LowPortsBy n j k) where
@@ -192,6 +251,24 @@ module _ (j k : Key) (n : ℕ) (some-out : n ≡ 0 → ⊥) (low : LowPortsBy n 
       go zero z o w = absurd (z refl)
       go (suc zero) z o w = absurd (o refl)
       go (suc (suc n)) z o w = w .1
+
+module _ (ts : List Token) (j k : Key) (n : ℕ) (some-out : n ≡ 0 → ⊥) (free : FreeKeysBy ts n j k) where
+  pub free-first : Free ts (j .tag) (j .port)
+  free-first = go n some-out free
+    where
+      go : (n : ℕ) → (n ≡ 0 → ⊥) → FreeKeysBy ts n j k → Free ts (j .tag) (j .port)
+      go zero z f = absurd (z refl)
+      go (suc zero) z f = f
+      go (suc (suc n)) z f = f .0
+
+  -- once the first has arrived
+  pub free-second : (x : Content) → (n ≡ 1 → ⊥) → Free (ts ++ tokenOut x j ∷ []) (k .tag) (k .port)
+  free-second x more = go n some-out more free
+    where
+      go : (n : ℕ) → (n ≡ 0 → ⊥) → (n ≡ 1 → ⊥) → FreeKeysBy ts n j k → Free (ts ++ tokenOut x j ∷ []) (k .tag) (k .port)
+      go zero z o f = absurd (z refl)
+      go (suc zero) z o f = absurd (o refl)
+      go (suc (suc n)) z o f = free-append (standsAt (k .tag) (k .port)) ts (tokenOut x j) 0 (f .1) (f .2 x)
 
 module _ (j k : Key) (x : Content) (n used : ℕ) (ts : List Token) {arities heads next flags counts waiting later l start : List ℕ} where
   pub kept-none : Kept arities heads next flags counts waiting later l used ts start → n ≡ 0

@@ -12,8 +12,9 @@ use Rattle.record.specs.declared.token.Content.the-variants.{Live, Deferred}
 use Rattle.record.specs.declared.cell.Cell.{Cell}
 use Rattle.record.specs.declared.cell.Cell.the-variants.{Absent, Waiting, Present}
 use Rattle.table.specs.Table.{joined, All}
-use Rattle.record.specs.TokensAndTags.{tokens}
+use Rattle.record.specs.TokensAndTags.{tokens, standsAt}
 use Rattle.record.specs.Cells as Cells
+use Rattle.chains.specs.Search.{Free}
 use Rattle.chains.specs.Deferred.{woken}
 use Rattle.matching.specs.Matching.{spentToken, Matching}
 use Rattle.effect.specs.declared.operate.Action.{Action}
@@ -51,6 +52,15 @@ LowPortsBy (suc (suc n)) j k = (j .port < 2) × (k .port < 2)
 -- the outputs are at ports 0 and 1
 abbrev pub LowPorts : Outputs → Type 0
 LowPorts o = LowPortsBy (o .count) (o .first) (o .second)
+
+abbrev pub FreeKeysBy : List Token → (count : ℕ) → (first second : Key) → Type 0
+FreeKeysBy ts zero j k = Unit {0}
+FreeKeysBy ts (suc zero) j k = Free ts (j .tag) (j .port)
+FreeKeysBy ts (suc (suc n)) j k = Free ts (j .tag) (j .port) × Free ts (k .tag) (k .port) × ((x : Content) → standsAt (k .tag) (k .port) (tokenOut x j) ≡ false)
+
+-- no token stands where the outputs go, and they go to different ports or tags
+abbrev pub FreeKeys : List Token → Outputs → Type 0
+FreeKeys ts o = FreeKeysBy ts (o .count) (o .first) (o .second)
 
 -- ---- the cells
 

@@ -13,9 +13,10 @@ ghost use Prim.Native.Nat.{ℕ, _+_, _/_, _≤_, _<_};
 ghost use lib.ListN.{length, getD};
 ghost use Rattle.record.specs.TokensAndTags.{tokens};
 ghost use Rattle.record.specs.declared.cell.Cell.the-variants.{Absent};
+ghost use Rattle.chains.specs.Search.{Free};
 ghost use Rattle.chains.specs.Deferred.{LowCell};
 ghost use Rattle.matching.specs.Matching.{Matching};
-ghost use Rattle.outputs.specs.Outputs.{Matched, Kept, CellStore, CellsKept, spentAt, tokenOut, outputsOf, LowPorts, cellsIn, cellsFetched, contentFetched, OnCells, contentBy, cellsBy, wokenBy, writesAgain, Lent};
+ghost use Rattle.outputs.specs.Outputs.{Matched, Kept, CellStore, CellsKept, spentAt, tokenOut, outputsOf, LowPorts, FreeKeys, cellsIn, cellsFetched, contentFetched, OnCells, contentBy, cellsBy, wokenBy, writesAgain, Lent};
 
 // The operands are spent; where one was waited for, both places are its place.
 fn spend_operands(
@@ -54,7 +55,7 @@ fn append_one(
     key: Key,
     content: Content,
 )
-    requires { ⌜ Matching (now arities) (now heads) (now next) (now flags) (now counts) (now waiting) (now later) (now ledger) used × (used < length (now ledger) / 20) × (used < 2048) × (key .port < 2) × LowCell content ⌝ }
+    requires { ⌜ Matching (now arities) (now heads) (now next) (now flags) (now counts) (now waiting) (now later) (now ledger) used × (used < length (now ledger) / 20) × (used < 2048) × (key .port < 2) × LowCell content × Free (tokens used (now ledger)) (key .tag) (key .port) ⌝ }
     ensures { λ _. ⌜ Kept (now (arities .entry)) (now (heads .exit)) (now (next .exit)) (now (flags .exit)) (now (counts .exit)) (now (waiting .exit)) (now (later .exit)) (now (ledger .exit)) (used + 1)
         (tokens used (now (ledger .entry)) ++ tokenOut content key ∷ []) (now (ledger .entry)) ⌝ }
 {
@@ -91,7 +92,7 @@ fn append_outputs(
     outputs: Outputs,
     content: Content,
 ) -> usize
-    requires { ⌜ Matching (now arities) (now heads) (now next) (now flags) (now counts) (now waiting) (now later) (now ledger) used × (used + outputs .count ≤ length (now ledger) / 20) × (length (now ledger) / 20 ≤ 2048) × (outputs .count ≤ 2) × LowPorts outputs × LowCell content ⌝ }
+    requires { ⌜ Matching (now arities) (now heads) (now next) (now flags) (now counts) (now waiting) (now later) (now ledger) used × (used + outputs .count ≤ length (now ledger) / 20) × (length (now ledger) / 20 ≤ 2048) × (outputs .count ≤ 2) × LowPorts outputs × LowCell content × FreeKeys (tokens used (now ledger)) outputs ⌝ }
     ensures { λ r. ⌜ (r ≡ used + outputs .count) × Kept (now (arities .entry)) (now (heads .exit)) (now (next .exit)) (now (flags .exit)) (now (counts .exit)) (now (waiting .exit)) (now (later .exit)) (now (ledger .exit)) (used + outputs .count)
         (tokens used (now (ledger .entry)) ++ outputsOf content outputs) (now (ledger .entry)) ⌝ }
 {
@@ -215,7 +216,7 @@ pub fn carry_out(
     action: Action,
     outputs: Outputs,
 ) -> usize
-    requires { ⌜ Lent (now arities) (now heads) (now next) (now flags) (now counts) (now waiting) (now later) (now ledger) (now cells) used first second × (used + outputs .count ≤ length (now ledger) / 20) × (outputs .count ≤ 2) × LowPorts outputs × OnCells (length (now cells) / 8) action ⌝ }
+    requires { ⌜ Lent (now arities) (now heads) (now next) (now flags) (now counts) (now waiting) (now later) (now ledger) (now cells) used first second × (used + outputs .count ≤ length (now ledger) / 20) × (outputs .count ≤ 2) × LowPorts outputs × OnCells (length (now cells) / 8) action × FreeKeys (tokens used (now ledger)) outputs ⌝ }
     ensures { λ r. ⌜ (r ≡ used + outputs .count) × Kept (now (arities .entry)) (now (heads .exit)) (now (next .exit)) (now (flags .exit)) (now (counts .exit)) (now (waiting .exit)) (now (later .exit)) (now (ledger .exit)) (used + outputs .count)
         (wokenBy action (spentAt first second (tokens used (now (ledger .entry)))) ++ outputsOf (contentBy action (cellsIn (now (cells .entry)))) outputs) (now (ledger .entry))
         × CellsKept (now (cells .exit)) (cellsBy action (cellsIn (now (cells .entry)))) (now (cells .entry)) ⌝ }

@@ -5,7 +5,7 @@ use native.Mathlib.Nat.{add-zero}
 use Prim.Native.Nat.{_+_}
 use borrow.Author.Needs.{needs}
 use Rattle.record.specs.TokensAndTags.{tokens}
-use Rattle.outputs.proofs.Laws.{kept-same, kept-room, low-first, low-second, kept-none, kept-first, kept-second}
+use Rattle.outputs.proofs.Laws.{kept-same, kept-room, low-first, low-second, free-first, free-second, kept-none, kept-first, kept-second}
 use Rattle.outputs.proofs.append_outputs.Statement.{statement}
 use Rattle.outputs.proofs.append_outputs.Tie as tie
 
@@ -20,7 +20,7 @@ append-outputs-spec = tie.close (tie.spec
     let o = s .args .outputs in
     let z = c .before .before .before .before .before .before .before .if1 .left in
     let p = s .pre in
-    (p .0, omega (arith, p .1, z), omega (arith, p .1, p .2, z), low-first (o .first) (o .second) (o .count) z (p .4), p .5))
+    (p .0, omega (arith, p .1, z), omega (arith, p .1, p .2, z), low-first (o .first) (o .second) (o .count) z (p .4), p .5, free-first (tokens (s .args .used) (s .args .ledger .now)) (o .first) (o .second) (o .count) z (p .6)))
     (λ c. search needs)
     (λ c. search needs)
     (λ c.
@@ -35,7 +35,7 @@ append-outputs-spec = tie.close (tie.spec
     let y = c .before .before .before .before .before .before .before .if2 .left in
     let p = s .pre in
     let k = c .before .before .before .before .before .before .before .before .before .before .before .append-one .ensures in
-    (k .matching, kept-room k (omega (arith, p .1, z, y)), omega (arith, p .1, p .2, z, y), low-second (o .first) (o .second) (o .count) z (p .4) y, p .5))
+    (k .matching, kept-room k (omega (arith, p .1, z, y)), omega (arith, p .1, p .2, z, y), low-second (o .first) (o .second) (o .count) z (p .4) y, p .5, rw (k .held) (free-second (tokens (s .args .used) (s .args .ledger .now)) (o .first) (o .second) (o .count) z (p .6) (s .args .content) y)))
     (λ c. let p = c .before .before .before .before .before .before .before .before .before .before .before .before .before .before .before .before .before .before .before .before .before .before .before .before .before .before .before .before .pre in omega (arith, p .1, p .2, c .before .before .before .before .before .before .before .before .before .before .before .before .before .before .before .before .before .before .before .before .before .before .if1 .left, c .before .before .before .before .before .before .before .before .before .before .if2 .left))
     (λ c. search needs)
     (λ c.

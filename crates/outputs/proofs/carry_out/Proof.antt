@@ -5,7 +5,7 @@ use native.Mathlib.Nat.{le-add-right, le-refl}
 use Prim.Native.Nat.{_+_}
 use borrow.Author.Needs.{needs}
 use Rattle.record.specs.TokensAndTags.{tokens}
-use Rattle.outputs.proofs.Laws.{kept-again, kept-as, kept-room, kept-most, on-more, low-content}
+use Rattle.outputs.proofs.Laws.{kept-again, kept-as, kept-room, kept-most, on-more, low-content, keys-carried}
 use Rattle.outputs.specs.Outputs.{spentAt, outputsOf, wokenBy, cellsIn}
 use Rattle.outputs.proofs.carry_out.Statement.{statement}
 use Rattle.outputs.proofs.carry_out.Tie as tie
@@ -29,7 +29,7 @@ carry-out-spec = tie.close (tie.spec
     let k = c .before .before .before .before .before .before .before .before .before .before .before .before .before .before .before .before .before .before .before .before .before .before .before .spend-operands .ensures (a .waiting .now) (a .later .now) (p .0 .matching) in
     let w = c .before .before .before .before .before .before .before .before .before .wake .ensures in
     let low = low-content (a .action) (cellsIn (a .cells .now)) (on-more (a .action) (p .0 .store .few) (p .4)) in
-    (w .matching, kept-room w (kept-room k (p .1)), kept-most w (kept-most k (p .0 .few)), p .2, p .3, rw (c .before .before .before .before .before .before .before .before .before .before .before .before .before .before .before .before .before .before .before .change-cells .ensures .0) low))
+    (w .matching, kept-room w (kept-room k (p .1)), kept-most w (kept-most k (p .0 .few)), p .2, p .3, rw (c .before .before .before .before .before .before .before .before .before .before .before .before .before .before .before .before .before .before .before .change-cells .ensures .0) low, rw (w .held, k .held) (keys-carried (a .action) (a .first) (a .second) (tokens (a .used) (a .ledger .now)) (a .outputs) (p .5))))
     (λ c. search needs)
     (λ c. search needs)
     (λ c.
