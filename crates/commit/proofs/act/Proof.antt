@@ -9,7 +9,7 @@ use Rattle.matching.proofs.Laws.{matching-known, matching-few}
 use Rattle.operands.specs.declared.Admitted.{Admitted}
 use Rattle.operands.specs.Operands.{admittedOf}
 use Rattle.outputs.specs.Outputs.{cellsIn, writesAgain}
-use Rattle.commit.proofs.Laws.{admitted-room, second-write, act-refused, act-done, left-refused, left-done}
+use Rattle.commit.proofs.Laws.{admitted-room, admitted-free, second-write, act-refused, act-done, left-refused, left-done}
 use Rattle.commit.proofs.act.Statement.{statement}
 use Rattle.commit.proofs.act.Tie as tie
 
@@ -34,7 +34,8 @@ act-spec = tie.close (tie.spec
     let s = c .before .before .before .before .before .before .before .before .before .before .before .before .before .before .before .before .before .before .before .before in
     let a = s .args in
     let f = s .pre .1 in
-    (s .pre .0, admitted-room _ (a .used) (a .ledger .now) (a .sent) (gave (c .before .before .before .before .before .before .before .before .before .before) (c .before .before .before .before .before .before .before .before .enum-told .given .1)), f .0, f .1, f .2))
+    let yes = gave (c .before .before .before .before .before .before .before .before .before .before) (c .before .before .before .before .before .before .before .before .enum-told .given .1) in
+    (s .pre .0, admitted-room _ (a .used) (a .ledger .now) (a .sent) yes, f .0, f .1, f .2, admitted-free _ (tokens (a .used) (a .ledger .now)) (a .sent) yes))
     (λ c. search needs)
     (λ c. search needs)
     (λ c.
