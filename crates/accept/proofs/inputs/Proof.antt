@@ -3,10 +3,8 @@
 use Prim.Native.Nat.{_/_, _<_, _-_}
 use native.Mathlib.Omega.{arith}
 use lib.ListN.{length}
-use Rattle.record.specs.TokensAndTags.{tokens}
-use Rattle.chains.specs.Search.{Free}
 use Rattle.accept.specs.Accept.{Proper}
-use Rattle.accept.proofs.Taken.{Taken, proper, taken-none, taken-more, taken-all}
+use Rattle.accept.proofs.Taken.{Taken, proper, alone, taken-none, taken-more, taken-all}
 use Rattle.accept.proofs.inputs.Statement.{statement}
 use Rattle.accept.proofs.inputs.Tie as tie
 
@@ -34,7 +32,7 @@ inputs-spec = tie.close (tie.spec
     let t = c .before .before .before .before .before .before .before .token-at in
     let h : l .i < length (a .inputs .now) / 20 = omega (arith, c .before .before .before .before .before .before .before .before .loop-test .taken) in
     let p : Proper (t .result) = proper (a .inputs .now) (l .i) (t .result) (t .ensures) h (s .pre .3) in
-    let free : Free (tokens (l .i) (l .ledger)) (t .result .tag) (t .result .port) = rw (l .inv .taken, t .ensures) (s .pre .4 (l .i) h) in
+    let free = alone (a .inputs .now) (l .ledger) (l .i) (t .result) (t .ensures) h (l .inv .taken) (s .pre .4) in
     (l .inv .matching, omega (arith, s .pre .1, s .pre .2, l .inv .size), omega (arith, s .pre .1, s .pre .2), p .0, p .1, free))
     (λ c. omega (arith, c .before .before .before .before .before .before .before .before .before .before .before .loop-test .taken))
     (λ c. omega (arith, c .before .before .before .before .before .before .before .before .before .before .before .loop-test .taken))
