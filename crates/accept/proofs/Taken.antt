@@ -4,7 +4,7 @@ use mathlib.Core.Path.{_≡_, refl, sym, ap, _∙_}
 use mathlib.Core.List.{List, [], _∷_, _++_, append-assoc}
 use native.Mathlib.Omega.{arith}
 use native.Mathlib.Numerals.{add-one}
-use native.Mathlib.Nat.{suc-mul, add-comm}
+use native.Mathlib.Nat.{suc-mul, add-comm, not-suc-le-zero, le-of-suc-le-suc}
 use lib.ListN.{length, take, drop, length-append}
 use lib.Seq.{drop-at, drop-drop, length-take-le}
 use Rattle.table.specs.Table.{allRows, putRow, All}
@@ -13,8 +13,9 @@ use Rattle.record.specs.declared.token.Token.{Token}
 use Rattle.table.proofs.Tables.{length-rows, getD-rows}
 use Rattle.record.proofs.Records.{length-token}
 use Rattle.enabled.proofs.Store.{all-at}
+use Rattle.chains.specs.Search.{Free}
 use Rattle.matching.specs.Matching.{Matching}
-use Rattle.accept.specs.Accept.{Proper, Accepted}
+use Rattle.accept.specs.Accept.{Proper, Alone, Accepted}
 
 pub record Taken (arities heads next flags counts waiting later ledger ledger′ inputs : List ℕ) (i : ℕ) : Type 0 where
   pub few : i ≤ length inputs / 20
@@ -30,6 +31,12 @@ tokens-more (suc i) l =
     ap (λ (ts : List Token). decode l ∷ ts) (tokens-more i (drop 20 l))
     ∙ rw (drop-drop (i * 20) 20 l, suc-mul i 20, add-comm (i * 20) 20)
 
+-- the tokens of some records fewer
+tokens-first : (i n : ℕ) (l : List ℕ) → i ≤ n → take i (tokens n l) ≡ tokens i l
+tokens-first zero n l h = refl
+tokens-first (suc i) zero l h = absurd (not-suc-le-zero h)
+tokens-first (suc i) (suc n) l h = ap (λ (ts : List Token). decode l ∷ ts) (tokens-first i n (drop 20 l) (le-of-suc-le-suc h))
+
 -- a write of record i leaves the bytes past it
 put-rest : (l : List ℕ) (i : ℕ) (b : List ℕ) → length b ≡ 20 → i * 20 + 20 ≤ length l → drop (suc i * 20) (putRow 20 l i b) ≡ drop (suc i * 20) l
 unfolding putRow
@@ -44,6 +51,9 @@ pub proper : (inputs : List ℕ) (i : ℕ) (t : Token) → t ≡ tokenAt inputs 
 proper inputs i t e h w =
     let n = length inputs / 20 in
     rw e (rw (getD-rows 20 decode n i inputs t h) at (all-at Proper (tokens n inputs) i t (rw (length-rows 20 decode n inputs) h) w))
+
+pub alone : (inputs l : List ℕ) (i : ℕ) (t : Token) → t ≡ tokenAt inputs i → i < length inputs / 20 → tokens i l ≡ tokens i inputs → Alone inputs → Free (tokens i l) (t .tag) (t .port)
+alone inputs l i t e h same w = rw (same, e) (rw (tokens-first i (length inputs / 20) inputs (omega arith)) at (w i h))
 
 module _ (arities ledger inputs : List ℕ) where
   pub taken-none : (heads next flags counts waiting later : List ℕ) → Matching arities heads next flags counts waiting later ledger 0 → Taken arities heads next flags counts waiting later ledger ledger inputs 0

@@ -2,16 +2,21 @@
 use Prim.Native.Nat.{ℕ, _*_, _/_, _<_}
 use mathlib.Core.Path.{_≡_}
 use mathlib.Core.List.{List, [], _∷_}
-use lib.ListN.{length, drop}
+use lib.ListN.{length, take, drop}
 use Rattle.table.specs.Table.{allRows}
-use Rattle.record.specs.TokensAndTags.{tokens, decode}
+use Rattle.record.specs.TokensAndTags.{tokens, tokenAt, decode}
 use Rattle.record.specs.declared.token.Token.{Token}
+use Rattle.chains.specs.Search.{Free}
 use Rattle.chains.specs.Deferred.{LowCell}
 use Rattle.matching.specs.Matching.{Matching}
 
 -- what the matching store asks of a token that arrives
 abbrev pub Proper : Token → Type 0
 Proper t = (t .port < 2) × LowCell (t .content)
+
+-- none of the inputs before it stands where an input does, which refusal 9 is for
+abbrev pub Alone : (inputs : List ℕ) → Type 0
+Alone inputs = (i : ℕ) → i < length inputs / 20 → Free (take i (allRows 20 decode inputs)) (tokenAt inputs i .tag) (tokenAt inputs i .port)
 
 -- 01, "Firing": "An accepted run first .. writes its inputs to the ledger": `ledger` is as lent, `ledger′` has the r inputs
 pub record Accepted (arities heads next flags counts waiting later ledger ledger′ inputs : List ℕ) (r : ℕ) : Type 0 where

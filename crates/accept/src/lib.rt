@@ -8,7 +8,7 @@ ghost use Rattle.number.specs.Number.{number16};
 ghost use Rattle.table.specs.Table.{allRows, All};
 ghost use Rattle.record.specs.TokensAndTags.{decode};
 ghost use Rattle.matching.specs.Matching.{Matching};
-ghost use Rattle.accept.specs.Accept.{Proper, Accepted};
+ghost use Rattle.accept.specs.Accept.{Proper, Alone, Accepted};
 
 // 01, "Firing": an accepted run first sets all cells absent. The bytes of an absent cell are zeros.
 pub fn clear(cells: &mut [u8])
@@ -58,7 +58,7 @@ pub fn inputs(
     ledger: &mut [u8],
     inputs: &[u8],
 ) -> usize
-    requires { ⌜ Matching (now arities) (now heads) (now next) (now flags) (now counts) (now waiting) (now later) (now ledger) 0 × (length (now inputs) / 20 ≤ length (now ledger) / 20) × (length (now ledger) / 20 ≤ 2048) × All Proper (allRows 20 decode (now inputs)) ⌝ }
+    requires { ⌜ Matching (now arities) (now heads) (now next) (now flags) (now counts) (now waiting) (now later) (now ledger) 0 × (length (now inputs) / 20 ≤ length (now ledger) / 20) × (length (now ledger) / 20 ≤ 2048) × All Proper (allRows 20 decode (now inputs)) × Alone (now inputs) ⌝ }
     ensures { λ r. ⌜ Accepted (now (arities .entry)) (now (heads .exit)) (now (next .exit)) (now (flags .exit)) (now (counts .exit)) (now (waiting .exit)) (now (later .exit)) (now (ledger .entry)) (now (ledger .exit)) (now (inputs .entry)) r ⌝ }
 {
     let n = inputs.len() / 20;

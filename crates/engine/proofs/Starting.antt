@@ -8,7 +8,7 @@ use native.Mathlib.Omega.{arith}
 use native.Mathlib.Nat.{mul-div-cancel}
 use native.Mathlib.Decide.{decLe}
 use lib.Seq.{drop-drop}
-use lib.ListN.{length, getD, drop, replicate, length-replicate, length-map, drop-of-length-le}
+use lib.ListN.{length, getD, take, drop, replicate, length-replicate, length-map, drop-of-length-le}
 use lib.IntN.{ℤ}
 use Rattle.record.specs.declared.tag.Tag.{Tag}
 use Rattle.record.specs.declared.token.Token as Record
@@ -46,9 +46,10 @@ use Rattle.fields.proofs.Graphs.{arity-past}
 use Rattle.effect.specs.Held.{entryOf, Returns}
 use Rattle.effect.proofs.Arrives.{arrives-port}
 use Rattle.held.specs.Held.{cellHeld, stateHeld, Arities}
+use Rattle.held.proofs.Keys.{alone-free}
 use Rattle.outputs.specs.Outputs.{cellsIn, CellStore}
 use Rattle.outputs.proofs.Laws.{rest-on}
-use Rattle.accept.specs.Accept.{Proper, Accepted}
+use Rattle.accept.specs.Accept.{Proper, Alone, Accepted}
 use Rattle.accept.proofs.Laws.{zeros-joined, absent-fit, zeros-cells}
 use Rattle.fire.specs.Running.{machineFor, stateIn, Arrived, Running, Prepared}
 use Rattle.engine.specs.Turns.{Left, endOf}
@@ -115,6 +116,9 @@ module _ (graph inputs : List ℕ) (capacity count : ℕ) (accepted : checkInput
   pub inputs-proper : All Proper (allRows 20 Tokens.decode inputs)
   unfolding firstState
   inputs-proper = both-all (allRows 20 Tokens.decode inputs) inputs-arrive (low-cells (allRows 20 Tokens.decode inputs) (start (graphOf graph) capacity count inputs accepted .allLive))
+
+  pub inputs-alone : Alone inputs
+  inputs-alone i h = alone-free (take i (allRows 20 Tokens.decode inputs)) (Tokens.tokenAt inputs i) (inputs-good .alone i h)
 
   pub inputs-fit : length inputs / 20 ≤ capacity
   inputs-fit = omega (arith, inputs-good .fit, length-rows 20 Tokens.decode (length inputs / 20) inputs)

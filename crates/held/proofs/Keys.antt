@@ -2,7 +2,7 @@
 -- is the search of the records from the front. Assumes nothing.
 use Prim.Native.Nat.{ℕ, zero, suc, _<_}
 use mathlib.Core.Path.{_≡_, refl, sym, ap, subst, _∙_}
-use mathlib.Core.Bool.{Bool, true, false, cond}
+use mathlib.Core.Bool.{Bool, true, false, _||_, cond}
 use mathlib.Core.List.{List, [], _∷_, map}
 use mathlib.Core.Logic.{_↔_}
 use mathlib.Core.Option.{Option, none, some}
@@ -18,11 +18,12 @@ use Rattle.record.specs.declared.instruction.Instruction.{Instruction}
 use Rattle.record.specs.TokensAndTags.{sameTag, standsAt}
 use Rattle.machine.specs.Machine.{Key, Content, Machine, when, sameKey, find}
 use Rattle.machine.proofs.View.{when-yes, when-no, falseTrue, keyPath}
+use Rattle.rules.specs.Check.{any, secondInput}
 use Rattle.rules.specs.InstructionSet.{machineOf}
 use Rattle.rules.specs.Run.{contentHeld, tokenHeld}
 use Rattle.chains.specs.declared.Found.{Found}
 use Rattle.chains.specs.declared.Found.the-variants.{At, Nothing}
-use Rattle.chains.specs.Search.{firstFrom}
+use Rattle.chains.specs.Search.{firstFrom, Free}
 use Rattle.chains.proofs.Search.{shift, first-cons}
 use Rattle.chains.proofs.Index.{and-left, and-right}
 use Rattle.enabled.proofs.Right.{tag-equal, tag-own}
@@ -117,6 +118,19 @@ found-stands tag port i ts d e =
 pub none-stands : (tag : Tag) (port : ℕ) (ts : List Record.Token) (d : Record.Token) → firstFrom (standsAt tag port) 0 ts ≡ Nothing
     → (j : ℕ) → j < length ts → standsAt tag port (getD ts j d) ≡ false
 none-stands tag port ts d e = search-nothing (standsAt tag port) d ts e
+
+any-nothing : {A : Type 0} (p : A → Bool) (i : ℕ) (ts : List A) → any p ts ≡ false → firstFrom p i ts ≡ Nothing
+any-nothing p i [] e = refl
+any-nothing p i (t ∷ ts) e = go (p t) e (any-nothing p (suc i) ts)
+  where
+    go : (b : Bool) → b || any p ts ≡ false → (any p ts ≡ false → firstFrom p (suc i) ts ≡ Nothing) → cond b (At i) (firstFrom p (suc i) ts) ≡ Nothing
+    go true e ih = falseTrue (sym e)
+    go false e ih = ih e
+
+-- an input that refusal 9 does not meet arrives where none stands
+pub alone-free : (earlier : List Record.Token) (t : Record.Token) → secondInput earlier t ≡ false → Free earlier (t .tag) (t .port)
+unfolding secondInput
+alone-free earlier t e = any-nothing (standsAt (t .tag) (t .port)) 0 earlier e
 
 -- the content of the token that a search found
 abbrev pub foundContent : (d : Record.Token) → List Record.Token → Found → Option (Content ℤ)

@@ -4,7 +4,7 @@ use Prim.Native.Nat.{_/_, _<_, _-_}
 use native.Mathlib.Omega.{arith}
 use lib.ListN.{length}
 use Rattle.accept.specs.Accept.{Proper}
-use Rattle.accept.proofs.Taken.{Taken, proper, taken-none, taken-more, taken-all}
+use Rattle.accept.proofs.Taken.{Taken, proper, alone, taken-none, taken-more, taken-all}
 use Rattle.accept.proofs.inputs.Statement.{statement}
 use Rattle.accept.proofs.inputs.Tie as tie
 
@@ -32,7 +32,8 @@ inputs-spec = tie.close (tie.spec
     let t = c .before .before .before .before .before .before .before .token-at in
     let h : l .i < length (a .inputs .now) / 20 = omega (arith, c .before .before .before .before .before .before .before .before .loop-test .taken) in
     let p : Proper (t .result) = proper (a .inputs .now) (l .i) (t .result) (t .ensures) h (s .pre .3) in
-    (l .inv .matching, omega (arith, s .pre .1, s .pre .2, l .inv .size), omega (arith, s .pre .1, s .pre .2), p .0, p .1))
+    let free = alone (a .inputs .now) (l .ledger) (l .i) (t .result) (t .ensures) h (l .inv .taken) (s .pre .4) in
+    (l .inv .matching, omega (arith, s .pre .1, s .pre .2, l .inv .size), omega (arith, s .pre .1, s .pre .2), p .0, p .1, free))
     (λ c. omega (arith, c .before .before .before .before .before .before .before .before .before .before .before .loop-test .taken))
     (λ c. omega (arith, c .before .before .before .before .before .before .before .before .before .before .before .loop-test .taken))
     (λ c.

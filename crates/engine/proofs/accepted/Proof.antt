@@ -6,7 +6,7 @@ use lib.ListN.{length, length-replicate}
 use borrow.Author.Needs.{needs}
 use Rattle.matching.proofs.Laws.{matching-start}
 use Rattle.rules.specs.Run.{picksOf}
-use Rattle.engine.proofs.Starting.{prepared, graph-passed, stores-good, inputs-passed, inputs-fit, inputs-proper, started, as-lent}
+use Rattle.engine.proofs.Starting.{prepared, graph-passed, stores-good, inputs-passed, inputs-fit, inputs-proper, inputs-alone, started, as-lent}
 use Rattle.engine.proofs.accepted.Statement.{statement}
 use Rattle.engine.proofs.accepted.Tie as tie
 
@@ -23,7 +23,7 @@ accepted-spec =
     let a = s .args in
     let stores = stores-good (a .graph .now) (a .inputs .now) (a .picks .now) (a .ledger .now) (a .cells .now) (s .pre) in
     let passed = inputs-passed (a .graph .now) (a .inputs .now) (a .picks .now) (a .ledger .now) (a .cells .now) (s .pre) in
-    (matching-start _ _, inputs-fit (a .graph .now) (a .inputs .now) (length (a .ledger .now) / 20) 0 passed, stores .tokenRecords .1, inputs-proper (a .graph .now) (a .inputs .now) (length (a .ledger .now) / 20) 0 passed))
+    (matching-start _ _, inputs-fit (a .graph .now) (a .inputs .now) (length (a .ledger .now) / 20) 0 passed, stores .tokenRecords .1, inputs-proper (a .graph .now) (a .inputs .now) (length (a .ledger .now) / 20) 0 passed, inputs-alone (a .graph .now) (a .inputs .now) (length (a .ledger .now) / 20) 0 passed))
     (λ c. sym (c .before .before .before .before .before .before .before .before .before .before .before .before .before .before .before .before .before .before .before .arities2 .ensures .1))
     (λ c κs.
     let i = c .before .before .before .before .before .before .before .before .before .before .before .before in
