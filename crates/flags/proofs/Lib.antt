@@ -1,3 +1,4 @@
 -- The laws of the flags of the enabled activities. Assumes nothing.
 pub mod Laws
+pub mod Lowest
 pub mod Marks
