@@ -32,7 +32,7 @@ fn take_turn(
     heads: &mut [u16; 4096],
     next: &mut [u16; 2048],
     flags: &mut [u8; 2048],
-    counts: &mut [u8; 32],
+    counts: &mut [u16; 36],
     waiting: &mut [u16; 1024],
     later: &mut [u16; 2048],
     ledger: &mut [u8],
@@ -70,7 +70,7 @@ fn take_turn(
 }
 
 // How a run ends whose budget is spent: completed is tried first.
-fn rest(flags: &[u8; 2048], counts: &[u8; 32]) -> Outcome
+fn rest(flags: &[u8; 2048], counts: &[u16; 36]) -> Outcome
     requires { ⌜ Counted (now flags) (now counts) ⌝ }
     ensures { λ r. ⌜ r ≡ restOutcome (length (places (now (flags .entry)))) ⌝ }
 {
@@ -91,7 +91,7 @@ fn proceed(
     heads: &mut [u16; 4096],
     next: &mut [u16; 2048],
     flags: &mut [u8; 2048],
-    counts: &mut [u8; 32],
+    counts: &mut [u16; 36],
     waiting: &mut [u16; 1024],
     later: &mut [u16; 2048],
     ledger: &mut [u8],
@@ -159,7 +159,7 @@ fn accepted(
     let mut heads = [0u16; 4096];
     let mut next = [0u16; 2048];
     let mut flags = [0u8; 2048];
-    let mut counts = [0u8; 32];
+    let mut counts = [0u16; 36];
     let mut waiting = [0u16; 1024];
     let mut later = [0u16; 2048];
     tables::arities(graph, &mut arities);

@@ -1,19 +1,19 @@
--- Laws of the flags and their counts: how a change of one flag changes the counts, how a search passes flags and blocks, and the sum of eight
--- flags. Assumes nothing.
-use Prim.Native.Nat.{ℕ, zero, suc, _+_, _-_, _*_, _/_, _%_, _≤_, _<_}
+-- Laws of the flags: how many ones a part has, how a search passes flags and blocks, the sum of eight flags, and the list of places. Assumes
+-- nothing.
+use Prim.Native.Nat.{ℕ, zero, suc, _+_, _-_, _*_, _%_, _≤_, _<_}
 use mathlib.Core.Path.{_≡_, refl, sym, ap, _∙_}
 use mathlib.Core.Bool.{Bool, true, false}
 use mathlib.Core.List.{List, [], _∷_, _++_}
 use mathlib.Core.Logic.{_⊎_, inl, inr, ⊎-elim}
 use native.Mathlib.Omega.{arith}
 use native.Mathlib.Numerals.{add-one}
-use native.Mathlib.Nat.{not-suc-le-zero, le-of-suc-le-suc, mod-eq-of-lt, add-mul-mod-self-left}
-use lib.Dec.{ltb, eqb}
-use lib.ListN.{length, getD, take, drop, set, length-drop, length-set, drop-of-length-le, replicate, length-replicate}
-use lib.Seq.{drop-drop, take-set-lt, take-set-le, drop-set-lt, drop-set-add, getD-take, getD-drop, length-take-le, drop-cons, getD-set-same, getD-set-other}
-use borrow.Author.Tests.{le-ltb, lt-ltb, ltb-true, ltb-false, eqb-true, eqb-false}
+use native.Mathlib.Nat.{not-suc-le-zero, le-of-suc-le-suc, mod-eq-of-lt, add-mul-mod-self-left, suc-mul}
+use lib.Dec.{ltb}
+use lib.ListN.{length, getD, take, drop, set, length-drop, drop-of-length-le, replicate, length-replicate}
+use lib.Seq.{drop-drop, drop-cons}
+use borrow.Author.Tests.{le-ltb, lt-ltb, ltb-true, ltb-false}
 use Rattle.number.specs.Number.{number64}
-use Rattle.flags.specs.Flags.{placesFrom, places, ones, place, blocks, Counted}
+use Rattle.flags.specs.Flags.{placesFrom, ones, place, Counted}
 
 below-or : (a b : ℕ) → (a < b) ⊎ (b ≤ a)
 below-or a b = go (ltb a b) refl
@@ -44,9 +44,6 @@ ones-le (suc n) (x ∷ l) b = omega (arith, b 0, ones-le n l (λ i. b (suc i)))
 
 -- ---- the place of a one
 
-pub place-here : (k x : ℕ) (l : List ℕ) → k < x → place k (x ∷ l) ≡ 0
-place-here k x l h = rw (lt-ltb k x h)
-
 pub place-later : (k x : ℕ) (l : List ℕ) → x ≤ k → place k (x ∷ l) ≡ suc (place (k - x) l)
 place-later k x l h = rw (le-ltb k x h)
 
@@ -60,9 +57,6 @@ module _ (l : List ℕ) (i k : ℕ) (h : i < length l) where
   place-passed g u =
       let v : k < getD l i 0 + ones (drop (suc i) l) = rw (drop-cons l i 0 h) at u in
       rw add-one (omega arith, rw (drop-cons l i 0 h, le-ltb k (getD l i 0) g) (omega arith))
-
-pub ones-from : (l : List ℕ) (i : ℕ) → i < length l → ones (drop i l) ≡ getD l i 0 + ones (drop (i + 1) l)
-ones-from l i h = rw (add-one, drop-cons l i 0 h)
 
 -- w flags, and those behind them
 ones-next : (w i : ℕ) (l : List ℕ) → ones (drop i l) ≡ ones (take w (drop i l)) + ones (drop (i + w) l)
@@ -97,11 +91,9 @@ pub zeros-passed : (w : ℕ) (l : List ℕ) (i k : ℕ) → i + w ≤ length l �
 zeros-passed w l i k h z u = let e : k - 0 ≡ k = omega arith in rw e at (passed w l i k 0 h (sym z) (omega arith) u)
 
 -- a block is passed
-pub block-passed : (l : List ℕ) (b k n : ℕ) → b * 64 + 64 ≤ length l → n ≡ ones (take 64 (drop (b * 64) l)) → n ≤ k → k < ones (drop (b * 64) l)
-    → (k - n < ones (drop ((b + 1) * 64) l)) × (b * 64 + place k (drop (b * 64) l) ≡ (b + 1) * 64 + place (k - n) (drop ((b + 1) * 64) l))
-block-passed l b k n h e g u =
-    let a : (b + 1) * 64 ≡ b * 64 + 64 = omega arith in
-    rw a (passed 64 l (b * 64) k n h e g u)
+pub block-passed : (w : ℕ) (l : List ℕ) (b k n : ℕ) → b * w + w ≤ length l → n ≡ ones (take w (drop (b * w) l)) → n ≤ k → k < ones (drop (b * w) l)
+    → (k - n < ones (drop ((b + 1) * w) l)) × (b * w + place k (drop (b * w) l) ≡ (b + 1) * w + place (k - n) (drop ((b + 1) * w) l))
+block-passed w l b k n h e g u = rw (add-one b, suc-mul b w) (passed w l (b * w) k n h e g u)
 
 pub place-lt : (k : ℕ) (l : List ℕ) → k < ones l → place k l < length l
 place-lt k [] h = absurd (not-suc-le-zero h)
@@ -186,91 +178,14 @@ places-zeros i (suc m) [] = places-zeros (suc i) m []
 places-zeros i m (zero ∷ l) = places-zeros (suc i) m l
 places-zeros i m (suc x ∷ l) = ap (λ (r : List ℕ). i ∷ r) (places-zeros (suc i) m l)
 
--- ---- blocks
+-- ---- no flag is set
 
-pub ones-blocks : (n : ℕ) (l : List ℕ) → length l ≡ n * 64 → ones (blocks n l) ≡ ones l
-ones-blocks zero [] h = refl
-ones-blocks zero (x ∷ l) h = absurd (omega arith)
-ones-blocks (suc n) l h = omega (arith, ones-split 64 l, ones-blocks n (drop 64 l) (omega (arith, length-drop 64 l)))
-
-pub getD-blocks : (n i : ℕ) (l : List ℕ) → i < n → getD (blocks n l) i 0 ≡ ones (take 64 (drop (i * 64) l))
-getD-blocks zero i l h = absurd (not-suc-le-zero h)
-getD-blocks (suc n) zero l h = refl
-getD-blocks (suc n) (suc i) l h =
-    let e : 64 + i * 64 ≡ suc i * 64 = omega arith in
-    getD-blocks n i (drop 64 l) (le-of-suc-le-suc h) ∙ rw (drop-drop (i * 64) 64 l, e)
-
--- one flag is changed
-blocks-here : (n i v : ℕ) (l : List ℕ) → suc n * 64 ≤ length l → i < 64
-    → blocks (suc n) (set l i v) ≡ set (blocks (suc n) l) 0 (ones (take 64 l) + v - getD l i 0)
-blocks-here n i v l g h =
-    let t : length (take 64 l) ≡ 64 = length-take-le 64 l (omega arith) in
-    let e : ones (set (take 64 l) i v) ≡ ones (take 64 l) + v - getD l i 0 =
-    omega (arith, ones-set (take 64 l) i v (omega arith), getD-take 64 l i 0 h) in
-    rw (take-set-lt 64 l i v h, drop-set-lt 64 l i v h, e)
-
-pub blocks-set : (n i v : ℕ) (l : List ℕ) → n * 64 ≤ length l → i < n * 64
-    → blocks n (set l i v) ≡ set (blocks n l) (i / 64) (getD (blocks n l) (i / 64) 0 + v - getD l i 0)
-blocks-set zero i v l g h = absurd (omega arith)
-blocks-set (suc n) i v l g h = ⊎-elim
-    (λ k. let e : i / 64 ≡ 0 = omega arith in rw e (blocks-here n i v l g k))
-    (λ k.
-    let j = i - 64 in
-    let a : i ≡ 64 + j = omega arith in
-    let e : i / 64 ≡ suc (j / 64) = omega arith in
-    let ih = blocks-set n j v (drop 64 l) (omega (arith, length-drop 64 l)) (omega arith) in
-    let d : getD (drop 64 l) j 0 ≡ getD l i 0 = getD-drop 64 l j 0 ∙ ap (λ (q : ℕ). getD l q 0) (sym a) in
-    let s : drop 64 (set l i v) ≡ set (drop 64 l) j v = ap (λ (q : ℕ). drop 64 (set l q v)) a ∙ drop-set-add 64 l j v in
-    rw (e, take-set-le 64 l i v k, s, ← d) (ap (λ (q : List ℕ). ones (take 64 l) ∷ q) ih))
-    (below-or i 64)
-
--- ---- the invariant
-
-pub length-blocks : (n : ℕ) (l : List ℕ) → length (blocks n l) ≡ n
-length-blocks zero l = refl
-length-blocks (suc n) l = ap suc (length-blocks n (drop 64 l))
-
-module _ (flags counts : List ℕ) (w : Counted flags counts) where
-  pub counts-length : length counts ≡ 32
-  counts-length = ap length (w .same) ∙ length-blocks 32 flags
-
-  pub count-is : (b : ℕ) → b < 32 → getD counts b 0 ≡ ones (take 64 (drop (b * 64) flags))
-  count-is b h = ap (λ (q : List ℕ). getD q b 0) (w .same) ∙ getD-blocks 32 b flags h
-
-  pub count-small : (b : ℕ) → b < 32 → getD counts b 0 ≤ 64
-  count-small b h =
-      let z = ones-le 64 (drop (b * 64) flags) (λ i. rw (getD-drop (b * 64) flags i 0) (w .binary (b * 64 + i))) in
-      omega (arith, count-is b h)
-
-  pub count-at : (i : ℕ) → i < 2048 → getD flags i 0 ≤ getD counts (i / 64) 0
-  count-at i h =
-      let q = i / 64 * 64 in
-      let a : q + i % 64 ≡ i = omega arith in
-      let t = getD-take 64 (drop q flags) (i % 64) 0 (omega arith) in
-      let u : getD (drop q flags) (i % 64) 0 ≡ getD flags i 0 = getD-drop q flags (i % 64) 0 ∙ ap (λ (j : ℕ). getD flags j 0) a in
-      omega (arith, ones-at (take 64 (drop q flags)) (i % 64), count-is (i / 64) (omega arith))
-
-  pub count-all : ones counts ≡ ones flags
-  count-all = ap ones (w .same) ∙ ones-blocks 32 flags (w .size)
-
-  pub counted-set : (i v : ℕ) → i < 2048 → v ≤ 1 → Counted (set flags i v) (set counts (i / 64) (getD counts (i / 64) 0 + v - getD flags i 0))
-  counted-set i v h g = record {
-    size = length-set flags i v ∙ w .size;
-    binary = λ j. go j (eqb j i) refl;
-    same = rw (w .same) (sym (blocks-set 32 i v flags (omega arith) (omega arith)));
-  }
-    where
-      go : (j : ℕ) (t : Bool) → eqb j i ≡ t → getD (set flags i v) j 0 ≤ 1
-      go j true d = rw (eqb-true j i d, getD-set-same flags i v 0 (omega arith)) g
-      go j false d = rw (getD-set-other flags i j v 0 (eqb-false j i d)) (w .binary j)
-
--- no flag is set
 pub zero-at : (n i : ℕ) → getD (replicate {A = ℕ} n 0) i 0 ≡ 0
 zero-at zero i = refl
 zero-at (suc n) zero = refl
 zero-at (suc n) (suc i) = zero-at n i
 
-pub counted-none : Counted (replicate 2048 0) (replicate 32 0)
+pub counted-none : Counted (replicate 2048 0) (replicate 36 0)
 counted-none = record {
   size = length-replicate {A = ℕ} 2048 0;
   binary = λ i. omega (arith, zero-at 2048 i);

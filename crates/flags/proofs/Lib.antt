@@ -1,3 +1,5 @@
 -- The laws of the flags of the enabled activities. Assumes nothing.
+pub mod Blocks
 pub mod Laws
+pub mod Lowest
 pub mod Marks

@@ -22,7 +22,7 @@ use Rattle.matching.specs.Matching.{Inside, Matching}
 
 -- arrays of zeros are right for a ledger with no used record
 pub matching-start : (arities ledger : List ℕ)
-    → Matching arities (replicate 4096 0) (replicate 2048 0) (replicate 2048 0) (replicate 32 0) (replicate 1024 0) (replicate 2048 0) ledger 0
+    → Matching arities (replicate 4096 0) (replicate 2048 0) (replicate 2048 0) (replicate 36 0) (replicate 1024 0) (replicate 2048 0) ledger 0
 unfolding Inside
 matching-start arities ledger = record {
   inside = record {

@@ -34,7 +34,7 @@ pub fn find(
 }
 
 // How many activities are enabled.
-pub fn enabled_count(flags: &[u8; 2048], counts: &[u8; 32]) -> usize
+pub fn enabled_count(flags: &[u8; 2048], counts: &[u16; 36]) -> usize
     requires { ⌜ Counted (now flags) (now counts) ⌝ }
     ensures { λ r. ⌜ r ≡ length (places (now (flags .entry))) ⌝ }
 {
@@ -42,7 +42,7 @@ pub fn enabled_count(flags: &[u8; 2048], counts: &[u8; 32]) -> usize
 }
 
 // The place of enabled activity number k, counted from 0.
-pub fn enabled_at(flags: &[u8; 2048], counts: &[u8; 32], k: usize) -> usize
+pub fn enabled_at(flags: &[u8; 2048], counts: &[u16; 36], k: usize) -> usize
     requires { ⌜ Counted (now flags) (now counts) × (k < length (places (now flags))) ⌝ }
     ensures { λ r. ⌜ (r ≡ getD (places (now (flags .entry))) k 0) × (r < 2048) ⌝ }
 {
@@ -55,7 +55,7 @@ pub fn arrive(
     heads: &mut [u16; 4096],
     next: &mut [u16; 2048],
     flags: &mut [u8; 2048],
-    counts: &mut [u8; 32],
+    counts: &mut [u16; 36],
     waiting: &mut [u16; 1024],
     later: &mut [u16; 2048],
     ledger: &mut [u8],
@@ -77,7 +77,7 @@ pub fn spend(
     heads: &[u16; 4096],
     next: &[u16; 2048],
     flags: &mut [u8; 2048],
-    counts: &mut [u8; 32],
+    counts: &mut [u16; 36],
     ledger: &mut [u8],
     used: usize,
     i: usize,
@@ -124,7 +124,7 @@ pub fn wake(
     heads: &[u16; 4096],
     next: &[u16; 2048],
     flags: &mut [u8; 2048],
-    counts: &mut [u8; 32],
+    counts: &mut [u16; 36],
     waiting: &mut [u16; 1024],
     later: &[u16; 2048],
     ledger: &mut [u8],

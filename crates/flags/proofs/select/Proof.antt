@@ -1,21 +1,22 @@
--- `flags::select` meets its contract. The loop's invariant: the one sought is number `left` of those from block `b` on. The measure is the
--- number of blocks left. Assumes nothing.
-use Prim.Native.Nat.{_+_, _-_, _*_, _<_}
-use mathlib.Core.Path.{_≡_, sym, _∙_}
+-- `flags::select` meets its contract. The loop's invariant: the one sought is number `left` of those from group `g` on. The measure is the
+-- number of groups left. Assumes nothing.
+use Prim.Native.Nat.{ℕ, _+_, _-_, _*_, _<_}
+use mathlib.Core.Path.{_≡_, sym, ap, _∙_}
 use native.Mathlib.Omega.{arith}
 use lib.ListN.{drop}
 use borrow.Author.Needs.{needs}
 use Rattle.flags.specs.Flags.{ones, place}
-use Rattle.flags.proofs.Laws.{count-is, block-passed, place-lt, none-left, ones-places, place-places}
+use Rattle.flags.proofs.Laws.{block-passed, place-lt, none-left, ones-places, place-places}
+use Rattle.flags.proofs.Blocks.{group-is}
 use Rattle.flags.proofs.select.Statement.{statement}
 use Rattle.flags.proofs.select.Tie as tie
 
 abbrev Inv-loop : tie.InvT-loop
-Inv-loop flags counts k b₀ left₀ b left =
-    (left < ones (drop (b * 64) flags)) × (place k flags ≡ b * 64 + place left (drop (b * 64) flags))
+Inv-loop flags counts k g₀ left₀ g left =
+    (left < ones (drop (g * 512) flags)) × (place k flags ≡ g * 512 + place left (drop (g * 512) flags))
 
 abbrev μ-loop : tie.MeasureT-loop
-μ-loop flags counts k b₀ left₀ b left = 32 - b
+μ-loop flags counts k g₀ left₀ g left = 4 - g
 
 pub select-spec : {M : Type 1} → statement M
 select-spec = tie.close (tie.spec
@@ -23,16 +24,21 @@ select-spec = tie.close (tie.spec
     μ-loop
     (λ c. (omega (arith, ones-places 0 (c .args .flags .now) (c .pre .0 .binary)), omega arith))
     (λ c. search needs)
+    (λ c. search needs)
+    (λ c. search needs)
     (λ c κs. search needs)
     (λ c. search needs)
     (λ c κs.
     let s = c .before .before .before .before .before in
-    (s .pre .0 .size, s .pre .0 .binary, omega arith, c .before .before .before .before .loop .inv .0))
+    let l = c .before .before .before .before .loop in
+    let e : l .g * 8 * 64 ≡ l .g * 512 = omega arith in
+    (s .pre .0, rw e (l .inv .0)))
     (λ c.
     let s = c .before .before .before .before .before .before in
     let l = c .before .before .before .before .before .loop in
     let f = s .args .flags .now in
-    let e = c .select-from .ensures ∙ sym (l .inv .1) in
+    let m : l .g * 8 * 64 ≡ l .g * 512 = omega arith in
+    let e = c .select-block .ensures ∙ ap (λ (q : ℕ). q + place (l .left) (drop q f)) m ∙ sym (l .inv .1) in
     let h : s .args .k < ones f = omega (arith, ones-places 0 f (s .pre .0 .binary)) in
     let p = place-places 0 (s .args .k) f (s .pre .0 .binary) h in
     (omega arith, omega (arith, place-lt (s .args .k) f h, s .pre .0 .size)))
@@ -41,10 +47,11 @@ select-spec = tie.close (tie.spec
     (λ c.
     let s = c .before .before .before .before .before in
     let l = c .before .before .before .before .loop in
-    let n = c .before .wide .ensures .0 ∙ count-is (s .args .flags .now) (s .args .counts .now) (s .pre .0) (l .b) (omega arith) in
-    let p = block-passed (s .args .flags .now) (l .b) (l .left) (c .before .wide .result) (omega (arith, s .pre .0 .size)) n (c .if1 .left) (l .inv .0) in
+    let f = s .args .flags .now in
+    let n = c .before .wide16 .ensures .0 ∙ group-is f (s .args .counts .now) (s .pre .0) (l .g) (omega arith) in
+    let p = block-passed 512 f (l .g) (l .left) (c .before .wide16 .result) (omega (arith, s .pre .0 .size)) n (c .if1 .left) (l .inv .0) in
     (p .0, l .inv .1 ∙ p .1))
     (λ c.
     let s = c .before .before in
     let l = c .before .loop in
-    absurd (none-left (s .args .flags .now) (l .b * 64) (l .left) (omega (arith, s .pre .0 .size)) (l .inv .0))))
+    absurd (none-left (s .args .flags .now) (l .g * 512) (l .left) (omega (arith, s .pre .0 .size)) (l .inv .0))))
