@@ -12,7 +12,7 @@ use Rattle.record.specs.declared.token.Token.{Token}
 use Rattle.record.specs.TokensAndTags.{standsAt, decode, tokens, tokenAt}
 use Rattle.chains.specs.declared.Found.the-variants.{At}
 use Rattle.chains.specs.Search.{firstFrom}
-use Rattle.chains.proofs.Search.{shift, first-cons}
+use Rattle.chains.proofs.Search.{first-cons}
 use Rattle.enabled.specs.Enabled.{tagSame, placeOf}
 use Rattle.enabled.specs.Store.{Known}
 use Rattle.enabled.proofs.Places.{stands-tag, stands-other}
