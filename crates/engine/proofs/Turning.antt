@@ -2,53 +2,37 @@
 -- Assumes nothing.
 use Prim.Native.Nat.{ℕ, zero, suc, _+_, _*_, _/_, _%_, _≤_, _<_}
 use mathlib.Core.Path.{_≡_, refl, sym, ap, _∙_, subst}
-use mathlib.Core.Bool.{Bool, true, false, cond}
+use mathlib.Core.Bool.{true}
 use mathlib.Core.List.{List, [], _∷_, _++_, map}
 use native.Mathlib.Omega.{arith}
 use native.Mathlib.Nat.{mod-lt}
 use lib.ListN.{length, getD, drop, length-map}
-use lib.Dec.{eqb}
 use lib.IntN.{ℤ}
 use Rattle.record.specs.declared.tag.Tag.{Tag}
 use Rattle.record.specs.declared.token.Token as Record
 use Rattle.record.specs.declared.instruction.Instruction.{Instruction}
 use Rattle.table.specs.Table.{All}
-use Rattle.record.specs.GraphRecords.{operandsOf, graphOf}
+use Rattle.record.specs.GraphRecords.{graphOf}
 use Rattle.record.specs.TokensAndTags.{tokens, tokenAt}
 use Rattle.record.specs.TokensAndTags as Tokens
 use Rattle.table.proofs.Tables.{getD-rows}
 use Rattle.flags.specs.Flags.{places}
-use Rattle.matching.proofs.Laws.{matching-places, matching-enabled-below}
+use Rattle.matching.proofs.Laws.{matching-places, matching-enabled-below, matching-leads}
 use Rattle.accept.specs.Accept.{headOr0}
 use Rattle.accept.proofs.Laws.{head-drop}
-use Rattle.enabled.specs.Enabled.{enabledPlaces}
+use Rattle.enabled.specs.Enabled.{leads, enabledPlaces}
 use Rattle.machine.specs.Machine.{Machine, State, Activity, Outcome, completed, budgetSpent, enabled, firstPick, laterPicks, pickOf, byPicks, runBy, end, fire, fired, notFired}
 use Rattle.machine.specs.Machine as Machines
 use Rattle.machine.proofs.Orders.{runEmpty, runZero, runFired, runRefused}
 use Rattle.rules.specs.declared.answer.Refusal.{Refusal}
 use Rattle.rules.specs.declared.answer.Outcome.the-variants as Outcomes
-use Rattle.rules.specs.Check.{instructionAt, operandsAt}
-use Rattle.rules.specs.InstructionSet.{arityIn}
 use Rattle.rules.specs.Run.{picksOf}
-use Rattle.held.specs.Held.{noToken, stateHeld, Arities, OnPorts}
+use Rattle.held.specs.Held.{noToken, stateHeld, Arities}
 use Rattle.held.proofs.Enabled.{held-enabled}
 use Rattle.outputs.specs.Outputs.{cellsIn}
+use Rattle.fire.proofs.Place.{on-ports}
 use Rattle.fire.specs.Running.{machineFor, stateIn, Arrived, Running, Went, Stopped, Prepared}
 use Rattle.engine.specs.Turns.{Advanced, Halted}
-
--- ---- ports
-
-on-port : (g : List Instruction) (t : Record.Token) → t .port < operandsAt g (t .tag .instruction) → 0 < arityIn g (t .tag) → t .port < arityIn g (t .tag)
-unfolding arityIn operandsAt
-on-port g t h k = go (eqb (instructionAt g (t .tag .instruction) .code) 3) k
-  where
-    go : (b : Bool) → 0 < cond b 0 (operandsOf (instructionAt g (t .tag .instruction) .code)) → t .port < cond b 0 (operandsOf (instructionAt g (t .tag .instruction) .code))
-    go true l = absurd (omega arith)
-    go false l = h
-
-pub on-ports : (g : List Instruction) (ts : List Record.Token) → Arrived g ts → OnPorts g ts
-on-ports g [] a = tt
-on-ports g (t ∷ ts) a = (on-port g t (a .0), on-ports g ts (a .1))
 
 -- ---- picks
 
@@ -143,26 +127,29 @@ module _ (graph returns picks : List ℕ) {arities heads next flags counts waiti
   }
 
   module _ (e pick place : ℕ) (all : e ≡ length (places flags)) (some : e ≡ 0 → ⊥) (here : pick ≡ getD (picksOf picks) firings 0) (taken : place ≡ getD (places flags) (pick % e) 0) where
+    numbered : place ≡ getD (enabledPlaces arities (tokens used ledger)) (pick % e) 0
+    numbered = taken ∙ ap (λ (l : List ℕ). getD l (pick % e) 0) (matching-places (now .matching))
+
     chosen : place ≡ getD (enabledPlaces arities (tokens used ledger)) (firstPick later-picks % length (enabledPlaces arities (tokens used ledger))) 0
     chosen =
-        taken
-        ∙ ap (λ (l : List ℕ). getD l (pick % e) 0) (matching-places (now .matching))
+        numbered
         ∙ ap (λ (n : ℕ). getD (enabledPlaces arities (tokens used ledger)) (n % e) 0) (here ∙ sym (first-pick firings (picksOf picks)))
         ∙ ap (λ (n : ℕ). getD (enabledPlaces arities (tokens used ledger)) (firstPick later-picks % n) 0) (count e all)
 
     pub below : pick % e < length (places flags)
     below = subst (λ (n : ℕ). pick % e < n) all (mod-lt pick (omega arith))
 
-    pub place-below : place < used
-    place-below =
+    pub place-enabled : (place < used) × (leads arities (tokens used ledger) place (tokenAt ledger place) ≡ true)
+    place-enabled =
         let k = subst (λ (n : ℕ). pick % e < n) (count e all) (mod-lt pick (omega arith)) in
-        subst (λ (n : ℕ). n < used) (sym (taken ∙ ap (λ (l : List ℕ). getD l (pick % e) 0) (matching-places (now .matching)))) (matching-enabled-below (now .matching) (pick % e) k)
+        subst (λ (n : ℕ). (n < used) × (leads arities (tokens used ledger) n (tokenAt ledger n) ≡ true)) (sym numbered)
+        (matching-enabled-below (now .matching) (pick % e) k, matching-leads (now .matching) (pick % e) k)
 
     enabled-some : length (enabledPlaces arities (tokens used ledger)) ≡ 0 → ⊥
     enabled-some z = some (count e all ∙ z)
 
     that-tag : tokenAt ledger place .tag ≡ getD (tokens used ledger) place noToken .tag
-    that-tag = ap (λ (t : Record.Token). t .tag) (sym (getD-rows 20 Tokens.decode used place ledger noToken place-below))
+    that-tag = ap (λ (t : Record.Token). t .tag) (sym (getD-rows 20 Tokens.decode used place ledger noToken (place-enabled .0)))
 
     module _ {heads′ next′ flags′ counts′ waiting′ later′ ledger′ cells′ : List ℕ} where
       pub turn-done : {n : ℕ} → Went (graphOf graph) (tokenAt ledger place .tag) arities heads′ next′ flags′ counts′ waiting′ later′ ledger′ cells′ n used ledger cells

@@ -4,12 +4,14 @@ use operands::Matched;
 use record::token;
 use rules::answer::Refusal;
 ghost use Prim.Native.Nat.{_<_};
+ghost use mathlib.Core.Path.{_≡_};
+ghost use mathlib.Core.Bool.{true};
 ghost use Rattle.record.specs.GraphRecords.{graphOf};
-ghost use Rattle.record.specs.TokensAndTags.{tokenAt};
+ghost use Rattle.record.specs.TokensAndTags.{tokens, tokenAt};
+ghost use Rattle.enabled.specs.Enabled.{leads};
 ghost use Rattle.fire.specs.Running.{Prepared, Running, Stepped};
 
-// The activity whose place this is fires, or is refused with ledger and cells as they were. An activity
-// that is not enabled has no operands to match; a run fires none such.
+// The enabled activity whose place this is fires, or is refused with ledger and cells as they were.
 pub fn fire(
     graph: &[u8],
     returns: &[u16; 256],
@@ -25,14 +27,14 @@ pub fn fire(
     used: usize,
     place: usize,
 ) -> Fired
-    requires { ⌜ Prepared (now graph) (now returns) (now arities) × Running (graphOf (now graph)) (now arities) (now heads) (now next) (now flags) (now counts) (now waiting) (now later) (now ledger) (now cells) used × (place < used) ⌝ }
+    requires { ⌜ Prepared (now graph) (now returns) (now arities) × Running (graphOf (now graph)) (now arities) (now heads) (now next) (now flags) (now counts) (now waiting) (now later) (now ledger) (now cells) used × (place < used) × (leads (now arities) (tokens used (now ledger)) place (tokenAt (now ledger) place) ≡ true) ⌝ }
     ensures { λ r. ⌜ Stepped r (graphOf (now (graph .entry))) (tokenAt (now (ledger .entry)) place .tag) (now (arities .entry)) (now (heads .exit)) (now (next .exit)) (now (flags .exit)) (now (counts .exit)) (now (waiting .exit)) (now (later .exit)) (now (ledger .exit)) (now (cells .exit)) used (now (ledger .entry)) (now (cells .entry)) ⌝ }
 {
     // Matching.
     let t = token::token_at(ledger, place);
     let tag = t.tag;
     let arity = enabled::arity(arities, tag.instruction);
-    let matched = operands::operands_of(heads, next, ledger, used, tag, arity);
+    let matched = operands::operands_of(heads, next, ledger, used, tag, arity, place);
     let Matched::Both {
         first,
         second,
@@ -40,6 +42,7 @@ pub fn fire(
         right,
     } = matched
     else {
+        // No enabled activity lacks an operand.
         return Fired::Refused(Refusal::SecondToken);
     };
     // Instruction fetch, operation and new tags.

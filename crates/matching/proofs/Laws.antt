@@ -1,21 +1,23 @@
 -- What callers may use of the matching store's invariant. Assumes nothing.
 use Prim.Native.Nat.{ℕ, _*_, _/_, _≤_, _<_}
 use mathlib.Core.Path.{_≡_, refl}
+use mathlib.Core.Bool.{true}
 use mathlib.Core.List.{List, _++_}
 use native.Mathlib.Omega.{arith}
 use lib.ListN.{length, getD, take, drop, replicate, length-replicate}
+use borrow.Author.Tests.{eq-eqb}
 use Rattle.table.specs.Table.{joined, All}
-use Rattle.record.specs.TokensAndTags.{tokens, decode, encode, TokenFits}
-use Rattle.table.proofs.Tables.{length-rows}
+use Rattle.record.specs.TokensAndTags.{tokens, tokenAt, decode, encode, TokenFits}
+use Rattle.table.proofs.Tables.{length-rows, getD-rows}
 use Rattle.record.specs.declared.token.Token.{Token}
 use Rattle.flags.specs.Flags.{places, Counted}
 use Rattle.flags.proofs.Laws.{zero-at, counted-none}
 use Rattle.chains.specs.Chains.{bucketKey}
 use Rattle.chains.specs.Deferred.{LowCell, cellKey}
 use Rattle.chains.proofs.Chains.{chained-none}
-use Rattle.enabled.specs.Enabled.{enabledPlaces}
+use Rattle.enabled.specs.Enabled.{leads, enabledPlaces}
 use Rattle.enabled.specs.Store.{Known, Stored}
-use Rattle.enabled.proofs.Right.{right-none, right-places, enabled-below}
+use Rattle.enabled.proofs.Right.{right-none, right-places, enabled-below, enabled-leads}
 use Rattle.enabled.proofs.Bytes.{split}
 use Rattle.enabled.proofs.Store.{known-few}
 use Rattle.matching.specs.Matching.{Inside, Matching}
@@ -60,6 +62,15 @@ module _ {arities heads next flags counts waiting later ledger : List ℕ} {used
 
   pub matching-enabled-below : (k : ℕ) → k < length (enabledPlaces arities (tokens used ledger)) → getD (enabledPlaces arities (tokens used ledger)) k 0 < used
   matching-enabled-below k h = omega (arith, enabled-below arities (tokens used ledger) k h, length-rows 20 decode used ledger)
+
+  -- the token at the place of an enabled activity is the earliest of its tag, and all operands of its tag are live
+  pub matching-leads : (k : ℕ) → k < length (enabledPlaces arities (tokens used ledger))
+      → let i = getD (enabledPlaces arities (tokens used ledger)) k 0 in leads arities (tokens used ledger) i (tokenAt ledger i) ≡ true
+  matching-leads k h =
+      let i = getD (enabledPlaces arities (tokens used ledger)) k 0 in
+      let here : getD (tokens used ledger) i (tokenAt ledger i) ≡ tokenAt ledger i = getD-rows 20 decode used i ledger (tokenAt ledger i) (matching-enabled-below k h) in
+      let found = rw here at (enabled-leads arities (tokens used ledger) (tokenAt ledger i) k h) in
+      rw (eq-eqb _ _ (found .0)) (found .1)
 
   -- the used records
   pub matching-room : used ≤ length ledger / 20

@@ -1,6 +1,7 @@
 -- The operands of a tag among a ledger's tokens, and whether a firing's outputs can go in, as searches of the tokens. proofs/ joins them with the
 -- machine's definitions. Assumes nothing.
-use Prim.Native.Nat.{ℕ, zero, suc, _+_}
+use Prim.Native.Nat.{ℕ, zero, suc, _+_, _<_}
+use mathlib.Core.Path.{_≡_}
 use mathlib.Core.Bool.{Bool, true, false, _&&_, _||_, cond}
 use mathlib.Core.List.{List}
 use lib.ListN.{length, getD}
@@ -14,6 +15,7 @@ use Rattle.record.specs.TokensAndTags.{sameTag, standsAt}
 use Rattle.chains.specs.declared.Found.{Found}
 use Rattle.chains.specs.declared.Found.the-variants as Search
 use Rattle.chains.specs.Search.{firstFrom}
+use Rattle.enabled.specs.Enabled.{placeOf}
 use Rattle.held.specs.Held.{noToken}
 use Rattle.effect.specs.declared.output.Key.{Key}
 use Rattle.effect.specs.declared.output.Outputs.{Outputs}
@@ -52,6 +54,12 @@ unfoldable pub matchedAt : (arity : ℕ) → List Token → Tag → Matched
 matchedAt n ts tag =
     cond (eqb n 0) Matches.Missing
     (cond (eqb n 1) (one (operandAt ts tag 0)) (two (operandAt ts tag 0) (operandAt ts tag 1)))
+
+-- "Its place is the ledger position of its earliest operand": the token there is the earliest of the tag, and stands on a port that is waited for
+pub record Earliest (arity : ℕ) (ts : List Token) (tag : Tag) (place : ℕ) : Type 0 where
+  pub within : place < length ts
+  pub first : placeOf ts tag ≡ place
+  pub waited : 0 < arity → getD ts place noToken .port < arity
 
 -- ---- the outputs
 

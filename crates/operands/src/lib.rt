@@ -11,7 +11,7 @@ ghost use Prim.Native.Nat.{_/_, _≤_, _<_};
 ghost use lib.ListN.{length};
 ghost use Rattle.record.specs.TokensAndTags.{tokens};
 ghost use Rattle.enabled.specs.Store.{Known};
-ghost use Rattle.operands.specs.Operands.{operandAt, matchedAt, isTaken, sameKeys, anyTakenOf, admittedOf};
+ghost use Rattle.operands.specs.Operands.{operandOf, operandAt, two, Earliest, matchedAt, isTaken, sameKeys, anyTakenOf, admittedOf};
 
 // A live operand, by its place and value.
 pub enum Operand {
@@ -35,6 +35,16 @@ pub enum Admitted {
     No(Refusal),
 }
 
+// A token as an operand, which it is if it is live.
+fn as_operand(place: usize, content: Content) -> Operand
+    ensures { λ r. ⌜ r ≡ operandOf place content ⌝ }
+{
+    let Content::Live(v) = content else {
+        return Operand::Missing;
+    };
+    Operand::Live(place, v)
+}
+
 // The operand on a port of a tag.
 fn operand_on(
     heads: &[u16; 4096],
@@ -52,13 +62,29 @@ fn operand_on(
     };
     let t = token::token_at(ledger, i);
     let content = t.content;
-    let Content::Live(v) = content else {
-        return Operand::Missing;
-    };
-    Operand::Live(i, v)
+    as_operand(i, content)
 }
 
-// All operands of a tag, if they are live.
+// Two operands, if both are live. Where one is waited for, it is given twice.
+fn both(first: Operand, second: Operand) -> Matched
+    ensures { λ r. ⌜ r ≡ two first second ⌝ }
+{
+    let Operand::Live(i, left) = first else {
+        return Matched::Missing;
+    };
+    let Operand::Live(j, right) = second else {
+        return Matched::Missing;
+    };
+    Matched::Both {
+        first: i,
+        second: j,
+        left,
+        right,
+    }
+}
+
+// All operands of a tag, if they are live. The token at the tag's place is one of them: the other alone is searched for,
+// where there is one.
 pub fn operands_of(
     heads: &[u16; 4096],
     next: &[u16; 2048],
@@ -66,32 +92,25 @@ pub fn operands_of(
     used: usize,
     tag: Tag,
     arity: u8,
+    place: usize,
 ) -> Matched
-    requires { ⌜ Known (now heads) (now next) (now ledger) used ⌝ }
+    requires { ⌜ Known (now heads) (now next) (now ledger) used × Earliest arity (tokens used (now ledger)) tag place ⌝ }
     ensures { λ r. ⌜ r ≡ matchedAt arity (tokens used (now (ledger .entry))) tag ⌝ }
 {
     if arity == 0 {
         return Matched::Missing;
     }
-    let Operand::Live(first, left) = operand_on(heads, next, ledger, used, tag, 0) else {
-        return Matched::Missing;
-    };
+    let t = token::token_at(ledger, place);
+    let content = t.content;
+    let own = as_operand(place, content);
     if arity == 1 {
-        return Matched::Both {
-            first,
-            second: first,
-            left,
-            right: left,
-        };
+        return both(own, own);
     }
-    let Operand::Live(second, right) = operand_on(heads, next, ledger, used, tag, 1) else {
-        return Matched::Missing;
-    };
-    Matched::Both {
-        first,
-        second,
-        left,
-        right,
+    let other = operand_on(heads, next, ledger, used, tag, 1 - t.port);
+    if t.port == 0 {
+        both(own, other)
+    } else {
+        both(other, own)
     }
 }
 

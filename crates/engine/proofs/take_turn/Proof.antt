@@ -4,7 +4,7 @@ use native.Mathlib.Omega.{arith}
 use borrow.Author.Needs.{needs}
 use Rattle.matching.proofs.Laws.{matching-counted}
 use Rattle.rules.specs.Run.{picksOf}
-use Rattle.engine.proofs.Turning.{turn-none, below, place-below, turn-done, turn-refused}
+use Rattle.engine.proofs.Turning.{turn-none, below, place-enabled, turn-done, turn-refused}
 use Rattle.engine.proofs.take_turn.Statement.{statement}
 use Rattle.engine.proofs.take_turn.Tie as tie
 
@@ -29,7 +29,8 @@ take-turn-spec =
     let p = a .before .before .before in
     let n = p .before .before in
     let s = n .before .before .before .before .before .before .before .before in
-    (s .pre .0, s .pre .1, place-below _ _ (s .args .picks .now) (s .pre .0) (s .pre .1) (s .args .firings) _ _ _ (n .enabled-count .ensures) (p .before .if1 .left) (p .pick-at .ensures .0) (a .enabled-at .ensures .0)))
+    let there = place-enabled _ _ (s .args .picks .now) (s .pre .0) (s .pre .1) (s .args .firings) _ _ _ (n .enabled-count .ensures) (p .before .if1 .left) (p .pick-at .ensures .0) (a .enabled-at .ensures .0) in
+    (s .pre .0, s .pre .1, there .0, there .1))
     (λ c. search needs)
     (λ c. search needs)
     (λ c. search needs)

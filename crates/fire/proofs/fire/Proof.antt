@@ -6,6 +6,7 @@ use mir.Val.{SFits}
 use mir.Facts.{toZ-ofZ}
 use borrow.Author.Needs.{needs}
 use Rattle.matching.proofs.Laws.{matching-known}
+use Rattle.fire.proofs.Place.{earliest-here}
 use Rattle.fire.proofs.Steps.{fitting, fire-missing, room, inside, matched-here, lent-here, stepped-here}
 use Rattle.fire.proofs.fire.Statement.{statement}
 use Rattle.fire.proofs.fire.Tie as tie
@@ -18,7 +19,11 @@ fire-spec =
     let s = c .before .before .before .before .before in
     room _ _ (s .pre .0) (s .pre .1) (s .args .place) (s .pre .2))
     (λ c κs. search needs)
-    (λ c κs. matching-known (c .before .before .before .before .before .before .before .before .before .before .before .pre .1 .matching))
+    (λ c κs.
+    let a = c .before .before .before in
+    let t = a .before .before in
+    let s = t .before .before .before .before .before .before in
+    (matching-known (s .pre .1 .matching), earliest-here (s .pre .0) (s .pre .1) (s .args .place) (s .pre .2) (s .pre .3) (t .token-at .result) (a .arity .result) (t .token-at .ensures) (a .arity .ensures)))
     (λ c. search needs)
     (λ c. search needs)
     (λ c. search needs)
