@@ -2,6 +2,11 @@
 //! table in Markdown: for every work and size the median time of both, the engine's
 //! time for one firing, and firings in a second; and for every work how much the
 //! time for one firing grows from 256 to 2,048 tokens.
+//!
+//! All works are run in turn, round after round. A run that is repeated at once
+//! meets a processor that has its branches by heart, a short run's all and a long
+//! run's in part, and what grows then is the share that it has not. With the
+//! argument `repeated` it is measured in that way.
 
 mod work;
 
@@ -13,10 +18,8 @@ use work::Work;
 const SIZES: [usize; 5] = [128, 256, 512, 1024, 2048];
 const CELLS: usize = 1024;
 const BUDGET: u16 = 2048;
-/// Repetitions of one measurement: as many as fit the time, between these.
-const FEWEST: usize = 5;
-const MOST: usize = 401;
-const TIME: Duration = Duration::from_millis(500);
+/// How often each emulator runs each work.
+const ROUNDS: usize = 401;
 
 /// A kind of work: its name, its graph by size, and whether the newest activity
 /// is taken first.
@@ -31,21 +34,31 @@ const KINDS: [Kind; 5] = [
 ];
 
 fn main() {
-    println!("Time of one run, median of {FEWEST} to {MOST} runs of each emulator in turn. The");
-    println!("buffers are not cleared: each run finds ledger and cells as the run before it");
-    println!("left them. The second emulator allocates its tables in every run.");
+    let repeated = std::env::args().any(|word| word == "repeated");
+    println!("Time of one run, median of {ROUNDS} runs of each emulator. The buffers are not");
+    println!("cleared: each run finds ledger and cells as the run before it left them. The");
+    println!("second emulator allocates its tables in every run.");
     println!();
     println!(
         "| work | size | tokens | firings | engine | engine, a firing | second | engine / second | \
          engine firings/s | second firings/s |"
     );
     println!("|---|---:|---:|---:|---:|---:|---:|---:|---:|---:|");
-    let growths = KINDS.map(|kind| (kind.0, measure_runs(kind)));
+    let mut works: Vec<Measured> = Vec::new();
+    for kind in KINDS {
+        works.extend(SIZES.map(|size| Measured::new(kind, size)));
+    }
+    if repeated {
+        works.iter_mut().for_each(|work| work.runs(ROUNDS));
+    } else {
+        (0..ROUNDS).for_each(|_| works.iter_mut().for_each(|work| work.runs(1)));
+    }
+    works.iter().for_each(Measured::print);
     println!();
     println!("The engine's time for one firing at 2,048 tokens against that at 256:");
     println!();
-    for (name, growth) in growths {
-        println!("- {name}: {growth:.2}");
+    for (name, _, _) in KINDS {
+        println!("- {name}: {:.2}", growth_of(&works, name));
     }
     println!();
     println!("The listing, against a stable sort of parsed records by Rust's own library");
@@ -123,25 +136,91 @@ impl Lent {
     }
 }
 
-/// The median times of two functions, which are run in turn so that both meet the
-/// same load of the computer.
-fn medians(mut one: impl FnMut(), mut other: impl FnMut()) -> (Duration, Duration) {
+/// A work of one size, with the times of both emulators on it.
+struct Measured {
+    name: &'static str,
+    size: usize,
+    answer: Answer,
+    engine: (Lent, Vec<Duration>),
+    second: (Lent, Vec<Duration>),
+}
+
+impl Measured {
+    fn new((name, work, newest): Kind, size: usize) -> Measured {
+        let mut lent = Lent::new(work(size), size, newest);
+        let answer = lent.agreed();
+        let same = Lent::new(work(size), size, newest);
+        Measured {
+            name,
+            size,
+            answer,
+            engine: (lent, Vec::new()),
+            second: (same, Vec::new()),
+        }
+    }
+
+    /// Runs both emulators in turn, so that both meet the same load of the computer.
+    fn runs(&mut self, times: usize) {
+        for _ in 0..times {
+            self.engine.1.push(time(|| self.engine.0.engine()));
+            self.second.1.push(time(|| self.second.0.second()));
+        }
+    }
+
+    /// The engine's nanoseconds for one firing.
+    fn a_firing(&self) -> f64 {
+        middle(&self.engine.1).as_secs_f64() * 1e9 / self.answer.firings as f64
+    }
+
+    fn print(&self) {
+        let (engine_time, second_time) = (middle(&self.engine.1), middle(&self.second.1));
+        let firings = self.answer.firings as f64;
+        let rate = |time: Duration| format!("{:.0}", firings / time.as_secs_f64());
+        println!(
+            "| {} | {} | {} | {} | {} | {:.0} ns | {} | {} | {} | {} |",
+            self.name,
+            self.size,
+            self.answer.tokens,
+            self.answer.firings,
+            microseconds(engine_time),
+            self.a_firing(),
+            microseconds(second_time),
+            ratio(engine_time, second_time),
+            rate(engine_time),
+            rate(second_time),
+        );
+    }
+}
+
+/// How much the engine's time for one firing grows from 256 to 2,048 tokens.
+fn growth_of(works: &[Measured], name: &str) -> f64 {
+    let at = |size: usize| {
+        let found = works
+            .iter()
+            .find(|work| work.name == name && work.size == size);
+        found.expect("a measured size").a_firing()
+    };
+    at(2048) / at(256)
+}
+
+/// The median times of two functions, which are run in turn.
+fn medians<A, B>(mut one: impl FnMut() -> A, mut other: impl FnMut() -> B) -> (Duration, Duration) {
     let mut times = (Vec::new(), Vec::new());
-    let start = Instant::now();
-    while times.0.len() < FEWEST || times.0.len() < MOST && start.elapsed() < TIME {
+    for _ in 0..ROUNDS {
         times.0.push(time(&mut one));
         times.1.push(time(&mut other));
     }
-    (middle(times.0), middle(times.1))
+    (middle(&times.0), middle(&times.1))
 }
 
-fn time(run: &mut impl FnMut()) -> Duration {
+fn time<A>(run: impl FnOnce() -> A) -> Duration {
     let start = Instant::now();
     run();
     start.elapsed()
 }
 
-fn middle(mut times: Vec<Duration>) -> Duration {
+fn middle(times: &[Duration]) -> Duration {
+    let mut times = times.to_vec();
     times.sort();
     times[times.len() / 2]
 }
@@ -156,43 +235,6 @@ fn ratio(one: Duration, other: Duration) -> String {
 
 fn growth(time: Duration, before: Option<Duration>) -> String {
     before.map_or("-".to_string(), |before| ratio(time, before))
-}
-
-/// Measures one kind of work; answers how much the engine's time for one firing
-/// grows from 256 to 2,048 tokens.
-fn measure_runs((name, work, newest): Kind) -> f64 {
-    let mut per_firing = Vec::new();
-    for size in SIZES {
-        let mut lent = Lent::new(work(size), size, newest);
-        let answer = lent.agreed();
-        let mut same = Lent::new(work(size), size, newest);
-        let (engine_time, second_time) = medians(
-            || {
-                lent.engine();
-            },
-            || {
-                same.second();
-            },
-        );
-        let nanoseconds = engine_time.as_secs_f64() * 1e9 / answer.firings as f64;
-        per_firing.push((size, nanoseconds));
-        let rate = |time: Duration| format!("{:.0}", answer.firings as f64 / time.as_secs_f64());
-        println!(
-            "| {name} | {size} | {} | {} | {} | {nanoseconds:.0} ns | {} | {} | {} | {} |",
-            answer.tokens,
-            answer.firings,
-            microseconds(engine_time),
-            microseconds(second_time),
-            ratio(engine_time, second_time),
-            rate(engine_time),
-            rate(second_time),
-        );
-    }
-    let at = |wanted: usize| {
-        let found = per_firing.iter().find(|(size, _)| *size == wanted);
-        found.expect("a measured size").1
-    };
-    at(2048) / at(256)
 }
 
 /// How the records lie before they are listed.
@@ -234,12 +276,8 @@ fn measure_listings(name: &str, arrange: fn(&mut [[u8; 20]])) {
         );
         assert!(out == sorted, "the engine lists otherwise");
         let (engine_time, second_time) = medians(
-            || {
-                engine::list(&ledger, &mut out);
-            },
-            || {
-                second::list(&ledger, &mut sorted);
-            },
+            || engine::list(&ledger, &mut out),
+            || second::list(&ledger, &mut sorted),
         );
         println!(
             "| {name} | {size} | {} | {} | {} | {} |",
