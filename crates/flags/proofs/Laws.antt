@@ -15,7 +15,7 @@ use borrow.Author.Tests.{le-ltb, lt-ltb, ltb-true, ltb-false}
 use Rattle.number.specs.Number.{number64}
 use Rattle.flags.specs.Flags.{placesFrom, ones, place, Counted}
 
-below-or : (a b : ℕ) → (a < b) ⊎ (b ≤ a)
+pub below-or : (a b : ℕ) → (a < b) ⊎ (b ≤ a)
 below-or a b = go (ltb a b) refl
   where
     go : (t : Bool) → ltb a b ≡ t → (a < b) ⊎ (b ≤ a)
@@ -64,6 +64,12 @@ ones-next w i l = rw (← drop-drop w i l) (ones-split w (drop i l))
 
 pub ones-past : (l : List ℕ) (i : ℕ) → length l ≤ i → ones (drop i l) ≡ 0
 ones-past l i h = rw (drop-of-length-le l h)
+
+-- no more flags are 1 than there are
+pub ones-few : (l : List ℕ) (i : ℕ) → ((j : ℕ) → getD l j 0 ≤ 1) → ones (drop i l) ≤ length l
+ones-few l i b =
+    let n = length l in
+    omega (arith, ones-split i l, ones-split n l, ones-le n l b, ones-past l n (omega arith))
 
 pub none-left : (l : List ℕ) (i k : ℕ) → length l ≤ i → k < ones (drop i l) → ⊥
 none-left l i k h g = omega (arith, ones-past l i h)

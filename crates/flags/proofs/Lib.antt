@@ -1,5 +1,6 @@
 -- The laws of the flags of the enabled activities. Assumes nothing.
 pub mod Blocks
+pub mod Highest
 pub mod Laws
 pub mod Lowest
 pub mod Marks

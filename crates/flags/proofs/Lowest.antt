@@ -35,11 +35,11 @@ zeros-shift (suc i) k n =
 -- ---- flags as bytes of a number
 
 -- the number in n bytes
-abbrev value : ℕ → List ℕ → ℕ → ℕ
+abbrev pub value : ℕ → List ℕ → ℕ → ℕ
 value zero l k = 0
 value (suc n) l k = getD l k 0 + 256 * value n l (suc k)
 
-value-eight : (l : List ℕ) (k : ℕ) → number64 l k ≡ value 8 l k
+pub value-eight : (l : List ℕ) (k : ℕ) → number64 l k ≡ value 8 l k
 value-eight l k = rw (add-one (k + 4 + 2), add-two (k + 4), add-one (k + 4), add-four k, add-one (k + 2), add-two k, add-one k) (omega arith)
 
 -- where the flags are not all 0, as many zeros stand below the lowest digit that is set as the flags before the first one have digits

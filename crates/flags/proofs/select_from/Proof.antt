@@ -3,12 +3,13 @@
 use Prim.Native.Nat.{ℕ, _+_, _-_, _/_, _%_, _<_}
 use mathlib.Core.Path.{_≡_, refl, sym, ap, _∙_}
 use native.Mathlib.Omega.{arith}
-use lib.Count.{trailingZeros, trailing-le}
+use lib.Count.{trailingZeros, trailing-le, leading-le}
 use lib.ListN.{drop}
 use borrow.Author.Needs.{needs}
 use Rattle.number.specs.Number.{number64}
 use Rattle.flags.specs.Flags.{ones, place}
-use Rattle.flags.proofs.Laws.{passed, zeros-passed, none-left, eight-is}
+use Rattle.flags.proofs.Laws.{passed, zeros-passed, none-left, ones-few, eight-is}
+use Rattle.flags.proofs.Highest.{highest-is}
 use Rattle.flags.proofs.Lowest.{lowest-is}
 use Rattle.flags.proofs.select_from.Statement.{statement}
 use Rattle.flags.proofs.select_from.Tie as tie
@@ -45,18 +46,33 @@ select-from-spec = tie.close (tie.spec
     let w = lowest-is f (d .loop .i) (omega arith) (d .before .pre .1) p in
     let z = sym (ap (λ (y : ℕ). d .loop .i + place y (drop (d .loop .i) f)) (c .if2 .taken)) in
     ap (λ (y : ℕ). d .loop .i + trailingZeros 64 y / 8) (x .ensures) ∙ ap (λ (y : ℕ). d .loop .i + y) w ∙ z ∙ sym (d .loop .inv .2))
-    (λ c κs.
-    let d = c .before .before .before .before .before .before in
-    (d .before .pre .0, d .loop .inv .1))
-    (λ c. c .select-flag .ensures ∙ sym (c .before .before .before .before .before .before .before .loop .inv .2))
+    (λ c.
+    let d = c .before .before .before .before .before in
+    omega (arith, ones-few (d .before .args .flags .now) (d .loop .i) (d .before .pre .1)))
     (λ c. search needs)
-    (λ c. search needs)
+    (λ c. omega (arith, leading-le 64 (c .before .before .before .u64-at .result)))
     (λ c.
     let d = c .before .before .before .before .before .before in
     let f = d .before .args .flags .now in
     let x = c .before .before .before .u64-at in
+    omega (arith, highest-is f (d .before .pre .1) (d .loop .i) (d .loop .left) (x .result) (omega arith) (x .ensures) (c .if3 .taken)))
+    (λ c.
+    let d = c .before .before .before .before .before .before in
+    let f = d .before .args .flags .now in
+    let x = c .before .before .before .u64-at in
+    omega (arith, highest-is f (d .before .pre .1) (d .loop .i) (d .loop .left) (x .result) (omega arith) (x .ensures) (c .if3 .taken)))
+    (λ c κs.
+    let d = c .before .before .before .before .before .before .before in
+    (d .before .pre .0, d .loop .inv .1))
+    (λ c. c .select-flag .ensures ∙ sym (c .before .before .before .before .before .before .before .before .loop .inv .2))
+    (λ c. search needs)
+    (λ c. search needs)
+    (λ c.
+    let d = c .before .before .before .before .before .before .before in
+    let f = d .before .args .flags .now in
+    let x = c .before .before .before .before .u64-at in
     let n = ap (λ (y : ℕ). y % 255) (x .ensures) ∙ eight-is f (d .loop .i) (d .before .pre .1) in
-    let p = passed 8 f (d .loop .i) (d .loop .left) (x .result % 255) (omega arith) n (c .if3 .left) (d .loop .inv .1) in
+    let p = passed 8 f (d .loop .i) (d .loop .left) (x .result % 255) (omega arith) n (c .if4 .left) (d .loop .inv .1) in
     (omega arith, p .0, d .loop .inv .2 ∙ p .1))
     (λ c.
     let l = c .before .loop in
