@@ -4,7 +4,7 @@ use mathlib.Core.Path.{_≡_, refl, ap}
 use mathlib.Core.Bool.{Bool, true, false, cond}
 use mathlib.Core.List.{List, [], _∷_, _++_}
 use native.Mathlib.Omega.{arith}
-use lib.ListN.{length, getD, drop, drop-of-length-le}
+use lib.ListN.{length, getD, set, drop, drop-of-length-le}
 use lib.Seq.{drop-cons}
 use Rattle.table.specs.Table.{rows, All}
 use Rattle.table.proofs.Tables.{getD-rows, length-rows}
@@ -92,3 +92,9 @@ module _ {A : Type 0} (w : ℕ) (dec : List ℕ → A) (p : A → Bool) (n i : �
   first-end h =
       let k : length (rows w dec n l) ≤ i = rw (length-rows w dec n l) h in
       rw (drop-of-length-le (rows w dec n l) k)
+
+-- one is replaced by another that passes or fails alike
+pub first-set : {A : Type 0} (p : A → Bool) (ts : List A) (i : ℕ) (u d : A) → p u ≡ p (getD ts i d) → (n : ℕ) → firstFrom p n (set ts i u) ≡ firstFrom p n ts
+first-set p [] i u d h n = refl
+first-set p (t ∷ ts) zero u d h n = rw h
+first-set p (t ∷ ts) (suc i) u d h n = rw (first-set p ts i u d h (suc n))

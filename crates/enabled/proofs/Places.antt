@@ -8,7 +8,7 @@ use native.Mathlib.Omega.{arith}
 use lib.Dec.{ltb, eqb}
 use lib.ListN.{length, getD, drop}
 use lib.Seq.{getD-drop}
-use borrow.Author.Tests.{eqb-true, eqb-false, eq-eqb, ne-eqb, lt-ltb, le-ltb, ltb-true, ltb-false}
+use borrow.Author.Tests.{eqb-true, eqb-false, eq-eqb, lt-ltb, le-ltb, ltb-true, ltb-false}
 use Rattle.table.specs.Table.{All}
 use Rattle.number.specs.Number.{byteAt, number32, signedOf}
 use Rattle.record.specs.TokensAndTags.{contentOf, tokens, tokenAt, decode, sameTag, standsAt}
@@ -58,6 +58,11 @@ live-rows : (n : ℕ) (l : List ℕ) (d : Token) (f : Found) → Within f n → 
 live-rows n l d (At i) w = rw (getD-rows 20 decode n i l d w)
 live-rows n l d Nothing w = refl
 
+-- the first at a port of a tag is not live
+pub live-off : (tag : Tag) (port : ℕ) (d : Token) (ts : List Token) (i : ℕ) → firstFrom (standsAt tag port) 0 ts ≡ At i → isLive (getD ts i d .content) ≡ false
+    → liveAt ts tag port ≡ false
+live-off tag port d ts i e n = sym (live-list tag port d ts) ∙ ap (liveFound (λ k. getD ts k d)) e ∙ n
+
 pub live-found : (tag : Tag) (port n : ℕ) (l : List ℕ) → liveFound (tokenAt l) (firstFrom (standsAt tag port) 0 (tokens n l)) ≡ liveAt (tokens n l) tag port
 live-found tag port n l =
     let d = tokenAt l 0 in
@@ -70,6 +75,13 @@ lower-first a b h = rw (lt-ltb a b h)
 
 pub lower-second : (a b : ℕ) → b ≤ a → lower a b ≡ b
 lower-second a b h = rw (le-ltb a b h)
+
+pub lower-below : (a b n : ℕ) → a < n → b < n → lower a b < n
+lower-below a b n h k = go (ltb a b)
+  where
+    go : (t : Bool) → cond t a b < n
+    go true = h
+    go false = k
 
 lower-suc : (a b : ℕ) → lower (suc a) (suc b) ≡ suc (lower a b)
 lower-suc a b = go (ltb a b) refl
@@ -110,10 +122,6 @@ module _ (tag : Tag) where
   pub stands-other : (port : ℕ) (t : Token) → sameTag (t .tag) tag ≡ false → standsAt tag port t ≡ false
   unfolding standsAt
   stands-other port t s = rw s (and-false (eqb (t .port) port))
-
-  pub stands-away : (port : ℕ) (t : Token) → (t .port ≡ port → ⊥) → standsAt tag port t ≡ false
-  unfolding standsAt
-  stands-away port t z = rw (ne-eqb (t .port) port z)
 
   first-tag : (ts : List Token) → All (λ (t : Token). t .port < 2) ts → placeOf ts tag ≡ lower (seek 0 ts) (seek 1 ts)
   first-tag [] w = refl

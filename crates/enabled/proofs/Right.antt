@@ -5,10 +5,10 @@ use mathlib.Core.Bool.{Bool, true, false, _&&_, cond}
 use mathlib.Core.List.{List, [], _∷_, _++_, map-append}
 use native.Mathlib.Omega.{arith}
 use native.Mathlib.Decide.{decLe}
-use native.Mathlib.Nat.{not-suc-le-zero, le-of-suc-le-suc, suc-inj}
+use native.Mathlib.Nat.{not-suc-le-zero, le-of-suc-le-suc}
 use lib.Dec.{eqb}
-use lib.ListN.{length, getD, set, replicate, length-map, length-set}
-use lib.Seq.{map-set-same, getD-set-same, set-getD}
+use lib.ListN.{length, getD, set, replicate, length-map}
+use lib.Seq.{map-set-same, set-getD}
 use borrow.Author.Tests.{eqb-true, eq-eqb}
 use Rattle.record.specs.TokensAndTags.{sameTag, standsAt}
 use Rattle.record.specs.declared.tag.Tag.{Tag}
@@ -16,11 +16,11 @@ use Rattle.record.specs.declared.token.Token.{Token}
 use Rattle.flags.specs.Flags.{places}
 use Rattle.flags.specs.Marks.{bit, firstOf, placesWhere, marks}
 use Rattle.flags.specs.Marks as Marks
-use Rattle.flags.proofs.Marks.{first-le, where-agree, where-map, where-passes, places-lead, where-below, marked-none, marked-places, marked-append, marked-change, marked-leads, marked-first, marked-past}
+use Rattle.flags.proofs.Marks.{first-le, where-agree, where-map, where-passes, places-lead, where-below, marked-none, marked-places, marked-append, marked-change, marked-first, marked-past}
 use Rattle.chains.proofs.Index.{and-left, and-right}
 use Rattle.enabled.specs.Enabled.{isLive, liveAt, allLive, arityOf, isEnabled, tagOf, tagsOf, tagSame, placeOf, leads, enabledPlaces}
 use Rattle.enabled.specs.Store.{Right}
-use Rattle.enabled.proofs.Places.{stands-tag, stands-other, stands-away}
+use Rattle.enabled.proofs.Places.{stands-other}
 
 -- ---- equality of tags
 
@@ -76,17 +76,10 @@ live-set y port u d (t ∷ ts) zero e f =
     rw (stands-other y port u a, stands-other y port t (rw e at a))
 live-set y port u d (t ∷ ts) (suc i) e f = rw (live-set y port u d ts i e f)
 
--- a token is replaced by one of its port: nothing changes at another
-live-port : (y : Tag) (port : ℕ) (u d : Token) (ts : List Token) (i : ℕ) → u .port ≡ getD ts i d .port → (u .port ≡ port → ⊥)
-    → liveAt (set ts i u) y port ≡ liveAt ts y port
-live-port y port u d [] i e z = refl
-live-port y port u d (t ∷ ts) zero e z = rw (stands-away y port u z, stands-away y port t (λ q. z (e ∙ q)))
-live-port y port u d (t ∷ ts) (suc i) e z = rw (live-port y port u d ts i e z)
-
 -- ---- where a tag is not enabled
 
 -- every activity waits for port 0
-all-off : (n : ℕ) (ts : List Token) (y : Tag) → liveAt ts y 0 ≡ false → allLive n ts y ≡ false
+pub all-off : (n : ℕ) (ts : List Token) (y : Tag) → liveAt ts y 0 ≡ false → allLive n ts y ≡ false
 unfolding allLive
 all-off n ts y e = rw e (go (eqb n 1) (eqb n 2))
   where
@@ -111,18 +104,6 @@ all-before n ts t y e = go (allLive n ts y) refl
     go : (b : Bool) → allLive n ts y ≡ b → b ≡ false
     go false h = refl
     go true h = sym (kept (eqb n 1) (eqb n 2) h) ∙ e
-
--- the earliest token of a tag is the first on its port
-live-first : (tag : Tag) (port : ℕ) (d : Token) (ts : List Token) (i : ℕ) → i < length ts → placeOf ts tag ≡ i → getD ts i d .tag ≡ tag → getD ts i d .port ≡ port
-    → isLive (getD ts i d .content) ≡ false → liveAt ts tag port ≡ false
-live-first tag port d [] i h p a b n = refl
-live-first tag port d (t ∷ ts) zero h p a b n = rw (stands-tag tag port t b (rw a (tag-own tag))) n
-live-first tag port d (t ∷ ts) (suc i) h p a b n = go (tagSame tag (t .tag)) refl p (λ q. live-first tag port d ts i (le-of-suc-le-suc h) q a b n)
-  where
-    go : (s : Bool) → tagSame tag (t .tag) ≡ s → cond s 0 (suc (placeOf ts tag)) ≡ suc i → (placeOf ts tag ≡ i → liveAt ts tag port ≡ false)
-        → liveAt (t ∷ ts) tag port ≡ false
-    go true q p ih = absurd (omega arith)
-    go false q p ih = rw (stands-other tag port t q) (ih (suc-inj p))
 
 -- ---- places
 
@@ -155,6 +136,9 @@ pub place-set : (ts : List Token) (i : ℕ) (u d : Token) → i < length ts → 
 place-set ts i u d h e =
     let f = first-below (tagsOf ts) (u .tag) (d .tag) i (omega (arith, length-map ts tagOf)) (tag-at ts i d ∙ sym e) in
     rw (map-set-same tagOf ts i u d e) (omega arith)
+
+pub place-kept : (ts : List Token) (i : ℕ) (u d : Token) → u .tag ≡ getD ts i d .tag → (tag : Tag) → placeOf (set ts i u) tag ≡ placeOf ts tag
+place-kept ts i u d e tag = ap (firstOf tagSame tag) (map-set-same tagOf ts i u d e)
 
 -- ---- the flags
 
@@ -224,13 +208,6 @@ module _ (arities : List ℕ) where
       (λ y f. all-same (arityOf arities y) us ts y (λ port. live-set y port u d ts i e f))
       (tagsOf ts) flags p w)
 
-  -- a token whose flag is raised is the earliest of its tag
-  right-leads : (ts : List Token) (flags : List ℕ) (i : ℕ) (d : Token) → i < length ts → Right arities ts flags → getD flags i 0 ≡ 1
-      → placeOf ts (getD ts i d .tag) ≡ i
-  unfolding Right
-  right-leads ts flags i d h w e =
-      rw (tag-at ts i d) at (marked-leads tagSame tag-equal tag-own (isEnabled arities ts) (tagsOf ts) flags i (d .tag) (omega (arith, length-map ts tagOf)) w e)
-
   right-flag : (ts : List Token) (flags : List ℕ) (tag : Tag) → placeOf ts tag < length ts → Right arities ts flags
       → getD flags (placeOf ts tag) 0 ≡ bit (isEnabled arities ts tag)
   unfolding Right
@@ -252,29 +229,3 @@ module _ (arities : List ℕ) where
       go : Dec (suc p ≤ length ts) → getD flags p 0 ≡ 0
       go (yes h) = right-flag ts flags (t .tag) h w ∙ ap bit (all-before (arityOf arities (t .tag)) ts t (t .tag) n)
       go (no z) = marked-past tagSame (isEnabled arities ts) (tagsOf ts) flags p (omega (arith, length-map ts tagOf)) w
-
-  module _ (ts : List Token) (i : ℕ) (u d : Token) (flags : List ℕ) (h : i < length ts) (e : u .tag ≡ getD ts i d .tag) (w : Right arities ts flags) where
-    kept-place : (k : Tag) → placeOf (set ts i u) k ≡ placeOf ts k
-    kept-place k = ap (firstOf tagSame k) (map-set-same tagOf ts i u d e)
-
-    -- the earliest token of a tag, on port 0, is no longer live
-    pub right-led : u .port ≡ 0 → isLive (u .content) ≡ false → getD flags i 0 ≡ 1
-        → (placeOf (set ts i u) (u .tag) ≡ i) × (isEnabled arities (set ts i u) (u .tag) ≡ false)
-    right-led z n f =
-        let us = set ts i u in
-        let here : getD us i d ≡ u = getD-set-same ts i u d h in
-        let lead : placeOf us (u .tag) ≡ i = kept-place (u .tag) ∙ ap (placeOf ts) e ∙ right-leads ts flags i d h w f in
-        let off = live-first (u .tag) 0 d us i (omega (arith, length-set ts i u)) lead (ap tagOf here) (ap (λ (t : Token). t .port) here ∙ z) (ap (λ (t : Token). isLive (t .content)) here ∙ n) in
-        (lead, all-off (arityOf arities (u .tag)) us (u .tag) off)
-
-    -- a token on another port is replaced, and port 0 has none that is live: the flags stay as they are
-    pub right-idle : u .port ≡ getD ts i d .port → (u .port ≡ 0 → ⊥) → liveAt (set ts i u) (u .tag) 0 ≡ false
-        → flags ≡ set flags (placeOf (set ts i u) (u .tag)) (bit (isEnabled arities (set ts i u) (u .tag)))
-    right-idle q z n =
-        let us = set ts i u in
-        let k = u .tag in
-        let p = placeOf ts k in
-        let below : p < length ts = rw (kept-place k) at (place-set ts i u d h e) in
-        let off : isEnabled arities ts k ≡ false = all-off (arityOf arities k) ts k (sym (live-port k 0 u d ts i q z) ∙ n) in
-        let flag : getD flags p 0 ≡ 0 = right-flag ts flags k below w ∙ ap bit off in
-        rw (kept-place k, all-off (arityOf arities k) us k n) (stays flags p flag)

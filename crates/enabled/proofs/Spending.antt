@@ -1,27 +1,31 @@
--- Laws of a token that is spent: one that is live by its state byte alone, any other stays; and what becomes of the flag of its tag.
--- Assumes nothing.
-use Prim.Native.Nat.{ℕ, _+_, _*_, _≤_, _<_}
-use mathlib.Core.Path.{_≡_, refl, sym, ap, subst, _∙_}
-use mathlib.Core.Bool.{Bool, true, false, _&&_, _||_, cond}
+-- Laws of operands that are spent: a live token is spent by its state byte alone, and once the token at port 0 of a tag is spent the tag's activity is
+-- not enabled, so that the flag at its place goes. Assumes nothing.
+use Prim.Native.Nat.{ℕ, _+_, _*_, _<_}
+use mathlib.Core.Path.{_≡_, refl, sym, ap, _∙_}
+use mathlib.Core.Bool.{true, false}
 use mathlib.Core.List.{List}
 use native.Mathlib.Omega.{arith}
-use lib.Dec.{eqb}
+use native.Mathlib.Decide.{ℕ-discrete}
 use lib.ListN.{length, getD, set, drop, length-set}
-use lib.Seq.{getD-drop, getD-set-same, set-getD}
-use borrow.Author.Tests.{eqb-true, eqb-false, ne-eqb}
+use lib.Seq.{getD-drop, getD-set-same, getD-set-other, set-set}
+use borrow.Author.Tests.{eqb-true}
 use Rattle.number.specs.Number.{byteAt, number32, signedOf}
 use Rattle.table.specs.Table.{putRow}
 use Rattle.table.proofs.Tables.{length-rows, getD-rows}
-use Rattle.record.specs.TokensAndTags.{contentOf, tokens, tokenAt, decode, encode, ContentFits, TokenFits}
+use Rattle.record.specs.TokensAndTags.{contentOf, tokens, tokenAt, decode, encode, standsAt, ContentFits, TokenFits}
+use Rattle.record.specs.declared.tag.Tag.{Tag}
 use Rattle.record.specs.declared.token.Token.{Token}
 use Rattle.record.specs.declared.token.Content.{Content}
 use Rattle.record.specs.declared.token.Content.the-variants.{Live, Spent, Deferred}
-use Rattle.flags.specs.Marks.{bit}
-use Rattle.chains.proofs.Index.{and-left, and-right}
-use Rattle.enabled.specs.Enabled.{isLive, liveAt, contentSpent, spentToken, isEnabled, placeOf}
-use Rattle.enabled.specs.Store.{Stored}
-use Rattle.enabled.proofs.Bytes.{split, replaced, spent-byte}
-use Rattle.enabled.proofs.Right.{right-led, right-idle}
+use Rattle.flags.specs.Flags.{Counted}
+use Rattle.chains.specs.declared.Found.the-variants.{At}
+use Rattle.chains.specs.Search.{firstFrom}
+use Rattle.chains.proofs.Search.{first-set}
+use Rattle.enabled.specs.Enabled.{isLive, liveAt, contentSpent, spentToken, arityOf, placeOf}
+use Rattle.enabled.specs.Store.{Stored, lower, Operands, statesSpent, tokensSpent}
+use Rattle.enabled.proofs.Places.{live-state, live-off}
+use Rattle.enabled.proofs.Bytes.{spent-byte}
+use Rattle.enabled.proofs.Right.{all-off, place-kept}
 use Rattle.enabled.proofs.Store.{all-at, Moved, changed}
 
 -- ---- a token
@@ -45,103 +49,102 @@ spent-fits t f = record {
   content = content-fits (t .content) (f .content);
 }
 
--- ---- a record by its state and its port
+-- ---- a record by its state
 
 content-live : (bits state : ℕ) → state ≡ 0 → contentOf bits state ≡ Live (signedOf bits)
 unfolding contentOf
 content-live bits state e = rw e
-
-content-stays : (bits state : ℕ) → (state ≡ 0 → ⊥) → contentSpent (contentOf bits state) ≡ contentOf bits state
-unfolding contentOf
-content-stays bits state z = rw (ne-eqb state 0 z) (go (eqb state 1))
-  where
-    go : (b : Bool) → contentSpent (cond b (Spent (signedOf bits)) (Deferred bits)) ≡ cond b (Spent (signedOf bits)) (Deferred bits)
-    go true = refl
-    go false = refl
 
 module _ (l : List ℕ) (i : ℕ) where
   record-live : getD l (i * 20 + 16) 0 ≡ 0 → tokenAt l i .content ≡ Live (signedOf (number32 (drop (i * 20) l) 12))
   unfolding decode
   record-live e = content-live (number32 (drop (i * 20) l) 12) (byteAt (drop (i * 20) l) 16) (getD-drop (i * 20) l 16 0 ∙ e)
 
-  record-stays : (getD l (i * 20 + 16) 0 ≡ 0 → ⊥) → spentToken (tokenAt l i) ≡ tokenAt l i
-  unfolding decode
-  record-stays z =
-      let t = tokenAt l i in
-      let p = content-stays (number32 (drop (i * 20) l) 12) (byteAt (drop (i * 20) l) 16) (λ e. z (sym (getD-drop (i * 20) l 16 0) ∙ e)) in
-      λ k. record { tag = t .tag; port = t .port; content = p k }
+  state-live : isLive (tokenAt l i .content) ≡ true → getD l (i * 20 + 16) 0 ≡ 0
+  state-live e = eqb-true (getD l (i * 20 + 16) 0) 0 (sym (live-state l i) ∙ e)
 
-  record-port : tokenAt l i .port ≡ getD l (i * 20 + 9) 0
-  unfolding decode
-  record-port = getD-drop (i * 20) l 9 0
+-- ---- one token is spent, and its tag is then not enabled
 
--- ---- the ledger and its flags
+first-spent : (tag : Tag) (ts : List Token) (i : ℕ) (t : Token) → getD ts i t ≡ t → firstFrom (standsAt tag 0) 0 (set ts i (spentToken t)) ≡ firstFrom (standsAt tag 0) 0 ts
+unfolding standsAt
+first-spent tag ts i t e = first-set (standsAt tag 0) ts i (spentToken t) t (rw e) 0
 
-or-none : (a b : Bool) → a || b ≡ false → (a ≡ false) × (b ≡ false)
-or-none true b e = let z : _≡_ {A = ℕ} 0 1 = cc in absurd (omega arith)
-or-none false b e = (refl, e)
+module _ (arities heads next flags counts l : List ℕ) (used i : ℕ) (w : Stored arities heads next flags counts l used) (h : i < used) (live : getD l (i * 20 + 16) 0 ≡ 0) where
+  abbrev t : Token
+  t = tokenAt l i
 
-module _ (arities heads next flags counts l : List ℕ) (used i : ℕ) (w : Stored arities heads next flags counts l used) (h : i < used) where
-  found : getD (tokens used l) i (tokenAt l i) ≡ tokenAt l i
-  found = getD-rows 20 decode used i l (tokenAt l i) h
+  abbrev us : List Token
+  us = set (tokens used l) i (spentToken (tokenAt l i))
 
-  size : i < length (tokens used l)
-  size = omega (arith, length-rows 20 decode used l)
+  held : getD (tokens used l) i (tokenAt l i) ≡ tokenAt l i
+  held = getD-rows 20 decode used i l (tokenAt l i) h
 
-  -- one that is not live
-  pub stayed : (getD l (i * 20 + 16) 0 ≡ 0 → ⊥)
-      → (l ≡ putRow 20 l i (encode (spentToken (tokenAt l i)))) × (tokens used l ≡ set (tokens used l) i (spentToken (tokenAt l i)))
-  stayed z =
-      let ts = tokens used l in
-      let t = tokenAt l i in
-      let same : set ts i t ≡ ts = ap (λ (x : Token). set ts i x) (sym found) ∙ set-getD ts i t in
-      let put : putRow 20 l i (encode t) ≡ l = replaced used l (w .bytes) t i h ∙ rw same (sym (split used l (w .bytes))) in
-      subst (λ (x : Token). (l ≡ putRow 20 l i (encode x)) × (tokens used l ≡ set (tokens used l) i x)) (sym (record-stays l i z)) (sym put, sym same)
+  moved : Moved arities heads next flags (set l (i * 20 + 16) 1) used us (spentToken (tokenAt l i))
+  moved =
+      let m = set l (i * 20 + 16) 1 in
+      let put : m ≡ putRow 20 l i (encode (spentToken t)) = spent-byte used l (w .bytes) i (signedOf (number32 (drop (i * 20) l) 12)) h (record-live l i live) in
+      let f : TokenFits t = rw held at (all-at TokenFits (tokens used l) i t (omega (arith, length-rows 20 decode used l)) (w .fits)) in
+      changed arities heads next flags counts l used i (spentToken t) w h refl refl (spent-fits t f) m put (length-set l (i * 20 + 16) 1)
 
-  -- one that is live: its state byte is written
-  module _ (live : getD l (i * 20 + 16) 0 ≡ 0) where
-    pub spent-put : set l (i * 20 + 16) 1 ≡ putRow 20 l i (encode (spentToken (tokenAt l i)))
-    spent-put = spent-byte used l (w .bytes) i (signedOf (number32 (drop (i * 20) l) 12)) h (record-live l i live)
+  spent : (tag : Tag) → t .tag ≡ tag → (p : ℕ) → placeOf (tokens used l) tag ≡ p → liveAt us tag 0 ≡ false → (flags′ counts′ : List ℕ) → flags′ ≡ set flags p 0 → Counted flags′ counts′
+      → (tokens used (set l (i * 20 + 16) 1) ≡ us) × Stored arities heads next flags′ counts′ (set l (i * 20 + 16) 1) used
+  spent tag e p lead off flags′ counts′ put c =
+      let place = place-kept (tokens used l) i (spentToken t) t (ap (λ (x : Token). x .tag) (sym held)) (t .tag) ∙ ap (placeOf (tokens used l)) e ∙ lead in
+      let down = all-off (arityOf arities (t .tag)) us (t .tag) (ap (λ (k : Tag). liveAt us k 0) e ∙ off) in
+      (moved .more, moved .stored flags′ counts′ (put ∙ rw (moved .more, place, down)) c)
 
-    pub spent-moved : Moved arities heads next flags (set l (i * 20 + 16) 1) used (set (tokens used l) i (spentToken (tokenAt l i))) (spentToken (tokenAt l i))
-    spent-moved =
-        let t = tokenAt l i in
-        let f : TokenFits t = rw found at (all-at TokenFits (tokens used l) i t size (w .fits)) in
-        changed arities heads next flags counts l used i (spentToken t) w h refl refl (spent-fits t f) (set l (i * 20 + 16) 1) spent-put (length-set l (i * 20 + 16) 1)
+-- ---- the operands of an activity are spent
 
-    pub spent-read : tokenAt (set l (i * 20 + 16) 1) i ≡ spentToken (tokenAt l i)
-    spent-read =
-        let m = set l (i * 20 + 16) 1 in
-        let u = spentToken (tokenAt l i) in
-        sym (getD-rows 20 decode used i m u h) ∙ ap (λ (ts : List Token). getD ts i u) (spent-moved .more) ∙ getD-set-same (tokens used l) i u u size
+module _ (arities heads next flags counts l : List ℕ) (used i j : ℕ) (w : Stored arities heads next flags counts l used) (o : Operands l used i j) (flags′ counts′ : List ℕ) (put : flags′ ≡ set flags (lower i j) 0) (c : Counted flags′ counts′) where
+  abbrev ts : List Token
+  ts = tokens used l
 
-    -- its flag is raised and it stands on port 0: the flag goes
-    pub spent-led : eqb (getD flags i 0) 1 && eqb (getD (set l (i * 20 + 16) 1) (i * 20 + 9) 0) 0 ≡ true
-        → let us = tokens used (set l (i * 20 + 16) 1) in
-        let k = spentToken (tokenAt l i) .tag in
-        set flags i 0 ≡ set flags (placeOf us k) (bit (isEnabled arities us k))
-    spent-led b =
-        let m = set l (i * 20 + 16) 1 in
-        let ts = tokens used l in
-        let t = tokenAt l i in
-        let u = spentToken t in
-        let x = eqb (getD flags i 0) 1 in
-        let y = eqb (getD m (i * 20 + 9) 0) 0 in
-        let raised : getD flags i 0 ≡ 1 = eqb-true (getD flags i 0) 1 (and-left x y b) in
-        let port : u .port ≡ 0 = sym (ap (λ (v : Token). v .port) spent-read) ∙ record-port m i ∙ eqb-true (getD m (i * 20 + 9) 0) 0 (and-right x y b) in
-        let r = right-led arities ts i u t flags size (ap (λ (v : Token). v .tag) (sym found)) (w .right) port (spent-dead (t .content)) raised in
-        rw (spent-moved .more, r .0, r .1)
+  abbrev m : List ℕ
+  m = set l (i * 20 + 16) 1
 
-    -- it is a second operand, and the first is not live: the flags stay
-    pub spent-idle : let us = tokens used (set l (i * 20 + 16) 1) in
-        let u = spentToken (tokenAt l i) in
-        eqb (u .port) 0 || liveAt us (u .tag) 0 ≡ false → flags ≡ set flags (placeOf us (u .tag)) (bit (isEnabled arities us (u .tag)))
-    spent-idle b =
-        let ts = tokens used l in
-        let t = tokenAt l i in
-        let u = spentToken t in
-        let us = tokens used (set l (i * 20 + 16) 1) in
-        let n = or-none (eqb (u .port) 0) (liveAt us (u .tag) 0) b in
-        let off : liveAt (set ts i u) (u .tag) 0 ≡ false = rw (spent-moved .more) at (n .1) in
-        rw (spent-moved .more)
-        (right-idle arities ts i u t flags size (ap (λ (v : Token). v .tag) (sym found)) (w .right) (ap (λ (v : Token). v .port) (sym found)) (eqb-false (u .port) 0 (n .0)) off)
+  abbrev u : Token
+  u = spentToken (tokenAt l i)
+
+  abbrev vs : List Token
+  vs = set (tokens used l) i (spentToken (tokenAt l i))
+
+  size : length (tokens used l) ≡ used
+  size = length-rows 20 decode used l
+
+  read : (k : ℕ) (d : Token) → k < used → getD (tokens used l) k d ≡ tokenAt l k
+  read k d h = getD-rows 20 decode used k l d h
+
+  found : firstFrom (standsAt (tokenAt l i .tag) 0) 0 vs ≡ At i
+  found = first-spent (tokenAt l i .tag) ts i (tokenAt l i) (read i (tokenAt l i) (o .firstWithin)) ∙ o .found
+
+  gone : (d : Token) → getD vs i d ≡ spentToken (tokenAt l i)
+  gone d = getD-set-same ts i u d (omega (arith, size, o .firstWithin))
+
+  once : (tokens used m ≡ vs) × Stored arities heads next flags′ counts′ m used
+  once =
+      let off = live-off (tokenAt l i .tag) 0 u vs i found (ap (λ (x : Token). isLive (x .content)) (gone u) ∙ spent-dead (tokenAt l i .content)) in
+      spent arities heads next flags counts l used i w (o .firstWithin) (state-live l i (o .firstLive)) (tokenAt l i .tag) refl (lower i j) (o .place) off flags′ counts′ put c
+
+  -- the second operand is another
+  twice : (j ≡ i → ⊥) → (tokens used (statesSpent l i j) ≡ tokensSpent used l i j) × Stored arities heads next flags′ counts′ (statesSpent l i j) used
+  twice apart =
+      let tag = tokenAt l i .tag in
+      let p = lower i j in
+      let v = spentToken (tokenAt l j) in
+      let there : getD vs j u ≡ tokenAt l j = getD-set-other ts i j u u apart ∙ read j u (o .secondWithin) in
+      let same : tokenAt m j ≡ tokenAt l j = sym (getD-rows 20 decode used j m u (o .secondWithin)) ∙ ap (λ (ws : List Token). getD ws j u) (once .0) ∙ there in
+      let live : getD m (j * 20 + 16) 0 ≡ 0 = getD-set-other l (i * 20 + 16) (j * 20 + 16) 1 0 (λ e. apart (omega arith)) ∙ state-live l j (o .secondLive) in
+      let lead : placeOf (tokens used m) tag ≡ p = rw (once .0) (place-kept ts i u (tokenAt l i) (ap (λ (x : Token). x .tag) (sym (read i (tokenAt l i) (o .firstWithin)))) tag ∙ o .place) in
+      let dead : isLive (getD (set vs j v) i u .content) ≡ false = ap (λ (x : Token). isLive (x .content)) (getD-set-other vs j i v u (λ e. apart (sym e)) ∙ gone u) ∙ spent-dead (tokenAt l i .content) in
+      let off = live-off tag 0 u (set vs j v) i (first-spent tag vs j (tokenAt l j) (getD-set-other ts i j u (tokenAt l j) apart ∙ read j (tokenAt l j) (o .secondWithin)) ∙ found) dead in
+      let written : set (tokens used m) j (spentToken (tokenAt m j)) ≡ set vs j v = λ k. set (once .0 k) j (spentToken (same k)) in
+      let lowered : flags′ ≡ set flags′ p 0 = put ∙ sym (set-set flags p 0 0) ∙ ap (λ (f : List ℕ). set f p 0) (sym put) in
+      let r = spent arities heads next flags′ counts′ m used j (once .1) (o .secondWithin) live tag (ap (λ (x : Token). x .tag) same ∙ o .oneTag) p lead (ap (λ (ws : List Token). liveAt ws tag 0) written ∙ off) flags′ counts′ lowered c in
+      (r .0 ∙ written, r .1)
+
+  pub both-spent : (tokens used (statesSpent l i j) ≡ tokensSpent used l i j) × Stored arities heads next flags′ counts′ (statesSpent l i j) used
+  both-spent = go (ℕ-discrete j i)
+    where
+      go : Dec (j ≡ i) → (tokens used (statesSpent l i j) ≡ tokensSpent used l i j) × Stored arities heads next flags′ counts′ (statesSpent l i j) used
+      go (yes e) = rw (e, set-set l (i * 20 + 16) 1 1, set-set ts i u u) once
+      go (no apart) = twice apart

@@ -1,20 +1,21 @@
 -- What is kept beside the used records of a ledger: the chains by tag and port, and the flags of the enabled activities with their counts.
 -- Assumes nothing.
-use Prim.Native.Nat.{ℕ, _*_, _/_, _≤_, _<_}
+use Prim.Native.Nat.{ℕ, _+_, _*_, _/_, _≤_, _<_}
 use mathlib.Core.Path.{_≡_}
-use mathlib.Core.Bool.{Bool, false, _&&_, cond}
+use mathlib.Core.Bool.{Bool, true, false, _&&_, cond}
 use mathlib.Core.List.{List}
-use lib.ListN.{length, take}
+use lib.ListN.{length, set, take}
 use lib.Dec.{eqb, ltb}
 use Rattle.table.specs.Table.{joined, All}
-use Rattle.record.specs.TokensAndTags.{encode, tokens, TokenFits}
+use Rattle.record.specs.TokensAndTags.{encode, tokens, tokenAt, standsAt, TokenFits}
 use Rattle.record.specs.declared.token.Token.{Token}
 use Rattle.flags.specs.Flags.{Counted}
 use Rattle.flags.specs.Marks.{Marked}
 use Rattle.chains.specs.declared.Found.{Found}
 use Rattle.chains.specs.declared.Found.the-variants.{At, Nothing}
 use Rattle.chains.specs.Chains.{Indexed}
-use Rattle.enabled.specs.Enabled.{isLive, isEnabled, tagsOf, tagSame}
+use Rattle.chains.specs.Search.{firstFrom}
+use Rattle.enabled.specs.Enabled.{isLive, isEnabled, tagsOf, tagSame, placeOf, spentToken}
 
 -- a ledger whose used records are indexed, and stand on ports 0 and 1
 pub record Known (heads next ledger : List ℕ) (used : ℕ) : Type 0 where
@@ -54,3 +55,23 @@ readyOf n a b = cond (eqb n 1) a (cond (eqb n 2) (a && b) false)
 -- the same, where a says it of a port below 2 and b of the other
 abbrev pub readyWith : (n port : ℕ) → (a b : Bool) → Bool
 readyWith n port a b = cond (eqb port 0) (readyOf n a b) (readyOf n b a)
+
+-- ---- operands that are spent
+
+-- the tokens at two places, or at one that is given twice, are operands of an activity: both are live, the first is that of port 0, and the
+-- earlier is the first of their tag
+pub record Operands (ledger : List ℕ) (used first second : ℕ) : Type 0 where
+  pub firstWithin : first < used
+  pub secondWithin : second < used
+  pub firstLive : isLive (tokenAt ledger first .content) ≡ true
+  pub secondLive : isLive (tokenAt ledger second .content) ≡ true
+  pub oneTag : tokenAt ledger second .tag ≡ tokenAt ledger first .tag
+  pub found : firstFrom (standsAt (tokenAt ledger first .tag) 0) 0 (tokens used ledger) ≡ At first
+  pub place : placeOf (tokens used ledger) (tokenAt ledger first .tag) ≡ lower first second
+
+-- the bytes and the tokens of a ledger, where the tokens at two places are spent: a live one is spent by its state byte
+abbrev pub statesSpent : List ℕ → (first second : ℕ) → List ℕ
+statesSpent l i j = set (set l (i * 20 + 16) 1) (j * 20 + 16) 1
+
+abbrev pub tokensSpent : (used : ℕ) → List ℕ → (first second : ℕ) → List Token
+tokensSpent used l i j = set (set (tokens used l) i (spentToken (tokenAt l i))) j (spentToken (tokenAt l j))

@@ -1,22 +1,20 @@
-// The enabled activities of a ledger, kept as flags by place: a token is added, or one is changed or spent, and the
-// flag of its activity is put right.
+// The enabled activities of a ledger, kept as flags by place: a token is added, or one is changed, or the
+// operands of an activity are spent, and the flag of its activity is put right.
 use chains::Found;
 use record::tag::Tag;
 use record::token;
 use record::token::Token;
 ghost use mathlib.Core.Path.{_≡_};
-ghost use mathlib.Core.Bool.{_&&_, _||_};
-ghost use mathlib.Core.List.{[], _∷_, _++_};
-ghost use Prim.Native.Nat.{_+_, _*_, _/_, _≤_, _<_};
-ghost use lib.Dec.{eqb};
+ghost use mathlib.Core.List.{List, [], _∷_, _++_};
+ghost use Prim.Native.Nat.{ℕ, _+_, _/_, _<_};
 ghost use lib.ListN.{length, getD, set};
 ghost use Rattle.table.specs.Table.{putRow};
 ghost use Rattle.record.specs.TokensAndTags.{encode, tokens, tokenAt};
 ghost use Rattle.flags.specs.Flags.{Counted};
 ghost use Rattle.flags.specs.Marks.{bit};
 ghost use Rattle.chains.specs.Search.{Within, Free};
-ghost use Rattle.enabled.specs.Enabled.{liveAt, allLive, spentToken, placeOf};
-ghost use Rattle.enabled.specs.Store.{Known, Stored, placeOr, lower, liveFound, readyOf, readyWith};
+ghost use Rattle.enabled.specs.Enabled.{allLive, placeOf};
+ghost use Rattle.enabled.specs.Store.{Known, Stored, placeOr, lower, liveFound, readyOf, readyWith, Operands, statesSpent, tokensSpent};
 
 fn place_or(f: Found, other: usize) -> usize
     ensures { λ r. ⌜ r ≡ placeOr f other ⌝ }
@@ -67,33 +65,17 @@ fn ready_with(ledger: &[u8], port: u8, own: Found, other: Found, operands: u8) -
     }
 }
 
+fn earlier(a: usize, b: usize) -> usize
+    ensures { λ r. ⌜ r ≡ lower a b ⌝ }
+{
+    if a < b { a } else { b }
+}
+
 // The place of the earliest token of a tag, where f and g stand on its ports.
 fn first_of(f: Found, g: Found, used: usize) -> usize
     ensures { λ r. ⌜ r ≡ lower (placeOr f used) (placeOr g used) ⌝ }
 {
-    let a = place_or(f, used);
-    let b = place_or(g, used);
-    if a < b { a } else { b }
-}
-
-// Whether token i has its activity's flag and stands on port 0, for which every activity waits.
-fn leads(flags: &[u8; 2048], ledger: &[u8], i: usize) -> bool
-    requires { ⌜ (i < 2048) × (i < length (now ledger) / 20) ⌝ }
-    ensures { λ r. ⌜ r ≡ eqb (getD (now (flags .entry)) i 0) 1 && eqb (getD (now (ledger .entry)) (i * 20 + 9) 0) 0 ⌝ }
-{
-    flags[i] == 1 && ledger[i * 20 + 9] == 0
-}
-
-// Whether t's activity can hang on t: that of a second operand does not where the first is not live.
-fn matters(heads: &[u16; 4096], next: &[u16; 2048], ledger: &[u8], used: usize, t: Token) -> bool
-    requires { ⌜ Known (now heads) (now next) (now ledger) used ⌝ }
-    ensures { λ r. ⌜ r ≡ eqb (t .port) 0 || liveAt (tokens used (now (ledger .entry))) (t .tag) 0 ⌝ }
-{
-    if t.port == 0 {
-        return true;
-    }
-    let tag = t.tag;
-    live(ledger, chains::find(heads, next, ledger, used, tag, 0))
+    earlier(place_or(f, used), place_or(g, used))
 }
 
 // Puts the flag of a tag's activity right, by what its two ports have.
@@ -179,36 +161,21 @@ pub fn change(
     settle(flags, counts, heads, next, ledger, used, tag, operands);
 }
 
-// Token i is spent: where it is live its state byte is written, any other stays. The ports of its tag are looked up
-// only where the flag of its activity can be at another place.
-pub fn spend(
-    arities: &[u8],
-    heads: &[u16; 4096],
-    next: &[u16; 2048],
+// Spends the operands of an enabled activity; where one is waited for, both places are its place. The activity is
+// enabled no more, and its flag stands at the place of its earlier operand, so nothing has to be searched for.
+pub fn spend_operands(
     flags: &mut [u8; 2048],
     counts: &mut [u16; 36],
     ledger: &mut [u8],
-    used: usize,
-    i: usize,
+    first: usize,
+    second: usize,
 )
-    requires { ⌜ Stored (now arities) (now heads) (now next) (now flags) (now counts) (now ledger) used × (i < used) ⌝ }
-    ensures { λ _. ⌜ now (ledger .exit) ≡ putRow 20 (now (ledger .entry)) i (encode (spentToken (tokenAt (now (ledger .entry)) i))) ⌝ }
-    ensures { λ _. ⌜ tokens used (now (ledger .exit)) ≡ set (tokens used (now (ledger .entry))) i (spentToken (tokenAt (now (ledger .entry)) i)) ⌝ }
-    ensures { λ _. ⌜ Stored (now (arities .entry)) (now (heads .entry)) (now (next .entry)) (now (flags .exit)) (now (counts .exit)) (now (ledger .exit)) used ⌝ }
+    requires { ⌜ Counted (now flags) (now counts) × (first < 2048) × (second < 2048) × (first < length (now ledger) / 20) × (second < length (now ledger) / 20) ⌝ }
+    ensures { λ _. ⌜ now (ledger .exit) ≡ statesSpent (now (ledger .entry)) first second ⌝ }
+    ensures { λ _. ⌜ ((arities heads next : List ℕ) (used : ℕ) → Stored arities heads next (now (flags .entry)) (now (counts .entry)) (now (ledger .entry)) used → Operands (now (ledger .entry)) used first second
+        → (tokens used (now (ledger .exit)) ≡ tokensSpent used (now (ledger .entry)) first second) × Stored arities heads next (now (flags .exit)) (now (counts .exit)) (now (ledger .exit)) used) ⌝ }
 {
-    let state = i * 20 + 16;
-    if ledger[state] != 0 {
-        return;
-    }
-    ledger[state] = 1;
-    if leads(flags, ledger, i) {
-        flags::lower(flags, counts, i);
-        return;
-    }
-    let t = token::token_at(ledger, i);
-    if matters(heads, next, ledger, used, t) {
-        let tag = t.tag;
-        let operands = arity(arities, tag.instruction);
-        settle(flags, counts, heads, next, ledger, used, tag, operands);
-    }
+    ledger[first * 20 + 16] = 1;
+    ledger[second * 20 + 16] = 1;
+    flags::lower(flags, counts, earlier(first, second));
 }

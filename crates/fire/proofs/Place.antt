@@ -1,24 +1,37 @@
--- The token at the place of an enabled activity is its earliest operand, on a port that its instruction has. Assumes nothing.
+-- The token at the place of an enabled activity is its earliest operand, on a port that its instruction has; and what matching found are the operands
+-- of an activity. Assumes nothing.
 use Prim.Native.Nat.{ℕ, _<_}
-use mathlib.Core.Path.{_≡_, sym, subst, _∙_}
+use mathlib.Core.Path.{_≡_, refl, sym, ap, subst, _∙_}
 use mathlib.Core.Bool.{Bool, true, false, cond}
 use mathlib.Core.List.{List, [], _∷_}
+use mathlib.Core.Logic.{⊎-elim}
 use native.Mathlib.Omega.{arith}
 use lib.ListN.{length, getD}
 use lib.Dec.{eqb}
+use lib.IntN.{ℤ}
 use borrow.Author.Tests.{eqb-true}
+use Rattle.table.specs.Table.{All}
+use Rattle.record.specs.declared.tag.Tag.{Tag}
 use Rattle.record.specs.declared.token.Token.{Token}
+use Rattle.record.specs.declared.token.Content.the-variants.{Live}
 use Rattle.record.specs.declared.instruction.Instruction.{Instruction}
 use Rattle.record.specs.GraphRecords.{operandsOf, graphOf}
-use Rattle.record.specs.TokensAndTags.{decode, tokens, tokenAt}
+use Rattle.record.specs.TokensAndTags.{decode, tokens, tokenAt, standsAt}
 use Rattle.table.proofs.Tables.{length-rows, getD-rows}
+use Rattle.chains.specs.declared.Found.{Found}
+use Rattle.chains.specs.declared.Found.the-variants.{At, Nothing}
+use Rattle.chains.specs.Search.{firstFrom}
 use Rattle.chains.proofs.Index.{and-left}
-use Rattle.enabled.specs.Enabled.{isEnabled, placeOf, leads}
+use Rattle.enabled.specs.Enabled.{isLive, isEnabled, placeOf, leads}
+use Rattle.enabled.specs.Store.{lower, Operands}
+use Rattle.enabled.proofs.Places.{first-place, lower-first, lower-second}
 use Rattle.enabled.proofs.Store.{all-at}
 use Rattle.rules.specs.Check.{instructionAt, operandsAt}
 use Rattle.rules.specs.InstructionSet.{arityIn}
 use Rattle.held.specs.Held.{noToken, OnPorts}
+use Rattle.held.proofs.Keys.{search-at, stands-tag, stands-port}
 use Rattle.operands.specs.Operands.{Earliest}
+use Rattle.operands.proofs.Held.{Places}
 use Rattle.fire.specs.Running.{Arrived, Running, Prepared}
 
 on-port : (g : List Instruction) (t : Token) → t .port < operandsAt g (t .tag .instruction) → 0 < arityIn g (t .tag) → t .port < arityIn g (t .tag)
@@ -49,3 +62,57 @@ module _ {graph returns arities heads next flags counts waiting later ledger cel
         first = eqb-true (placeOf ts (t .tag)) place (and-left (eqb (placeOf ts (t .tag)) place) (isEnabled arities ts (t .tag)) lead);
         waited = rw (there, arity) (rw there at here);
       }
+
+-- ---- the operands that matching found
+
+-- where one operand is waited for, no token of the tag stands on port 1
+one-port : (g : List Instruction) (ts : List Token) → Arrived g ts → (τ : Tag) → arityIn g τ ≡ 1 → firstFrom (standsAt τ 1) 0 ts ≡ Nothing
+one-port g ts a τ one = go (firstFrom (standsAt τ 1) 0 ts) refl
+  where
+    go : (f : Found) → firstFrom (standsAt τ 1) 0 ts ≡ f → f ≡ Nothing
+    go (At k) e =
+        let s = search-at (standsAt τ 1) noToken k ts e in
+        let u = getD ts k noToken in
+        let tag : u .tag ≡ τ = stands-tag τ 1 u (s .passes) in
+        let arity : arityIn g (u .tag) ≡ 1 = rw tag one in
+        let low = all-at (λ (t : Token). 0 < arityIn g (t .tag) → t .port < arityIn g (t .tag)) ts k noToken (s .within) (on-ports g ts a) (omega arith) in
+        absurd (omega (arith, stands-port τ 1 u (s .passes)))
+    go Nothing e = refl
+
+module _ (g : List Instruction) (ledger : List ℕ) (used : ℕ) (ports : All (λ (t : Token). t .port < 2) (tokens used ledger)) (arrived : Arrived g (tokens used ledger)) (τ : Tag) {i j : ℕ} {v w : ℤ}
+    (p : Places (arityIn g τ) (tokens used ledger) τ i j v w) where
+  size : length (tokens used ledger) ≡ used
+  size = length-rows 20 decode used ledger
+
+  read : (k : ℕ) → k < length (tokens used ledger) → getD (tokens used ledger) k noToken ≡ tokenAt ledger k
+  read k h = getD-rows 20 decode used k ledger noToken (omega (arith, size))
+
+  tag-at : (port k : ℕ) → k < length (tokens used ledger) → firstFrom (standsAt τ port) 0 (tokens used ledger) ≡ At k → tokenAt ledger k .tag ≡ τ
+  tag-at port k h e = ap (λ (t : Token). t .tag) (sym (read k h)) ∙ stands-tag τ port (getD (tokens used ledger) k noToken) (search-at (standsAt τ port) noToken k (tokens used ledger) e .passes)
+
+  live-at : (k : ℕ) {x : ℤ} → k < length (tokens used ledger) → getD (tokens used ledger) k noToken .content ≡ Live x → isLive (tokenAt ledger k .content) ≡ true
+  live-at k h e = ap (λ (t : Token). isLive (t .content)) (sym (read k h)) ∙ ap isLive e
+
+  first-tag : tokenAt ledger i .tag ≡ τ
+  first-tag = tag-at 0 i (p .firstWithin) (p .firstFound)
+
+  second-tag : tokenAt ledger j .tag ≡ τ
+  second-tag = ⊎-elim (λ h. ap (λ (k : ℕ). tokenAt ledger k .tag) (h .1) ∙ first-tag) (λ h. tag-at 1 j (p .secondWithin) (h .1)) (p .secondFound)
+
+  -- the earlier of the two is the first token of the tag
+  earlier : placeOf (tokens used ledger) τ ≡ lower i j
+  earlier = first-place τ used ledger ports ∙ rw (p .firstFound) (⊎-elim
+      (λ h. rw (one-port g (tokens used ledger) arrived τ (h .0), h .1) (lower-first i used (omega (arith, size, p .firstWithin)) ∙ sym (lower-second i i (omega arith))))
+      (λ h. rw (h .1))
+      (p .secondFound))
+
+  pub operands-here : Operands ledger used i j
+  operands-here = record {
+    firstWithin = omega (arith, size, p .firstWithin);
+    secondWithin = omega (arith, size, p .secondWithin);
+    firstLive = live-at i (p .firstWithin) (p .left);
+    secondLive = live-at j (p .secondWithin) (p .right);
+    oneTag = second-tag ∙ sym first-tag;
+    found = rw first-tag (p .firstFound);
+    place = rw first-tag earlier;
+  }

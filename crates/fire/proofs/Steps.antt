@@ -21,7 +21,7 @@ use Rattle.record.specs.TokensAndTags as Tokens
 use Rattle.table.proofs.Tables.{length-rows, getD-rows}
 use Rattle.chains.specs.Deferred.{woken}
 use Rattle.matching.specs.Matching.{spentToken, Matching}
-use Rattle.matching.proofs.Laws.{matching-room}
+use Rattle.matching.proofs.Laws.{matching-room, matching-ports}
 use Rattle.machine.specs.Machine.{Key, Machine, State, onOption, operands, look, fire, fired, notFired, commit, send, read, write, refuse}
 use Rattle.machine.specs.Orders.{Good, Reached, CellsBelow, outputs}
 use Rattle.machine.proofs.Reached.{reached-good}
@@ -52,6 +52,7 @@ use Rattle.commit.specs.declared.Fired.{Fired}
 use Rattle.commit.specs.declared.Fired.the-variants as Fires
 use Rattle.commit.specs.Commit.{Committed, done, refused, ifAdmitted, committedOf, Left, Fitting}
 use Rattle.commit.proofs.Held.{firedOf, commit-held}
+use Rattle.fire.proofs.Place.{operands-here}
 use Rattle.fire.specs.Running.{machineFor, stateIn, Arrived, Running, Went, Stopped, Stepped, Prepared}
 
 -- ---- what holds of a token by its tag and port alone
@@ -293,8 +294,12 @@ module _ (graph returns : List ℕ) {arities heads next flags counts waiting lat
   lent-here i j v w e =
       let τ = tokenAt ledger place .tag in
       let p = matched-places (tokens used ledger) τ (arityIn (graphOf graph) τ) (ready .aritiesRight τ .1) e in
-      let size = length-rows 20 Tokens.decode used ledger in
-      record { matching = now .matching; few = now .few; first = omega (arith, p .firstWithin); second = omega (arith, p .secondWithin); store = now .store }
+      record {
+        matching = now .matching;
+        few = now .few;
+        activity = operands-here (graphOf graph) ledger used (matching-ports (now .matching)) (now .arrived) τ p;
+        store = now .store;
+      }
 
   -- from matching to output
   pub stepped-here : (t : Record.Token) → t ≡ tokenAt ledger place → (i j : ℕ) (v w : ℤ)

@@ -148,22 +148,6 @@ module _ {A : Type 0} (same : A → A → Bool) where
     unfolding Marked
     marked-places on l flags w = ap places w ∙ places-zeros 0 (2048 - length l) (marks same on l) ∙ places-lead on l
 
-    -- a mark stands at the place of an enabled tag
-    mark-leads : (on : A → Bool) (l : List A) (i : ℕ) (d : A) → i < length l → getD (marks same on l) i 0 ≡ 1
-        → (firstOf same (getD l i d) l ≡ i) × (on (getD l i d) ≡ true)
-    mark-leads on [] i d h e = absurd (not-suc-le-zero h)
-    mark-leads on (x ∷ l) zero d h e = rw (own x) (refl, one (on x) e)
-      where
-        one : (b : Bool) → bit b ≡ 1 → b ≡ true
-        one true e = refl
-        one false e = absurd (omega arith)
-    mark-leads on (x ∷ l) (suc i) d h e = go (same x (getD l i d)) refl (mark-leads (without same x on) l i d (le-of-suc-le-suc h) e)
-      where
-        go : (b : Bool) → same x (getD l i d) ≡ b → (firstOf same (getD l i d) l ≡ i) × (cond b false (on (getD l i d)) ≡ true)
-            → (cond (same (getD l i d) x) 0 (suc (firstOf same (getD l i d) l)) ≡ suc i) × (on (getD l i d) ≡ true)
-        go true q w = let z : _≡_ {A = ℕ} 0 1 = cc in absurd (omega arith)
-        go false q w = rw (apart x (getD l i d) q) (ap suc (w .0), w .1)
-
     -- the mark at the place of a tag says whether the tag is enabled
     mark-first : (on : A → Bool) (t : A) (l : List A) → firstOf same t l < length l → getD (marks same on l) (firstOf same t l) 0 ≡ bit (on t)
     mark-first on t [] h = absurd (not-suc-le-zero h)
@@ -179,11 +163,6 @@ module _ {A : Type 0} (same : A → A → Bool) where
     unfolding Marked
     mark-flag on l flags i h w =
         ap (λ (f : List ℕ). getD f i 0) w ∙ List·getD-append (marks same on l) (replicate (2048 - length l) 0) 0 i (omega (arith, length-marks on l))
-
-    -- a flag that is raised stands at the place of its tag
-    pub marked-leads : (on : A → Bool) (l : List A) (flags : List ℕ) (i : ℕ) (d : A) → i < length l → Marked same on l flags → getD flags i 0 ≡ 1
-        → firstOf same (getD l i d) l ≡ i
-    marked-leads on l flags i d h w e = mark-leads on l i d h (sym (mark-flag on l flags i h w) ∙ e) .0
 
     -- the flag at the place of a tag says whether the tag is enabled
     pub marked-first : (on : A → Bool) (l : List A) (flags : List ℕ) (t : A) → firstOf same t l < length l → Marked same on l flags

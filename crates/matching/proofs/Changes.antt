@@ -1,12 +1,12 @@
--- What `arrive`, `spend` and `wake` hand over to the chains of deferred tokens. Assumes nothing.
+-- What `arrive`, `spend_operands` and `wake` hand over to the chains of deferred tokens. Assumes nothing.
 use Prim.Native.Nat.{ℕ, _+_, _-_, _*_, _≤_, _<_}
-use mathlib.Core.Path.{_≡_, refl, _∙_}
+use mathlib.Core.Path.{_≡_, refl, sym, ap, _∙_}
 use mathlib.Core.Bool.{Bool, true, false, cond}
 use mathlib.Core.List.{List, [], _∷_, _++_, map}
 use native.Mathlib.Omega.{arith}
 use lib.Dec.{eqb}
 use lib.IntN.{ℤ}
-use lib.ListN.{length, getD, set, drop}
+use lib.ListN.{length, getD, set, drop, List·getD-map}
 use lib.Seq.{map-set-same}
 use Rattle.table.specs.Table.{putRow, joined, All}
 use Rattle.record.specs.TokensAndTags.{tokens, tokenAt, decode, encode}
@@ -17,7 +17,7 @@ use Rattle.record.specs.declared.token.Content.the-variants.{Live, Spent, Defer
 use Rattle.chains.specs.Deferred.{LowCell, keyOf, cellKey, Waiting, contentWoken, woken}
 use Rattle.chains.proofs.Chains.{chained-same}
 use Rattle.chains.proofs.Deferred.{Walk, walk-start, walk-step, walk-end, waiting-woken}
-use Rattle.enabled.specs.Store.{Stored}
+use Rattle.enabled.specs.Store.{Stored, tokensSpent}
 use Rattle.enabled.proofs.Bytes.{split, rest-put}
 use Rattle.enabled.proofs.Store.{all-append, all-set, all-at}
 use Rattle.matching.specs.Matching.{contentSpent, spentToken, Inside, Matching}
@@ -42,7 +42,7 @@ arrived arities heads next flags counts waiting later l used t low w heads′ ne
   };
 }
 
--- ---- a token is spent
+-- ---- operands are spent
 
 spent-key : (x : Content) → keyOf (contentSpent x) ≡ keyOf x
 spent-key (Live v) = refl
@@ -54,26 +54,38 @@ spent-low (Live v) w = tt
 spent-low (Spent v) w = tt
 spent-low (Deferred n) w = w
 
-pub spent-kept : (arities heads next flags counts l : List ℕ) (used i : ℕ) → i < used
-    → (flags′ counts′ m : List ℕ) → tokens used m ≡ set (tokens used l) i (spentToken (tokenAt l i))
-    → Stored arities heads next flags′ counts′ m used
-    → (waiting later : List ℕ) → Matching arities heads next flags counts waiting later l used → Matching arities heads next flags′ counts′ waiting later m used
+-- a token is put where one of its key stood, among tokens that have the keys they had
+keys-kept : (ts us : List Token) (i : ℕ) (u d : Token) → map cellKey us ≡ map cellKey ts → cellKey u ≡ cellKey (getD ts i d) → map cellKey (set us i u) ≡ map cellKey ts
+keys-kept ts us i u d e h =
+    let here : cellKey (getD ts i d) ≡ cellKey (getD us i d) = sym (List·getD-map cellKey ts i d) ∙ ap (λ (ks : List ℕ). getD ks i (cellKey d)) (sym e) ∙ List·getD-map cellKey us i d in
+    map-set-same cellKey us i u d (h ∙ here) ∙ e
+
+pub spent-kept : (arities heads next flags counts waiting later l : List ℕ) (used i j : ℕ) → Matching arities heads next flags counts waiting later l used → i < used → j < used
+    → (flags′ counts′ m : List ℕ) → tokens used m ≡ tokensSpent used l i j → Stored arities heads next flags′ counts′ m used
+    → Matching arities heads next flags′ counts′ waiting later m used
 unfolding Inside
-spent-kept arities heads next flags counts l used i h flags′ counts′ m e s waiting later w =
-    let ts = tokens used l in
-    let d = tokenAt l i in
-    let u = spentToken d in
-    let n : length ts ≡ used = length-rows 20 decode used l in
-    let at : getD ts i d ≡ d = getD-rows 20 decode used i l d h in
-    let key : cellKey u ≡ cellKey (getD ts i d) = rw at (spent-key (d .content)) in
-    let low : LowCell (d .content) = rw at at (all-at Low ts i d (omega arith) (w .inside .cells)) in
+spent-kept arities heads next flags counts waiting later l used i j w a b flags′ counts′ m e s =
+    let us = set ts i (spentToken (tokenAt l i)) in
+    let keys = keys-kept ts us j (spentToken (tokenAt l j)) (tokenAt l j) (keys-kept ts ts i (spentToken (tokenAt l i)) (tokenAt l i) refl (key i a)) (key j b) in
     record {
       inside = record {
         store = s;
-        deferred = rw e (chained-same 1024 cellKey waiting later ts (w .inside .deferred) (set ts i u) (map-set-same cellKey ts i u d key));
-        cells = rw e (all-set Low ts i u (w .inside .cells) (spent-low (d .content) low));
+        deferred = rw e (chained-same 1024 cellKey waiting later ts (w .inside .deferred) (set us j (spentToken (tokenAt l j))) keys);
+        cells = rw e (all-set Low us j (spentToken (tokenAt l j)) (all-set Low ts i (spentToken (tokenAt l i)) (w .inside .cells) (low i a)) (low j b));
       };
     }
+  where
+    ts : List Token
+    ts = tokens used l
+
+    held : (k : ℕ) → k < used → getD ts k (tokenAt l k) ≡ tokenAt l k
+    held k h = getD-rows 20 decode used k l (tokenAt l k) h
+
+    key : (k : ℕ) → k < used → cellKey (spentToken (tokenAt l k)) ≡ cellKey (getD ts k (tokenAt l k))
+    key k h = rw (held k h) (spent-key (tokenAt l k .content))
+
+    low : (k : ℕ) → k < used → LowCell (spentToken (tokenAt l k) .content)
+    low k h = spent-low (tokenAt l k .content) (rw (held k h) at (all-at Low ts k (tokenAt l k) (omega (arith, length-rows 20 decode used l)) (w .inside .cells)))
 
 -- ---- tokens are woken: the ledger was l at the start of the walk
 

@@ -45,7 +45,7 @@ matching-start arities ledger = record {
 }
 
 module _ {arities heads next flags counts waiting later ledger : List ℕ} {used : ℕ} (m : Matching arities heads next flags counts waiting later ledger used) where
-  -- what `find`, `enabled_count`, `enabled_at` and `spend` require
+  -- what `find`, `enabled_count`, `enabled_at` and `spend_operands` require is part of it
   pub matching-stored : Stored arities heads next flags counts ledger used
   unfolding Inside
   matching-stored = m .inside .store

@@ -9,14 +9,14 @@ use record::token::Token;
 ghost use mathlib.Core.Path.{_≡_};
 ghost use mathlib.Core.List.{List, [], _∷_, _++_, map};
 ghost use Prim.Native.Nat.{ℕ, _+_, _*_, _/_, _<_};
-ghost use lib.ListN.{length, getD, set, drop};
+ghost use lib.ListN.{length, getD, drop};
 ghost use Rattle.table.specs.Table.{putRow, joined};
-ghost use Rattle.record.specs.TokensAndTags.{encode, tokens, tokenAt, standsAt};
+ghost use Rattle.record.specs.TokensAndTags.{encode, tokens, standsAt};
 ghost use Rattle.flags.specs.Flags.{places, Counted};
 ghost use Rattle.chains.specs.Search.{firstFrom, Within, Free};
 ghost use Rattle.chains.specs.Deferred as Deferred;
-ghost use Rattle.enabled.specs.Store.{Known, Stored};
-ghost use Rattle.matching.specs.Matching.{spentToken, Matching};
+ghost use Rattle.enabled.specs.Store.{Known, Operands, statesSpent, tokensSpent};
+ghost use Rattle.matching.specs.Matching.{Matching};
 
 // The first token that stands at a port of a tag.
 pub fn find(
@@ -71,23 +71,21 @@ pub fn arrive(
     chains::note(waiting, later, used, t);
 }
 
-// Token i is spent. A deferred token stays as it is, so the chains of deferred tokens do too.
-pub fn spend(
-    arities: &[u8],
-    heads: &[u16; 4096],
-    next: &[u16; 2048],
+// The operands of an enabled activity are spent; where one is waited for, both places are its place. They were live, so
+// the chains of deferred tokens stay right.
+pub fn spend_operands(
     flags: &mut [u8; 2048],
     counts: &mut [u16; 36],
     ledger: &mut [u8],
-    used: usize,
-    i: usize,
+    first: usize,
+    second: usize,
 )
-    requires { ⌜ Stored (now arities) (now heads) (now next) (now flags) (now counts) (now ledger) used × (i < used) ⌝ }
-    ensures { λ _. ⌜ now (ledger .exit) ≡ putRow 20 (now (ledger .entry)) i (encode (spentToken (tokenAt (now (ledger .entry)) i))) ⌝ }
-    ensures { λ _. ⌜ tokens used (now (ledger .exit)) ≡ set (tokens used (now (ledger .entry))) i (spentToken (tokenAt (now (ledger .entry)) i)) ⌝ }
-    ensures { λ _. ⌜ ((waiting later : List ℕ) → Matching (now (arities .entry)) (now (heads .entry)) (now (next .entry)) (now (flags .entry)) (now (counts .entry)) waiting later (now (ledger .entry)) used → Matching (now (arities .entry)) (now (heads .entry)) (now (next .entry)) (now (flags .exit)) (now (counts .exit)) waiting later (now (ledger .exit)) used) ⌝ }
+    requires { ⌜ Counted (now flags) (now counts) × (first < 2048) × (second < 2048) × (first < length (now ledger) / 20) × (second < length (now ledger) / 20) ⌝ }
+    ensures { λ _. ⌜ now (ledger .exit) ≡ statesSpent (now (ledger .entry)) first second ⌝ }
+    ensures { λ _. ⌜ ((arities heads next waiting later : List ℕ) (used : ℕ) → Matching arities heads next (now (flags .entry)) (now (counts .entry)) waiting later (now (ledger .entry)) used → Operands (now (ledger .entry)) used first second
+        → (tokens used (now (ledger .exit)) ≡ tokensSpent used (now (ledger .entry)) first second) × Matching arities heads next (now (flags .exit)) (now (counts .exit)) waiting later (now (ledger .exit)) used) ⌝ }
 {
-    enabled::spend(arities, heads, next, flags, counts, ledger, used, i);
+    enabled::spend_operands(flags, counts, ledger, first, second);
 }
 
 fn content_woken(x: Content, cell: u32, v: i32) -> Content

@@ -5,10 +5,11 @@ use mathlib.Core.Bool.{Bool, true, false, cond}
 use mathlib.Core.Logic.{_⊎_, inl, inr}
 use mathlib.Core.List.{List, [], _∷_, _++_, map, append-assoc, append-nil}
 use native.Mathlib.Omega.{arith}
+use native.Mathlib.Decide.{ℕ-discrete}
 use native.Mathlib.Nat.{add-zero}
 use lib.IntN.{ℤ}
-use lib.ListN.{length, getD, set, take, drop, length-append, length-drop, length-map}
-use lib.Seq.{length-take-le, drop-drop, drop-at, set-getD}
+use lib.ListN.{length, getD, set, take, drop, length-append, length-drop, length-map, length-set}
+use lib.Seq.{length-take-le, drop-drop, drop-at, drop-set-lt, getD-set-other, set-getD, set-set}
 use lib.Dec.{eqb}
 use borrow.Author.Tests.{eq-eqb, ne-eqb}
 use denote.Enum.Declared.{tagOf}
@@ -28,6 +29,8 @@ use Rattle.record.proofs.Records.{length-token, length-cell, cells-put}
 use Rattle.chains.specs.declared.Found.the-variants.{At, Nothing}
 use Rattle.chains.specs.Search.{firstFrom, Free}
 use Rattle.chains.specs.Deferred.{LowCell, woken}
+use Rattle.chains.proofs.Search.{first-set}
+use Rattle.enabled.specs.Store.{Operands, statesSpent, tokensSpent}
 use Rattle.matching.specs.Matching.{spentToken, Matching}
 use Rattle.matching.proofs.Laws.{matching-room}
 use Rattle.effect.specs.declared.output.Key.{Key}
@@ -82,6 +85,31 @@ rest-on l m n k h e =
 pub token-held : (n i : ℕ) (l : List ℕ) → i < n → getD (tokens n l) i noToken ≡ tokenAt l i
 token-held n i l h = getD-rows 20 decode n i l noToken h
 
+-- ---- operands that are spent
+
+spent-one : (i j : ℕ) (ts : List Token) → i ≡ j → spentAt i j ts ≡ spendOne i ts
+unfolding spentAt
+spent-one i j ts e = rw (eq-eqb i j e)
+
+spent-two : (i j : ℕ) (ts : List Token) → (i ≡ j → ⊥) → spentAt i j ts ≡ spendOne j (spendOne i ts)
+unfolding spentAt
+spent-two i j ts e = rw (ne-eqb i j e)
+
+-- both places are one, or they are two
+spent-both : (n i j : ℕ) (l : List ℕ) → i < n → j < n → tokensSpent n l i j ≡ spentAt i j (tokens n l)
+unfolding spendOne
+spent-both n i j l h k = go (ℕ-discrete i j)
+  where
+    ts : List Token
+    ts = tokens n l
+
+    u : Token
+    u = spentToken (tokenAt l i)
+
+    go : Dec (i ≡ j) → set (set ts i u) j (spentToken (tokenAt l j)) ≡ spentAt i j ts
+    go (yes e) = rw (spent-one i j ts e, token-held n i l h, ← e) (set-set ts i u u)
+    go (no apart) = rw (spent-two i j ts apart, token-held n i l h, getD-set-other ts i j u noToken (λ e. apart (sym e)), token-held n j l k)
+
 -- ---- what a step leaves
 
 module _ {arities heads next flags counts waiting later l : List ℕ} {used : ℕ} (m : Matching arities heads next flags counts waiting later l used) where
@@ -91,20 +119,17 @@ module _ {arities heads next flags counts waiting later l : List ℕ} {used : �
   pub kept-same : Kept arities heads next flags counts waiting later l used (tokens used l) l
   kept-same = record { matching = m; held = refl; size = refl; rest = refl }
 
-  -- a token is spent
-  pub kept-spent : (i : ℕ) → i < used → {flags′ counts′ l′ : List ℕ} → l′ ≡ putRow 20 l i (encode (spentToken (tokenAt l i)))
-      → tokens used l′ ≡ set (tokens used l) i (spentToken (tokenAt l i))
+  -- the operands are spent
+  pub kept-spent : {i j : ℕ} → Operands l used i j → {flags′ counts′ l′ : List ℕ} → l′ ≡ statesSpent l i j → tokens used l′ ≡ tokensSpent used l i j
       → Matching arities heads next flags′ counts′ waiting later l′ used
-      → Kept arities heads next flags′ counts′ waiting later l′ used (spendOne i (tokens used l)) l
-  unfolding spendOne
-  kept-spent i h put e n =
-      let t = spentToken (tokenAt l i) in
-      let room : used * 20 ≤ length l = room-bytes in
+      → Kept arities heads next flags′ counts′ waiting later l′ used (spentAt i j (tokens used l)) l
+  kept-spent {i} {j} o put e n =
+      let m = set l (i * 20 + 16) 1 in
       record {
         matching = n;
-        held = rw (token-held used i l h) e;
-        size = rw put (put-size l (encode t) i used (length-token t) h room);
-        rest = rw put (put-rest l (encode t) i used (length-token t) h room);
+        held = e ∙ spent-both used i j l (o .firstWithin) (o .secondWithin);
+        size = rw put (length-set m (j * 20 + 16) 1 ∙ length-set l (i * 20 + 16) 1);
+        rest = rw put (drop-set-lt (used * 20) m (j * 20 + 16) 1 (omega (arith, o .secondWithin)) ∙ drop-set-lt (used * 20) l (i * 20 + 16) 1 (omega (arith, o .firstWithin)));
       }
 
   -- a token arrives
@@ -158,27 +183,6 @@ module _ {arities heads next flags counts waiting later l : List ℕ} {n : ℕ} 
   pub kept-most : {m : ℕ} → length start / 20 ≤ m → length l / 20 ≤ m
   kept-most h = rw (k .size) h
 
--- ---- operands spent
-
-spent-one : (i j : ℕ) (ts : List Token) → i ≡ j → spentAt i j ts ≡ spendOne i ts
-unfolding spentAt
-spent-one i j ts e = rw (eq-eqb i j e)
-
-spent-two : (i j : ℕ) (ts : List Token) → (i ≡ j → ⊥) → spentAt i j ts ≡ spendOne j (spendOne i ts)
-unfolding spentAt
-spent-two i j ts e = rw (ne-eqb i j e)
-
--- both places are one, or they are two
-module _ (i j : ℕ) (ts : List Token) {arities heads next flags counts waiting later l start : List ℕ} {used : ℕ} where
-  pub kept-spent-one : Kept arities heads next flags counts waiting later l used (spendOne i ts) start → i ≡ j
-      → Kept arities heads next flags counts waiting later l used (spentAt i j ts) start
-  kept-spent-one k e = kept-as k (sym (spent-one i j ts e))
-
-  pub kept-spent-two : Kept arities heads next flags counts waiting later l used (spendOne i ts) start
-      → {flags′ counts′ l′ : List ℕ} → Kept arities heads next flags′ counts′ waiting later l′ used (spendOne j (tokens used l)) l → (i ≡ j → ⊥)
-      → Kept arities heads next flags′ counts′ waiting later l′ used (spentAt i j ts) start
-  kept-spent-two k k′ e = kept-as (kept-again k (spendOne j) used (omega arith) k′) (sym (spent-two i j ts e))
-
 -- ---- what is free stays free
 
 module _ (p : Token → Bool) where
@@ -186,11 +190,6 @@ module _ (p : Token → Bool) where
   search-map : (f : Token → Token) → ((t : Token) → p (f t) ≡ p t) → (ts : List Token) (n : ℕ) → firstFrom p n (map f ts) ≡ firstFrom p n ts
   search-map f h [] n = refl
   search-map f h (t ∷ ts) n = rw (h t, search-map f h ts (suc n))
-
-  search-set : (ts : List Token) (i : ℕ) (u : Token) → p u ≡ p (getD ts i noToken) → (n : ℕ) → firstFrom p n (set ts i u) ≡ firstFrom p n ts
-  search-set [] i u h n = refl
-  search-set (t ∷ ts) zero u h n = rw h
-  search-set (t ∷ ts) (suc i) u h n = rw (search-set ts i u h (suc n))
 
   -- where one arrives elsewhere
   free-append : (ts : List Token) (u : Token) (n : ℕ) → firstFrom p n ts ≡ Nothing → p u ≡ false → firstFrom p n (ts ++ u ∷ []) ≡ Nothing
@@ -205,7 +204,7 @@ module _ (p : Token → Bool) where
 module _ (tag : Tag) (port : ℕ) where
   search-spent : (i : ℕ) (ts : List Token) → firstFrom (standsAt tag port) 0 (spendOne i ts) ≡ firstFrom (standsAt tag port) 0 ts
   unfolding spendOne standsAt
-  search-spent i ts = search-set (standsAt tag port) ts i (spentToken (getD ts i noToken)) refl 0
+  search-spent i ts = first-set (standsAt tag port) ts i (spentToken (getD ts i noToken)) noToken refl 0
 
   search-spent-at : (i j : ℕ) (ts : List Token) → firstFrom (standsAt tag port) 0 (spentAt i j ts) ≡ firstFrom (standsAt tag port) 0 ts
   unfolding spentAt

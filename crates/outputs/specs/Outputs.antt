@@ -16,6 +16,7 @@ use Rattle.record.specs.TokensAndTags.{tokens, standsAt}
 use Rattle.record.specs.Cells as Cells
 use Rattle.chains.specs.Search.{Free}
 use Rattle.chains.specs.Deferred.{woken}
+use Rattle.enabled.specs.Store.{Operands}
 use Rattle.matching.specs.Matching.{spentToken, Matching}
 use Rattle.effect.specs.declared.operate.Action.{Action}
 use Rattle.effect.specs.declared.operate.Action.the-variants.{Send, Read, Write}
@@ -127,12 +128,6 @@ writesAgain (Write c v) cs = isPresent (getD cs c Absent)
 
 -- ---- what the code leaves
 
--- the arrays are right, together with two that the code does not hold
-pub record Matched (arities heads next flags counts ledger : List ℕ) (used : ℕ) : Type 0 where
-  pub waiting : List ℕ
-  pub later : List ℕ
-  pub matching : Matching arities heads next flags counts waiting later ledger used
-
 -- the arrays are right for a ledger that has these tokens, and the bytes past them are as they were
 pub record Kept (arities heads next flags counts waiting later ledger′ : List ℕ) (used : ℕ) (ts : List Token) (ledger : List ℕ) : Type 0 where
   pub matching : Matching arities heads next flags counts waiting later ledger′ used
@@ -146,10 +141,9 @@ pub record CellsKept (cells′ : List ℕ) (cs : List Cell) (cells : List ℕ) :
   pub held : cellsIn cells′ ≡ cs
   pub size : length cells′ ≡ length cells
 
--- what a firing is lent
+-- what a firing is lent, with the places of its operands
 pub record Lent (arities heads next flags counts waiting later ledger cells : List ℕ) (used i j : ℕ) : Type 0 where
   pub matching : Matching arities heads next flags counts waiting later ledger used
   pub few : length ledger / 20 ≤ 2048
-  pub first : i < used
-  pub second : j < used
+  pub activity : Operands ledger used i j
   pub store : CellStore cells

@@ -8,38 +8,15 @@ use record::cell::Cell;
 use record::token::Content;
 use record::token::Token;
 ghost use mathlib.Core.Path.{_≡_};
-ghost use mathlib.Core.List.{List, [], _∷_, _++_};
-ghost use Prim.Native.Nat.{ℕ, _+_, _/_, _≤_, _<_};
+ghost use mathlib.Core.List.{[], _∷_, _++_};
+ghost use Prim.Native.Nat.{_+_, _/_, _≤_, _<_};
 ghost use lib.ListN.{length, getD};
 ghost use Rattle.record.specs.TokensAndTags.{tokens};
 ghost use Rattle.record.specs.declared.cell.Cell.the-variants.{Absent};
 ghost use Rattle.chains.specs.Search.{Free};
 ghost use Rattle.chains.specs.Deferred.{LowCell};
 ghost use Rattle.matching.specs.Matching.{Matching};
-ghost use Rattle.outputs.specs.Outputs.{Matched, Kept, CellStore, CellsKept, spentAt, tokenOut, outputsOf, LowPorts, FreeKeys, cellsIn, cellsFetched, contentFetched, OnCells, contentBy, cellsBy, wokenBy, writesAgain, Lent};
-
-// The operands are spent; where one was waited for, both places are its place.
-fn spend_operands(
-    arities: &[u8],
-    heads: &[u16; 4096],
-    next: &[u16; 2048],
-    flags: &mut [u8; 2048],
-    counts: &mut [u16; 36],
-    ledger: &mut [u8],
-    used: usize,
-    first: usize,
-    second: usize,
-)
-    requires { ⌜ Matched (now arities) (now heads) (now next) (now flags) (now counts) (now ledger) used × (first < used) × (second < used) ⌝ }
-    ensures { λ _. ⌜ ((waiting later : List ℕ) → Matching (now (arities .entry)) (now (heads .entry)) (now (next .entry)) (now (flags .entry)) (now (counts .entry)) waiting later (now (ledger .entry)) used
-        → Kept (now (arities .entry)) (now (heads .entry)) (now (next .entry)) (now (flags .exit)) (now (counts .exit)) waiting later (now (ledger .exit)) used
-        (spentAt first second (tokens used (now (ledger .entry)))) (now (ledger .entry))) ⌝ }
-{
-    matching::spend(arities, heads, next, flags, counts, ledger, used, first);
-    if first != second {
-        matching::spend(arities, heads, next, flags, counts, ledger, used, second);
-    }
-}
+ghost use Rattle.outputs.specs.Outputs.{Kept, CellStore, CellsKept, spentAt, tokenOut, outputsOf, LowPorts, FreeKeys, cellsIn, cellsFetched, contentFetched, OnCells, contentBy, cellsBy, wokenBy, writesAgain, Lent};
 
 // An output goes in as record `used`.
 fn append_one(
@@ -221,17 +198,7 @@ pub fn carry_out(
         (wokenBy action (spentAt first second (tokens used (now (ledger .entry)))) ++ outputsOf (contentBy action (cellsIn (now (cells .entry)))) outputs) (now (ledger .entry))
         × CellsKept (now (cells .exit)) (cellsBy action (cellsIn (now (cells .entry)))) (now (cells .entry)) ⌝ }
 {
-    spend_operands(
-        arities,
-        heads,
-        next,
-        flags,
-        counts,
-        ledger,
-        used,
-        first,
-        second,
-    );
+    matching::spend_operands(flags, counts, ledger, first, second);
     let content = change_cells(cells, action);
     wake(
         arities,
