@@ -4,19 +4,18 @@ use mathlib.Core.Path.{_≡_, refl, sym, ap, _∙_}
 use mathlib.Core.Bool.{Bool, true, false, _&&_, cond}
 use mathlib.Core.List.{List, [], _∷_, _++_, map-append}
 use native.Mathlib.Omega.{arith}
-use native.Mathlib.Decide.{decLe}
 use native.Mathlib.Nat.{not-suc-le-zero, le-of-suc-le-suc}
 use lib.Dec.{eqb}
 use lib.ListN.{length, getD, set, replicate, length-map}
 use lib.Seq.{map-set-same, set-getD}
 use borrow.Author.Tests.{eqb-true, eq-eqb}
-use Rattle.record.specs.TokensAndTags.{sameTag, standsAt}
+use Rattle.record.specs.TokensAndTags.{sameTag}
 use Rattle.record.specs.declared.tag.Tag.{Tag}
 use Rattle.record.specs.declared.token.Token.{Token}
 use Rattle.flags.specs.Flags.{places}
 use Rattle.flags.specs.Marks.{bit, firstOf, placesWhere, marks}
 use Rattle.flags.specs.Marks as Marks
-use Rattle.flags.proofs.Marks.{first-le, where-agree, where-map, where-passes, places-lead, where-below, marked-none, marked-places, marked-append, marked-change, marked-first, marked-past}
+use Rattle.flags.proofs.Marks.{first-le, where-agree, where-map, where-passes, places-lead, where-below, marked-none, marked-places, marked-append, marked-change, marked-first}
 use Rattle.chains.proofs.Index.{and-left, and-right}
 use Rattle.enabled.specs.Enabled.{isLive, liveAt, allLive, arityOf, isEnabled, tagOf, tagsOf, tagSame, placeOf, leads, enabledPlaces}
 use Rattle.enabled.specs.Store.{Right}
@@ -57,16 +56,6 @@ live-append : (y : Tag) (port : ℕ) (t : Token) → tagSame y (t .tag) ≡ fals
 live-append y port t e [] = rw (stands-other y port t e)
 live-append y port t e (x ∷ ts) = rw (live-append y port t e ts)
 
--- what is live stays live as a token arrives
-live-kept : (y : Tag) (port : ℕ) (t : Token) (ts : List Token) → liveAt ts y port ≡ true → liveAt (ts ++ t ∷ []) y port ≡ true
-live-kept y port t [] e = let z : _≡_ {A = ℕ} 0 1 = cc in absurd (omega arith)
-live-kept y port t (x ∷ ts) e = go (standsAt y port x) e (live-kept y port t ts)
-  where
-    go : (b : Bool) → cond b (isLive (x .content)) (liveAt ts y port) ≡ true → (liveAt ts y port ≡ true → liveAt (ts ++ t ∷ []) y port ≡ true)
-        → cond b (isLive (x .content)) (liveAt (ts ++ t ∷ []) y port) ≡ true
-    go true e ih = e
-    go false e ih = ih e
-
 -- a token is replaced by one of its tag
 live-set : (y : Tag) (port : ℕ) (u d : Token) (ts : List Token) (i : ℕ) → u .tag ≡ getD ts i d .tag → tagSame (u .tag) y ≡ false
     → liveAt (set ts i u) y port ≡ liveAt ts y port
@@ -88,26 +77,9 @@ all-off n ts y e = rw e (go (eqb n 1) (eqb n 2))
     go false true = refl
     go false false = refl
 
--- a tag that is not enabled once a token has arrived was not before
-all-before : (n : ℕ) (ts : List Token) (t : Token) (y : Tag) → allLive n (ts ++ t ∷ []) y ≡ false → allLive n ts y ≡ false
-unfolding allLive
-all-before n ts t y e = go (allLive n ts y) refl
-  where
-    us : List Token
-    us = ts ++ t ∷ []
-
-    kept : (a b : Bool) → cond a (liveAt ts y 0) (cond b (liveAt ts y 0 && liveAt ts y 1) false) ≡ true → cond a (liveAt us y 0) (cond b (liveAt us y 0 && liveAt us y 1) false) ≡ true
-    kept true b h = live-kept y 0 t ts h
-    kept false true h = rw (live-kept y 0 t ts (and-left _ _ h), live-kept y 1 t ts (and-right (liveAt ts y 0) _ h))
-    kept false false h = h
-
-    go : (b : Bool) → allLive n ts y ≡ b → b ≡ false
-    go false h = refl
-    go true h = sym (kept (eqb n 1) (eqb n 2) h) ∙ e
-
 -- ---- places
 
-first-append : (t : Tag) (l : List Tag) → firstOf tagSame t (l ++ t ∷ []) ≡ firstOf tagSame t l
+pub first-append : (t : Tag) (l : List Tag) → firstOf tagSame t (l ++ t ∷ []) ≡ firstOf tagSame t l
 first-append t [] = rw (tag-own t)
 first-append t (x ∷ l) = rw (first-append t l)
 
@@ -125,7 +97,7 @@ tag-at [] i d = refl
 tag-at (t ∷ ts) zero d = refl
 tag-at (t ∷ ts) (suc i) d = tag-at ts i d
 
-tags-append : (ts : List Token) (t : Token) → tagsOf (ts ++ t ∷ []) ≡ tagsOf ts ++ t .tag ∷ []
+pub tags-append : (ts : List Token) (t : Token) → tagsOf (ts ++ t ∷ []) ≡ tagsOf ts ++ t .tag ∷ []
 tags-append ts t = map-append tagOf ts (t ∷ [])
 
 -- the place of a token's tag, once the token is there
@@ -141,6 +113,10 @@ pub place-kept : (ts : List Token) (i : ℕ) (u d : Token) → u .tag ≡ getD t
 place-kept ts i u d e tag = ap (firstOf tagSame tag) (map-set-same tagOf ts i u d e)
 
 -- ---- the flags
+
+-- to put a flag down that is not raised changes nothing
+pub stays : (flags : List ℕ) (p : ℕ) → getD flags p 0 ≡ 0 → flags ≡ set flags p 0
+stays flags p e = sym (ap (λ (x : ℕ). set flags p x) (sym e) ∙ set-getD flags p 0)
 
 module _ (arities : List ℕ) where
   pub right-none : Right arities [] (replicate 2048 0)
@@ -208,24 +184,7 @@ module _ (arities : List ℕ) where
       (λ y f. all-same (arityOf arities y) us ts y (λ port. live-set y port u d ts i e f))
       (tagsOf ts) flags p w)
 
-  right-flag : (ts : List Token) (flags : List ℕ) (tag : Tag) → placeOf ts tag < length ts → Right arities ts flags
+  pub right-flag : (ts : List Token) (flags : List ℕ) (tag : Tag) → placeOf ts tag < length ts → Right arities ts flags
       → getD flags (placeOf ts tag) 0 ≡ bit (isEnabled arities ts tag)
   unfolding Right
   right-flag ts flags tag h w = marked-first tagSame tag-equal tag-own (isEnabled arities ts) (tagsOf ts) flags tag (omega (arith, length-map ts tagOf)) w
-
-  -- to put a flag that is not raised down changes nothing
-  stays : (flags : List ℕ) (p : ℕ) → getD flags p 0 ≡ 0 → flags ≡ set flags p 0
-  stays flags p e = sym (ap (λ (x : ℕ). set flags p x) (sym e) ∙ set-getD flags p 0)
-
-  -- a token arrives, and its tag is not enabled: the flags stay as they are
-  pub right-wait : (ts : List Token) (t : Token) (flags : List ℕ) → Right arities ts flags
-      → let us = ts ++ t ∷ [] in isEnabled arities us (t .tag) ≡ false → flags ≡ set flags (placeOf us (t .tag)) (bit (isEnabled arities us (t .tag)))
-  unfolding Right
-  right-wait ts t flags w n = rw (tags-append ts t, first-append (t .tag) (tagsOf ts), n) (stays flags p (go (decLe (suc p) (length ts))))
-    where
-      p : ℕ
-      p = placeOf ts (t .tag)
-
-      go : Dec (suc p ≤ length ts) → getD flags p 0 ≡ 0
-      go (yes h) = right-flag ts flags (t .tag) h w ∙ ap bit (all-before (arityOf arities (t .tag)) ts t (t .tag) n)
-      go (no z) = marked-past tagSame (isEnabled arities ts) (tagsOf ts) flags p (omega (arith, length-map ts tagOf)) w

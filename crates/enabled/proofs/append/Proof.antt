@@ -12,9 +12,8 @@ use Rattle.table.proofs.Tables.{length-rows}
 use Rattle.chains.proofs.Search.{within-more}
 use Rattle.enabled.specs.Enabled.{isEnabled, placeOf}
 use Rattle.enabled.specs.Store.{placeOr}
-use Rattle.enabled.proofs.Right.{right-wait}
 use Rattle.enabled.proofs.Store.{Moved, added}
-use Rattle.enabled.proofs.Arriving.{arriving-place, arriving-ready}
+use Rattle.enabled.proofs.Arriving.{right-wait, arriving-place, arriving-ready}
 use Rattle.enabled.proofs.append.Statement.{statement}
 use Rattle.enabled.proofs.append.Tie as tie
 
