@@ -3,10 +3,9 @@
 //! time for one firing, and firings in a second; and for every work how much the
 //! time for one firing grows from 256 to 2,048 tokens.
 //!
-//! All works are run in turn, round after round. A run that is repeated at once
-//! meets a processor that has its branches by heart, a short run's all and a long
-//! run's in part, and what grows then is the share that it has not. With the
-//! argument `repeated` it is measured in that way.
+//! All works are run in turn, round after round: a run that is repeated at once is
+//! faster, a short one by more, and how it grows with its size says little then.
+//! With the argument `repeated` it is measured in that way.
 
 mod work;
 
@@ -48,10 +47,18 @@ fn main() {
     for kind in KINDS {
         works.extend(SIZES.map(|size| Measured::new(kind, size)));
     }
+    let mut listings: Vec<Listing> = Vec::new();
+    for arrangement in ARRANGEMENTS {
+        listings.extend(SIZES.map(|size| Listing::new(arrangement, size)));
+    }
     if repeated {
         works.iter_mut().for_each(|work| work.runs(ROUNDS));
+        listings.iter_mut().for_each(|listing| listing.runs(ROUNDS));
     } else {
-        (0..ROUNDS).for_each(|_| works.iter_mut().for_each(|work| work.runs(1)));
+        for _ in 0..ROUNDS {
+            works.iter_mut().for_each(|work| work.runs(1));
+            listings.iter_mut().for_each(|listing| listing.runs(1));
+        }
     }
     works.iter().for_each(Measured::print);
     println!();
@@ -64,11 +71,9 @@ fn main() {
     println!("The listing, against a stable sort of parsed records by Rust's own library");
     println!("(parsing and writing included), of the vector sum's ledger.");
     println!();
-    println!("| records | count | engine | growth | stable sort | engine / stable sort |");
-    println!("|---|---:|---:|---:|---:|---:|");
-    for (name, arrange) in ARRANGEMENTS {
-        measure_listings(name, arrange);
-    }
+    println!("| records | count | engine | stable sort | engine / stable sort |");
+    println!("|---|---:|---:|---:|---:|");
+    listings.iter().for_each(Listing::print);
 }
 
 /// What both emulators are lent.
@@ -203,16 +208,6 @@ fn growth_of(works: &[Measured], name: &str) -> f64 {
     at(2048) / at(256)
 }
 
-/// The median times of two functions, which are run in turn.
-fn medians<A, B>(mut one: impl FnMut() -> A, mut other: impl FnMut() -> B) -> (Duration, Duration) {
-    let mut times = (Vec::new(), Vec::new());
-    for _ in 0..ROUNDS {
-        times.0.push(time(&mut one));
-        times.1.push(time(&mut other));
-    }
-    (middle(&times.0), middle(&times.1))
-}
-
 fn time<A>(run: impl FnOnce() -> A) -> Duration {
     let start = Instant::now();
     run();
@@ -231,10 +226,6 @@ fn microseconds(time: Duration) -> String {
 
 fn ratio(one: Duration, other: Duration) -> String {
     format!("{:.2}", one.as_secs_f64() / other.as_secs_f64())
-}
-
-fn growth(time: Duration, before: Option<Duration>) -> String {
-    before.map_or("-".to_string(), |before| ratio(time, before))
 }
 
 /// How the records lie before they are listed.
@@ -257,9 +248,16 @@ fn mix(records: &mut [[u8; 20]]) {
     }
 }
 
-fn measure_listings(name: &str, arrange: fn(&mut [[u8; 20]])) {
-    let mut before = None;
-    for size in SIZES {
+/// The vector sum's ledger in one arrangement, with the times of both listings of it.
+struct Listing {
+    name: &'static str,
+    ledger: Vec<u8>,
+    engine: (Vec<u8>, Vec<Duration>),
+    sorted: (Vec<u8>, Vec<Duration>),
+}
+
+impl Listing {
+    fn new((name, arrange): Arrangement, size: usize) -> Listing {
         let mut lent = Lent::new(work::vector_sum(size), size, false);
         lent.agreed();
         let mut records = Vec::new();
@@ -275,17 +273,32 @@ fn measure_listings(name: &str, arrange: fn(&mut [[u8; 20]])) {
             second::list(&ledger, &mut sorted)
         );
         assert!(out == sorted, "the engine lists otherwise");
-        let (engine_time, second_time) = medians(
-            || engine::list(&ledger, &mut out),
-            || second::list(&ledger, &mut sorted),
-        );
+        Listing {
+            name,
+            ledger,
+            engine: (out, Vec::new()),
+            sorted: (sorted, Vec::new()),
+        }
+    }
+
+    fn runs(&mut self, times: usize) {
+        for _ in 0..times {
+            let (out, engine) = &mut self.engine;
+            engine.push(time(|| engine::list(&self.ledger, out)));
+            let (out, sorted) = &mut self.sorted;
+            sorted.push(time(|| second::list(&self.ledger, out)));
+        }
+    }
+
+    fn print(&self) {
+        let (engine_time, sorted_time) = (middle(&self.engine.1), middle(&self.sorted.1));
         println!(
-            "| {name} | {size} | {} | {} | {} | {} |",
+            "| {} | {} | {} | {} | {} |",
+            self.name,
+            self.ledger.len() / 20,
             microseconds(engine_time),
-            growth(engine_time, before),
-            microseconds(second_time),
-            ratio(engine_time, second_time),
+            microseconds(sorted_time),
+            ratio(engine_time, sorted_time),
         );
-        before = Some(engine_time);
     }
 }
