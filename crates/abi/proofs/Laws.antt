@@ -25,7 +25,7 @@ use Rattle.abi.specs.declared.Named.{Named}
 use Rattle.abi.specs.declared.Named.the-variants.{Ended, NoOutcome}
 use Rattle.abi.specs.declared.Unpacked.{Unpacked}
 use Rattle.abi.specs.declared.Unpacked.the-variants.{Answered, NoAnswer}
-use Rattle.abi.specs.Numbers.{packed, refusals, lookup, refusalOf, unplaced, placed, outcomeOf, counted, unpacked, lengthOf, printAnswer, printAfter}
+use Rattle.abi.specs.Numbers.{packed, refusals, lookup, refusalOf, unplaced, placed, outcomeOf, unpacked, lengthOf, printAnswer, printAfter}
 
 -- ---- an answer is had back from its number
 

@@ -1,5 +1,5 @@
 -- Laws of the quotient and the remainder that `specs/Arithmetic.antt` cites: what a reader wants to know of them. Assumes nothing.
-use mathlib.Core.Path.{_≡_, refl, sym, ap, _∙_}
+use mathlib.Core.Path.{_≡_, refl, ap}
 use Prim.Native.Nat.{ℕ, zero, suc, _+_, _*_, _/_, _%_, _<_, zero-le}
 use native.Mathlib.Nat.{div-add-mod, mod-lt, mod-le, mul-zero}
 use native.Mathlib.Omega.{arith}

@@ -1,10 +1,10 @@
 -- What comes of an effect by the definitions over records is what the machine's `commit` gives. Assumes nothing.
 use Prim.Native.Nat.{ℕ, _≤_}
 use mathlib.Core.Path.{_≡_, refl, sym, ap, _∙_}
-use mathlib.Core.Bool.{Bool, true, false, cond}
-use mathlib.Core.List.{List, [], _∷_, _++_, map, map-append}
-use mathlib.Core.Logic.{_⊎_, inl, inr, ⊎-elim}
-use lib.ListN.{length, getD, set}
+use mathlib.Core.Bool.{cond}
+use mathlib.Core.List.{List, _++_, map, map-append}
+use mathlib.Core.Logic.{_⊎_, ⊎-elim}
+use lib.ListN.{getD, set}
 use lib.IntN.{ℤ, pos}
 use Rattle.record.specs.declared.tag.Tag.{Tag}
 use Rattle.record.specs.declared.token.Token as Record
@@ -14,7 +14,7 @@ use Rattle.record.specs.declared.cell.Cell as RecordCell
 use Rattle.record.specs.declared.cell.Cell.the-variants.{Absent, Waiting, Present}
 use Rattle.record.specs.declared.instruction.Instruction.{Instruction}
 use Rattle.chains.specs.Deferred.{woken}
-use Rattle.machine.specs.Machine.{Machine, Cell, Content, State, Fired, fired, notFired, live, present, changed, output, fill, ifPresent, cellAt, cellRead, contentRead, spendAt, admit, commit, Ledger}
+use Rattle.machine.specs.Machine.{Machine, Cell, Content, Fired, fired, notFired, live, present, changed, output, fill, ifPresent, cellRead, contentRead, spendAt, admit, commit, Ledger}
 use Rattle.machine.specs.Orders.{Distinct}
 use Rattle.rules.specs.declared.answer.Refusal.{Refusal}
 use Rattle.rules.specs.declared.answer.Refusal.the-variants.{SecondWrite}

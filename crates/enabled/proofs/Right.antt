@@ -17,7 +17,7 @@ use Rattle.flags.specs.Marks.{bit, firstOf, placesWhere, marks}
 use Rattle.flags.specs.Marks as Marks
 use Rattle.flags.proofs.Marks.{first-le, where-agree, where-map, where-passes, places-lead, where-below, marked-none, marked-places, marked-append, marked-change, marked-first}
 use Rattle.chains.proofs.Index.{and-left, and-right}
-use Rattle.enabled.specs.Enabled.{isLive, liveAt, allLive, arityOf, isEnabled, tagOf, tagsOf, tagSame, placeOf, leads, enabledPlaces}
+use Rattle.enabled.specs.Enabled.{liveAt, allLive, arityOf, isEnabled, tagOf, tagsOf, tagSame, placeOf, leads, enabledPlaces}
 use Rattle.enabled.specs.Store.{Right}
 use Rattle.enabled.proofs.Places.{stands-other}
 

@@ -1,10 +1,9 @@
 -- The end of a run: ledger and cells hold, in every byte, the machine's tokens and cells. Assumes nothing.
-use Prim.Native.Nat.{ℕ, zero, suc, _*_, _/_, _≤_}
+use Prim.Native.Nat.{ℕ, _*_, _≤_}
 use mathlib.Core.Path.{_≡_, refl, sym, ap, _∙_}
 use mathlib.Core.List.{List, [], _∷_, _++_, map, append-nil}
 use native.Mathlib.Omega.{arith}
 use lib.ListN.{length, drop, length-map, drop-of-length-le}
-use lib.IntN.{ℤ}
 use Rattle.record.specs.declared.token.Token as Record
 use Rattle.record.specs.declared.token.Content as RecordContent
 use Rattle.record.specs.declared.token.Content.the-variants.{Live, Spent, Deferred}

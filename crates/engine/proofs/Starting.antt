@@ -1,6 +1,6 @@
 -- The start of an accepted run: the tables made of the graph are right, the inputs are in the ledger and all cells absent, and that is the state from
 -- which 01's run starts. Assumes nothing.
-use Prim.Native.Nat.{ℕ, zero, suc, _+_, _*_, _/_, _%_, _≤_, _<_}
+use Prim.Native.Nat.{ℕ, zero, suc, _+_, _*_, _/_, _≤_, _<_}
 use mathlib.Core.Path.{_≡_, refl, sym, ap, _∙_, subst}
 use mathlib.Core.List.{List, [], _∷_, _++_, map}
 use mathlib.Core.Option.{Option, none, some}
@@ -15,8 +15,6 @@ use Rattle.record.specs.declared.token.Token as Record
 use Rattle.record.specs.declared.token.Content as RecordContent
 use Rattle.record.specs.declared.token.Content.the-variants.{Live, Spent, Deferred}
 use Rattle.record.specs.declared.cell.Cell.the-variants.{Absent}
-use Rattle.record.specs.declared.instruction.Instruction.{Instruction}
-use Rattle.number.specs.Number.{byteAt, number16}
 use Rattle.table.specs.Table.{All, rows, allRows, joined}
 use Rattle.record.specs.GraphRecords.{graphOf}
 use Rattle.record.specs.TokensAndTags.{tokens}
@@ -30,11 +28,10 @@ use Rattle.machine.specs.Orders as Orders
 use Rattle.machine.specs.Orders.{Good}
 use Rattle.machine.proofs.Orders.{startGood}
 use Rattle.machine.proofs.Reached.{reached-good, reached-count, reached-picks}
-use Rattle.machine.proofs.View.{noneSome}
 use Rattle.rules.specs.declared.answer.Refusal.{Refusal}
 use Rattle.rules.specs.declared.answer.Answer.{Answer}
 use Rattle.rules.specs.declared.answer.Checked.the-variants.{Passed}
-use Rattle.rules.specs.Check.{checkGraph, checkInputs, check, goodInput, operandsAt}
+use Rattle.rules.specs.Check.{checkGraph, checkInputs, check, operandsAt}
 use Rattle.rules.specs.InstructionSet.{arityIn, machineOf, returnOf}
 use Rattle.rules.specs.Run.{contentHeld, tokenHeld, tokenRecord, cellRecord, firstState}
 use Rattle.rules.proofs.Inputs.{start}
@@ -45,13 +42,13 @@ use Rattle.tables.proofs.Entries.{arity-small}
 use Rattle.fields.proofs.Graphs.{arity-past}
 use Rattle.effect.specs.Held.{entryOf, Returns}
 use Rattle.effect.proofs.Arrives.{arrives-port}
-use Rattle.held.specs.Held.{cellHeld, stateHeld, Arities}
+use Rattle.held.specs.Held.{cellHeld, Arities}
 use Rattle.held.proofs.Keys.{alone-free}
 use Rattle.outputs.specs.Outputs.{cellsIn, CellStore}
 use Rattle.outputs.proofs.Laws.{rest-on}
 use Rattle.accept.specs.Accept.{Proper, Alone, Accepted}
 use Rattle.accept.proofs.Laws.{zeros-joined, absent-fit, zeros-cells}
-use Rattle.fire.specs.Running.{machineFor, stateIn, Arrived, Running, Prepared}
+use Rattle.fire.specs.Running.{stateIn, Arrived, Running, Prepared}
 use Rattle.engine.specs.Turns.{Left, endOf}
 
 -- ---- the tables made of the graph

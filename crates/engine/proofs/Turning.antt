@@ -1,9 +1,9 @@
 -- A turn of the run: what is enabled by the arrays is what the machine has enabled, and the activity that a pick takes is the one that fires.
 -- Assumes nothing.
-use Prim.Native.Nat.{ℕ, zero, suc, _+_, _*_, _/_, _%_, _≤_, _<_}
+use Prim.Native.Nat.{ℕ, zero, suc, _/_, _%_, _<_}
 use mathlib.Core.Path.{_≡_, refl, sym, ap, _∙_, subst}
 use mathlib.Core.Bool.{true}
-use mathlib.Core.List.{List, [], _∷_, _++_, map}
+use mathlib.Core.List.{List, [], _∷_, map}
 use native.Mathlib.Omega.{arith}
 use native.Mathlib.Nat.{mod-lt}
 use lib.ListN.{length, getD, drop, length-map}
@@ -11,7 +11,6 @@ use lib.IntN.{ℤ}
 use Rattle.record.specs.declared.tag.Tag.{Tag}
 use Rattle.record.specs.declared.token.Token as Record
 use Rattle.record.specs.declared.instruction.Instruction.{Instruction}
-use Rattle.table.specs.Table.{All}
 use Rattle.record.specs.GraphRecords.{graphOf}
 use Rattle.record.specs.TokensAndTags.{tokens, tokenAt}
 use Rattle.record.specs.TokensAndTags as Tokens
@@ -21,13 +20,13 @@ use Rattle.matching.proofs.Laws.{matching-places, matching-enabled-below, match
 use Rattle.accept.specs.Accept.{headOr0}
 use Rattle.accept.proofs.Laws.{head-drop}
 use Rattle.enabled.specs.Enabled.{leads, enabledPlaces}
-use Rattle.machine.specs.Machine.{Machine, State, Activity, Outcome, completed, budgetSpent, enabled, firstPick, laterPicks, pickOf, byPicks, runBy, end, fire, fired, notFired}
+use Rattle.machine.specs.Machine.{Machine, State, Activity, completed, budgetSpent, enabled, firstPick, laterPicks, pickOf, byPicks, runBy, end, fire, fired, notFired}
 use Rattle.machine.specs.Machine as Machines
 use Rattle.machine.proofs.Orders.{runEmpty, runZero, runFired, runRefused}
 use Rattle.rules.specs.declared.answer.Refusal.{Refusal}
 use Rattle.rules.specs.declared.answer.Outcome.the-variants as Outcomes
 use Rattle.rules.specs.Run.{picksOf}
-use Rattle.held.specs.Held.{noToken, stateHeld, Arities}
+use Rattle.held.specs.Held.{noToken, Arities}
 use Rattle.held.proofs.Enabled.{held-enabled}
 use Rattle.outputs.specs.Outputs.{cellsIn}
 use Rattle.fire.proofs.Place.{on-ports}

@@ -4,7 +4,7 @@ use commit::Fired;
 use rules::answer::Answer;
 use rules::answer::Checked;
 use rules::answer::Outcome;
-ghost use Prim.Native.Nat.{ℕ, _/_, _≤_, _<_};
+ghost use Prim.Native.Nat.{_/_};
 ghost use mathlib.Core.Path.{_≡_};
 ghost use lib.ListN.{length, drop};
 ghost use Rattle.record.specs.GraphRecords.{graphOf};

@@ -1,12 +1,11 @@
 -- A firing, from matching to output, in the terms of the machine: what the code leaves is what the machine's `fire` gives, and what holds between
 -- firings holds again. Assumes nothing.
-use Prim.Native.Nat.{ℕ, zero, suc, _+_, _*_, _/_, _≤_, _<_}
+use Prim.Native.Nat.{ℕ, zero, suc, _+_, _/_, _≤_, _<_}
 use mathlib.Core.Path.{_≡_, refl, sym, ap, _∙_, subst}
 use mathlib.Core.Bool.{Bool, true, false, cond}
 use mathlib.Core.List.{List, [], _∷_, _++_, map}
-use mathlib.Core.Option.{none, some}
 use native.Mathlib.Omega.{arith}
-use lib.ListN.{length, getD, set, length-append, length-map, length-set}
+use lib.ListN.{length, getD, length-append, length-map, length-set}
 use lib.Dec.{eqb}
 use lib.IntN.{ℤ}
 use Rattle.record.specs.declared.tag.Tag.{Tag}
@@ -22,8 +21,8 @@ use Rattle.table.proofs.Tables.{length-rows, getD-rows}
 use Rattle.chains.specs.Deferred.{woken}
 use Rattle.matching.specs.Matching.{spentToken, Matching}
 use Rattle.matching.proofs.Laws.{matching-room, matching-ports}
-use Rattle.machine.specs.Machine.{Key, Machine, State, onOption, operands, look, fire, fired, notFired, commit, send, read, write, refuse}
-use Rattle.machine.specs.Orders.{Good, Reached, CellsBelow, outputs}
+use Rattle.machine.specs.Machine.{Key, Machine, State, fire, fired, notFired, commit}
+use Rattle.machine.specs.Orders.{Good, CellsBelow, outputs}
 use Rattle.machine.proofs.Reached.{reached-good}
 use Rattle.rules.specs.declared.answer.Refusal.{Refusal}
 use Rattle.rules.specs.declared.answer.Refusal.the-variants.{SecondToken, SecondWrite}
@@ -37,7 +36,7 @@ use Rattle.effect.specs.declared.operate.Effect.{Effect}
 use Rattle.effect.specs.declared.operate.Effect.the-variants.{Refuse, Act}
 use Rattle.effect.specs.declared.operate.Action.{Action}
 use Rattle.effect.specs.declared.operate.Action.the-variants.{Send, Read, Write}
-use Rattle.effect.specs.Held.{keyHeld, keysHeld, keysOf, actionHeld, effectHeld, Counted, Arrives, AllSent, Effected}
+use Rattle.effect.specs.Held.{keyHeld, keysHeld, keysOf, actionHeld, effectHeld, Arrives, AllSent, Effected}
 use Rattle.effect.proofs.Arrives.{arrives-port, arrives-inside}
 use Rattle.effect.proofs.Does.{records}
 use Rattle.held.specs.Held.{noToken, stateHeld}
@@ -47,7 +46,7 @@ use Rattle.operands.specs.declared.Matched.{Matched}
 use Rattle.operands.specs.declared.Matched.the-variants.{Both, Missing}
 use Rattle.operands.specs.Operands.{matchedAt, admittedOf}
 use Rattle.operands.proofs.Held.{valuesOf, Places, matched-places, held-operands}
-use Rattle.outputs.specs.Outputs.{spendOne, spentAt, outputsBy, outputsOf, LowPortsBy, LowPorts, cellsIn, OnCells, contentBy, wokenBy, writesAgain, Kept, CellsKept, CellStore, Lent}
+use Rattle.outputs.specs.Outputs.{spendOne, spentAt, outputsBy, outputsOf, LowPortsBy, cellsIn, OnCells, contentBy, wokenBy, writesAgain, Kept, CellsKept, Lent}
 use Rattle.commit.specs.declared.Fired.{Fired}
 use Rattle.commit.specs.declared.Fired.the-variants as Fires
 use Rattle.commit.specs.Commit.{Committed, done, refused, ifAdmitted, committedOf, Left, Fitting}

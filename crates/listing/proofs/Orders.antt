@@ -2,20 +2,19 @@
 -- takes to go from tokens to bytes: every token of a run fits its record. Assumes nothing.
 use Prim.Native.Nat.{ℕ, _*_, _/_, _%_, _≤_}
 use mathlib.Core.Path.{_≡_, refl, sym, ap, _∙_, subst}
-use mathlib.Core.List.{List, [], _∷_, _++_, map, append-nil, List·Permᴰ}
+use mathlib.Core.List.{List, [], _∷_, _++_, map, append-nil}
 use mathlib.Core.Logic.{_↔_}
 use native.Mathlib.Omega.{arith}
-use lib.ListN.{length, take, drop, length-map}
+use lib.ListN.{length, take, length-map}
 use lib.ListN.{drop-of-length-le}
 use Rattle.record.specs.declared.token.Token.{Token}
 use Rattle.number.specs.Number.{Bytes}
 use Rattle.table.specs.Table.{All, joined}
-use Rattle.record.specs.TokensAndTags.{encode, TokenFits, mostTokens, capacityOf, ledgerOf}
+use Rattle.record.specs.TokensAndTags.{encode, mostTokens, capacityOf, ledgerOf}
 use Rattle.record.specs.Cells as Cells
 use Rattle.record.proofs.Records.{length-token, length-cell}
 use Rattle.table.proofs.Tables.{length-joined}
 use Rattle.machine.specs.Machine as Machine
-use Rattle.machine.specs.Orders as Ends
 use Rattle.rules.specs.declared.answer.Refusal.{Refusal}
 use Rattle.rules.specs.declared.answer.Outcome.{Outcome}
 use Rattle.rules.specs.declared.answer.Outcome.the-variants as Outcomes
@@ -27,8 +26,8 @@ use Rattle.rules.specs.Orders.{tokensOf, cellsOf, EachOnce}
 use Rattle.rules.specs.Orders as Rules
 use Rattle.rules.proofs.Orders.{any-two-orders, perm-map, whole-bytes}
 use Rattle.rules.proofs.Fits.{CellCount, result-fits}
-use Rattle.listing.specs.Listing.{keyOf, records, answer, outAfter}
-use Rattle.listing.specs.Sorted.{Pairwise, DifferentKeys}
+use Rattle.listing.specs.Listing.{records, answer}
+use Rattle.listing.specs.Sorted.{Pairwise}
 use Rattle.listing.specs.Orders.{Lent, Left, RanOn, AllowedLent, Completed, Spent, Refused, used, Alike, Agree, AnyTwoOrders}
 use Rattle.listing.proofs.Lists.{all-of}
 use Rattle.listing.proofs.Laws.{records-joined}

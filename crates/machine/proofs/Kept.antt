@@ -8,7 +8,7 @@ use Prim.Native.Nat.{ℕ, zero, suc, _<_}
 use native.Mathlib.Omega.{arith}
 use native.Mathlib.Decide.{ℕ-discrete}
 use lib.ListN.{getD, set}
-use Rattle.machine.specs.Machine.{Key, Content, live, spent, deferred, Token, Cell, absent, waiting, present, refuse, send, read, write, Machine, Fired, fired, notFired}
+use Rattle.machine.specs.Machine.{Key, Content, live, spent, deferred, Token, Cell, absent, waiting, present, refuse, send, read, write, Machine, fired, notFired}
 use Rattle.machine.specs.Machine.{when, onOption, liveValue, spend, fill, cellAt, cellRead, contentRead, ifPresent, changed, output, Operands, twoValues}
 use Rattle.machine.specs.Machine.{Ledger, StateOf, EffectOf, FiredOf, sameKey, at, find, look, operandOf, liveAt, allLive, operands, spendAt, anyTaken, exceeds, admit, commit, fire, run}
 use Rattle.machine.specs.Orders.{Reached}

@@ -5,7 +5,7 @@ use mathlib.Core.List.{List, [], _∷_}
 use Prim.Native.Nat.{ℕ, zero, suc, _+_}
 use native.Mathlib.Nat.{zero-add, add-zero}
 use native.Mathlib.Omega.{arith}
-use Rattle.machine.specs.Machine.{Machine, Activity, fired, notFired, Outcome, completed, budgetSpent, refused, firstPick, laterPicks}
+use Rattle.machine.specs.Machine.{Machine, Activity, fired, notFired, completed, budgetSpent, refused, firstPick, laterPicks}
 use Rattle.machine.specs.Machine.{StateOf, FiredOf, EndOf, Choice, enabled, fire, end, byPicks, runBy, run}
 use Rattle.machine.proofs.Orders.{runEmpty, runZero, runFired, runRefused}
 

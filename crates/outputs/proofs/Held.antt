@@ -1,28 +1,26 @@
 -- What a firing writes, joined with the machine: outputs, cells, and tokens that a write wakes. Assumes nothing.
-use Prim.Native.Nat.{ℕ, zero, suc, _<_, _≤_}
+use Prim.Native.Nat.{ℕ, zero, suc}
 use native.Mathlib.Decide.{ℕ-discrete}
-use native.Mathlib.Omega.{arith}
 use mathlib.Core.Path.{_≡_, refl, sym, ap, _∙_}
-use mathlib.Core.Bool.{Bool, true, false, cond}
+use mathlib.Core.Bool.{Bool, cond}
 use mathlib.Core.List.{List, [], _∷_, map}
-use lib.ListN.{length, getD, set}
+use lib.ListN.{getD, set}
 use lib.Dec.{eqb}
 use lib.IntN.{ℤ}
 use borrow.Author.Tests.{eq-eqb, ne-eqb}
-use Rattle.record.specs.declared.tag.Tag.{Tag}
 use Rattle.record.specs.declared.token.Token as Record
 use Rattle.record.specs.declared.token.Content as RecordContent
 use Rattle.record.specs.declared.token.Content.the-variants.{Live, Spent, Deferred}
 use Rattle.record.specs.declared.cell.Cell as RecordCell
 use Rattle.record.specs.declared.cell.Cell.the-variants.{Absent, Waiting, Present}
 use Rattle.chains.specs.Deferred.{contentWoken, woken}
-use Rattle.machine.specs.Machine.{Key, Content, live, deferred, Token, Cell, absent, when, changed, output, fill, cellAt, cellRead, contentRead}
+use Rattle.machine.specs.Machine.{Key, Content, live, deferred, Token, Cell, when, changed, output, fill, cellAt, cellRead, contentRead}
 use Rattle.rules.specs.Run.{contentHeld, tokenHeld}
 use Rattle.effect.specs.declared.output.Outputs.{Outputs}
 use Rattle.effect.specs.declared.output.Key as EffectKey
-use Rattle.effect.specs.Held.{keyHeld, keysHeld, keysOf}
+use Rattle.effect.specs.Held.{keysHeld, keysOf}
 use Rattle.held.specs.Held.{cellHeld}
-use Rattle.outputs.specs.Outputs.{outputsBy, outputsOf, cellFetched, cellsFetched, contentFetched}
+use Rattle.outputs.specs.Outputs.{outputsBy, outputsOf, cellFetched, contentFetched}
 use Rattle.outputs.proofs.Spent.{map-map, map-same}
 
 -- ---- outputs

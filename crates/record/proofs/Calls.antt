@@ -1,6 +1,6 @@
 -- What holds of calls, for any number of levels: LEAVE gives back what ENTER was given, different calls have different paths, a path of k levels is
 -- below 65,536 to the k and at least 65,536 to the k less 1, so that ENTER is refused at the most levels and not before. Assumes nothing.
-use Prim.Native.Nat.{ℕ, zero, suc, _+_, _-_, _*_, _/_, _%_, _^_, _<_, _≤_}
+use Prim.Native.Nat.{ℕ, _+_, _-_, _*_, _/_, _%_, _^_, _<_, _≤_}
 use mathlib.Core.Path.{_≡_, refl, sym, ap, _∙_}
 use mathlib.Core.List.{List, [], _∷_}
 use native.Mathlib.Omega.{arith}
@@ -8,11 +8,10 @@ use native.Mathlib.Nat.{pow-suc, pow-le-pow-right}
 use borrow.Author.Tests.{ne-eqb, lt-ltb, le-ltb}
 use lib.ListN.{length}
 use Rattle.table.specs.Table.{All}
-use Rattle.record.specs.Calls.{mostLevels, entered, enterOf, leaveOf, nextOf, Call, CallFits, pathOf}
+use Rattle.record.specs.Calls.{mostLevels, entered, enterOf, leaveOf, Call, CallFits, pathOf}
 use Rattle.record.specs.declared.tag.Tag.{Tag}
 use Rattle.record.specs.declared.tag.Entered.the-variants.{In, TooDeep}
 use Rattle.record.specs.declared.tag.Left.the-variants.{To}
-use Rattle.record.specs.declared.tag.Next.the-variants.{Is, Last}
 
 -- ---- one call
 

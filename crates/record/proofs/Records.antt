@@ -2,18 +2,17 @@
 -- are written back from its value. A record is read from its own bytes alone. With these, a table of such records reads as its list. Assumes nothing.
 use Prim.Native.Nat.{ℕ, zero, suc, _+_, _*_, _%_, _^_, _≤_, _<_}
 use mathlib.Core.Path.{_≡_, refl, sym, ap, _∙_}
-use mathlib.Core.Bool.{true, false}
 use mathlib.Core.List.{List, [], _∷_, _++_}
 use native.Mathlib.Omega.{arith}
 use native.Mathlib.Nat.{suc-inj}
 use lib.ListN.{length, getD, take, set}
 use lib.Seq.{getD-take}
 use lib.Dec.{T, ltb, ltb→lt}
-use Rattle.number.specs.Number.{byteAt, number16, number32, number64, signedOf, bitsOf, bytes16, bytes32, bytes64}
-use Rattle.table.specs.Table.{putRow, joined, rows, All}
+use Rattle.number.specs.Number.{byteAt, number32, bitsOf, bytes32}
+use Rattle.table.specs.Table.{putRow, joined, All}
 use Rattle.record.specs.GraphRecords as Graph
 use Rattle.record.specs.TokensAndTags as Tokens
-use Rattle.record.specs.TokensAndTags.{contentOf, stateOf, valueOf, tokenBytes, ContentFits, TokenFits, tokens}
+use Rattle.record.specs.TokensAndTags.{contentOf, stateOf, valueOf, ContentFits, TokenFits, tokens}
 use Rattle.record.specs.Cells as Cells
 use Rattle.record.specs.Cells.{cellOf, CellFits, cells}
 use Rattle.record.specs.declared.instruction.Instruction.{Instruction}

@@ -1,7 +1,7 @@
 -- Every token and every cell of a run fits its record, where graph and inputs are bytes: so that the bytes of a token tell which token it is.
 -- The tokens fit the ledger, and the cells are as many as there are. Assumes nothing.
-use Prim.Native.Nat.{ℕ, zero, suc, _+_, _*_, _/_, _%_, _^_, _<_, _≤_}
-use mathlib.Core.Path.{_≡_, refl, sym, subst, _∙_}
+use Prim.Native.Nat.{ℕ, zero, suc, _+_, _/_, _%_, _^_, _<_, _≤_}
+use mathlib.Core.Path.{_≡_, refl, sym, _∙_}
 use mathlib.Core.Bool.{Bool, true, false, cond}
 use mathlib.Core.List.{List, [], _∷_, map}
 use mathlib.Core.Option.{Option, none, some}
@@ -29,8 +29,8 @@ use Rattle.table.specs.Table.{All, whole, allRows}
 use Rattle.record.specs.TokensAndTags as Tokens
 use Rattle.record.specs.TokensAndTags.{ContentFits, TokenFits, mostTokens, capacityOf}
 use Rattle.record.specs.Cells.{CellFits}
-use Rattle.record.specs.Calls.{mostLevels, entered, nextOf, enterOf, leaveOf}
-use Rattle.record.specs.GraphRecords.{inUse, destinations, operationOf, graphOf, InstructionFits}
+use Rattle.record.specs.Calls.{entered, nextOf, enterOf, leaveOf}
+use Rattle.record.specs.GraphRecords.{inUse, operationOf, graphOf, InstructionFits}
 use Rattle.record.specs.GraphRecords as Graph
 use Rattle.record.proofs.Fitting.{token-fits, instruction-fits, rows-fit}
 use Rattle.table.proofs.Tables.{length-rows}
@@ -38,7 +38,7 @@ use Rattle.arithmetic.specs.declared.Computed.{Computed}
 use Rattle.arithmetic.specs.declared.Computed.the-variants.{Value, OutOfRange}
 use Rattle.arithmetic.specs.Arithmetic.{computeOf, eqZ}
 use Rattle.arithmetic.proofs.Ranged.{value-fits}
-use Rattle.machine.specs.Machine.{Key, Content, live, spent, deferred, Token, Cell, absent, waiting, present, Effect, refuse, send, read, write, Machine, State, run}
+use Rattle.machine.specs.Machine.{Key, Content, live, spent, deferred, Token, Cell, absent, waiting, present, refuse, send, read, write, Machine, State, run}
 use Rattle.machine.specs.Orders.{Live, AllLive, Start}
 use Rattle.machine.proofs.Orders.{startGood}
 use Rattle.machine.proofs.Reached.{reached-good, reached-picks}

@@ -1,14 +1,13 @@
 -- Inputs that passed the check are a start: their keys are pairwise different, they fit the ledger, and each is live. Assumes nothing.
-use Prim.Native.Nat.{ℕ, zero, suc, _+_, _*_, _/_, _<_, _≤_}
+use Prim.Native.Nat.{ℕ, zero, suc, _+_, _/_, _<_}
 use mathlib.Core.Path.{_≡_, refl, sym, ap, _∙_, subst}
-use mathlib.Core.Bool.{Bool, true, false, not, _&&_, _||_, cond}
+use mathlib.Core.Bool.{Bool, true, false, not, _||_}
 use mathlib.Core.List.{List, [], _∷_, map}
 use mathlib.Core.Option.{none, some}
 use native.Mathlib.Omega.{arith}
 use native.Mathlib.Nat.{zero-add}
-use lib.ListN.{length, getD, take, drop, replicate, length-map}
+use lib.ListN.{length, getD, take, drop, length-map}
 use lib.Dec.{eqb, leb, ltb}
-use lib.IntN.{ℤ}
 use borrow.Author.Tests.{leb-true, eqb-true, eq-eqb, not-true}
 use Rattle.record.specs.declared.tag.Tag.{Tag}
 use Rattle.record.specs.declared.token.Token.{Token}
@@ -17,7 +16,7 @@ use Rattle.number.specs.Number.{byteAt, number16, number32, number64, signedOf}
 use Rattle.table.specs.Table.{rows, allRows}
 use Rattle.record.specs.TokensAndTags.{isInput, standsAt, sameTag, contentOf}
 use Rattle.record.specs.TokensAndTags as Tokens
-use Rattle.machine.specs.Machine.{Key, live, absent, Machine, State, find, sameKey}
+use Rattle.machine.specs.Machine.{Key, Machine, find, sameKey}
 use Rattle.machine.specs.Orders.{Live, Distinct, AllLive, Start}
 use Rattle.machine.proofs.View.{when-no, falseTrue}
 use Rattle.rules.specs.declared.answer.Refusal.the-variants as Refusals

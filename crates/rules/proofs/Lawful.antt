@@ -3,7 +3,7 @@
 use Prim.Native.Nat.{ℕ, zero, suc, _+_, _<_, _≤_}
 use mathlib.Core.Path.{_≡_, refl, sym, ap, _∙_, subst}
 use mathlib.Core.Bool.{Bool, true, false, _&&_, cond}
-use mathlib.Core.List.{List, [], _∷_, map}
+use mathlib.Core.List.{List, [], _∷_}
 use mathlib.Core.Option.{Option, none, some}
 use native.Mathlib.Omega.{arith}
 use native.Mathlib.Nat.{zero-add}
@@ -29,7 +29,7 @@ use Rattle.record.specs.Calls.{nextOf, enterOf, leaveOf}
 use Rattle.arithmetic.specs.declared.Computed.{Computed}
 use Rattle.arithmetic.specs.declared.Computed.the-variants.{Value, OutOfRange}
 use Rattle.arithmetic.specs.Arithmetic.{computeOf}
-use Rattle.machine.specs.Machine.{Key, Effect, refuse, send, read, write, Machine}
+use Rattle.machine.specs.Machine.{Key, refuse, send, read, write}
 use Rattle.machine.specs.Orders.{CellsBelow, ReadsForSome, Lawful}
 use Rattle.rules.specs.declared.answer.Refusal.the-variants as Refusals
 use Rattle.rules.specs.declared.answer.Checked.the-variants.{Passed}

@@ -2,22 +2,21 @@
 -- firing leaves ledger and cells as it found them; bytes past what is written stay as lent. All of it follows from `result`, `answer`, `ledgerAfter` and
 -- `cellsAfter`, by which the promise of `run` is made. Assumes nothing.
 use Prim.Native.Nat.{ℕ, zero, suc, _+_, _*_, _/_, _%_, _<_, _≤_}
-use mathlib.Core.Path.{_≡_, refl, sym, ap, _∙_, subst}
-use mathlib.Core.Bool.{Bool, true, _&&_}
+use mathlib.Core.Path.{_≡_, refl, sym, ap, _∙_}
+use mathlib.Core.Bool.{true}
 use mathlib.Core.List.{List, [], _∷_, _++_, map, append-nil}
 use native.Mathlib.Omega.{arith}
 use native.Mathlib.Nat.{suc-mul, add-comm}
 use native.Mathlib.Decide.{decLe}
 use borrow.Author.Tests.{eqb-true}
-use lib.Dec.{eqb, leb, ltb}
+use lib.Dec.{eqb, ltb}
 use lib.IntN.{ℤ}
-use lib.ListN.{length, getD, take, drop, replicate, length-map, length-drop, length-replicate, replicate-append-replicate, drop-of-length-le}
+use lib.ListN.{length, take, drop, replicate, length-map, length-drop, length-replicate, replicate-append-replicate, drop-of-length-le}
 use lib.Seq.{getD-take, length-take-le, drop-at, take-all}
 use Rattle.record.specs.declared.tag.Tag.{Tag}
 use Rattle.record.specs.declared.token.Token as Record
 use Rattle.record.specs.declared.token.Content.the-variants.{Live, Spent, Deferred}
 use Rattle.record.specs.declared.token.Content as RecordContent
-use Rattle.record.specs.declared.cell.Cell.the-variants.{Absent}
 use Rattle.record.specs.declared.instruction.Instruction.{Instruction}
 use Rattle.number.specs.Number.{Bytes, byteAt, number16, number32, number64}
 use Rattle.table.specs.Table.{rows, allRows, joined, whole, writtenOver}
@@ -25,17 +24,17 @@ use Rattle.record.specs.GraphRecords.{graphOf}
 use Rattle.record.specs.TokensAndTags.{isInput, mostTokens, capacityOf, ledgerOf}
 use Rattle.record.specs.TokensAndTags as Tokens
 use Rattle.record.specs.Cells as Cells
-use Rattle.record.proofs.Records.{ProperToken, token-bytes-back, token-front, length-token}
+use Rattle.record.proofs.Records.{token-bytes-back, token-front, length-token}
 use Rattle.record.proofs.Fitting.{bytes-drop}
 use Rattle.table.proofs.Tables.{length-joined, rows-raw}
-use Rattle.machine.specs.Machine.{absent, refused, Machine, State, end, budgetSpent, End, run}
+use Rattle.machine.specs.Machine.{absent, refused, Machine, State, budgetSpent, End, run}
 use Rattle.machine.specs.Machine as Machine
 use Rattle.machine.proofs.Refused.{refused-picks, run-zero}
 use Rattle.rules.specs.declared.answer.Refusal.{Refusal}
 use Rattle.rules.specs.declared.answer.Refusal.the-variants as Refusals
 use Rattle.rules.specs.declared.answer.Outcome.the-variants as Outcomes
 use Rattle.rules.specs.declared.answer.Checked.the-variants.{Passed, Failed}
-use Rattle.rules.specs.Check.{demand, inTurn, goodInput, operandsAt, checkGraph, checkStores, checkInputs, check, mostCells}
+use Rattle.rules.specs.Check.{demand, inTurn, goodInput, operandsAt, checkGraph, checkStores, checkInputs, check}
 use Rattle.rules.specs.InstructionSet.{machineOf}
 use Rattle.rules.specs.Run.{contentHeld, contentRecord, tokenHeld, tokenRecord, cellRecord, firstState, picksOf, Result, refusedAtOnce, ranTo, outcomeOf, unlessFailed, result, answer, ledgerAfter, cellsAfter}
 use Rattle.rules.proofs.Passed.{both, demand-passed, andThen-passed, getD-past}

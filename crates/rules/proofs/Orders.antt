@@ -1,10 +1,9 @@
 -- Demand 3 over the rules, proved: the checks do not look at the picks but for their length, and from inputs that passed the machine's theorem of any
 -- two orders holds. Assumes nothing.
-use Prim.Native.Nat.{ℕ, zero, suc, _+_, _*_, _/_, _%_, _<_, _≤_}
-use mathlib.Core.Path.{_≡_, refl, sym, ap, _∙_, subst}
-use mathlib.Core.Bool.{Bool, true, false, _&&_}
+use Prim.Native.Nat.{ℕ, _/_, _%_, _≤_}
+use mathlib.Core.Path.{_≡_, refl, sym, ap, _∙_}
+use mathlib.Core.Bool.{true}
 use mathlib.Core.List.{List, [], _∷_, map, List·Permᴰ, List·Permᴰ·nil, List·Permᴰ·cons, List·Permᴰ·swap, List·Permᴰ·trans}
-use mathlib.Core.Logic.{_↔_}
 use mathlib.Core.Option.{none, some}
 use native.Mathlib.Omega.{arith}
 use lib.ListN.{length}
@@ -17,8 +16,7 @@ use Rattle.table.specs.Table.{whole, All}
 use Rattle.record.specs.GraphRecords.{graphOf}
 use Rattle.record.specs.TokensAndTags.{mostTokens, capacityOf}
 use Rattle.machine.specs.Machine.{Token, Machine, State, when, find, sameKey, run}
-use Rattle.machine.specs.Orders.{Distinct, Good, Same}
-use Rattle.machine.specs.Orders as Ends
+use Rattle.machine.specs.Orders.{Distinct, Good}
 use Rattle.machine.proofs.View.{noneSome, keyPath}
 use Rattle.machine.proofs.Orders.{startGood, orders, neverSpent, refuses}
 use Rattle.machine.proofs.Reached.{reached-good, reached-picks}
@@ -26,8 +24,8 @@ use Rattle.rules.specs.declared.answer.Checked.{Checked}
 use Rattle.rules.specs.declared.answer.Checked.the-variants.{Passed, Failed}
 use Rattle.rules.specs.Check.{_andThen_, checkGraph, checkStores, checkInputs, check, mostCells}
 use Rattle.rules.specs.InstructionSet.{machineOf}
-use Rattle.rules.specs.Run.{tokenRecord, cellRecord, firstState, picksOf, Result, refusedAtOnce, ranTo, unlessFailed, result, answer}
-use Rattle.rules.specs.Orders.{Completed, Spent, Refused, tokensOf, cellsOf, EachOnce, Alike, Agree, Allowed, AnyTwoOrders}
+use Rattle.rules.specs.Run.{tokenRecord, cellRecord, firstState, picksOf, ranTo, unlessFailed, result, answer}
+use Rattle.rules.specs.Orders.{EachOnce, Agree, Allowed, AnyTwoOrders}
 use Rattle.rules.proofs.Passed.{both, andThen-passed}
 use Rattle.rules.proofs.Lawful.{lawful}
 use Rattle.rules.proofs.Inputs.{start}

@@ -1,8 +1,7 @@
 -- 01, "Cases": those with a star, and rows that tell the rules from plausible errors, as one table over bytes. proofs/Cases has the one fact over it.
 -- Assumes nothing.
-use Prim.Native.Nat.{ℕ, zero, suc, _*_}
-use mathlib.Core.Bool.{cond}
-use mathlib.Core.List.{List, [], _∷_, _++_, map}
+use Prim.Native.Nat.{ℕ, suc, _*_}
+use mathlib.Core.List.{List, [], _∷_, _++_}
 use lib.ListN.{replicate}
 use lib.IntN.{ℤ, pos, negsuc}
 use Rattle.record.specs.declared.tag.Tag.{Tag}

@@ -2,10 +2,10 @@
 use Prim.Native.Nat.{ℕ, zero, suc, _+_, _-_, _*_, _≤_, _<_}
 use native.Mathlib.Omega.{arith}
 use mathlib.Core.Path.{_≡_, refl, sym, ap, _∙_}
-use mathlib.Core.List.{List, [], _∷_, _++_, map, append-assoc, append-nil, map-append}
-use native.Mathlib.Nat.{not-suc-le-zero, le-of-suc-le-suc, suc-mul, zero-mul, add-comm, add-assoc, zero-add, le-of-lt, le-refl}
-use lib.ListN.{length, getD, take, drop, set, length-append, length-drop, length-map, take-append-drop, drop-of-length-le}
-use lib.Seq.{take-add, take-at, take-all, length-take-le, take-suc, drop-cons, drop-at, drop-drop, take-append-add, drop-append-add}
+use mathlib.Core.List.{List, [], _∷_, _++_, append-assoc, append-nil}
+use native.Mathlib.Nat.{not-suc-le-zero, le-of-suc-le-suc, suc-mul, zero-mul, add-comm, add-assoc, zero-add}
+use lib.ListN.{length, getD, take, drop, set, length-append, length-drop, take-append-drop}
+use lib.Seq.{take-add, take-at, take-all, length-take-le, drop-at, drop-drop, take-append-add, drop-append-add}
 use Rattle.table.specs.Table.{written, putRow, joined, rows, All}
 
 -- ---- one record replaced

@@ -1,5 +1,5 @@
 -- What an answer holds, as a machine has it: what is asked where the length of a text is bounded. Assumes nothing.
-use Prim.Native.Nat.{ℕ, _^_, _<_}
+use Prim.Native.Nat.{_^_, _<_}
 use Rattle.rules.specs.Answer.{placeIn}
 use Rattle.rules.specs.declared.answer.Answer.{Answer}
 

@@ -4,8 +4,6 @@ use mathlib.Core.Path.{ap, sym}
 use Rattle.rules.specs.Answer.{placeIn}
 use Rattle.abi.proofs.place_of.Statement.{statement}
 use Rattle.abi.proofs.place_of.Tie as tie
-use Rattle.abi.proofs.place_of.Reads as reads
-use Rattle.abi.proofs.place_of.Lts as lts
 
 -- src/lib.rt:20:31
 enum-told : tie.Need-enum-told

@@ -4,9 +4,6 @@ use mathlib.Core.Path.{ap, sym, _∙_}
 use Rattle.listing.specs.Listing.{numberOf}
 use Rattle.abi.proofs.ttda_list.Statement.{statement}
 use Rattle.abi.proofs.ttda_list.Tie as tie
-use Rattle.abi.proofs.ttda_list.Reads as reads
-use Rattle.abi.proofs.ttda_list.Lts as lts
-use Rattle.listing.proofs.list.Reads as list-reads
 
 -- src/lib.rt:57:9
 list-requires : tie.Need-list-requires

@@ -5,10 +5,6 @@ use Rattle.rules.specs.Answer.{valuesOf}
 use Rattle.abi.specs.Numbers.{packed}
 use Rattle.abi.proofs.ttda_run.Statement.{statement}
 use Rattle.abi.proofs.ttda_run.Tie as tie
-use Rattle.abi.proofs.ttda_run.Reads as reads
-use Rattle.abi.proofs.ttda_run.Lts as lts
-use Rattle.abi.proofs.number_of.Reads as number-of-reads
-use Rattle.engine.proofs.run.Reads as run-reads
 
 -- src/lib.rt:50:15
 run-requires : tie.Need-run-requires

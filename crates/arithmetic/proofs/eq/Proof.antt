@@ -1,6 +1,5 @@
 -- `arithmetic::eq` meets its contract: two numbers with the same bits are equal. Assumes nothing.
-use mathlib.Core.Path.{_≡_, refl, ap}
-use lib.IntN.{ℤ}
+use mathlib.Core.Path.{ap}
 use mir.Syntax.{w32}
 use mir.Val.{ofZ}
 use Rattle.arithmetic.specs.Arithmetic.{computeOf}

@@ -1,9 +1,7 @@
 -- `arithmetic::mul` meets its contract: the product of two numbers of 32 bits fits 64. Assumes nothing.
-use mathlib.Core.Path.{_∙_, ap}
 use borrow.Author.Needs.{needs}
-use lib.IntN.{_*ℤ_}
 use mir.Facts.{sfits-widen, toZ-ofZ}
-use Rattle.arithmetic.specs.Arithmetic.{ranged, computeOf}
+use Rattle.arithmetic.specs.Arithmetic.{computeOf}
 use Rattle.arithmetic.proofs.Signed.{widened, product-fits}
 use Rattle.arithmetic.proofs.mul.Statement.{statement}
 use Rattle.arithmetic.proofs.mul.Tie as tie

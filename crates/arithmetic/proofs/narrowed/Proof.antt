@@ -1,13 +1,8 @@
 -- `arithmetic::narrowed` meets its contract: the tests are those of `ranged`. Assumes nothing.
-use mathlib.Core.Path.{_≡_, sym, ap, subst, _∙_}
-use mathlib.Core.Bool.{Bool, true, false}
-use lib.IntN.{ℤ}
-use lib.Signed.{ltZ}
-use mir.Syntax.{w32, w64}
-use mir.Val.{SFits, toZ, ofZ}
+use mathlib.Core.Path.{sym}
+use mir.Syntax.{w32}
+use mir.Val.{SFits}
 use mir.Facts.{toZ-ofZ}
-use Rattle.arithmetic.specs.Arithmetic.{least, most}
-use Rattle.arithmetic.specs.declared.Computed.the-variants.{Value}
 use Rattle.arithmetic.proofs.Ranged.{between-fits, fits-ranged, low-ranged, high-ranged}
 use Rattle.arithmetic.proofs.narrowed.Statement.{statement}
 use Rattle.arithmetic.proofs.narrowed.Tie as tie

@@ -1,6 +1,6 @@
 -- `enabled::live` meets its contract. Assumes nothing.
 use Prim.Native.Nat.{_/_, _<_}
-use mathlib.Core.Path.{sym, _∙_}
+use mathlib.Core.Path.{sym}
 use native.Mathlib.Omega.{arith}
 use borrow.Author.Needs.{needs}
 use lib.ListN.{length}

@@ -1,5 +1,5 @@
 -- `engine::accepted` meets its contract: the tables, the inputs and the cells are those from which the run starts (proofs/Starting). Assumes nothing.
-use mathlib.Core.Path.{_≡_, refl, sym, ap, _∙_}
+use mathlib.Core.Path.{sym, ap}
 use native.Mathlib.Omega.{arith}
 use Prim.Native.Nat.{ℕ, _/_}
 use lib.ListN.{length, length-replicate}

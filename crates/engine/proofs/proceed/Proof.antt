@@ -1,7 +1,6 @@
 -- `engine::proceed` meets its contract. The invariant is what holds after so many firings (proofs/Looping), the measure how many the budget still allows.
 -- Assumes nothing.
 use Prim.Native.Nat.{_-_}
-use mathlib.Core.Path.{_≡_, refl, sym, ap, _∙_}
 use native.Mathlib.Omega.{arith}
 use borrow.Author.Needs.{needs}
 use Rattle.record.specs.GraphRecords.{graphOf}

@@ -1,7 +1,6 @@
 -- `engine::rest` meets its contract. Assumes nothing.
 use Prim.Native.Nat.{ℕ, zero, suc}
 use mathlib.Core.Path.{_≡_, refl, sym, ap, _∙_}
-use native.Mathlib.Omega.{arith}
 use borrow.Author.Needs.{needs}
 use Rattle.rules.specs.declared.answer.Outcome.the-variants.{Spent}
 use Rattle.engine.specs.Turns.{restOutcome}

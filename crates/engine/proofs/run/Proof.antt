@@ -1,5 +1,5 @@
 -- `engine::run` meets its contract: a check that failed leaves everything as lent, and an accepted run ends as the rules say. Assumes nothing.
-use mathlib.Core.Path.{_≡_, refl, sym, ap, _∙_}
+use mathlib.Core.Path.{refl, sym, _∙_}
 use borrow.Author.Needs.{needs}
 use Rattle.rules.specs.Run.{result, unlessFailed, answer, ledgerAfter, cellsAfter}
 use Rattle.engine.proofs.run.Statement.{statement}

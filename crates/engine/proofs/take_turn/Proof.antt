@@ -1,6 +1,5 @@
 -- `engine::take_turn` meets its contract: the activity that the pick takes fires, joined by proofs/Turning. Assumes nothing.
-use mathlib.Core.Path.{_≡_, refl, sym, ap, _∙_}
-use native.Mathlib.Omega.{arith}
+use mathlib.Core.Path.{refl}
 use borrow.Author.Needs.{needs}
 use Rattle.matching.proofs.Laws.{matching-counted}
 use Rattle.rules.specs.Run.{picksOf}

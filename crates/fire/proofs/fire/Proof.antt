@@ -1,6 +1,5 @@
 -- `fire::fire` meets its contract: what matching finds, the effect, and what commit leaves, joined by proofs/Steps. Assumes nothing.
-use mathlib.Core.Path.{_≡_, refl, sym, ap, _∙_}
-use native.Mathlib.Omega.{arith}
+use mathlib.Core.Path.{refl, _∙_}
 use mir.Syntax.{w32}
 use mir.Val.{SFits}
 use mir.Facts.{toZ-ofZ}

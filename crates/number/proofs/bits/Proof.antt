@@ -1,8 +1,6 @@
 -- `record::number::bits` meets its contract. Assumes nothing.
-use borrow.Author.Needs.{needs}
 use native.Mathlib.Omega.{arith}
 use mir.Facts.{toZ-ofZ}
-use mir.Syntax.{w32}
 use Rattle.number.specs.Number.{bitsOf}
 use Rattle.number.proofs.TwosComplement.{at-pos, at-neg, down}
 use Rattle.number.proofs.bits.Statement.{statement}

@@ -6,11 +6,6 @@ use lib.Seq.{length-take-le}
 use Rattle.text.proofs.Room.{done-within}
 use Rattle.ttda.proofs.put.Statement.{statement}
 use Rattle.ttda.proofs.put.Tie as tie
-use Rattle.ttda.proofs.put.Reads as reads
-use Rattle.ttda.proofs.put.Lts as lts
-use Rattle.io.proofs.write_all.Reads as write-all-reads
-use Rattle.os.proofs.fail.Reads as fail-reads
-use Rattle.text.proofs.print.Reads as print-reads
 
 -- src/main.rt:51:11
 print-requires : tie.Need-print-requires

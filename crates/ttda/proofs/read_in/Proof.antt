@@ -6,11 +6,6 @@ use lib.ListN.{length, length-set}
 use lib.Seq.{length-take-le}
 use Rattle.ttda.proofs.read_in.Statement.{statement}
 use Rattle.ttda.proofs.read_in.Tie as tie
-use Rattle.ttda.proofs.read_in.Reads as reads
-use Rattle.ttda.proofs.read_in.Lts as lts
-use Rattle.io.proofs.buffer.Reads as buffer-reads
-use Rattle.table.proofs.write_at.Reads as write-at-reads
-use Rattle.ttda.proofs.read_file.Reads as read-file-reads
 
 -- src/main.rt:47:9
 read-file-requires : tie.Need-read-file-requires

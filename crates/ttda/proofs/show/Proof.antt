@@ -4,13 +4,6 @@ use mathlib.Core.Path.{sym}
 use lib.Seq.{length-take-le}
 use Rattle.ttda.proofs.show.Statement.{statement}
 use Rattle.ttda.proofs.show.Tie as tie
-use Rattle.ttda.proofs.show.Reads as reads
-use Rattle.ttda.proofs.show.Lts as lts
-use Rattle.engine.proofs.run.Reads as run-reads
-use Rattle.listing.proofs.list.Reads as list-reads
-use Rattle.os.proofs.fail.Reads as fail-reads
-use Rattle.ttda.proofs.put.Reads as put-reads
-use Rattle.ttda.proofs.used_bytes.Reads as used-bytes-reads
 
 -- src/main.rt:75:9
 run-requires : tie.Need-run-requires

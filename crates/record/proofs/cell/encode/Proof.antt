@@ -3,7 +3,7 @@ use mathlib.Core.Path.{_∙_, ap, sym}
 use mir.Facts.{toZ-ofZ}
 use mir.Syntax.{w32}
 use mir.Val.{SFits}
-use Rattle.record.specs.Cells.{encode, CellFits}
+use Rattle.record.specs.Cells.{encode}
 use borrow.Author.Needs.{needs}
 use Rattle.record.proofs.cell.encode.Statement.{statement}
 use Rattle.record.proofs.cell.encode.Tie as tie

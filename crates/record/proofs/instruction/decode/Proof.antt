@@ -1,5 +1,4 @@
 -- `record::instruction::decode` meets its contract. Assumes nothing.
-use mathlib.Core.Path.{_∙_, ap}
 use mir.Syntax.{w32}
 use mir.Facts.{toZ-ofZ}
 use borrow.Author.Needs.{needs}

@@ -4,7 +4,7 @@ use mathlib.Core.List.{List, [], _∷_}
 use Prim.Native.Nat.{ℕ}
 use borrow.Author.Tests.{ne-eqb}
 use Rattle.record.specs.declared.operation.Operation.the-variants.{Unknown}
-use Rattle.record.specs.GraphRecords.{Row, table, lookup, noRow, rowOf}
+use Rattle.record.specs.GraphRecords.{Row, table, lookup, rowOf}
 use Rattle.record.proofs.operation.decode.Statement.{statement}
 use Rattle.record.proofs.operation.decode.Tie as tie
 
