@@ -3,10 +3,12 @@
 //! time for one firing, and firings in a second; and for every work how much the
 //! time for one firing grows from 256 to 2,048 tokens.
 //!
-//! All works are run in turn, round after round: a run that is repeated at once is
-//! faster, a short one by more, and how it grows with its size says little then.
-//! With the argument `repeated` it is measured in that way.
+//! All works are run in turn, round after round. With the argument `repeated` each
+//! is run again and again before the next; with `growth` only the growth is
+//! measured, of runs of one size that follow each other (growth.rs). The figures of
+//! the three differ.
 
+mod growth;
 mod work;
 
 use std::time::{Duration, Instant};
@@ -33,6 +35,9 @@ const KINDS: [Kind; 5] = [
 ];
 
 fn main() {
+    if std::env::args().any(|word| word == "growth") {
+        return growth::print();
+    }
     let repeated = std::env::args().any(|word| word == "repeated");
     println!("Time of one run, median of {ROUNDS} runs of each emulator. The buffers are not");
     println!("cleared: each run finds ledger and cells as the run before it left them. The");

@@ -2,7 +2,7 @@
 use Prim.Native.Nat.{ℕ, zero, suc, _-_, _*_, _≤_, _<_}
 use mathlib.Core.Path.{_≡_, refl, ap}
 use mathlib.Core.Bool.{Bool, true, false, cond}
-use mathlib.Core.List.{List, [], _∷_, _++_}
+use mathlib.Core.List.{List, [], _∷_, _++_, map}
 use native.Mathlib.Omega.{arith}
 use lib.ListN.{length, getD, set, drop, drop-of-length-le}
 use lib.Seq.{drop-cons}
@@ -98,3 +98,18 @@ pub first-set : {A : Type 0} (p : A → Bool) (ts : List A) (i : ℕ) (u d : A) 
 first-set p [] i u d h n = refl
 first-set p (t ∷ ts) zero u d h n = rw h
 first-set p (t ∷ ts) (suc i) u d h n = rw (first-set p ts i u d h (suc n))
+
+-- each is replaced by another that passes or fails alike
+pub first-map : {A : Type 0} (p : A → Bool) (f : A → A) → ((t : A) → p (f t) ≡ p t) → (ts : List A) (n : ℕ) → firstFrom p n (map f ts) ≡ firstFrom p n ts
+first-map p f h [] n = refl
+first-map p f h (t ∷ ts) n = rw (h t, first-map p f h ts (suc n))
+
+-- none passes, and one that fails is added at the end
+pub first-none-added : {A : Type 0} (p : A → Bool) (ts : List A) (u : A) (n : ℕ) → firstFrom p n ts ≡ Nothing → p u ≡ false → firstFrom p n (ts ++ u ∷ []) ≡ Nothing
+first-none-added p [] u n e h = rw h
+first-none-added p (t ∷ ts) u n e h = go (p t) e (λ e. first-none-added p ts u (suc n) e h)
+  where
+    go : (b : Bool) → cond b (At n) (firstFrom p (suc n) ts) ≡ Nothing → (firstFrom p (suc n) ts ≡ Nothing → firstFrom p (suc n) (ts ++ u ∷ []) ≡ Nothing)
+        → cond b (At n) (firstFrom p (suc n) (ts ++ u ∷ [])) ≡ Nothing
+    go true e later = e
+    go false e later = later e

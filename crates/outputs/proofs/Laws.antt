@@ -26,10 +26,9 @@ use Rattle.record.proofs.cell.Cell.{the-type}
 use Rattle.effect.proofs.operate.Action as Actions
 use Rattle.table.proofs.Tables.{length-joined, put-joined, length-rows, getD-rows}
 use Rattle.record.proofs.Records.{length-token, length-cell, cells-put}
-use Rattle.chains.specs.declared.Found.the-variants.{At, Nothing}
 use Rattle.chains.specs.Search.{firstFrom, Free}
 use Rattle.chains.specs.Deferred.{LowCell, woken}
-use Rattle.chains.proofs.Search.{first-set}
+use Rattle.chains.proofs.Search.{first-set, first-map, first-none-added}
 use Rattle.enabled.specs.Store.{Operands, statesSpent, tokensSpent}
 use Rattle.matching.specs.Matching.{spentToken, Matching}
 use Rattle.matching.proofs.Laws.{matching-room}
@@ -185,22 +184,6 @@ module _ {arities heads next flags counts waiting later l : List ℕ} {n : ℕ} 
 
 -- ---- what is free stays free
 
-module _ (p : Token → Bool) where
-  -- where every token keeps its key
-  search-map : (f : Token → Token) → ((t : Token) → p (f t) ≡ p t) → (ts : List Token) (n : ℕ) → firstFrom p n (map f ts) ≡ firstFrom p n ts
-  search-map f h [] n = refl
-  search-map f h (t ∷ ts) n = rw (h t, search-map f h ts (suc n))
-
-  -- where one arrives elsewhere
-  free-append : (ts : List Token) (u : Token) (n : ℕ) → firstFrom p n ts ≡ Nothing → p u ≡ false → firstFrom p n (ts ++ u ∷ []) ≡ Nothing
-  free-append [] u n e h = rw h
-  free-append (t ∷ ts) u n e h = go (p t) e (λ e. free-append ts u (suc n) e h)
-    where
-      go : (b : Bool) → cond b (At n) (firstFrom p (suc n) ts) ≡ Nothing → (firstFrom p (suc n) ts ≡ Nothing → firstFrom p (suc n) (ts ++ u ∷ []) ≡ Nothing)
-          → cond b (At n) (firstFrom p (suc n) (ts ++ u ∷ [])) ≡ Nothing
-      go true e later = e
-      go false e later = later e
-
 module _ (tag : Tag) (port : ℕ) where
   search-spent : (i : ℕ) (ts : List Token) → firstFrom (standsAt tag port) 0 (spendOne i ts) ≡ firstFrom (standsAt tag port) 0 ts
   unfolding spendOne standsAt
@@ -218,7 +201,7 @@ module _ (tag : Tag) (port : ℕ) where
   unfolding standsAt
   search-woken (Send v) ts = refl
   search-woken (Read c) ts = refl
-  search-woken (Write c v) ts = search-map (standsAt tag port) (woken c v) (λ t. refl) ts 0
+  search-woken (Write c v) ts = first-map (standsAt tag port) (woken c v) (λ t. refl) ts 0
 
   free-carried : (a : Action) (i j : ℕ) (ts : List Token) → Free ts tag port → Free (wokenBy a (spentAt i j ts)) tag port
   free-carried a i j ts f = search-woken a (spentAt i j ts) ∙ search-spent-at i j ts ∙ f
@@ -267,7 +250,7 @@ module _ (ts : List Token) (j k : Key) (n : ℕ) (some-out : n ≡ 0 → ⊥) (f
       go : (n : ℕ) → (n ≡ 0 → ⊥) → (n ≡ 1 → ⊥) → FreeKeysBy ts n j k → Free (ts ++ tokenOut x j ∷ []) (k .tag) (k .port)
       go zero z o f = absurd (z refl)
       go (suc zero) z o f = absurd (o refl)
-      go (suc (suc n)) z o f = free-append (standsAt (k .tag) (k .port)) ts (tokenOut x j) 0 (f .1) (f .2 x)
+      go (suc (suc n)) z o f = first-none-added (standsAt (k .tag) (k .port)) ts (tokenOut x j) 0 (f .1) (f .2 x)
 
 module _ (j k : Key) (x : Content) (n used : ℕ) (ts : List Token) {arities heads next flags counts waiting later l start : List ℕ} where
   pub kept-none : Kept arities heads next flags counts waiting later l used ts start → n ≡ 0
