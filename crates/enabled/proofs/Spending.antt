@@ -17,7 +17,7 @@ use Rattle.record.specs.declared.tag.Tag.{Tag}
 use Rattle.record.specs.declared.token.Token.{Token}
 use Rattle.record.specs.declared.token.Content.{Content}
 use Rattle.record.specs.declared.token.Content.the-variants.{Live, Spent, Deferred}
-use Rattle.flags.specs.Flags.{Counted}
+use Rattle.flags.specs.Flags.{flagsOf, Counted}
 use Rattle.chains.specs.declared.Found.the-variants.{At}
 use Rattle.chains.specs.Search.{firstFrom}
 use Rattle.chains.proofs.Search.{first-set}
@@ -86,7 +86,7 @@ module _ (arities heads next flags counts l : List ℕ) (used i : ℕ) (w : Stor
       let f : TokenFits t = rw held at (all-at TokenFits (tokens used l) i t (omega (arith, length-rows 20 decode used l)) (w .fits)) in
       changed arities heads next flags counts l used i (spentToken t) w h refl refl (spent-fits t f) m put (length-set l (i * 20 + 16) 1)
 
-  spent : (tag : Tag) → t .tag ≡ tag → (p : ℕ) → placeOf (tokens used l) tag ≡ p → liveAt us tag 0 ≡ false → (flags′ counts′ : List ℕ) → flags′ ≡ set flags p 0 → Counted flags′ counts′
+  spent : (tag : Tag) → t .tag ≡ tag → (p : ℕ) → placeOf (tokens used l) tag ≡ p → liveAt us tag 0 ≡ false → (flags′ counts′ : List ℕ) → flagsOf flags′ ≡ set (flagsOf flags) p 0 → Counted flags′ counts′
       → (tokens used (set l (i * 20 + 16) 1) ≡ us) × Stored arities heads next flags′ counts′ (set l (i * 20 + 16) 1) used
   spent tag e p lead off flags′ counts′ put c =
       let place = place-kept (tokens used l) i (spentToken t) t (ap (λ (x : Token). x .tag) (sym held)) (t .tag) ∙ ap (placeOf (tokens used l)) e ∙ lead in
@@ -95,7 +95,7 @@ module _ (arities heads next flags counts l : List ℕ) (used i : ℕ) (w : Stor
 
 -- ---- the operands of an activity are spent
 
-module _ (arities heads next flags counts l : List ℕ) (used i j : ℕ) (w : Stored arities heads next flags counts l used) (o : Operands l used i j) (flags′ counts′ : List ℕ) (put : flags′ ≡ set flags (lower i j) 0) (c : Counted flags′ counts′) where
+module _ (arities heads next flags counts l : List ℕ) (used i j : ℕ) (w : Stored arities heads next flags counts l used) (o : Operands l used i j) (flags′ counts′ : List ℕ) (put : flagsOf flags′ ≡ set (flagsOf flags) (lower i j) 0) (c : Counted flags′ counts′) where
   abbrev ts : List Token
   ts = tokens used l
 
@@ -138,7 +138,7 @@ module _ (arities heads next flags counts l : List ℕ) (used i j : ℕ) (w : St
       let dead : isLive (getD (set vs j v) i u .content) ≡ false = ap (λ (x : Token). isLive (x .content)) (getD-set-other vs j i v u (λ e. apart (sym e)) ∙ gone u) ∙ spent-dead (tokenAt l i .content) in
       let off = live-off tag 0 u (set vs j v) i (first-spent tag vs j (tokenAt l j) (getD-set-other ts i j u (tokenAt l j) apart ∙ read j (tokenAt l j) (o .secondWithin)) ∙ found) dead in
       let written : set (tokens used m) j (spentToken (tokenAt m j)) ≡ set vs j v = λ k. set (once .0 k) j (spentToken (same k)) in
-      let lowered : flags′ ≡ set flags′ p 0 = put ∙ sym (set-set flags p 0 0) ∙ ap (λ (f : List ℕ). set f p 0) (sym put) in
+      let lowered : flagsOf flags′ ≡ set (flagsOf flags′) p 0 = put ∙ sym (set-set (flagsOf flags) p 0 0) ∙ ap (λ (f : List ℕ). set f p 0) (sym put) in
       let r = spent arities heads next flags′ counts′ m used j (once .1) (o .secondWithin) live tag (ap (λ (x : Token). x .tag) same ∙ o .oneTag) p lead (ap (λ (ws : List Token). liveAt ws tag 0) written ∙ off) flags′ counts′ lowered c in
       (r .0 ∙ written, r .1)
 

@@ -12,7 +12,7 @@ use Rattle.record.specs.TokensAndTags.{tokens, tokenAt, decode, encode, TokenFi
 use Rattle.table.proofs.Tables.{length-rows, getD-rows}
 use Rattle.record.proofs.Records.{tokens-put, tokens-end}
 use Rattle.record.specs.declared.token.Token.{Token}
-use Rattle.flags.specs.Flags.{Counted}
+use Rattle.flags.specs.Flags.{flagsOf, Counted}
 use Rattle.flags.specs.Marks.{bit}
 use Rattle.chains.specs.Chains.{bucketKey, Indexed}
 use Rattle.chains.proofs.Chains.{chained-few, chained-same}
@@ -47,7 +47,7 @@ pub record Moved (arities heads next flags m : List ℕ) (used : ℕ) (us : List
   pub more : tokens used m ≡ us
   pub known : Known heads next m used
   pub place : placeOf (tokens used m) (t .tag) < used
-  pub stored : (flags′ counts′ : List ℕ) → flags′ ≡ set flags (placeOf (tokens used m) (t .tag)) (bit (isEnabled arities (tokens used m) (t .tag)))
+  pub stored : (flags′ counts′ : List ℕ) → flagsOf flags′ ≡ set (flagsOf flags) (placeOf (tokens used m) (t .tag)) (bit (isEnabled arities (tokens used m) (t .tag)))
       → Counted flags′ counts′ → Stored arities heads next flags′ counts′ m used
 
 -- a token is added
@@ -71,7 +71,7 @@ module _ (arities heads next flags counts l : List ℕ) (used : ℕ) (t : Token)
           bytes = rw (put, add-one) (bytes-end used l (w .bytes) t fits (omega arith));
           fits = rw e (all-append TokenFits ts t (w .fits) fits);
           counted = c;
-          right = rw (put′, e) (right-append arities ts t flags (omega arith) (w .right));
+          right = rw (put′, e) (right-append arities ts t (flagsOf flags) (omega arith) (w .right));
         };
       }
 
@@ -103,6 +103,6 @@ module _ (arities heads next flags counts l : List ℕ) (used i : ℕ) (t : Toke
           bytes = rw put (bytes-put used l (w .bytes) t i h fits space);
           fits = rw e (all-set TokenFits ts i t (w .fits) fits);
           counted = c;
-          right = rw (put′, e) (right-set arities ts i t d flags (omega arith) tag (w .right));
+          right = rw (put′, e) (right-set arities ts i t d (flagsOf flags) (omega arith) tag (w .right));
         };
       }

@@ -9,7 +9,7 @@ use lib.Dec.{eqb, ltb}
 use Rattle.table.specs.Table.{joined, All}
 use Rattle.record.specs.TokensAndTags.{encode, tokens, tokenAt, standsAt, TokenFits}
 use Rattle.record.specs.declared.token.Token.{Token}
-use Rattle.flags.specs.Flags.{Counted}
+use Rattle.flags.specs.Flags.{flagsOf, Counted}
 use Rattle.flags.specs.Marks.{Marked}
 use Rattle.chains.specs.declared.Found.{Found}
 use Rattle.chains.specs.declared.Found.the-variants.{At, Nothing}
@@ -33,7 +33,7 @@ pub record Stored (arities heads next flags counts ledger : List ℕ) (used : �
   pub bytes : take (used * 20) ledger ≡ joined encode (tokens used ledger)
   pub fits : All TokenFits (tokens used ledger)
   pub counted : Counted flags counts
-  pub right : Right arities (tokens used ledger) flags
+  pub right : Right arities (tokens used ledger) (flagsOf flags)
 
 -- ---- answers of a search
 

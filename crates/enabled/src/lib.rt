@@ -10,7 +10,7 @@ ghost use Prim.Native.Nat.{ℕ, _+_, _/_, _<_};
 ghost use lib.ListN.{length, getD, set};
 ghost use Rattle.table.specs.Table.{putRow};
 ghost use Rattle.record.specs.TokensAndTags.{encode, tokens, tokenAt};
-ghost use Rattle.flags.specs.Flags.{Counted};
+ghost use Rattle.flags.specs.Flags.{flagsOf, Counted};
 ghost use Rattle.flags.specs.Marks.{bit};
 ghost use Rattle.chains.specs.Search.{Within, Free};
 ghost use Rattle.enabled.specs.Enabled.{allLive, placeOf};
@@ -80,7 +80,7 @@ fn first_of(f: Found, g: Found, used: usize) -> usize
 
 // Puts the flag of a tag's activity right, by what its two ports have.
 fn settle(
-    flags: &mut [u8; 2048],
+    flags: &mut [u64; 33],
     counts: &mut [u16; 36],
     heads: &[u16; 4096],
     next: &[u16; 2048],
@@ -90,7 +90,7 @@ fn settle(
     operands: u8,
 )
     requires { ⌜ Counted (now flags) (now counts) × Known (now heads) (now next) (now ledger) used × (placeOf (tokens used (now ledger)) tag < used) ⌝ }
-    ensures { λ _. ⌜ now (flags .exit) ≡ set (now (flags .entry)) (placeOf (tokens used (now (ledger .entry))) tag) (bit (allLive operands (tokens used (now (ledger .entry))) tag)) ⌝ }
+    ensures { λ _. ⌜ flagsOf (now (flags .exit)) ≡ set (flagsOf (now (flags .entry))) (placeOf (tokens used (now (ledger .entry))) tag) (bit (allLive operands (tokens used (now (ledger .entry))) tag)) ⌝ }
     ensures { λ _. ⌜ Counted (now (flags .exit)) (now (counts .exit)) ⌝ }
 {
     let f = chains::find(heads, next, ledger, used, tag, 0);
@@ -117,7 +117,7 @@ pub fn append(
     arities: &[u8],
     heads: &mut [u16; 4096],
     next: &mut [u16; 2048],
-    flags: &mut [u8; 2048],
+    flags: &mut [u64; 33],
     counts: &mut [u16; 36],
     ledger: &mut [u8],
     used: usize,
@@ -143,7 +143,7 @@ pub fn change(
     arities: &[u8],
     heads: &[u16; 4096],
     next: &[u16; 2048],
-    flags: &mut [u8; 2048],
+    flags: &mut [u64; 33],
     counts: &mut [u16; 36],
     ledger: &mut [u8],
     used: usize,
@@ -164,7 +164,7 @@ pub fn change(
 // Spends the operands of an enabled activity; where one is waited for, both places are its place. The activity is
 // enabled no more, and its flag stands at the place of its earlier operand, so nothing has to be searched for.
 pub fn spend_operands(
-    flags: &mut [u8; 2048],
+    flags: &mut [u64; 33],
     counts: &mut [u16; 36],
     ledger: &mut [u8],
     first: usize,

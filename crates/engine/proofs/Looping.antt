@@ -11,7 +11,7 @@ use Rattle.record.specs.declared.tag.Tag.{Tag}
 use Rattle.record.specs.declared.instruction.Instruction.{Instruction}
 use Rattle.record.specs.TokensAndTags.{tokens}
 use Rattle.enabled.specs.Enabled.{enabledPlaces}
-use Rattle.flags.specs.Flags.{places}
+use Rattle.flags.specs.Flags.{places, flagsOf}
 use Rattle.machine.specs.Machine.{Machine, Outcome, completed, budgetSpent, End, laterPicks, byPicks, runBy, end}
 use Rattle.matching.proofs.Laws.{matching-places}
 use Rattle.accept.specs.Accept.{tailOf}
@@ -113,14 +113,14 @@ module _ (g : List Instruction) (ledger₀ cells₀ : List ℕ) (start budget : 
         ends-as (a .outcome) o (a .told) (to-do (suc b) (omega arith) ∙ step) (a .running) (a .sameLedger) (a .sameCells)
 
     -- the budget is spent
-    pub finished : budget ≤ firings → Arities g arities → (w : AnswerOutcome.Outcome) → w ≡ restOutcome (length (places flags))
+    pub finished : budget ≤ firings → Arities g arities → (w : AnswerOutcome.Outcome) → w ≡ restOutcome (length (places (flagsOf flags)))
         → Left (endOf g ledger₀ cells₀ start budget picks) (record { outcome = w; firings = firings; tokens = used }) ledger₀ cells₀ ledger cells
-    finished h right w e = go (length (places flags)) refl
+    finished h right w e = go (length (places (flagsOf flags))) refl
       where
-        same : length (places flags) ≡ length (enabledPlaces arities (tokens used ledger))
+        same : length (places (flagsOf flags)) ≡ length (enabledPlaces arities (tokens used ledger))
         same = ap length (matching-places (so .running .matching))
 
-        go : (n : ℕ) → length (places flags) ≡ n → Left (endOf g ledger₀ cells₀ start budget picks) (record { outcome = w; firings = firings; tokens = used }) ledger₀ cells₀ ledger cells
+        go : (n : ℕ) → length (places (flagsOf flags)) ≡ n → Left (endOf g ledger₀ cells₀ start budget picks) (record { outcome = w; firings = firings; tokens = used }) ledger₀ cells₀ ledger cells
         go zero z =
             let s = stateIn ledger cells used in
             let stop = as-lent (λ p q. runBy (machineOf g p q) (byPicks (machineOf g p q)) 0 (drop firings picks) firings s ≡ end (machineOf g p q) completed firings s)

@@ -15,7 +15,7 @@ use Rattle.record.specs.GraphRecords.{graphOf}
 use Rattle.record.specs.TokensAndTags.{tokens, tokenAt}
 use Rattle.record.specs.TokensAndTags as Tokens
 use Rattle.table.proofs.Tables.{getD-rows}
-use Rattle.flags.specs.Flags.{places}
+use Rattle.flags.specs.Flags.{places, flagsOf}
 use Rattle.matching.proofs.Laws.{matching-places, matching-enabled-below, matching-leads}
 use Rattle.accept.specs.Accept.{headOr0}
 use Rattle.accept.proofs.Laws.{head-drop}
@@ -112,10 +112,10 @@ module _ (graph returns picks : List ℕ) {arities heads next flags counts waiti
   abbrev later-picks : List ℕ
   later-picks = drop firings (picksOf picks)
 
-  count : (e : ℕ) → e ≡ length (places flags) → e ≡ length (enabledPlaces arities (tokens used ledger))
+  count : (e : ℕ) → e ≡ length (places (flagsOf flags)) → e ≡ length (enabledPlaces arities (tokens used ledger))
   count e h = h ∙ ap length (matching-places (now .matching))
 
-  pub turn-none : (e : ℕ) → e ≡ length (places flags) → e ≡ 0 → Halted Outcomes.Completed (graphOf graph) later-picks arities heads next flags counts waiting later ledger cells used ledger cells
+  pub turn-none : (e : ℕ) → e ≡ length (places (flagsOf flags)) → e ≡ 0 → Halted Outcomes.Completed (graphOf graph) later-picks arities heads next flags counts waiting later ledger cells used ledger cells
   turn-none e h z = record {
     outcome = completed;
     told = refl;
@@ -125,7 +125,7 @@ module _ (graph returns picks : List ℕ) {arities heads next flags counts waiti
     sameCells = refl;
   }
 
-  module _ (e pick place : ℕ) (all : e ≡ length (places flags)) (some : e ≡ 0 → ⊥) (here : pick ≡ getD (picksOf picks) firings 0) (taken : place ≡ getD (places flags) (pick % e) 0) where
+  module _ (e pick place : ℕ) (all : e ≡ length (places (flagsOf flags))) (some : e ≡ 0 → ⊥) (here : pick ≡ getD (picksOf picks) firings 0) (taken : place ≡ getD (places (flagsOf flags)) (pick % e) 0) where
     numbered : place ≡ getD (enabledPlaces arities (tokens used ledger)) (pick % e) 0
     numbered = taken ∙ ap (λ (l : List ℕ). getD l (pick % e) 0) (matching-places (now .matching))
 
@@ -135,7 +135,7 @@ module _ (graph returns picks : List ℕ) {arities heads next flags counts waiti
         ∙ ap (λ (n : ℕ). getD (enabledPlaces arities (tokens used ledger)) (n % e) 0) (here ∙ sym (first-pick firings (picksOf picks)))
         ∙ ap (λ (n : ℕ). getD (enabledPlaces arities (tokens used ledger)) (firstPick later-picks % n) 0) (count e all)
 
-    pub below : pick % e < length (places flags)
+    pub below : pick % e < length (places (flagsOf flags))
     below = subst (λ (n : ℕ). pick % e < n) all (mod-lt pick (omega arith))
 
     pub place-enabled : (place < used) × (leads arities (tokens used ledger) place (tokenAt ledger place) ≡ true)

@@ -8,7 +8,7 @@ ghost use Prim.Native.Nat.{_/_};
 ghost use mathlib.Core.Path.{_≡_};
 ghost use lib.ListN.{length, drop};
 ghost use Rattle.record.specs.GraphRecords.{graphOf};
-ghost use Rattle.flags.specs.Flags.{Counted, places};
+ghost use Rattle.flags.specs.Flags.{Counted, places, flagsOf};
 ghost use Rattle.machine.specs.Machine.{run as Machine·run};
 ghost use Rattle.rules.specs.declared.answer.Checked.the-variants.{Passed};
 ghost use Rattle.rules.specs.Check.{checkGraph, check};
@@ -31,7 +31,7 @@ fn take_turn(
     arities: &[u8],
     heads: &mut [u16; 4096],
     next: &mut [u16; 2048],
-    flags: &mut [u8; 2048],
+    flags: &mut [u64; 33],
     counts: &mut [u16; 36],
     waiting: &mut [u16; 1024],
     later: &mut [u16; 2048],
@@ -70,9 +70,9 @@ fn take_turn(
 }
 
 // How a run ends whose budget is spent: completed is tried first.
-fn rest(flags: &[u8; 2048], counts: &[u16; 36]) -> Outcome
+fn rest(flags: &[u64; 33], counts: &[u16; 36]) -> Outcome
     requires { ⌜ Counted (now flags) (now counts) ⌝ }
-    ensures { λ r. ⌜ r ≡ restOutcome (length (places (now (flags .entry)))) ⌝ }
+    ensures { λ r. ⌜ r ≡ restOutcome (length (places (flagsOf (now (flags .entry))))) ⌝ }
 {
     if matching::enabled_count(flags, counts) == 0 {
         Outcome::Completed
@@ -90,7 +90,7 @@ fn proceed(
     arities: &[u8],
     heads: &mut [u16; 4096],
     next: &mut [u16; 2048],
-    flags: &mut [u8; 2048],
+    flags: &mut [u64; 33],
     counts: &mut [u16; 36],
     waiting: &mut [u16; 1024],
     later: &mut [u16; 2048],
@@ -158,7 +158,7 @@ fn accepted(
     let mut returns = [0u16; 256];
     let mut heads = [0u16; 4096];
     let mut next = [0u16; 2048];
-    let mut flags = [0u8; 2048];
+    let mut flags = [0u64; 33];
     let mut counts = [0u16; 36];
     let mut waiting = [0u16; 1024];
     let mut later = [0u16; 2048];

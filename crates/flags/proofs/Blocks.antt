@@ -10,7 +10,7 @@ use lib.Dec.{eqb}
 use lib.ListN.{length, getD, take, drop, set, length-drop, length-set, List·getD-append}
 use lib.Seq.{drop-drop, take-set-lt, take-set-le, drop-set-lt, drop-set-add, getD-take, getD-drop, getD-append-add, length-take-le, getD-set-same, getD-set-other, set-append-left}
 use borrow.Author.Tests.{eqb-true, eqb-false}
-use Rattle.flags.specs.Flags.{ones, blocks, Counted}
+use Rattle.flags.specs.Flags.{ones, blocks, Tallied}
 use Rattle.flags.proofs.Laws.{Binary, ones-split, ones-set, ones-at, ones-le}
 
 -- ---- blocks of one width
@@ -64,14 +64,14 @@ module _ (w : ℕ) where
 -- ---- the invariant
 
 -- a store to each of two lists that stand one behind the other
-set-append-add : (xs ys : List ℕ) (i a : ℕ) → set (xs ++ ys) (length xs + i) a ≡ xs ++ set ys i a
+pub set-append-add : (xs ys : List ℕ) (i a : ℕ) → set (xs ++ ys) (length xs + i) a ≡ xs ++ set ys i a
 set-append-add [] ys i a = rw (zero-add i)
 set-append-add (x ∷ xs) ys i a = rw (suc-add (length xs) i) (ap (λ (r : List ℕ). x ∷ r) (set-append-add xs ys i a))
 
 set-both : (xs ys : List ℕ) (i j a b : ℕ) → i < length xs → set (set (xs ++ ys) i a) (length xs + j) b ≡ set xs i a ++ set ys j b
 set-both xs ys i j a b h = rw (set-append-left xs ys i a h, ← length-set xs i a) (set-append-add (set xs i a) ys j b)
 
-module _ (flags counts : List ℕ) (c : Counted flags counts) where
+module _ (flags counts : List ℕ) (c : Tallied flags counts) where
   in-blocks : (b : ℕ) → b < 32 → getD counts b 0 ≡ getD (blocks 64 32 flags) b 0
   in-blocks b h =
       ap (λ (q : List ℕ). getD q b 0) (c .same) ∙ List·getD-append (blocks 64 32 flags) (blocks 512 4 flags) 0 b (omega (arith, length-blocks 64 32 flags))
@@ -98,11 +98,11 @@ module _ (flags counts : List ℕ) (c : Counted flags counts) where
   pub groups-all : getD counts 32 0 + getD counts 33 0 + getD counts 34 0 + getD counts 35 0 ≡ ones flags
   groups-all = omega (arith, in-groups 0, in-groups 1, in-groups 2, in-groups 3, ones-blocks 512 4 flags (c .size))
 
-  pub counted-set : (i v : ℕ) → i < 2048 → v ≤ 1
+  pub tallied-set : (i v : ℕ) → i < 2048 → v ≤ 1
       → let x = getD counts (i / 64) 0 + v - getD flags i 0 in
       let y = getD counts (32 + i / 512) 0 + v - getD flags i 0 in
-      Counted (set flags i v) (set (set counts (i / 64) x) (32 + i / 512) y)
-  counted-set i v h g =
+      Tallied (set flags i v) (set (set counts (i / 64) x) (32 + i / 512) y)
+  tallied-set i v h g =
       let x = getD counts (i / 64) 0 + v - getD flags i 0 in
       let y = getD counts (32 + i / 512) 0 + v - getD flags i 0 in
       let bs = blocks 64 32 flags in

@@ -12,8 +12,10 @@ use lib.Dec.{ltb}
 use lib.ListN.{length, getD, take, drop, set, length-drop, drop-of-length-le, replicate, length-replicate}
 use lib.Seq.{drop-drop, drop-cons}
 use borrow.Author.Tests.{le-ltb, lt-ltb, ltb-true, ltb-false}
-use Rattle.number.specs.Number.{number64}
-use Rattle.flags.specs.Flags.{placesFrom, ones, place, Counted}
+use Rattle.flags.specs.Flags.{placesFrom, ones, place, Tallied}
+
+abbrev pub Binary : List ℕ → Type 0
+Binary l = (i : ℕ) → getD l i 0 ≤ 1
 
 pub below-or : (a b : ℕ) → (a < b) ⊎ (b ≤ a)
 below-or a b = go (ltb a b) refl
@@ -27,10 +29,18 @@ ones-split zero l = omega arith
 ones-split (suc m) [] = refl
 ones-split (suc m) (x ∷ l) = omega (arith, ones-split m l)
 
+pub ones-append : (xs ys : List ℕ) → ones (xs ++ ys) ≡ ones xs + ones ys
+ones-append [] ys = omega arith
+ones-append (x ∷ xs) ys = omega (arith, ones-append xs ys)
+
 pub ones-set : (l : List ℕ) (i v : ℕ) → i < length l → ones (set l i v) + getD l i 0 ≡ ones l + v
 ones-set [] i v h = absurd (not-suc-le-zero h)
 ones-set (x ∷ l) zero v h = omega arith
 ones-set (x ∷ l) (suc i) v h = omega (arith, ones-set l i v (le-of-suc-le-suc h))
+
+pub ones-none : (n : ℕ) → ones (replicate n 0) ≡ 0
+ones-none zero = refl
+ones-none (suc n) = omega (arith, ones-none n)
 
 pub ones-at : (l : List ℕ) (i : ℕ) → getD l i 0 ≤ ones l
 ones-at [] i = omega arith
@@ -82,6 +92,35 @@ place-skip (suc m) k (x ∷ l) h g =
     let e : (k - x) - ones (take m l) ≡ k - (x + ones (take m l)) = omega arith in
     place-later k x l (omega arith) ∙ ap suc (place-skip m (k - x) l (le-of-suc-le-suc h) (omega arith)) ∙ rw e (omega arith)
 
+-- the one sought is among the first, or none of them is
+pub place-left : (k : ℕ) (xs ys : List ℕ) → k < ones xs → place k (xs ++ ys) ≡ place k xs
+place-left k [] ys h = absurd (not-suc-le-zero h)
+place-left k (x ∷ xs) ys h = ⊎-elim
+    (λ g. rw (lt-ltb k x g))
+    (λ g. rw (le-ltb k x g, place-left (k - x) xs ys (omega arith)))
+    (below-or k x)
+
+pub place-right : (k : ℕ) (xs ys : List ℕ) → ones xs ≤ k → place k (xs ++ ys) ≡ length xs + place (k - ones xs) ys
+place-right k [] ys h = let e : k - 0 ≡ k = omega arith in rw e (omega arith)
+place-right k (x ∷ xs) ys h =
+    let e : k - x - ones xs ≡ k - (x + ones xs) = omega arith in
+    place-later k x (xs ++ ys) (omega arith) ∙ ap suc (place-right (k - x) xs ys (omega arith)) ∙ rw e (omega arith)
+
+-- the first one is taken away: of those behind it each has a number less
+pub place-rest : (k : ℕ) (l : List ℕ) → Binary l → suc k < ones l
+    → (k < ones (set l (place 0 l) 0)) × (place k (set l (place 0 l) 0) ≡ place (suc k) l)
+place-rest k [] b h = absurd (not-suc-le-zero h)
+place-rest k (zero ∷ l) b h =
+    let e : suc k - 0 ≡ suc k = omega arith in
+    let d : k - 0 ≡ k = omega arith in
+    let later = place-rest k l (λ i. b (suc i)) (omega arith) in
+    rw (le-ltb k 0 (omega arith), le-ltb (suc k) 0 (omega arith), e, d) (omega (arith, later .0), ap suc (later .1))
+place-rest k (suc zero ∷ l) b h =
+    let e : suc k - 1 ≡ k = omega arith in
+    let d : k - 0 ≡ k = omega arith in
+    rw (le-ltb k 0 (omega arith), le-ltb (suc k) 1 (omega arith), e, d) (omega arith, refl)
+place-rest k (suc (suc x) ∷ l) b h = absurd (omega (arith, b 0))
+
 -- the search passes w flags
 pub passed : (w : ℕ) (l : List ℕ) (i k n : ℕ) → i + w ≤ length l → n ≡ ones (take w (drop i l)) → n ≤ k → k < ones (drop i l)
     → (k - n < ones (drop (i + w) l)) × (i + place k (drop i l) ≡ i + w + place (k - n) (drop (i + w) l))
@@ -108,59 +147,7 @@ place-lt k (x ∷ l) h = ⊎-elim
     (λ g. rw (le-ltb k x g) (omega (arith, place-lt (k - x) l (omega arith))))
     (below-or k x)
 
--- ---- eight at a time
-
-ones-part : (m n k : ℕ) (l : List ℕ) → ones (take (m + n) (drop k l)) ≡ ones (take m (drop k l)) + ones (take n (drop (k + m) l))
-ones-part m n k l =
-    let e : k + (m + n) ≡ k + m + n = omega arith in
-    let w = rw e at (ones-next (m + n) k l) in
-    omega (arith, ones-next m k l, ones-next n (k + m) l)
-
-ones-one : (l : List ℕ) (k : ℕ) → ones (take 1 (drop k l)) ≡ getD l k 0
-ones-one [] zero = refl
-ones-one [] (suc k) = refl
-ones-one (x ∷ l) zero = omega arith
-ones-one (x ∷ l) (suc k) = ones-one l k
-
-two-is : (l : List ℕ) (k : ℕ) → ones (take 2 (drop k l)) ≡ getD l k 0 + getD l (k + 1) 0
-two-is l k = omega (arith, ones-part 1 1 k l, ones-one l k, ones-one l (k + 1))
-
--- the number in eight bytes leaves their sum: 256 leaves 1
-pub eight-is : (l : List ℕ) (k : ℕ) → ((i : ℕ) → getD l i 0 ≤ 1) → number64 l k % 255 ≡ ones (take 8 (drop k l))
-eight-is l k small =
-    let at : ℕ → ℕ = λ i. getD l i 0 in
-    let low = at k + at (k + 1) + at (k + 2) + at (k + 2 + 1) in
-    let high = at (k + 4) + at (k + 4 + 1) + at (k + 4 + 2) + at (k + 4 + 2 + 1) in
-    let rest =
-    at (k + 1)
-    + 257 * at (k + 2)
-    + 65793 * at (k + 2 + 1)
-    + 16843009 * at (k + 4)
-    + 4311810305 * at (k + 4 + 1)
-    + 1103823438081 * at (k + 4 + 2)
-    + 282578800148737 * at (k + 4 + 2 + 1) in
-    let e : number64 l k ≡ (low + high) + 255 * rest = omega arith in
-    let h : low + high < 255 =
-    omega (
-      arith,
-      small k,
-      small (k + 1),
-      small (k + 2),
-      small (k + 2 + 1),
-      small (k + 4),
-      small (k + 4 + 1),
-      small (k + 4 + 2),
-      small (k + 4 + 2 + 1),
-    ) in
-    ap (λ (x : ℕ). x % 255) e
-    ∙ add-mul-mod-self-left (low + high) 255 rest
-    ∙ mod-eq-of-lt h
-    ∙ omega (arith, ones-part 4 4 k l, ones-part 2 2 k l, ones-part 2 2 (k + 4) l, two-is l k, two-is l (k + 2), two-is l (k + 4), two-is l (k + 4 + 2))
-
 -- ---- the list of places
-
-abbrev pub Binary : List ℕ → Type 0
-Binary l = (i : ℕ) → getD l i 0 ≤ 1
 
 pub ones-places : (i : ℕ) (l : List ℕ) → Binary l → length (placesFrom i l) ≡ ones l
 ones-places i [] b = refl
@@ -191,8 +178,8 @@ zero-at zero i = refl
 zero-at (suc n) zero = refl
 zero-at (suc n) (suc i) = zero-at n i
 
-pub counted-none : Counted (replicate 2048 0) (replicate 36 0)
-counted-none = record {
+pub tallied-none : Tallied (replicate 2048 0) (replicate 36 0)
+tallied-none = record {
   size = length-replicate {A = ℕ} 2048 0;
   binary = λ i. omega (arith, zero-at 2048 i);
   same = refl;

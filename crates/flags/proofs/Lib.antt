@@ -1,6 +1,6 @@
 -- The laws of the flags of the enabled activities. Assumes nothing.
 pub mod Blocks
-pub mod Highest
+pub mod Digits
 pub mod Laws
-pub mod Lowest
 pub mod Marks
+pub mod Words

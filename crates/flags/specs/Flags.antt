@@ -1,11 +1,11 @@
--- Flags of 0 or 1 in a list: how many are 1 and at which places they stand, and the counts by blocks of 64 and by groups of
--- 512 that make both quick.
+-- Flags of 0 or 1 in a list: how many are 1 and at which places they stand. And how they are kept: 64 in a word, with the
+-- counts by blocks of 64 and by groups of 512, and a word that says which words have any.
 -- Assumes nothing.
-use Prim.Native.Nat.{ℕ, zero, suc, _+_, _-_, _≤_}
+use Prim.Native.Nat.{ℕ, zero, suc, _+_, _-_, _/_, _%_, _≤_}
 use mathlib.Core.Path.{_≡_}
 use mathlib.Core.Bool.{cond}
-use mathlib.Core.List.{List, [], _∷_, _++_}
-use lib.ListN.{length, getD, take, drop}
+use mathlib.Core.List.{List, [], _∷_, _++_, map}
+use lib.ListN.{length, getD, take, drop, replicate}
 use lib.Dec.{ltb}
 
 -- the places of the ones, in order, where the list's first has place i
@@ -32,8 +32,47 @@ abbrev pub blocks : ℕ → ℕ → List ℕ → List ℕ
 blocks width zero l = []
 blocks width (suc n) l = ones (take width l) ∷ blocks width n (drop width l)
 
--- the invariant that every operation keeps: 2,048 flags, each 0 or 1, with their counts by blocks and, behind those, by groups of eight blocks
-pub record Counted (flags counts : List ℕ) : Type 0 where
+-- 2,048 flags, each 0 or 1, with their counts by blocks and, behind those, by groups of eight blocks
+pub record Tallied (flags counts : List ℕ) : Type 0 where
   pub size : length flags ≡ 2048
   pub binary : (i : ℕ) → getD flags i 0 ≤ 1
   pub same : counts ≡ blocks 64 32 flags ++ blocks 512 4 flags
+
+-- ---- flags in words
+
+-- the n lowest binary digits of a number, the lowest first
+abbrev pub digits : ℕ → ℕ → List ℕ
+digits zero w = []
+digits (suc n) w = w % 2 ∷ digits n (w / 2)
+
+-- the 64 flags of a word
+unfoldable pub inWord : ℕ → List ℕ
+inWord w = digits 64 w
+
+-- the flags of the first n words
+abbrev pub flagsIn : ℕ → List ℕ → List ℕ
+flagsIn zero ws = []
+flagsIn (suc n) [] = []
+flagsIn (suc n) (w ∷ ws) = inWord w ++ flagsIn n ws
+
+-- the flags that 33 words hold: the last word holds none
+unfoldable pub flagsOf : List ℕ → List ℕ
+flagsOf ws = flagsIn 32 ws
+
+abbrev pub atMostOne : ℕ → ℕ
+atMostOne zero = 0
+atMostOne (suc n) = 1
+
+-- 1 for a word that has any flag set
+abbrev pub any : ℕ → ℕ
+any w = atMostOne (ones (inWord w))
+
+-- 33 words, where the last one says which of those before it have any flag set
+pub record Summed (ws : List ℕ) : Type 0 where
+  pub count : length ws ≡ 33
+  pub last : inWord (getD ws 32 0) ≡ map any (take 32 ws) ++ replicate 32 0
+
+-- the invariant that every operation keeps
+pub record Counted (ws counts : List ℕ) : Type 0 where
+  pub summed : Summed ws
+  pub tallied : Tallied (flagsOf ws) counts

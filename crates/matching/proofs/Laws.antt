@@ -10,8 +10,9 @@ use Rattle.table.specs.Table.{joined, All}
 use Rattle.record.specs.TokensAndTags.{tokens, tokenAt, decode, encode, TokenFits}
 use Rattle.table.proofs.Tables.{length-rows, getD-rows}
 use Rattle.record.specs.declared.token.Token.{Token}
-use Rattle.flags.specs.Flags.{places, Counted}
-use Rattle.flags.proofs.Laws.{zero-at, counted-none}
+use Rattle.flags.specs.Flags.{places, flagsOf, Counted}
+use Rattle.flags.proofs.Laws.{zero-at}
+use Rattle.flags.proofs.Words.{none-set, counted-none}
 use Rattle.chains.specs.Chains.{bucketKey}
 use Rattle.chains.specs.Deferred.{LowCell, cellKey}
 use Rattle.chains.proofs.Chains.{chained-none}
@@ -24,7 +25,7 @@ use Rattle.matching.specs.Matching.{Inside, Matching}
 
 -- arrays of zeros are right for a ledger with no used record
 pub matching-start : (arities ledger : List ℕ)
-    → Matching arities (replicate 4096 0) (replicate 2048 0) (replicate 2048 0) (replicate 36 0) (replicate 1024 0) (replicate 2048 0) ledger 0
+    → Matching arities (replicate 4096 0) (replicate 2048 0) (replicate 33 0) (replicate 36 0) (replicate 1024 0) (replicate 2048 0) ledger 0
 unfolding Inside
 matching-start arities ledger = record {
   inside = record {
@@ -37,7 +38,7 @@ matching-start arities ledger = record {
       bytes = refl;
       fits = tt;
       counted = counted-none;
-      right = right-none arities;
+      right = rw none-set (right-none arities);
     };
     deferred = chained-none 1024 cellKey (replicate 1024 0) (replicate 2048 0) (length-replicate {A = ℕ} 1024 0) (length-replicate {A = ℕ} 2048 0) (zero-at 1024);
     cells = tt;
@@ -57,8 +58,8 @@ module _ {arities heads next flags counts waiting later ledger : List ℕ} {used
   matching-counted = matching-stored .counted
 
   -- the flags' ones are the places of the enabled activities
-  pub matching-places : places flags ≡ enabledPlaces arities (tokens used ledger)
-  matching-places = right-places arities (tokens used ledger) flags (matching-stored .right)
+  pub matching-places : places (flagsOf flags) ≡ enabledPlaces arities (tokens used ledger)
+  matching-places = right-places arities (tokens used ledger) (flagsOf flags) (matching-stored .right)
 
   pub matching-enabled-below : (k : ℕ) → k < length (enabledPlaces arities (tokens used ledger)) → getD (enabledPlaces arities (tokens used ledger)) k 0 < used
   matching-enabled-below k h = omega (arith, enabled-below arities (tokens used ledger) k h, length-rows 20 decode used ledger)

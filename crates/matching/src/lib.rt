@@ -12,7 +12,7 @@ ghost use Prim.Native.Nat.{ℕ, _+_, _*_, _/_, _<_};
 ghost use lib.ListN.{length, getD, drop};
 ghost use Rattle.table.specs.Table.{putRow, joined};
 ghost use Rattle.record.specs.TokensAndTags.{encode, tokens, standsAt};
-ghost use Rattle.flags.specs.Flags.{places, Counted};
+ghost use Rattle.flags.specs.Flags.{places, flagsOf, Counted};
 ghost use Rattle.chains.specs.Search.{firstFrom, Within, Free};
 ghost use Rattle.chains.specs.Deferred as Deferred;
 ghost use Rattle.enabled.specs.Store.{Known, Operands, statesSpent, tokensSpent};
@@ -34,17 +34,17 @@ pub fn find(
 }
 
 // How many activities are enabled.
-pub fn enabled_count(flags: &[u8; 2048], counts: &[u16; 36]) -> usize
+pub fn enabled_count(flags: &[u64; 33], counts: &[u16; 36]) -> usize
     requires { ⌜ Counted (now flags) (now counts) ⌝ }
-    ensures { λ r. ⌜ r ≡ length (places (now (flags .entry))) ⌝ }
+    ensures { λ r. ⌜ r ≡ length (places (flagsOf (now (flags .entry)))) ⌝ }
 {
     flags::count(flags, counts)
 }
 
 // The place of enabled activity number k, counted from 0.
-pub fn enabled_at(flags: &[u8; 2048], counts: &[u16; 36], k: usize) -> usize
-    requires { ⌜ Counted (now flags) (now counts) × (k < length (places (now flags))) ⌝ }
-    ensures { λ r. ⌜ (r ≡ getD (places (now (flags .entry))) k 0) × (r < 2048) ⌝ }
+pub fn enabled_at(flags: &[u64; 33], counts: &[u16; 36], k: usize) -> usize
+    requires { ⌜ Counted (now flags) (now counts) × (k < length (places (flagsOf (now flags)))) ⌝ }
+    ensures { λ r. ⌜ (r ≡ getD (places (flagsOf (now (flags .entry)))) k 0) × (r < 2048) ⌝ }
 {
     flags::select(flags, counts, k)
 }
@@ -54,7 +54,7 @@ pub fn arrive(
     arities: &[u8],
     heads: &mut [u16; 4096],
     next: &mut [u16; 2048],
-    flags: &mut [u8; 2048],
+    flags: &mut [u64; 33],
     counts: &mut [u16; 36],
     waiting: &mut [u16; 1024],
     later: &mut [u16; 2048],
@@ -74,7 +74,7 @@ pub fn arrive(
 // The operands of an enabled activity are spent; where one is waited for, both places are its place. They were live, so
 // the chains of deferred tokens stay right.
 pub fn spend_operands(
-    flags: &mut [u8; 2048],
+    flags: &mut [u64; 33],
     counts: &mut [u16; 36],
     ledger: &mut [u8],
     first: usize,
@@ -121,7 +121,7 @@ pub fn wake(
     arities: &[u8],
     heads: &[u16; 4096],
     next: &[u16; 2048],
-    flags: &mut [u8; 2048],
+    flags: &mut [u64; 33],
     counts: &mut [u16; 36],
     waiting: &mut [u16; 1024],
     later: &[u16; 2048],

@@ -9,6 +9,7 @@ use borrow.Author.Needs.{needs}
 use lib.ListN.{length}
 use Rattle.record.specs.TokensAndTags.{tokens, decode}
 use Rattle.table.proofs.Tables.{length-rows}
+use Rattle.flags.specs.Flags.{flagsOf}
 use Rattle.chains.proofs.Search.{within-more}
 use Rattle.enabled.specs.Enabled.{isEnabled, placeOf}
 use Rattle.enabled.specs.Store.{placeOr}
@@ -83,5 +84,5 @@ append-spec = tie.close (tie.spec
     let e = entered (c .before .before .before .before .before .before .before .before .before) in
     let ts = tokens (a .used) (a .ledger .now) in
     let off : isEnabled (a .arities .now) (ts ++ a .t ∷ []) (a .t .tag) ≡ false = rw (e .more) at (sym (whole (c .before)) ∙ c .if1 .left) in
-    let wait = right-wait (a .arities .now) ts (a .t) (a .flags .now) (s .pre .0 .right) off in
+    let wait = right-wait (a .arities .now) ts (a .t) (flagsOf (a .flags .now)) (s .pre .0 .right) off in
     (c .before .before .before .before .before .before .before .before .before .before .before .before .before .before .put-token .ensures .0, (e .more, e .stored (a .flags .now) (a .counts .now) (rw (e .more) wait) (s .pre .0 .counted)))))

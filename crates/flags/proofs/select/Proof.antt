@@ -1,57 +1,35 @@
--- `flags::select` meets its contract. The loop's invariant: the one sought is number `left` of those from group `g` on. The measure is the
--- number of groups left. Assumes nothing.
-use Prim.Native.Nat.{ℕ, _+_, _-_, _*_, _<_}
+-- `flags::select` meets its contract. Assumes nothing.
+use Prim.Native.Nat.{ℕ, _<_}
 use mathlib.Core.Path.{_≡_, sym, ap, _∙_}
+use mathlib.Core.List.{List}
 use native.Mathlib.Omega.{arith}
-use lib.ListN.{drop}
-use borrow.Author.Needs.{needs}
-use Rattle.flags.specs.Flags.{ones, place}
-use Rattle.flags.proofs.Laws.{block-passed, place-lt, none-left, ones-places, place-places}
-use Rattle.flags.proofs.Blocks.{group-is}
+use lib.ListN.{length, getD}
+use Rattle.flags.specs.Flags.{ones, place, places, flagsOf, Counted}
+use Rattle.flags.proofs.Laws.{place-lt, ones-places, place-places}
+use Rattle.flags.proofs.Words.{words-size}
 use Rattle.flags.proofs.select.Statement.{statement}
 use Rattle.flags.proofs.select.Tie as tie
 
-abbrev Inv-loop : tie.InvT-loop
-Inv-loop flags counts k g₀ left₀ g left =
-    (left < ones (drop (g * 512) flags)) × (place k flags ≡ g * 512 + place left (drop (g * 512) flags))
+module _ {ws counts : List ℕ} (c : Counted ws counts) (k : ℕ) (h : k < length (places (flagsOf ws))) where
+  among : k < ones (flagsOf ws)
+  among = omega (arith, ones-places 0 (flagsOf ws) (c .tallied .binary))
 
-abbrev μ-loop : tie.MeasureT-loop
-μ-loop flags counts k g₀ left₀ g left = 4 - g
+  selected : (r : ℕ) → r ≡ place k (flagsOf ws) → (r ≡ getD (places (flagsOf ws)) k 0) × (r < 2048)
+  selected r e =
+      let p = place-places 0 k (flagsOf ws) (c .tallied .binary) among in
+      (omega arith, omega (arith, place-lt k (flagsOf ws) among, words-size (c .summed)))
 
 pub select-spec : {M : Type 1} → statement M
 select-spec = tie.close (tie.spec
-    Inv-loop
-    μ-loop
-    (λ c. (omega (arith, ones-places 0 (c .args .flags .now) (c .pre .0 .binary)), omega arith))
-    (λ c. search needs)
-    (λ c. search needs)
-    (λ c. search needs)
-    (λ c κs. search needs)
-    (λ c. search needs)
     (λ c κs.
-    let s = c .before .before .before .before .before in
-    let l = c .before .before .before .before .loop in
-    let e : l .g * 8 * 64 ≡ l .g * 512 = omega arith in
-    (s .pre .0, rw e (l .inv .0)))
-    (λ c.
-    let s = c .before .before .before .before .before .before in
-    let l = c .before .before .before .before .before .loop in
-    let f = s .args .flags .now in
-    let m : l .g * 8 * 64 ≡ l .g * 512 = omega arith in
-    let e = c .select-block .ensures ∙ ap (λ (q : ℕ). q + place (l .left) (drop q f)) m ∙ sym (l .inv .1) in
-    let h : s .args .k < ones f = omega (arith, ones-places 0 f (s .pre .0 .binary)) in
-    let p = place-places 0 (s .args .k) f (s .pre .0 .binary) h in
-    (omega arith, omega (arith, place-lt (s .args .k) f h, s .pre .0 .size)))
-    (λ c. search needs)
-    (λ c. search needs)
-    (λ c.
-    let s = c .before .before .before .before .before in
-    let l = c .before .before .before .before .loop in
-    let f = s .args .flags .now in
-    let n = c .before .wide16 .ensures .0 ∙ group-is f (s .args .counts .now) (s .pre .0) (l .g) (omega arith) in
-    let p = block-passed 512 f (l .g) (l .left) (c .before .wide16 .result) (omega (arith, s .pre .0 .size)) n (c .if1 .left) (l .inv .0) in
-    (p .0, l .inv .1 ∙ p .1))
+    let s = c .before in
+    (s .pre .0 .summed, omega (arith, among (s .pre .0) (s .args .k) (s .pre .1))))
+    (λ c κs.
+    let s = c .before in
+    (s .pre .0, among (s .pre .0) (s .args .k) (s .pre .1)))
     (λ c.
     let s = c .before .before in
-    let l = c .before .loop in
-    absurd (none-left (s .args .flags .now) (l .g * 512) (l .left) (omega (arith, s .pre .0 .size)) (l .inv .0))))
+    selected (s .pre .0) (s .args .k) (s .pre .1) (c .first .result) (c .first .ensures ∙ ap (λ (m : ℕ). place m (flagsOf (s .args .flags .now))) (sym (c .before .if1 .taken))))
+    (λ c.
+    let s = c .before .before in
+    selected (s .pre .0) (s .args .k) (s .pre .1) (c .select-group .result) (c .select-group .ensures)))

@@ -1,22 +1,39 @@
--- `flags::select_block` meets its contract. The loop's invariant: the one sought is number `left` of those from block `b` on. The measure is
--- the number of blocks left. Assumes nothing.
-use Prim.Native.Nat.{_+_, _-_, _*_, _<_}
-use mathlib.Core.Path.{_≡_, refl, sym, _∙_}
+-- `flags::select_block` meets its contract. The loop's invariant: the one sought is number `left` of those from word `b` on. The measure is
+-- the number of words left. Assumes nothing.
+use Prim.Native.Nat.{ℕ, _+_, _-_, _*_, _<_}
+use mathlib.Core.Path.{_≡_, refl, sym, ap, _∙_}
 use native.Mathlib.Omega.{arith}
-use lib.ListN.{drop}
+use lib.ListN.{drop, getD}
 use borrow.Author.Needs.{needs}
-use Rattle.flags.specs.Flags.{ones, place}
-use Rattle.flags.proofs.Laws.{block-passed, none-left}
+use Rattle.flags.specs.Flags.{ones, place, inWord, flagsOf}
+use Rattle.flags.proofs.Laws.{block-passed, none-left, place-lt}
 use Rattle.flags.proofs.Blocks.{block-is}
+use Rattle.flags.proofs.Digits.{word-size}
+use Rattle.flags.proofs.Words.{words-size, words-word, words-place}
 use Rattle.flags.proofs.select_block.Statement.{statement}
 use Rattle.flags.proofs.select_block.Tie as tie
 
 abbrev Inv-loop : tie.InvT-loop
 Inv-loop flags counts from k b₀ left₀ b left =
-    (left < ones (drop (b * 64) flags)) × (from * 64 + place k (drop (from * 64) flags) ≡ b * 64 + place left (drop (b * 64) flags))
+    let f = flagsOf flags in (left < ones (drop (b * 64) f)) × (from * 64 + place k (drop (from * 64) f) ≡ b * 64 + place left (drop (b * 64) f))
 
 abbrev μ-loop : tie.MeasureT-loop
 μ-loop flags counts from k b₀ left₀ b left = 32 - b
+
+-- a word's count is that of its ones
+counted : (c : tie.After-select-in-arg Inv-loop μ-loop) → let s = c .before .before .before .before .before .before in
+    c .before .before .wide16 .result ≡ ones (inWord (getD (s .args .flags .now) (c .before .before .before .before .before .loop .b) 0))
+counted c =
+    let s = c .before .before .before .before .before .before in
+    let b = c .before .before .before .before .before .loop .b in
+    c .before .before .wide16 .ensures .0
+    ∙ block-is (flagsOf (s .args .flags .now)) (s .args .counts .now) (s .pre .0 .tallied) b (omega arith)
+    ∙ ap ones (words-word (s .pre .0 .summed) b (omega arith))
+
+-- the one sought is among them
+on : (c : tie.After-select-in Inv-loop μ-loop) → let s = c .before .before .before .before .before .before .before in
+    let l = c .before .before .before .before .before .before .loop in l .left < ones (inWord (getD (s .args .flags .now) (l .b) 0))
+on c = omega (arith, counted (c .before), c .before .before .if1 .taken)
 
 pub select-block-spec : {M : Type 1} → statement M
 select-block-spec = tie.close (tie.spec
@@ -27,20 +44,28 @@ select-block-spec = tie.close (tie.spec
     (λ c. search needs)
     (λ c κs. search needs)
     (λ c. search needs)
-    (λ c κs.
-    let s = c .before .before .before .before .before in
-    (s .pre .0 .size, s .pre .0 .binary, omega arith, c .before .before .before .before .loop .inv .0))
-    (λ c. c .select-from .ensures ∙ sym (c .before .before .before .before .before .loop .inv .1))
+    (λ c. search needs)
+    (λ c. search needs)
+    (λ c κs. (counted c, c .before .if1 .taken))
+    (λ c.
+    let s = c .before .before .before .before .before .before .before in
+    let l = c .before .before .before .before .before .before .loop in
+    let w = getD (s .args .flags .now) (l .b) 0 in
+    record { fits = omega (arith, c .select-in .ensures, word-size w, place-lt (l .left) (inWord w) (on c)) })
+    (λ c.
+    let s = c .before .before .before .before .before .before .before in
+    let l = c .before .before .before .before .before .before .loop in
+    ap (λ (x : ℕ). l .b * 64 + x) (c .select-in .ensures ∙ sym (words-place (s .pre .0 .summed) (l .b) (l .left) (omega arith) (on c))) ∙ sym (l .inv .1))
     (λ c. search needs)
     (λ c. search needs)
     (λ c.
     let s = c .before .before .before .before .before in
     let l = c .before .before .before .before .loop in
-    let f = s .args .flags .now in
-    let n = c .before .wide16 .ensures .0 ∙ block-is f (s .args .counts .now) (s .pre .0) (l .b) (omega arith) in
-    let p = block-passed 64 f (l .b) (l .left) (c .before .wide16 .result) (omega (arith, s .pre .0 .size)) n (c .if1 .left) (l .inv .0) in
+    let f = flagsOf (s .args .flags .now) in
+    let n = c .before .wide16 .ensures .0 ∙ block-is f (s .args .counts .now) (s .pre .0 .tallied) (l .b) (omega arith) in
+    let p = block-passed 64 f (l .b) (l .left) (c .before .wide16 .result) (omega (arith, words-size (s .pre .0 .summed))) n (c .if1 .left) (l .inv .0) in
     (p .0, l .inv .1 ∙ p .1))
     (λ c.
     let s = c .before .before in
     let l = c .before .loop in
-    absurd (none-left (s .args .flags .now) (l .b * 64) (l .left) (omega (arith, s .pre .0 .size)) (l .inv .0))))
+    absurd (none-left (flagsOf (s .args .flags .now)) (l .b * 64) (l .left) (omega (arith, words-size (s .pre .0 .summed))) (l .inv .0))))
