@@ -246,11 +246,16 @@ const ARRANGEMENTS: [Arrangement; 3] = [
 fn mix(records: &mut [[u8; 20]]) {
     let mut state: u64 = 1;
     for end in (1..records.len()).rev() {
-        state = state
-            .wrapping_mul(6_364_136_223_846_793_005)
-            .wrapping_add(1);
+        state = stepped(state);
         records.swap(end, (state >> 33) as usize % (end + 1));
     }
+}
+
+/// A step of a linear congruential generator.
+fn stepped(state: u64) -> u64 {
+    state
+        .wrapping_mul(6_364_136_223_846_793_005)
+        .wrapping_add(1)
 }
 
 /// The vector sum's ledger in one arrangement, with the times of both listings of it.
