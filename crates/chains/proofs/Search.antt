@@ -93,6 +93,16 @@ module _ {A : Type 0} (w : ℕ) (dec : List ℕ → A) (p : A → Bool) (n i : �
       let k : length (rows w dec n l) ≤ i = rw (length-rows w dec n l) h in
       rw (drop-of-length-le (rows w dec n l) k)
 
+-- what was found is found with more behind it
+pub first-kept : {A : Type 0} (p : A → Bool) (ts us : List A) (n i : ℕ) → firstFrom p n ts ≡ At i → firstFrom p n (ts ++ us) ≡ At i
+first-kept p [] us n i e = let z : _≡_ {A = ℕ} 0 1 = cc in absurd (omega arith)
+first-kept p (t ∷ ts) us n i e = go (p t) e (first-kept p ts us (suc n) i)
+  where
+    go : (b : Bool) → cond b (At n) (firstFrom p (suc n) ts) ≡ At i → (firstFrom p (suc n) ts ≡ At i → firstFrom p (suc n) (ts ++ us) ≡ At i)
+        → cond b (At n) (firstFrom p (suc n) (ts ++ us)) ≡ At i
+    go true e later = e
+    go false e later = later e
+
 -- one is replaced by another that passes or fails alike
 pub first-set : {A : Type 0} (p : A → Bool) (ts : List A) (i : ℕ) (u d : A) → p u ≡ p (getD ts i d) → (n : ℕ) → firstFrom p n (set ts i u) ≡ firstFrom p n ts
 first-set p [] i u d h n = refl

@@ -1,6 +1,6 @@
--- Laws of a token that arrives. Where its tag is not enabled the flags stay. Where none stood on its port its own record is the first there, so what is
--- found on the other port says where the activity of its tag stands and whether it is ready. Assumes nothing.
-use Prim.Native.Nat.{ℕ, suc, _+_, _-_, _≤_, _<_}
+-- Laws of a token that arrives or is changed. Where its tag is not enabled then, the flags stay. Its own record is the first on its port, so what is found
+-- on the other port says where the activity of its tag stands and whether it is ready. Assumes nothing.
+use Prim.Native.Nat.{ℕ, zero, suc, _+_, _-_, _≤_, _<_}
 use mathlib.Core.Path.{_≡_, refl, sym, ap, _∙_}
 use mathlib.Core.Bool.{Bool, true, false, _&&_, cond}
 use mathlib.Core.List.{List, [], _∷_, _++_}
@@ -17,13 +17,13 @@ use Rattle.flags.specs.Marks.{bit}
 use Rattle.flags.proofs.Marks.{marked-past}
 use Rattle.chains.specs.declared.Found.{Found}
 use Rattle.chains.specs.declared.Found.the-variants.{At, Nothing}
-use Rattle.chains.specs.Search.{firstFrom, Within, Free}
-use Rattle.chains.proofs.Search.{first-added}
+use Rattle.chains.specs.Search.{firstFrom, Within}
 use Rattle.chains.proofs.Index.{and-left, and-right}
 use Rattle.enabled.specs.Enabled.{isLive, liveAt, allLive, arityOf, isEnabled, tagOf, tagsOf, tagSame, placeOf}
 use Rattle.enabled.specs.Store.{Right, placeOr, lower, liveFound, readyOf, readyWith}
-use Rattle.enabled.proofs.Places.{live-found, first-place, lower-first, lower-second, stands-tag}
-use Rattle.enabled.proofs.Right.{tag-own, first-append, tags-append, stays, right-flag}
+use Rattle.enabled.proofs.Places.{live-found, first-place, lower-first, lower-second}
+use Rattle.enabled.proofs.Right.{first-append, tags-append, stays, place-set, place-kept, right-flag}
+use Rattle.enabled.proofs.Single.{stands-same}
 
 -- ---- a tag that is not enabled
 
@@ -37,17 +37,30 @@ live-kept y port t (x ∷ ts) e = go (standsAt y port x) e (live-kept y port t t
     go true e ih = e
     go false e ih = ih e
 
--- a tag that is not enabled once a token has arrived was not before
-all-before : (n : ℕ) (ts : List Token) (t : Token) (y : Tag) → allLive n (ts ++ t ∷ []) y ≡ false → allLive n ts y ≡ false
-unfolding allLive
-all-before n ts t y e = go (allLive n ts y) refl
+-- and as one is replaced on its port of its tag by one that is live if it was
+live-changed : (y : Tag) (port : ℕ) (u d : Token) (ts : List Token) (i : ℕ) → u .tag ≡ getD ts i d .tag → u .port ≡ getD ts i d .port
+    → (isLive (getD ts i d .content) ≡ true → isLive (u .content) ≡ true) → liveAt ts y port ≡ true → liveAt (set ts i u) y port ≡ true
+live-changed y port u d [] i e g k h = h
+live-changed y port u d (x ∷ ts) zero e g k h = rw (stands-same y port u x e g) (go (standsAt y port x) h)
   where
-    us : List Token
-    us = ts ++ t ∷ []
+    go : (b : Bool) → cond b (isLive (x .content)) (liveAt ts y port) ≡ true → cond b (isLive (u .content)) (liveAt ts y port) ≡ true
+    go true q = k q
+    go false q = q
+live-changed y port u d (x ∷ ts) (suc i) e g k h = go (standsAt y port x) h (live-changed y port u d ts i e g k)
+  where
+    go : (b : Bool) → cond b (isLive (x .content)) (liveAt ts y port) ≡ true → (liveAt ts y port ≡ true → liveAt (set ts i u) y port ≡ true)
+        → cond b (isLive (x .content)) (liveAt (set ts i u) y port) ≡ true
+    go true q later = q
+    go false q later = later q
 
+-- where all that was live still is, a tag that is not enabled was not before
+all-before : (n : ℕ) (ts us : List Token) (y : Tag) → ((port : ℕ) → liveAt ts y port ≡ true → liveAt us y port ≡ true) → allLive n us y ≡ false → allLive n ts y ≡ false
+unfolding allLive
+all-before n ts us y still e = go (allLive n ts y) refl
+  where
     kept : (a b : Bool) → cond a (liveAt ts y 0) (cond b (liveAt ts y 0 && liveAt ts y 1) false) ≡ true → cond a (liveAt us y 0) (cond b (liveAt us y 0 && liveAt us y 1) false) ≡ true
-    kept true b h = live-kept y 0 t ts h
-    kept false true h = rw (live-kept y 0 t ts (and-left _ _ h), live-kept y 1 t ts (and-right (liveAt ts y 0) _ h))
+    kept true b h = still 0 h
+    kept false true h = rw (still 0 (and-left _ _ h), still 1 (and-right (liveAt ts y 0) _ h))
     kept false false h = h
 
     go : (b : Bool) → allLive n ts y ≡ b → b ≡ false
@@ -64,10 +77,20 @@ right-wait arities ts t flags w n = rw (tags-append ts t, first-append (t .tag) 
     p = placeOf ts (t .tag)
 
     go : Dec (suc p ≤ length ts) → getD flags p 0 ≡ 0
-    go (yes h) = right-flag arities ts flags (t .tag) h w ∙ ap bit (all-before (arityOf arities (t .tag)) ts t (t .tag) n)
+    go (yes h) = right-flag arities ts flags (t .tag) h w ∙ ap bit (all-before (arityOf arities (t .tag)) ts (ts ++ t ∷ []) (t .tag) (λ port. live-kept (t .tag) port t ts) n)
     go (no z) = marked-past tagSame (isEnabled arities ts) (tagsOf ts) flags p (omega (arith, length-map ts tagOf)) w
 
--- ---- the lower of the last place and of one found before it
+-- the same of one that is changed
+pub right-still : (arities : List ℕ) (ts : List Token) (i : ℕ) (u d : Token) (flags : List ℕ) → i < length ts → u .tag ≡ getD ts i d .tag → u .port ≡ getD ts i d .port
+    → (isLive (getD ts i d .content) ≡ true → isLive (u .content) ≡ true) → Right arities ts flags
+    → let us = set ts i u in isEnabled arities us (u .tag) ≡ false → flags ≡ set flags (placeOf us (u .tag)) (bit (isEnabled arities us (u .tag)))
+right-still arities ts i u d flags h e g k w n =
+    let us = set ts i u in
+    let place = place-kept ts i u d e (u .tag) in
+    let before = all-before (arityOf arities (u .tag)) ts us (u .tag) (λ port. live-changed (u .tag) port u d ts i e g k) n in
+    rw (n, place) (stays flags (placeOf ts (u .tag)) (right-flag arities ts flags (u .tag) (rw place at (place-set ts i u d h e)) w ∙ ap bit before))
+
+-- ---- the lower of two places, where one may be missing
 
 lower-le : (a b : ℕ) → a ≤ b → lower a b ≡ a
 lower-le a b h = go (decLe (suc a) b)
@@ -76,43 +99,52 @@ lower-le a b h = go (decLe (suc a) b)
     go (yes l) = lower-first a b l
     go (no z) = lower-second a b (omega arith) ∙ omega arith
 
-lower-own : (f : Found) (n : ℕ) → Within f (n + 1) → (lower n (placeOr f (n + 1)) ≡ placeOr f n) × (lower (placeOr f (n + 1)) n ≡ placeOr f n)
-lower-own (At i) n w = (lower-second n i (omega arith), lower-le i n (omega arith))
-lower-own Nothing n w = (lower-first n (n + 1) (omega arith), lower-second (n + 1) n (omega arith))
+lower-turned : (a b : ℕ) → lower b a ≡ lower a b
+lower-turned a b = go (decLe (suc a) b)
+  where
+    go : Dec (suc a ≤ b) → lower b a ≡ lower a b
+    go (yes l) = lower-second b a (omega arith) ∙ sym (lower-first a b l)
+    go (no z) = lower-le b a (omega arith) ∙ sym (lower-second a b (omega arith))
 
--- t is record n, after ts, and `other` is what the other port of its tag has
-module _ (ts : List Token) (t : Token) (n : ℕ) (m : List ℕ) (more : tokens (n + 1) m ≡ ts ++ t ∷ []) (size : length ts ≡ n) (free : Free ts (t .tag) (t .port)) (low : t .port < 2) (other : Found) (found : other ≡ firstFrom (standsAt (t .tag) (1 - t .port)) 0 (tokens (n + 1) m)) where
+lower-own : (f : Found) (i n : ℕ) → i < n → lower i (placeOr f n) ≡ lower i (placeOr f i)
+lower-own (At j) i n h = refl
+lower-own Nothing i n h = lower-first i n h ∙ sym (lower-second i i (omega arith))
+
+-- one found not past it is the lower
+pub lower-last : (f : Found) (n : ℕ) → Within f (n + 1) → lower n (placeOr f n) ≡ placeOr f n
+lower-last (At i) n w = lower-second n i (omega arith)
+lower-last Nothing n w = lower-second n n (omega arith)
+
+-- the record at i is the first on a port of a tag, and `other` is what the other port has
+module _ (tag : Tag) (port i n : ℕ) (m : List ℕ) (h : i < n) (low : port < 2) (own : firstFrom (standsAt tag port) 0 (tokens n m) ≡ At i) (other : Found) (found : other ≡ firstFrom (standsAt tag (1 - port)) 0 (tokens n m)) where
   abbrev at : (port : ℕ) → Found
-  at port = firstFrom (standsAt (t .tag) port) 0 (tokens (n + 1) m)
-
-  own : at (t .port) ≡ At n
-  own = rw more (first-added (standsAt (t .tag) (t .port)) t ts free (stands-tag (t .tag) (t .port) t refl (tag-own (t .tag))) ∙ ap At size)
+  at p = firstFrom (standsAt tag p) 0 (tokens n m)
 
   -- what a search of each port would find
-  both : (b : Bool) → eqb (t .port) 0 ≡ b → (at 0 ≡ cond b (At n) other) × (at 1 ≡ cond b other (At n))
-  both true e = let z = eqb-true (t .port) 0 e in (rw z at own, sym (rw z at found))
+  both : (b : Bool) → eqb port 0 ≡ b → (at 0 ≡ cond b (At i) other) × (at 1 ≡ cond b other (At i))
+  both true e = let z = eqb-true port 0 e in (rw z at own, sym (rw z at found))
   both false e =
-      let z : t .port ≡ 1 = omega (arith, eqb-false (t .port) 0 e) in
+      let z : port ≡ 1 = omega (arith, eqb-false port 0 e) in
       (sym (rw z at found), rw z at own)
 
-  pub arriving-place : All (λ (x : Token). x .port < 2) (tokens (n + 1) m) → Within other (n + 1) → placeOf (tokens (n + 1) m) (t .tag) ≡ placeOr other n
-  arriving-place ports inside =
-      let b = eqb (t .port) 0 in
-      first-place (t .tag) (n + 1) m ports ∙ rw (both b refl .0, both b refl .1) (go b)
+  pub own-place : All (λ (x : Token). x .port < 2) (tokens n m) → placeOf (tokens n m) tag ≡ lower i (placeOr other i)
+  own-place ports =
+      let b = eqb port 0 in
+      first-place tag n m ports ∙ rw (both b refl .0, both b refl .1) (go b)
     where
-      go : (b : Bool) → lower (placeOr (cond b (At n) other) (n + 1)) (placeOr (cond b other (At n)) (n + 1)) ≡ placeOr other n
-      go true = lower-own other n inside .0
-      go false = lower-own other n inside .1
+      go : (b : Bool) → lower (placeOr (cond b (At i) other) n) (placeOr (cond b other (At i)) n) ≡ lower i (placeOr other i)
+      go true = lower-own other i n h
+      go false = lower-turned i (placeOr other n) ∙ lower-own other i n h
 
-  pub arriving-ready : (k : ℕ) → readyWith k (t .port) (liveFound (tokenAt m) (At n)) (liveFound (tokenAt m) other) ≡ allLive k (tokens (n + 1) m) (t .tag)
+  pub own-ready : (k : ℕ) → readyWith k port (liveFound (tokenAt m) (At i)) (liveFound (tokenAt m) other) ≡ allLive k (tokens n m) tag
   unfolding allLive
-  arriving-ready k =
-      let b = eqb (t .port) 0 in
-      go b ∙ rw (← both b refl .0, ← both b refl .1, live-found (t .tag) 0 (n + 1) m, live-found (t .tag) 1 (n + 1) m)
+  own-ready k =
+      let b = eqb port 0 in
+      go b ∙ rw (← both b refl .0, ← both b refl .1, live-found tag 0 n m, live-found tag 1 n m)
     where
       live : Found → Bool
       live = liveFound (tokenAt m)
 
-      go : (b : Bool) → cond b (readyOf k (live (At n)) (live other)) (readyOf k (live other) (live (At n))) ≡ readyOf k (live (cond b (At n) other)) (live (cond b other (At n)))
+      go : (b : Bool) → cond b (readyOf k (live (At i)) (live other)) (readyOf k (live other) (live (At i))) ≡ readyOf k (live (cond b (At i) other)) (live (cond b other (At i)))
       go true = refl
       go false = refl

@@ -79,7 +79,7 @@ module _ (arities heads next flags counts l : List ℕ) (used i : ℕ) (w : Stor
   held : getD (tokens used l) i (tokenAt l i) ≡ tokenAt l i
   held = getD-rows 20 decode used i l (tokenAt l i) h
 
-  moved : Moved arities heads next flags (set l (i * 20 + 16) 1) used us (spentToken (tokenAt l i))
+  moved : Moved arities heads next flags (set l (i * 20 + 16) 1) used i us (spentToken (tokenAt l i))
   moved =
       let m = set l (i * 20 + 16) 1 in
       let put : m ≡ putRow 20 l i (encode (spentToken t)) = spent-byte used l (w .bytes) i (signedOf (number32 (drop (i * 20) l) 12)) h (record-live l i live) in

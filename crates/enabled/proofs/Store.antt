@@ -1,6 +1,6 @@
 -- Laws of the invariant: what `append` and `change` hand over to the chains and to the flags. Assumes nothing.
 use Prim.Native.Nat.{ℕ, zero, suc, _+_, _*_, _/_, _≤_, _<_}
-use mathlib.Core.Path.{_≡_}
+use mathlib.Core.Path.{_≡_, refl, ap, _∙_}
 use mathlib.Core.List.{List, [], _∷_, _++_}
 use native.Mathlib.Omega.{arith}
 use native.Mathlib.Numerals.{add-one}
@@ -8,18 +8,23 @@ use native.Mathlib.Nat.{le-of-suc-le-suc}
 use lib.ListN.{length, getD, set}
 use lib.Seq.{map-set-same}
 use Rattle.table.specs.Table.{putRow, All}
-use Rattle.record.specs.TokensAndTags.{tokens, tokenAt, decode, encode, TokenFits}
+use Rattle.record.specs.TokensAndTags.{tokens, tokenAt, decode, encode, standsAt, TokenFits}
 use Rattle.table.proofs.Tables.{length-rows, getD-rows}
 use Rattle.record.proofs.Records.{tokens-put, tokens-end}
 use Rattle.record.specs.declared.token.Token.{Token}
 use Rattle.flags.specs.Flags.{flagsOf, Counted}
 use Rattle.flags.specs.Marks.{bit}
 use Rattle.chains.specs.Chains.{bucketKey, Indexed}
+use Rattle.chains.specs.declared.Found.the-variants.{At}
+use Rattle.chains.specs.Search.{firstFrom, Free}
 use Rattle.chains.proofs.Chains.{chained-few, chained-same}
+use Rattle.chains.proofs.Search.{first-added, first-set}
 use Rattle.enabled.specs.Enabled.{isEnabled, placeOf}
-use Rattle.enabled.specs.Store.{Known, Stored}
-use Rattle.enabled.proofs.Right.{place-append, place-set, right-append, right-set}
+use Rattle.enabled.specs.Store.{Known, Single, Stored}
+use Rattle.enabled.proofs.Right.{tag-own, place-append, place-set, right-append, right-set}
+use Rattle.enabled.proofs.Places.{stands-tag}
 use Rattle.enabled.proofs.Bytes.{bytes-end, bytes-put}
+use Rattle.enabled.proofs.Single.{stands-same, single-at, single-append, single-set}
 
 -- ---- what holds of all tokens
 
@@ -41,18 +46,19 @@ module _ (P : Token → Type 0) where
 pub known-few : (heads next l : List ℕ) (used : ℕ) → Known heads next l used → used ≤ 2048
 known-few heads next l used w = omega (arith, chained-few 4096 bucketKey heads next (tokens used l) (w .index), length-rows 20 decode used l)
 
--- ---- token t was written, and the tokens are us: what holds before the flag of its tag is put, and once it is put
+-- ---- token t was written as record `at`, and the tokens are us: what holds before the flag of its tag is put, and once it is put
 
-pub record Moved (arities heads next flags m : List ℕ) (used : ℕ) (us : List Token) (t : Token) : Type 0 where
+pub record Moved (arities heads next flags m : List ℕ) (used at : ℕ) (us : List Token) (t : Token) : Type 0 where
   pub more : tokens used m ≡ us
   pub known : Known heads next m used
   pub place : placeOf (tokens used m) (t .tag) < used
+  pub own : firstFrom (standsAt (t .tag) (t .port)) 0 (tokens used m) ≡ At at
   pub stored : (flags′ counts′ : List ℕ) → flagsOf flags′ ≡ set (flagsOf flags) (placeOf (tokens used m) (t .tag)) (bit (isEnabled arities (tokens used m) (t .tag)))
       → Counted flags′ counts′ → Stored arities heads next flags′ counts′ m used
 
 -- a token is added
-module _ (arities heads next flags counts l : List ℕ) (used : ℕ) (t : Token) (w : Stored arities heads next flags counts l used) (room : used < length l / 20) (few : used < 2048) (low : t .port < 2) (fits : TokenFits t) (m : List ℕ) (put : m ≡ putRow 20 l used (encode t)) (len : length m ≡ length l) (heads′ next′ : List ℕ) (index : Indexed heads′ next′ (tokens used l ++ t ∷ [])) where
-  pub added : Moved arities heads′ next′ flags m (used + 1) (tokens used l ++ t ∷ []) t
+module _ (arities heads next flags counts l : List ℕ) (used : ℕ) (t : Token) (w : Stored arities heads next flags counts l used) (room : used < length l / 20) (few : used < 2048) (low : t .port < 2) (free : Free (tokens used l) (t .tag) (t .port)) (fits : TokenFits t) (m : List ℕ) (put : m ≡ putRow 20 l used (encode t)) (len : length m ≡ length l) (heads′ next′ : List ℕ) (index : Indexed heads′ next′ (tokens used l ++ t ∷ [])) where
+  pub added : Moved arities heads′ next′ flags m (used + 1) used (tokens used l ++ t ∷ []) t
   added =
       let ts = tokens used l in
       let n : length ts ≡ used = length-rows 20 decode used l in
@@ -66,10 +72,12 @@ module _ (arities heads next flags counts l : List ℕ) (used : ℕ) (t : Token)
         more = e;
         known = known;
         place = rw e (omega (arith, place-append ts t));
+        own = rw e (first-added (standsAt (t .tag) (t .port)) t ts free (stands-tag (t .tag) (t .port) t refl (tag-own (t .tag))) ∙ ap At n);
         stored = λ flags′ counts′ put′ c. record {
           known = known;
           bytes = rw (put, add-one) (bytes-end used l (w .bytes) t fits (omega arith));
           fits = rw e (all-append TokenFits ts t (w .fits) fits);
+          single = rw e (single-append ts t (w .single) free);
           counted = c;
           right = rw (put′, e) (right-append arities ts t (flagsOf flags) (omega arith) (w .right));
         };
@@ -77,7 +85,7 @@ module _ (arities heads next flags counts l : List ℕ) (used : ℕ) (t : Token)
 
 -- a token is replaced
 module _ (arities heads next flags counts l : List ℕ) (used i : ℕ) (t : Token) (w : Stored arities heads next flags counts l used) (h : i < used) (a : t .tag ≡ tokenAt l i .tag) (b : t .port ≡ tokenAt l i .port) (fits : TokenFits t) (m : List ℕ) (put : m ≡ putRow 20 l i (encode t)) (len : length m ≡ length l) where
-  pub changed : Moved arities heads next flags m used (set (tokens used l) i t) t
+  pub changed : Moved arities heads next flags m used i (set (tokens used l) i t) t
   changed =
       let ts = tokens used l in
       let d = tokenAt l i in
@@ -89,6 +97,7 @@ module _ (arities heads next flags counts l : List ℕ) (used i : ℕ) (t : Toke
       let space : used * 20 ≤ length l = omega (arith, w .known .room) in
       let e : tokens used m ≡ set ts i t = rw put (tokens-put t fits used i l h space) in
       let ports = w .known .ports in
+      let single : Single (set ts i t) = single-set ts i t d (w .single) (omega arith) tag port in
       let known : Known heads next m used = record {
         room = rw len (w .known .room);
         index = rw e (chained-same 4096 bucketKey heads next ts (w .known .index) (set ts i t) (map-set-same bucketKey ts i t d key));
@@ -98,10 +107,12 @@ module _ (arities heads next flags counts l : List ℕ) (used i : ℕ) (t : Toke
         more = e;
         known = known;
         place = rw e (omega (arith, place-set ts i t d (omega arith) tag));
+        own = rw e (first-set (standsAt (t .tag) (t .port)) ts i t d (stands-same (t .tag) (t .port) t (getD ts i d) tag port) 0 ∙ single-at ts (w .single) i d (omega arith) (t .tag) (t .port) tag port);
         stored = λ flags′ counts′ put′ c. record {
           known = known;
           bytes = rw put (bytes-put used l (w .bytes) t i h fits space);
           fits = rw e (all-set TokenFits ts i t (w .fits) fits);
+          single = rw e single;
           counted = c;
           right = rw (put′, e) (right-set arities ts i t d (flagsOf flags) (omega arith) tag (w .right));
         };

@@ -4,7 +4,7 @@ use Prim.Native.Nat.{ℕ, _+_, _*_, _/_, _≤_, _<_}
 use mathlib.Core.Path.{_≡_}
 use mathlib.Core.Bool.{Bool, true, false, _&&_, cond}
 use mathlib.Core.List.{List}
-use lib.ListN.{length, set, take}
+use lib.ListN.{length, getD, set, take}
 use lib.Dec.{eqb, ltb}
 use Rattle.table.specs.Table.{joined, All}
 use Rattle.record.specs.TokensAndTags.{encode, tokens, tokenAt, standsAt, TokenFits}
@@ -27,11 +27,16 @@ pub record Known (heads next ledger : List ℕ) (used : ℕ) : Type 0 where
 unfoldable pub Right : (arities : List ℕ) → List Token → (flags : List ℕ) → Type 0
 Right arities ts flags = Marked tagSame (isEnabled arities ts) (tagsOf ts) flags
 
+-- 01, "Firing", refusal 9: no two tokens stand on one port of a tag, so each is the first that a search of its port finds
+unfoldable pub Single : List Token → Type 0
+Single ts = (i : ℕ) (d : Token) → i < length ts → firstFrom (standsAt (getD ts i d .tag) (getD ts i d .port)) 0 ts ≡ At i
+
 -- the invariant of this crate; the used records are the bytes of their tokens, in every byte
 pub record Stored (arities heads next flags counts ledger : List ℕ) (used : ℕ) : Type 0 where
   pub known : Known heads next ledger used
   pub bytes : take (used * 20) ledger ≡ joined encode (tokens used ledger)
   pub fits : All TokenFits (tokens used ledger)
+  pub single : Single (tokens used ledger)
   pub counted : Counted flags counts
   pub right : Right arities (tokens used ledger) (flagsOf flags)
 

