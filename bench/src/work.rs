@@ -113,14 +113,16 @@ pub fn long_loop(tokens: usize) -> Work {
     work
 }
 
-/// Half of all tokens wait, 1,024 of 2,048: reads of cell 0 are deferred until one
+/// How many reads a pass of `waiting` has.
+const READS: usize = 20;
+
+/// Of 2,048 tokens 1,000 wait: reads of cell 0 are deferred until one
 /// STORE wakes them all, then they wait for partners, as some inputs do from the
-/// start.
+/// start. A pass is the same at every size, so that what a firing has to do is too.
 pub fn waiting(tokens: usize) -> Work {
     let mut work = Work::default();
-    let reads = (28 * tokens / 2048).max(1);
-    let alone = tokens / 16;
-    let passes = (tokens - alone - 12) / (4 * reads + 7);
+    let alone = 5 * tokens / 64;
+    let passes = (tokens - alone - 12) / (4 * READS + 7);
     let (body, switch) = work.index_loop(passes as i32);
     // The STORE gets its operands from the loop's exit by way of some COPYs, so
     // that it comes after all reads when the oldest activity is taken first.
@@ -136,7 +138,7 @@ pub fn waiting(tokens: usize) -> Work {
     work.arc(exit, store, 1);
     let cell = work.add(CONST, 0);
     work.arc(body, cell, 0);
-    read_tree(&mut work, cell, reads);
+    read_tree(&mut work, cell, READS);
     for _ in 0..alone {
         let add = work.add(ADD, 0);
         let out = add - 1;
@@ -261,10 +263,10 @@ mod tests {
     fn one_store_wakes_all_reads() {
         let work = waiting(2048);
         let (answer, live) = counted(&work, 2048, 2048, 0);
-        assert_eq!(live, 1024);
+        assert_eq!(live, 1000);
         // The last firing is the STORE.
         let before = counted(&work, 2048, answer.firings as u16 - 1, 2).1;
         let after = counted(&work, 2048, answer.firings as u16, 2).1;
-        assert_eq!((before, after), (896, 0));
+        assert_eq!((before, after), (840, 0));
     }
 }
