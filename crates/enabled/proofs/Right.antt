@@ -13,9 +13,9 @@ use Rattle.record.specs.TokensAndTags.{sameTag}
 use Rattle.record.specs.declared.tag.Tag.{Tag}
 use Rattle.record.specs.declared.token.Token.{Token}
 use Rattle.flags.specs.Flags.{places}
-use Rattle.flags.specs.Marks.{bit, firstOf, placesWhere, marks}
+use Rattle.flags.specs.Marks.{bit, firstOf, placesWhere}
 use Rattle.flags.specs.Marks as Marks
-use Rattle.flags.proofs.Marks.{first-le, where-agree, where-map, where-passes, places-lead, where-below, marked-none, marked-places, marked-append, marked-change, marked-first}
+use Rattle.flags.proofs.Marks.{first-le, where-map, where-passes, where-below, marked-none, marked-places, marked-append, marked-change, marked-first}
 use Rattle.chains.proofs.Index.{and-left, and-right}
 use Rattle.enabled.specs.Enabled.{liveAt, allLive, arityOf, isEnabled, tagOf, tagsOf, tagSame, placeOf, leads, enabledPlaces}
 use Rattle.enabled.specs.Store.{Right}
@@ -128,19 +128,6 @@ module _ (arities : List ℕ) where
   unfolding Right enabledPlaces
   right-places ts flags w =
       marked-places tagSame tag-equal tag-own (isEnabled arities ts) (tagsOf ts) flags w
-      ∙ where-map tagOf (Marks.leads tagSame (isEnabled arities ts) (tagsOf ts)) 0 ts
-
-  -- the enabled by another test of place and token, and by recursion: for definitions of other crates
-  pub enabled-agree : (ts : List Token) (test : ℕ → Token → Bool) → ((i : ℕ) (t : Token) → i < length ts → getD ts i t ≡ t → leads arities ts i t ≡ test i t)
-      → enabledPlaces arities ts ≡ placesWhere test 0 ts
-  unfolding enabledPlaces
-  enabled-agree ts test e =
-      where-agree (leads arities ts) test 0 ts (λ i t h g. let z : 0 + i ≡ i = omega arith in rw z (e i t h g))
-
-  pub enabled-marks : (ts : List Token) → places (marks tagSame (isEnabled arities ts) (tagsOf ts)) ≡ enabledPlaces arities ts
-  unfolding enabledPlaces
-  enabled-marks ts =
-      places-lead tagSame tag-equal tag-own (isEnabled arities ts) (tagsOf ts)
       ∙ where-map tagOf (Marks.leads tagSame (isEnabled arities ts) (tagsOf ts)) 0 ts
 
   pub enabled-below : (ts : List Token) (k : ℕ) → k < length (enabledPlaces arities ts) → getD (enabledPlaces arities ts) k 0 < length ts

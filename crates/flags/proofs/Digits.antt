@@ -2,7 +2,7 @@
 -- first and the last one stand. Assumes nothing.
 use Prim.Native.Nat.{ℕ, zero, suc, _+_, _-_, _*_, _/_, _%_, _^_, _≤_, _<_}
 use mathlib.Core.Path.{_≡_, refl, sym, ap, _∙_}
-use mathlib.Core.List.{List, [], _∷_}
+use mathlib.Core.List.{List, _∷_}
 use native.Mathlib.Omega.{arith}
 use native.Mathlib.Nat.{not-suc-le-zero, le-of-suc-le-suc, pow-succ', div-div-eq-div-mul, mul-left-comm, div-one, one-mul, mod-eq-of-lt}
 use lib.Count.{trailingZeros, leadingZeros, under, leading-of-zero}

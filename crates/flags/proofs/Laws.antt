@@ -1,16 +1,16 @@
--- Laws of the flags: how many ones a part has, how a search passes flags and blocks, the sum of eight flags, and the list of places. Assumes
+-- Laws of the flags: how many ones a part has, how a search passes blocks of them, and the list of places. Assumes
 -- nothing.
-use Prim.Native.Nat.{ℕ, zero, suc, _+_, _-_, _*_, _%_, _≤_, _<_}
-use mathlib.Core.Path.{_≡_, refl, sym, ap, _∙_}
+use Prim.Native.Nat.{ℕ, zero, suc, _+_, _-_, _*_, _≤_, _<_}
+use mathlib.Core.Path.{_≡_, refl, ap, _∙_}
 use mathlib.Core.Bool.{Bool, true, false}
 use mathlib.Core.List.{List, [], _∷_, _++_}
 use mathlib.Core.Logic.{_⊎_, inl, inr, ⊎-elim}
 use native.Mathlib.Omega.{arith}
 use native.Mathlib.Numerals.{add-one}
-use native.Mathlib.Nat.{not-suc-le-zero, le-of-suc-le-suc, mod-eq-of-lt, add-mul-mod-self-left, suc-mul}
+use native.Mathlib.Nat.{not-suc-le-zero, le-of-suc-le-suc, suc-mul}
 use lib.Dec.{ltb}
 use lib.ListN.{length, getD, take, drop, set, length-drop, drop-of-length-le, replicate, length-replicate}
-use lib.Seq.{drop-drop, drop-cons}
+use lib.Seq.{drop-drop}
 use borrow.Author.Tests.{le-ltb, lt-ltb, ltb-true, ltb-false}
 use Rattle.flags.specs.Flags.{placesFrom, ones, place, Tallied}
 
@@ -57,29 +57,8 @@ ones-le (suc n) (x ∷ l) b = omega (arith, b 0, ones-le n l (λ i. b (suc i)))
 pub place-later : (k x : ℕ) (l : List ℕ) → x ≤ k → place k (x ∷ l) ≡ suc (place (k - x) l)
 place-later k x l h = rw (le-ltb k x h)
 
--- the search passes one flag
-module _ (l : List ℕ) (i k : ℕ) (h : i < length l) where
-  pub place-found : k < getD l i 0 → i + place k (drop i l) ≡ i
-  place-found g = rw (drop-cons l i 0 h, lt-ltb k (getD l i 0) g) (omega arith)
-
-  pub place-passed : getD l i 0 ≤ k → k < ones (drop i l)
-      → (k - getD l i 0 < ones (drop (i + 1) l)) × (i + place k (drop i l) ≡ i + 1 + place (k - getD l i 0) (drop (i + 1) l))
-  place-passed g u =
-      let v : k < getD l i 0 + ones (drop (suc i) l) = rw (drop-cons l i 0 h) at u in
-      rw add-one (omega arith, rw (drop-cons l i 0 h, le-ltb k (getD l i 0) g) (omega arith))
-
--- w flags, and those behind them
-ones-next : (w i : ℕ) (l : List ℕ) → ones (drop i l) ≡ ones (take w (drop i l)) + ones (drop (i + w) l)
-ones-next w i l = rw (← drop-drop w i l) (ones-split w (drop i l))
-
 pub ones-past : (l : List ℕ) (i : ℕ) → length l ≤ i → ones (drop i l) ≡ 0
 ones-past l i h = rw (drop-of-length-le l h)
-
--- no more flags are 1 than there are
-pub ones-few : (l : List ℕ) (i : ℕ) → ((j : ℕ) → getD l j 0 ≤ 1) → ones (drop i l) ≤ length l
-ones-few l i b =
-    let n = length l in
-    omega (arith, ones-split i l, ones-split n l, ones-le n l b, ones-past l n (omega arith))
 
 pub none-left : (l : List ℕ) (i k : ℕ) → length l ≤ i → k < ones (drop i l) → ⊥
 none-left l i k h g = omega (arith, ones-past l i h)
@@ -129,11 +108,6 @@ passed w l i k n h e g u =
     let s = ones-split w d in
     let p = place-skip w k d (omega (arith, length-drop i l)) (omega arith) in
     rw (← drop-drop w i l, e) (omega arith, omega arith)
-
--- zeros are passed
-pub zeros-passed : (w : ℕ) (l : List ℕ) (i k : ℕ) → i + w ≤ length l → ones (take w (drop i l)) ≡ 0 → k < ones (drop i l)
-    → (k < ones (drop (i + w) l)) × (i + place k (drop i l) ≡ i + w + place k (drop (i + w) l))
-zeros-passed w l i k h z u = let e : k - 0 ≡ k = omega arith in rw e at (passed w l i k 0 h (sym z) (omega arith) u)
 
 -- a block is passed
 pub block-passed : (w : ℕ) (l : List ℕ) (b k n : ℕ) → b * w + w ≤ length l → n ≡ ones (take w (drop (b * w) l)) → n ≤ k → k < ones (drop (b * w) l)

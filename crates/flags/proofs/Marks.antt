@@ -18,14 +18,6 @@ where-same : {A : Type 0} (p q : ℕ → A → Bool) (i : ℕ) (l : List A) → 
 where-same p q i [] e = refl
 where-same p q i (x ∷ l) e = rw (e i x (omega arith), where-same p q (suc i) l (λ j y h. e j y (omega arith)))
 
--- tests that agree on the elements of the list
-pub where-agree : {A : Type 0} (p q : ℕ → A → Bool) (i : ℕ) (l : List A) → ((k : ℕ) (x : A) → k < length l → getD l k x ≡ x → p (i + k) x ≡ q (i + k) x) → placesWhere p i l ≡ placesWhere q i l
-where-agree p q i [] e = refl
-where-agree p q i (x ∷ l) e =
-    let here : p i x ≡ q i x = let z : i + 0 ≡ i = omega arith in rw z at (e 0 x (omega arith) refl) in
-    let later = where-agree p q (suc i) l (λ k y h g. let z : suc i + k ≡ i + suc k = omega arith in rw z (e (suc k) y (omega arith) g)) in
-    rw (here, later)
-
 pub where-map : {A B : Type 0} (f : A → B) (p : ℕ → B → Bool) (i : ℕ) (l : List A) → placesWhere p i (map f l) ≡ placesWhere (λ j x. p j (f x)) i l
 where-map f p i [] = refl
 where-map f p i (x ∷ l) = rw (where-map f p (suc i) l)
@@ -97,10 +89,6 @@ module _ {A : Type 0} (same : A → A → Bool) where
       let n = i - length l in
       let k : i ≡ length m + n = omega (arith, length-marks f l) in
       rw (w, k) (getD-append-add m (replicate (2048 - length l) 0) n 0 ∙ zero-at (2048 - length l) n)
-
-  pub marked-same : (f g : A → Bool) → ((y : A) → g y ≡ f y) → (l : List A) (flags : List ℕ) → Marked same f l flags → Marked same g l flags
-  unfolding Marked
-  marked-same f g e l flags w = rw (marks-same f g e l) w
 
   module _ (equal : (x y : A) → same x y ≡ true → x ≡ y) (own : (x : A) → same x x ≡ true) where
     apart : (t x : A) → same t x ≡ false → same x t ≡ false

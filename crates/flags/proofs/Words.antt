@@ -1,16 +1,16 @@
 -- Laws of flags that are kept in words: the flags of all words from those of each, one flag changed, and the first one found by the last word, which says
 -- what words have any. Assumes nothing.
-use Prim.Native.Nat.{ℕ, zero, suc, _+_, _-_, _*_, _/_, _%_, _^_, _≤_, _<_}
+use Prim.Native.Nat.{ℕ, zero, suc, _+_, _-_, _*_, _/_, _%_, _≤_, _<_}
 use mathlib.Core.Path.{_≡_, refl, sym, ap, _∙_}
 use mathlib.Core.List.{List, [], _∷_, _++_, map}
 use native.Mathlib.Omega.{arith}
-use native.Mathlib.Nat.{not-suc-le-zero, le-of-suc-le-suc, suc-mul}
+use native.Mathlib.Nat.{not-suc-le-zero, le-of-suc-le-suc}
 use lib.ListN.{take-append-drop, length, getD, set, take, drop, replicate, length-append, length-set, length-map}
 use lib.Seq.{take-append-seam, drop-append-add, take-set-lt, take-set-le, getD-set-same, getD-take, getD-drop, length-take-le, set-append-left}
-use Rattle.flags.specs.Flags.{ones, place, inWord, flagsIn, flagsOf, atMostOne, any, Tallied, Summed, Counted}
-use Rattle.flags.proofs.Laws.{Binary, ones-none, ones-append, place-left, place-right, tallied-none}
+use Rattle.flags.specs.Flags.{ones, place, inWord, flagsIn, flagsOf, atMostOne, any, Summed, Counted}
+use Rattle.flags.proofs.Laws.{ones-append, place-left, place-right, tallied-none}
 use Rattle.flags.proofs.Blocks.{set-append-add, tallied-set}
-use Rattle.flags.proofs.Digits.{word-size, word-none, word-positive}
+use Rattle.flags.proofs.Digits.{word-size, word-positive}
 
 -- ---- the first n words
 

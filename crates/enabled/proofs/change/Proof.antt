@@ -2,7 +2,7 @@
 -- Assumes nothing.
 use Prim.Native.Nat.{_<_}
 use mathlib.Core.Path.{_≡_, sym, _∙_}
-use mathlib.Core.Bool.{true, false}
+use mathlib.Core.Bool.{false}
 use native.Mathlib.Omega.{arith}
 use borrow.Author.Needs.{needs}
 use lib.ListN.{length, getD, set}
@@ -11,7 +11,7 @@ use Rattle.record.specs.declared.token.Token.{Token}
 use Rattle.table.proofs.Tables.{length-rows, getD-rows}
 use Rattle.flags.specs.Flags.{flagsOf}
 use Rattle.chains.proofs.Search.{within-more}
-use Rattle.enabled.specs.Enabled.{isLive, isEnabled, placeOf}
+use Rattle.enabled.specs.Enabled.{isEnabled, placeOf}
 use Rattle.enabled.specs.Store.{placeOr, lower}
 use Rattle.enabled.proofs.Store.{Moved, changed, all-at, known-few}
 use Rattle.enabled.proofs.Arriving.{right-still, own-place, own-ready}
