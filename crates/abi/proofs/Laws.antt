@@ -1,5 +1,6 @@
--- The number of an answer gives the answer back, so that printing by a number prints what printing by the answer does; a number that names an answer is
--- that answer's; and what printing answers where it writes nothing is no text's length. Assumes nothing.
+-- The number of an answer whose firings, tokens and place have 16 bits gives the answer back, and every answer of a run is so: printing by a number prints
+-- what printing by the answer does. A number that names an answer is that answer's; and what printing answers where it writes nothing is no text's length.
+-- Assumes nothing.
 use Prim.Native.Nat.{ℕ, _+_, _*_, _/_, _%_, _≤_, _<_}
 use native.Mathlib.Omega.{arith}
 use mathlib.Core.Path.{_≡_, refl, sym, ap, _∙_}
@@ -17,6 +18,8 @@ use Rattle.rules.specs.declared.answer.Refusal.the-variants.{GraphLength, Unkno
 use Rattle.rules.specs.declared.answer.Outcome.{Outcome}
 use Rattle.rules.specs.declared.answer.Outcome.the-variants.{Completed, Spent, Refused}
 use Rattle.rules.specs.declared.answer.Answer.{Answer}
+use Rattle.rules.specs.Run.{result, answer}
+use Rattle.rules.proofs.Small.{answer-small}
 use Rattle.text.specs.Text.{decimal, line, outcomeFields, answerLine, tokenLine, cellLines, printed, printedOf, outAfter}
 use Rattle.text.proofs.Decimals.{decimal-digit, length-more}
 use Rattle.abi.specs.declared.Numbered.{Numbered}
@@ -106,6 +109,19 @@ unpacked-packed a h =
     let v = valuesOf a in
     rw (word-part v s, firings-part v s, tokens-part v s, place-part v s, outcome-back (a .outcome))
 
+-- ---- and every answer of a run fits, whatever is lent and whatever the budget
+
+-- "Firings never exceed tokens", tokens are 2,048 at most, and a place is below 2,048
+pub run-fits : (graph inputs picks : List ℕ) (budget ledger cells : ℕ) → Fits (answer (result graph inputs picks budget ledger cells))
+run-fits graph inputs picks budget ledger cells =
+    let small = answer-small graph inputs picks budget ledger cells in
+    (omega (arith, small .byTokens, small .tokens), omega (arith, small .tokens), omega (arith, small .place))
+
+-- the number that a run answers gives its answer back
+pub run-back : (graph inputs picks : List ℕ) (budget ledger cells : ℕ)
+    → unpacked (packed (valuesOf (answer (result graph inputs picks budget ledger cells)))) ≡ Answered (answer (result graph inputs picks budget ledger cells))
+run-back graph inputs picks budget ledger cells = unpacked-packed (answer (result graph inputs picks budget ledger cells)) (run-fits graph inputs picks budget ledger cells)
+
 -- ---- so printing the number that a run answers prints the answer: what text::print does with it, ttda_print does
 
 pub print-answer : (a : Answer) → Fits a → (listing cells out : List ℕ)
@@ -115,6 +131,16 @@ print-answer a h listing cells out = rw (unpacked-packed a h)
 pub print-after : (a : Answer) → Fits a → (listing cells out : List ℕ)
     → printAfter (unpacked (packed (valuesOf a))) listing cells out ≡ outAfter (printed a listing cells) out
 print-after a h listing cells out = rw (unpacked-packed a h)
+
+-- the length that is answered and the bytes that are left, for the number of any run
+pub run-printed : (graph inputs picks : List ℕ) (budget ledgerBytes cellBytes : ℕ) (listing cells out : List ℕ)
+    → let a = answer (result graph inputs picks budget ledgerBytes cellBytes) in
+    (printAnswer (unpacked (packed (valuesOf a))) listing cells out ≡ lengthOf (printedOf (printed a listing cells) out))
+    × (printAfter (unpacked (packed (valuesOf a))) listing cells out ≡ outAfter (printed a listing cells) out)
+run-printed graph inputs picks budget ledgerBytes cellBytes listing cells out =
+    let a = answer (result graph inputs picks budget ledgerBytes cellBytes) in
+    let fits = run-fits graph inputs picks budget ledgerBytes cellBytes in
+    (print-answer a fits listing cells out, print-after a fits listing cells out)
 
 -- ---- 0 and 1 are no text's length: the shortest has 12 bytes
 

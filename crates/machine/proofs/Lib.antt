@@ -1,4 +1,4 @@
--- The theorems (Enabled, Orders, Reached, Kept, Refused), what they are proved from (Swap, View, Store, Perm), and a computed example.
+-- The theorems (Enabled, Orders, Reached, Kept, Refused, Bounds), what they are proved from (Swap, View, Store, Perm), and a computed example.
 -- Assumes nothing.
 pub mod Swap
 pub mod View
@@ -9,4 +9,5 @@ pub mod Orders
 pub mod Reached
 pub mod Kept
 pub mod Refused
+pub mod Bounds
 pub mod Example

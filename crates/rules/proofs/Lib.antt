@@ -6,3 +6,4 @@ pub mod Inputs
 pub mod Fits
 pub mod Orders
 pub mod Left
+pub mod Small

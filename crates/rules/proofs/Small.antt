@@ -1,0 +1,169 @@
+-- The answer of a run is small: firings are no more than the budget and than the tokens, tokens are 2,048 at most, and a place is below 2,048 (`answer-small`).
+-- It holds whatever is lent, a run that is refused before any firing included. Assumes nothing.
+use Prim.Native.Nat.{ℕ, suc, _+_, _/_, _<_, _≤_}
+use mathlib.Core.Path.{_≡_, refl}
+use mathlib.Core.Bool.{Bool, true, false, not, _&&_}
+use mathlib.Core.List.{List, [], _∷_}
+use native.Mathlib.Omega.{arith}
+use borrow.Author.Tests.{leb-false}
+use lib.Dec.{leb}
+use lib.ListN.{length, take}
+use lib.IntN.{ℤ}
+use Rattle.record.specs.declared.tag.Tag.{Tag}
+use Rattle.record.specs.declared.instruction.Instruction.{Instruction}
+use Rattle.table.specs.Table.{whole, allRows}
+use Rattle.table.proofs.Tables.{length-rows}
+use Rattle.record.specs.GraphRecords.{isGraphLength, graphOf, destinations, operandsOf}
+use Rattle.record.specs.GraphRecords as Graph
+use Rattle.record.specs.TokensAndTags.{mostTokens, capacityOf}
+use Rattle.record.specs.TokensAndTags as Tokens
+use Rattle.machine.specs.Machine.{Machine, State, completed, budgetSpent, refused, Ledger, run}
+use Rattle.machine.specs.Machine as Machine
+use Rattle.machine.proofs.Orders.{startGood}
+use Rattle.machine.proofs.Bounds.{PlaceWithin, picks-bounded, picks-firings}
+use Rattle.rules.specs.declared.answer.Refusal.{Refusal}
+use Rattle.rules.specs.declared.answer.Refusal.the-variants.{GraphLength, UnknownOperation, FanOut, BadArc, BadSite, BadInput, BadStore, LedgerFull, SecondToken}
+use Rattle.rules.specs.declared.answer.Answer.{Answer}
+use Rattle.rules.specs.declared.answer.Checked.{Checked}
+use Rattle.rules.specs.declared.answer.Checked.the-variants.{Passed, Failed}
+use Rattle.rules.specs.Answer.{placeIn}
+use Rattle.rules.specs.Check.{demand, _andThen_, all, inTurn, fanOutAllowed, unusedAreZero, goodArc, goodSite, checkRecord, checkGraph, checkStores, goodInput, secondInput, checkInputs, check, mostCells}
+use Rattle.rules.specs.InstructionSet.{machineOf}
+use Rattle.rules.specs.Run.{firstState, picksOf, refusedAtOnce, ranTo, outcomeOf, unlessFailed, result, answer}
+use Rattle.rules.proofs.Passed.{both, demand-passed, andThen-passed}
+use Rattle.rules.proofs.Lawful.{lawful}
+use Rattle.rules.proofs.Inputs.{start}
+use Rattle.rules.proofs.Orders.{whole-bytes}
+
+-- of the answer of a run with that budget
+pub record Small (budget : ℕ) (a : Answer) : Type 0 where
+  -- "Firings are those done, the refused one not counted."
+  pub firings : a .firings ≤ budget
+  -- "Firings never exceed tokens."
+  pub byTokens : a .firings ≤ a .tokens
+  -- "The ledger takes every token in order of arrival, up to 2,048 records"
+  pub tokens : a .tokens ≤ mostTokens
+  -- "Place: the record or input at fault (for 8 the first that doesn't fit), 0 for 1 and 7": "A graph is 1 to 256 records", and "more than 2,048" inputs are
+  -- refused by 7 before any of them is at fault. In a firing "the place is the activity's": "the ledger position of its earliest operand".
+  -- "The place is 0 unless refused."
+  pub place : placeIn (a .outcome) < mostTokens
+
+-- ---- a refusal before any firing: its place is below 2,048
+
+abbrev Below : Checked → Type 0
+Below Passed = Unit {0}
+Below (Failed r p) = p < mostTokens
+
+demand-below : (b : Bool) (r : Refusal) (p : ℕ) → (b ≡ false → p < mostTokens) → Below (demand b r p)
+demand-below true r p h = tt
+demand-below false r p h = h refl
+
+then-below : (a b : Checked) → Below a → (a ≡ Passed → Below b) → Below (a andThen b)
+then-below Passed b h k = k refl
+then-below (Failed r p) b h k = h
+
+-- a demand, and what comes after it
+first-below : (b : Bool) (r : Refusal) (p : ℕ) (c : Checked) → (b ≡ false → p < mostTokens) → (b ≡ true → Below c) → Below (demand b r p andThen c)
+first-below true r p c h k = k refl
+first-below false r p c h k = h refl
+
+turn-below : {A : Type 0} (f : ℕ → A → Checked) → ((i : ℕ) (x : A) → i < mostTokens → Below (f i x)) → (i : ℕ) (xs : List A) → i + length xs ≤ mostTokens → Below (inTurn f i xs)
+turn-below f h i [] k = tt
+turn-below f h i (x ∷ xs) k = then-below (f i x) (inTurn f (suc i) xs) (h i x (omega arith)) (λ e. turn-below f h (suc i) xs (omega arith))
+
+record-below : (g : List Instruction) (i : ℕ) (r : Instruction) → i < mostTokens → Below (checkRecord g i r)
+unfolding checkRecord
+record-below g i r h =
+    first-below (leb 1 (operandsOf (r .code))) UnknownOperation i _ (λ e. h) (λ e.
+    first-below (fanOutAllowed r && unusedAreZero r) FanOut i _ (λ f. h) (λ f.
+    first-below (all (goodArc g) (destinations r)) BadArc i _ (λ k. h) (λ k.
+    demand-below (goodSite (take i g) r) BadSite i (λ l. h))))
+
+graph-below : (graph : List ℕ) → Below (checkGraph graph)
+unfolding checkGraph
+graph-below graph =
+    first-below (isGraphLength (length graph)) GraphLength 0 _ (λ e. omega arith) (λ e.
+    let size = whole-bytes 16 256 (length graph) (both (leb 1 (length graph)) (whole 16 256 (length graph)) e .1) .1 in
+    turn-below (checkRecord (graphOf graph)) (record-below (graphOf graph)) 0 (graphOf graph) (omega (arith, length-rows 16 Graph.decode (length graph / 16) graph)))
+
+-- "inputs, picks, ledger or cells not whole records, or more than 2,048 of them"
+stores-few : (inputs picks ledger cells : ℕ) → checkStores inputs picks ledger cells ≡ Passed → (inputs / 20 ≤ mostTokens) × (capacityOf ledger ≤ mostTokens)
+unfolding checkStores
+stores-few inputs picks ledger cells e =
+    let all = both (whole 20 mostTokens inputs) _ (demand-passed _ BadStore 0 e) in
+    let later = both (whole 2 mostTokens picks) _ (all .1) .1 in
+    let last = both (whole 20 mostTokens ledger) _ later .0 in
+    (whole-bytes 20 mostTokens inputs (all .0) .1, whole-bytes 20 mostTokens ledger last .1)
+
+-- the place of 8 is the capacity, and where the inputs exceed it, it is less than their number
+inputs-below : (g : List Instruction) (capacity : ℕ) (inputs : List ℕ) → length inputs / 20 ≤ mostTokens → Below (checkInputs g capacity inputs)
+unfolding checkInputs
+inputs-below g capacity inputs few =
+    let n = length inputs / 20 in
+    let ts = allRows 20 Tokens.decode inputs in
+    let goods = allRows 20 (goodInput g) inputs in
+    let many : length ts ≡ n = length-rows 20 Tokens.decode n inputs in
+    then-below (inTurn (λ i good. demand good BadInput i) 0 goods) _
+    (turn-below (λ i good. demand good BadInput i) (λ i good h. demand-below good BadInput i (λ e. h)) 0 goods (omega (arith, length-rows 20 (goodInput g) n inputs)))
+    (λ e.
+    first-below (leb (length ts) capacity) LedgerFull capacity _ (λ f. let more = leb-false (length ts) capacity f in omega arith) (λ f.
+    turn-below (λ i t. demand (not (secondInput (take i ts) t)) SecondToken i) (λ i t h. demand-below (not (secondInput (take i ts) t)) SecondToken i (λ k. h)) 0 ts (omega arith)))
+
+stores-below : (inputs picks ledger cells : ℕ) → Below (checkStores inputs picks ledger cells)
+unfolding checkStores
+stores-below inputs picks ledger cells =
+    demand-below (whole 20 mostTokens inputs && (whole 2 mostTokens picks && (whole 20 mostTokens ledger && whole 8 mostCells cells))) BadStore 0 (λ e. omega arith)
+
+check-below : (graph inputs picks : List ℕ) (ledger cells : ℕ) → Below (check graph inputs picks ledger cells)
+unfolding check
+check-below graph inputs picks ledger cells =
+    then-below (checkGraph graph) _ (graph-below graph) (λ e.
+    then-below (checkStores (length inputs) (length picks) ledger cells) _ (stores-below (length inputs) (length picks) ledger cells) (λ f.
+    inputs-below (graphOf graph) (capacityOf ledger) inputs (stores-few (length inputs) (length picks) ledger cells f .0)))
+
+-- ---- a run from inputs that passed
+
+module _ (graph inputs : List ℕ) (capacity cells : ℕ) (few : capacity ≤ mostTokens) (passed : checkGraph graph ≡ Passed) (accepted : checkInputs (graphOf graph) capacity inputs ≡ Passed) where
+  abbrev M : Machine
+  M = machineOf (graphOf graph) capacity cells
+
+  abbrev s : State Tag ℤ
+  s = firstState inputs cells
+
+  place-small : (o : Machine.Outcome Refusal) (ts : Ledger M) → PlaceWithin M o ts → length ts ≤ capacity → placeIn (outcomeOf o) < mostTokens
+  place-small completed ts h room = omega arith
+  place-small budgetSpent ts h room = omega arith
+  place-small (refused r p) ts h room = omega arith
+
+  run-small : (budget : ℕ) (picks : List ℕ) → Small budget (answer (ranTo (run M budget picks s)))
+  unfolding answer
+  run-small budget picks =
+      let good = startGood M s (start (graphOf graph) capacity cells inputs accepted) in
+      let e = run M budget picks s in
+      let bounds = picks-bounded M s (good .room) budget picks in
+      let room = bounds .tokens in
+      record {
+        firings = bounds .firings;
+        byTokens = picks-firings M (lawful graph passed capacity cells) s good budget picks;
+        tokens = omega arith;
+        place = place-small (e .outcome) (e .state .tokens) (bounds .place) room;
+      }
+
+-- ---- whole runs
+
+-- "All these answer 0 firings and 0 tokens"
+refused-small : (budget : ℕ) (r : Refusal) (p : ℕ) → p < mostTokens → Small budget (answer (refusedAtOnce r p))
+unfolding answer
+refused-small budget r p h = record { firings = omega arith; byTokens = omega arith; tokens = omega arith; place = h }
+
+pub answer-small : (graph inputs picks : List ℕ) (budget ledger cells : ℕ) → Small budget (answer (result graph inputs picks budget ledger cells))
+unfolding result unlessFailed check
+answer-small graph inputs picks budget ledger cells = go (check graph inputs picks ledger cells) refl
+  where
+    go : (c : Checked) → check graph inputs picks ledger cells ≡ c → Small budget (answer (result graph inputs picks budget ledger cells))
+    go (Failed r p) e = rw e (refused-small budget r p (rw e at (check-below graph inputs picks ledger cells)))
+    go Passed e =
+        let parts = andThen-passed (checkGraph graph) _ e in
+        let later = andThen-passed (checkStores (length inputs) (length picks) ledger cells) _ (parts .1) in
+        let few = stores-few (length inputs) (length picks) ledger cells (later .0) .1 in
+        rw e (run-small graph inputs (capacityOf ledger) (cells / 8) few (parts .0) (later .1) budget (picksOf picks))
