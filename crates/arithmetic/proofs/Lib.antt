@@ -1,3 +1,4 @@
+-- The laws of the arithmetic operations. Assumes nothing.
 pub mod Cases
 pub mod Division
 pub mod Ranged

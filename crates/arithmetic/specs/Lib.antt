@@ -1,1 +1,2 @@
+-- The definitions of the arithmetic operations. Assumes nothing.
 pub mod Arithmetic

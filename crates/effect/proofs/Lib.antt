@@ -1,3 +1,4 @@
+-- The laws of what an instruction asks for. Assumes nothing.
 pub mod Does
 pub mod Passed
 pub mod Arrives

@@ -1,1 +1,2 @@
+-- The definitions of the turns of a run. Assumes nothing.
 pub mod Turns

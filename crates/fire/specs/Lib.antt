@@ -1,1 +1,2 @@
+-- The definitions of what holds between firings. Assumes nothing.
 pub mod Running

@@ -1,2 +1,3 @@
+-- The laws of records as tokens and cells of the machine. Assumes nothing.
 pub mod Keys
 pub mod Enabled

@@ -1,1 +1,2 @@
+-- The definitions of records as tokens and cells of the machine. Assumes nothing.
 pub mod Held

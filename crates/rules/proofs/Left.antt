@@ -1,7 +1,7 @@
 -- What a run leaves, for a reader of 01: a refusal before any firing writes nothing; a run first sets all cells absent and writes its inputs; a refused
 -- firing leaves ledger and cells as it found them; bytes past what is written stay as lent. All of it follows from `result`, `answer`, `ledgerAfter` and
 -- `cellsAfter`, by which the promise of `run` is made. Assumes nothing.
-use Prim.Native.Nat.{ℕ, zero, suc, _+_, _*_, _/_, _%_, _<_, _≤_}
+use Prim.Native.Nat.{ℕ, zero, suc, _*_, _/_, _%_, _<_, _≤_}
 use mathlib.Core.Path.{_≡_, refl, sym, ap, _∙_}
 use mathlib.Core.Bool.{true}
 use mathlib.Core.List.{List, [], _∷_, _++_, map, append-nil}

@@ -1,3 +1,4 @@
+-- The laws of the rules. Assumes nothing.
 pub mod Cases
 pub mod Passed
 pub mod PassedGraph

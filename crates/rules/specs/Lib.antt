@@ -1,3 +1,4 @@
+-- The definitions of 01's rules. Assumes nothing.
 pub mod Answer
 pub mod Check
 pub mod InstructionSet
