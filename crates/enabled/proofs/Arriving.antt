@@ -17,10 +17,10 @@ use Rattle.flags.specs.Marks.{bit}
 use Rattle.flags.proofs.Marks.{marked-past}
 use Rattle.chains.specs.declared.Found.{Found}
 use Rattle.chains.specs.declared.Found.the-variants.{At, Nothing}
-use Rattle.chains.specs.Search.{firstFrom, Within}
+use Rattle.chains.specs.Search.{firstFrom}
 use Rattle.chains.proofs.Index.{and-left, and-right}
 use Rattle.enabled.specs.Enabled.{isLive, liveAt, allLive, arityOf, isEnabled, tagOf, tagsOf, tagSame, placeOf}
-use Rattle.enabled.specs.Store.{Right, placeOr, lower, liveFound, readyOf, readyWith}
+use Rattle.enabled.specs.Store.{Right, raisedIf, placeOr, lower, liveFound, readyOf, readyWith}
 use Rattle.enabled.proofs.Places.{live-found, first-place, lower-first, lower-second}
 use Rattle.enabled.proofs.Right.{first-append, tags-append, stays, place-set, place-kept, right-flag}
 use Rattle.enabled.proofs.Single.{stands-same}
@@ -90,6 +90,11 @@ right-still arities ts i u d flags h e g k w n =
     let before = all-before (arityOf arities (u .tag)) ts us (u .tag) (λ port. live-changed (u .tag) port u d ts i e g k) n in
     rw (n, place) (stays flags (placeOf ts (u .tag)) (right-flag arities ts flags (u .tag) (rw place at (place-set ts i u d h e)) w ∙ ap bit before))
 
+-- a flag that is not put down where it is down already
+pub raised-only : (b : Bool) (flags : List ℕ) (p : ℕ) → (b ≡ false → flags ≡ set flags p (bit b)) → raisedIf b flags p ≡ set flags p (bit b)
+raised-only true flags p w = refl
+raised-only false flags p w = w refl
+
 -- ---- the lower of two places, where one may be missing
 
 lower-le : (a b : ℕ) → a ≤ b → lower a b ≡ a
@@ -109,11 +114,6 @@ lower-turned a b = go (decLe (suc a) b)
 lower-own : (f : Found) (i n : ℕ) → i < n → lower i (placeOr f n) ≡ lower i (placeOr f i)
 lower-own (At j) i n h = refl
 lower-own Nothing i n h = lower-first i n h ∙ sym (lower-second i i (omega arith))
-
--- one found not past it is the lower
-pub lower-last : (f : Found) (n : ℕ) → Within f (n + 1) → lower n (placeOr f n) ≡ placeOr f n
-lower-last (At i) n w = lower-second n i (omega arith)
-lower-last Nothing n w = lower-second n n (omega arith)
 
 -- the record at i is the first on a port of a tag, and `other` is what the other port has
 module _ (tag : Tag) (port i n : ℕ) (m : List ℕ) (h : i < n) (low : port < 2) (own : firstFrom (standsAt tag port) 0 (tokens n m) ≡ At i) (other : Found) (found : other ≡ firstFrom (standsAt tag (1 - port)) 0 (tokens n m)) where

@@ -83,6 +83,14 @@ lower-below a b n h k = go (ltb a b)
     go true = h
     go false = k
 
+-- the lower is no more than the first
+pub lower-under : (a b : ℕ) → a < 2048 → lower a b < 2048
+lower-under a b h = go (ltb a b) refl
+  where
+    go : (t : Bool) → ltb a b ≡ t → cond t a b < 2048
+    go true e = h
+    go false e = omega (arith, ltb-false a b e)
+
 lower-suc : (a b : ℕ) → lower (suc a) (suc b) ≡ suc (lower a b)
 lower-suc a b = go (ltb a b) refl
   where

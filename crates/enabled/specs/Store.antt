@@ -40,6 +40,10 @@ pub record Stored (arities heads next flags counts ledger : List ℕ) (used : �
   pub counted : Counted flags counts
   pub right : Right arities (tokens used ledger) (flagsOf flags)
 
+-- the flag of an activity is raised if its operands are all live, and else left as it was
+abbrev pub raisedIf : (live : Bool) → (flags : List ℕ) → (place : ℕ) → List ℕ
+raisedIf live flags place = cond live (set flags place 1) flags
+
 -- ---- answers of a search
 
 abbrev pub placeOr : Found → (other : ℕ) → ℕ

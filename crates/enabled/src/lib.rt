@@ -10,11 +10,12 @@ ghost use mathlib.Core.List.{List, [], _∷_, _++_};
 ghost use Prim.Native.Nat.{ℕ, _+_, _/_, _<_};
 ghost use lib.ListN.{length, getD, set};
 ghost use Rattle.table.specs.Table.{putRow};
-ghost use Rattle.record.specs.TokensAndTags.{encode, tokens, tokenAt};
-ghost use Rattle.flags.specs.Flags.{Counted};
-ghost use Rattle.chains.specs.Search.{Within, Free};
-ghost use Rattle.enabled.specs.Enabled.{isLive};
-ghost use Rattle.enabled.specs.Store.{Known, Stored, placeOr, lower, liveFound, readyOf, readyWith, Operands, statesSpent, tokensSpent};
+ghost use Rattle.record.specs.TokensAndTags.{encode, tokens, tokenAt, standsAt};
+ghost use Rattle.flags.specs.Flags.{flagsOf, Counted};
+ghost use Rattle.chains.specs.Search.{firstFrom, Within, Free};
+ghost use Rattle.chains.specs.declared.Found.the-variants.{At};
+ghost use Rattle.enabled.specs.Enabled.{isLive, allLive, placeOf};
+ghost use Rattle.enabled.specs.Store.{Known, Stored, raisedIf, placeOr, lower, liveFound, readyOf, readyWith, Operands, statesSpent, tokensSpent};
 
 fn place_or(f: Found, other: usize) -> usize
     ensures { λ r. ⌜ r ≡ placeOr f other ⌝ }
@@ -71,6 +72,30 @@ fn earlier(a: usize, b: usize) -> usize
     if a < b { a } else { b }
 }
 
+// Raises the flag of the activity of the token at `own`, if its operands are all live. No other token stands on that one's
+// port, so that of the operands only the other is searched for.
+fn settle(
+    flags: &mut [u64; 33],
+    counts: &mut [u16; 36],
+    heads: &[u16; 4096],
+    next: &[u16; 2048],
+    ledger: &[u8],
+    used: usize,
+    own: usize,
+    tag: Tag,
+    port: u8,
+    operands: u8,
+)
+    requires { ⌜ Counted (now flags) (now counts) × Known (now heads) (now next) (now ledger) used × (own < used) × (port < 2) × (firstFrom (standsAt tag port) 0 (tokens used (now ledger)) ≡ At own) ⌝ }
+    ensures { λ _. ⌜ flagsOf (now (flags .exit)) ≡ raisedIf (allLive operands (tokens used (now (ledger .entry))) tag) (flagsOf (now (flags .entry))) (placeOf (tokens used (now (ledger .entry))) tag) ⌝ }
+    ensures { λ _. ⌜ Counted (now (flags .exit)) (now (counts .exit)) ⌝ }
+{
+    let other = chains::find(heads, next, ledger, used, tag, 1 - port);
+    if ready_with(ledger, port, Found::At(own), other, operands) {
+        flags::raise(flags, counts, earlier(own, place_or(other, own)));
+    }
+}
+
 // How many operands the activities of an instruction wait for.
 pub fn arity(arities: &[u8], instruction: u16) -> u8
     ensures { λ r. ⌜ r ≡ getD (now (arities .entry)) instruction 0 ⌝ }
@@ -79,8 +104,7 @@ pub fn arity(arities: &[u8], instruction: u16) -> u8
     if i < arities.len() { arities[i] } else { 0 }
 }
 
-// Adds t after the used records. Its key is free, so its own record is what a search of its port would find; and a flag
-// that was raised stays, so there is one to put only where t's activity is ready.
+// Adds t after the used records, where none stands on its port of its tag. A flag that was raised stays.
 pub fn append(
     arities: &[u8],
     heads: &mut [u16; 4096],
@@ -99,15 +123,22 @@ pub fn append(
     let tag = t.tag;
     token::put_token(ledger, used, t);
     chains::insert(heads, next, used, t);
-    let other = chains::find(heads, next, ledger, used + 1, tag, 1 - t.port);
     let operands = arity(arities, tag.instruction);
-    if ready_with(ledger, t.port, Found::At(used), other, operands) {
-        flags::raise(flags, counts, place_or(other, used));
-    }
+    settle(
+        flags,
+        counts,
+        heads,
+        next,
+        ledger,
+        used + 1,
+        used,
+        tag,
+        t.port,
+        operands,
+    );
 }
 
-// Puts t, of the same tag and port, in the place of token i. No other token stands on that port, and what was live stays
-// so: there is a flag to put only where t's activity is ready.
+// Puts t, of the same tag and port, in the place of token i. What was live stays so, and so does a flag that was raised.
 pub fn change(
     arities: &[u8],
     heads: &[u16; 4096],
@@ -126,11 +157,19 @@ pub fn change(
 {
     let tag = t.tag;
     token::put_token(ledger, i, t);
-    let other = chains::find(heads, next, ledger, used, tag, 1 - t.port);
     let operands = arity(arities, tag.instruction);
-    if ready_with(ledger, t.port, Found::At(i), other, operands) {
-        flags::raise(flags, counts, earlier(i, place_or(other, i)));
-    }
+    settle(
+        flags,
+        counts,
+        heads,
+        next,
+        ledger,
+        used,
+        i,
+        tag,
+        t.port,
+        operands,
+    );
 }
 
 // Spends the operands of an enabled activity; where one is waited for, both places are its place. The activity is
