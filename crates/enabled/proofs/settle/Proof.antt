@@ -39,8 +39,7 @@ settle-spec = tie.close (tie.spec
     (λ c κs.
     let s = c .before .before .before .before .before .before .before .before in
     let a = s .args in
-    let f = c .before .before .before .before .before .before in
-    (rw (c .earlier .ensures, c .before .place-or .ensures) (lower-under (a .own) (placeOr (f .find .result) (a .own)) (omega (arith, s .pre .2, known-few (a .heads .now) (a .next .now) (a .ledger .now) (a .used) (s .pre .1)))), s .pre .0))
+    (rw (c .earlier .ensures) (lower-under (a .own) _ (omega (arith, s .pre .2, known-few (a .heads .now) (a .next .now) (a .ledger .now) (a .used) (s .pre .1)))), s .pre .0))
     (λ c.
     let on = sym (whole (c .before .before .before .before .before .before)) ∙ c .before .before .before .before .before .if1 .taken in
     (c .raise .ensures .0 ∙ rw (c .before .earlier .ensures, c .before .before .place-or .ensures, here (c .before .before .before .before .before .before .before), on), c .raise .ensures .1))
