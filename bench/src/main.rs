@@ -4,9 +4,9 @@
 //! time for one firing grows from 256 to 2,048 tokens.
 //!
 //! All works are run in turn, round after round. With the argument `repeated` each
-//! is run again and again before the next; with `growth` only the growth is
-//! measured, of runs of one size that follow each other (growth.rs). The figures of
-//! the three differ.
+//! is run a block of times before the next, so that it meets the caches that it
+//! left; with `growth` only the growth is measured, of runs of one size that follow
+//! each other (growth.rs). The figures of the three differ.
 
 mod growth;
 mod work;
@@ -20,7 +20,9 @@ const SIZES: [usize; 5] = [128, 256, 512, 1024, 2048];
 const CELLS: usize = 1024;
 const BUDGET: u16 = 2048;
 /// How often each emulator runs each work.
-const ROUNDS: usize = 401;
+const RUNS: usize = 400;
+/// How often it does before the next work, where works are repeated.
+const BLOCK: usize = 20;
 
 /// A kind of work: its name, its graph by size, and whether the newest activity
 /// is taken first.
@@ -39,7 +41,7 @@ fn main() {
         return growth::print();
     }
     let repeated = std::env::args().any(|word| word == "repeated");
-    println!("Time of one run, median of {ROUNDS} runs of each emulator. The buffers are not");
+    println!("Time of one run, median of {RUNS} runs of each emulator. The buffers are not");
     println!("cleared: each run finds ledger and cells as the run before it left them. The");
     println!("second emulator allocates its tables in every run.");
     println!();
@@ -56,14 +58,10 @@ fn main() {
     for arrangement in ARRANGEMENTS {
         listings.extend(SIZES.map(|size| Listing::new(arrangement, size)));
     }
-    if repeated {
-        works.iter_mut().for_each(|work| work.runs(ROUNDS));
-        listings.iter_mut().for_each(|listing| listing.runs(ROUNDS));
-    } else {
-        for _ in 0..ROUNDS {
-            works.iter_mut().for_each(|work| work.runs(1));
-            listings.iter_mut().for_each(|listing| listing.runs(1));
-        }
+    let block = if repeated { BLOCK } else { 1 };
+    for _ in 0..RUNS / block {
+        works.iter_mut().for_each(|work| work.runs(block));
+        listings.iter_mut().for_each(|listing| listing.runs(block));
     }
     works.iter().for_each(Measured::print);
     println!();
