@@ -76,18 +76,11 @@ lower-first a b h = rw (lt-ltb a b h)
 pub lower-second : (a b : ℕ) → b ≤ a → lower a b ≡ b
 lower-second a b h = rw (le-ltb a b h)
 
-pub lower-below : (a b n : ℕ) → a < n → b < n → lower a b < n
-lower-below a b n h k = go (ltb a b)
-  where
-    go : (t : Bool) → cond t a b < n
-    go true = h
-    go false = k
-
 -- the lower is no more than the first
-pub lower-under : (a b : ℕ) → a < 2048 → lower a b < 2048
-lower-under a b h = go (ltb a b) refl
+pub lower-below : (a b n : ℕ) → a < n → lower a b < n
+lower-below a b n h = go (ltb a b) refl
   where
-    go : (t : Bool) → ltb a b ≡ t → cond t a b < 2048
+    go : (t : Bool) → ltb a b ≡ t → cond t a b < n
     go true e = h
     go false e = omega (arith, ltb-false a b e)
 

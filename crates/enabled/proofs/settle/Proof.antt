@@ -7,7 +7,7 @@ use Rattle.chains.proofs.Search.{within-more}
 use Rattle.enabled.specs.Enabled.{allLive, placeOf}
 use Rattle.enabled.specs.Store.{placeOr, lower}
 use Rattle.enabled.proofs.Store.{known-few}
-use Rattle.enabled.proofs.Places.{lower-under}
+use Rattle.enabled.proofs.Places.{lower-below}
 use Rattle.enabled.proofs.Arriving.{own-place, own-ready}
 use Rattle.enabled.proofs.settle.Statement.{statement}
 use Rattle.enabled.proofs.settle.Tie as tie
@@ -39,7 +39,7 @@ settle-spec = tie.close (tie.spec
     (λ c κs.
     let s = c .before .before .before .before .before .before .before .before in
     let a = s .args in
-    (rw (c .earlier .ensures) (lower-under (a .own) _ (omega (arith, s .pre .2, known-few (a .heads .now) (a .next .now) (a .ledger .now) (a .used) (s .pre .1)))), s .pre .0))
+    (rw (c .earlier .ensures) (lower-below (a .own) _ 2048 (omega (arith, s .pre .2, known-few (a .heads .now) (a .next .now) (a .ledger .now) (a .used) (s .pre .1)))), s .pre .0))
     (λ c.
     let on = sym (whole (c .before .before .before .before .before .before)) ∙ c .before .before .before .before .before .if1 .taken in
     (c .raise .ensures .0 ∙ rw (c .before .earlier .ensures, c .before .before .place-or .ensures, here (c .before .before .before .before .before .before .before), on), c .raise .ensures .1))

@@ -20,7 +20,7 @@ spend-operands-spec = tie.close (tie.spec
     (λ c κs. search needs)
     (λ c κs.
     let s = c .before .before .before .before in
-    (rw (c .earlier .ensures) (lower-below (s .args .first) (s .args .second) 2048 (s .pre .1) (s .pre .2)), s .pre .0))
+    (rw (c .earlier .ensures) (lower-below (s .args .first) (s .args .second) 2048 (s .pre .1)), s .pre .0))
     (λ c. search needs)
     (λ c.
     let s = c .before .before .before .before .before in
