@@ -17,9 +17,9 @@ use Rattle.chains.specs.Search.{Free}
 use Rattle.matching.specs.Matching.{Matching}
 use Rattle.accept.specs.Accept.{Proper, Alone, Accepted}
 
-pub record Taken (arities heads next flags counts waiting later ledger ledger′ inputs : List ℕ) (i : ℕ) : Type 0 where
+pub record Taken (tables links flags ledger ledger′ inputs : List ℕ) (i : ℕ) : Type 0 where
   pub few : i ≤ length inputs / 20
-  pub matching : Matching arities heads next flags counts waiting later ledger′ i
+  pub matching : Matching tables links flags ledger′ i
   pub taken : tokens i ledger′ ≡ tokens i inputs
   pub size : length ledger′ ≡ length ledger
   pub rest : drop (i * 20) ledger′ ≡ drop (i * 20) ledger
@@ -55,14 +55,14 @@ proper inputs i t e h w =
 pub alone : (inputs l : List ℕ) (i : ℕ) (t : Token) → t ≡ tokenAt inputs i → i < length inputs / 20 → tokens i l ≡ tokens i inputs → Alone inputs → Free (tokens i l) (t .tag) (t .port)
 alone inputs l i t e h same w = rw (same, e) (rw (tokens-first i (length inputs / 20) inputs (omega arith)) at (w i h))
 
-module _ (arities ledger inputs : List ℕ) where
-  pub taken-none : (heads next flags counts waiting later : List ℕ) → Matching arities heads next flags counts waiting later ledger 0 → Taken arities heads next flags counts waiting later ledger ledger inputs 0
-  taken-none heads next flags counts waiting later m = record { few = omega arith; matching = m; taken = refl; size = refl; rest = refl }
+module _ (tables ledger inputs : List ℕ) where
+  pub taken-none : (links flags : List ℕ) → Matching tables links flags ledger 0 → Taken tables links flags ledger ledger inputs 0
+  taken-none links flags m = record { few = omega arith; matching = m; taken = refl; size = refl; rest = refl }
 
   pub taken-more : (l : List ℕ) (i : ℕ) → length l ≡ length ledger → tokens i l ≡ tokens i inputs → drop (i * 20) l ≡ drop (i * 20) ledger → i < length inputs / 20 → length inputs / 20 ≤ length ledger / 20
       → (m : List ℕ) → m ≡ putRow 20 l i (encode (tokenAt inputs i)) → length m ≡ length l → tokens (i + 1) m ≡ tokens i l ++ tokenAt inputs i ∷ []
-      → (heads next flags counts waiting later : List ℕ) → Matching arities heads next flags counts waiting later m (i + 1) → Taken arities heads next flags counts waiting later ledger m inputs (i + 1)
-  taken-more l i len same rest h room m put len′ more heads next flags counts waiting later w =
+      → (links flags : List ℕ) → Matching tables links flags m (i + 1) → Taken tables links flags ledger m inputs (i + 1)
+  taken-more l i len same rest h room m put len′ more links flags w =
       let e : drop (suc i * 20) l ≡ drop (suc i * 20) ledger =
       rw (suc-mul i 20) (sym (drop-drop 20 (i * 20) l) ∙ rw rest (drop-drop 20 (i * 20) ledger)) in
       record {
@@ -73,7 +73,7 @@ module _ (arities ledger inputs : List ℕ) where
         rest = rw (add-one, put) (put-rest l i (encode (tokenAt inputs i)) (length-token (tokenAt inputs i)) (omega arith) ∙ e);
       }
 
-  pub taken-all : (l : List ℕ) (i : ℕ) (heads next flags counts waiting later : List ℕ) → Taken arities heads next flags counts waiting later ledger l inputs i → length inputs / 20 ≤ i → Accepted arities heads next flags counts waiting later ledger l inputs i
-  taken-all l i heads next flags counts waiting later w h =
+  pub taken-all : (l : List ℕ) (i : ℕ) (links flags : List ℕ) → Taken tables links flags ledger l inputs i → length inputs / 20 ≤ i → Accepted tables links flags ledger l inputs i
+  taken-all l i links flags w h =
       let e : i ≡ length inputs / 20 = omega (arith, w .few) in
       record { all = e; matching = w .matching; taken = w .taken ∙ ap (λ (k : ℕ). tokens k inputs) e; size = w .size; rest = w .rest }

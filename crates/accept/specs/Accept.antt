@@ -19,9 +19,9 @@ abbrev pub Alone : (inputs : List ℕ) → Type 0
 Alone inputs = (i : ℕ) → i < length inputs / 20 → Free (take i (allRows 20 decode inputs)) (tokenAt inputs i .tag) (tokenAt inputs i .port)
 
 -- 01, "Firing": "An accepted run first .. writes its inputs to the ledger": `ledger` is as lent, `ledger′` has the r inputs
-pub record Accepted (arities heads next flags counts waiting later ledger ledger′ inputs : List ℕ) (r : ℕ) : Type 0 where
+pub record Accepted (tables links flags ledger ledger′ inputs : List ℕ) (r : ℕ) : Type 0 where
   pub all : r ≡ length inputs / 20
-  pub matching : Matching arities heads next flags counts waiting later ledger′ r
+  pub matching : Matching tables links flags ledger′ r
   pub taken : tokens r ledger′ ≡ allRows 20 decode inputs
   pub size : length ledger′ ≡ length ledger
   -- 01, "Tokens and tags": "bytes past what is written stay as lent"

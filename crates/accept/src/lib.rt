@@ -48,35 +48,20 @@ pub fn pick_at(picks: &[u8], k: usize) -> usize
 
 // The input tokens arrive in their order in an empty ledger. The answer is how many they are.
 pub fn inputs(
-    arities: &[u8],
-    heads: &mut [u16; 4096],
-    next: &mut [u16; 2048],
-    flags: &mut [u64; 33],
-    counts: &mut [u16; 36],
-    waiting: &mut [u16; 1024],
-    later: &mut [u16; 2048],
+    tables: &[u16; 512],
+    links: &mut [u16; 9216],
+    flags: &mut [u64; 69],
     ledger: &mut [u8],
     inputs: &[u8],
 ) -> usize
-    requires { ⌜ Matching (now arities) (now heads) (now next) (now flags) (now counts) (now waiting) (now later) (now ledger) 0 × (length (now inputs) / 20 ≤ length (now ledger) / 20) × (length (now ledger) / 20 ≤ 2048) × All Proper (allRows 20 decode (now inputs)) × Alone (now inputs) ⌝ }
-    ensures { λ r. ⌜ Accepted (now (arities .entry)) (now (heads .exit)) (now (next .exit)) (now (flags .exit)) (now (counts .exit)) (now (waiting .exit)) (now (later .exit)) (now (ledger .entry)) (now (ledger .exit)) (now (inputs .entry)) r ⌝ }
+    requires { ⌜ Matching (now tables) (now links) (now flags) (now ledger) 0 × (length (now inputs) / 20 ≤ length (now ledger) / 20) × (length (now ledger) / 20 ≤ 2048) × All Proper (allRows 20 decode (now inputs)) × Alone (now inputs) ⌝ }
+    ensures { λ r. ⌜ Accepted (now (tables .entry)) (now (links .exit)) (now (flags .exit)) (now (ledger .entry)) (now (ledger .exit)) (now (inputs .entry)) r ⌝ }
 {
     let n = inputs.len() / 20;
     let mut i = 0;
     while i < n {
         let t = token::token_at(inputs, i);
-        matching::arrive(
-            arities,
-            heads,
-            next,
-            flags,
-            counts,
-            waiting,
-            later,
-            ledger,
-            i,
-            t,
-        );
+        matching::arrive(tables, links, flags, ledger, i, t);
         i += 1;
     }
     i

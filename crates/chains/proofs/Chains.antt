@@ -11,7 +11,8 @@ use lib.ListN.{length, getD, set, length-set, length-append, length-map, List·g
 use lib.Seq.{getD-set-same, getD-set-other, getD-append-seam}
 use borrow.Author.Tests.{eqb-true, eqb-false, ne-eqb}
 use Rattle.record.specs.declared.token.Token.{Token}
-use Rattle.chains.specs.Chains.{lastBelow, Linked, Chained}
+use Rattle.chains.specs.Chains.{lastBelow, part, Linked, Chained}
+use Rattle.chains.proofs.Parts.{length-part, getD-part, part-set, part-before, part-past}
 
 -- ---- the last place of a key
 
@@ -113,38 +114,57 @@ module _ (size : ℕ) (heads next ks : List ℕ) (room : length ks < 2048) (w : 
           link = rw e next-after;
         }
 
--- ---- tokens
+-- ---- tokens, and chains that stand in one array
 
-module _ (size : ℕ) (key : Token → ℕ) (heads next : List ℕ) where
+module _ (from size : ℕ) (key : Token → ℕ) (links : List ℕ) where
   -- none
-  pub chained-none : length heads ≡ size → length next ≡ 2048 → ((c : ℕ) → getD heads c 0 ≡ 0) → Chained size key heads next []
+  pub chained-none : from + size + 2048 ≤ length links → ((i : ℕ) → getD links i 0 ≡ 0) → Chained from size key links []
   unfolding Chained
-  chained-none h n z = record { head-count = h; next-count = n; few = omega arith; first = λ c g. z c; link = λ i g k. absurd (not-suc-le-zero g) }
+  chained-none h z = record {
+    head-count = length-part from size links (omega arith);
+    next-count = length-part (from + size) 2048 links h;
+    few = omega arith;
+    first = λ c g. getD-part from size links c g ∙ z (c + from);
+    link = λ i g k. absurd (not-suc-le-zero g);
+  }
 
-  module _ (ts : List Token) (w : Chained size key heads next ts) where
+  module _ (ts : List Token) (w : Chained from size key links ts) where
     pub chained-few : length ts ≤ 2048
     unfolding Chained
     chained-few = omega (arith, w .few, length-map ts key)
 
-    pub chained-size : length heads ≡ size
-    unfolding Chained
-    chained-size = w .head-count
-
     -- tokens of the same keys
-    pub chained-same : (us : List Token) → map key us ≡ map key ts → Chained size key heads next us
+    pub chained-same : (us : List Token) → map key us ≡ map key ts → Chained from size key links us
     unfolding Chained
     chained-same us e = rw e w
 
-    module _ (t : Token) (used : ℕ) (len : length ts ≡ used) (room : used < 2048) where
-      pub chained-off : key t ≡ 0 → Chained size key heads next (ts ++ t ∷ [])
-      unfolding Chained
-      chained-off e = rw (map-append key ts (t ∷ []), e) (linked-off size heads next (map key ts) (omega (arith, length-map ts key)) w)
+    -- a store beside them
+    pub chained-before : (j v : ℕ) → j < from → Chained from size key (set links j v) ts
+    unfolding Chained
+    chained-before j v h = rw (part-before from size links j v h, part-before (from + size) 2048 links j v (omega arith)) w
 
-      pub chained-on : (c : ℕ) → c < size → key t ≡ suc c → Chained size key (set heads c (used + 1)) (set next used (getD heads c 0)) (ts ++ t ∷ [])
+    pub chained-past : (j v : ℕ) → from + size + 2048 ≤ j → Chained from size key (set links j v) ts
+    unfolding Chained
+    chained-past j v h = rw (part-past from size links j v (omega arith), part-past (from + size) 2048 links j v h) w
+
+    module _ (t : Token) (used : ℕ) (len : length ts ≡ used) (room : used < 2048) where
+      pub chained-off : key t ≡ 0 → Chained from size key links (ts ++ t ∷ [])
+      unfolding Chained
+      chained-off e = rw (map-append key ts (t ∷ []), e) (linked-off size (part from size links) (part (from + size) 2048 links) (map key ts) (omega (arith, length-map ts key)) w)
+
+      pub chained-on : (c : ℕ) → c < size → key t ≡ suc c
+          → Chained from size key (set (set links (used + (from + size)) (getD links (c + from) 0)) (c + from) (used + 1)) (ts ++ t ∷ [])
       unfolding Chained
       chained-on c low e =
           let k : length (map key ts) ≡ used = length-map ts key ∙ len in
-          rw (map-append key ts (t ∷ []), e, add-one, ← k) (linked-on size heads next (map key ts) (omega arith) w c low)
+          let x = getD links (c + from) 0 in
+          let m = set links (used + (from + size)) x in
+          let heads : part from size (set m (c + from) (used + 1)) ≡ set (part from size links) c (used + 1) =
+          part-set from size m c (used + 1) low ∙ ap (λ (l : List ℕ). set l c (used + 1)) (part-past from size links (used + (from + size)) x (omega arith)) in
+          let next : part (from + size) 2048 (set m (c + from) (used + 1)) ≡ set (part (from + size) 2048 links) used x =
+          part-before (from + size) 2048 m (c + from) (used + 1) (omega arith) ∙ part-set (from + size) 2048 links used x room in
+          rw (heads, next, map-append key ts (t ∷ []), e, ← getD-part from size links c low, add-one, ← k)
+          (linked-on size (part from size links) (part (from + size) 2048 links) (map key ts) (omega arith) w c low)
 
 pub key-at : (key : Token → ℕ) (ts : List Token) (i : ℕ) (d : Token) → i < length ts → getD (map key ts) i 0 ≡ key (getD ts i d)
 key-at key [] i d h = absurd (not-suc-le-zero h)
@@ -159,16 +179,16 @@ pub record On (c : ℕ) (ks : List ℕ) (at : ℕ) : Type 0 where
   pub small : at ≤ 2048
   pub here : at ≡ lastBelow (suc c) ks at
 
-module _ (size : ℕ) (key : Token → ℕ) (heads next : List ℕ) (ts : List Token) (w : Chained size key heads next ts) (c : ℕ) (low : c < size) where
-  pub walk-first : getD heads c 0 ≡ lastBelow (suc c) (map key ts) (length ts)
+module _ (from size : ℕ) (key : Token → ℕ) (links : List ℕ) (ts : List Token) (w : Chained from size key links ts) (c : ℕ) (low : c < size) where
+  pub walk-first : getD links (c + from) 0 ≡ lastBelow (suc c) (map key ts) (length ts)
   unfolding Chained
-  walk-first = w .first c low ∙ rw (length-map ts key)
+  walk-first = sym (getD-part from size links c low) ∙ w .first c low ∙ rw (length-map ts key)
 
-  pub on-first : On c (map key ts) (getD heads c 0)
+  pub on-first : On c (map key ts) (getD links (c + from) 0)
   unfolding Chained
   on-first =
       let ks = map key ts in
-      rw (w .first c low) (record {
+      rw (← getD-part from size links c low, w .first c low) (record {
         below = last-le (suc c) ks (length ks);
         small = omega (arith, last-le (suc c) ks (length ks), w .few);
         here = last-again (suc c) ks (length ks);
@@ -178,14 +198,16 @@ module _ (size : ℕ) (key : Token → ℕ) (heads next : List ℕ) (ts : List T
     pub on-key : getD (map key ts) i 0 ≡ suc c
     on-key = last-is (suc c) (map key ts) i (on .here)
 
-    pub walk-next : getD next i 0 ≡ lastBelow (suc c) (map key ts) i
+    pub walk-next : getD links (i + (from + size)) 0 ≡ lastBelow (suc c) (map key ts) i
     unfolding Chained
-    walk-next = let own = on-key in w .link i (on .below) (λ q. omega arith) ∙ rw own
+    walk-next =
+        let own = on-key in
+        sym (getD-part (from + size) 2048 links i (omega (arith, on .small))) ∙ w .link i (on .below) (λ q. omega arith) ∙ rw own
 
-    pub next-below : getD next i 0 ≤ i
+    pub next-below : getD links (i + (from + size)) 0 ≤ i
     next-below = rw walk-next (last-le (suc c) (map key ts) i)
 
-    pub on-next : On c (map key ts) (getD next i 0)
+    pub on-next : On c (map key ts) (getD links (i + (from + size)) 0)
     on-next =
         let ks = map key ts in
         rw walk-next (record {

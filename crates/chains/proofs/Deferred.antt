@@ -1,5 +1,5 @@
 -- Laws of the chains of deferred tokens: a walk along that of a cell wakes every token deferred on it. Assumes nothing.
-use Prim.Native.Nat.{ℕ, zero, suc, _-_, _≤_, _<_}
+use Prim.Native.Nat.{ℕ, zero, suc, _+_, _-_, _≤_, _<_}
 use mathlib.Core.Path.{_≡_, refl, sym, ap, _∙_}
 use mathlib.Core.Bool.{Bool, true, false, cond}
 use mathlib.Core.List.{List, [], _∷_, _++_, map, append-assoc, append-nil}
@@ -13,8 +13,9 @@ use borrow.Author.Tests.{eqb-true, eqb-false, eq-eqb, ne-eqb}
 use Rattle.record.specs.declared.token.Token.{Token}
 use Rattle.record.specs.declared.token.Content.{Content}
 use Rattle.record.specs.declared.token.Content.the-variants.{Live, Spent, Deferred}
-use Rattle.chains.specs.Chains.{lastBelow, Chained}
+use Rattle.chains.specs.Chains.{lastBelow, part, Linked, Chained}
 use Rattle.chains.specs.Deferred.{keyOf, cellKey, Waiting, contentWoken, woken}
+use Rattle.chains.proofs.Parts.{part-set, part-before}
 use Rattle.chains.proofs.Chains.{last-same, last-none, key-at, On, walk-first, on-first, walk-next, next-below, on-next}
 
 -- ---- a list whose elements from a place on are changed
@@ -97,12 +98,12 @@ module _ (cell : ℕ) (v : ℤ) where
   passes : (ts : List Token) (d : Token) (i : ℕ) → i < length ts → (getD (map cellKey ts) i 0 ≡ suc cell → ⊥) → woken cell v (getD ts i d) ≡ getD ts i d
   passes ts d i h e = woken-other (getD ts i d) (λ q. e (key-at cellKey ts i d h ∙ q))
 
-  module _ (heads next : List ℕ) (ts : List Token) (d : Token) (w : Waiting heads next ts) (small : cell < 1024) where
-    pub walk-start : Walk ts ts (getD heads cell 0)
+  module _ (links : List ℕ) (ts : List Token) (d : Token) (w : Waiting links ts) (small : cell < 1024) where
+    pub walk-start : Walk ts ts (getD links (cell + 6144) 0)
     walk-start =
         let ks = map cellKey ts in
-        let on = on-first 1024 cellKey heads next ts w cell small in
-        let h = walk-first 1024 cellKey heads next ts w cell small in
+        let on = on-first 6144 1024 cellKey links ts w cell small in
+        let h = walk-first 6144 1024 cellKey links ts w cell small in
         record {
           on = on;
           low = omega (arith, on .below, length-map ts cellKey);
@@ -110,20 +111,20 @@ module _ (cell : ℕ) (v : ℤ) where
         }
 
     pub walk-step : (us : List Token) (at : ℕ) → (at ≡ 0 → ⊥) → Walk ts us at
-        → (getD next (at - 1) 0 < at) × Walk ts (set us (at - 1) (woken cell v (getD us (at - 1) d))) (getD next (at - 1) 0)
+        → (getD links (at - 1 + 7168) 0 < at) × Walk ts (set us (at - 1) (woken cell v (getD us (at - 1) d))) (getD links (at - 1 + 7168) 0)
     walk-step us zero z m = absurd (z refl)
     walk-step us (suc i) z m =
         let ks = map cellKey ts in
         let g : i < length ts = m .low in
-        let h = walk-next 1024 cellKey heads next ts w cell small i (m .on) in
-        let below = next-below 1024 cellKey heads next ts w cell small i (m .on) in
+        let h = walk-next 6144 1024 cellKey links ts w cell small i (m .on) in
+        let below = next-below 6144 1024 cellKey links ts w cell small i (m .on) in
         let e : suc i - 1 ≡ i = omega arith in
         let u : getD us i d ≡ getD ts i d = ap (λ (q : List Token). getD q i d) (m .so-far) ∙ above-at (woken cell v) ts (suc i) i d (omega arith) g in
         let s : set us i (woken cell v (getD us i d)) ≡ above (woken cell v) ts i = rw (u, m .so-far) (above-step (woken cell v) ts i d g) in
         rw e (
           omega arith,
           record {
-            on = on-next 1024 cellKey heads next ts w cell small i (m .on);
+            on = on-next 6144 1024 cellKey links ts w cell small i (m .on);
             low = omega arith;
             so-far = rw h (s ∙ above-skip (woken cell v) ts (suc cell) ks d (passes ts d) i (le-of-lt g));
           },
@@ -161,9 +162,8 @@ module _ (cell : ℕ) (v : ℤ) (ts : List Token) where
           rw (key-set cell v ts i h k) (ne-eqb 0 (suc cell) (λ z. omega arith))
       go false e = rw (key-kept cell v ts i h (eqb-false (getD (map cellKey ts) i 0) (suc cell) e)) e
 
-  pub waiting-woken : (heads next : List ℕ) → cell < 1024 → Waiting heads next ts → Waiting (set heads cell 0) next (map (woken cell v) ts)
-  unfolding Chained
-  waiting-woken heads next low w =
+  linked-woken : (heads next : List ℕ) → cell < 1024 → Linked 1024 heads next keys → Linked 1024 (set heads cell 0) next keys′
+  linked-woken heads next low w =
       let n : length (map cellKey ts) ≡ length ts = length-map ts cellKey in
       let n′ : length (map cellKey (map (woken cell v) ts)) ≡ length ts = length-map (map (woken cell v) ts) cellKey ∙ length-map ts (woken cell v) in
       record {
@@ -192,3 +192,10 @@ module _ (cell : ℕ) (v : ℤ) (ts : List Token) where
           let y = key-kept cell v ts i g x in
           let z : getD (map cellKey ts) i 0 ≡ 0 → ⊥ = λ q. k (y ∙ q) in
           rw y (w .link i (omega arith) z ∙ sym (last-same (getD (map cellKey ts) i 0) keys′ keys i (λ j q. other-key (getD (map cellKey ts) i 0) j (omega arith) x z)))
+
+  -- the cell's chain is emptied
+  pub waiting-woken : (links : List ℕ) → cell < 1024 → Waiting links ts → Waiting (set links (cell + 6144) 0) (map (woken cell v) ts)
+  unfolding Chained
+  waiting-woken links low w =
+      rw (part-set 6144 1024 links cell 0 low, part-before 7168 2048 links (cell + 6144) 0 (omega arith))
+      (linked-woken (part 6144 1024 links) (part 7168 2048 links) low w)

@@ -1,5 +1,5 @@
 -- Laws of the chains by tag and port: a walk along one finds what a scan of the ledger finds. Assumes nothing.
-use Prim.Native.Nat.{ℕ, zero, suc, _-_, _≤_, _<_}
+use Prim.Native.Nat.{ℕ, zero, suc, _+_, _-_, _≤_, _<_}
 use mathlib.Core.Path.{_≡_, refl, sym, ap, _∙_}
 use mathlib.Core.Bool.{Bool, true, false, _&&_, cond}
 use mathlib.Core.List.{List, map}
@@ -94,29 +94,30 @@ module _ (l : List ℕ) (n : ℕ) (tag : Tag) (port : ℕ) where
       let k : i < n = omega arith in
       key-at bucketKey (tokens n l) i d (rw (length-rows 20 decode n l) k) ∙ ap bucketKey (getD-rows 20 decode n i l d k) ∙ stands-key tag port d q ∙ ap suc (sym e)
 
-  module _ (heads next : List ℕ) (w : Indexed heads next (tokens n l)) (b : ℕ) (e : b ≡ bucketOf tag port) (small : b < 4096) where
+  module _ (links : List ℕ) (w : Indexed links (tokens n l)) (b : ℕ) (e : b ≡ bucketOf tag port) (small : b < 4096) where
     keys : length (map bucketKey (tokens n l)) ≡ n
     keys = length-map (tokens n l) bucketKey ∙ length-rows 20 decode n l
 
-    pub walk-start : Walk b (getD heads b 0) 0
+    pub walk-start : Walk b (getD links b 0) 0
     walk-start =
         let ks = map bucketKey (tokens n l) in
-        let on = on-first 4096 bucketKey heads next (tokens n l) w b small in
-        let h : getD heads b 0 ≡ lastBelow (suc b) ks n = walk-first 4096 bucketKey heads next (tokens n l) w b small ∙ rw (length-rows 20 decode n l) in
+        let here : b + 0 ≡ b = omega arith in
+        let on = rw here at (on-first 0 4096 bucketKey links (tokens n l) w b small) in
+        let h : getD links b 0 ≡ lastBelow (suc b) ks n = (rw here at (walk-first 0 4096 bucketKey links (tokens n l) w b small)) ∙ rw (length-rows 20 decode n l) in
         record { on = on; low = omega (arith, on .below, keys); same = rw h (earliest-skip stands (suc b) ks n 0 (in-bucket b e n (omega arith))) }
 
-    pub walk-step : (at best : ℕ) → (at ≡ 0 → ⊥) → Walk b at best → (getD next (at - 1) 0 < at) × Walk b (getD next (at - 1) 0) (cond (stands (at - 1)) at best)
+    pub walk-step : (at best : ℕ) → (at ≡ 0 → ⊥) → Walk b at best → (getD links (at - 1 + 4096) 0 < at) × Walk b (getD links (at - 1 + 4096) 0) (cond (stands (at - 1)) at best)
     walk-step zero best z v = absurd (z refl)
     walk-step (suc i) best z v =
         let ks = map bucketKey (tokens n l) in
         let on = v .on in
-        let h = walk-next 4096 bucketKey heads next (tokens n l) w b small i on in
-        let below = next-below 4096 bucketKey heads next (tokens n l) w b small i on in
+        let h = walk-next 0 4096 bucketKey links (tokens n l) w b small i on in
+        let below = next-below 0 4096 bucketKey links (tokens n l) w b small i on in
         let d : suc i - 1 ≡ i = omega arith in
         rw d (
           omega arith,
           record {
-            on = on-next 4096 bucketKey heads next (tokens n l) w b small i on;
+            on = on-next 0 4096 bucketKey links (tokens n l) w b small i on;
             low = omega (arith, v .low);
             same = v .same ∙ rw h (earliest-skip stands (suc b) ks i (cond (stands i) (suc i) best) (in-bucket b e i (omega (arith, v .low))));
           },

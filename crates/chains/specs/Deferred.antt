@@ -34,5 +34,5 @@ keyOf (Deferred cell) = suc cell
 abbrev pub cellKey : Token → ℕ
 cellKey t = keyOf (t .content)
 
-abbrev pub Waiting : (waiting later : List ℕ) → List Token → Type 0
-Waiting waiting later ts = Chained 1024 cellKey waiting later ts
+abbrev pub Waiting : (links : List ℕ) → List Token → Type 0
+Waiting links ts = Chained 6144 1024 cellKey links ts

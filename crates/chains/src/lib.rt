@@ -1,5 +1,5 @@
 // Chains through the tokens of a ledger: by tag and port, and by the cell that a token is deferred on. A walk
-// along one finds what a scan of the ledger finds.
+// along one finds what a scan of the ledger finds. All chains stand in one array, `links`, by these parts.
 use record::tag::Tag;
 use record::token;
 use record::token::Content;
@@ -12,6 +12,14 @@ ghost use Rattle.record.specs.TokensAndTags.{tokens, standsAt};
 ghost use Rattle.chains.specs.Search.{firstFrom, foundOf, Within};
 ghost use Rattle.chains.specs.Chains.{bucketOf, Indexed};
 ghost use Rattle.chains.specs.Deferred.{LowCell, Waiting};
+
+// Heads by tag and port from 0 on, and for each place the link to the one before it.
+const NEXT: usize = 4096;
+
+// Heads by cell, and for each place the link to the one before it that is deferred on the cell.
+pub const WAITING: usize = 6144;
+
+pub const LATER: usize = 7168;
 
 // The place of what a search finds.
 pub enum Found {
@@ -48,19 +56,12 @@ fn found_of(best: usize) -> Found
 
 // The first of the used records that stands at a port of a tag. A chain goes from the last record to the
 // first, so the whole chain is walked.
-pub fn find(
-    heads: &[u16; 4096],
-    next: &[u16; 2048],
-    ledger: &[u8],
-    used: usize,
-    tag: Tag,
-    port: u8,
-) -> Found
-    requires { ⌜ (used ≤ length (now ledger) / 20) × Indexed (now heads) (now next) (tokens used (now ledger)) ⌝ }
+pub fn find(links: &[u16; 9216], ledger: &[u8], used: usize, tag: Tag, port: u8) -> Found
+    requires { ⌜ (used ≤ length (now ledger) / 20) × Indexed (now links) (tokens used (now ledger)) ⌝ }
     ensures { λ r. ⌜ (r ≡ firstFrom (standsAt tag port) 0 (tokens used (now (ledger .entry)))) × Within r used ⌝ }
 {
     let b = bucket(tag, port);
-    let mut at = wide(heads[b]);
+    let mut at = wide(links[b]);
     let mut best: usize = 0;
     while at != 0 {
         let i = at - 1;
@@ -68,42 +69,37 @@ pub fn find(
         if token::stands_at(t, tag, port) {
             best = at;
         }
-        at = wide(next[i]);
+        at = wide(links[i + NEXT]);
     }
     found_of(best)
 }
 
-// Puts place `used` at the head of chain c.
-fn link(heads: &mut [u16], next: &mut [u16; 2048], used: usize, c: usize)
-    requires { ⌜ (c < length (now heads)) × (used < 2048) ⌝ }
-    ensures { λ _. ⌜ now (heads .exit) ≡ set (now (heads .entry)) c (used + 1) ⌝ }
-    ensures { λ _. ⌜ now (next .exit) ≡ set (now (next .entry)) used (getD (now (heads .entry)) c 0) ⌝ }
+// Puts place `used` at the head of a chain: its link is at `link`, the head at `head`.
+fn link(links: &mut [u16; 9216], head: usize, link: usize, used: usize)
+    requires { ⌜ (head < 9216) × (link < 9216) × (used < 2048) ⌝ }
+    ensures { λ _. ⌜ now (links .exit) ≡ set (set (now (links .entry)) link (getD (now (links .entry)) head 0)) head (used + 1) ⌝ }
 {
-    next[used] = heads[c];
-    heads[c] = (used + 1) as u16;
+    let last = links[head];
+    links[link] = last;
+    links[head] = (used + 1) as u16;
 }
 
-// Enters a token that stands at place `used`, after those before it.
-pub fn insert(heads: &mut [u16; 4096], next: &mut [u16; 2048], used: usize, t: Token)
-    requires { ⌜ used < 2048 ⌝ }
-    ensures { λ _. ⌜ ((ts : List Token) → length ts ≡ used → Indexed (now (heads .entry)) (now (next .entry)) ts → Indexed (now (heads .exit)) (now (next .exit)) (ts ++ t ∷ [])) ⌝ }
+// Enters a token that stands at place `used`, after those before it: in the chain of its tag and port and, if it is
+// deferred, in that of its cell.
+pub fn enter(links: &mut [u16; 9216], used: usize, t: Token)
+    requires { ⌜ (used < 2048) × LowCell (t .content) ⌝ }
+    ensures { λ _. ⌜ ((ts : List Token) → length ts ≡ used → Indexed (now (links .entry)) ts → Indexed (now (links .exit)) (ts ++ t ∷ [])) ⌝ }
+    ensures { λ _. ⌜ ((ts : List Token) → length ts ≡ used → Waiting (now (links .entry)) ts → Waiting (now (links .exit)) (ts ++ t ∷ [])) ⌝ }
 {
     let tag = t.tag;
     let b = bucket(tag, t.port);
-    link(heads, next, used, b);
-}
-
-// Enters a token that stands at place `used` in the chain of the cell that it is deferred on.
-pub fn note(waiting: &mut [u16; 1024], later: &mut [u16; 2048], used: usize, t: Token)
-    requires { ⌜ (used < 2048) × LowCell (t .content) ⌝ }
-    ensures { λ _. ⌜ ((ts : List Token) → length ts ≡ used → Waiting (now (waiting .entry)) (now (later .entry)) ts → Waiting (now (waiting .exit)) (now (later .exit)) (ts ++ t ∷ [])) ⌝ }
-{
+    link(links, b, used + NEXT, used);
     let content = t.content;
     match content {
         Content::Live(_) => {}
         Content::Spent(_) => {}
         Content::Deferred(cell) => {
-            link(waiting, later, used, cell as usize);
+            link(links, (cell as usize) + WAITING, used + LATER, used);
         }
     }
 }

@@ -108,11 +108,11 @@ effect-refused capacity ts cs i j p = rw p
 -- ---- the code's answer
 
 -- nothing was written
-pub left-refused : {arities heads next flags counts waiting later ledger cells : List ℕ} {used i j : ℕ} → Lent arities heads next flags counts waiting later ledger cells used i j
-    → {x : Committed} {r : Refusal} → x ≡ refused r → Left (Fires.Refused r) x arities heads next flags counts waiting later ledger cells used ledger cells
+pub left-refused : {tables links flags ledger cells : List ℕ} {used i j : ℕ} → Lent tables links flags ledger cells used i j
+    → {x : Committed} {r : Refusal} → x ≡ refused r → Left (Fires.Refused r) x tables links flags ledger cells used ledger cells
 left-refused l e = rw e (refl, refl, refl, l .matching)
 
-pub left-done : {arities heads next flags counts waiting later ledger′ cells′ : List ℕ} (used : ℕ) {n m : ℕ} {ts : List Token} {cs : List Cell} {ledger cells : List ℕ} {x : Committed}
-    → x ≡ done ts cs → n ≡ m → Kept arities heads next flags counts waiting later ledger′ m ts ledger → CellsKept cells′ cs cells
-    → Left (Fires.Done n) x arities heads next flags counts waiting later ledger′ cells′ used ledger cells
+pub left-done : {tables links flags ledger′ cells′ : List ℕ} (used : ℕ) {n m : ℕ} {ts : List Token} {cs : List Cell} {ledger cells : List ℕ} {x : Committed}
+    → x ≡ done ts cs → n ≡ m → Kept tables links flags ledger′ m ts ledger → CellsKept cells′ cs cells
+    → Left (Fires.Done n) x tables links flags ledger′ cells′ used ledger cells
 left-done used e p k c = rw (e, p) (k, c)

@@ -18,13 +18,9 @@ pub enum Fired {
 
 // An action on ledger and cells. What refuses it is asked before anything is written: 11, then 8 and 9.
 fn act(
-    arities: &[u8],
-    heads: &mut [u16; 4096],
-    next: &mut [u16; 2048],
-    flags: &mut [u64; 33],
-    counts: &mut [u16; 36],
-    waiting: &mut [u16; 1024],
-    later: &mut [u16; 2048],
+    tables: &[u16; 512],
+    links: &mut [u16; 9216],
+    flags: &mut [u64; 69],
     ledger: &mut [u8],
     cells: &mut [u8],
     used: usize,
@@ -33,23 +29,19 @@ fn act(
     action: Action,
     sent: Outputs,
 ) -> Fired
-    requires { ⌜ Lent (now arities) (now heads) (now next) (now flags) (now counts) (now waiting) (now later) (now ledger) (now cells) used first second × Fitting (length (now cells) / 8) (Effect.Act action sent) ⌝ }
-    ensures { λ r. ⌜ Left r (committedOf (length (now (ledger .entry)) / 20) (tokens used (now (ledger .entry))) (cellsIn (now (cells .entry))) first second (Effect.Act action sent)) (now (arities .entry)) (now (heads .exit)) (now (next .exit)) (now (flags .exit)) (now (counts .exit)) (now (waiting .exit)) (now (later .exit)) (now (ledger .exit)) (now (cells .exit)) used (now (ledger .entry)) (now (cells .entry)) ⌝ }
+    requires { ⌜ Lent (now tables) (now links) (now flags) (now ledger) (now cells) used first second × Fitting (length (now cells) / 8) (Effect.Act action sent) ⌝ }
+    ensures { λ r. ⌜ Left r (committedOf (length (now (ledger .entry)) / 20) (tokens used (now (ledger .entry))) (cellsIn (now (cells .entry))) first second (Effect.Act action sent)) (now (tables .entry)) (now (links .exit)) (now (flags .exit)) (now (ledger .exit)) (now (cells .exit)) used (now (ledger .entry)) (now (cells .entry)) ⌝ }
 {
     if outputs::writes_again(cells, action) {
         return Fired::Refused(Refusal::SecondWrite);
     }
-    let admitted = operands::admit(heads, next, ledger, used, sent);
+    let admitted = operands::admit(links, ledger, used, sent);
     match admitted {
         Admitted::No(r) => Fired::Refused(r),
         Admitted::Yes => Fired::Done(outputs::carry_out(
-            arities,
-            heads,
-            next,
+            tables,
+            links,
             flags,
-            counts,
-            waiting,
-            later,
             ledger,
             cells,
             used,
@@ -63,13 +55,9 @@ fn act(
 
 // An effect on ledger and cells. A refusal leaves both as they were.
 pub fn commit(
-    arities: &[u8],
-    heads: &mut [u16; 4096],
-    next: &mut [u16; 2048],
-    flags: &mut [u64; 33],
-    counts: &mut [u16; 36],
-    waiting: &mut [u16; 1024],
-    later: &mut [u16; 2048],
+    tables: &[u16; 512],
+    links: &mut [u16; 9216],
+    flags: &mut [u64; 69],
     ledger: &mut [u8],
     cells: &mut [u8],
     used: usize,
@@ -77,19 +65,15 @@ pub fn commit(
     second: usize,
     effect: Effect,
 ) -> Fired
-    requires { ⌜ Lent (now arities) (now heads) (now next) (now flags) (now counts) (now waiting) (now later) (now ledger) (now cells) used first second × Fitting (length (now cells) / 8) effect ⌝ }
-    ensures { λ r. ⌜ Left r (committedOf (length (now (ledger .entry)) / 20) (tokens used (now (ledger .entry))) (cellsIn (now (cells .entry))) first second effect) (now (arities .entry)) (now (heads .exit)) (now (next .exit)) (now (flags .exit)) (now (counts .exit)) (now (waiting .exit)) (now (later .exit)) (now (ledger .exit)) (now (cells .exit)) used (now (ledger .entry)) (now (cells .entry)) ⌝ }
+    requires { ⌜ Lent (now tables) (now links) (now flags) (now ledger) (now cells) used first second × Fitting (length (now cells) / 8) effect ⌝ }
+    ensures { λ r. ⌜ Left r (committedOf (length (now (ledger .entry)) / 20) (tokens used (now (ledger .entry))) (cellsIn (now (cells .entry))) first second effect) (now (tables .entry)) (now (links .exit)) (now (flags .exit)) (now (ledger .exit)) (now (cells .exit)) used (now (ledger .entry)) (now (cells .entry)) ⌝ }
 {
     match effect {
         Effect::Refuse(r) => Fired::Refused(r),
         Effect::Act(action, sent) => act(
-            arities,
-            heads,
-            next,
+            tables,
+            links,
             flags,
-            counts,
-            waiting,
-            later,
             ledger,
             cells,
             used,

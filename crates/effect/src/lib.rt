@@ -16,15 +16,15 @@ ghost use Rattle.rules.specs.Check.{checkGraph};
 ghost use Rattle.effect.specs.Held.{Effected, Returns};
 
 // The effect of the activity of a tag, whose operands on ports 0 and 1 are a and b: instruction fetch,
-// operation, new tags, outputs. `returns` has the return instruction of each site. The graph has passed
+// operation, new tags, outputs. `tables` has the return instruction of each site. The graph has passed
 // its check, so that a site or a LEAVE constant is at most a byte, and an instruction of the graph fits
 // 16 bits.
-pub fn effect(graph: &[u8], returns: &[u16; 256], cells: usize, tag: Tag, a: i32, b: i32) -> Effect
+pub fn effect(graph: &[u8], tables: &[u16; 512], cells: usize, tag: Tag, a: i32, b: i32) -> Effect
     requires { ⌜ checkGraph (now graph) ≡ Passed ⌝ }
-    requires { ⌜ Returns (now returns) (graphOf (now graph)) ⌝ }
+    requires { ⌜ Returns (now tables) (graphOf (now graph)) ⌝ }
     requires { ⌜ tag .instruction < length (now graph) / 16 ⌝ }
     ensures { λ e. ⌜ Effected (graphOf (now (graph .entry))) cells tag a b e ⌝ }
 {
     let r = instruction::instruction_at(graph, tag.instruction as usize);
-    operate::operate(graph, returns, cells, tag, r, a, b)
+    operate::operate(graph, tables, cells, tag, r, a, b)
 }

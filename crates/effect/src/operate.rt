@@ -144,9 +144,9 @@ fn returned(a: i32, graph: &[u8], entry: u16, k: u8, caller: Tag) -> Effect
 }
 
 // LEAVE. 15: "LEAVE at path 0".
-fn leave(a: i32, graph: &[u8], returns: &[u16; 256], tag: Tag, r: Instruction) -> Effect
+fn leave(a: i32, graph: &[u8], tables: &[u16; 512], tag: Tag, r: Instruction) -> Effect
     requires { ⌜ length (now graph) / 16 ≤ 256 ⌝ }
-    requires { ⌜ Returns (now returns) (graphOf (now graph)) ⌝ }
+    requires { ⌜ Returns (now tables) (graphOf (now graph)) ⌝ }
     requires { ⌜ within 0 255 (r .constant) ≡ true ⌝ }
     ensures { λ e. ⌜ Does e (sendLeft (graphOf (now (graph .entry))) (leaveOf tag) r a) ⌝ }
 {
@@ -154,7 +154,7 @@ fn leave(a: i32, graph: &[u8], returns: &[u16; 256], tag: Tag, r: Instruction) -
     let Left::To { site, tag: caller } = tag.leave() else {
         return Effect::Refuse(Refusal::NoCaller);
     };
-    let entry = returns[site as usize];
+    let entry = tables[site as usize];
     returned(a, graph, entry, k, caller)
 }
 
@@ -194,14 +194,14 @@ fn store(a: i32, b: i32, cells: usize, tag: Tag, r: Instruction) -> Effect
 // The effect of an instruction r under a tag, by its operation.
 pub fn operate(
     graph: &[u8],
-    returns: &[u16; 256],
+    tables: &[u16; 512],
     cells: usize,
     tag: Tag,
     r: Instruction,
     a: i32,
     b: i32,
 ) -> Effect
-    requires { ⌜ Ready (now graph) (now returns) r ⌝ }
+    requires { ⌜ Ready (now graph) (now tables) r ⌝ }
     ensures { λ e. ⌜ Does e (effectOf (operationOf (r .code)) (graphOf (now (graph .entry))) cells tag r a b (allUnder tag r)) ⌝ }
 {
     let k = r.constant;
@@ -215,7 +215,7 @@ pub fn operate(
         Operation::Gate => send_all(a, tag, r),
         Operation::Next => next(a, tag, r),
         Operation::Enter => enter(a, tag, r),
-        Operation::Leave => leave(a, graph, returns, tag, r),
+        Operation::Leave => leave(a, graph, tables, tag, r),
         Operation::Fetch => fetch(a, cells, tag, r),
         Operation::Store => store(a, b, cells, tag, r),
         Operation::OnTwo(x) => computed(arithmetic::compute(x, a, b), tag, r),

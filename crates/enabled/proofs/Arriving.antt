@@ -68,27 +68,27 @@ all-before n ts us y still e = go (allLive n ts y) refl
     go true h = sym (kept (eqb n 1) (eqb n 2) h) ∙ e
 
 -- a token arrives, and its tag is not enabled: the flags stay as they are
-pub right-wait : (arities : List ℕ) (ts : List Token) (t : Token) (flags : List ℕ) → Right arities ts flags
-    → let us = ts ++ t ∷ [] in isEnabled arities us (t .tag) ≡ false → flags ≡ set flags (placeOf us (t .tag)) (bit (isEnabled arities us (t .tag)))
+pub right-wait : (tables : List ℕ) (ts : List Token) (t : Token) (flags : List ℕ) → Right tables ts flags
+    → let us = ts ++ t ∷ [] in isEnabled tables us (t .tag) ≡ false → flags ≡ set flags (placeOf us (t .tag)) (bit (isEnabled tables us (t .tag)))
 unfolding Right
-right-wait arities ts t flags w n = rw (tags-append ts t, first-append (t .tag) (tagsOf ts), n) (stays flags p (go (decLe (suc p) (length ts))))
+right-wait tables ts t flags w n = rw (tags-append ts t, first-append (t .tag) (tagsOf ts), n) (stays flags p (go (decLe (suc p) (length ts))))
   where
     p : ℕ
     p = placeOf ts (t .tag)
 
     go : Dec (suc p ≤ length ts) → getD flags p 0 ≡ 0
-    go (yes h) = right-flag arities ts flags (t .tag) h w ∙ ap bit (all-before (arityOf arities (t .tag)) ts (ts ++ t ∷ []) (t .tag) (λ port. live-kept (t .tag) port t ts) n)
-    go (no z) = marked-past tagSame (isEnabled arities ts) (tagsOf ts) flags p (omega (arith, length-map ts tagOf)) w
+    go (yes h) = right-flag tables ts flags (t .tag) h w ∙ ap bit (all-before (arityOf tables (t .tag)) ts (ts ++ t ∷ []) (t .tag) (λ port. live-kept (t .tag) port t ts) n)
+    go (no z) = marked-past tagSame (isEnabled tables ts) (tagsOf ts) flags p (omega (arith, length-map ts tagOf)) w
 
 -- the same of one that is changed
-pub right-still : (arities : List ℕ) (ts : List Token) (i : ℕ) (u d : Token) (flags : List ℕ) → i < length ts → u .tag ≡ getD ts i d .tag → u .port ≡ getD ts i d .port
-    → (isLive (getD ts i d .content) ≡ true → isLive (u .content) ≡ true) → Right arities ts flags
-    → let us = set ts i u in isEnabled arities us (u .tag) ≡ false → flags ≡ set flags (placeOf us (u .tag)) (bit (isEnabled arities us (u .tag)))
-right-still arities ts i u d flags h e g k w n =
+pub right-still : (tables : List ℕ) (ts : List Token) (i : ℕ) (u d : Token) (flags : List ℕ) → i < length ts → u .tag ≡ getD ts i d .tag → u .port ≡ getD ts i d .port
+    → (isLive (getD ts i d .content) ≡ true → isLive (u .content) ≡ true) → Right tables ts flags
+    → let us = set ts i u in isEnabled tables us (u .tag) ≡ false → flags ≡ set flags (placeOf us (u .tag)) (bit (isEnabled tables us (u .tag)))
+right-still tables ts i u d flags h e g k w n =
     let us = set ts i u in
     let place = place-kept ts i u d e (u .tag) in
-    let before = all-before (arityOf arities (u .tag)) ts us (u .tag) (λ port. live-changed (u .tag) port u d ts i e g k) n in
-    rw (n, place) (stays flags (placeOf ts (u .tag)) (right-flag arities ts flags (u .tag) (rw place at (place-set ts i u d h e)) w ∙ ap bit before))
+    let before = all-before (arityOf tables (u .tag)) ts us (u .tag) (λ port. live-changed (u .tag) port u d ts i e g k) n in
+    rw (n, place) (stays flags (placeOf ts (u .tag)) (right-flag tables ts flags (u .tag) (rw place at (place-set ts i u d h e)) w ∙ ap bit before))
 
 -- a flag that is not put down where it is down already
 pub raised-only : (b : Bool) (flags : List ℕ) (p : ℕ) → (b ≡ false → flags ≡ set flags p (bit b)) → raisedIf b flags p ≡ set flags p (bit b)

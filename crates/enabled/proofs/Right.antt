@@ -118,60 +118,60 @@ place-kept ts i u d e tag = ap (firstOf tagSame tag) (map-set-same tagOf ts i u 
 pub stays : (flags : List ℕ) (p : ℕ) → getD flags p 0 ≡ 0 → flags ≡ set flags p 0
 stays flags p e = sym (ap (λ (x : ℕ). set flags p x) (sym e) ∙ set-getD flags p 0)
 
-module _ (arities : List ℕ) where
-  pub right-none : Right arities [] (replicate 2048 0)
+module _ (tables : List ℕ) where
+  pub right-none : Right tables [] (replicate 2048 0)
   unfolding Right
-  right-none = marked-none tagSame (isEnabled arities [])
+  right-none = marked-none tagSame (isEnabled tables [])
 
   -- the flags' ones are the places of the enabled activities, in order, each once
-  pub right-places : (ts : List Token) (flags : List ℕ) → Right arities ts flags → places flags ≡ enabledPlaces arities ts
+  pub right-places : (ts : List Token) (flags : List ℕ) → Right tables ts flags → places flags ≡ enabledPlaces tables ts
   unfolding Right enabledPlaces
   right-places ts flags w =
-      marked-places tagSame tag-equal tag-own (isEnabled arities ts) (tagsOf ts) flags w
-      ∙ where-map tagOf (Marks.leads tagSame (isEnabled arities ts) (tagsOf ts)) 0 ts
+      marked-places tagSame tag-equal tag-own (isEnabled tables ts) (tagsOf ts) flags w
+      ∙ where-map tagOf (Marks.leads tagSame (isEnabled tables ts) (tagsOf ts)) 0 ts
 
-  pub enabled-below : (ts : List Token) (k : ℕ) → k < length (enabledPlaces arities ts) → getD (enabledPlaces arities ts) k 0 < length ts
+  pub enabled-below : (ts : List Token) (k : ℕ) → k < length (enabledPlaces tables ts) → getD (enabledPlaces tables ts) k 0 < length ts
   unfolding enabledPlaces
   enabled-below ts k h = omega (arith, where-below _ 0 ts k h)
 
   -- the token at the place of an enabled activity is the earliest of its tag, and its tag is enabled
-  pub enabled-leads : (ts : List Token) (d : Token) (k : ℕ) → k < length (enabledPlaces arities ts)
-      → let i = getD (enabledPlaces arities ts) k 0 in
-      (placeOf ts (getD ts i d .tag) ≡ i) × (isEnabled arities ts (getD ts i d .tag) ≡ true)
+  pub enabled-leads : (ts : List Token) (d : Token) (k : ℕ) → k < length (enabledPlaces tables ts)
+      → let i = getD (enabledPlaces tables ts) k 0 in
+      (placeOf ts (getD ts i d .tag) ≡ i) × (isEnabled tables ts (getD ts i d .tag) ≡ true)
   unfolding enabledPlaces
   enabled-leads ts d k h =
-      let i = getD (placesWhere (leads arities ts) 0 ts) k 0 in
+      let i = getD (placesWhere (leads tables ts) 0 ts) k 0 in
       let z : i - 0 ≡ i = omega arith in
-      let w : leads arities ts i (getD ts i d) ≡ true = rw z at (where-passes (leads arities ts) 0 ts d k h .1) in
+      let w : leads tables ts i (getD ts i d) ≡ true = rw z at (where-passes (leads tables ts) 0 ts d k h .1) in
       let a = eqb (placeOf ts (getD ts i d .tag)) i in
-      let b = isEnabled arities ts (getD ts i d .tag) in
+      let b = isEnabled tables ts (getD ts i d .tag) in
       (eqb-true (placeOf ts (getD ts i d .tag)) i (and-left a b w), and-right a b w)
 
   -- a token arrives, and the flag of its tag is put
-  pub right-append : (ts : List Token) (t : Token) (flags : List ℕ) → length ts < 2048 → Right arities ts flags
-      → let us = ts ++ t ∷ [] in Right arities us (set flags (placeOf us (t .tag)) (bit (isEnabled arities us (t .tag))))
+  pub right-append : (ts : List Token) (t : Token) (flags : List ℕ) → length ts < 2048 → Right tables ts flags
+      → let us = ts ++ t ∷ [] in Right tables us (set flags (placeOf us (t .tag)) (bit (isEnabled tables us (t .tag))))
   unfolding Right
   right-append ts t flags h w =
       let us = ts ++ t ∷ [] in
       rw (tags-append ts t, first-append (t .tag) (tagsOf ts))
-      (marked-append tagSame tag-equal tag-own (isEnabled arities ts) (isEnabled arities us) (t .tag)
-      (λ y d. all-same (arityOf arities y) us ts y (λ port. live-append y port t (tag-apart (t .tag) y d) ts))
+      (marked-append tagSame tag-equal tag-own (isEnabled tables ts) (isEnabled tables us) (t .tag)
+      (λ y d. all-same (arityOf tables y) us ts y (λ port. live-append y port t (tag-apart (t .tag) y d) ts))
       (tagsOf ts) flags (omega (arith, length-map ts tagOf)) w)
 
   -- a token is replaced by one of its tag, and the flag of the tag is put
-  pub right-set : (ts : List Token) (i : ℕ) (u d : Token) (flags : List ℕ) → i < length ts → u .tag ≡ getD ts i d .tag → Right arities ts flags
-      → let us = set ts i u in Right arities us (set flags (placeOf us (u .tag)) (bit (isEnabled arities us (u .tag))))
+  pub right-set : (ts : List Token) (i : ℕ) (u d : Token) (flags : List ℕ) → i < length ts → u .tag ≡ getD ts i d .tag → Right tables ts flags
+      → let us = set ts i u in Right tables us (set flags (placeOf us (u .tag)) (bit (isEnabled tables us (u .tag))))
   unfolding Right
   right-set ts i u d flags h e w =
       let us = set ts i u in
       let q : firstOf tagSame (u .tag) (tagsOf ts) < length ts = rw (map-set-same tagOf ts i u d e) at (place-set ts i u d h e) in
       let p : firstOf tagSame (u .tag) (tagsOf ts) < length (tagsOf ts) = omega (arith, length-map ts tagOf) in
       rw (map-set-same tagOf ts i u d e)
-      (marked-change tagSame tag-equal tag-own (isEnabled arities ts) (isEnabled arities us) (u .tag)
-      (λ y f. all-same (arityOf arities y) us ts y (λ port. live-set y port u d ts i e f))
+      (marked-change tagSame tag-equal tag-own (isEnabled tables ts) (isEnabled tables us) (u .tag)
+      (λ y f. all-same (arityOf tables y) us ts y (λ port. live-set y port u d ts i e f))
       (tagsOf ts) flags p w)
 
-  pub right-flag : (ts : List Token) (flags : List ℕ) (tag : Tag) → placeOf ts tag < length ts → Right arities ts flags
-      → getD flags (placeOf ts tag) 0 ≡ bit (isEnabled arities ts tag)
+  pub right-flag : (ts : List Token) (flags : List ℕ) (tag : Tag) → placeOf ts tag < length ts → Right tables ts flags
+      → getD flags (placeOf ts tag) 0 ≡ bit (isEnabled tables ts tag)
   unfolding Right
-  right-flag ts flags tag h w = marked-first tagSame tag-equal tag-own (isEnabled arities ts) (tagsOf ts) flags tag (omega (arith, length-map ts tagOf)) w
+  right-flag ts flags tag h w = marked-first tagSame tag-equal tag-own (isEnabled tables ts) (tagsOf ts) flags tag (omega (arith, length-map ts tagOf)) w

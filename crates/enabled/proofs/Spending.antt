@@ -69,7 +69,7 @@ first-spent : (tag : Tag) (ts : List Token) (i : ℕ) (t : Token) → getD ts i 
 unfolding standsAt
 first-spent tag ts i t e = first-set (standsAt tag 0) ts i (spentToken t) t (rw e) 0
 
-module _ (arities heads next flags counts l : List ℕ) (used i : ℕ) (w : Stored arities heads next flags counts l used) (h : i < used) (live : getD l (i * 20 + 16) 0 ≡ 0) where
+module _ (tables links flags l : List ℕ) (used i : ℕ) (w : Stored tables links flags l used) (h : i < used) (live : getD l (i * 20 + 16) 0 ≡ 0) where
   abbrev t : Token
   t = tokenAt l i
 
@@ -79,23 +79,23 @@ module _ (arities heads next flags counts l : List ℕ) (used i : ℕ) (w : Stor
   held : getD (tokens used l) i (tokenAt l i) ≡ tokenAt l i
   held = getD-rows 20 decode used i l (tokenAt l i) h
 
-  moved : Moved arities heads next flags (set l (i * 20 + 16) 1) used i us (spentToken (tokenAt l i))
+  moved : Moved tables links flags (set l (i * 20 + 16) 1) used i us (spentToken (tokenAt l i))
   moved =
       let m = set l (i * 20 + 16) 1 in
       let put : m ≡ putRow 20 l i (encode (spentToken t)) = spent-byte used l (w .bytes) i (signedOf (number32 (drop (i * 20) l) 12)) h (record-live l i live) in
       let f : TokenFits t = rw held at (all-at TokenFits (tokens used l) i t (omega (arith, length-rows 20 decode used l)) (w .fits)) in
-      changed arities heads next flags counts l used i (spentToken t) w h refl refl (spent-fits t f) m put (length-set l (i * 20 + 16) 1)
+      changed tables links flags l used i (spentToken t) w h refl refl (spent-fits t f) m put (length-set l (i * 20 + 16) 1)
 
-  spent : (tag : Tag) → t .tag ≡ tag → (p : ℕ) → placeOf (tokens used l) tag ≡ p → liveAt us tag 0 ≡ false → (flags′ counts′ : List ℕ) → flagsOf flags′ ≡ set (flagsOf flags) p 0 → Counted flags′ counts′
-      → (tokens used (set l (i * 20 + 16) 1) ≡ us) × Stored arities heads next flags′ counts′ (set l (i * 20 + 16) 1) used
-  spent tag e p lead off flags′ counts′ put c =
+  spent : (tag : Tag) → t .tag ≡ tag → (p : ℕ) → placeOf (tokens used l) tag ≡ p → liveAt us tag 0 ≡ false → (flags′ : List ℕ) → flagsOf flags′ ≡ set (flagsOf flags) p 0 → Counted flags′
+      → (tokens used (set l (i * 20 + 16) 1) ≡ us) × Stored tables links flags′ (set l (i * 20 + 16) 1) used
+  spent tag e p lead off flags′ put c =
       let place = place-kept (tokens used l) i (spentToken t) t (ap (λ (x : Token). x .tag) (sym held)) (t .tag) ∙ ap (placeOf (tokens used l)) e ∙ lead in
-      let down = all-off (arityOf arities (t .tag)) us (t .tag) (ap (λ (k : Tag). liveAt us k 0) e ∙ off) in
-      (moved .more, moved .stored flags′ counts′ (put ∙ rw (moved .more, place, down)) c)
+      let down = all-off (arityOf tables (t .tag)) us (t .tag) (ap (λ (k : Tag). liveAt us k 0) e ∙ off) in
+      (moved .more, moved .stored flags′ (put ∙ rw (moved .more, place, down)) c)
 
 -- ---- the operands of an activity are spent
 
-module _ (arities heads next flags counts l : List ℕ) (used i j : ℕ) (w : Stored arities heads next flags counts l used) (o : Operands l used i j) (flags′ counts′ : List ℕ) (put : flagsOf flags′ ≡ set (flagsOf flags) (lower i j) 0) (c : Counted flags′ counts′) where
+module _ (tables links flags l : List ℕ) (used i j : ℕ) (w : Stored tables links flags l used) (o : Operands l used i j) (flags′ : List ℕ) (put : flagsOf flags′ ≡ set (flagsOf flags) (lower i j) 0) (c : Counted flags′) where
   abbrev ts : List Token
   ts = tokens used l
 
@@ -120,13 +120,13 @@ module _ (arities heads next flags counts l : List ℕ) (used i j : ℕ) (w : St
   gone : (d : Token) → getD vs i d ≡ spentToken (tokenAt l i)
   gone d = getD-set-same ts i u d (omega (arith, size, o .firstWithin))
 
-  once : (tokens used m ≡ vs) × Stored arities heads next flags′ counts′ m used
+  once : (tokens used m ≡ vs) × Stored tables links flags′ m used
   once =
       let off = live-off (tokenAt l i .tag) 0 u vs i found (ap (λ (x : Token). isLive (x .content)) (gone u) ∙ spent-dead (tokenAt l i .content)) in
-      spent arities heads next flags counts l used i w (o .firstWithin) (state-live l i (o .firstLive)) (tokenAt l i .tag) refl (lower i j) (o .place) off flags′ counts′ put c
+      spent tables links flags l used i w (o .firstWithin) (state-live l i (o .firstLive)) (tokenAt l i .tag) refl (lower i j) (o .place) off flags′ put c
 
   -- the second operand is another
-  twice : (j ≡ i → ⊥) → (tokens used (statesSpent l i j) ≡ tokensSpent used l i j) × Stored arities heads next flags′ counts′ (statesSpent l i j) used
+  twice : (j ≡ i → ⊥) → (tokens used (statesSpent l i j) ≡ tokensSpent used l i j) × Stored tables links flags′ (statesSpent l i j) used
   twice apart =
       let tag = tokenAt l i .tag in
       let p = lower i j in
@@ -139,12 +139,12 @@ module _ (arities heads next flags counts l : List ℕ) (used i j : ℕ) (w : St
       let off = live-off tag 0 u (set vs j v) i (first-spent tag vs j (tokenAt l j) (getD-set-other ts i j u (tokenAt l j) apart ∙ read j (tokenAt l j) (o .secondWithin)) ∙ found) dead in
       let written : set (tokens used m) j (spentToken (tokenAt m j)) ≡ set vs j v = λ k. set (once .0 k) j (spentToken (same k)) in
       let lowered : flagsOf flags′ ≡ set (flagsOf flags′) p 0 = put ∙ sym (set-set (flagsOf flags) p 0 0) ∙ ap (λ (f : List ℕ). set f p 0) (sym put) in
-      let r = spent arities heads next flags′ counts′ m used j (once .1) (o .secondWithin) live tag (ap (λ (x : Token). x .tag) same ∙ o .oneTag) p lead (ap (λ (ws : List Token). liveAt ws tag 0) written ∙ off) flags′ counts′ lowered c in
+      let r = spent tables links flags′ m used j (once .1) (o .secondWithin) live tag (ap (λ (x : Token). x .tag) same ∙ o .oneTag) p lead (ap (λ (ws : List Token). liveAt ws tag 0) written ∙ off) flags′ lowered c in
       (r .0 ∙ written, r .1)
 
-  pub both-spent : (tokens used (statesSpent l i j) ≡ tokensSpent used l i j) × Stored arities heads next flags′ counts′ (statesSpent l i j) used
+  pub both-spent : (tokens used (statesSpent l i j) ≡ tokensSpent used l i j) × Stored tables links flags′ (statesSpent l i j) used
   both-spent = go (ℕ-discrete j i)
     where
-      go : Dec (j ≡ i) → (tokens used (statesSpent l i j) ≡ tokensSpent used l i j) × Stored arities heads next flags′ counts′ (statesSpent l i j) used
+      go : Dec (j ≡ i) → (tokens used (statesSpent l i j) ≡ tokensSpent used l i j) × Stored tables links flags′ (statesSpent l i j) used
       go (yes e) = rw (e, set-set l (i * 20 + 16) 1 1, set-set ts i u u) once
       go (no apart) = twice apart

@@ -1,6 +1,6 @@
 -- 01, "Firing": "An activity is enabled when all operands of its tag are live; OUT never is. Its place is the ledger position of its earliest
 -- operand. Enabled activities stand in order of place, each counted once." Assumes nothing.
-use Prim.Native.Nat.{ℕ}
+use Prim.Native.Nat.{ℕ, _+_}
 use mathlib.Core.Bool.{Bool, true, false, _&&_, cond}
 use mathlib.Core.List.{List, [], _∷_, map}
 use lib.ListN.{getD}
@@ -28,12 +28,12 @@ liveAt (t ∷ ts) tag port = cond (standsAt tag port t) (isLive (t .content)) (l
 unfoldable pub allLive : (n : ℕ) → List Token → Tag → Bool
 allLive n ts tag = cond (eqb n 1) (liveAt ts tag 0) (cond (eqb n 2) (liveAt ts tag 0 && liveAt ts tag 1) false)
 
--- how many operands the activities of a tag wait for, by a table with an entry for each instruction
-abbrev pub arityOf : (arities : List ℕ) → Tag → ℕ
-arityOf arities tag = getD arities (tag .instruction) 0
+-- how many operands the activities of a tag wait for, by the tables of a graph: their second half has an entry for each instruction
+abbrev pub arityOf : (tables : List ℕ) → Tag → ℕ
+arityOf tables tag = getD tables (tag .instruction + 256) 0
 
-abbrev pub isEnabled : (arities : List ℕ) → List Token → Tag → Bool
-isEnabled arities ts tag = allLive (arityOf arities tag) ts tag
+abbrev pub isEnabled : (tables : List ℕ) → List Token → Tag → Bool
+isEnabled tables ts tag = allLive (arityOf tables tag) ts tag
 
 -- ---- "Its place is the ledger position of its earliest operand."
 
@@ -54,12 +54,12 @@ placeOf ts tag = firstOf tagSame tag (tagsOf ts)
 -- ---- "Enabled activities stand in order of place, each counted once."
 
 -- the token at place i is the earliest of its tag, and its tag's operands are all live
-abbrev pub leads : (arities : List ℕ) → List Token → (i : ℕ) → Token → Bool
-leads arities ts i t = eqb (placeOf ts (t .tag)) i && isEnabled arities ts (t .tag)
+abbrev pub leads : (tables : List ℕ) → List Token → (i : ℕ) → Token → Bool
+leads tables ts i t = eqb (placeOf ts (t .tag)) i && isEnabled tables ts (t .tag)
 
 -- the places of the enabled activities, in order
-unfoldable pub enabledPlaces : (arities : List ℕ) → List Token → List ℕ
-enabledPlaces arities ts = placesWhere (leads arities ts) 0 ts
+unfoldable pub enabledPlaces : (tables : List ℕ) → List Token → List ℕ
+enabledPlaces tables ts = placesWhere (leads tables ts) 0 ts
 
 -- ---- "A firing spends its operands, whose values stay"
 

@@ -18,27 +18,27 @@ use Rattle.chains.specs.Search.{firstFrom}
 use Rattle.enabled.specs.Enabled.{isLive, isEnabled, tagsOf, tagSame, placeOf, spentToken}
 
 -- a ledger whose used records are indexed, and stand on ports 0 and 1
-pub record Known (heads next ledger : List ℕ) (used : ℕ) : Type 0 where
+pub record Known (links ledger : List ℕ) (used : ℕ) : Type 0 where
   pub room : used ≤ length ledger / 20
-  pub index : Indexed heads next (tokens used ledger)
+  pub index : Indexed links (tokens used ledger)
   pub ports : All (λ (t : Token). t .port < 2) (tokens used ledger)
 
 -- the flags are those of the enabled activities
-unfoldable pub Right : (arities : List ℕ) → List Token → (flags : List ℕ) → Type 0
-Right arities ts flags = Marked tagSame (isEnabled arities ts) (tagsOf ts) flags
+unfoldable pub Right : (tables : List ℕ) → List Token → (flags : List ℕ) → Type 0
+Right tables ts flags = Marked tagSame (isEnabled tables ts) (tagsOf ts) flags
 
 -- 01, "Firing", refusal 9: no two tokens stand on one port of a tag, so each is the first that a search of its port finds
 unfoldable pub Single : List Token → Type 0
 Single ts = (i : ℕ) (d : Token) → i < length ts → firstFrom (standsAt (getD ts i d .tag) (getD ts i d .port)) 0 ts ≡ At i
 
 -- the invariant of this crate; the used records are the bytes of their tokens, in every byte
-pub record Stored (arities heads next flags counts ledger : List ℕ) (used : ℕ) : Type 0 where
-  pub known : Known heads next ledger used
+pub record Stored (tables links flags ledger : List ℕ) (used : ℕ) : Type 0 where
+  pub known : Known links ledger used
   pub bytes : take (used * 20) ledger ≡ joined encode (tokens used ledger)
   pub fits : All TokenFits (tokens used ledger)
   pub single : Single (tokens used ledger)
-  pub counted : Counted flags counts
-  pub right : Right arities (tokens used ledger) (flagsOf flags)
+  pub counted : Counted flags
+  pub right : Right tables (tokens used ledger) (flagsOf flags)
 
 -- the flag of an activity is raised if its operands are all live, and else left as it was
 abbrev pub raisedIf : (live : Bool) → (flags : List ℕ) → (place : ℕ) → List ℕ

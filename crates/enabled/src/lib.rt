@@ -13,6 +13,7 @@ ghost use Rattle.table.specs.Table.{putRow};
 ghost use Rattle.record.specs.TokensAndTags.{encode, tokens, tokenAt, standsAt};
 ghost use Rattle.flags.specs.Flags.{flagsOf, Counted};
 ghost use Rattle.chains.specs.Search.{firstFrom, Within, Free};
+ghost use Rattle.chains.specs.Deferred.{LowCell, Waiting};
 ghost use Rattle.chains.specs.declared.Found.the-variants.{At};
 ghost use Rattle.enabled.specs.Enabled.{isLive, allLive, placeOf};
 ghost use Rattle.enabled.specs.Store.{Known, Stored, raisedIf, placeOr, lower, liveFound, readyOf, readyWith, Operands, statesSpent, tokensSpent};
@@ -38,7 +39,7 @@ fn live(ledger: &[u8], f: Found) -> bool
 }
 
 // Whether all operands of an activity are live, where f and g stand on its ports.
-fn ready(ledger: &[u8], f: Found, g: Found, operands: u8) -> bool
+fn ready(ledger: &[u8], f: Found, g: Found, operands: u16) -> bool
     requires { ⌜ Within f (length (now ledger) / 20) × Within g (length (now ledger) / 20) ⌝ }
     ensures { λ r. ⌜ r ≡ readyOf operands (liveFound (tokenAt (now (ledger .entry))) f) (liveFound (tokenAt (now (ledger .entry))) g) ⌝ }
 {
@@ -55,7 +56,7 @@ fn ready(ledger: &[u8], f: Found, g: Found, operands: u8) -> bool
 }
 
 // The same, where `own` stands on a port and `other` on the other one.
-fn ready_with(ledger: &[u8], port: u8, own: Found, other: Found, operands: u8) -> bool
+fn ready_with(ledger: &[u8], port: u8, own: Found, other: Found, operands: u16) -> bool
     requires { ⌜ Within own (length (now ledger) / 20) × Within other (length (now ledger) / 20) ⌝ }
     ensures { λ r. ⌜ r ≡ readyWith operands port (liveFound (tokenAt (now (ledger .entry))) own) (liveFound (tokenAt (now (ledger .entry))) other) ⌝ }
 {
@@ -75,118 +76,85 @@ fn earlier(a: usize, b: usize) -> usize
 // Raises the flag of the activity of the token at `own`, if its operands are all live. No other token stands on that one's
 // port, so that of the operands only the other is searched for.
 fn settle(
-    flags: &mut [u64; 33],
-    counts: &mut [u16; 36],
-    heads: &[u16; 4096],
-    next: &[u16; 2048],
+    flags: &mut [u64; 69],
+    links: &[u16; 9216],
     ledger: &[u8],
     used: usize,
     own: usize,
     tag: Tag,
     port: u8,
-    operands: u8,
+    operands: u16,
 )
-    requires { ⌜ Counted (now flags) (now counts) × Known (now heads) (now next) (now ledger) used × (own < used) × (port < 2) × (firstFrom (standsAt tag port) 0 (tokens used (now ledger)) ≡ At own) ⌝ }
+    requires { ⌜ Counted (now flags) × Known (now links) (now ledger) used × (own < used) × (port < 2) × (firstFrom (standsAt tag port) 0 (tokens used (now ledger)) ≡ At own) ⌝ }
     ensures { λ _. ⌜ flagsOf (now (flags .exit)) ≡ raisedIf (allLive operands (tokens used (now (ledger .entry))) tag) (flagsOf (now (flags .entry))) (placeOf (tokens used (now (ledger .entry))) tag) ⌝ }
-    ensures { λ _. ⌜ Counted (now (flags .exit)) (now (counts .exit)) ⌝ }
+    ensures { λ _. ⌜ Counted (now (flags .exit)) ⌝ }
 {
-    let other = chains::find(heads, next, ledger, used, tag, 1 - port);
+    let other = chains::find(links, ledger, used, tag, 1 - port);
     if ready_with(ledger, port, Found::At(own), other, operands) {
-        flags::raise(flags, counts, earlier(own, place_or(other, own)));
+        flags::raise(flags, earlier(own, place_or(other, own)));
     }
 }
 
-// How many operands the activities of an instruction wait for.
-pub fn arity(arities: &[u8], instruction: u16) -> u8
-    ensures { λ r. ⌜ r ≡ getD (now (arities .entry)) instruction 0 ⌝ }
+// How many operands the activities of an instruction wait for. The counts stand in the second half of a graph's tables.
+pub fn arity(tables: &[u16], instruction: u16) -> u16
+    ensures { λ r. ⌜ r ≡ getD (now (tables .entry)) (instruction + 256) 0 ⌝ }
 {
-    let i = instruction as usize;
-    if i < arities.len() { arities[i] } else { 0 }
+    let i = (instruction as usize) + 256;
+    if i < tables.len() { tables[i] } else { 0 }
 }
 
 // Adds t after the used records, where none stands on its port of its tag. A flag that was raised stays.
 pub fn append(
-    arities: &[u8],
-    heads: &mut [u16; 4096],
-    next: &mut [u16; 2048],
-    flags: &mut [u64; 33],
-    counts: &mut [u16; 36],
+    tables: &[u16; 512],
+    links: &mut [u16; 9216],
+    flags: &mut [u64; 69],
     ledger: &mut [u8],
     used: usize,
     t: Token,
 )
-    requires { ⌜ Stored (now arities) (now heads) (now next) (now flags) (now counts) (now ledger) used × (used < length (now ledger) / 20) × (used < 2048) × (t .port < 2) × Free (tokens used (now ledger)) (t .tag) (t .port) ⌝ }
+    requires { ⌜ Stored (now tables) (now links) (now flags) (now ledger) used × (used < length (now ledger) / 20) × (used < 2048) × (t .port < 2) × LowCell (t .content) × Free (tokens used (now ledger)) (t .tag) (t .port) ⌝ }
     ensures { λ _. ⌜ now (ledger .exit) ≡ putRow 20 (now (ledger .entry)) used (encode t) ⌝ }
     ensures { λ _. ⌜ tokens (used + 1) (now (ledger .exit)) ≡ tokens used (now (ledger .entry)) ++ t ∷ [] ⌝ }
-    ensures { λ _. ⌜ Stored (now (arities .entry)) (now (heads .exit)) (now (next .exit)) (now (flags .exit)) (now (counts .exit)) (now (ledger .exit)) (used + 1) ⌝ }
+    ensures { λ _. ⌜ Stored (now (tables .entry)) (now (links .exit)) (now (flags .exit)) (now (ledger .exit)) (used + 1) ⌝ }
+    ensures { λ _. ⌜ (Waiting (now (links .entry)) (tokens used (now (ledger .entry))) → Waiting (now (links .exit)) (tokens (used + 1) (now (ledger .exit)))) ⌝ }
 {
     let tag = t.tag;
     token::put_token(ledger, used, t);
-    chains::insert(heads, next, used, t);
-    let operands = arity(arities, tag.instruction);
-    settle(
-        flags,
-        counts,
-        heads,
-        next,
-        ledger,
-        used + 1,
-        used,
-        tag,
-        t.port,
-        operands,
-    );
+    chains::enter(links, used, t);
+    let operands = arity(tables, tag.instruction);
+    settle(flags, links, ledger, used + 1, used, tag, t.port, operands);
 }
 
 // Puts t, of the same tag and port, in the place of token i. What was live stays so, and so does a flag that was raised.
 pub fn change(
-    arities: &[u8],
-    heads: &[u16; 4096],
-    next: &[u16; 2048],
-    flags: &mut [u64; 33],
-    counts: &mut [u16; 36],
+    tables: &[u16; 512],
+    links: &[u16; 9216],
+    flags: &mut [u64; 69],
     ledger: &mut [u8],
     used: usize,
     i: usize,
     t: Token,
 )
-    requires { ⌜ Stored (now arities) (now heads) (now next) (now flags) (now counts) (now ledger) used × (i < used) × (t .tag ≡ tokenAt (now ledger) i .tag) × (t .port ≡ tokenAt (now ledger) i .port) × (isLive (tokenAt (now ledger) i .content) ≡ true → isLive (t .content) ≡ true) ⌝ }
+    requires { ⌜ Stored (now tables) (now links) (now flags) (now ledger) used × (i < used) × (t .tag ≡ tokenAt (now ledger) i .tag) × (t .port ≡ tokenAt (now ledger) i .port) × (isLive (tokenAt (now ledger) i .content) ≡ true → isLive (t .content) ≡ true) ⌝ }
     ensures { λ _. ⌜ now (ledger .exit) ≡ putRow 20 (now (ledger .entry)) i (encode t) ⌝ }
     ensures { λ _. ⌜ tokens used (now (ledger .exit)) ≡ set (tokens used (now (ledger .entry))) i t ⌝ }
-    ensures { λ _. ⌜ Stored (now (arities .entry)) (now (heads .entry)) (now (next .entry)) (now (flags .exit)) (now (counts .exit)) (now (ledger .exit)) used ⌝ }
+    ensures { λ _. ⌜ Stored (now (tables .entry)) (now (links .entry)) (now (flags .exit)) (now (ledger .exit)) used ⌝ }
 {
     let tag = t.tag;
     token::put_token(ledger, i, t);
-    let operands = arity(arities, tag.instruction);
-    settle(
-        flags,
-        counts,
-        heads,
-        next,
-        ledger,
-        used,
-        i,
-        tag,
-        t.port,
-        operands,
-    );
+    let operands = arity(tables, tag.instruction);
+    settle(flags, links, ledger, used, i, tag, t.port, operands);
 }
 
 // Spends the operands of an enabled activity; where one is waited for, both places are its place. The activity is
 // enabled no more, and its flag stands at the place of its earlier operand, so nothing has to be searched for.
-pub fn spend_operands(
-    flags: &mut [u64; 33],
-    counts: &mut [u16; 36],
-    ledger: &mut [u8],
-    first: usize,
-    second: usize,
-)
-    requires { ⌜ Counted (now flags) (now counts) × (first < 2048) × (second < 2048) × (first < length (now ledger) / 20) × (second < length (now ledger) / 20) ⌝ }
+pub fn spend_operands(flags: &mut [u64; 69], ledger: &mut [u8], first: usize, second: usize)
+    requires { ⌜ Counted (now flags) × (first < 2048) × (second < 2048) × (first < length (now ledger) / 20) × (second < length (now ledger) / 20) ⌝ }
     ensures { λ _. ⌜ now (ledger .exit) ≡ statesSpent (now (ledger .entry)) first second ⌝ }
-    ensures { λ _. ⌜ ((arities heads next : List ℕ) (used : ℕ) → Stored arities heads next (now (flags .entry)) (now (counts .entry)) (now (ledger .entry)) used → Operands (now (ledger .entry)) used first second
-        → (tokens used (now (ledger .exit)) ≡ tokensSpent used (now (ledger .entry)) first second) × Stored arities heads next (now (flags .exit)) (now (counts .exit)) (now (ledger .exit)) used) ⌝ }
+    ensures { λ _. ⌜ ((tables links : List ℕ) (used : ℕ) → Stored tables links (now (flags .entry)) (now (ledger .entry)) used → Operands (now (ledger .entry)) used first second
+        → (tokens used (now (ledger .exit)) ≡ tokensSpent used (now (ledger .entry)) first second) × Stored tables links (now (flags .exit)) (now (ledger .exit)) used) ⌝ }
 {
     ledger[first * 20 + 16] = 1;
     ledger[second * 20 + 16] = 1;
-    flags::lower(flags, counts, earlier(first, second));
+    flags::lower(flags, earlier(first, second));
 }

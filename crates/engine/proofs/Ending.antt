@@ -47,8 +47,8 @@ cells-back (c ∷ cs) = λ i. cell-back c i ∷ cells-back cs i
 
 -- ---- the end
 
-module _ (g : List Instruction) {arities heads next flags counts waiting later ledger′ cells′ : List ℕ} {n : ℕ}
-    (last : Running g arities heads next flags counts waiting later ledger′ cells′ n) (ledger cells : List ℕ)
+module _ (g : List Instruction) {tables links flags ledger′ cells′ : List ℕ} {n : ℕ}
+    (last : Running g tables links flags ledger′ cells′ n) (ledger cells : List ℕ)
     (rest : drop (n * 20) ledger′ ≡ drop (n * 20) ledger) (cellSize : length cells′ ≡ length cells) where
   size : length (tokens n ledger′) ≡ n
   size = length-rows 20 Tokens.decode n ledger′

@@ -59,23 +59,23 @@ past-end (x ∷ l) zero h = absurd (omega arith)
 past-end (x ∷ l) (suc k) h = past-end l k (omega arith)
 
 module _ (graph : List ℕ) (passed : checkGraph graph ≡ Passed) where
-  arities-right : (arities : List ℕ) → length arities ≡ 256 → Tables.Arities (graphOf graph) arities → Arities (graphOf graph) arities
+  arities-right : (tables : List ℕ) → length tables ≡ 512 → Tables.Arities (graphOf graph) tables → Arities (graphOf graph) tables
   unfolding arityIn
-  arities-right arities size right tag = (go (decLe (suc (tag .instruction)) 256), arity-small (graphOf graph) tag)
+  arities-right tables size right tag = (go (decLe (suc (tag .instruction)) 256), arity-small (graphOf graph) tag)
     where
-      go : Dec (suc (tag .instruction) ≤ 256) → getD arities (tag .instruction) 0 ≡ arityIn (graphOf graph) tag
+      go : Dec (suc (tag .instruction) ≤ 256) → getD tables (tag .instruction + 256) 0 ≡ arityIn (graphOf graph) tag
       go (yes h) = right tag h
-      go (no n) = past-end arities (tag .instruction) (omega arith) ∙ sym (arity-past graph (tag .instruction) (omega (arith, passed-length graph passed .1, passed-length graph passed .2)))
+      go (no n) = past-end tables (tag .instruction + 256) (omega arith) ∙ sym (arity-past graph (tag .instruction) (omega (arith, passed-length graph passed .1, passed-length graph passed .2)))
 
-  returns-right : (returns : List ℕ) → Tables.Returns (graphOf graph) returns → Returns returns (graphOf graph)
-  returns-right returns right = record { entry = λ site h. right site h ∙ go site (returnOf site (graphOf graph)) refl }
+  returns-right : (tables : List ℕ) → Tables.Returns (graphOf graph) tables → Returns tables (graphOf graph)
+  returns-right tables right = record { entry = λ site h. right site h ∙ go site (returnOf site (graphOf graph)) refl }
     where
       go : (site : ℕ) (o : Option ℕ) → returnOf site (graphOf graph) ≡ o → Tables.returnEntry (returnOf site (graphOf graph)) ≡ entryOf (returnOf site (graphOf graph))
       go site none e = ap Tables.returnEntry e ∙ sym (ap entryOf e)
       go site (some i) e = return-entry graph passed site i e ∙ sym (ap entryOf e)
 
-  pub prepared : (returns arities : List ℕ) → length arities ≡ 256 → Tables.Arities (graphOf graph) arities → Tables.Returns (graphOf graph) returns → Prepared graph returns arities
-  prepared returns arities size a r = record { passed = passed; returnsRight = returns-right returns r; aritiesRight = arities-right arities size a }
+  pub prepared : (tables : List ℕ) → length tables ≡ 512 → Tables.Arities (graphOf graph) tables → Tables.Returns (graphOf graph) tables → Prepared graph tables
+  prepared tables size a r = record { passed = passed; returnsRight = returns-right tables r; aritiesRight = arities-right tables size a }
 
 -- ---- the inputs
 
@@ -159,7 +159,7 @@ module _ (graph inputs picks ledger cells : List ℕ) (accepted : check graph in
   good-start : Good M (firstState inputs (length cells / 8))
   good-start = startGood M (firstState inputs (length cells / 8)) (start (graphOf graph) (length ledger / 20) (length cells / 8) inputs inputs-passed)
 
-  module _ {arities heads next flags counts waiting later ledger₁ cells₁ : List ℕ} {used : ℕ} (a : Accepted arities heads next flags counts waiting later ledger ledger₁ inputs used)
+  module _ {tables links flags ledger₁ cells₁ : List ℕ} {used : ℕ} (a : Accepted tables links flags ledger ledger₁ inputs used)
       (cleared : cells₁ ≡ replicate (length cells) 0) where
     zeros : cells₁ ≡ replicate ((length cells / 8) * 8) 0
     zeros = cleared ∙ ap (λ (n : ℕ). replicate n 0) bytes
@@ -171,7 +171,7 @@ module _ (graph inputs picks ledger cells : List ℕ) (accepted : check graph in
     unfolding firstState
     same-state = λ i. record { tokens = map tokenHeld (a .taken i); cells = (ap (map cellHeld) (zeros-in cells₁ (length cells / 8) zeros) ∙ absent-held (length cells / 8)) i }
 
-    pub started : Running (graphOf graph) arities heads next flags counts waiting later ledger₁ cells₁ used
+    pub started : Running (graphOf graph) tables links flags ledger₁ cells₁ used
     started = record {
       matching = a .matching;
       few = omega (arith, a .size, stores-good .tokenRecords);

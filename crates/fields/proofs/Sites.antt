@@ -1,5 +1,5 @@
 -- The table by site that the check of the graph keeps: what it says of the records before, and what it says after one record more. Assumes nothing.
-use Prim.Native.Nat.{ℕ, zero, suc, _-_, _<_}
+use Prim.Native.Nat.{ℕ, zero, suc, _-_, _≤_, _<_}
 use native.Mathlib.Omega.{arith}
 use mathlib.Core.Path.{_≡_, refl, sym, ap, _∙_}
 use mathlib.Core.Bool.{Bool, true, false, not, _&&_, _||_, cond}
@@ -32,7 +32,7 @@ length-at-site t r v = go (eqb (r .code) 8 && ltb (smallOf (r .constant)) 256)
     go true = length-set t (smallOf (r .constant)) v
     go false = refl
 
-pub at-site : (t : List ℕ) (r : Instruction) (v site : ℕ) → length t ≡ 256 → site < 256 → getD (atSite t r v) site 0 ≡ cond (entersSite (pos site) r) v (getD t site 0)
+pub at-site : (t : List ℕ) (r : Instruction) (v site : ℕ) → 256 ≤ length t → site < 256 → getD (atSite t r v) site 0 ≡ cond (entersSite (pos site) r) v (getD t site 0)
 unfolding atSite entersSite
 at-site t r v site n h = rw (small-site (r .constant) site h) (go (eqb (r .code) 8) (eqb k site) (ltb k 256) refl refl)
   where
@@ -83,7 +83,7 @@ module _ (earlier : List Instruction) (t : List ℕ) (s : Sites earlier t) (r : 
   unfolding goodSite entersSite
   note-sites n good site i h =
       any-append (entersOther site i) earlier (r ∷ [])
-      ∙ rw (or-false (entersOther site i r), s site i h, at-site t r (suc j) site n h) (go (entersSite (pos site) r) refl)
+      ∙ rw (or-false (entersOther site i r), s site i h, at-site t r (suc j) site (omega (arith, n)) h) (go (entersSite (pos site) r) refl)
     where
       j : ℕ
       j = r .second .instruction

@@ -1,6 +1,6 @@
 -- The token at the place of an enabled activity is its earliest operand, on a port that its instruction has; and what matching found are the operands
 -- of an activity. Assumes nothing.
-use Prim.Native.Nat.{ℕ, _<_}
+use Prim.Native.Nat.{ℕ, _+_, _<_}
 use mathlib.Core.Path.{_≡_, refl, sym, ap, subst, _∙_}
 use mathlib.Core.Bool.{Bool, true, false, cond}
 use mathlib.Core.List.{List, [], _∷_}
@@ -46,20 +46,20 @@ pub on-ports : (g : List Instruction) (ts : List Token) → Arrived g ts → OnP
 on-ports g [] a = tt
 on-ports g (t ∷ ts) a = (on-port g t (a .0), on-ports g ts (a .1))
 
-module _ {graph returns arities heads next flags counts waiting later ledger cells : List ℕ} {used : ℕ} (ready : Prepared graph returns arities)
-    (now : Running (graphOf graph) arities heads next flags counts waiting later ledger cells used) (place : ℕ) (within : place < used)
-    (first : leads arities (tokens used ledger) place (tokenAt ledger place) ≡ true) where
-  pub earliest-here : (t : Token) (a : ℕ) → t ≡ tokenAt ledger place → a ≡ getD arities (t .tag .instruction) 0 → Earliest a (tokens used ledger) (t .tag) place
+module _ {graph tables links flags ledger cells : List ℕ} {used : ℕ} (ready : Prepared graph tables)
+    (now : Running (graphOf graph) tables links flags ledger cells used) (place : ℕ) (within : place < used)
+    (first : leads tables (tokens used ledger) place (tokenAt ledger place) ≡ true) where
+  pub earliest-here : (t : Token) (a : ℕ) → t ≡ tokenAt ledger place → a ≡ getD tables (t .tag .instruction + 256) 0 → Earliest a (tokens used ledger) (t .tag) place
   earliest-here t a e f =
       let ts = tokens used ledger in
       let there : getD ts place noToken ≡ t = getD-rows 20 decode used place ledger noToken within ∙ sym e in
       let inside : place < length ts = omega (arith, length-rows 20 decode used ledger) in
       let arity : a ≡ arityIn (graphOf graph) (t .tag) = f ∙ ready .aritiesRight (t .tag) .0 in
       let here = all-at (λ (u : Token). 0 < arityIn (graphOf graph) (u .tag) → u .port < arityIn (graphOf graph) (u .tag)) ts place noToken inside (on-ports (graphOf graph) ts (now .arrived)) in
-      let lead : leads arities ts place t ≡ true = subst (λ (u : Token). leads arities ts place u ≡ true) (sym e) first in
+      let lead : leads tables ts place t ≡ true = subst (λ (u : Token). leads tables ts place u ≡ true) (sym e) first in
       record {
         within = inside;
-        first = eqb-true (placeOf ts (t .tag)) place (and-left (eqb (placeOf ts (t .tag)) place) (isEnabled arities ts (t .tag)) lead);
+        first = eqb-true (placeOf ts (t .tag)) place (and-left (eqb (placeOf ts (t .tag)) place) (isEnabled tables ts (t .tag)) lead);
         waited = rw (there, arity) (rw there at here);
       }
 

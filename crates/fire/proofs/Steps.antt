@@ -169,8 +169,8 @@ module _ (g : List Instruction) (ts : List Record.Token) (h : Arrived g ts) (i j
 
 -- ---- a firing
 
-module _ (graph : List ℕ) (passed : checkGraph graph ≡ Passed) {arities heads next flags counts waiting later ledger cells : List ℕ} {used : ℕ}
-    (now : Running (graphOf graph) arities heads next flags counts waiting later ledger cells used) (τ : Tag) (few : arityIn (graphOf graph) τ ≤ 2) where
+module _ (graph : List ℕ) (passed : checkGraph graph ≡ Passed) {tables links flags ledger cells : List ℕ} {used : ℕ}
+    (now : Running (graphOf graph) tables links flags ledger cells used) (τ : Tag) (few : arityIn (graphOf graph) τ ≤ 2) where
   abbrev g : List Instruction
   g = graphOf graph
 
@@ -204,11 +204,11 @@ module _ (graph : List ℕ) (passed : checkGraph graph ≡ Passed) {arities head
       good-after : (x : State Tag ℤ) → fire M s τ ≡ fired x → Good M x
       good-after x f = reached-good M (lawful graph passed (length ledger / 20) (length cells / 8)) s (now .good) 1 (0 + outputs M s τ) x (s, 0, τ, (refl, refl), f, refl)
 
-      module _ (heads′ next′ flags′ counts′ waiting′ later′ ledger′ cells′ : List ℕ) where
+      module _ (links′ flags′ ledger′ cells′ : List ℕ) where
         -- done: the tokens and cells that it left are those of the machine
         went : (n : ℕ) (us : List Record.Token) (ds : List RecordCell.Cell) → fire M s τ ≡ fired (stateHeld us ds) → Arrived (graphOf graph) us × (length (tokens used ledger) ≤ length us)
-            → Kept arities heads′ next′ flags′ counts′ waiting′ later′ ledger′ n us ledger → CellsKept cells′ ds cells
-            → Went (graphOf graph) τ arities heads′ next′ flags′ counts′ waiting′ later′ ledger′ cells′ n used ledger cells
+            → Kept tables links′ flags′ ledger′ n us ledger → CellsKept cells′ ds cells
+            → Went (graphOf graph) τ tables links′ flags′ ledger′ cells′ n used ledger cells
         went n us ds f a k c =
             let same : stateHeld us ds ≡ stateIn ledger′ cells′ n = λ x. stateHeld (sym (k .held) x) (sym (c .held) x) in
             record {
@@ -230,8 +230,8 @@ module _ (graph : List ℕ) (passed : checkGraph graph ≡ Passed) {arities head
             }
 
         -- refused: ledger and cells are as they were
-        stopped : (r : Refusal) → fire M s τ ≡ notFired r → ledger′ ≡ ledger → cells′ ≡ cells → Matching arities heads′ next′ flags′ counts′ waiting′ later′ ledger′ used
-            → Stopped r (graphOf graph) τ arities heads′ next′ flags′ counts′ waiting′ later′ ledger′ cells′ used ledger cells
+        stopped : (r : Refusal) → fire M s τ ≡ notFired r → ledger′ ≡ ledger → cells′ ≡ cells → Matching tables links′ flags′ ledger′ used
+            → Stopped r (graphOf graph) τ tables links′ flags′ ledger′ cells′ used ledger cells
         stopped r f l c m = record {
           step = f;
           running = record {
@@ -245,13 +245,13 @@ module _ (graph : List ℕ) (passed : checkGraph graph ≡ Passed) {arities head
           sameCells = c;
         }
 
-        pub stepped : (r : Fired) → Left r (committedOf (length ledger / 20) (tokens used ledger) (cellsIn cells) i j e) arities heads′ next′ flags′ counts′ waiting′ later′ ledger′ cells′ used ledger cells
-            → Stepped r (graphOf graph) τ arities heads′ next′ flags′ counts′ waiting′ later′ ledger′ cells′ used ledger cells
+        pub stepped : (r : Fired) → Left r (committedOf (length ledger / 20) (tokens used ledger) (cellsIn cells) i j e) tables links′ flags′ ledger′ cells′ used ledger cells
+            → Stepped r (graphOf graph) τ tables links′ flags′ ledger′ cells′ used ledger cells
         stepped r h = go r (committedOf (length ledger / 20) (tokens used ledger) (cellsIn cells) i j e) fire-committed
             (grown (graphOf graph) (tokens used ledger) (now .arrived) i j (length ledger / 20) (cellsIn cells) e (does .arrives)) h
           where
             go : (q : Fired) (x : Committed) → fire M s τ ≡ firedOf x → Grown (graphOf graph) (length (tokens used ledger)) x
-                → Left q x arities heads′ next′ flags′ counts′ waiting′ later′ ledger′ cells′ used ledger cells → Stepped q (graphOf graph) τ arities heads′ next′ flags′ counts′ waiting′ later′ ledger′ cells′ used ledger cells
+                → Left q x tables links′ flags′ ledger′ cells′ used ledger cells → Stepped q (graphOf graph) τ tables links′ flags′ ledger′ cells′ used ledger cells
             go (Fires.Done n) (done us ds) f a l = went n us ds f a (l .0) (l .1)
             go (Fires.Done n) (refused q) f a l = absurd l
             go (Fires.Refused q) (done us ds) f a l = absurd l
@@ -264,8 +264,8 @@ at-place P d [] i h a = absurd (omega arith)
 at-place P d (t ∷ ts) zero h a = a .0
 at-place P d (t ∷ ts) (suc i) h a = at-place P d ts i (omega arith) (a .1)
 
-module _ (graph returns : List ℕ) {arities heads next flags counts waiting later ledger cells : List ℕ} {used : ℕ} (ready : Prepared graph returns arities)
-    (now : Running (graphOf graph) arities heads next flags counts waiting later ledger cells used) (place : ℕ) (within : place < used) where
+module _ (graph : List ℕ) {tables links flags ledger cells : List ℕ} {used : ℕ} (ready : Prepared graph tables)
+    (now : Running (graphOf graph) tables links flags ledger cells used) (place : ℕ) (within : place < used) where
   pub room : place < length ledger / 20
   room = omega (arith, matching-room (now .matching))
 
@@ -279,7 +279,7 @@ module _ (graph returns : List ℕ) {arities heads next flags counts waiting lat
       omega (arith, arrives-inside (graphOf graph) (record { tag = t .tag; port = t .port }) arrives, records graph)
 
   -- what matching found for it
-  pub matched-here : (t : Record.Token) (a : ℕ) (m : Matched) → t ≡ tokenAt ledger place → a ≡ getD arities (t .tag .instruction) 0 → m ≡ matchedAt a (tokens used ledger) (t .tag)
+  pub matched-here : (t : Record.Token) (a : ℕ) (m : Matched) → t ≡ tokenAt ledger place → a ≡ getD tables (t .tag .instruction + 256) 0 → m ≡ matchedAt a (tokens used ledger) (t .tag)
       → matchedAt (arityIn (graphOf graph) (tokenAt ledger place .tag)) (tokens used ledger) (tokenAt ledger place .tag) ≡ m
   matched-here t a m e f q =
       sym
@@ -289,7 +289,7 @@ module _ (graph returns : List ℕ) {arities heads next flags counts waiting lat
 
   -- what commit is lent
   pub lent-here : (i j : ℕ) (v w : ℤ) → matchedAt (arityIn (graphOf graph) (tokenAt ledger place .tag)) (tokens used ledger) (tokenAt ledger place .tag) ≡ Both i j v w
-      → Lent arities heads next flags counts waiting later ledger cells used i j
+      → Lent tables links flags ledger cells used i j
   lent-here i j v w e =
       let τ = tokenAt ledger place .tag in
       let p = matched-places (tokens used ledger) τ (arityIn (graphOf graph) τ) (ready .aritiesRight τ .1) e in
@@ -304,13 +304,13 @@ module _ (graph returns : List ℕ) {arities heads next flags counts waiting lat
   pub stepped-here : (t : Record.Token) → t ≡ tokenAt ledger place → (i j : ℕ) (v w : ℤ)
       → matchedAt (arityIn (graphOf graph) (tokenAt ledger place .tag)) (tokens used ledger) (tokenAt ledger place .tag) ≡ Both i j v w
       → (a b : ℤ) → a ≡ v → b ≡ w → (e : Effect) → Effected (graphOf graph) (length cells / 8) (t .tag) a b e
-      → (heads′ next′ flags′ counts′ waiting′ later′ ledger′ cells′ : List ℕ) (r : Fired)
-      → Left r (committedOf (length ledger / 20) (tokens used ledger) (cellsIn cells) i j e) arities heads′ next′ flags′ counts′ waiting′ later′ ledger′ cells′ used ledger cells
-      → Stepped r (graphOf graph) (tokenAt ledger place .tag) arities heads′ next′ flags′ counts′ waiting′ later′ ledger′ cells′ used ledger cells
-  stepped-here t same i j v w matched a b p q e does heads′ next′ flags′ counts′ waiting′ later′ ledger′ cells′ r left =
+      → (links′ flags′ ledger′ cells′ : List ℕ) (r : Fired)
+      → Left r (committedOf (length ledger / 20) (tokens used ledger) (cellsIn cells) i j e) tables links′ flags′ ledger′ cells′ used ledger cells
+      → Stepped r (graphOf graph) (tokenAt ledger place .tag) tables links′ flags′ ledger′ cells′ used ledger cells
+  stepped-here t same i j v w matched a b p q e does links′ flags′ ledger′ cells′ r left =
       let τ = tokenAt ledger place .tag in
       let does′ : Effected (graphOf graph) (length cells / 8) τ v w e =
       subst (λ (y : ℤ). Effected (graphOf graph) (length cells / 8) τ v y e) q
       (subst (λ (x : ℤ). Effected (graphOf graph) (length cells / 8) τ x b e) p
       (subst (λ (u : Record.Token). Effected (graphOf graph) (length cells / 8) (u .tag) a b e) same does)) in
-      stepped graph (ready .passed) now τ (ready .aritiesRight τ .1) i j v w matched e does′ heads′ next′ flags′ counts′ waiting′ later′ ledger′ cells′ r left
+      stepped graph (ready .passed) now τ (ready .aritiesRight τ .1) i j v w matched e does′ links′ flags′ ledger′ cells′ r left

@@ -35,37 +35,37 @@ abbrev pub Arrived : List Instruction → List Record.Token → Type 0
 Arrived g ts = All (λ (t : Record.Token). t .port < operandsAt g (t .tag .instruction)) ts
 
 -- between firings
-pub record Running (g : List Instruction) (arities heads next flags counts waiting later ledger cells : List ℕ) (used : ℕ) : Type 0 where
-  pub matching : Matching arities heads next flags counts waiting later ledger used
+pub record Running (g : List Instruction) (tables links flags ledger cells : List ℕ) (used : ℕ) : Type 0 where
+  pub matching : Matching tables links flags ledger used
   pub few : length ledger / 20 ≤ 2048
   pub store : CellStore cells
   pub arrived : Arrived g (tokens used ledger)
   pub good : Good (machineFor g ledger cells) (stateIn ledger cells used)
 
 -- a firing that was done left n tokens
-pub record Went (g : List Instruction) (τ : Tag) (arities heads next flags counts waiting later ledger′ cells′ : List ℕ) (n used : ℕ) (ledger cells : List ℕ) : Type 0 where
+pub record Went (g : List Instruction) (τ : Tag) (tables links flags ledger′ cells′ : List ℕ) (n used : ℕ) (ledger cells : List ℕ) : Type 0 where
   pub step : fire (machineFor g ledger cells) (stateIn ledger cells used) τ ≡ fired (stateIn ledger′ cells′ n)
-  pub running : Running g arities heads next flags counts waiting later ledger′ cells′ n
+  pub running : Running g tables links flags ledger′ cells′ n
   pub grown : used ≤ n
   pub size : length ledger′ ≡ length ledger
   pub rest : drop (n * 20) ledger′ ≡ drop (n * 20) ledger
   pub cellSize : length cells′ ≡ length cells
 
 -- a firing that was refused left ledger and cells as it found them
-pub record Stopped (r : Refusal) (g : List Instruction) (τ : Tag) (arities heads next flags counts waiting later ledger′ cells′ : List ℕ) (used : ℕ) (ledger cells : List ℕ) : Type 0 where
+pub record Stopped (r : Refusal) (g : List Instruction) (τ : Tag) (tables links flags ledger′ cells′ : List ℕ) (used : ℕ) (ledger cells : List ℕ) : Type 0 where
   pub step : fire (machineFor g ledger cells) (stateIn ledger cells used) τ ≡ notFired r
-  pub running : Running g arities heads next flags counts waiting later ledger′ cells′ used
+  pub running : Running g tables links flags ledger′ cells′ used
   pub sameLedger : ledger′ ≡ ledger
   pub sameCells : cells′ ≡ cells
 
-abbrev pub Stepped : Fired → List Instruction → Tag → (arities heads next flags counts waiting later ledger′ cells′ : List ℕ) → (used : ℕ) → (ledger cells : List ℕ) → Type 0
-Stepped (Fires.Done n) g τ arities heads next flags counts waiting later ledger′ cells′ used ledger cells =
-    Went g τ arities heads next flags counts waiting later ledger′ cells′ n used ledger cells
-Stepped (Fires.Refused r) g τ arities heads next flags counts waiting later ledger′ cells′ used ledger cells =
-    Stopped r g τ arities heads next flags counts waiting later ledger′ cells′ used ledger cells
+abbrev pub Stepped : Fired → List Instruction → Tag → (tables links flags ledger′ cells′ : List ℕ) → (used : ℕ) → (ledger cells : List ℕ) → Type 0
+Stepped (Fires.Done n) g τ tables links flags ledger′ cells′ used ledger cells =
+    Went g τ tables links flags ledger′ cells′ n used ledger cells
+Stepped (Fires.Refused r) g τ tables links flags ledger′ cells′ used ledger cells =
+    Stopped r g τ tables links flags ledger′ cells′ used ledger cells
 
 -- what a run has of its graph: it passed the check, and the tables made of it are right
-pub record Prepared (graph returns arities : List ℕ) : Type 0 where
+pub record Prepared (graph tables : List ℕ) : Type 0 where
   pub passed : checkGraph graph ≡ Passed
-  pub returnsRight : Returns returns (graphOf graph)
-  pub aritiesRight : Arities (graphOf graph) arities
+  pub returnsRight : Returns tables (graphOf graph)
+  pub aritiesRight : Arities (graphOf graph) tables

@@ -6,10 +6,11 @@ use mathlib.Core.List.{List, [], _∷_, _++_, map}
 use native.Mathlib.Omega.{arith}
 use native.Mathlib.Nat.{not-suc-le-zero, le-of-suc-le-suc}
 use lib.ListN.{take-append-drop, length, getD, set, take, drop, replicate, length-append, length-set, length-map}
-use lib.Seq.{take-append-seam, drop-append-add, take-set-lt, take-set-le, getD-set-same, getD-take, getD-drop, length-take-le, set-append-left}
+use lib.Seq.{take-append-seam, drop-append-add, take-set-lt, take-set-le, drop-set-lt, drop-set-add, getD-set-same, getD-set-other, getD-take, getD-drop, length-take-le, set-append-left}
 use Rattle.flags.specs.Flags.{ones, place, inWord, flagsIn, flagsOf, atMostOne, any, Summed, Counted}
 use Rattle.flags.proofs.Laws.{ones-append, place-left, place-right, tallied-none}
-use Rattle.flags.proofs.Blocks.{set-append-add, tallied-set}
+use Rattle.flags.proofs.Blocks as Blocks
+use Rattle.flags.proofs.Blocks.{set-append-add, block-is, group-is, block-bounds, groups-all, tallied-set}
 use Rattle.flags.proofs.Digits.{word-size, word-positive}
 
 -- ---- the first n words
@@ -145,21 +146,61 @@ any-set [] b w = refl
 any-set (x ∷ ws) zero w = refl
 any-set (x ∷ ws) (suc b) w = ap (λ (l : List ℕ). any x ∷ l) (any-set ws b w)
 
-pub none-set : flagsOf (replicate 33 0) ≡ replicate 2048 0
+pub none-set : flagsOf (replicate 69 0) ≡ replicate 2048 0
 unfolding flagsOf inWord
 none-set = refl
 
-none-last : inWord 0 ≡ map any (take 32 (replicate 33 0)) ++ replicate 32 0
+none-last : inWord 0 ≡ map any (take 32 (replicate 69 0)) ++ replicate 32 0
 unfolding inWord
 none-last = refl
 
-pub counted-none : Counted (replicate 33 0) (replicate 36 0)
+pub counted-none : Counted (replicate 69 0)
 counted-none = record {
   summed = record { count = refl; last = none-last };
   tallied = rw none-set tallied-none;
 }
 
-module _ {ws counts : List ℕ} (c : Counted ws counts) (i v w′ s′ : ℕ) (h : i < 2048) (small : v ≤ 1)
+-- the counts
+module _ {ws : List ℕ} (c : Counted ws) where
+  count-at : (j n : ℕ) → n ≡ 33 + j → getD ws n 0 ≡ getD (drop 33 ws) j 0
+  count-at j n e = ap (λ (m : ℕ). getD ws m 0) e ∙ sym (getD-drop 33 ws j 0)
+
+  pub block-count : (b : ℕ) → b < 32 → getD ws (33 + b) 0 ≡ ones (take 64 (drop (b * 64) (flagsOf ws)))
+  block-count b h = count-at b (33 + b) refl ∙ block-is (flagsOf ws) (drop 33 ws) (c .tallied) b h
+
+  pub word-count : (b : ℕ) → b < 32 → getD ws (33 + b) 0 ≡ ones (inWord (getD ws b 0))
+  word-count b h = block-count b h ∙ ap ones (words-word (c .summed) b h)
+
+  pub group-count : (g : ℕ) → g < 4 → getD ws (65 + g) 0 ≡ ones (take 512 (drop (g * 512) (flagsOf ws)))
+  group-count g h = count-at (32 + g) (65 + g) (omega arith) ∙ group-is (flagsOf ws) (drop 33 ws) (c .tallied) g h
+
+  -- a count is at least the flag, and small
+  pub word-bounds : (i : ℕ) → i < 2048 → (getD (flagsOf ws) i 0 ≤ getD ws (33 + i / 64) 0) × (getD ws (33 + i / 64) 0 ≤ 64)
+  word-bounds i h = rw (count-at (i / 64) (33 + i / 64) refl) (block-bounds (flagsOf ws) (drop 33 ws) (c .tallied) i h)
+
+  pub group-bounds : (i : ℕ) → i < 2048 → (getD (flagsOf ws) i 0 ≤ getD ws (65 + i / 512) 0) × (getD ws (65 + i / 512) 0 ≤ 512)
+  group-bounds i h = rw (count-at (32 + i / 512) (65 + i / 512) (omega arith)) (Blocks.group-bounds (flagsOf ws) (drop 33 ws) (c .tallied) i h)
+
+  pub groups-few : getD ws 65 0 + getD ws 66 0 + getD ws 67 0 + getD ws 68 0 ≤ 2048
+  groups-few = omega (arith, group-bounds 0 (omega arith), group-bounds 512 (omega arith), group-bounds 1024 (omega arith), group-bounds 1536 (omega arith))
+
+  pub groups-count : getD ws 65 0 + getD ws 66 0 + getD ws 67 0 + getD ws 68 0 ≡ ones (flagsOf ws)
+  groups-count = rw (count-at 32 65 refl, count-at 33 66 refl, count-at 34 67 refl, count-at 35 68 refl) (groups-all (flagsOf ws) (drop 33 ws) (c .tallied))
+
+-- a count is changed
+module _ {ws : List ℕ} (s : Summed ws) (j a : ℕ) (h : 33 ≤ j) where
+  flags-kept : flagsOf (set ws j a) ≡ flagsOf ws
+  unfolding flagsOf
+  flags-kept = in-past 32 j a ws (omega arith)
+
+  summed-kept : Summed (set ws j a)
+  summed-kept = record {
+    count = length-set ws j a ∙ s .count;
+    last = rw (getD-set-other ws j 32 a 0 (λ e. omega arith), take-set-le 32 ws j a (omega arith)) (s .last);
+  }
+
+-- a flag is changed, with the mark of its word and the counts
+module _ {ws : List ℕ} (c : Counted ws) (i v w′ s′ : ℕ) (h : i < 2048) (small : v ≤ 1)
     (put : inWord w′ ≡ set (inWord (getD ws (i / 64) 0)) (i % 64) v) (mark : inWord s′ ≡ set (inWord (getD ws 32 0)) (i / 64) (any w′)) where
   abbrev b : ℕ
   b = i / 64
@@ -167,7 +208,7 @@ module _ {ws counts : List ℕ} (c : Counted ws counts) (i v w′ s′ : ℕ) (h
   abbrev ws′ : List ℕ
   ws′ = set (set ws b w′) 32 s′
 
-  pub words-set : flagsOf ws′ ≡ set (flagsOf ws) i v
+  words-set : flagsOf ws′ ≡ set (flagsOf ws) i v
   unfolding flagsOf
   words-set =
       let e : b * 64 + i % 64 ≡ i = omega arith in
@@ -175,22 +216,47 @@ module _ {ws counts : List ℕ} (c : Counted ws counts) (i v w′ s′ : ℕ) (h
       ∙ in-set 32 b (i % 64) v w′ ws (omega arith) (omega (arith, c .summed .count)) (omega arith) put
       ∙ ap (λ (j : ℕ). set (flagsIn 32 ws) j v) e
 
-  pub counted-put : let old = getD (flagsOf ws) i 0 in
-      Counted ws′ (set (set counts b (getD counts b 0 + v - old)) (32 + i / 512) (getD counts (32 + i / 512) 0 + v - old))
-  counted-put =
+  summed-set : Summed ws′
+  summed-set =
       let n = c .summed .count in
-      let size : length ws′ ≡ 33 = length-set (set ws b w′) 32 s′ ∙ length-set ws b w′ ∙ n in
+      let size : length ws′ ≡ 69 = length-set (set ws b w′) 32 s′ ∙ length-set ws b w′ ∙ n in
       let at : getD ws′ 32 0 ≡ s′ = getD-set-same (set ws b w′) 32 s′ 0 (omega (arith, length-set ws b w′)) in
       let words : take 32 ws′ ≡ set (take 32 ws) b w′ = take-set-le 32 (set ws b w′) 32 s′ (omega arith) ∙ take-set-lt 32 ws b w′ (omega arith) in
       let marks : map any (take 32 ws′) ≡ set (map any (take 32 ws)) b (any w′) = ap (map any) words ∙ any-set (take 32 ws) b w′ in
       let room : b < length (map any (take 32 ws)) = omega (arith, length-map (take 32 ws) any, length-take-le 32 ws (omega arith)) in
       record {
-        summed = record {
-          count = size;
-          last =
-              ap inWord at ∙ mark ∙ ap (λ (l : List ℕ). set l b (any w′)) (c .summed .last)
-              ∙ set-append-left (map any (take 32 ws)) (replicate 32 0) b (any w′) room
-              ∙ ap (λ (l : List ℕ). l ++ replicate 32 0) (sym marks);
-        };
-        tallied = rw words-set (tallied-set (flagsOf ws) counts (c .tallied) i v h small);
+        count = size;
+        last =
+            ap inWord at ∙ mark ∙ ap (λ (l : List ℕ). set l b (any w′)) (c .summed .last)
+            ∙ set-append-left (map any (take 32 ws)) (replicate 32 0) b (any w′) room
+            ∙ ap (λ (l : List ℕ). l ++ replicate 32 0) (sym marks);
       }
+
+  counts-kept : drop 33 ws′ ≡ drop 33 ws
+  counts-kept = drop-set-lt 33 (set ws b w′) 32 s′ (omega arith) ∙ drop-set-lt 33 ws b w′ (omega arith)
+
+  abbrev new : ℕ → ℕ
+  new n = getD ws n 0 + v - getD (flagsOf ws) i 0
+
+  abbrev ws″ : List ℕ
+  ws″ = set (set ws′ (33 + b) (new (33 + b))) (65 + i / 512) (new (65 + i / 512))
+
+  pub flags-put : flagsOf ws″ ≡ set (flagsOf ws) i v
+  flags-put =
+      flags-kept (summed-kept summed-set (33 + b) (new (33 + b)) (omega arith)) (65 + i / 512) (new (65 + i / 512)) (omega arith)
+      ∙ flags-kept summed-set (33 + b) (new (33 + b)) (omega arith) ∙ words-set
+
+  counts-put : drop 33 ws″ ≡ set (set (drop 33 ws) b (new (33 + b))) (32 + i / 512) (new (65 + i / 512))
+  counts-put =
+      let e : 65 + i / 512 ≡ 33 + (32 + i / 512) = omega arith in
+      ap (λ (n : ℕ). drop 33 (set (set ws′ (33 + b) (new (33 + b))) n (new (65 + i / 512)))) e
+      ∙ drop-set-add 33 (set ws′ (33 + b) (new (33 + b))) (32 + i / 512) (new (65 + i / 512))
+      ∙ ap (λ (l : List ℕ). set l (32 + i / 512) (new (65 + i / 512))) (drop-set-add 33 ws′ b (new (33 + b)) ∙ ap (λ (l : List ℕ). set l b (new (33 + b))) counts-kept)
+
+  pub counted-put : Counted ws″
+  counted-put = record {
+    summed = summed-kept (summed-kept summed-set (33 + b) (new (33 + b)) (omega arith)) (65 + i / 512) (new (65 + i / 512)) (omega arith);
+    tallied =
+        rw (flags-put, counts-put, count-at c b (33 + b) refl, count-at c (32 + i / 512) (65 + i / 512) (omega arith))
+        (tallied-set (flagsOf ws) (drop 33 ws) (c .tallied) i v h small);
+  }

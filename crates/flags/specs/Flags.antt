@@ -1,5 +1,5 @@
--- Flags of 0 or 1 in a list: how many are 1 and at which places they stand. And how they are kept: 64 in a word, with the
--- counts by blocks of 64 and by groups of 512, and a word that says which words have any.
+-- Flags of 0 or 1 in a list: how many are 1 and at which places they stand. And how they are kept, in 69 words: 64 in a word,
+-- then a word that says which words have any, then the counts by blocks of 64 and by groups of 512.
 -- Assumes nothing.
 use Prim.Native.Nat.{ℕ, zero, suc, _+_, _-_, _/_, _%_, _≤_}
 use mathlib.Core.Path.{_≡_}
@@ -55,7 +55,7 @@ flagsIn zero ws = []
 flagsIn (suc n) [] = []
 flagsIn (suc n) (w ∷ ws) = inWord w ++ flagsIn n ws
 
--- the flags that 33 words hold: the last word holds none
+-- the flags that the first 32 words hold
 unfoldable pub flagsOf : List ℕ → List ℕ
 flagsOf ws = flagsIn 32 ws
 
@@ -67,12 +67,12 @@ atMostOne (suc n) = 1
 abbrev pub any : ℕ → ℕ
 any w = atMostOne (ones (inWord w))
 
--- 33 words, where the last one says which of those before it have any flag set
+-- word 32 says which of those before it have any flag set
 pub record Summed (ws : List ℕ) : Type 0 where
-  pub count : length ws ≡ 33
+  pub count : length ws ≡ 69
   pub last : inWord (getD ws 32 0) ≡ map any (take 32 ws) ++ replicate 32 0
 
--- the invariant that every operation keeps
-pub record Counted (ws counts : List ℕ) : Type 0 where
+-- the invariant that every operation keeps; the counts stand behind word 32
+pub record Counted (ws : List ℕ) : Type 0 where
   pub summed : Summed ws
-  pub tallied : Tallied (flagsOf ws) counts
+  pub tallied : Tallied (flagsOf ws) (drop 33 ws)

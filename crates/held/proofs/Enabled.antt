@@ -163,14 +163,14 @@ module _ (g : List Instruction) (capacity cells : ℕ) where
 
   -- ---- the list of the enabled
 
-  module _ (arities : List ℕ) (ts : List Record.Token) (cs : List RecordCell.Cell) (d : Record.Token) (table : Arities g arities) (ports : OnPorts g ts) where
+  module _ (tables : List ℕ) (ts : List Record.Token) (cs : List RecordCell.Cell) (d : Record.Token) (table : Arities g tables) (ports : OnPorts g ts) where
     -- the activity whose earliest operand is the token at a place
     abbrev act : ℕ → Activity Tag
     act p = record { place = p; tag = getD ts p d .tag }
 
     -- the machine looks at the token's own content first: where the token is the earliest of its tag and all operands are live, it is live
     held-is-place : (i : ℕ) (t : Record.Token) → i < length ts → t ≡ getD ts i d → (0 < arityIn g (t .tag) → t .port < arityIn g (t .tag))
-        → isPlace M (stateHeld ts cs) i (tokenHeld t) ≡ leads arities ts i t
+        → isPlace M (stateHeld ts cs) i (tokenHeld t) ≡ leads tables ts i t
     held-is-place i t h e o =
         rw (held-operand (t .tag) t, tag-own (t .tag), table (t .tag) .0, held-content (t .content)) (go (ltb 0 (arityIn g (t .tag))) refl)
       where
@@ -199,10 +199,10 @@ module _ (g : List Instruction) (capacity cells : ℕ) where
     -- us are the tokens from place i on
     held-from : (i : ℕ) (us : List Record.Token) → OnPorts g us → i + length us ≡ length ts
         → ((k : ℕ) → k < length us → getD us k d ≡ getD ts (i + k) d)
-        → enabledFrom M (stateHeld ts cs) i (map tokenHeld us) ≡ map act (placesWhere (leads arities ts) i us)
+        → enabledFrom M (stateHeld ts cs) i (map tokenHeld us) ≡ map act (placesWhere (leads tables ts) i us)
     held-from i [] w n h = refl
     held-from i (t ∷ us) w n h =
-        rw (held-is-place i t (omega arith) here (w .0), held-from (suc i) us (w .1) (omega arith) later) (go (leads arities ts i t))
+        rw (held-is-place i t (omega arith) here (w .0), held-from (suc i) us (w .1) (omega arith) later) (go (leads tables ts i t))
       where
         here : t ≡ getD ts i d
         here = rw (add-zero i) at (h 0 (omega arith))
@@ -211,15 +211,15 @@ module _ (g : List Instruction) (capacity cells : ℕ) where
         later k l = subst (λ (m : ℕ). getD us k d ≡ getD ts m d) (add-suc i k ∙ sym (suc-add i k)) (h (suc k) (omega arith))
 
         rest : List ℕ
-        rest = placesWhere (leads arities ts) (suc i) us
+        rest = placesWhere (leads tables ts) (suc i) us
 
         go : (b : Bool) → cond b (record { place = i; tag = t .tag } ∷ map act rest) (map act rest) ≡ map act (cond b (i ∷ rest) rest)
         go true = rw (← here)
         go false = refl
 
-pub held-enabled : (g : List Instruction) (capacity cells : ℕ) (arities : List ℕ) (ts : List Record.Token) (cs : List RecordCell.Cell) (d : Record.Token)
-    → Arities g arities → OnPorts g ts
-    → enabled (machineOf g capacity cells) (stateHeld ts cs) ≡ map (λ (p : ℕ). record { place = p; tag = getD ts p d .tag }) (enabledPlaces arities ts)
+pub held-enabled : (g : List Instruction) (capacity cells : ℕ) (tables : List ℕ) (ts : List Record.Token) (cs : List RecordCell.Cell) (d : Record.Token)
+    → Arities g tables → OnPorts g ts
+    → enabled (machineOf g capacity cells) (stateHeld ts cs) ≡ map (λ (p : ℕ). record { place = p; tag = getD ts p d .tag }) (enabledPlaces tables ts)
 unfolding enabled enabledPlaces
-held-enabled g capacity cells arities ts cs d table ports =
-    held-from g capacity cells arities ts cs d table ports 0 ts ports (omega arith) (λ k h. rw (zero-add k))
+held-enabled g capacity cells tables ts cs d table ports =
+    held-from g capacity cells tables ts cs d table ports 0 ts ports (omega arith) (λ k h. rw (zero-add k))

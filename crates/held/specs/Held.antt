@@ -28,8 +28,8 @@ abbrev pub stateHeld : List Record.Token → List RecordCell.Cell → State Tag 
 stateHeld ts cs = record { tokens = map tokenHeld ts; cells = map cellHeld cs }
 
 -- a table that has the arity of every instruction
-abbrev pub Arities : List Instruction → (arities : List ℕ) → Type 0
-Arities g arities = (tag : Tag) → (arityOf arities tag ≡ arityIn g tag) × (arityIn g tag ≤ 2)
+abbrev pub Arities : List Instruction → (tables : List ℕ) → Type 0
+Arities g tables = (tag : Tag) → (arityOf tables tag ≡ arityIn g tag) × (arityIn g tag ≤ 2)
 
 -- a token at an instruction that fires stands at one of its operands' ports
 abbrev pub OnPorts : List Instruction → List Record.Token → Type 0

@@ -14,13 +14,14 @@ use Rattle.table.proofs.Tables.{length-rows, getD-rows}
 use Rattle.record.specs.declared.token.Token.{Token}
 use Rattle.record.specs.declared.token.Content.{Content}
 use Rattle.record.specs.declared.token.Content.the-variants.{Live, Spent, Deferred}
+use Rattle.chains.specs.Chains.{bucketKey}
 use Rattle.chains.specs.Deferred.{LowCell, keyOf, cellKey, Waiting, contentWoken, woken}
-use Rattle.chains.proofs.Chains.{chained-same}
+use Rattle.chains.proofs.Chains.{chained-same, chained-past}
 use Rattle.chains.proofs.Deferred.{Walk, walk-start, walk-step, walk-end, waiting-woken}
 use Rattle.enabled.specs.Enabled.{isLive}
 use Rattle.enabled.specs.Store.{Stored, tokensSpent}
 use Rattle.enabled.proofs.Bytes.{split, rest-put}
-use Rattle.enabled.proofs.Store.{all-append, all-set, all-at}
+use Rattle.enabled.proofs.Store.{stored-links, all-append, all-set, all-at}
 use Rattle.matching.specs.Matching.{contentSpent, spentToken, Inside, Matching}
 
 abbrev Low : Token → Type 0
@@ -28,17 +29,17 @@ Low t = LowCell (t .content)
 
 -- ---- a token arrives
 
-pub arrived : (arities heads next flags counts waiting later l : List ℕ) (used : ℕ) (t : Token) → LowCell (t .content)
-    → Matching arities heads next flags counts waiting later l used
-    → (heads′ next′ flags′ counts′ waiting′ later′ m : List ℕ) → tokens (used + 1) m ≡ tokens used l ++ t ∷ []
-    → Stored arities heads′ next′ flags′ counts′ m (used + 1)
-    → ((ts : List Token) → length ts ≡ used → Waiting waiting later ts → Waiting waiting′ later′ (ts ++ t ∷ []))
-    → Matching arities heads′ next′ flags′ counts′ waiting′ later′ m (used + 1)
+pub arrived : (tables links flags l : List ℕ) (used : ℕ) (t : Token) → LowCell (t .content)
+    → Matching tables links flags l used
+    → (links′ flags′ m : List ℕ) → tokens (used + 1) m ≡ tokens used l ++ t ∷ []
+    → Stored tables links′ flags′ m (used + 1)
+    → (Waiting links (tokens used l) → Waiting links′ (tokens (used + 1) m))
+    → Matching tables links′ flags′ m (used + 1)
 unfolding Inside
-arrived arities heads next flags counts waiting later l used t low w heads′ next′ flags′ counts′ waiting′ later′ m e s note = record {
+arrived tables links flags l used t low w links′ flags′ m e s deferred = record {
   inside = record {
     store = s;
-    deferred = rw e (note (tokens used l) (length-rows 20 decode used l) (w .inside .deferred));
+    deferred = deferred (w .inside .deferred);
     cells = rw e (all-append Low (tokens used l) t (w .inside .cells) low);
   };
 }
@@ -61,17 +62,17 @@ keys-kept ts us i u d e h =
     let here : cellKey (getD ts i d) ≡ cellKey (getD us i d) = sym (List·getD-map cellKey ts i d) ∙ ap (λ (ks : List ℕ). getD ks i (cellKey d)) (sym e) ∙ List·getD-map cellKey us i d in
     map-set-same cellKey us i u d (h ∙ here) ∙ e
 
-pub spent-kept : (arities heads next flags counts waiting later l : List ℕ) (used i j : ℕ) → Matching arities heads next flags counts waiting later l used → i < used → j < used
-    → (flags′ counts′ m : List ℕ) → tokens used m ≡ tokensSpent used l i j → Stored arities heads next flags′ counts′ m used
-    → Matching arities heads next flags′ counts′ waiting later m used
+pub spent-kept : (tables links flags l : List ℕ) (used i j : ℕ) → Matching tables links flags l used → i < used → j < used
+    → (flags′ m : List ℕ) → tokens used m ≡ tokensSpent used l i j → Stored tables links flags′ m used
+    → Matching tables links flags′ m used
 unfolding Inside
-spent-kept arities heads next flags counts waiting later l used i j w a b flags′ counts′ m e s =
+spent-kept tables links flags l used i j w a b flags′ m e s =
     let us = set ts i (spentToken (tokenAt l i)) in
     let keys = keys-kept ts us j (spentToken (tokenAt l j)) (tokenAt l j) (keys-kept ts ts i (spentToken (tokenAt l i)) (tokenAt l i) refl (key i a)) (key j b) in
     record {
       inside = record {
         store = s;
-        deferred = rw e (chained-same 1024 cellKey waiting later ts (w .inside .deferred) (set us j (spentToken (tokenAt l j))) keys);
+        deferred = rw e (chained-same 6144 1024 cellKey links ts (w .inside .deferred) (set us j (spentToken (tokenAt l j))) keys);
         cells = rw e (all-set Low us j (spentToken (tokenAt l j)) (all-set Low ts i (spentToken (tokenAt l i)) (w .inside .cells) (low i a)) (low j b));
       };
     }
@@ -110,34 +111,34 @@ module _ (cell : ℕ) (v : ℤ) where
   all-woken [] w = tt
   all-woken (t ∷ ts) w = (woken-low (t .content) (w .0), all-woken ts (w .1))
 
-  pub record Waking (arities heads next later l : List ℕ) (used : ℕ) (flags counts m : List ℕ) (at : ℕ) : Type 0 where
+  pub record Waking (tables links l : List ℕ) (used : ℕ) (flags m : List ℕ) (at : ℕ) : Type 0 where
     pub size : length m ≡ length l
     pub rest : drop (used * 20) m ≡ drop (used * 20) l
-    pub store : Stored arities heads next flags counts m used
+    pub store : Stored tables links flags m used
     pub walk : Walk cell v (tokens used l) (tokens used m) at
 
-  module _ (arities heads next flags counts waiting later l : List ℕ) (used : ℕ) (w : Matching arities heads next flags counts waiting later l used) (small : cell < 1024) where
-    pub waking-start : Waking arities heads next later l used flags counts l (getD waiting cell 0)
+  module _ (tables links flags l : List ℕ) (used : ℕ) (w : Matching tables links flags l used) (small : cell < 1024) where
+    pub waking-start : Waking tables links l used flags l (getD links (cell + 6144) 0)
     unfolding Inside
     waking-start = record {
       size = refl;
       rest = refl;
       store = w .inside .store;
-      walk = walk-start cell v waiting later (tokens used l) (tokenAt l 0) (w .inside .deferred) small;
+      walk = walk-start cell v links (tokens used l) (tokenAt l 0) (w .inside .deferred) small;
     }
 
-    module _ (flags₁ counts₁ m : List ℕ) (at : ℕ) (g : Waking arities heads next later l used flags₁ counts₁ m at) where
+    module _ (flags₁ m : List ℕ) (at : ℕ) (g : Waking tables links l used flags₁ m at) where
       pub waking-low : at ≤ used
       waking-low = omega (arith, g .walk .low, length-rows 20 decode used l)
 
       -- one more is woken
-      pub waking-step : (at ≡ 0 → ⊥) → (flags₂ counts₂ m₂ : List ℕ) → length m₂ ≡ length m
+      pub waking-step : (at ≡ 0 → ⊥) → (flags₂ m₂ : List ℕ) → length m₂ ≡ length m
           → m₂ ≡ putRow 20 m (at - 1) (encode (woken cell v (tokenAt m (at - 1))))
           → tokens used m₂ ≡ set (tokens used m) (at - 1) (woken cell v (tokenAt m (at - 1)))
-          → Stored arities heads next flags₂ counts₂ m₂ used
-          → (getD later (at - 1) 0 < at) × Waking arities heads next later l used flags₂ counts₂ m₂ (getD later (at - 1) 0)
+          → Stored tables links flags₂ m₂ used
+          → (getD links (at - 1 + 7168) 0 < at) × Waking tables links l used flags₂ m₂ (getD links (at - 1 + 7168) 0)
       unfolding Inside
-      waking-step z flags₂ counts₂ m₂ len put e s =
+      waking-step z flags₂ m₂ len put e s =
           let us = tokens used m in
           let i = at - 1 in
           let d = tokenAt m i in
@@ -145,7 +146,7 @@ module _ (cell : ℕ) (v : ℤ) where
           let below : i < used = omega arith in
           let here : getD us i d ≡ d = getD-rows 20 decode used i m d below in
           let same : tokens used m₂ ≡ set us i (woken cell v (getD us i d)) = rw here e in
-          let next-step = walk-step cell v waiting later (tokens used l) d (w .inside .deferred) small us at z (g .walk) in (
+          let next-step = walk-step cell v links (tokens used l) d (w .inside .deferred) small us at z (g .walk) in (
             next-step .0,
             record {
               size = len ∙ g .size;
@@ -156,20 +157,20 @@ module _ (cell : ℕ) (v : ℤ) where
           )
 
     -- all are woken
-    module _ (flags₁ counts₁ m : List ℕ) (g : Waking arities heads next later l used flags₁ counts₁ m 0) where
+    module _ (flags₁ m : List ℕ) (g : Waking tables links l used flags₁ m 0) where
       pub waking-tokens : tokens used m ≡ map (woken cell v) (tokens used l)
       unfolding Inside
-      waking-tokens = walk-end cell v waiting later (tokens used l) (tokenAt l 0) (w .inside .deferred) small (tokens used m) (g .walk)
+      waking-tokens = walk-end cell v links (tokens used l) (tokenAt l 0) (w .inside .deferred) small (tokens used m) (g .walk)
 
       pub waking-ledger : m ≡ joined encode (map (woken cell v) (tokens used l)) ++ drop (used * 20) l
       waking-ledger = split used m (g .store .bytes) ∙ (λ k. joined encode (waking-tokens k) ++ g .rest k)
 
-      pub waking-end : Matching arities heads next flags₁ counts₁ (set waiting cell 0) later m used
+      pub waking-end : Matching tables (set links (cell + 6144) 0) flags₁ m used
       unfolding Inside
       waking-end = record {
         inside = record {
-          store = g .store;
-          deferred = rw waking-tokens (waiting-woken cell v (tokens used l) waiting later small (w .inside .deferred));
+          store = stored-links tables links flags₁ m used (g .store) (set links (cell + 6144) 0) (chained-past 0 4096 bucketKey links (tokens used m) (g .store .known .index) (cell + 6144) 0 (omega arith));
+          deferred = rw waking-tokens (waiting-woken cell v (tokens used l) links small (w .inside .deferred));
           cells = rw waking-tokens (all-woken (tokens used l) (w .inside .cells));
         };
       }

@@ -25,54 +25,55 @@ use Rattle.enabled.proofs.Store.{known-few}
 use Rattle.matching.specs.Matching.{Inside, Matching}
 
 -- arrays of zeros are right for a ledger with no used record
-pub matching-start : (arities ledger : List ℕ)
-    → Matching arities (replicate 4096 0) (replicate 2048 0) (replicate 33 0) (replicate 36 0) (replicate 1024 0) (replicate 2048 0) ledger 0
+pub matching-start : (tables ledger : List ℕ) → Matching tables (replicate 9216 0) (replicate 69 0) ledger 0
 unfolding Inside
-matching-start arities ledger = record {
-  inside = record {
-    store = record {
-      known = record {
-        room = omega arith;
-        index = chained-none 4096 bucketKey (replicate 4096 0) (replicate 2048 0) (length-replicate {A = ℕ} 4096 0) (length-replicate {A = ℕ} 2048 0) (zero-at 4096);
-        ports = tt;
+matching-start tables ledger =
+    let size : length (replicate {A = ℕ} 9216 0) ≡ 9216 = length-replicate {A = ℕ} 9216 0 in
+    record {
+      inside = record {
+        store = record {
+          known = record {
+            room = omega arith;
+            index = chained-none 0 4096 bucketKey (replicate 9216 0) (omega (arith, size)) (zero-at 9216);
+            ports = tt;
+          };
+          bytes = refl;
+          fits = tt;
+          single = single-none;
+          counted = counted-none;
+          right = rw none-set (right-none tables);
+        };
+        deferred = chained-none 6144 1024 cellKey (replicate 9216 0) (omega (arith, size)) (zero-at 9216);
+        cells = tt;
       };
-      bytes = refl;
-      fits = tt;
-      single = single-none;
-      counted = counted-none;
-      right = rw none-set (right-none arities);
-    };
-    deferred = chained-none 1024 cellKey (replicate 1024 0) (replicate 2048 0) (length-replicate {A = ℕ} 1024 0) (length-replicate {A = ℕ} 2048 0) (zero-at 1024);
-    cells = tt;
-  };
-}
+    }
 
-module _ {arities heads next flags counts waiting later ledger : List ℕ} {used : ℕ} (m : Matching arities heads next flags counts waiting later ledger used) where
+module _ {tables links flags ledger : List ℕ} {used : ℕ} (m : Matching tables links flags ledger used) where
   -- what `find`, `enabled_count`, `enabled_at` and `spend_operands` require is part of it
-  pub matching-stored : Stored arities heads next flags counts ledger used
+  pub matching-stored : Stored tables links flags ledger used
   unfolding Inside
   matching-stored = m .inside .store
 
-  pub matching-known : Known heads next ledger used
+  pub matching-known : Known links ledger used
   matching-known = matching-stored .known
 
-  pub matching-counted : Counted flags counts
+  pub matching-counted : Counted flags
   matching-counted = matching-stored .counted
 
   -- the flags' ones are the places of the enabled activities
-  pub matching-places : places (flagsOf flags) ≡ enabledPlaces arities (tokens used ledger)
-  matching-places = right-places arities (tokens used ledger) (flagsOf flags) (matching-stored .right)
+  pub matching-places : places (flagsOf flags) ≡ enabledPlaces tables (tokens used ledger)
+  matching-places = right-places tables (tokens used ledger) (flagsOf flags) (matching-stored .right)
 
-  pub matching-enabled-below : (k : ℕ) → k < length (enabledPlaces arities (tokens used ledger)) → getD (enabledPlaces arities (tokens used ledger)) k 0 < used
-  matching-enabled-below k h = omega (arith, enabled-below arities (tokens used ledger) k h, length-rows 20 decode used ledger)
+  pub matching-enabled-below : (k : ℕ) → k < length (enabledPlaces tables (tokens used ledger)) → getD (enabledPlaces tables (tokens used ledger)) k 0 < used
+  matching-enabled-below k h = omega (arith, enabled-below tables (tokens used ledger) k h, length-rows 20 decode used ledger)
 
   -- the token at the place of an enabled activity is the earliest of its tag, and all operands of its tag are live
-  pub matching-leads : (k : ℕ) → k < length (enabledPlaces arities (tokens used ledger))
-      → let i = getD (enabledPlaces arities (tokens used ledger)) k 0 in leads arities (tokens used ledger) i (tokenAt ledger i) ≡ true
+  pub matching-leads : (k : ℕ) → k < length (enabledPlaces tables (tokens used ledger))
+      → let i = getD (enabledPlaces tables (tokens used ledger)) k 0 in leads tables (tokens used ledger) i (tokenAt ledger i) ≡ true
   matching-leads k h =
-      let i = getD (enabledPlaces arities (tokens used ledger)) k 0 in
+      let i = getD (enabledPlaces tables (tokens used ledger)) k 0 in
       let here : getD (tokens used ledger) i (tokenAt ledger i) ≡ tokenAt ledger i = getD-rows 20 decode used i ledger (tokenAt ledger i) (matching-enabled-below k h) in
-      let found = rw here at (enabled-leads arities (tokens used ledger) (tokenAt ledger i) k h) in
+      let found = rw here at (enabled-leads tables (tokens used ledger) (tokenAt ledger i) k h) in
       rw (eq-eqb _ _ (found .0)) (found .1)
 
   -- the used records
@@ -80,7 +81,7 @@ module _ {arities heads next flags counts waiting later ledger : List ℕ} {used
   matching-room = matching-known .room
 
   pub matching-few : used ≤ 2048
-  matching-few = known-few heads next ledger used matching-known
+  matching-few = known-few links ledger used matching-known
 
   pub matching-bytes : take (used * 20) ledger ≡ joined encode (tokens used ledger)
   matching-bytes = matching-stored .bytes

@@ -8,15 +8,15 @@ use Rattle.chains.specs.Deferred.{LowCell, Waiting}
 use Rattle.enabled.specs.Store.{Stored}
 pub use Rattle.enabled.specs.Enabled.{contentSpent, spentToken}
 
-pub record Kept (arities heads next flags counts waiting later ledger : List ℕ) (used : ℕ) : Type 0 where
-  pub store : Stored arities heads next flags counts ledger used
-  pub deferred : Waiting waiting later (tokens used ledger)
+pub record Kept (tables links flags ledger : List ℕ) (used : ℕ) : Type 0 where
+  pub store : Stored tables links flags ledger used
+  pub deferred : Waiting links (tokens used ledger)
   pub cells : All (λ (t : Token). LowCell (t .content)) (tokens used ledger)
 
 -- shut, so that no proof of a caller looks inside
-unfoldable pub Inside : (arities heads next flags counts waiting later ledger : List ℕ) → (used : ℕ) → Type 0
-Inside arities heads next flags counts waiting later ledger used = Kept arities heads next flags counts waiting later ledger used
+unfoldable pub Inside : (tables links flags ledger : List ℕ) → (used : ℕ) → Type 0
+Inside tables links flags ledger used = Kept tables links flags ledger used
 
 -- the invariant: the arrays are right for the used records of the ledger. Callers use it by the laws `matching-..` of proofs/Laws alone
-pub record Matching (arities heads next flags counts waiting later ledger : List ℕ) (used : ℕ) : Type 0 where
-  pub inside : Inside arities heads next flags counts waiting later ledger used
+pub record Matching (tables links flags ledger : List ℕ) (used : ℕ) : Type 0 where
+  pub inside : Inside tables links flags ledger used

@@ -1,6 +1,6 @@
-// The matching store: a ledger, with arrays beside it by which a token is found by its tag and port, the enabled
-// activities are counted and found by their number, and the tokens deferred on a cell are woken, all without a scan
-// of the ledger. `used` is the number of tokens in the ledger.
+// The matching store: a ledger, with two arrays beside it. By `links` a token is found by its tag and port, and the tokens
+// deferred on a cell are woken; by `flags` the enabled activities are counted and found by their number; all without a scan
+// of the ledger. `used` is the number of tokens in the ledger, and `tables` those of the graph.
 use chains::Found;
 use record::tag::Tag;
 use record::token;
@@ -19,73 +19,55 @@ ghost use Rattle.enabled.specs.Store.{Known, Operands, statesSpent, tokensSpent
 ghost use Rattle.matching.specs.Matching.{Matching};
 
 // The first token that stands at a port of a tag.
-pub fn find(
-    heads: &[u16; 4096],
-    next: &[u16; 2048],
-    ledger: &[u8],
-    used: usize,
-    tag: Tag,
-    port: u8,
-) -> Found
-    requires { ⌜ Known (now heads) (now next) (now ledger) used ⌝ }
+pub fn find(links: &[u16; 9216], ledger: &[u8], used: usize, tag: Tag, port: u8) -> Found
+    requires { ⌜ Known (now links) (now ledger) used ⌝ }
     ensures { λ r. ⌜ (r ≡ firstFrom (standsAt tag port) 0 (tokens used (now (ledger .entry)))) × Within r used ⌝ }
 {
-    chains::find(heads, next, ledger, used, tag, port)
+    chains::find(links, ledger, used, tag, port)
 }
 
 // How many activities are enabled.
-pub fn enabled_count(flags: &[u64; 33], counts: &[u16; 36]) -> usize
-    requires { ⌜ Counted (now flags) (now counts) ⌝ }
+pub fn enabled_count(flags: &[u64; 69]) -> usize
+    requires { ⌜ Counted (now flags) ⌝ }
     ensures { λ r. ⌜ r ≡ length (places (flagsOf (now (flags .entry)))) ⌝ }
 {
-    flags::count(flags, counts)
+    flags::count(flags)
 }
 
 // The place of enabled activity number k, counted from 0.
-pub fn enabled_at(flags: &[u64; 33], counts: &[u16; 36], k: usize) -> usize
-    requires { ⌜ Counted (now flags) (now counts) × (k < length (places (flagsOf (now flags)))) ⌝ }
+pub fn enabled_at(flags: &[u64; 69], k: usize) -> usize
+    requires { ⌜ Counted (now flags) × (k < length (places (flagsOf (now flags)))) ⌝ }
     ensures { λ r. ⌜ (r ≡ getD (places (flagsOf (now (flags .entry)))) k 0) × (r < 2048) ⌝ }
 {
-    flags::select(flags, counts, k)
+    flags::select(flags, k)
 }
 
 // A token arrives where none stands: it becomes record `used`.
 pub fn arrive(
-    arities: &[u8],
-    heads: &mut [u16; 4096],
-    next: &mut [u16; 2048],
-    flags: &mut [u64; 33],
-    counts: &mut [u16; 36],
-    waiting: &mut [u16; 1024],
-    later: &mut [u16; 2048],
+    tables: &[u16; 512],
+    links: &mut [u16; 9216],
+    flags: &mut [u64; 69],
     ledger: &mut [u8],
     used: usize,
     t: Token,
 )
-    requires { ⌜ Matching (now arities) (now heads) (now next) (now flags) (now counts) (now waiting) (now later) (now ledger) used × (used < length (now ledger) / 20) × (used < 2048) × (t .port < 2) × Deferred.LowCell (t .content) × Free (tokens used (now ledger)) (t .tag) (t .port) ⌝ }
+    requires { ⌜ Matching (now tables) (now links) (now flags) (now ledger) used × (used < length (now ledger) / 20) × (used < 2048) × (t .port < 2) × Deferred.LowCell (t .content) × Free (tokens used (now ledger)) (t .tag) (t .port) ⌝ }
     ensures { λ _. ⌜ now (ledger .exit) ≡ putRow 20 (now (ledger .entry)) used (encode t) ⌝ }
     ensures { λ _. ⌜ tokens (used + 1) (now (ledger .exit)) ≡ tokens used (now (ledger .entry)) ++ t ∷ [] ⌝ }
-    ensures { λ _. ⌜ Matching (now (arities .entry)) (now (heads .exit)) (now (next .exit)) (now (flags .exit)) (now (counts .exit)) (now (waiting .exit)) (now (later .exit)) (now (ledger .exit)) (used + 1) ⌝ }
+    ensures { λ _. ⌜ Matching (now (tables .entry)) (now (links .exit)) (now (flags .exit)) (now (ledger .exit)) (used + 1) ⌝ }
 {
-    enabled::append(arities, heads, next, flags, counts, ledger, used, t);
-    chains::note(waiting, later, used, t);
+    enabled::append(tables, links, flags, ledger, used, t);
 }
 
 // The operands of an enabled activity are spent; where one is waited for, both places are its place. They were live, so
 // the chains of deferred tokens stay right.
-pub fn spend_operands(
-    flags: &mut [u64; 33],
-    counts: &mut [u16; 36],
-    ledger: &mut [u8],
-    first: usize,
-    second: usize,
-)
-    requires { ⌜ Counted (now flags) (now counts) × (first < 2048) × (second < 2048) × (first < length (now ledger) / 20) × (second < length (now ledger) / 20) ⌝ }
+pub fn spend_operands(flags: &mut [u64; 69], ledger: &mut [u8], first: usize, second: usize)
+    requires { ⌜ Counted (now flags) × (first < 2048) × (second < 2048) × (first < length (now ledger) / 20) × (second < length (now ledger) / 20) ⌝ }
     ensures { λ _. ⌜ now (ledger .exit) ≡ statesSpent (now (ledger .entry)) first second ⌝ }
-    ensures { λ _. ⌜ ((arities heads next waiting later : List ℕ) (used : ℕ) → Matching arities heads next (now (flags .entry)) (now (counts .entry)) waiting later (now (ledger .entry)) used → Operands (now (ledger .entry)) used first second
-        → (tokens used (now (ledger .exit)) ≡ tokensSpent used (now (ledger .entry)) first second) × Matching arities heads next (now (flags .exit)) (now (counts .exit)) waiting later (now (ledger .exit)) used) ⌝ }
+    ensures { λ _. ⌜ ((tables links : List ℕ) (used : ℕ) → Matching tables links (now (flags .entry)) (now (ledger .entry)) used → Operands (now (ledger .entry)) used first second
+        → (tokens used (now (ledger .exit)) ≡ tokensSpent used (now (ledger .entry)) first second) × Matching tables links (now (flags .exit)) (now (ledger .exit)) used) ⌝ }
 {
-    enabled::spend_operands(flags, counts, ledger, first, second);
+    enabled::spend_operands(flags, ledger, first, second);
 }
 
 fn content_woken(x: Content, cell: u32, v: i32) -> Content
@@ -118,31 +100,27 @@ fn woken(t: Token, cell: u32, v: i32) -> Token
 
 // Every token that is deferred on a cell becomes live, with the cell's value. The cost is that of the tokens woken.
 pub fn wake(
-    arities: &[u8],
-    heads: &[u16; 4096],
-    next: &[u16; 2048],
-    flags: &mut [u64; 33],
-    counts: &mut [u16; 36],
-    waiting: &mut [u16; 1024],
-    later: &[u16; 2048],
+    tables: &[u16; 512],
+    links: &mut [u16; 9216],
+    flags: &mut [u64; 69],
     ledger: &mut [u8],
     used: usize,
     cell: u32,
     v: i32,
 )
-    requires { ⌜ Matching (now arities) (now heads) (now next) (now flags) (now counts) (now waiting) (now later) (now ledger) used × (cell < 1024) ⌝ }
+    requires { ⌜ Matching (now tables) (now links) (now flags) (now ledger) used × (cell < 1024) ⌝ }
     ensures { λ _. ⌜ now (ledger .exit) ≡ joined encode (map (Deferred.woken cell v) (tokens used (now (ledger .entry)))) ++ drop (used * 20) (now (ledger .entry)) ⌝ }
     ensures { λ _. ⌜ tokens used (now (ledger .exit)) ≡ map (Deferred.woken cell v) (tokens used (now (ledger .entry))) ⌝ }
-    ensures { λ _. ⌜ Matching (now (arities .entry)) (now (heads .entry)) (now (next .entry)) (now (flags .exit)) (now (counts .exit)) (now (waiting .exit)) (now (later .entry)) (now (ledger .exit)) used ⌝ }
+    ensures { λ _. ⌜ Matching (now (tables .entry)) (now (links .exit)) (now (flags .exit)) (now (ledger .exit)) used ⌝ }
 {
-    let c = cell as usize;
-    let mut at = chains::wide(waiting[c]);
+    let head = (cell as usize) + chains::WAITING;
+    let mut at = chains::wide(links[head]);
     while at != 0 {
         let i = at - 1;
         let t = token::token_at(ledger, i);
         let u = woken(t, cell, v);
-        enabled::change(arities, heads, next, flags, counts, ledger, used, i, u);
-        at = chains::wide(later[i]);
+        enabled::change(tables, links, flags, ledger, used, i, u);
+        at = chains::wide(links[i + chains::LATER]);
     }
-    waiting[c] = 0;
+    links[head] = 0;
 }

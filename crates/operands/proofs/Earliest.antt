@@ -41,7 +41,7 @@ unfolding one two
 one-as-two (Live i v) = refl
 one-as-two Missing = refl
 
-module _ {arity used place : ℕ} {heads next ledger : List ℕ} {tag : Tag} (k : Known heads next ledger used) (e : Earliest arity (tokens used ledger) tag place) where
+module _ {arity used place : ℕ} {links ledger : List ℕ} {tag : Tag} (k : Known links ledger used) (e : Earliest arity (tokens used ledger) tag place) where
   abbrev ts : List Token
   ts = tokens used ledger
 

@@ -46,18 +46,11 @@ fn as_operand(place: usize, content: Content) -> Operand
 }
 
 // The operand on a port of a tag.
-fn operand_on(
-    heads: &[u16; 4096],
-    next: &[u16; 2048],
-    ledger: &[u8],
-    used: usize,
-    tag: Tag,
-    port: u8,
-) -> Operand
-    requires { ⌜ Known (now heads) (now next) (now ledger) used ⌝ }
+fn operand_on(links: &[u16; 9216], ledger: &[u8], used: usize, tag: Tag, port: u8) -> Operand
+    requires { ⌜ Known (now links) (now ledger) used ⌝ }
     ensures { λ r. ⌜ r ≡ operandAt (tokens used (now (ledger .entry))) tag port ⌝ }
 {
-    let Found::At(i) = matching::find(heads, next, ledger, used, tag, port) else {
+    let Found::At(i) = matching::find(links, ledger, used, tag, port) else {
         return Operand::Missing;
     };
     let t = token::token_at(ledger, i);
@@ -86,15 +79,14 @@ fn both(first: Operand, second: Operand) -> Matched
 // All operands of a tag, if they are live. The token at the tag's place is one of them: the other alone is searched for,
 // where there is one.
 pub fn operands_of(
-    heads: &[u16; 4096],
-    next: &[u16; 2048],
+    links: &[u16; 9216],
     ledger: &[u8],
     used: usize,
     tag: Tag,
-    arity: u8,
+    arity: u16,
     place: usize,
 ) -> Matched
-    requires { ⌜ Known (now heads) (now next) (now ledger) used × Earliest arity (tokens used (now ledger)) tag place ⌝ }
+    requires { ⌜ Known (now links) (now ledger) used × Earliest arity (tokens used (now ledger)) tag place ⌝ }
     ensures { λ r. ⌜ r ≡ matchedAt arity (tokens used (now (ledger .entry))) tag ⌝ }
 {
     if arity == 0 {
@@ -106,7 +98,7 @@ pub fn operands_of(
     if arity == 1 {
         return both(own, own);
     }
-    let other = operand_on(heads, next, ledger, used, tag, 1 - t.port);
+    let other = operand_on(links, ledger, used, tag, 1 - t.port);
     if t.port == 0 {
         both(own, other)
     } else {
@@ -115,12 +107,12 @@ pub fn operands_of(
 }
 
 // Whether a token stands there, of whatever state.
-fn taken(heads: &[u16; 4096], next: &[u16; 2048], ledger: &[u8], used: usize, key: Key) -> bool
-    requires { ⌜ Known (now heads) (now next) (now ledger) used ⌝ }
+fn taken(links: &[u16; 9216], ledger: &[u8], used: usize, key: Key) -> bool
+    requires { ⌜ Known (now links) (now ledger) used ⌝ }
     ensures { λ r. ⌜ r ≡ isTaken (tokens used (now (ledger .entry))) key ⌝ }
 {
     let tag = key.tag;
-    let found = matching::find(heads, next, ledger, used, tag, key.port);
+    let found = matching::find(links, ledger, used, tag, key.port);
     match found {
         Found::At(_) => true,
         Found::Nothing => false,
@@ -136,14 +128,8 @@ fn same_keys(a: Key, b: Key) -> bool
 }
 
 // Refusal 9: an output's tag and port taken, by a token or by the other output.
-fn any_taken(
-    heads: &[u16; 4096],
-    next: &[u16; 2048],
-    ledger: &[u8],
-    used: usize,
-    outputs: Outputs,
-) -> bool
-    requires { ⌜ Known (now heads) (now next) (now ledger) used ⌝ }
+fn any_taken(links: &[u16; 9216], ledger: &[u8], used: usize, outputs: Outputs) -> bool
+    requires { ⌜ Known (now links) (now ledger) used ⌝ }
     ensures { λ r. ⌜ r ≡ anyTakenOf (tokens used (now (ledger .entry))) outputs ⌝ }
 {
     let first = outputs.first;
@@ -151,7 +137,7 @@ fn any_taken(
     if outputs.count == 0 {
         return false;
     }
-    if taken(heads, next, ledger, used, first) {
+    if taken(links, ledger, used, first) {
         return true;
     }
     if outputs.count == 1 {
@@ -160,24 +146,18 @@ fn any_taken(
     if same_keys(first, second) {
         return true;
     }
-    taken(heads, next, ledger, used, second)
+    taken(links, ledger, used, second)
 }
 
 // Whether the outputs of a firing can go into the ledger: refusal 8, then 9.
-pub fn admit(
-    heads: &[u16; 4096],
-    next: &[u16; 2048],
-    ledger: &[u8],
-    used: usize,
-    outputs: Outputs,
-) -> Admitted
-    requires { ⌜ Known (now heads) (now next) (now ledger) used × (used ≤ 2048) ⌝ }
+pub fn admit(links: &[u16; 9216], ledger: &[u8], used: usize, outputs: Outputs) -> Admitted
+    requires { ⌜ Known (now links) (now ledger) used × (used ≤ 2048) ⌝ }
     ensures { λ r. ⌜ r ≡ admittedOf (length (now (ledger .entry)) / 20) (tokens used (now (ledger .entry))) outputs ⌝ }
 {
     if ledger.len() / 20 < used + (outputs.count as usize) {
         return Admitted::No(Refusal::LedgerFull);
     }
-    if any_taken(heads, next, ledger, used, outputs) {
+    if any_taken(links, ledger, used, outputs) {
         return Admitted::No(Refusal::SecondToken);
     }
     Admitted::Yes

@@ -111,17 +111,17 @@ spent-both n i j l h k = go (ℕ-discrete i j)
 
 -- ---- what a step leaves
 
-module _ {arities heads next flags counts waiting later l : List ℕ} {used : ℕ} (m : Matching arities heads next flags counts waiting later l used) where
+module _ {tables links flags l : List ℕ} {used : ℕ} (m : Matching tables links flags l used) where
   room-bytes : used * 20 ≤ length l
   room-bytes = omega (arith, matching-room m)
 
-  pub kept-same : Kept arities heads next flags counts waiting later l used (tokens used l) l
+  pub kept-same : Kept tables links flags l used (tokens used l) l
   kept-same = record { matching = m; held = refl; size = refl; rest = refl }
 
   -- the operands are spent
-  pub kept-spent : {i j : ℕ} → Operands l used i j → {flags′ counts′ l′ : List ℕ} → l′ ≡ statesSpent l i j → tokens used l′ ≡ tokensSpent used l i j
-      → Matching arities heads next flags′ counts′ waiting later l′ used
-      → Kept arities heads next flags′ counts′ waiting later l′ used (spentAt i j (tokens used l)) l
+  pub kept-spent : {i j : ℕ} → Operands l used i j → {flags′ l′ : List ℕ} → l′ ≡ statesSpent l i j → tokens used l′ ≡ tokensSpent used l i j
+      → Matching tables links flags′ l′ used
+      → Kept tables links flags′ l′ used (spentAt i j (tokens used l)) l
   kept-spent {i} {j} o put e n =
       let m = set l (i * 20 + 16) 1 in
       record {
@@ -132,10 +132,10 @@ module _ {arities heads next flags counts waiting later l : List ℕ} {used : �
       }
 
   -- a token arrives
-  pub kept-arrived : (t : Token) → used < length l / 20 → {heads′ next′ flags′ counts′ waiting′ later′ l′ : List ℕ} → l′ ≡ putRow 20 l used (encode t)
+  pub kept-arrived : (t : Token) → used < length l / 20 → {links′ flags′ l′ : List ℕ} → l′ ≡ putRow 20 l used (encode t)
       → tokens (used + 1) l′ ≡ tokens used l ++ t ∷ []
-      → Matching arities heads′ next′ flags′ counts′ waiting′ later′ l′ (used + 1)
-      → Kept arities heads′ next′ flags′ counts′ waiting′ later′ l′ (used + 1) (tokens used l ++ t ∷ []) l
+      → Matching tables links′ flags′ l′ (used + 1)
+      → Kept tables links′ flags′ l′ (used + 1) (tokens used l ++ t ∷ []) l
   kept-arrived t h put e n = record {
     matching = n;
     held = e;
@@ -144,10 +144,10 @@ module _ {arities heads next flags counts waiting later l : List ℕ} {used : �
   }
 
   -- tokens are woken
-  pub kept-woken : (cell : ℕ) (v : ℤ) → {flags′ counts′ waiting′ l′ : List ℕ} → l′ ≡ joined encode (map (woken cell v) (tokens used l)) ++ drop (used * 20) l
+  pub kept-woken : (cell : ℕ) (v : ℤ) → {links′ flags′ l′ : List ℕ} → l′ ≡ joined encode (map (woken cell v) (tokens used l)) ++ drop (used * 20) l
       → tokens used l′ ≡ map (woken cell v) (tokens used l)
-      → Matching arities heads next flags′ counts′ waiting′ later l′ used
-      → Kept arities heads next flags′ counts′ waiting′ later l′ used (map (woken cell v) (tokens used l)) l
+      → Matching tables links′ flags′ l′ used
+      → Kept tables links′ flags′ l′ used (map (woken cell v) (tokens used l)) l
   kept-woken cell v put e n =
       let us = map (woken cell v) (tokens used l) in
       let room : used * 20 ≤ length l = room-bytes in
@@ -160,10 +160,10 @@ module _ {arities heads next flags counts waiting later l : List ℕ} {used : �
       }
 
 -- two steps in turn: the second makes f of the tokens
-module _ {arities heads next flags counts waiting later l : List ℕ} {n : ℕ} {ts : List Token} {start : List ℕ} (k : Kept arities heads next flags counts waiting later l n ts start) where
-  pub kept-again : (f : List Token → List Token) (n′ : ℕ) → n ≤ n′ → {heads′ next′ flags′ counts′ waiting′ later′ l′ : List ℕ}
-      → Kept arities heads′ next′ flags′ counts′ waiting′ later′ l′ n′ (f (tokens n l)) l
-      → Kept arities heads′ next′ flags′ counts′ waiting′ later′ l′ n′ (f ts) start
+module _ {tables links flags l : List ℕ} {n : ℕ} {ts : List Token} {start : List ℕ} (k : Kept tables links flags l n ts start) where
+  pub kept-again : (f : List Token → List Token) (n′ : ℕ) → n ≤ n′ → {links′ flags′ l′ : List ℕ}
+      → Kept tables links′ flags′ l′ n′ (f (tokens n l)) l
+      → Kept tables links′ flags′ l′ n′ (f ts) start
   kept-again f n′ h k′ = record {
     matching = k′ .matching;
     held = k′ .held ∙ ap f (k .held);
@@ -172,7 +172,7 @@ module _ {arities heads next flags counts waiting later l : List ℕ} {n : ℕ} 
   }
 
   -- the same tokens, otherwise written
-  pub kept-as : {us : List Token} → ts ≡ us → Kept arities heads next flags counts waiting later l n us start
+  pub kept-as : {us : List Token} → ts ≡ us → Kept tables links flags l n us start
   kept-as e = record { matching = k .matching; held = k .held ∙ e; size = k .size; rest = k .rest }
 
   -- there is as much room as there was
@@ -252,18 +252,18 @@ module _ (ts : List Token) (j k : Key) (n : ℕ) (some-out : n ≡ 0 → ⊥) (f
       go (suc zero) z o f = absurd (o refl)
       go (suc (suc n)) z o f = first-none-added (standsAt (k .tag) (k .port)) ts (tokenOut x j) 0 (f .1) (f .2 x)
 
-module _ (j k : Key) (x : Content) (n used : ℕ) (ts : List Token) {arities heads next flags counts waiting later l start : List ℕ} where
-  pub kept-none : Kept arities heads next flags counts waiting later l used ts start → n ≡ 0
-      → Kept arities heads next flags counts waiting later l (used + n) (ts ++ outputsBy n j k x) start
+module _ (j k : Key) (x : Content) (n used : ℕ) (ts : List Token) {tables links flags l start : List ℕ} where
+  pub kept-none : Kept tables links flags l used ts start → n ≡ 0
+      → Kept tables links flags l (used + n) (ts ++ outputsBy n j k x) start
   kept-none w e = rw (e, add-zero used, append-nil ts) w
 
-  module _ (w : Kept arities heads next flags counts waiting later l (used + 1) (ts ++ tokenOut x j ∷ []) start) where
-    pub kept-first : n ≡ 1 → Kept arities heads next flags counts waiting later l (used + n) (ts ++ outputsBy n j k x) start
+  module _ (w : Kept tables links flags l (used + 1) (ts ++ tokenOut x j ∷ []) start) where
+    pub kept-first : n ≡ 1 → Kept tables links flags l (used + n) (ts ++ outputsBy n j k x) start
     kept-first e = rw e w
 
-    pub kept-second : {heads′ next′ flags′ counts′ waiting′ later′ l′ : List ℕ}
-        → Kept arities heads′ next′ flags′ counts′ waiting′ later′ l′ (used + 1 + 1) (tokens (used + 1) l ++ tokenOut x k ∷ []) l
-        → (n ≡ 0 → ⊥) → (n ≡ 1 → ⊥) → n ≤ 2 → Kept arities heads′ next′ flags′ counts′ waiting′ later′ l′ (used + n) (ts ++ outputsBy n j k x) start
+    pub kept-second : {links′ flags′ l′ : List ℕ}
+        → Kept tables links′ flags′ l′ (used + 1 + 1) (tokens (used + 1) l ++ tokenOut x k ∷ []) l
+        → (n ≡ 0 → ⊥) → (n ≡ 1 → ⊥) → n ≤ 2 → Kept tables links′ flags′ l′ (used + n) (ts ++ outputsBy n j k x) start
     kept-second w′ z o h =
         let e : n ≡ 2 = omega arith in
         let two : used + 2 ≡ used + 1 + 1 = omega arith in

@@ -129,8 +129,8 @@ writesAgain (Write c v) cs = isPresent (getD cs c Absent)
 -- ---- what the code leaves
 
 -- the arrays are right for a ledger that has these tokens, and the bytes past them are as they were
-pub record Kept (arities heads next flags counts waiting later ledger′ : List ℕ) (used : ℕ) (ts : List Token) (ledger : List ℕ) : Type 0 where
-  pub matching : Matching arities heads next flags counts waiting later ledger′ used
+pub record Kept (tables links flags ledger′ : List ℕ) (used : ℕ) (ts : List Token) (ledger : List ℕ) : Type 0 where
+  pub matching : Matching tables links flags ledger′ used
   pub held : tokens used ledger′ ≡ ts
   pub size : length ledger′ ≡ length ledger
   pub rest : drop (used * 20) ledger′ ≡ drop (used * 20) ledger
@@ -142,8 +142,8 @@ pub record CellsKept (cells′ : List ℕ) (cs : List Cell) (cells : List ℕ) :
   pub size : length cells′ ≡ length cells
 
 -- what a firing is lent, with the places of its operands
-pub record Lent (arities heads next flags counts waiting later ledger cells : List ℕ) (used i j : ℕ) : Type 0 where
-  pub matching : Matching arities heads next flags counts waiting later ledger used
+pub record Lent (tables links flags ledger cells : List ℕ) (used i j : ℕ) : Type 0 where
+  pub matching : Matching tables links flags ledger used
   pub few : length ledger / 20 ≤ 2048
   pub activity : Operands ledger used i j
   pub store : CellStore cells

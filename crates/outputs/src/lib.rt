@@ -20,31 +20,23 @@ ghost use Rattle.outputs.specs.Outputs.{Kept, CellStore, CellsKept, spen
 
 // An output goes in as record `used`.
 fn append_one(
-    arities: &[u8],
-    heads: &mut [u16; 4096],
-    next: &mut [u16; 2048],
-    flags: &mut [u64; 33],
-    counts: &mut [u16; 36],
-    waiting: &mut [u16; 1024],
-    later: &mut [u16; 2048],
+    tables: &[u16; 512],
+    links: &mut [u16; 9216],
+    flags: &mut [u64; 69],
     ledger: &mut [u8],
     used: usize,
     key: Key,
     content: Content,
 )
-    requires { ⌜ Matching (now arities) (now heads) (now next) (now flags) (now counts) (now waiting) (now later) (now ledger) used × (used < length (now ledger) / 20) × (used < 2048) × (key .port < 2) × LowCell content × Free (tokens used (now ledger)) (key .tag) (key .port) ⌝ }
-    ensures { λ _. ⌜ Kept (now (arities .entry)) (now (heads .exit)) (now (next .exit)) (now (flags .exit)) (now (counts .exit)) (now (waiting .exit)) (now (later .exit)) (now (ledger .exit)) (used + 1)
+    requires { ⌜ Matching (now tables) (now links) (now flags) (now ledger) used × (used < length (now ledger) / 20) × (used < 2048) × (key .port < 2) × LowCell content × Free (tokens used (now ledger)) (key .tag) (key .port) ⌝ }
+    ensures { λ _. ⌜ Kept (now (tables .entry)) (now (links .exit)) (now (flags .exit)) (now (ledger .exit)) (used + 1)
         (tokens used (now (ledger .entry)) ++ tokenOut content key ∷ []) (now (ledger .entry)) ⌝ }
 {
     let tag = key.tag;
     matching::arrive(
-        arities,
-        heads,
-        next,
+        tables,
+        links,
         flags,
-        counts,
-        waiting,
-        later,
         ledger,
         used,
         Token {
@@ -57,20 +49,16 @@ fn append_one(
 
 // The outputs go into the ledger, destination 1 first: how many tokens it then has.
 fn append_outputs(
-    arities: &[u8],
-    heads: &mut [u16; 4096],
-    next: &mut [u16; 2048],
-    flags: &mut [u64; 33],
-    counts: &mut [u16; 36],
-    waiting: &mut [u16; 1024],
-    later: &mut [u16; 2048],
+    tables: &[u16; 512],
+    links: &mut [u16; 9216],
+    flags: &mut [u64; 69],
     ledger: &mut [u8],
     used: usize,
     outputs: Outputs,
     content: Content,
 ) -> usize
-    requires { ⌜ Matching (now arities) (now heads) (now next) (now flags) (now counts) (now waiting) (now later) (now ledger) used × (used + outputs .count ≤ length (now ledger) / 20) × (length (now ledger) / 20 ≤ 2048) × (outputs .count ≤ 2) × LowPorts outputs × LowCell content × FreeKeys (tokens used (now ledger)) outputs ⌝ }
-    ensures { λ r. ⌜ (r ≡ used + outputs .count) × Kept (now (arities .entry)) (now (heads .exit)) (now (next .exit)) (now (flags .exit)) (now (counts .exit)) (now (waiting .exit)) (now (later .exit)) (now (ledger .exit)) (used + outputs .count)
+    requires { ⌜ Matching (now tables) (now links) (now flags) (now ledger) used × (used + outputs .count ≤ length (now ledger) / 20) × (length (now ledger) / 20 ≤ 2048) × (outputs .count ≤ 2) × LowPorts outputs × LowCell content × FreeKeys (tokens used (now ledger)) outputs ⌝ }
+    ensures { λ r. ⌜ (r ≡ used + outputs .count) × Kept (now (tables .entry)) (now (links .exit)) (now (flags .exit)) (now (ledger .exit)) (used + outputs .count)
         (tokens used (now (ledger .entry)) ++ outputsOf content outputs) (now (ledger .entry)) ⌝ }
 {
     let first = outputs.first;
@@ -78,35 +66,11 @@ fn append_outputs(
     if outputs.count == 0 {
         return used;
     }
-    append_one(
-        arities,
-        heads,
-        next,
-        flags,
-        counts,
-        waiting,
-        later,
-        ledger,
-        used,
-        first,
-        content,
-    );
+    append_one(tables, links, flags, ledger, used, first, content);
     if outputs.count == 1 {
         return used + 1;
     }
-    append_one(
-        arities,
-        heads,
-        next,
-        flags,
-        counts,
-        waiting,
-        later,
-        ledger,
-        used + 1,
-        second,
-        content,
-    );
+    append_one(tables, links, flags, ledger, used + 1, second, content);
     used + 2
 }
 
@@ -143,48 +107,28 @@ fn change_cells(cells: &mut [u8], action: Action) -> Content
 
 // A write wakes the tokens that are deferred on its cell.
 fn wake(
-    arities: &[u8],
-    heads: &[u16; 4096],
-    next: &[u16; 2048],
-    flags: &mut [u64; 33],
-    counts: &mut [u16; 36],
-    waiting: &mut [u16; 1024],
-    later: &[u16; 2048],
+    tables: &[u16; 512],
+    links: &mut [u16; 9216],
+    flags: &mut [u64; 69],
     ledger: &mut [u8],
     used: usize,
     action: Action,
 )
-    requires { ⌜ Matching (now arities) (now heads) (now next) (now flags) (now counts) (now waiting) (now later) (now ledger) used × OnCells 1024 action ⌝ }
-    ensures { λ _. ⌜ Kept (now (arities .entry)) (now (heads .entry)) (now (next .entry)) (now (flags .exit)) (now (counts .exit)) (now (waiting .exit)) (now (later .entry)) (now (ledger .exit)) used
+    requires { ⌜ Matching (now tables) (now links) (now flags) (now ledger) used × OnCells 1024 action ⌝ }
+    ensures { λ _. ⌜ Kept (now (tables .entry)) (now (links .exit)) (now (flags .exit)) (now (ledger .exit)) used
         (wokenBy action (tokens used (now (ledger .entry)))) (now (ledger .entry)) ⌝ }
 {
     let Action::Write(number, v) = action else {
         return;
     };
-    matching::wake(
-        arities,
-        heads,
-        next,
-        flags,
-        counts,
-        waiting,
-        later,
-        ledger,
-        used,
-        number,
-        v,
-    );
+    matching::wake(tables, links, flags, ledger, used, number, v);
 }
 
 // A firing that nothing refuses: how many tokens the ledger then has.
 pub fn carry_out(
-    arities: &[u8],
-    heads: &mut [u16; 4096],
-    next: &mut [u16; 2048],
-    flags: &mut [u64; 33],
-    counts: &mut [u16; 36],
-    waiting: &mut [u16; 1024],
-    later: &mut [u16; 2048],
+    tables: &[u16; 512],
+    links: &mut [u16; 9216],
+    flags: &mut [u64; 69],
     ledger: &mut [u8],
     cells: &mut [u8],
     used: usize,
@@ -193,38 +137,15 @@ pub fn carry_out(
     action: Action,
     outputs: Outputs,
 ) -> usize
-    requires { ⌜ Lent (now arities) (now heads) (now next) (now flags) (now counts) (now waiting) (now later) (now ledger) (now cells) used first second × (used + outputs .count ≤ length (now ledger) / 20) × (outputs .count ≤ 2) × LowPorts outputs × OnCells (length (now cells) / 8) action × FreeKeys (tokens used (now ledger)) outputs ⌝ }
-    ensures { λ r. ⌜ (r ≡ used + outputs .count) × Kept (now (arities .entry)) (now (heads .exit)) (now (next .exit)) (now (flags .exit)) (now (counts .exit)) (now (waiting .exit)) (now (later .exit)) (now (ledger .exit)) (used + outputs .count)
+    requires { ⌜ Lent (now tables) (now links) (now flags) (now ledger) (now cells) used first second × (used + outputs .count ≤ length (now ledger) / 20) × (outputs .count ≤ 2) × LowPorts outputs × OnCells (length (now cells) / 8) action × FreeKeys (tokens used (now ledger)) outputs ⌝ }
+    ensures { λ r. ⌜ (r ≡ used + outputs .count) × Kept (now (tables .entry)) (now (links .exit)) (now (flags .exit)) (now (ledger .exit)) (used + outputs .count)
         (wokenBy action (spentAt first second (tokens used (now (ledger .entry)))) ++ outputsOf (contentBy action (cellsIn (now (cells .entry)))) outputs) (now (ledger .entry))
         × CellsKept (now (cells .exit)) (cellsBy action (cellsIn (now (cells .entry)))) (now (cells .entry)) ⌝ }
 {
-    matching::spend_operands(flags, counts, ledger, first, second);
+    matching::spend_operands(flags, ledger, first, second);
     let content = change_cells(cells, action);
-    wake(
-        arities,
-        heads,
-        next,
-        flags,
-        counts,
-        waiting,
-        later,
-        ledger,
-        used,
-        action,
-    );
-    append_outputs(
-        arities,
-        heads,
-        next,
-        flags,
-        counts,
-        waiting,
-        later,
-        ledger,
-        used,
-        outputs,
-        content,
-    )
+    wake(tables, links, flags, ledger, used, action);
+    append_outputs(tables, links, flags, ledger, used, outputs, content)
 }
 
 // Whether an action writes a cell that is present.

@@ -20,14 +20,14 @@ use Rattle.tables.specs.Tables.{Returns, returnEntry}
 use Rattle.fields.proofs.Sites.{at-site}
 use Rattle.fields.proofs.FanOuts.{operands-small}
 
--- one entry more
-pub entry-next : (f : ℕ → ℕ) (t : List ℕ) (i v : ℕ) → i < length t → ((k : ℕ) → k < i → getD t k 0 ≡ f k) → v ≡ f i
-    → (k : ℕ) → k < i + 1 → getD (set t i v) k 0 ≡ f k
+-- one entry of the second half more
+pub entry-next : (f : ℕ → ℕ) (t : List ℕ) (i v : ℕ) → i + 256 < length t → ((k : ℕ) → k < i → getD t (k + 256) 0 ≡ f k) → v ≡ f i
+    → (k : ℕ) → k < i + 1 → getD (set t (i + 256) v) (k + 256) 0 ≡ f k
 entry-next f t i v h before e k l = go (eqb k i) refl
   where
-    go : (b : Bool) → eqb k i ≡ b → getD (set t i v) k 0 ≡ f k
-    go true p = rw (eqb-true k i p) (getD-set-same t i v 0 h ∙ e)
-    go false p = getD-set-other t i k v 0 (eqb-false k i p) ∙ before k (let n = eqb-false k i p in omega arith)
+    go : (b : Bool) → eqb k i ≡ b → getD (set t (i + 256) v) (k + 256) 0 ≡ f k
+    go true p = rw (eqb-true k i p) (getD-set-same t (i + 256) v 0 h ∙ e)
+    go false p = let n = eqb-false k i p in getD-set-other t (i + 256) (k + 256) v 0 (λ q. n (omega arith)) ∙ before k (omega arith)
 
 -- an entry of the first table is 2 at most
 pub arity-small : (g : List Instruction) (τ : Tag) → arityIn g τ ≤ 2
@@ -38,12 +38,12 @@ arity-small g τ = go (eqb (instructionAt g (τ .instruction) .code) 3)
     go true = omega arith
     go false = operands-small (instructionAt g (τ .instruction) .code)
 
-pub no-returns : Returns [] (replicate 256 0)
+pub no-returns : Returns [] (replicate 512 0)
 unfolding returnOf
-no-returns site h = getD-replicate 256 site 0 0 h
+no-returns site h = getD-replicate 512 site 0 0 (omega arith)
 
 -- one record more, before the others
-pub note-returns : (rs : List Instruction) (t : List ℕ) (r : Instruction) → Returns rs t → length t ≡ 256
+pub note-returns : (rs : List Instruction) (t : List ℕ) (r : Instruction) → Returns rs t → 256 ≤ length t
     → Returns (r ∷ rs) (atSite t r (returnEntry (some (r .second .instruction))))
 unfolding returnOf
 note-returns rs t r s n site h = at-site t r (returnEntry (some (r .second .instruction))) site n h ∙ go (entersSite (pos site) r)

@@ -1,4 +1,5 @@
-// Two tables of a graph, by which a run need not look through it: operand counts by instruction, returns by site.
+// Two tables of a graph in one array, by which a run need not look through it: returns by site in the first half, operand
+// counts by instruction in the second.
 use fields::constant;
 use record::instruction;
 use record::instruction::Instruction;
@@ -13,7 +14,7 @@ ghost use Rattle.fields.specs.Sites.{atSite};
 ghost use Rattle.tables.specs.Tables.{Arities, Returns, returnEntry};
 
 // How many operands an activity of instruction i waits for.
-fn arity_at(graph: &[u8], i: usize) -> u8
+fn arity_at(graph: &[u8], i: usize) -> u16
     ensures { λ r. ⌜ r ≡ arityIn (graphOf (now (graph .entry))) (rootOf i) ⌝ }
 {
     if i < graph.len() / 16 {
@@ -21,21 +22,22 @@ fn arity_at(graph: &[u8], i: usize) -> u8
         if code == 3 {
             0
         } else {
-            operation::operands(code)
+            operation::operands(code) as u16
         }
     } else {
         0
     }
 }
 
-// The operand counts.
-pub fn arities(graph: &[u8], out: &mut [u8; 256])
-    ensures { λ _. ⌜ Arities (graphOf (now (graph .entry))) (now (out .exit)) × (length (now (out .exit)) ≡ 256) ⌝ }
+// The operand counts, behind the returns.
+fn arities(graph: &[u8], out: &mut [u16; 512])
+    requires { ⌜ length (now out) ≡ 512 ⌝ }
+    ensures { λ _. ⌜ Arities (graphOf (now (graph .entry))) (now (out .exit)) × (length (now (out .exit)) ≡ 512) ⌝ }
+    ensures { λ _. ⌜ (Returns (graphOf (now (graph .entry))) (now (out .entry)) → Returns (graphOf (now (graph .entry))) (now (out .exit))) ⌝ }
 {
-    *out = [0u8; 256];
     let mut i = 0;
     while i < 256 {
-        out[i] = arity_at(graph, i);
+        out[i + 256] = arity_at(graph, i);
         i += 1;
     }
 }
@@ -48,7 +50,7 @@ fn entry(i: u16) -> u16
 }
 
 // Puts the return of an ENTER into the table.
-fn note(out: &mut [u16; 256], r: Instruction)
+fn note(out: &mut [u16; 512], r: Instruction)
     ensures { λ _. ⌜ now (out .exit) ≡ atSite (now (out .entry)) r (returnEntry (some (r .second .instruction))) ⌝ }
 {
     let back = r.second;
@@ -62,13 +64,21 @@ fn note(out: &mut [u16; 256], r: Instruction)
 }
 
 // The returns. The records are gone through from the last to the first, since the first ENTER of a site counts.
-pub fn returns(graph: &[u8], out: &mut [u16; 256])
-    ensures { λ _. ⌜ Returns (graphOf (now (graph .entry))) (now (out .exit)) ⌝ }
+fn returns(graph: &[u8], out: &mut [u16; 512])
+    ensures { λ _. ⌜ Returns (graphOf (now (graph .entry))) (now (out .exit)) × (length (now (out .exit)) ≡ 512) ⌝ }
 {
-    *out = [0u16; 256];
+    *out = [0u16; 512];
     let mut i = graph.len() / 16;
     while 0 < i {
         i -= 1;
         note(out, instruction::instruction_at(graph, i));
     }
+}
+
+// Both tables.
+pub fn make(graph: &[u8], out: &mut [u16; 512])
+    ensures { λ _. ⌜ Arities (graphOf (now (graph .entry))) (now (out .exit)) × Returns (graphOf (now (graph .entry))) (now (out .exit)) × (length (now (out .exit)) ≡ 512) ⌝ }
+{
+    returns(graph, out);
+    arities(graph, out);
 }

@@ -12,10 +12,10 @@ use Rattle.chains.proofs.find.Statement.{statement}
 use Rattle.chains.proofs.find.Tie as tie
 
 abbrev Inv-loop : tie.InvT-loop
-Inv-loop heads next ledger used tag port b at₀ best₀ at best = Walk ledger used tag port b at best
+Inv-loop links ledger used tag port b at₀ best₀ at best = Walk ledger used tag port b at best
 
 abbrev μ-loop : tie.MeasureT-loop
-μ-loop heads next ledger used tag port b at₀ best₀ at best = at
+μ-loop links ledger used tag port b at₀ best₀ at best = at
 
 -- the step along the chain, where `best` is not yet looked at
 stepped : (c : tie.After-wide2 Inv-loop μ-loop) → let d = c .before .before .before in
@@ -29,7 +29,7 @@ stepped c =
     let s = d .before .before .before .before .before .before .before .before in
     let a = s .args in
     rw (c .wide2 .ensures, d .stands-at .ensures, d .before .token-at .ensures)
-    (walk-step (a .ledger .now) (a .used) (a .tag) (a .port) (a .heads .now) (a .next .now) (s .pre .1) (b .result) (b .ensures .0) (b .ensures .1) (l .at) (l .best) (d .before .before .loop-test .taken) (l .inv))
+    (walk-step (a .ledger .now) (a .used) (a .tag) (a .port) (a .links .now) (s .pre .1) (b .result) (b .ensures .0) (b .ensures .1) (l .at) (l .best) (d .before .before .loop-test .taken) (l .inv))
 
 pub find-spec : {M : Type 1} → statement M
 find-spec = tie.close (tie.spec
@@ -43,10 +43,11 @@ find-spec = tie.close (tie.spec
     let s = c .before .before .before .before in
     let a = s .args in
     let b = c .before .before .bucket in
-    rw (c .wide .ensures) (walk-start (a .ledger .now) (a .used) (a .tag) (a .port) (a .heads .now) (a .next .now) (s .pre .1) (b .result) (b .ensures .0) (b .ensures .1)))
+    rw (c .wide .ensures) (walk-start (a .ledger .now) (a .used) (a .tag) (a .port) (a .links .now) (s .pre .1) (b .result) (b .ensures .0) (b .ensures .1)))
     (λ c. search needs)
     (λ c κs. omega (arith, c .before .loop .inv .low))
     (λ c κs. search needs)
+    (λ c. omega (arith, c .before .before .before .before .loop .inv .on .small))
     (λ c. search needs)
     (λ c. omega (arith, c .before .before .before .before .loop .inv .on .small))
     (λ c κs. search needs)

@@ -14,5 +14,4 @@ link-spec = tie.close (tie.spec
     (λ c. search needs)
     (λ c. search needs)
     (λ c. search needs)
-    (λ c. search needs)
-    (λ c. (refl, refl)))
+    (λ c. refl))

@@ -8,8 +8,8 @@ pub commit-spec : {M : Type 1} → statement M
 commit-spec = tie.close (tie.spec
     (λ c. search needs)
     (λ c. search needs)
-    (λ c κs. let p = c .before .before .before .before .before .before .before .before .before .before .before .before .before .before .pre in (p .0, rw (c .before .before .before .before .before .before .before .before .before .effect2 .given .1) at (p .1)))
-    (λ c. left-refused (c .before .before .before .before .before .before .pre .0) (effect-refused _ _ _ _ _ (c .before .effect .given .1)))
+    (λ c κs. let p = c .before .before .before .before .before .before .before .before .before .pre in (p .0, rw (c .before .before .before .before .before .effect2 .given .1) at (p .1)))
+    (λ c. left-refused (c .before .before .before .before .before .pre .0) (effect-refused _ _ _ _ _ (c .before .effect .given .1)))
     (λ c. search needs)
     (λ c. search needs)
-    (λ c. rw (c .before .before .before .before .before .before .before .before .before .before .before .before .before .before .effect2 .given .1) (c .before .before .before .before .act .ensures)))
+    (λ c. rw (c .before .before .before .before .before .before .before .before .before .before .effect2 .given .1) (c .before .before .before .before .act .ensures)))

@@ -16,7 +16,7 @@ effect-spec = tie.close (tie.spec
     (λ c κs. search needs)
     (λ c κs.
     let s = c .before .before .before in
-    rw (c .instruction-at .ensures) (ready (now (s .args .graph)) (s .args .tag .instruction) (s .pre .1 .1) (now (s .args .returns)) (s .pre .0) (s .pre .1 .0)))
+    rw (c .instruction-at .ensures) (ready (now (s .args .graph)) (s .args .tag .instruction) (s .pre .1 .1) (now (s .args .tables)) (s .pre .0) (s .pre .1 .0)))
     (λ c.
     let s = c .before .before .before .before in
     let graph = now (s .args .graph) in

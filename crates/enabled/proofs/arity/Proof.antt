@@ -9,4 +9,6 @@ pub arity-spec : {M : Type 1} → statement M
 arity-spec = tie.close (tie.spec
     (λ c. search needs)
     (λ c. search needs)
-    (λ c. sym (List·getD-eq-default (c .before .args .arities .now) 0 (c .if1 .left))))
+    (λ c. search needs)
+    (λ c. search needs)
+    (λ c. sym (List·getD-eq-default (c .before .args .tables .now) 0 (c .if1 .left))))

@@ -26,33 +26,33 @@ module _ (s : tie.Start) where
   low = rw (s .pre .3, ← before) (all-at (λ (t : Token). t .port < 2) (tokens (s .args .used) (s .args .ledger .now)) (s .args .i) (tokenAt (s .args .ledger .now) (s .args .i)) (omega (arith, size, s .pre .1)) (s .pre .0 .known .ports))
 
 -- the record is written; its flag is still to be put
-entered : (c : tie.After-put-token) → let a = c .before .before .before .before .before .args in
-    Moved (a .arities .now) (a .heads .now) (a .next .now) (a .flags .now) (c .put-token .last .0) (a .used) (a .i) (set (tokens (a .used) (a .ledger .now)) (a .i) (a .t)) (a .t)
+entered : (c : tie.After-put-token) → let a = c .before .before .before .before .args in
+    Moved (a .tables .now) (a .links .now) (a .flags .now) (c .put-token .last .0) (a .used) (a .i) (set (tokens (a .used) (a .ledger .now)) (a .i) (a .t)) (a .t)
 entered c =
-    let s = c .before .before .before .before .before in
+    let s = c .before .before .before .before in
     let a = s .args in
     let p = c .put-token in
     let k : length (p .last .0) ≡ length (a .ledger .now) = omega (arith, p .kept .0) in
-    changed (a .arities .now) (a .heads .now) (a .next .now) (a .flags .now) (a .counts .now) (a .ledger .now) (a .used) (a .i) (a .t) (s .pre .0) (s .pre .1) (s .pre .2) (s .pre .3)
+    changed (a .tables .now) (a .links .now) (a .flags .now) (a .ledger .now) (a .used) (a .i) (a .t) (s .pre .0) (s .pre .1) (s .pre .2) (s .pre .3)
     (p .ensures .1) (p .last .0) (p .ensures .0) k
 
 pub change-spec : {M : Type 1} → statement M
 change-spec = tie.close (tie.spec
-    (λ c κs. let s = c .before .before .before .before in omega (arith, s .pre .0 .known .room, s .pre .1))
+    (λ c κs. let s = c .before .before .before in omega (arith, s .pre .0 .known .room, s .pre .1))
     (λ c κs. search needs)
     (λ c κs.
-    let s = c .before .before .before .before .before .before .before .before .before .before .before in
+    let s = c .before .before .before .before .before .before .before .before .before .before in
     let e = entered (c .before .before .before .before .before .before) in
     (s .pre .0 .counted, e .known, s .pre .1, low s, e .own))
     (λ c. search needs)
     (λ c.
-    let s = c .before .before .before .before .before .before .before .before .before .before .before .before in
+    let s = c .before .before .before .before .before .before .before .before .before .before .before in
     let a = s .args in
     let e = entered (c .before .before .before .before .before .before .before) in
     let ts = tokens (a .used) (a .ledger .now) in
     let us = set ts (a .i) (a .t) in
     let d = tokenAt (a .ledger .now) (a .i) in
-    let still = right-still (a .arities .now) ts (a .i) (a .t) d (flagsOf (a .flags .now)) (omega (arith, size s, s .pre .1)) (rw (before s) (s .pre .2)) (rw (before s) (s .pre .3)) (rw (before s) (s .pre .4)) (s .pre .0 .right) in
-    let once = raised-only (isEnabled (a .arities .now) us (a .t .tag)) (flagsOf (a .flags .now)) (placeOf us (a .t .tag)) still in
-    let flags = c .settle .ensures .0 ∙ rw (c .before .before .before .before .arity .ensures, e .more) once in
-    (c .before .before .before .before .before .before .before .put-token .ensures .0, (e .more, e .stored (c .settle .last .0) (c .settle .last .1 .0) flags (c .settle .ensures .1)))))
+    let still = right-still (a .tables .now) ts (a .i) (a .t) d (flagsOf (a .flags .now)) (omega (arith, size s, s .pre .1)) (rw (before s) (s .pre .2)) (rw (before s) (s .pre .3)) (rw (before s) (s .pre .4)) (s .pre .0 .right) in
+    let once = raised-only (isEnabled (a .tables .now) us (a .t .tag)) (flagsOf (a .flags .now)) (placeOf us (a .t .tag)) still in
+    let flags = c .settle .ensures .0 ∙ rw (c .before .before .before .arity .ensures, e .more) once in
+    (c .before .before .before .before .before .before .before .put-token .ensures .0, (e .more, e .stored (c .settle .last .0) flags (c .settle .ensures .1)))))

@@ -37,12 +37,12 @@ settle-spec = tie.close (tie.spec
     (λ c κs. search needs)
     (λ c κs. search needs)
     (λ c κs.
-    let s = c .before .before .before .before .before .before .before .before in
+    let s = c .before .before .before .before .before .before .before in
     let a = s .args in
-    (rw (c .earlier .ensures) (lower-below (a .own) _ 2048 (omega (arith, s .pre .2, known-few (a .heads .now) (a .next .now) (a .ledger .now) (a .used) (s .pre .1)))), s .pre .0))
+    (rw (c .earlier .ensures) (lower-below (a .own) _ 2048 (omega (arith, s .pre .2, known-few (a .links .now) (a .ledger .now) (a .used) (s .pre .1)))), s .pre .0))
     (λ c.
-    let on = sym (whole (c .before .before .before .before .before .before)) ∙ c .before .before .before .before .before .if1 .taken in
-    (c .raise .ensures .0 ∙ rw (c .before .earlier .ensures, c .before .before .place-or .ensures, here (c .before .before .before .before .before .before .before), on), c .raise .ensures .1))
+    let on = sym (whole (c .before .before .before .before .before)) ∙ c .before .before .before .before .if1 .taken in
+    (c .raise .ensures .0 ∙ rw (c .before .earlier .ensures, c .before .before .place-or .ensures, here (c .before .before .before .before .before .before), on), c .raise .ensures .1))
     (λ c.
     let off = sym (whole (c .before)) ∙ c .if1 .left in
     (rw off, c .before .before .before .before .pre .0)))

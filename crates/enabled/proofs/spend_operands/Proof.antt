@@ -19,10 +19,10 @@ spend-operands-spec = tie.close (tie.spec
     (λ c. let a = c .before .args in omega (arith, length-set (a .ledger .now) (a .first * 20 + 16) 1, c .before .pre .4))
     (λ c κs. search needs)
     (λ c κs.
-    let s = c .before .before .before .before in
+    let s = c .before .before .before in
     (rw (c .earlier .ensures) (lower-below (s .args .first) (s .args .second) 2048 (s .pre .1)), s .pre .0))
     (λ c. search needs)
     (λ c.
-    let s = c .before .before .before .before .before in
+    let s = c .before .before .before .before in
     let a = s .args in
-    (refl, λ arities heads next used w o. both-spent arities heads next (a .flags .now) (a .counts .now) (a .ledger .now) used (a .first) (a .second) w o (c .lower .last .0) (c .lower .last .1 .0) (c .lower .ensures .0 ∙ rw (c .before .earlier .ensures)) (c .lower .ensures .1))))
+    (refl, λ tables links used w o. both-spent tables links (a .flags .now) (a .ledger .now) used (a .first) (a .second) w o (c .lower .last .0) (c .lower .ensures .0 ∙ rw (c .before .earlier .ensures)) (c .lower .ensures .1))))

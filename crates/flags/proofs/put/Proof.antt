@@ -6,8 +6,7 @@ use lib.ListN.{getD, set}
 use lib.Seq.{getD-set-other}
 use borrow.Author.Needs.{needs}
 use Rattle.flags.specs.Flags.{inWord, flagsOf, any}
-use Rattle.flags.proofs.Blocks.{block-bounds, group-bounds}
-use Rattle.flags.proofs.Words.{words-flag, words-set, counted-put}
+use Rattle.flags.proofs.Words.{words-flag, word-bounds, group-bounds, flags-put, counted-put}
 use Rattle.flags.proofs.put.Statement.{statement}
 use Rattle.flags.proofs.put.Tie as tie
 
@@ -34,9 +33,8 @@ put-spec = tie.close (tie.spec
     (λ c. search needs)
     (λ c. search needs)
     (λ c. search needs)
+    (λ c. search needs)
     (λ c κs. search needs)
-    (λ c. search needs)
-    (λ c. search needs)
     (λ c. search needs)
     (λ c. search needs)
     (λ c. search needs)
@@ -52,24 +50,24 @@ put-spec = tie.close (tie.spec
     (λ c. search needs)
     (λ c.
     let s = c .before .before .before .before .before .before .before .before .before in
-    omega (arith, was c, block-bounds (flagsOf (s .args .flags .now)) (s .args .counts .now) (s .pre .2 .tallied) (s .args .i) (s .pre .0)))
+    omega (arith, was c, word-bounds (s .pre .2) (s .args .i) (s .pre .0)))
     (λ c.
     let s = c .before .before .before .before .before .before .before .before .before in
-    omega (arith, was c, block-bounds (flagsOf (s .args .flags .now)) (s .args .counts .now) (s .pre .2 .tallied) (s .args .i) (s .pre .0)))
+    omega (arith, was c, word-bounds (s .pre .2) (s .args .i) (s .pre .0)))
     (λ c. search needs)
     (λ c. search needs)
     (λ c.
     let s = c .before .before .before .before .before .before .before .before .before in
-    omega (arith, was c, group-bounds (flagsOf (s .args .flags .now)) (s .args .counts .now) (s .pre .2 .tallied) (s .args .i) (s .pre .0)))
+    omega (arith, was c, group-bounds (s .pre .2) (s .args .i) (s .pre .0)))
     (λ c.
     let s = c .before .before .before .before .before .before .before .before .before in
-    omega (arith, was c, group-bounds (flagsOf (s .args .flags .now)) (s .args .counts .now) (s .pre .2 .tallied) (s .args .i) (s .pre .0)))
+    omega (arith, was c, group-bounds (s .pre .2) (s .args .i) (s .pre .0)))
     (λ c. search needs)
     (λ c. search needs)
     (λ c.
     let s = c .before .before .before .before .before .before .before .before .before in
     let w = c .before .before .before .with in
     rw (was c) (
-      words-set (s .pre .2) (s .args .i) (s .args .v) (w .result) (c .with2 .result) (s .pre .0) (s .pre .1) (w .ensures) (marked c),
+      flags-put (s .pre .2) (s .args .i) (s .args .v) (w .result) (c .with2 .result) (s .pre .0) (s .pre .1) (w .ensures) (marked c),
       counted-put (s .pre .2) (s .args .i) (s .args .v) (w .result) (c .with2 .result) (s .pre .0) (s .pre .1) (w .ensures) (marked c),
     )))

@@ -10,7 +10,7 @@ use Rattle.flags.proofs.Words.{words-size}
 use Rattle.flags.proofs.select.Statement.{statement}
 use Rattle.flags.proofs.select.Tie as tie
 
-module _ {ws counts : List ℕ} (c : Counted ws counts) (k : ℕ) (h : k < length (places (flagsOf ws))) where
+module _ {ws : List ℕ} (c : Counted ws) (k : ℕ) (h : k < length (places (flagsOf ws))) where
   among : k < ones (flagsOf ws)
   among = omega (arith, ones-places 0 (flagsOf ws) (c .tallied .binary))
 

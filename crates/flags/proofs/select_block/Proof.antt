@@ -7,33 +7,25 @@ use lib.ListN.{drop, getD}
 use borrow.Author.Needs.{needs}
 use Rattle.flags.specs.Flags.{ones, place, inWord, flagsOf}
 use Rattle.flags.proofs.Laws.{block-passed, none-left, place-lt}
-use Rattle.flags.proofs.Blocks.{block-is}
 use Rattle.flags.proofs.Digits.{word-size}
-use Rattle.flags.proofs.Words.{words-size, words-word, words-place}
+use Rattle.flags.proofs.Words.{words-size, words-place, word-count, block-count}
 use Rattle.flags.proofs.select_block.Statement.{statement}
 use Rattle.flags.proofs.select_block.Tie as tie
 
 abbrev Inv-loop : tie.InvT-loop
-Inv-loop flags counts from k b₀ left₀ b left =
+Inv-loop flags from k b₀ left₀ b left =
     let f = flagsOf flags in (left < ones (drop (b * 64) f)) × (from * 64 + place k (drop (from * 64) f) ≡ b * 64 + place left (drop (b * 64) f))
 
 abbrev μ-loop : tie.MeasureT-loop
-μ-loop flags counts from k b₀ left₀ b left = 32 - b
+μ-loop flags from k b₀ left₀ b left = 32 - b
 
--- a word's count is that of its ones
-counted : (c : tie.After-select-in-arg Inv-loop μ-loop) → let s = c .before .before .before .before .before .before in
-    c .before .before .wide16 .result ≡ ones (inWord (getD (s .args .flags .now) (c .before .before .before .before .before .loop .b) 0))
-counted c =
+-- the one sought is among those of the word
+on : (c : tie.After-select-in Inv-loop μ-loop) → let s = c .before .before .before .before .before .before in
+    let l = c .before .before .before .before .before .loop in l .left < ones (inWord (getD (s .args .flags .now) (l .b) 0))
+on c =
     let s = c .before .before .before .before .before .before in
-    let b = c .before .before .before .before .before .loop .b in
-    c .before .before .wide16 .ensures .0
-    ∙ block-is (flagsOf (s .args .flags .now)) (s .args .counts .now) (s .pre .0 .tallied) b (omega arith)
-    ∙ ap ones (words-word (s .pre .0 .summed) b (omega arith))
-
--- the one sought is among them
-on : (c : tie.After-select-in Inv-loop μ-loop) → let s = c .before .before .before .before .before .before .before in
-    let l = c .before .before .before .before .before .before .loop in l .left < ones (inWord (getD (s .args .flags .now) (l .b) 0))
-on c = omega (arith, counted (c .before), c .before .before .if1 .taken)
+    let l = c .before .before .before .before .before .loop in
+    omega (arith, word-count (s .pre .0) (l .b) (omega arith), c .before .before .if1 .taken)
 
 pub select-block-spec : {M : Type 1} → statement M
 select-block-spec = tie.close (tie.spec
@@ -42,28 +34,28 @@ select-block-spec = tie.close (tie.spec
     (λ c. (c .pre .1, refl))
     (λ c. search needs)
     (λ c. search needs)
-    (λ c κs. search needs)
     (λ c. search needs)
     (λ c. search needs)
     (λ c. search needs)
-    (λ c κs. (counted c, c .before .if1 .taken))
+    (λ c. search needs)
+    (λ c κs. let s = c .before .before .before .before .before in (word-count (s .pre .0) (c .before .before .before .before .loop .b) (omega arith), c .before .if1 .taken))
     (λ c.
-    let s = c .before .before .before .before .before .before .before in
-    let l = c .before .before .before .before .before .before .loop in
+    let s = c .before .before .before .before .before .before in
+    let l = c .before .before .before .before .before .loop in
     let w = getD (s .args .flags .now) (l .b) 0 in
     record { fits = omega (arith, c .select-in .ensures, word-size w, place-lt (l .left) (inWord w) (on c)) })
     (λ c.
-    let s = c .before .before .before .before .before .before .before in
-    let l = c .before .before .before .before .before .before .loop in
+    let s = c .before .before .before .before .before .before in
+    let l = c .before .before .before .before .before .loop in
     ap (λ (x : ℕ). l .b * 64 + x) (c .select-in .ensures ∙ sym (words-place (s .pre .0 .summed) (l .b) (l .left) (omega arith) (on c))) ∙ sym (l .inv .1))
     (λ c. search needs)
     (λ c. search needs)
     (λ c.
-    let s = c .before .before .before .before .before in
-    let l = c .before .before .before .before .loop in
+    let s = c .before .before .before .before in
+    let l = c .before .before .before .loop in
     let f = flagsOf (s .args .flags .now) in
-    let n = c .before .wide16 .ensures .0 ∙ block-is f (s .args .counts .now) (s .pre .0 .tallied) (l .b) (omega arith) in
-    let p = block-passed 64 f (l .b) (l .left) (c .before .wide16 .result) (omega (arith, words-size (s .pre .0 .summed))) n (c .if1 .left) (l .inv .0) in
+    let n = block-count (s .pre .0) (l .b) (omega arith) in
+    let p = block-passed 64 f (l .b) (l .left) (getD (s .args .flags .now) (33 + l .b) 0) (omega (arith, words-size (s .pre .0 .summed))) n (c .if1 .left) (l .inv .0) in
     (p .0, l .inv .1 ∙ p .1))
     (λ c.
     let s = c .before .before in

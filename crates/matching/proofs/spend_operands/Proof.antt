@@ -10,10 +10,10 @@ spend-operands-spec = tie.close (tie.spec
     (λ c κs. search needs)
     (λ c. search needs)
     (λ c.
-    let a = c .before .before .before .before .before .before .before .args in
+    let a = c .before .before .before .before .before .before .args in
     let p = c .before .before .spend-operands in (
       p .ensures .0,
-      λ arities heads next waiting later used w o.
-          let r = p .ensures .1 arities heads next used (matching-stored w) o in
-          (r .0, spent-kept arities heads next (a .flags .now) (a .counts .now) waiting later (a .ledger .now) used (a .first) (a .second) w (o .firstWithin) (o .secondWithin) (p .last .0) (p .last .1 .0) (p .last .1 .1 .0) (r .0) (r .1)),
+      λ tables links used w o.
+          let r = p .ensures .1 tables links used (matching-stored w) o in
+          (r .0, spent-kept tables links (a .flags .now) (a .ledger .now) used (a .first) (a .second) w (o .firstWithin) (o .secondWithin) (p .last .0) (p .last .1 .0) (r .0) (r .1)),
     )))

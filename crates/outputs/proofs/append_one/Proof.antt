@@ -10,6 +10,6 @@ append-one-spec = tie.close (tie.spec
     (λ c κs. search needs)
     (λ c. search needs)
     (λ c.
-    let s = c .before .before .before .before .before .before .before .before .before .before .before .before .before in
+    let s = c .before .before .before .before .before .before .before .before in
     let p = c .before .before .arrive .ensures in
     kept-arrived (s .pre .0) (tokenOut (s .args .content) (s .args .key)) (s .pre .1) (p .0) (p .1 .0) (p .1 .1)))

@@ -12,6 +12,7 @@ arity-at-spec = tie.close (tie.spec
     (λ c. search needs)
     (λ c. search needs)
     (λ c κs. search needs)
+    (λ c. search needs)
     (λ c.
     let a = c .before .before .before .before .args in
     sym (arity-in (a .graph .now) (a .i) (omega arith) ∙ rw (eq-eqb _ _ (c .if2 .taken))))

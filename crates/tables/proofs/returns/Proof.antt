@@ -15,7 +15,7 @@ use Rattle.tables.proofs.returns.Statement.{statement}
 use Rattle.tables.proofs.returns.Tie as tie
 
 abbrev Inv-loop : tie.InvT-loop
-Inv-loop graph out₀ i₀ out i = (i ≤ length graph / 16) × (length out ≡ 256) × Returns (drop i (graphOf graph)) out
+Inv-loop graph out₀ i₀ out i = (i ≤ length graph / 16) × (length out ≡ 512) × Returns (drop i (graphOf graph)) out
 
 abbrev μ-loop : tie.MeasureT-loop
 μ-loop graph out₀ i₀ out i = i
@@ -42,8 +42,8 @@ returns-spec = tie.close (tie.spec
     let d : drop j (graphOf g) ≡ r ∷ drop (l .i) (graphOf g) = drop-cons (graphOf g) j r (omega (arith, length-graph g)) ∙ rw (e, n) in (
       omega arith,
       rw (c .note .ensures) (length-at-site (l .out) r _ ∙ l .inv .1),
-      rw (d, c .note .ensures) (note-returns (drop (l .i) (graphOf g)) (l .out) r (l .inv .2) (l .inv .1)),
+      rw (d, c .note .ensures) (note-returns (drop (l .i) (graphOf g)) (l .out) r (l .inv .2) (omega (arith, l .inv .1))),
     ))
     (λ c.
     let z : c .before .loop .i ≡ 0 = omega arith in
-    rw z at (c .before .loop .inv .2)))
+    (rw z at (c .before .loop .inv .2), c .before .loop .inv .1)))
