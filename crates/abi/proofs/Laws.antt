@@ -9,7 +9,7 @@ use mathlib.Core.List.{List, [], _∷_, _++_, map}
 use borrow.Author.Tests.{ltb-true, ltb-false, eqb-true}
 use lib.Dec.{eqb, ltb}
 use lib.ListN.{length, length-append}
-use Rattle.table.specs.Table.{allRows, joined}
+use Rattle.buffer.specs.Table.{allRows, joined}
 use Rattle.record.specs.TokensAndTags as Tokens
 use Rattle.record.specs.Cells as Cells
 use Rattle.rules.specs.Answer.{Values, numberOf, wordOf, placeIn, valuesOf}

@@ -14,20 +14,20 @@ use Rattle.record.specs.declared.instruction.Destination.{Destination}
 use Rattle.record.specs.declared.instruction.Instruction.{Instruction}
 use Rattle.record.specs.GraphRecords.{decode, isGraphLength, graphOf, destinations, inUse, rowOf, operandsOf}
 use Rattle.number.specs.Number.{byteAt, number16, number32, number64}
-use Rattle.table.specs.Table.{whole, allRows}
+use Rattle.buffer.specs.Table.{whole, allRows}
 use Rattle.record.specs.TokensAndTags.{isInput}
-use Rattle.table.proofs.Tables.{length-rows, getD-rows}
+use Rattle.buffer.proofs.Tables.{length-rows, getD-rows}
 use Rattle.record.specs.TokensAndTags as Tokens
 use Rattle.rules.specs.declared.answer.Refusal.the-variants.{GraphLength, BadInput, SecondToken}
 use Rattle.rules.specs.declared.answer.Checked.the-variants.{Passed}
 use Rattle.rules.specs.Check.{demand, all, instructionAt, operandsAt, fanOutAllowed, unusedAreZero, goodArc, within, entersSite, goodSite, checkRecord, checkGraph, checkStores, goodInput, secondInput, checkInputs, check}
 use Rattle.rules.specs.InstructionSet.{returnOf}
-use Rattle.inputs.specs.Inputs.{tokensOf}
-use Rattle.tables.specs.Tables.{returnEntry}
-use Rattle.fields.proofs.Turns.{and-true-left, and-true-right, both-passed, demanded, each-passed, all-at}
-use Rattle.fields.proofs.Constants.{within-is}
-use Rattle.fields.proofs.Graphs.{length-graph, past}
-use Rattle.inputs.proofs.Tokens.{length-tokens, in-tokens}
+use Rattle.check_inputs.specs.Inputs.{tokensOf}
+use Rattle.graph_tables.specs.Tables.{returnEntry}
+use Rattle.check_fields.proofs.Turns.{and-true-left, and-true-right, both-passed, demanded, each-passed, all-at}
+use Rattle.check_fields.proofs.Constants.{within-is}
+use Rattle.check_fields.proofs.Graphs.{length-graph, past}
+use Rattle.check_inputs.proofs.Tokens.{length-tokens, in-tokens}
 
 -- ---- the graph
 

@@ -1,8 +1,8 @@
 // Refusals 1 to 5: the graph.
 use crate::buffer;
-use fields::arc;
-use fields::fan_out;
-use fields::site;
+use check_fields::arc;
+use check_fields::fan_out;
+use check_fields::site;
 use record::instruction;
 use record::instruction::Instruction;
 use record::operation;
@@ -12,7 +12,7 @@ ghost use mathlib.Core.Path.{_≡_};
 ghost use lib.ListN.{take};
 ghost use Rattle.record.specs.GraphRecords.{isGraphLength, graphOf};
 ghost use Rattle.rules.specs.Check.{demand, _andThen_, inTurn, checkRecord, checkGraph};
-ghost use Rattle.fields.specs.Sites.{Sites};
+ghost use Rattle.check_fields.specs.Sites.{Sites};
 
 // The first refusal of record i, by what each of 2 to 5 demands of it.
 fn first_fault(i: usize, known: bool, fields: bool, arcs: bool, site: bool) -> Checked

@@ -20,5 +20,5 @@ pub fn check(graph: &[u8], inputs: &[u8], picks: &[u8], ledger: usize, cells: us
     let Checked::Passed = of_stores else {
         return of_stores;
     };
-    inputs::check(graph, inputs, ledger / 20)
+    check_inputs::check(graph, inputs, ledger / 20)
 }

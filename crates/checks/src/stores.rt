@@ -4,7 +4,7 @@ use rules::answer::Checked;
 use rules::answer::Refusal;
 ghost use mathlib.Core.Path.{_≡_};
 ghost use mathlib.Core.Bool.{_&&_};
-ghost use Rattle.table.specs.Table as Table;
+ghost use Rattle.buffer.specs.Table as Table;
 ghost use Rattle.rules.specs.Check.{checkStores};
 
 fn all_whole(inputs: usize, picks: usize, ledger: usize, cells: usize) -> bool

@@ -10,18 +10,18 @@ use Rattle.record.specs.declared.token.Content.the-variants.{Live, Spent, Defer
 use Rattle.record.specs.declared.cell.Cell as RecordCell
 use Rattle.record.specs.declared.cell.Cell.the-variants.{Absent, Waiting, Present}
 use Rattle.record.specs.declared.instruction.Instruction.{Instruction}
-use Rattle.table.specs.Table.{joined, writtenOver}
+use Rattle.buffer.specs.Table.{joined, writtenOver}
 use Rattle.record.specs.TokensAndTags.{tokens, ledgerOf}
 use Rattle.record.specs.TokensAndTags as Tokens
 use Rattle.record.specs.Cells as Cells
-use Rattle.table.proofs.Tables.{length-rows, length-joined}
+use Rattle.buffer.proofs.Tables.{length-rows, length-joined}
 use Rattle.record.proofs.Records.{length-token}
-use Rattle.matching.proofs.Laws.{matching-ledger}
+use Rattle.store.proofs.Laws.{matching-ledger}
 use Rattle.machine.specs.Machine.{Outcome, end}
 use Rattle.rules.specs.declared.answer.Refusal.{Refusal}
 use Rattle.rules.specs.Run.{contentHeld, contentRecord, tokenHeld, tokenRecord, cellRecord, outcomeOf}
-use Rattle.held.specs.Held.{cellHeld}
-use Rattle.outputs.specs.Outputs.{cellsIn}
+use Rattle.abstraction.specs.Held.{cellHeld}
+use Rattle.fire_outputs.specs.Outputs.{cellsIn}
 use Rattle.fire.specs.Running.{machineFor, stateIn, Running}
 use Rattle.engine.specs.Turns.{Left}
 

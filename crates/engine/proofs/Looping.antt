@@ -10,18 +10,18 @@ use lib.IntN.{ℤ}
 use Rattle.record.specs.declared.tag.Tag.{Tag}
 use Rattle.record.specs.declared.instruction.Instruction.{Instruction}
 use Rattle.record.specs.TokensAndTags.{tokens}
-use Rattle.enabled.specs.Enabled.{enabledPlaces}
-use Rattle.flags.specs.Flags.{places, flagsOf}
+use Rattle.store_enabled.specs.Enabled.{enabledPlaces}
+use Rattle.store_flags.specs.Flags.{places, flagsOf}
 use Rattle.machine.specs.Machine.{Machine, Outcome, completed, budgetSpent, End, laterPicks, byPicks, runBy, end}
-use Rattle.matching.proofs.Laws.{matching-places}
-use Rattle.accept.specs.Accept.{tailOf}
-use Rattle.accept.proofs.Laws.{tail-drop}
-use Rattle.outputs.proofs.Laws.{rest-on}
+use Rattle.store.proofs.Laws.{matching-places}
+use Rattle.load.specs.Accept.{tailOf}
+use Rattle.load.proofs.Laws.{tail-drop}
+use Rattle.fire_outputs.proofs.Laws.{rest-on}
 use Rattle.rules.specs.declared.answer.Refusal.{Refusal}
 use Rattle.rules.specs.declared.answer.Outcome as AnswerOutcome
 use Rattle.rules.specs.InstructionSet.{machineOf}
 use Rattle.rules.specs.Run.{outcomeOf}
-use Rattle.held.specs.Held.{Arities}
+use Rattle.abstraction.specs.Held.{Arities}
 use Rattle.fire.specs.Running.{machineFor, stateIn, Running}
 use Rattle.engine.specs.Turns.{Advanced, Halted, Left, endOf, restOutcome}
 use Rattle.engine.proofs.Turning.{ended, spent-here}

@@ -15,14 +15,14 @@ use Rattle.record.specs.declared.token.Token as Record
 use Rattle.record.specs.declared.token.Content as RecordContent
 use Rattle.record.specs.declared.token.Content.the-variants.{Live, Spent, Deferred}
 use Rattle.record.specs.declared.cell.Cell.the-variants.{Absent}
-use Rattle.table.specs.Table.{All, rows, allRows, joined}
+use Rattle.buffer.specs.Table.{All, rows, allRows, joined}
 use Rattle.record.specs.GraphRecords.{graphOf}
 use Rattle.record.specs.TokensAndTags.{tokens}
 use Rattle.record.specs.TokensAndTags as Tokens
 use Rattle.record.specs.Cells as Cells
-use Rattle.table.proofs.Tables.{length-rows, length-joined}
+use Rattle.buffer.proofs.Tables.{length-rows, length-joined}
 use Rattle.record.proofs.Records.{length-token, length-cell}
-use Rattle.chains.specs.Deferred.{LowCell}
+use Rattle.store_chains.specs.Deferred.{LowCell}
 use Rattle.machine.specs.Machine.{Machine, State, End, absent, run}
 use Rattle.machine.specs.Orders as Orders
 use Rattle.machine.specs.Orders.{Good}
@@ -36,18 +36,18 @@ use Rattle.rules.specs.InstructionSet.{arityIn, machineOf, returnOf}
 use Rattle.rules.specs.Run.{contentHeld, tokenHeld, tokenRecord, cellRecord, firstState}
 use Rattle.rules.proofs.Inputs.{start}
 use Rattle.rules.proofs.Lawful.{lawful}
-use Rattle.tables.specs.Tables as Tables
+use Rattle.graph_tables.specs.Tables as Tables
 use Rattle.checks.proofs.Passed.{passed-check, passed-length, return-entry, GoodStores, passed-stores, GoodInputs, passed-inputs, passed-input}
-use Rattle.tables.proofs.Entries.{arity-small}
-use Rattle.fields.proofs.Graphs.{arity-past}
-use Rattle.effect.specs.Held.{entryOf, Returns}
-use Rattle.effect.proofs.Arrives.{arrives-port}
-use Rattle.held.specs.Held.{cellHeld, Arities}
-use Rattle.held.proofs.Keys.{alone-free}
-use Rattle.outputs.specs.Outputs.{cellsIn, CellStore}
-use Rattle.outputs.proofs.Laws.{rest-on}
-use Rattle.accept.specs.Accept.{Proper, Alone, Accepted}
-use Rattle.accept.proofs.Laws.{zeros-joined, absent-fit, zeros-cells}
+use Rattle.graph_tables.proofs.Entries.{arity-small}
+use Rattle.check_fields.proofs.Graphs.{arity-past}
+use Rattle.fire_effect.specs.Held.{entryOf, Returns}
+use Rattle.fire_effect.proofs.Arrives.{arrives-port}
+use Rattle.abstraction.specs.Held.{cellHeld, Arities}
+use Rattle.abstraction.proofs.Keys.{alone-free}
+use Rattle.fire_outputs.specs.Outputs.{cellsIn, CellStore}
+use Rattle.fire_outputs.proofs.Laws.{rest-on}
+use Rattle.load.specs.Accept.{Proper, Alone, Accepted}
+use Rattle.load.proofs.Laws.{zeros-joined, absent-fit, zeros-cells}
 use Rattle.fire.specs.Running.{stateIn, Arrived, Running, Prepared}
 use Rattle.engine.specs.Turns.{Left, endOf}
 

@@ -14,21 +14,21 @@ use Rattle.record.specs.declared.instruction.Instruction.{Instruction}
 use Rattle.record.specs.GraphRecords.{graphOf}
 use Rattle.record.specs.TokensAndTags.{tokens, tokenAt}
 use Rattle.record.specs.TokensAndTags as Tokens
-use Rattle.table.proofs.Tables.{getD-rows}
-use Rattle.flags.specs.Flags.{places, flagsOf}
-use Rattle.matching.proofs.Laws.{matching-places, matching-enabled-below, matching-leads}
-use Rattle.accept.specs.Accept.{headOr0}
-use Rattle.accept.proofs.Laws.{head-drop}
-use Rattle.enabled.specs.Enabled.{leads, enabledPlaces}
+use Rattle.buffer.proofs.Tables.{getD-rows}
+use Rattle.store_flags.specs.Flags.{places, flagsOf}
+use Rattle.store.proofs.Laws.{matching-places, matching-enabled-below, matching-leads}
+use Rattle.load.specs.Accept.{headOr0}
+use Rattle.load.proofs.Laws.{head-drop}
+use Rattle.store_enabled.specs.Enabled.{leads, enabledPlaces}
 use Rattle.machine.specs.Machine.{Machine, State, Activity, completed, budgetSpent, enabled, firstPick, laterPicks, pickOf, byPicks, runBy, end, fire, fired, notFired}
 use Rattle.machine.specs.Machine as Machines
 use Rattle.machine.proofs.Orders.{runEmpty, runZero, runFired, runRefused}
 use Rattle.rules.specs.declared.answer.Refusal.{Refusal}
 use Rattle.rules.specs.declared.answer.Outcome.the-variants as Outcomes
 use Rattle.rules.specs.Run.{picksOf}
-use Rattle.held.specs.Held.{noToken, Arities}
-use Rattle.held.proofs.Enabled.{held-enabled}
-use Rattle.outputs.specs.Outputs.{cellsIn}
+use Rattle.abstraction.specs.Held.{noToken, Arities}
+use Rattle.abstraction.proofs.Enabled.{held-enabled}
+use Rattle.fire_outputs.specs.Outputs.{cellsIn}
 use Rattle.fire.proofs.Place.{on-ports}
 use Rattle.fire.specs.Running.{machineFor, stateIn, Arrived, Running, Went, Stopped, Prepared}
 use Rattle.engine.specs.Turns.{Advanced, Halted}

@@ -7,7 +7,7 @@ use lib.IntN.{ℤ}
 use Rattle.record.specs.declared.tag.Tag.{Tag}
 use Rattle.record.specs.declared.instruction.Instruction.{Instruction}
 use Rattle.record.specs.TokensAndTags.{ledgerOf}
-use Rattle.table.specs.Table.{writtenOver}
+use Rattle.buffer.specs.Table.{writtenOver}
 use Rattle.record.specs.Cells as Cells
 use Rattle.machine.specs.Machine.{Outcome, End, byPicks, runBy, run, end, laterPicks}
 use Rattle.rules.specs.declared.answer.Refusal.{Refusal}

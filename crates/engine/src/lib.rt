@@ -1,6 +1,6 @@
 // The engine: a graph and its inputs are checked, and fired under picks.
 use checks::graph;
-use commit::Fired;
+use fire_commit::Fired;
 use rules::answer::Answer;
 use rules::answer::Checked;
 use rules::answer::Outcome;
@@ -8,7 +8,7 @@ ghost use Prim.Native.Nat.{_/_};
 ghost use mathlib.Core.Path.{_≡_};
 ghost use lib.ListN.{length, drop};
 ghost use Rattle.record.specs.GraphRecords.{graphOf};
-ghost use Rattle.flags.specs.Flags.{Counted, places, flagsOf};
+ghost use Rattle.store_flags.specs.Flags.{Counted, places, flagsOf};
 ghost use Rattle.machine.specs.Machine.{run as Machine·run};
 ghost use Rattle.rules.specs.declared.answer.Checked.the-variants.{Passed};
 ghost use Rattle.rules.specs.Check.{checkGraph, check};
@@ -37,12 +37,12 @@ fn take_turn(
     requires { ⌜ Prepared (now graph) (now tables) × Running (graphOf (now graph)) (now tables) (now links) (now flags) (now ledger) (now cells) used ⌝ }
     ensures { λ r. ⌜ Turned r (graphOf (now (graph .entry))) (drop firings (picksOf (now (picks .entry)))) (now (tables .entry)) (now (links .exit)) (now (flags .exit)) (now (ledger .exit)) (now (cells .exit)) used (now (ledger .entry)) (now (cells .entry)) ⌝ }
 {
-    let e = matching::enabled_count(flags);
+    let e = store::enabled_count(flags);
     if e == 0 {
         return Turn::Ended(Outcome::Completed);
     }
-    let number = accept::pick_at(picks, firings) % e;
-    let place = matching::enabled_at(flags, number);
+    let number = load::pick_at(picks, firings) % e;
+    let place = store::enabled_at(flags, number);
     let fired = fire::fire(graph, tables, links, flags, ledger, cells, used, place);
     match fired {
         Fired::Done(n) => Turn::Fired(n),
@@ -55,7 +55,7 @@ fn rest(flags: &[u64; 69]) -> Outcome
     requires { ⌜ Counted (now flags) ⌝ }
     ensures { λ r. ⌜ r ≡ restOutcome (length (places (flagsOf (now (flags .entry))))) ⌝ }
 {
-    if matching::enabled_count(flags) == 0 {
+    if store::enabled_count(flags) == 0 {
         Outcome::Completed
     } else {
         Outcome::Spent
@@ -128,9 +128,9 @@ fn accepted(
     let mut tables = [0u16; 512];
     let mut links = [0u16; 9216];
     let mut flags = [0u64; 69];
-    tables::make(graph, &mut tables);
-    accept::clear(cells);
-    let used = accept::inputs(&tables, &mut links, &mut flags, ledger, inputs);
+    graph_tables::make(graph, &mut tables);
+    load::clear(cells);
+    let used = load::inputs(&tables, &mut links, &mut flags, ledger, inputs);
     proceed(
         graph,
         &tables,

@@ -10,28 +10,28 @@ use lib.ListN.{length, getD}
 use lib.Dec.{eqb}
 use lib.IntN.{ℤ}
 use borrow.Author.Tests.{eqb-true}
-use Rattle.table.specs.Table.{All}
+use Rattle.buffer.specs.Table.{All}
 use Rattle.record.specs.declared.tag.Tag.{Tag}
 use Rattle.record.specs.declared.token.Token.{Token}
 use Rattle.record.specs.declared.token.Content.the-variants.{Live}
 use Rattle.record.specs.declared.instruction.Instruction.{Instruction}
 use Rattle.record.specs.GraphRecords.{operandsOf, graphOf}
 use Rattle.record.specs.TokensAndTags.{decode, tokens, tokenAt, standsAt}
-use Rattle.table.proofs.Tables.{length-rows, getD-rows}
-use Rattle.chains.specs.declared.Found.{Found}
-use Rattle.chains.specs.declared.Found.the-variants.{At, Nothing}
-use Rattle.chains.specs.Search.{firstFrom}
-use Rattle.chains.proofs.Index.{and-left}
-use Rattle.enabled.specs.Enabled.{isLive, isEnabled, placeOf, leads}
-use Rattle.enabled.specs.Store.{lower, Operands}
-use Rattle.enabled.proofs.Places.{first-place, lower-first, lower-second}
-use Rattle.enabled.proofs.Store.{all-at}
+use Rattle.buffer.proofs.Tables.{length-rows, getD-rows}
+use Rattle.store_chains.specs.declared.Found.{Found}
+use Rattle.store_chains.specs.declared.Found.the-variants.{At, Nothing}
+use Rattle.store_chains.specs.Search.{firstFrom}
+use Rattle.store_chains.proofs.Index.{and-left}
+use Rattle.store_enabled.specs.Enabled.{isLive, isEnabled, placeOf, leads}
+use Rattle.store_enabled.specs.Store.{lower, Operands}
+use Rattle.store_enabled.proofs.Places.{first-place, lower-first, lower-second}
+use Rattle.store_enabled.proofs.Store.{all-at}
 use Rattle.rules.specs.Check.{instructionAt, operandsAt}
 use Rattle.rules.specs.InstructionSet.{arityIn}
-use Rattle.held.specs.Held.{noToken, OnPorts}
-use Rattle.held.proofs.Keys.{search-at, stands-tag, stands-port}
-use Rattle.operands.specs.Operands.{Earliest}
-use Rattle.operands.proofs.Held.{Places}
+use Rattle.abstraction.specs.Held.{noToken, OnPorts}
+use Rattle.abstraction.proofs.Keys.{search-at, stands-tag, stands-port}
+use Rattle.fire_operands.specs.Operands.{Earliest}
+use Rattle.fire_operands.proofs.Held.{Places}
 use Rattle.fire.specs.Running.{Arrived, Running, Prepared}
 
 on-port : (g : List Instruction) (t : Token) → t .port < operandsAt g (t .tag .instruction) → 0 < arityIn g (t .tag) → t .port < arityIn g (t .tag)

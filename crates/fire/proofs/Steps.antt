@@ -13,14 +13,14 @@ use Rattle.record.specs.declared.token.Token as Record
 use Rattle.record.specs.declared.token.Content as RecordContent
 use Rattle.record.specs.declared.cell.Cell as RecordCell
 use Rattle.record.specs.declared.instruction.Instruction.{Instruction}
-use Rattle.table.specs.Table.{All}
+use Rattle.buffer.specs.Table.{All}
 use Rattle.record.specs.TokensAndTags.{tokens, tokenAt}
 use Rattle.record.specs.GraphRecords.{graphOf}
 use Rattle.record.specs.TokensAndTags as Tokens
-use Rattle.table.proofs.Tables.{length-rows, getD-rows}
-use Rattle.chains.specs.Deferred.{woken}
-use Rattle.matching.specs.Matching.{spentToken, Matching}
-use Rattle.matching.proofs.Laws.{matching-room, matching-ports}
+use Rattle.buffer.proofs.Tables.{length-rows, getD-rows}
+use Rattle.store_chains.specs.Deferred.{woken}
+use Rattle.store.specs.Matching.{spentToken, Matching}
+use Rattle.store.proofs.Laws.{matching-room, matching-ports}
 use Rattle.machine.specs.Machine.{Key, Machine, State, fire, fired, notFired, commit}
 use Rattle.machine.specs.Orders.{Good, CellsBelow, outputs}
 use Rattle.machine.proofs.Reached.{reached-good}
@@ -30,27 +30,27 @@ use Rattle.rules.specs.declared.answer.Checked.the-variants.{Passed}
 use Rattle.rules.specs.Check.{operandsAt, checkGraph}
 use Rattle.rules.specs.InstructionSet.{arityIn, machineOf, effectIn}
 use Rattle.rules.proofs.Lawful.{lawful}
-use Rattle.effect.specs.declared.output.Key as EffectKey
-use Rattle.effect.specs.declared.output.Outputs.{Outputs}
-use Rattle.effect.specs.declared.operate.Effect.{Effect}
-use Rattle.effect.specs.declared.operate.Effect.the-variants.{Refuse, Act}
-use Rattle.effect.specs.declared.operate.Action.{Action}
-use Rattle.effect.specs.declared.operate.Action.the-variants.{Send, Read, Write}
-use Rattle.effect.specs.Held.{keyHeld, keysHeld, keysOf, actionHeld, effectHeld, Arrives, AllSent, Effected}
-use Rattle.effect.proofs.Arrives.{arrives-port, arrives-inside}
-use Rattle.effect.proofs.Does.{records}
-use Rattle.held.specs.Held.{noToken, stateHeld}
-use Rattle.operands.specs.declared.Admitted.{Admitted}
-use Rattle.operands.specs.declared.Admitted.the-variants.{Yes, No}
-use Rattle.operands.specs.declared.Matched.{Matched}
-use Rattle.operands.specs.declared.Matched.the-variants.{Both, Missing}
-use Rattle.operands.specs.Operands.{matchedAt, admittedOf}
-use Rattle.operands.proofs.Held.{valuesOf, Places, matched-places, held-operands}
-use Rattle.outputs.specs.Outputs.{spendOne, spentAt, outputsBy, outputsOf, LowPortsBy, cellsIn, OnCells, contentBy, wokenBy, writesAgain, Kept, CellsKept, Lent}
-use Rattle.commit.specs.declared.Fired.{Fired}
-use Rattle.commit.specs.declared.Fired.the-variants as Fires
-use Rattle.commit.specs.Commit.{Committed, done, refused, ifAdmitted, committedOf, Left, Fitting}
-use Rattle.commit.proofs.Held.{firedOf, commit-held}
+use Rattle.fire_effect.specs.declared.output.Key as EffectKey
+use Rattle.fire_effect.specs.declared.output.Outputs.{Outputs}
+use Rattle.fire_effect.specs.declared.operate.Effect.{Effect}
+use Rattle.fire_effect.specs.declared.operate.Effect.the-variants.{Refuse, Act}
+use Rattle.fire_effect.specs.declared.operate.Action.{Action}
+use Rattle.fire_effect.specs.declared.operate.Action.the-variants.{Send, Read, Write}
+use Rattle.fire_effect.specs.Held.{keyHeld, keysHeld, keysOf, actionHeld, effectHeld, Arrives, AllSent, Effected}
+use Rattle.fire_effect.proofs.Arrives.{arrives-port, arrives-inside}
+use Rattle.fire_effect.proofs.Does.{records}
+use Rattle.abstraction.specs.Held.{noToken, stateHeld}
+use Rattle.fire_operands.specs.declared.Admitted.{Admitted}
+use Rattle.fire_operands.specs.declared.Admitted.the-variants.{Yes, No}
+use Rattle.fire_operands.specs.declared.Matched.{Matched}
+use Rattle.fire_operands.specs.declared.Matched.the-variants.{Both, Missing}
+use Rattle.fire_operands.specs.Operands.{matchedAt, admittedOf}
+use Rattle.fire_operands.proofs.Held.{valuesOf, Places, matched-places, held-operands}
+use Rattle.fire_outputs.specs.Outputs.{spendOne, spentAt, outputsBy, outputsOf, LowPortsBy, cellsIn, OnCells, contentBy, wokenBy, writesAgain, Kept, CellsKept, Lent}
+use Rattle.fire_commit.specs.declared.Fired.{Fired}
+use Rattle.fire_commit.specs.declared.Fired.the-variants as Fires
+use Rattle.fire_commit.specs.Commit.{Committed, done, refused, ifAdmitted, committedOf, Left, Fitting}
+use Rattle.fire_commit.proofs.Held.{firedOf, commit-held}
 use Rattle.fire.proofs.Place.{operands-here}
 use Rattle.fire.specs.Running.{machineFor, stateIn, Arrived, Running, Went, Stopped, Stepped, Prepared}
 

@@ -7,7 +7,7 @@ use lib.IntN.{ℤ}
 use Rattle.record.specs.declared.tag.Tag.{Tag}
 use Rattle.record.specs.declared.token.Token as Record
 use Rattle.record.specs.declared.instruction.Instruction.{Instruction}
-use Rattle.table.specs.Table.{All}
+use Rattle.buffer.specs.Table.{All}
 use Rattle.record.specs.GraphRecords.{graphOf}
 use Rattle.record.specs.TokensAndTags.{tokens}
 use Rattle.machine.specs.Machine.{Machine, State, fire, fired, notFired}
@@ -16,12 +16,12 @@ use Rattle.rules.specs.declared.answer.Refusal.{Refusal}
 use Rattle.rules.specs.declared.answer.Checked.the-variants.{Passed}
 use Rattle.rules.specs.Check.{operandsAt, checkGraph}
 use Rattle.rules.specs.InstructionSet.{machineOf}
-use Rattle.held.specs.Held.{stateHeld, Arities}
-use Rattle.effect.specs.Held.{Returns}
-use Rattle.matching.specs.Matching.{Matching}
-use Rattle.outputs.specs.Outputs.{cellsIn, CellStore}
-use Rattle.commit.specs.declared.Fired.{Fired}
-use Rattle.commit.specs.declared.Fired.the-variants as Fires
+use Rattle.abstraction.specs.Held.{stateHeld, Arities}
+use Rattle.fire_effect.specs.Held.{Returns}
+use Rattle.store.specs.Matching.{Matching}
+use Rattle.fire_outputs.specs.Outputs.{cellsIn, CellStore}
+use Rattle.fire_commit.specs.declared.Fired.{Fired}
+use Rattle.fire_commit.specs.declared.Fired.the-variants as Fires
 
 -- the machine of a graph over a ledger and cells, and its state there
 abbrev pub machineFor : List Instruction → (ledger cells : List ℕ) → Machine

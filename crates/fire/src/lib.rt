@@ -1,6 +1,6 @@
 // A firing, in the order of Memo 205-1: matching, instruction fetch, operation, new tags, output.
-use commit::Fired;
-use operands::Matched;
+use fire_commit::Fired;
+use fire_operands::Matched;
 use record::token;
 use rules::answer::Refusal;
 ghost use Prim.Native.Nat.{_<_};
@@ -8,7 +8,7 @@ ghost use mathlib.Core.Path.{_≡_};
 ghost use mathlib.Core.Bool.{true};
 ghost use Rattle.record.specs.GraphRecords.{graphOf};
 ghost use Rattle.record.specs.TokensAndTags.{tokens, tokenAt};
-ghost use Rattle.enabled.specs.Enabled.{leads};
+ghost use Rattle.store_enabled.specs.Enabled.{leads};
 ghost use Rattle.fire.specs.Running.{Prepared, Running, Stepped};
 
 // The enabled activity whose place this is fires, or is refused with ledger and cells as they were.
@@ -28,8 +28,8 @@ pub fn fire(
     // Matching.
     let t = token::token_at(ledger, place);
     let tag = t.tag;
-    let arity = enabled::arity(tables, tag.instruction);
-    let matched = operands::operands_of(links, ledger, used, tag, arity, place);
+    let arity = store_enabled::arity(tables, tag.instruction);
+    let matched = fire_operands::operands_of(links, ledger, used, tag, arity, place);
     let Matched::Both {
         first,
         second,
@@ -41,9 +41,9 @@ pub fn fire(
         return Fired::Refused(Refusal::SecondToken);
     };
     // Instruction fetch, operation and new tags.
-    let effect = effect::effect(graph, tables, cells.len() / 8, tag, left, right);
+    let effect = fire_effect::effect(graph, tables, cells.len() / 8, tag, left, right);
     // Output.
-    commit::commit(
+    fire_commit::commit(
         tables,
         links,
         flags,

@@ -9,11 +9,11 @@ use lib.ListN.{length, take, length-map}
 use lib.ListN.{drop-of-length-le}
 use Rattle.record.specs.declared.token.Token.{Token}
 use Rattle.number.specs.Number.{Bytes}
-use Rattle.table.specs.Table.{All, joined}
+use Rattle.buffer.specs.Table.{All, joined}
 use Rattle.record.specs.TokensAndTags.{encode, mostTokens, capacityOf, ledgerOf}
 use Rattle.record.specs.Cells as Cells
 use Rattle.record.proofs.Records.{length-token, length-cell}
-use Rattle.table.proofs.Tables.{length-joined}
+use Rattle.buffer.proofs.Tables.{length-joined}
 use Rattle.machine.specs.Machine as Machine
 use Rattle.rules.specs.declared.answer.Refusal.{Refusal}
 use Rattle.rules.specs.declared.answer.Outcome.{Outcome}

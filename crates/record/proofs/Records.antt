@@ -9,7 +9,7 @@ use lib.ListN.{length, getD, take, set}
 use lib.Seq.{getD-take}
 use lib.Dec.{T, ltb, ltb→lt}
 use Rattle.number.specs.Number.{byteAt, number32, bitsOf, bytes32}
-use Rattle.table.specs.Table.{putRow, joined, All}
+use Rattle.buffer.specs.Table.{putRow, joined, All}
 use Rattle.record.specs.GraphRecords as Graph
 use Rattle.record.specs.TokensAndTags as Tokens
 use Rattle.record.specs.TokensAndTags.{contentOf, stateOf, valueOf, ContentFits, TokenFits, tokens}
@@ -22,7 +22,7 @@ use Rattle.record.specs.declared.token.Content.the-variants.{Live, Spent
 use Rattle.record.specs.declared.cell.Cell.{Cell}
 use Rattle.record.specs.declared.cell.Cell.the-variants.{Absent, Waiting, Present}
 use Rattle.number.proofs.Numbers.{number16-bytes, number32-bytes, number64-bytes, fits16, fits32, fits64, number32-small, bytes16-number, bytes32-number, bytes64-number, bits-fit, signed-bits, bits-signed}
-use Rattle.table.proofs.Tables.{rows-put, rows-end, rows-joined}
+use Rattle.buffer.proofs.Tables.{rows-put, rows-end, rows-joined}
 
 -- ---- a list as its elements
 

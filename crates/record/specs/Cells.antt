@@ -8,7 +8,7 @@ use lib.Dec.{eqb}
 use mir.Syntax.{w32}
 use mir.Val.{SFits}
 use Rattle.number.specs.Number.{byteAt, number32, signedOf, bitsOf, bytes32}
-use Rattle.table.specs.Table.{rows}
+use Rattle.buffer.specs.Table.{rows}
 use Rattle.record.specs.declared.cell.Cell.{Cell}
 use Rattle.record.specs.declared.cell.Cell.the-variants.{Absent, Waiting, Present}
 

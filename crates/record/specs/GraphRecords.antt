@@ -8,7 +8,7 @@ use lib.IntN.{ℤ, pos}
 use mir.Syntax.{w32}
 use mir.Val.{SFits}
 use Rattle.number.specs.Number.{byteAt, number16, number32, signedOf, bitsOf, bytes16, bytes32}
-use Rattle.table.specs.Table.{whole, allRows}
+use Rattle.buffer.specs.Table.{whole, allRows}
 use Rattle.record.specs.declared.instruction.Destination.{Destination}
 use Rattle.record.specs.declared.instruction.Instruction.{Instruction}
 use Rattle.record.specs.declared.operation.Arithmetic.{Arithmetic}

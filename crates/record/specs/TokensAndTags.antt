@@ -7,7 +7,7 @@ use lib.Dec.{eqb}
 use mir.Syntax.{w32}
 use mir.Val.{SFits}
 use Rattle.number.specs.Number.{byteAt, number16, number32, number64, signedOf, bitsOf, bytes16, bytes32, bytes64}
-use Rattle.table.specs.Table.{rows, writtenOver}
+use Rattle.buffer.specs.Table.{rows, writtenOver}
 use Rattle.record.specs.declared.tag.Tag.{Tag}
 use Rattle.record.specs.declared.token.Token.{Token}
 use Rattle.record.specs.declared.token.Content.{Content}

@@ -2,7 +2,7 @@
 ghost use mathlib.Core.Path.{_≡_};
 ghost use Prim.Native.Nat.{_/_, _≤_, _<_};
 ghost use lib.ListN.{length};
-ghost use Rattle.table.specs.Table.{putRow};
+ghost use Rattle.buffer.specs.Table.{putRow};
 ghost use Rattle.record.specs.Cells as Cells;
 
 // 01, "Firing": a cell is absent, waiting or present.
@@ -62,7 +62,7 @@ pub fn cell_at(cells: &[u8], i: usize) -> Cell
     requires { ⌜ i < length (now cells) / 8 ⌝ }
     ensures { λ r. ⌜ r ≡ Cells.cellAt (now (cells .entry)) i ⌝ }
 {
-    decode(table::row_at(cells, 8, i))
+    decode(buffer::row_at(cells, 8, i))
 }
 
 // Writes a cell as record i; every other byte stays.
@@ -71,5 +71,5 @@ pub fn put_cell(cells: &mut [u8], i: usize, cell: Cell)
     ensures { λ _. ⌜ (now (cells .exit) ≡ putRow 8 (now (cells .entry)) i (Cells.encode cell)) × Cells.CellFits cell ⌝ }
 {
     let bytes = encode(cell);
-    table::put_row(cells, 8, i, &bytes);
+    buffer::put_row(cells, 8, i, &bytes);
 }

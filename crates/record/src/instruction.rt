@@ -2,7 +2,7 @@
 ghost use mathlib.Core.Path.{_≡_};
 ghost use Prim.Native.Nat.{_/_, _≤_, _<_};
 ghost use lib.ListN.{length};
-ghost use Rattle.table.specs.Table.{putRow};
+ghost use Rattle.buffer.specs.Table.{putRow};
 ghost use Rattle.record.specs.GraphRecords as Graph;
 ghost use Rattle.record.specs.GraphRecords.{instructionBytes, instructionIn, InstructionFits};
 
@@ -99,7 +99,7 @@ pub fn instruction_at(graph: &[u8], i: usize) -> Instruction
     requires { ⌜ i < length (now graph) / 16 ⌝ }
     ensures { λ r. ⌜ r ≡ instructionIn (now (graph .entry)) i ⌝ }
 {
-    decode(table::row_at(graph, 16, i))
+    decode(buffer::row_at(graph, 16, i))
 }
 
 // Writes r as instruction i of a graph; every other byte stays.
@@ -108,5 +108,5 @@ pub fn put_instruction(graph: &mut [u8], i: usize, r: Instruction)
     ensures { λ _. ⌜ (now (graph .exit) ≡ putRow 16 (now (graph .entry)) i (Graph.encode r)) × InstructionFits r ⌝ }
 {
     let bytes = encode(r);
-    table::put_row(graph, 16, i, &bytes);
+    buffer::put_row(graph, 16, i, &bytes);
 }

@@ -3,7 +3,7 @@ use crate::tag::Tag;
 ghost use mathlib.Core.Path.{_≡_};
 ghost use Prim.Native.Nat.{_/_, _≤_, _<_};
 ghost use lib.ListN.{length};
-ghost use Rattle.table.specs.Table.{putRow};
+ghost use Rattle.buffer.specs.Table.{putRow};
 ghost use Rattle.record.specs.TokensAndTags as Tokens;
 ghost use Rattle.record.specs.TokensAndTags.{contentOf, stateOf, valueOf, tokenBytes, tokenAt, standsAt, ContentFits, TokenFits};
 
@@ -117,7 +117,7 @@ pub fn token_at(ledger: &[u8], i: usize) -> Token
     requires { ⌜ i < length (now ledger) / 20 ⌝ }
     ensures { λ r. ⌜ r ≡ tokenAt (now (ledger .entry)) i ⌝ }
 {
-    decode(table::row_at(ledger, 20, i))
+    decode(buffer::row_at(ledger, 20, i))
 }
 
 // Writes t as record i of a ledger; every other byte stays.
@@ -126,7 +126,7 @@ pub fn put_token(ledger: &mut [u8], i: usize, t: Token)
     ensures { λ _. ⌜ (now (ledger .exit) ≡ putRow 20 (now (ledger .entry)) i (Tokens.encode t)) × TokenFits t ⌝ }
 {
     let bytes = encode(t);
-    table::put_row(ledger, 20, i, &bytes);
+    buffer::put_row(ledger, 20, i, &bytes);
 }
 
 // Whether t stands at a port of a tag.

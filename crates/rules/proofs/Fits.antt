@@ -25,7 +25,7 @@ use Rattle.record.specs.declared.token.Token as Record
 use Rattle.record.specs.declared.token.Content as RecordContent
 use Rattle.record.specs.declared.token.Content.the-variants as Contents
 use Rattle.number.specs.Number.{Bytes}
-use Rattle.table.specs.Table.{All, whole, allRows}
+use Rattle.buffer.specs.Table.{All, whole, allRows}
 use Rattle.record.specs.TokensAndTags as Tokens
 use Rattle.record.specs.TokensAndTags.{ContentFits, TokenFits, mostTokens, capacityOf}
 use Rattle.record.specs.Cells.{CellFits}
@@ -33,7 +33,7 @@ use Rattle.record.specs.Calls.{entered, nextOf, enterOf, leaveOf}
 use Rattle.record.specs.GraphRecords.{inUse, operationOf, graphOf, InstructionFits}
 use Rattle.record.specs.GraphRecords as Graph
 use Rattle.record.proofs.Fitting.{token-fits, instruction-fits, rows-fit}
-use Rattle.table.proofs.Tables.{length-rows}
+use Rattle.buffer.proofs.Tables.{length-rows}
 use Rattle.arithmetic.specs.declared.Computed.{Computed}
 use Rattle.arithmetic.specs.declared.Computed.the-variants.{Value, OutOfRange}
 use Rattle.arithmetic.specs.Arithmetic.{computeOf, eqZ}

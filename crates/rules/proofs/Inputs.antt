@@ -13,7 +13,7 @@ use Rattle.record.specs.declared.tag.Tag.{Tag}
 use Rattle.record.specs.declared.token.Token.{Token}
 use Rattle.record.specs.declared.instruction.Instruction.{Instruction}
 use Rattle.number.specs.Number.{byteAt, number16, number32, number64, signedOf}
-use Rattle.table.specs.Table.{rows, allRows}
+use Rattle.buffer.specs.Table.{rows, allRows}
 use Rattle.record.specs.TokensAndTags.{isInput, standsAt, sameTag, contentOf}
 use Rattle.record.specs.TokensAndTags as Tokens
 use Rattle.machine.specs.Machine.{Key, Machine, find, sameKey}

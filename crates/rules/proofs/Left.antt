@@ -19,14 +19,14 @@ use Rattle.record.specs.declared.token.Content.the-variants.{Live, Spent, Defer
 use Rattle.record.specs.declared.token.Content as RecordContent
 use Rattle.record.specs.declared.instruction.Instruction.{Instruction}
 use Rattle.number.specs.Number.{Bytes, byteAt, number16, number32, number64}
-use Rattle.table.specs.Table.{rows, allRows, joined, whole, writtenOver}
+use Rattle.buffer.specs.Table.{rows, allRows, joined, whole, writtenOver}
 use Rattle.record.specs.GraphRecords.{graphOf}
 use Rattle.record.specs.TokensAndTags.{isInput, mostTokens, capacityOf, ledgerOf}
 use Rattle.record.specs.TokensAndTags as Tokens
 use Rattle.record.specs.Cells as Cells
 use Rattle.record.proofs.Records.{token-bytes-back, token-front, length-token}
 use Rattle.record.proofs.Fitting.{bytes-drop}
-use Rattle.table.proofs.Tables.{length-joined, rows-raw}
+use Rattle.buffer.proofs.Tables.{length-joined, rows-raw}
 use Rattle.machine.specs.Machine.{absent, refused, Machine, State, budgetSpent, End, run}
 use Rattle.machine.specs.Machine as Machine
 use Rattle.machine.proofs.Refused.{refused-picks, run-zero}

@@ -11,8 +11,8 @@ use lib.ListN.{length, take}
 use lib.IntN.{ℤ}
 use Rattle.record.specs.declared.tag.Tag.{Tag}
 use Rattle.record.specs.declared.instruction.Instruction.{Instruction}
-use Rattle.table.specs.Table.{whole, allRows}
-use Rattle.table.proofs.Tables.{length-rows}
+use Rattle.buffer.specs.Table.{whole, allRows}
+use Rattle.buffer.proofs.Tables.{length-rows}
 use Rattle.record.specs.GraphRecords.{isGraphLength, graphOf, destinations, operandsOf}
 use Rattle.record.specs.GraphRecords as Graph
 use Rattle.record.specs.TokensAndTags.{mostTokens, capacityOf}

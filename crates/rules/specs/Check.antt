@@ -12,7 +12,7 @@ use Rattle.record.specs.declared.token.Token.{Token}
 use Rattle.record.specs.declared.instruction.Destination.{Destination}
 use Rattle.record.specs.declared.instruction.Instruction.{Instruction}
 use Rattle.number.specs.Number.{byteAt, number16}
-use Rattle.table.specs.Table.{whole, allRows}
+use Rattle.buffer.specs.Table.{whole, allRows}
 use Rattle.record.specs.GraphRecords.{isGraphLength, graphOf, destinations, rowOf, operandsOf, usesConstant}
 use Rattle.record.specs.GraphRecords as Graph
 use Rattle.record.specs.TokensAndTags.{isInput, standsAt, mostTokens, capacityOf}

@@ -8,7 +8,7 @@ use mathlib.Core.Logic.{_↔_}
 use lib.ListN.{length}
 use Rattle.record.specs.declared.token.Token.{Token}
 use Rattle.record.specs.declared.cell.Cell.{Cell}
-use Rattle.table.specs.Table.{whole, All}
+use Rattle.buffer.specs.Table.{whole, All}
 use Rattle.record.specs.TokensAndTags.{mostTokens, capacityOf}
 use Rattle.machine.specs.Machine.{End}
 use Rattle.machine.specs.Orders as Ends

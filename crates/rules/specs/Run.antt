@@ -11,7 +11,7 @@ use Rattle.record.specs.declared.token.Content.the-variants.{Live, Spent, Defer
 use Rattle.record.specs.declared.cell.Cell as RecordCell
 use Rattle.record.specs.declared.cell.Cell.the-variants.{Absent, Waiting, Present}
 use Rattle.number.specs.Number.{number16}
-use Rattle.table.specs.Table.{allRows, writtenOver}
+use Rattle.buffer.specs.Table.{allRows, writtenOver}
 use Rattle.record.specs.GraphRecords.{graphOf}
 use Rattle.record.specs.TokensAndTags.{capacityOf, ledgerOf}
 use Rattle.record.specs.TokensAndTags as Tokens

@@ -12,7 +12,7 @@ use lib.ListN.{length, drop, length-append}
 use mir.Syntax.{w32}
 use mir.Val.{SFits}
 use Rattle.number.specs.Number.{Bytes, signedOf}
-use Rattle.table.specs.Table.{rows, joined}
+use Rattle.buffer.specs.Table.{rows, joined}
 use Rattle.record.specs.TokensAndTags as Tokens
 use Rattle.record.specs.Cells as Cells
 use Rattle.record.specs.Cells.{CellFits}

@@ -7,11 +7,11 @@ use mathlib.Core.Path.{_≡_, refl, sym, ap, _∙_}
 use mathlib.Core.List.{List, [], _∷_, _++_, map, append-assoc, append-nil}
 use lib.ListN.{length, getD, take, drop, length-append, length-drop, length-map, take-append-drop, List·getD-append}
 use lib.Seq.{take-suc, take-all, drop-drop, getD-append-add, take-at, drop-append-add, length-take-le}
-use Rattle.table.specs.Table.{rows, joined, written}
+use Rattle.buffer.specs.Table.{rows, joined, written}
 use Rattle.record.specs.TokensAndTags as Tokens
 use Rattle.record.specs.Cells as Cells
 use Rattle.record.specs.declared.cell.Cell.{Cell}
-use Rattle.table.proofs.Tables.{length-rows, getD-rows}
+use Rattle.buffer.proofs.Tables.{length-rows, getD-rows}
 use Rattle.rules.specs.declared.answer.Answer.{Answer}
 use Rattle.text.specs.Text.{tokenLine, cellLine, cellLines, lines}
 

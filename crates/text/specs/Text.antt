@@ -7,7 +7,7 @@ use lib.ListN.{length, drop}
 use lib.Dec.{ltb, leb}
 use lib.IntN.{ℤ, pos, negsuc}
 use Rattle.number.specs.Number.{signedOf}
-use Rattle.table.specs.Table.{allRows, joined}
+use Rattle.buffer.specs.Table.{allRows, joined}
 use Rattle.record.specs.TokensAndTags as Tokens
 use Rattle.record.specs.Cells as Cells
 use Rattle.record.specs.declared.token.Token.{Token}

@@ -71,7 +71,7 @@ fn write(answer: Answer, listing: &[u8], cells: &[u8], out: &mut [u8]) -> usize
     let mut j = 0;
     while j < n {
         let k = line_at(answer, listing, cells, j, &mut line);
-        table::write_at(out, at, &line[0..k]);
+        buffer::write_at(out, at, &line[0..k]);
         at += k;
         j += 1;
     }

@@ -46,9 +46,9 @@ fn read_in(folder: &[u8], name: &[u8], buf: &mut [u8]) -> isize
         return read_file(name, buf);
     }
     let mut path = io::buffer();
-    table::write_at(&mut path, 0, folder);
+    buffer::write_at(&mut path, 0, folder);
     path[n] = b'/';
-    table::write_at(&mut path, n + 1, name);
+    buffer::write_at(&mut path, n + 1, name);
     read_file(&path[..n + 1 + name.len()], buf)
 }
 

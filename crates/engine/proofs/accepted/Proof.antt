@@ -4,7 +4,7 @@ use native.Mathlib.Omega.{arith}
 use Prim.Native.Nat.{ℕ, _/_}
 use lib.ListN.{length, length-replicate}
 use borrow.Author.Needs.{needs}
-use Rattle.matching.proofs.Laws.{matching-start}
+use Rattle.store.proofs.Laws.{matching-start}
 use Rattle.rules.specs.Run.{picksOf}
 use Rattle.engine.proofs.Starting.{prepared, graph-passed, stores-good, inputs-passed, inputs-fit, inputs-proper, inputs-alone, started, as-lent}
 use Rattle.engine.proofs.accepted.Statement.{statement}

@@ -4,7 +4,7 @@ use Prim.Native.Nat.{_-_}
 use native.Mathlib.Omega.{arith}
 use borrow.Author.Needs.{needs}
 use Rattle.record.specs.GraphRecords.{graphOf}
-use Rattle.matching.proofs.Laws.{matching-counted}
+use Rattle.store.proofs.Laws.{matching-counted}
 use Rattle.rules.specs.Run.{picksOf}
 use Rattle.engine.proofs.Looping.{SoFar, begun, advanced, halted, finished}
 use Rattle.engine.proofs.proceed.Statement.{statement}

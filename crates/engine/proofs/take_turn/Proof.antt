@@ -1,7 +1,7 @@
 -- `engine::take_turn` meets its contract: the activity that the pick takes fires, joined by proofs/Turning. Assumes nothing.
 use mathlib.Core.Path.{refl}
 use borrow.Author.Needs.{needs}
-use Rattle.matching.proofs.Laws.{matching-counted}
+use Rattle.store.proofs.Laws.{matching-counted}
 use Rattle.rules.specs.Run.{picksOf}
 use Rattle.engine.proofs.Turning.{turn-none, below, place-enabled, turn-done, turn-refused}
 use Rattle.engine.proofs.take_turn.Statement.{statement}

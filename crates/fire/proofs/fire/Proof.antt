@@ -4,7 +4,7 @@ use mir.Syntax.{w32}
 use mir.Val.{SFits}
 use mir.Facts.{toZ-ofZ}
 use borrow.Author.Needs.{needs}
-use Rattle.matching.proofs.Laws.{matching-known}
+use Rattle.store.proofs.Laws.{matching-known}
 use Rattle.fire.proofs.Place.{earliest-here}
 use Rattle.fire.proofs.Steps.{fitting, fire-missing, room, inside, matched-here, lent-here, stepped-here}
 use Rattle.fire.proofs.fire.Statement.{statement}

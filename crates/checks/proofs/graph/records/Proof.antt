@@ -6,11 +6,11 @@ use lib.ListN.{length, take, drop}
 use borrow.Author.Needs.{needs}
 use Rattle.record.specs.GraphRecords.{graphOf}
 use Rattle.rules.specs.Check.{inTurn, checkRecord}
-use Rattle.fields.specs.Sites.{Sites}
-use Rattle.fields.proofs.Turns.{stopped, take-next, turn, turn-end}
+use Rattle.check_fields.specs.Sites.{Sites}
+use Rattle.check_fields.proofs.Turns.{stopped, take-next, turn, turn-end}
 use Rattle.checks.proofs.Passed.{passed-record}
-use Rattle.fields.proofs.Graphs.{length-graph, in-graph}
-use Rattle.fields.proofs.Sites.{no-sites, note-sites, length-at-site}
+use Rattle.check_fields.proofs.Graphs.{length-graph, in-graph}
+use Rattle.check_fields.proofs.Sites.{no-sites, note-sites, length-at-site}
 use Rattle.checks.proofs.graph.records.Statement.{statement}
 use Rattle.checks.proofs.graph.records.Tie as tie
 
