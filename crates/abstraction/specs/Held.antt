@@ -8,7 +8,7 @@ use Rattle.record.specs.declared.token.Token as Record
 use Rattle.record.specs.declared.cell.Cell as RecordCell
 use Rattle.record.specs.declared.cell.Cell.the-variants.{Absent, Waiting, Present}
 use Rattle.record.specs.declared.instruction.Instruction.{Instruction}
-use Rattle.buffer.specs.Table.{All}
+use Rattle.buffer.specs.Rows.{All}
 use Rattle.record.specs.TokensAndTags.{decode}
 use Rattle.machine.specs.Machine.{Cell, absent, waiting, present, State}
 use Rattle.store_enabled.specs.Enabled.{arityOf}

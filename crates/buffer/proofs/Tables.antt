@@ -6,7 +6,7 @@ use mathlib.Core.List.{List, [], _∷_, _++_, append-assoc, append-nil}
 use native.Mathlib.Nat.{not-suc-le-zero, le-of-suc-le-suc, suc-mul, zero-mul, add-comm, add-assoc, zero-add}
 use lib.ListN.{length, getD, take, drop, set, length-append, length-drop, take-append-drop}
 use lib.Seq.{take-add, take-at, take-all, length-take-le, drop-at, drop-drop, take-append-add, drop-append-add}
-use Rattle.buffer.specs.Table.{written, putRow, joined, rows, All}
+use Rattle.buffer.specs.Rows.{written, putRow, joined, rows, All}
 
 -- ---- one record replaced
 

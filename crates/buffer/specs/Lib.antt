@@ -1,2 +1,2 @@
 -- Records of one width in a buffer. Assumes nothing.
-pub mod Table
+pub mod Rows

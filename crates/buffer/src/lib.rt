@@ -1,8 +1,17 @@
-// A table of records of one width in a buffer: record i is lent, or written with every other byte kept.
+// Records of one width in a buffer: whether it holds whole ones, record i lent, or written with every other byte kept.
 ghost use mathlib.Core.Path.{_≡_};
-ghost use Prim.Native.Nat.{_+_, _*_, _≤_};
+ghost use Prim.Native.Nat.{_+_, _*_, _<_, _≤_};
 ghost use lib.ListN.{length, drop};
-ghost use Rattle.buffer.specs.Table.{written, putRow};
+ghost use Rattle.buffer.specs.Rows as Rows;
+ghost use Rattle.buffer.specs.Rows.{written, putRow};
+
+// Whether a buffer of that length holds whole records of that width, so many at most.
+pub fn whole(width: usize, most: usize, len: usize) -> bool
+    requires { ⌜ 0 < width ⌝ }
+    ensures { λ r. ⌜ r ≡ Rows.whole width most len ⌝ }
+{
+    len % width == 0 && len / width <= most
+}
 
 // The buffer from record i on.
 pub fn row_at(s: &[u8], width: usize, i: usize) -> &[u8]

@@ -13,27 +13,28 @@ use Rattle.record.specs.declared.instruction.Instruction.{Instruction}
 use Rattle.record.specs.GraphRecords.{decode, graphOf, instructionIn, inUse, rowOf, operandsOf}
 use Rattle.buffer.proofs.Tables.{length-rows, getD-rows}
 use Rattle.record.specs.TokensAndTags.{rootOf}
+use Rattle.record.specs.Widths.{graphWidth}
 use Rattle.rules.specs.Check.{instructionAt, operandsAt}
 use Rattle.rules.specs.InstructionSet.{arityIn}
 
-pub length-graph : (l : List ℕ) → length (graphOf l) ≡ length l / 16
-length-graph l = length-rows 16 decode (length l / 16) l
+pub length-graph : (l : List ℕ) → length (graphOf l) ≡ length l / graphWidth
+length-graph l = length-rows graphWidth decode (length l / graphWidth) l
 
 module _ (l : List ℕ) (i : ℕ) where
-  module _ (h : i < length l / 16) where
+  module _ (h : i < length l / graphWidth) where
     -- whatever stands past the graph
     pub in-graph : (d : Instruction) → getD (graphOf l) i d ≡ instructionIn l i
-    in-graph d = getD-rows 16 decode (length l / 16) i l d h
+    in-graph d = getD-rows graphWidth decode (length l / graphWidth) i l d h
 
     pub at-graph : instructionAt (graphOf l) i ≡ instructionIn l i
     unfolding instructionAt
     at-graph = in-graph (decode [])
 
-    pub code-at : instructionAt (graphOf l) i .code ≡ getD l (i * 16) 0
+    pub code-at : instructionAt (graphOf l) i .code ≡ getD l (i * graphWidth) 0
     unfolding decode
-    code-at = ap (λ (r : Instruction). r .code) at-graph ∙ getD-drop (i * 16) l 0 0 ∙ rw (add-zero (i * 16))
+    code-at = ap (λ (r : Instruction). r .code) at-graph ∙ getD-drop (i * graphWidth) l 0 0 ∙ rw (add-zero (i * graphWidth))
 
-  module _ (h : length l / 16 ≤ i) where
+  module _ (h : length l / graphWidth ≤ i) where
     pub past-graph : instructionAt (graphOf l) i ≡ decode []
     unfolding instructionAt
     past-graph = List·getD-eq-default (graphOf l) (decode []) (omega (arith, length-graph l))
@@ -42,11 +43,11 @@ module _ (l : List ℕ) (i : ℕ) where
     unfolding decode
     code-past = ap (λ (r : Instruction). r .code) past-graph
 
-  pub operands-in : i < length l / 16 → operandsAt (graphOf l) i ≡ operandsOf (getD l (i * 16) 0)
+  pub operands-in : i < length l / graphWidth → operandsAt (graphOf l) i ≡ operandsOf (getD l (i * graphWidth) 0)
   unfolding operandsAt
   operands-in h = ap (λ (c : ℕ). operandsOf c) (code-at h)
 
-  pub operands-past : length l / 16 ≤ i → operandsAt (graphOf l) i ≡ 0
+  pub operands-past : length l / graphWidth ≤ i → operandsAt (graphOf l) i ≡ 0
   unfolding operandsAt rowOf
   operands-past h = ap (λ (c : ℕ). operandsOf c) (code-past h)
 
@@ -61,11 +62,11 @@ one-up n h = omega arith
 
 -- what an activity waits for, by its instruction's code
 module _ (l : List ℕ) (i : ℕ) where
-  pub arity-in : i < length l / 16 → arityIn (graphOf l) (rootOf i) ≡ cond (eqb (getD l (i * 16) 0) 3) 0 (operandsOf (getD l (i * 16) 0))
+  pub arity-in : i < length l / graphWidth → arityIn (graphOf l) (rootOf i) ≡ cond (eqb (getD l (i * graphWidth) 0) 3) 0 (operandsOf (getD l (i * graphWidth) 0))
   unfolding arityIn
   arity-in h = ap (λ (c : ℕ). cond (eqb c 3) 0 (operandsOf c)) (code-at l i h)
 
-  pub arity-past : length l / 16 ≤ i → arityIn (graphOf l) (rootOf i) ≡ 0
+  pub arity-past : length l / graphWidth ≤ i → arityIn (graphOf l) (rootOf i) ≡ 0
   unfolding arityIn rowOf
   arity-past h = ap (λ (c : ℕ). cond (eqb c 3) 0 (operandsOf c)) (code-past l i h)
 

@@ -1,4 +1,5 @@
 // Refusal 4: an arc ends at a port that its instruction has.
+use record::instruction;
 use record::instruction::Destination;
 use record::instruction::Instruction;
 use record::operation;
@@ -17,8 +18,8 @@ pub fn operands_at(graph: &[u8], i: u16) -> u8
     ensures { λ r. ⌜ r ≡ operandsAt (graphOf (now (graph .entry))) i ⌝ }
 {
     let at = wide(i);
-    if at < graph.len() / 16 {
-        operation::operands(graph[at * 16])
+    if at < graph.len() / instruction::WIDTH {
+        operation::operands(graph[at * instruction::WIDTH])
     } else {
         0
     }

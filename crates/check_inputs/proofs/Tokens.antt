@@ -12,15 +12,16 @@ use Rattle.record.specs.declared.tag.Tag.{Tag}
 use Rattle.record.specs.declared.token.Token.{Token}
 use Rattle.record.specs.TokensAndTags.{decode, tokenAt, sameTag, standsAt}
 use Rattle.buffer.proofs.Tables.{length-rows, getD-rows}
+use Rattle.record.specs.Widths.{tokenWidth}
 use Rattle.rules.specs.Check.{any}
 use Rattle.check_inputs.specs.Inputs.{tokensOf, entryOf, Seen}
 use Rattle.check_fields.proofs.Turns.{or-false, any-append, and-true-left, and-true-right}
 
-pub length-tokens : (l : List ℕ) → length (tokensOf l) ≡ length l / 20
-length-tokens l = length-rows 20 decode (length l / 20) l
+pub length-tokens : (l : List ℕ) → length (tokensOf l) ≡ length l / tokenWidth
+length-tokens l = length-rows tokenWidth decode (length l / tokenWidth) l
 
-pub in-tokens : (l : List ℕ) (i : ℕ) → i < length l / 20 → (d : Token) → getD (tokensOf l) i d ≡ tokenAt l i
-in-tokens l i h d = getD-rows 20 decode (length l / 20) i l d h
+pub in-tokens : (l : List ℕ) (i : ℕ) → i < length l / tokenWidth → (d : Token) → getD (tokensOf l) i d ≡ tokenAt l i
+in-tokens l i h d = getD-rows tokenWidth decode (length l / tokenWidth) i l d h
 
 -- a token is found among more, too
 pub any-more : {A : Type 0} (f : A → Bool) (xs : List A) (i n : ℕ) → i ≤ n → any f (take i xs) ≡ true → any f (take n xs) ≡ true

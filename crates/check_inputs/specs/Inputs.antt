@@ -7,19 +7,20 @@ use lib.ListN.{getD, take}
 use Rattle.record.specs.declared.tag.Tag.{Tag}
 use Rattle.record.specs.declared.token.Token.{Token}
 use Rattle.record.specs.declared.instruction.Instruction.{Instruction}
-use Rattle.buffer.specs.Table.{allRows}
+use Rattle.buffer.specs.Rows.{allRows}
 use Rattle.record.specs.TokensAndTags.{decode, standsAt}
+use Rattle.record.specs.Widths.{tokenWidth}
 use Rattle.rules.specs.declared.answer.Refusal.the-variants.{BadInput, SecondToken}
 use Rattle.rules.specs.declared.answer.Checked.{Checked}
 use Rattle.rules.specs.Check.{demand, any, inTurn, goodInput, secondInput}
 
 -- the tokens of the inputs' bytes
 abbrev pub tokensOf : List ℕ → List Token
-tokensOf l = allRows 20 decode l
+tokensOf l = allRows tokenWidth decode l
 
 -- 6, the inputs in turn
 abbrev pub checkFields : List Instruction → (inputs : List ℕ) → Checked
-checkFields g inputs = inTurn (λ i good. demand good BadInput i) 0 (allRows 20 (goodInput g) inputs)
+checkFields g inputs = inTurn (λ i good. demand good BadInput i) 0 (allRows tokenWidth (goodInput g) inputs)
 
 -- 9, by input in turn, against the inputs before it
 abbrev pub checkSecond : (inputs : List ℕ) → Checked

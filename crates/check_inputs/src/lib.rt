@@ -11,12 +11,13 @@ ghost use Prim.Native.Nat.{_/_, _≤_, _<_};
 ghost use lib.ListN.{length, take};
 ghost use Rattle.record.specs.GraphRecords.{graphOf};
 ghost use Rattle.record.specs.TokensAndTags.{isInput, standsAt};
+ghost use Rattle.record.specs.Widths.{tokenWidth};
 ghost use Rattle.rules.specs.Check.{any, goodInput, secondInput, checkInputs};
 ghost use Rattle.check_inputs.specs.Inputs.{tokensOf, checkFields, checkSecond, entryOf};
 
 // Of the record that s starts with: root path and iteration, state 0, zeros.
 fn is_input(s: &[u8]) -> bool
-    requires { ⌜ 20 ≤ length (now s) ⌝ }
+    requires { ⌜ tokenWidth ≤ length (now s) ⌝ }
     ensures { λ r. ⌜ r ≡ isInput (now (s .entry)) ⌝ }
 {
     number::u64_at(s, 0) == 0 && (s[8] == 0 && number::u32_at(s, 16) == 0)
@@ -24,7 +25,7 @@ fn is_input(s: &[u8]) -> bool
 
 // 6, of the record that s starts with.
 fn good(graph: &[u8], s: &[u8]) -> bool
-    requires { ⌜ 20 ≤ length (now s) ⌝ }
+    requires { ⌜ tokenWidth ≤ length (now s) ⌝ }
     ensures { λ r. ⌜ r ≡ goodInput (graphOf (now (graph .entry))) (now (s .entry)) ⌝ }
 {
     is_input(s) && s[9] < arc::operands_at(graph, number::u16_at(s, 10))
@@ -35,8 +36,8 @@ fn fields(graph: &[u8], inputs: &[u8]) -> Checked
     ensures { λ c. ⌜ c ≡ checkFields (graphOf (now (graph .entry))) (now (inputs .entry)) ⌝ }
 {
     let mut i = 0;
-    while i < inputs.len() / 20 {
-        if !good(graph, buffer::row_at(inputs, 20, i)) {
+    while i < inputs.len() / token::WIDTH {
+        if !good(graph, buffer::row_at(inputs, token::WIDTH, i)) {
             return Checked::Failed(Refusal::BadInput, i);
         }
         i += 1;
@@ -46,7 +47,7 @@ fn fields(graph: &[u8], inputs: &[u8]) -> Checked
 
 // Whether one of the first n tokens stands at a port of a tag.
 fn taken(inputs: &[u8], n: usize, tag: Tag, port: u8) -> bool
-    requires { ⌜ n ≤ length (now inputs) / 20 ⌝ }
+    requires { ⌜ n ≤ length (now inputs) / tokenWidth ⌝ }
     ensures { λ r. ⌜ r ≡ any (standsAt tag port) (take n (tokensOf (now (inputs .entry)))) ⌝ }
 {
     let mut j = 0;
@@ -69,7 +70,7 @@ fn entry(t: Token) -> usize
 
 // Whether input i is a second token, where `mark` is the entry of the table of `second`.
 fn is_second(inputs: &[u8], i: usize, t: Token, mark: u8) -> bool
-    requires { ⌜ (i ≤ length (now inputs) / 20) × (mark ≡ 0 → secondInput (take i (tokensOf (now inputs))) t ≡ false) ⌝ }
+    requires { ⌜ (i ≤ length (now inputs) / tokenWidth) × (mark ≡ 0 → secondInput (take i (tokensOf (now inputs))) t ≡ false) ⌝ }
     ensures { λ r. ⌜ r ≡ secondInput (take i (tokensOf (now (inputs .entry)))) t ⌝ }
 {
     let tag = t.tag;
@@ -83,7 +84,7 @@ fn second(inputs: &[u8]) -> Checked
 {
     let mut seen = [0u8; 512];
     let mut i = 0;
-    while i < inputs.len() / 20 {
+    while i < inputs.len() / token::WIDTH {
         let t = token::token_at(inputs, i);
         let at = entry(t);
         if is_second(inputs, i, t, seen[at]) {
@@ -102,7 +103,7 @@ pub fn check(graph: &[u8], inputs: &[u8], capacity: usize) -> Checked
     let Checked::Passed = of_fields else {
         return of_fields;
     };
-    if capacity < inputs.len() / 20 {
+    if capacity < inputs.len() / token::WIDTH {
         return Checked::Failed(Refusal::LedgerFull, capacity);
     }
     second(inputs)

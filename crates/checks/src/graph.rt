@@ -1,5 +1,4 @@
 // Refusals 1 to 5: the graph.
-use crate::buffer;
 use check_fields::arc;
 use check_fields::fan_out;
 use check_fields::site;
@@ -51,7 +50,7 @@ fn records(graph: &[u8]) -> Checked
 {
     let mut sites = [0u32; 256];
     let mut i = 0;
-    while i < graph.len() / 16 {
+    while i < graph.len() / instruction::WIDTH {
         let r = instruction::instruction_at(graph, i);
         let checked = record(graph, &sites, i, r);
         let Checked::Passed = checked else {
@@ -67,7 +66,7 @@ fn records(graph: &[u8]) -> Checked
 fn good_length(n: usize) -> bool
     ensures { λ r. ⌜ r ≡ isGraphLength n ⌝ }
 {
-    1 <= n && buffer::whole(16, 256, n)
+    1 <= n && buffer::whole(instruction::WIDTH, 256, n)
 }
 
 pub fn check(graph: &[u8]) -> Checked

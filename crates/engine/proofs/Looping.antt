@@ -10,6 +10,7 @@ use lib.IntN.{ℤ}
 use Rattle.record.specs.declared.tag.Tag.{Tag}
 use Rattle.record.specs.declared.instruction.Instruction.{Instruction}
 use Rattle.record.specs.TokensAndTags.{tokens}
+use Rattle.record.specs.Widths.{tokenWidth, cellWidth}
 use Rattle.store_enabled.specs.Enabled.{enabledPlaces}
 use Rattle.store_flags.specs.Flags.{places, flagsOf}
 use Rattle.machine.specs.Machine.{Machine, Outcome, completed, budgetSpent, End, laterPicks, byPicks, runBy, end}
@@ -32,7 +33,7 @@ pub record SoFar (g : List Instruction) (ledger₀ cells₀ : List ℕ) (start b
   pub within : firings ≤ budget
   pub running : Running g tables links flags ledger cells used
   pub size : length ledger ≡ length ledger₀
-  pub rest : drop (used * 20) ledger ≡ drop (used * 20) ledger₀
+  pub rest : drop (used * tokenWidth) ledger ≡ drop (used * tokenWidth) ledger₀
   pub cellSize : length cells ≡ length cells₀
   -- the run that is left to do
   pub toDo : endOf g ledger₀ cells₀ start budget picks
@@ -61,8 +62,8 @@ module _ (g : List Instruction) (ledger₀ cells₀ : List ℕ) (start budget : 
     M₀ = machineFor g ledger₀ cells₀
 
     -- what holds at the lengths of these buffers holds at those of the lent ones, which are the same
-    as-lent : (P : (capacity count : ℕ) → Type 0) → P (length ledger / 20) (length cells / 8) → P (length ledger₀ / 20) (length cells₀ / 8)
-    as-lent P h = subst (λ (b : ℕ). P (length ledger₀ / 20) (b / 8)) (so .cellSize) (subst (λ (b : ℕ). P (b / 20) (length cells / 8)) (so .size) h)
+    as-lent : (P : (capacity count : ℕ) → Type 0) → P (length ledger / tokenWidth) (length cells / cellWidth) → P (length ledger₀ / tokenWidth) (length cells₀ / cellWidth)
+    as-lent P h = subst (λ (b : ℕ). P (length ledger₀ / tokenWidth) (b / cellWidth)) (so .cellSize) (subst (λ (b : ℕ). P (b / tokenWidth) (length cells / cellWidth)) (so .size) h)
 
     to-do : (b : ℕ) → budget - firings ≡ b → endOf g ledger₀ cells₀ start budget picks ≡ runBy M₀ (byPicks M₀) b (drop firings picks) firings (stateIn ledger cells used)
     to-do b e = so .toDo ∙ ap (λ (n : ℕ). runBy M₀ (byPicks M₀) n (drop firings picks) firings (stateIn ledger cells used)) e
@@ -99,7 +100,7 @@ module _ (g : List Instruction) (ledger₀ cells₀ : List ℕ) (start budget : 
         (λ i. end M₀ o firings (stateIn (l i) (c i) used)) ∙ sym e in
         subst (λ (x : AnswerOutcome.Outcome). Left (endOf g ledger₀ cells₀ start budget picks) (record { outcome = x; firings = firings; tokens = used }) ledger₀ cells₀ ledger′ cells′) told
         (subst (λ (x : End Refusal Tag ℤ). Left x (record { outcome = outcomeOf o; firings = firings; tokens = used }) ledger₀ cells₀ ledger′ cells′) there
-        (left g r ledger₀ cells₀ (ap (drop (used * 20)) l ∙ so .rest) (ap length c ∙ so .cellSize) o firings))
+        (left g r ledger₀ cells₀ (ap (drop (used * tokenWidth)) l ∙ so .rest) (ap length c ∙ so .cellSize) o firings))
 
     -- a turn that ended the run
     pub halted : firings < budget → (o : AnswerOutcome.Outcome) (links′ flags′ ledger′ cells′ : List ℕ)

@@ -15,6 +15,7 @@ use Rattle.record.specs.GraphRecords.{graphOf}
 use Rattle.record.specs.TokensAndTags.{tokens, tokenAt}
 use Rattle.record.specs.TokensAndTags as Tokens
 use Rattle.buffer.proofs.Tables.{getD-rows}
+use Rattle.record.specs.Widths.{tokenWidth, cellWidth}
 use Rattle.store_flags.specs.Flags.{places, flagsOf}
 use Rattle.store.proofs.Laws.{matching-places, matching-enabled-below, matching-leads}
 use Rattle.load.specs.Accept.{headOr0}
@@ -51,7 +52,7 @@ module _ (g : List Instruction) (tables : List ℕ) (right : Arities g tables) (
   activity p = record { place = p; tag = getD (tokens used ledger) p noToken .tag }
 
   enabled-here : enabled M s ≡ map activity (enabledPlaces tables (tokens used ledger))
-  enabled-here = held-enabled g (length ledger / 20) (length cells / 8) tables (tokens used ledger) (cellsIn cells) noToken right (on-ports g (tokens used ledger) arrived)
+  enabled-here = held-enabled g (length ledger / tokenWidth) (length cells / cellWidth) tables (tokens used ledger) (cellsIn cells) noToken right (on-ports g (tokens used ledger) arrived)
 
   -- nothing is enabled
   pub ended : (b : ℕ) (picks : List ℕ) (f : ℕ) → length (enabledPlaces tables (tokens used ledger)) ≡ 0 → runBy M (byPicks M) b picks f s ≡ end M completed f s
@@ -148,7 +149,7 @@ module _ (graph picks : List ℕ) {tables links flags ledger cells : List ℕ} {
     enabled-some z = some (count e all ∙ z)
 
     that-tag : tokenAt ledger place .tag ≡ getD (tokens used ledger) place noToken .tag
-    that-tag = ap (λ (t : Record.Token). t .tag) (sym (getD-rows 20 Tokens.decode used place ledger noToken (place-enabled .0)))
+    that-tag = ap (λ (t : Record.Token). t .tag) (sym (getD-rows tokenWidth Tokens.decode used place ledger noToken (place-enabled .0)))
 
     module _ {links′ flags′ ledger′ cells′ : List ℕ} where
       pub turn-done : {n : ℕ} → Went (graphOf graph) (tokenAt ledger place .tag) tables links′ flags′ ledger′ cells′ n used ledger cells

@@ -7,8 +7,9 @@ use lib.IntN.{ℤ}
 use Rattle.record.specs.declared.tag.Tag.{Tag}
 use Rattle.record.specs.declared.instruction.Instruction.{Instruction}
 use Rattle.record.specs.TokensAndTags.{ledgerOf}
-use Rattle.buffer.specs.Table.{writtenOver}
+use Rattle.buffer.specs.Rows.{writtenOver}
 use Rattle.record.specs.Cells as Cells
+use Rattle.record.specs.Widths.{tokenWidth}
 use Rattle.machine.specs.Machine.{Outcome, End, byPicks, runBy, run, end, laterPicks}
 use Rattle.rules.specs.declared.answer.Refusal.{Refusal}
 use Rattle.rules.specs.declared.answer.Outcome as AnswerOutcome
@@ -26,7 +27,7 @@ pub record Advanced (g : List Instruction) (picks : List ℕ) (tables links flag
   pub running : Running g tables links flags ledger′ cells′ n
   pub grown : used ≤ n
   pub size : length ledger′ ≡ length ledger
-  pub rest : drop (n * 20) ledger′ ≡ drop (n * 20) ledger
+  pub rest : drop (n * tokenWidth) ledger′ ≡ drop (n * tokenWidth) ledger
   pub cellSize : length cells′ ≡ length cells
 
 -- a turn that ended the run left ledger and cells as it found them

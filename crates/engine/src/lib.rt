@@ -8,6 +8,7 @@ ghost use Prim.Native.Nat.{_/_};
 ghost use mathlib.Core.Path.{_≡_};
 ghost use lib.ListN.{length, drop};
 ghost use Rattle.record.specs.GraphRecords.{graphOf};
+ghost use Rattle.record.specs.Widths.{cellWidth};
 ghost use Rattle.store_flags.specs.Flags.{Counted, places, flagsOf};
 ghost use Rattle.machine.specs.Machine.{run as Machine·run};
 ghost use Rattle.rules.specs.declared.answer.Checked.the-variants.{Passed};
@@ -123,7 +124,7 @@ fn accepted(
     cells: &mut [u8],
 ) -> Answer
     requires { ⌜ check (now graph) (now inputs) (now picks) (length (now ledger)) (length (now cells)) ≡ Passed ⌝ }
-    ensures { λ r. ⌜ Left (Machine·run (machineFor (graphOf (now (graph .entry))) (now (ledger .entry)) (now (cells .entry))) budget (picksOf (now (picks .entry))) (firstState (now (inputs .entry)) (length (now (cells .entry)) / 8))) r (now (ledger .entry)) (now (cells .entry)) (now (ledger .exit)) (now (cells .exit)) ⌝ }
+    ensures { λ r. ⌜ Left (Machine·run (machineFor (graphOf (now (graph .entry))) (now (ledger .entry)) (now (cells .entry))) budget (picksOf (now (picks .entry))) (firstState (now (inputs .entry)) (length (now (cells .entry)) / cellWidth))) r (now (ledger .entry)) (now (cells .entry)) (now (ledger .exit)) (now (cells .exit)) ⌝ }
 {
     let mut tables = [0u16; 512];
     let mut links = [0u16; 9216];

@@ -10,7 +10,7 @@ use lib.ListN.{length, getD}
 use lib.Dec.{eqb}
 use lib.IntN.{ℤ}
 use borrow.Author.Tests.{eqb-true}
-use Rattle.buffer.specs.Table.{All}
+use Rattle.buffer.specs.Rows.{All}
 use Rattle.record.specs.declared.tag.Tag.{Tag}
 use Rattle.record.specs.declared.token.Token.{Token}
 use Rattle.record.specs.declared.token.Content.the-variants.{Live}
@@ -18,6 +18,7 @@ use Rattle.record.specs.declared.instruction.Instruction.{Instruction}
 use Rattle.record.specs.GraphRecords.{operandsOf, graphOf}
 use Rattle.record.specs.TokensAndTags.{decode, tokens, tokenAt, standsAt}
 use Rattle.buffer.proofs.Tables.{length-rows, getD-rows}
+use Rattle.record.specs.Widths.{tokenWidth}
 use Rattle.store_chains.specs.declared.Found.{Found}
 use Rattle.store_chains.specs.declared.Found.the-variants.{At, Nothing}
 use Rattle.store_chains.specs.Search.{firstFrom}
@@ -52,8 +53,8 @@ module _ {graph tables links flags ledger cells : List ℕ} {used : ℕ} (ready 
   pub earliest-here : (t : Token) (a : ℕ) → t ≡ tokenAt ledger place → a ≡ getD tables (t .tag .instruction + 256) 0 → Earliest a (tokens used ledger) (t .tag) place
   earliest-here t a e f =
       let ts = tokens used ledger in
-      let there : getD ts place noToken ≡ t = getD-rows 20 decode used place ledger noToken within ∙ sym e in
-      let inside : place < length ts = omega (arith, length-rows 20 decode used ledger) in
+      let there : getD ts place noToken ≡ t = getD-rows tokenWidth decode used place ledger noToken within ∙ sym e in
+      let inside : place < length ts = omega (arith, length-rows tokenWidth decode used ledger) in
       let arity : a ≡ arityIn (graphOf graph) (t .tag) = f ∙ ready .aritiesRight (t .tag) .0 in
       let here = all-at (λ (u : Token). 0 < arityIn (graphOf graph) (u .tag) → u .port < arityIn (graphOf graph) (u .tag)) ts place noToken inside (on-ports (graphOf graph) ts (now .arrived)) in
       let lead : leads tables ts place t ≡ true = subst (λ (u : Token). leads tables ts place u ≡ true) (sym e) first in
@@ -82,10 +83,10 @@ one-port g ts a τ one = go (firstFrom (standsAt τ 1) 0 ts) refl
 module _ (g : List Instruction) (ledger : List ℕ) (used : ℕ) (ports : All (λ (t : Token). t .port < 2) (tokens used ledger)) (arrived : Arrived g (tokens used ledger)) (τ : Tag) {i j : ℕ} {v w : ℤ}
     (p : Places (arityIn g τ) (tokens used ledger) τ i j v w) where
   size : length (tokens used ledger) ≡ used
-  size = length-rows 20 decode used ledger
+  size = length-rows tokenWidth decode used ledger
 
   read : (k : ℕ) → k < length (tokens used ledger) → getD (tokens used ledger) k noToken ≡ tokenAt ledger k
-  read k h = getD-rows 20 decode used k ledger noToken (omega (arith, size))
+  read k h = getD-rows tokenWidth decode used k ledger noToken (omega (arith, size))
 
   tag-at : (port k : ℕ) → k < length (tokens used ledger) → firstFrom (standsAt τ port) 0 (tokens used ledger) ≡ At k → tokenAt ledger k .tag ≡ τ
   tag-at port k h e = ap (λ (t : Token). t .tag) (sym (read k h)) ∙ stands-tag τ port (getD (tokens used ledger) k noToken) (search-at (standsAt τ port) noToken k (tokens used ledger) e .passes)

@@ -13,11 +13,12 @@ use Rattle.record.specs.declared.token.Token as Record
 use Rattle.record.specs.declared.token.Content as RecordContent
 use Rattle.record.specs.declared.cell.Cell as RecordCell
 use Rattle.record.specs.declared.instruction.Instruction.{Instruction}
-use Rattle.buffer.specs.Table.{All}
+use Rattle.buffer.specs.Rows.{All}
 use Rattle.record.specs.TokensAndTags.{tokens, tokenAt}
 use Rattle.record.specs.GraphRecords.{graphOf}
 use Rattle.record.specs.TokensAndTags as Tokens
 use Rattle.buffer.proofs.Tables.{length-rows, getD-rows}
+use Rattle.record.specs.Widths.{tokenWidth, cellWidth, graphWidth}
 use Rattle.store_chains.specs.Deferred.{woken}
 use Rattle.store.specs.Matching.{spentToken, Matching}
 use Rattle.store.proofs.Laws.{matching-room, matching-ports}
@@ -183,26 +184,26 @@ module _ (graph : List ℕ) (passed : checkGraph graph ≡ Passed) {tables links
   -- operands that are missing
   pub fire-missing : matchedAt (arityIn (graphOf graph) τ) (tokens used ledger) τ ≡ Missing → fire M s τ ≡ notFired SecondToken
   unfolding fire
-  fire-missing e = rw (held-operands (graphOf graph) (length ledger / 20) (length cells / 8) (tokens used ledger) (cellsIn cells) τ few ∙ ap valuesOf e)
+  fire-missing e = rw (held-operands (graphOf graph) (length ledger / tokenWidth) (length cells / cellWidth) (tokens used ledger) (cellsIn cells) τ few ∙ ap valuesOf e)
 
   -- operands that matching found
   module _ (i j : ℕ) (v w : ℤ) (matched : matchedAt (arityIn (graphOf graph) τ) (tokens used ledger) τ ≡ Both i j v w) where
     pub places : Places (arityIn (graphOf graph) τ) (tokens used ledger) τ i j v w
     places = matched-places (tokens used ledger) τ (arityIn (graphOf graph) τ) few matched
 
-    fire-found : fire M s τ ≡ commit M s τ (effectIn (graphOf graph) (length cells / 8) τ v w)
+    fire-found : fire M s τ ≡ commit M s τ (effectIn (graphOf graph) (length cells / cellWidth) τ v w)
     unfolding fire
-    fire-found = rw (held-operands (graphOf graph) (length ledger / 20) (length cells / 8) (tokens used ledger) (cellsIn cells) τ few ∙ ap valuesOf matched)
+    fire-found = rw (held-operands (graphOf graph) (length ledger / tokenWidth) (length cells / cellWidth) (tokens used ledger) (cellsIn cells) τ few ∙ ap valuesOf matched)
 
-    module _ (e : Effect) (does : Effected (graphOf graph) (length cells / 8) τ v w e) where
-      fire-committed : fire M s τ ≡ firedOf (committedOf (length ledger / 20) (tokens used ledger) (cellsIn cells) i j e)
+    module _ (e : Effect) (does : Effected (graphOf graph) (length cells / cellWidth) τ v w e) where
+      fire-committed : fire M s τ ≡ firedOf (committedOf (length ledger / tokenWidth) (tokens used ledger) (cellsIn cells) i j e)
       fire-committed =
           fire-found
           ∙ ap (commit M s τ) (sym (does .held))
-          ∙ commit-held (graphOf graph) (length ledger / 20) (length cells / 8) (tokens used ledger) (cellsIn cells) τ i j v w (now .good .distinct) places e (does .counted)
+          ∙ commit-held (graphOf graph) (length ledger / tokenWidth) (length cells / cellWidth) (tokens used ledger) (cellsIn cells) τ i j v w (now .good .distinct) places e (does .counted)
 
       good-after : (x : State Tag ℤ) → fire M s τ ≡ fired x → Good M x
-      good-after x f = reached-good M (lawful graph passed (length ledger / 20) (length cells / 8)) s (now .good) 1 (0 + outputs M s τ) x (s, 0, τ, (refl, refl), f, refl)
+      good-after x f = reached-good M (lawful graph passed (length ledger / tokenWidth) (length cells / cellWidth)) s (now .good) 1 (0 + outputs M s τ) x (s, 0, τ, (refl, refl), f, refl)
 
       module _ (links′ flags′ ledger′ cells′ : List ℕ) where
         -- done: the tokens and cells that it left are those of the machine
@@ -219,11 +220,11 @@ module _ (graph : List ℕ) (passed : checkGraph graph ≡ Passed) {tables links
                 store = c .store;
                 arrived = rw (k .held) (a .0);
                 good =
-                    subst (λ (b : ℕ). Good (machineOf (graphOf graph) (b / 20) (length cells′ / 8)) (stateIn ledger′ cells′ n)) (sym (k .size))
-                    (subst (λ (b : ℕ). Good (machineOf (graphOf graph) (length ledger / 20) (b / 8)) (stateIn ledger′ cells′ n)) (sym (c .size))
+                    subst (λ (b : ℕ). Good (machineOf (graphOf graph) (b / tokenWidth) (length cells′ / cellWidth)) (stateIn ledger′ cells′ n)) (sym (k .size))
+                    (subst (λ (b : ℕ). Good (machineOf (graphOf graph) (length ledger / tokenWidth) (b / cellWidth)) (stateIn ledger′ cells′ n)) (sym (c .size))
                     (subst (λ (x : State Tag ℤ). Good M x) same (good-after (stateHeld us ds) f)));
               };
-              grown = omega (arith, a .1, length-rows 20 Tokens.decode used ledger, length-rows 20 Tokens.decode n ledger′, ap length (k .held));
+              grown = omega (arith, a .1, length-rows tokenWidth Tokens.decode used ledger, length-rows tokenWidth Tokens.decode n ledger′, ap length (k .held));
               size = k .size;
               rest = k .rest;
               cellSize = c .size;
@@ -245,10 +246,10 @@ module _ (graph : List ℕ) (passed : checkGraph graph ≡ Passed) {tables links
           sameCells = c;
         }
 
-        pub stepped : (r : Fired) → Left r (committedOf (length ledger / 20) (tokens used ledger) (cellsIn cells) i j e) tables links′ flags′ ledger′ cells′ used ledger cells
+        pub stepped : (r : Fired) → Left r (committedOf (length ledger / tokenWidth) (tokens used ledger) (cellsIn cells) i j e) tables links′ flags′ ledger′ cells′ used ledger cells
             → Stepped r (graphOf graph) τ tables links′ flags′ ledger′ cells′ used ledger cells
-        stepped r h = go r (committedOf (length ledger / 20) (tokens used ledger) (cellsIn cells) i j e) fire-committed
-            (grown (graphOf graph) (tokens used ledger) (now .arrived) i j (length ledger / 20) (cellsIn cells) e (does .arrives)) h
+        stepped r h = go r (committedOf (length ledger / tokenWidth) (tokens used ledger) (cellsIn cells) i j e) fire-committed
+            (grown (graphOf graph) (tokens used ledger) (now .arrived) i j (length ledger / tokenWidth) (cellsIn cells) e (does .arrives)) h
           where
             go : (q : Fired) (x : Committed) → fire M s τ ≡ firedOf x → Grown (graphOf graph) (length (tokens used ledger)) x
                 → Left q x tables links′ flags′ ledger′ cells′ used ledger cells → Stepped q (graphOf graph) τ tables links′ flags′ ledger′ cells′ used ledger cells
@@ -266,15 +267,15 @@ at-place P d (t ∷ ts) (suc i) h a = at-place P d ts i (omega arith) (a .1)
 
 module _ (graph : List ℕ) {tables links flags ledger cells : List ℕ} {used : ℕ} (ready : Prepared graph tables)
     (now : Running (graphOf graph) tables links flags ledger cells used) (place : ℕ) (within : place < used) where
-  pub room : place < length ledger / 20
+  pub room : place < length ledger / tokenWidth
   room = omega (arith, matching-room (now .matching))
 
   -- the token at the place is of an instruction of the graph
-  pub inside : (t : Record.Token) → t ≡ tokenAt ledger place → t .tag .instruction < length graph / 16
+  pub inside : (t : Record.Token) → t ≡ tokenAt ledger place → t .tag .instruction < length graph / graphWidth
   inside t e =
-      let size = length-rows 20 Tokens.decode used ledger in
+      let size = length-rows tokenWidth Tokens.decode used ledger in
       let here = at-place (λ (u : Record.Token). u .port < operandsAt (graphOf graph) (u .tag .instruction)) noToken (tokens used ledger) place (omega arith) (now .arrived) in
-      let same : getD (tokens used ledger) place noToken ≡ t = getD-rows 20 Tokens.decode used place ledger noToken within ∙ sym e in
+      let same : getD (tokens used ledger) place noToken ≡ t = getD-rows tokenWidth Tokens.decode used place ledger noToken within ∙ sym e in
       let arrives : t .port < operandsAt (graphOf graph) (t .tag .instruction) = subst (λ (u : Record.Token). u .port < operandsAt (graphOf graph) (u .tag .instruction)) same here in
       omega (arith, arrives-inside (graphOf graph) (record { tag = t .tag; port = t .port }) arrives, records graph)
 
@@ -303,14 +304,14 @@ module _ (graph : List ℕ) {tables links flags ledger cells : List ℕ} {used :
   -- from matching to output
   pub stepped-here : (t : Record.Token) → t ≡ tokenAt ledger place → (i j : ℕ) (v w : ℤ)
       → matchedAt (arityIn (graphOf graph) (tokenAt ledger place .tag)) (tokens used ledger) (tokenAt ledger place .tag) ≡ Both i j v w
-      → (a b : ℤ) → a ≡ v → b ≡ w → (e : Effect) → Effected (graphOf graph) (length cells / 8) (t .tag) a b e
+      → (a b : ℤ) → a ≡ v → b ≡ w → (e : Effect) → Effected (graphOf graph) (length cells / cellWidth) (t .tag) a b e
       → (links′ flags′ ledger′ cells′ : List ℕ) (r : Fired)
-      → Left r (committedOf (length ledger / 20) (tokens used ledger) (cellsIn cells) i j e) tables links′ flags′ ledger′ cells′ used ledger cells
+      → Left r (committedOf (length ledger / tokenWidth) (tokens used ledger) (cellsIn cells) i j e) tables links′ flags′ ledger′ cells′ used ledger cells
       → Stepped r (graphOf graph) (tokenAt ledger place .tag) tables links′ flags′ ledger′ cells′ used ledger cells
   stepped-here t same i j v w matched a b p q e does links′ flags′ ledger′ cells′ r left =
       let τ = tokenAt ledger place .tag in
-      let does′ : Effected (graphOf graph) (length cells / 8) τ v w e =
-      subst (λ (y : ℤ). Effected (graphOf graph) (length cells / 8) τ v y e) q
-      (subst (λ (x : ℤ). Effected (graphOf graph) (length cells / 8) τ x b e) p
-      (subst (λ (u : Record.Token). Effected (graphOf graph) (length cells / 8) (u .tag) a b e) same does)) in
+      let does′ : Effected (graphOf graph) (length cells / cellWidth) τ v w e =
+      subst (λ (y : ℤ). Effected (graphOf graph) (length cells / cellWidth) τ v y e) q
+      (subst (λ (x : ℤ). Effected (graphOf graph) (length cells / cellWidth) τ x b e) p
+      (subst (λ (u : Record.Token). Effected (graphOf graph) (length cells / cellWidth) (u .tag) a b e) same does)) in
       stepped graph (ready .passed) now τ (ready .aritiesRight τ .1) i j v w matched e does′ links′ flags′ ledger′ cells′ r left

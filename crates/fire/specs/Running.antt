@@ -7,9 +7,10 @@ use lib.IntN.{ℤ}
 use Rattle.record.specs.declared.tag.Tag.{Tag}
 use Rattle.record.specs.declared.token.Token as Record
 use Rattle.record.specs.declared.instruction.Instruction.{Instruction}
-use Rattle.buffer.specs.Table.{All}
+use Rattle.buffer.specs.Rows.{All}
 use Rattle.record.specs.GraphRecords.{graphOf}
 use Rattle.record.specs.TokensAndTags.{tokens}
+use Rattle.record.specs.Widths.{tokenWidth, cellWidth}
 use Rattle.machine.specs.Machine.{Machine, State, fire, fired, notFired}
 use Rattle.machine.specs.Orders.{Good}
 use Rattle.rules.specs.declared.answer.Refusal.{Refusal}
@@ -25,7 +26,7 @@ use Rattle.fire_commit.specs.declared.Fired.the-variants as Fires
 
 -- the machine of a graph over a ledger and cells, and its state there
 abbrev pub machineFor : List Instruction → (ledger cells : List ℕ) → Machine
-machineFor g ledger cells = machineOf g (length ledger / 20) (length cells / 8)
+machineFor g ledger cells = machineOf g (length ledger / tokenWidth) (length cells / cellWidth)
 
 abbrev pub stateIn : (ledger cells : List ℕ) → (used : ℕ) → State Tag ℤ
 stateIn ledger cells used = stateHeld (tokens used ledger) (cellsIn cells)
@@ -37,7 +38,7 @@ Arrived g ts = All (λ (t : Record.Token). t .port < operandsAt g (t .tag .instr
 -- between firings
 pub record Running (g : List Instruction) (tables links flags ledger cells : List ℕ) (used : ℕ) : Type 0 where
   pub matching : Matching tables links flags ledger used
-  pub few : length ledger / 20 ≤ 2048
+  pub few : length ledger / tokenWidth ≤ 2048
   pub store : CellStore cells
   pub arrived : Arrived g (tokens used ledger)
   pub good : Good (machineFor g ledger cells) (stateIn ledger cells used)
@@ -48,7 +49,7 @@ pub record Went (g : List Instruction) (τ : Tag) (tables links flags ledger′ 
   pub running : Running g tables links flags ledger′ cells′ n
   pub grown : used ≤ n
   pub size : length ledger′ ≡ length ledger
-  pub rest : drop (n * 20) ledger′ ≡ drop (n * 20) ledger
+  pub rest : drop (n * tokenWidth) ledger′ ≡ drop (n * tokenWidth) ledger
   pub cellSize : length cells′ ≡ length cells
 
 -- a firing that was refused left ledger and cells as it found them

@@ -1,6 +1,7 @@
 // A firing, in the order of Memo 205-1: matching, instruction fetch, operation, new tags, output.
 use fire_commit::Fired;
 use fire_operands::Matched;
+use record::cell;
 use record::token;
 use rules::answer::Refusal;
 ghost use Prim.Native.Nat.{_<_};
@@ -41,7 +42,7 @@ pub fn fire(
         return Fired::Refused(Refusal::SecondToken);
     };
     // Instruction fetch, operation and new tags.
-    let effect = fire_effect::effect(graph, tables, cells.len() / 8, tag, left, right);
+    let effect = fire_effect::effect(graph, tables, cells.len() / cell::WIDTH, tag, left, right);
     // Output.
     fire_commit::commit(
         tables,

@@ -12,6 +12,7 @@ use Rattle.record.specs.declared.token.Token.{Token}
 use Rattle.record.specs.declared.token.Content.{Content}
 use Rattle.record.specs.declared.cell.Cell.{Cell}
 use Rattle.buffer.proofs.Tables.{length-rows}
+use Rattle.record.specs.Widths.{tokenWidth}
 use Rattle.rules.specs.declared.answer.Refusal.{Refusal}
 use Rattle.rules.specs.declared.answer.Refusal.the-variants.{LedgerFull, SecondToken, SecondWrite}
 use Rattle.store_chains.specs.declared.Found.{Found}
@@ -43,7 +44,7 @@ pub admitted-room : (capacity used : ℕ) (l : List ℕ) (o : Outputs) → admit
 unfolding admittedOf
 admitted-room capacity used l o e =
     let ts = tokens used l in
-    let n : length ts ≡ used = length-rows 20 decode used l in
+    let n : length ts ≡ used = length-rows tokenWidth decode used l in
     let h : length ts + o .count ≤ capacity = ltb-false capacity (length ts + o .count) (by-tests (ltb capacity (length ts + o .count)) (anyTakenOf ts o) e) in
     omega arith
 

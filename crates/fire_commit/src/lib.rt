@@ -7,6 +7,7 @@ use rules::answer::Refusal;
 ghost use Prim.Native.Nat.{_/_};
 ghost use lib.ListN.{length};
 ghost use Rattle.record.specs.TokensAndTags.{tokens};
+ghost use Rattle.record.specs.Widths.{tokenWidth, cellWidth};
 ghost use Rattle.fire_outputs.specs.Outputs.{cellsIn, Lent};
 ghost use Rattle.fire_commit.specs.Commit.{committedOf, Left, Fitting};
 
@@ -29,8 +30,8 @@ fn act(
     action: Action,
     sent: Outputs,
 ) -> Fired
-    requires { ⌜ Lent (now tables) (now links) (now flags) (now ledger) (now cells) used first second × Fitting (length (now cells) / 8) (Effect.Act action sent) ⌝ }
-    ensures { λ r. ⌜ Left r (committedOf (length (now (ledger .entry)) / 20) (tokens used (now (ledger .entry))) (cellsIn (now (cells .entry))) first second (Effect.Act action sent)) (now (tables .entry)) (now (links .exit)) (now (flags .exit)) (now (ledger .exit)) (now (cells .exit)) used (now (ledger .entry)) (now (cells .entry)) ⌝ }
+    requires { ⌜ Lent (now tables) (now links) (now flags) (now ledger) (now cells) used first second × Fitting (length (now cells) / cellWidth) (Effect.Act action sent) ⌝ }
+    ensures { λ r. ⌜ Left r (committedOf (length (now (ledger .entry)) / tokenWidth) (tokens used (now (ledger .entry))) (cellsIn (now (cells .entry))) first second (Effect.Act action sent)) (now (tables .entry)) (now (links .exit)) (now (flags .exit)) (now (ledger .exit)) (now (cells .exit)) used (now (ledger .entry)) (now (cells .entry)) ⌝ }
 {
     if fire_outputs::writes_again(cells, action) {
         return Fired::Refused(Refusal::SecondWrite);
@@ -65,8 +66,8 @@ pub fn commit(
     second: usize,
     effect: Effect,
 ) -> Fired
-    requires { ⌜ Lent (now tables) (now links) (now flags) (now ledger) (now cells) used first second × Fitting (length (now cells) / 8) effect ⌝ }
-    ensures { λ r. ⌜ Left r (committedOf (length (now (ledger .entry)) / 20) (tokens used (now (ledger .entry))) (cellsIn (now (cells .entry))) first second effect) (now (tables .entry)) (now (links .exit)) (now (flags .exit)) (now (ledger .exit)) (now (cells .exit)) used (now (ledger .entry)) (now (cells .entry)) ⌝ }
+    requires { ⌜ Lent (now tables) (now links) (now flags) (now ledger) (now cells) used first second × Fitting (length (now cells) / cellWidth) effect ⌝ }
+    ensures { λ r. ⌜ Left r (committedOf (length (now (ledger .entry)) / tokenWidth) (tokens used (now (ledger .entry))) (cellsIn (now (cells .entry))) first second effect) (now (tables .entry)) (now (links .exit)) (now (flags .exit)) (now (ledger .exit)) (now (cells .exit)) used (now (ledger .entry)) (now (cells .entry)) ⌝ }
 {
     match effect {
         Effect::Refuse(r) => Fired::Refused(r),

@@ -22,7 +22,7 @@ use Rattle.record.specs.declared.instruction.Destination.{Destination}
 use Rattle.record.specs.declared.instruction.Instruction.{Instruction}
 use Rattle.record.specs.declared.operation.Operation.{Operation}
 use Rattle.record.specs.declared.operation.Operation.the-variants.{Copy, Sink, Out, Const, Switch, Gate, Next, Enter, Leave, Fetch, Store, OnTwo, OnConstant, Unknown}
-use Rattle.buffer.specs.Table.{All}
+use Rattle.buffer.specs.Rows.{All}
 use Rattle.record.specs.GraphRecords.{rowOf, operationOf, graphOf, destinations}
 use Rattle.record.specs.GraphRecords as Graph
 use Rattle.record.specs.TokensAndTags.{toOf}

@@ -17,6 +17,7 @@ use Rattle.record.specs.declared.instruction.Destination.{Destination}
 use Rattle.record.specs.GraphRecords.{decode, graphOf, inUse}
 use Rattle.buffer.proofs.Tables.{length-rows}
 use Rattle.record.specs.TokensAndTags.{toOf}
+use Rattle.record.specs.Widths.{graphWidth}
 use Rattle.machine.specs.Machine as Machine
 use Rattle.machine.specs.Machine.{refuse, send, read, write}
 use Rattle.rules.specs.declared.answer.Refusal.{Refusal}
@@ -119,8 +120,8 @@ module _ (cells : ℕ) (f : ℕ → EffectHere) where
 -- ---- a return, by the entry of its site
 
 -- as many as the whole records of the bytes
-pub records : (l : List ℕ) → length (graphOf l) ≡ length l / 16
-records l = length-rows 16 decode (length l / 16) l
+pub records : (l : List ℕ) → length (graphOf l) ≡ length l / graphWidth
+records l = length-rows graphWidth decode (length l / graphWidth) l
 
 module _ (l : List ℕ) (k : ℕ) (τ : Tag) (v : ℤ) {n : ℕ} where
   pub no-site : (x : Option ℕ) → n ≡ entryOf x → n ≡ 0 → sendReturned (graphOf l) x k τ v ≡ refuse Refusals.UnknownSite
@@ -128,12 +129,12 @@ module _ (l : List ℕ) (k : ℕ) (τ : Tag) (v : ℤ) {n : ℕ} where
   no-site none e z = refl
   no-site (some i) e z = absurd (omega arith)
 
-  pub to-site : (x : Option ℕ) → n ≡ entryOf x → (n ≡ 0 → ⊥) → n - 1 + k < length l / 16 → sendReturned (graphOf l) x k τ v ≡ send v (record { tag = toOf τ (n - 1 + k); port = 0 } ∷ [])
+  pub to-site : (x : Option ℕ) → n ≡ entryOf x → (n ≡ 0 → ⊥) → n - 1 + k < length l / graphWidth → sendReturned (graphOf l) x k τ v ≡ send v (record { tag = toOf τ (n - 1 + k); port = 0 } ∷ [])
   unfolding sendReturned
   to-site none e z h = absurd (z e)
   to-site (some i) e z h = let s : n - 1 ≡ i = omega arith in rw (← s, records l, lt-ltb _ _ h)
 
-  pub past-graph : (x : Option ℕ) → n ≡ entryOf x → (n ≡ 0 → ⊥) → length l / 16 ≤ n - 1 + k → sendReturned (graphOf l) x k τ v ≡ refuse Refusals.NoReturn
+  pub past-graph : (x : Option ℕ) → n ≡ entryOf x → (n ≡ 0 → ⊥) → length l / graphWidth ≤ n - 1 + k → sendReturned (graphOf l) x k τ v ≡ refuse Refusals.NoReturn
   unfolding sendReturned
   past-graph none e z h = absurd (z e)
   past-graph (some i) e z h = let s : n - 1 ≡ i = omega arith in rw (← s, records l, le-ltb _ _ h)

@@ -11,6 +11,7 @@ use Rattle.record.specs.declared.operation.Operation.the-variants.{Switch, Ente
 use Rattle.record.specs.GraphRecords.{rowOf, operationOf, graphOf, instructionIn, destinations}
 use Rattle.record.specs.GraphRecords as Graph
 use Rattle.buffer.proofs.Tables.{getD-rows}
+use Rattle.record.specs.Widths.{graphWidth}
 use Rattle.rules.specs.declared.answer.Checked.the-variants.{Passed}
 use Rattle.rules.specs.Check.{instructionAt, checkGraph}
 use Rattle.rules.proofs.Passed.{both}
@@ -30,10 +31,10 @@ module _ {g : List Instruction} {i : ℕ} {r : Instruction} (good : Good g i r) 
 
 -- ---- an instruction, read from the bytes
 
-module _ (graph : List ℕ) (i : ℕ) (inside : i < length graph / 16) where
+module _ (graph : List ℕ) (i : ℕ) (inside : i < length graph / graphWidth) where
   pub in-bytes : instructionAt (graphOf graph) i ≡ instructionIn graph i
   unfolding instructionAt
-  in-bytes = getD-rows 16 Graph.decode (length graph / 16) i graph (Graph.decode []) inside
+  in-bytes = getD-rows graphWidth Graph.decode (length graph / graphWidth) i graph (Graph.decode []) inside
 
   pub ready : (returns : List ℕ) → checkGraph graph ≡ Passed → Returns returns (graphOf graph) → Ready graph returns (instructionIn graph i)
   ready returns passed table =

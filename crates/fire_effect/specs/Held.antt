@@ -10,8 +10,9 @@ use lib.Dec.{ltb}
 use Rattle.record.specs.declared.tag.Tag.{Tag}
 use Rattle.record.specs.declared.instruction.Instruction.{Instruction}
 use Rattle.record.specs.declared.operation.Operation.the-variants.{Enter, Leave}
-use Rattle.buffer.specs.Table.{All}
+use Rattle.buffer.specs.Rows.{All}
 use Rattle.record.specs.GraphRecords.{graphOf, operationOf}
+use Rattle.record.specs.Widths.{graphWidth}
 use Rattle.machine.specs.Machine as Machine
 use Rattle.machine.specs.Machine.{refuse, send, read, write}
 use Rattle.machine.specs.Orders.{CellsBelow}
@@ -100,7 +101,7 @@ pub record Returns (returns : List ℕ) (g : List Instruction) : Type 0 where
 
 -- what the operations ask of the graph, of the table of returns and of an instruction: a graph that passed its check has it
 pub record Ready (graph returns : List ℕ) (r : Instruction) : Type 0 where
-  pub records : length graph / 16 ≤ 256
+  pub records : length graph / graphWidth ≤ 256
   pub table : Returns returns (graphOf graph)
   pub ofEnter : operationOf (r .code) ≡ Enter → within 0 255 (r .constant) ≡ true
   pub ofLeave : operationOf (r .code) ≡ Leave → within 0 255 (r .constant) ≡ true

@@ -11,6 +11,7 @@ ghost use Prim.Native.Nat.{_/_, _<_};
 ghost use mathlib.Core.Path.{_≡_};
 ghost use lib.ListN.{length};
 ghost use Rattle.record.specs.GraphRecords.{graphOf};
+ghost use Rattle.record.specs.Widths.{graphWidth};
 ghost use Rattle.rules.specs.declared.answer.Checked.the-variants.{Passed};
 ghost use Rattle.rules.specs.Check.{checkGraph};
 ghost use Rattle.fire_effect.specs.Held.{Effected, Returns};
@@ -22,7 +23,7 @@ ghost use Rattle.fire_effect.specs.Held.{Effected, Returns};
 pub fn effect(graph: &[u8], tables: &[u16; 512], cells: usize, tag: Tag, a: i32, b: i32) -> Effect
     requires { ⌜ checkGraph (now graph) ≡ Passed ⌝ }
     requires { ⌜ Returns (now tables) (graphOf (now graph)) ⌝ }
-    requires { ⌜ tag .instruction < length (now graph) / 16 ⌝ }
+    requires { ⌜ tag .instruction < length (now graph) / graphWidth ⌝ }
     ensures { λ e. ⌜ Effected (graphOf (now (graph .entry))) cells tag a b e ⌝ }
 {
     let r = instruction::instruction_at(graph, tag.instruction as usize);

@@ -2,6 +2,7 @@
 use crate::output;
 use crate::output::Outputs;
 use arithmetic::Computed;
+use record::instruction;
 use record::instruction::Destination;
 use record::instruction::Instruction;
 use record::operation;
@@ -20,6 +21,7 @@ ghost use lib.ListN.{length};
 ghost use lib.IntN.{natAbs};
 ghost use Rattle.record.specs.GraphRecords.{graphOf, operationOf};
 ghost use Rattle.record.specs.Calls.{nextOf, enterOf, leaveOf};
+ghost use Rattle.record.specs.Widths.{graphWidth};
 ghost use Rattle.rules.specs.Check.{within};
 ghost use Rattle.rules.specs.InstructionSet.{keyUnder, allUnder, sideOf, sendComputed, sendNext, sendEntered, sendReturned, sendLeft, onCell, effectOf};
 ghost use Rattle.machine.specs.Machine as Machine;
@@ -125,14 +127,14 @@ fn enter(a: i32, tag: Tag, r: Instruction) -> Effect
 // LEAVE once the caller's tag is known: `entry` is the site's in the table of returns, and k the
 // constant. 16: "no ENTER has the path's site". 17: "return instruction plus constant past the graph".
 fn returned(a: i32, graph: &[u8], entry: u16, k: u8, caller: Tag) -> Effect
-    requires { ⌜ length (now graph) / 16 ≤ 256 ⌝ }
+    requires { ⌜ length (now graph) / graphWidth ≤ 256 ⌝ }
     ensures { λ e. ⌜ ((x : Option ℕ) → entry ≡ entryOf x → Does e (sendReturned (graphOf (now (graph .entry))) x k caller a)) ⌝ }
 {
     if entry == 0 {
         return Effect::Refuse(Refusal::UnknownSite);
     }
     let to = (entry as usize) - 1 + (k as usize);
-    if to < graph.len() / 16 {
+    if to < graph.len() / instruction::WIDTH {
         let d = Destination {
             instruction: to as u16,
             port: 0,
@@ -145,7 +147,7 @@ fn returned(a: i32, graph: &[u8], entry: u16, k: u8, caller: Tag) -> Effect
 
 // LEAVE. 15: "LEAVE at path 0".
 fn leave(a: i32, graph: &[u8], tables: &[u16; 512], tag: Tag, r: Instruction) -> Effect
-    requires { ⌜ length (now graph) / 16 ≤ 256 ⌝ }
+    requires { ⌜ length (now graph) / graphWidth ≤ 256 ⌝ }
     requires { ⌜ Returns (now tables) (graphOf (now graph)) ⌝ }
     requires { ⌜ within 0 255 (r .constant) ≡ true ⌝ }
     ensures { λ e. ⌜ Does e (sendLeft (graphOf (now (graph .entry))) (leaveOf tag) r a) ⌝ }

@@ -10,6 +10,7 @@ use Rattle.buffer.proofs.Tables.{length-rows, getD-rows}
 use Rattle.record.specs.declared.tag.Tag.{Tag}
 use Rattle.record.specs.declared.token.Token.{Token}
 use Rattle.record.specs.TokensAndTags.{standsAt, decode, tokens, tokenAt}
+use Rattle.record.specs.Widths.{tokenWidth}
 use Rattle.store_chains.specs.declared.Found.the-variants.{At}
 use Rattle.store_chains.specs.Search.{firstFrom}
 use Rattle.store_chains.proofs.Search.{first-cons}
@@ -45,12 +46,12 @@ module _ {arity used place : ℕ} {links ledger : List ℕ} {tag : Tag} (k : Kno
   abbrev ts : List Token
   ts = tokens used ledger
 
-  pub within : place < length ledger / 20
-  within = omega (arith, k .room, e .within, length-rows 20 decode used ledger)
+  pub within : place < length ledger / tokenWidth
+  within = omega (arith, k .room, e .within, length-rows tokenWidth decode used ledger)
 
   module _ (t : Token) (same : t ≡ tokenAt ledger place) where
     there : getD ts place noToken ≡ t
-    there = getD-rows 20 decode used place ledger noToken (omega (arith, e .within, length-rows 20 decode used ledger)) ∙ sym same
+    there = getD-rows tokenWidth decode used place ledger noToken (omega (arith, e .within, length-rows tokenWidth decode used ledger)) ∙ sym same
 
     pub port-low : t .port < 2
     port-low = rw there at (all-at (λ (u : Token). u .port < 2) ts place noToken (e .within) (k .ports))

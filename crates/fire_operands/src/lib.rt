@@ -1,15 +1,16 @@
 // Matching: the operands of a tag, and whether the outputs of a firing can go into the ledger.
-use store_chains::Found;
 use fire_effect::output::Key;
 use fire_effect::output::Outputs;
 use record::tag::Tag;
 use record::token;
 use record::token::Content;
 use rules::answer::Refusal;
+use store_chains::Found;
 ghost use mathlib.Core.Path.{_≡_};
 ghost use Prim.Native.Nat.{_/_, _≤_, _<_};
 ghost use lib.ListN.{length};
 ghost use Rattle.record.specs.TokensAndTags.{tokens};
+ghost use Rattle.record.specs.Widths.{tokenWidth};
 ghost use Rattle.store_enabled.specs.Store.{Known};
 ghost use Rattle.fire_operands.specs.Operands.{operandOf, operandAt, two, Earliest, matchedAt, isTaken, sameKeys, anyTakenOf, admittedOf};
 
@@ -152,9 +153,9 @@ fn any_taken(links: &[u16; 9216], ledger: &[u8], used: usize, outputs: Outputs) 
 // Whether the outputs of a firing can go into the ledger: refusal 8, then 9.
 pub fn admit(links: &[u16; 9216], ledger: &[u8], used: usize, outputs: Outputs) -> Admitted
     requires { ⌜ Known (now links) (now ledger) used × (used ≤ 2048) ⌝ }
-    ensures { λ r. ⌜ r ≡ admittedOf (length (now (ledger .entry)) / 20) (tokens used (now (ledger .entry))) outputs ⌝ }
+    ensures { λ r. ⌜ r ≡ admittedOf (length (now (ledger .entry)) / tokenWidth) (tokens used (now (ledger .entry))) outputs ⌝ }
 {
-    if ledger.len() / 20 < used + (outputs.count as usize) {
+    if ledger.len() / token::WIDTH < used + (outputs.count as usize) {
         return Admitted::No(Refusal::LedgerFull);
     }
     if any_taken(links, ledger, used, outputs) {

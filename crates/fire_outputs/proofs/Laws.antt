@@ -13,7 +13,7 @@ use lib.Seq.{length-take-le, drop-drop, drop-at, drop-set-lt, getD-set-other, se
 use lib.Dec.{eqb}
 use borrow.Author.Tests.{eq-eqb, ne-eqb}
 use denote.Enum.Declared.{tagOf}
-use Rattle.buffer.specs.Table.{putRow, joined, All}
+use Rattle.buffer.specs.Rows.{putRow, joined, All}
 use Rattle.record.specs.TokensAndTags.{tokens, tokenAt, decode, encode, standsAt}
 use Rattle.record.specs.Cells as Cells
 use Rattle.record.specs.declared.tag.Tag.{Tag}
@@ -26,6 +26,7 @@ use Rattle.record.proofs.cell.Cell.{the-type}
 use Rattle.fire_effect.proofs.operate.Action as Actions
 use Rattle.buffer.proofs.Tables.{length-joined, put-joined, length-rows, getD-rows}
 use Rattle.record.proofs.Records.{length-token, length-cell, cells-put}
+use Rattle.record.specs.Widths.{tokenWidth, cellWidth}
 use Rattle.store_chains.specs.Search.{firstFrom, Free}
 use Rattle.store_chains.specs.Deferred.{LowCell, woken}
 use Rattle.store_chains.proofs.Search.{first-set, first-map, first-none-added}
@@ -59,30 +60,30 @@ module _ (l b : List ℕ) (at w : ℕ) (len : length b ≡ w) (room : at + w ≤
       ∙ omega (arith, length-append b (drop (at + w) l), length-drop (at + w) l, length-take-le at l (omega arith))
 
 -- the bytes past n records stay, and so does the length
-module _ (l b : List ℕ) (i n : ℕ) (len : length b ≡ 20) (h : i < n) (room : n * 20 ≤ length l) where
-  pub put-rest : drop (n * 20) (putRow 20 l i b) ≡ drop (n * 20) l
+module _ (l b : List ℕ) (i n : ℕ) (len : length b ≡ tokenWidth) (h : i < n) (room : n * tokenWidth ≤ length l) where
+  pub put-rest : drop (n * tokenWidth) (putRow tokenWidth l i b) ≡ drop (n * tokenWidth) l
   unfolding putRow
   put-rest =
-      let e : n * 20 ≡ i * 20 + 20 + (n * 20 - (i * 20 + 20)) = omega arith in
-      rw e (splice-rest l b (i * 20) 20 len (omega arith) (n * 20 - (i * 20 + 20)))
+      let e : n * tokenWidth ≡ i * tokenWidth + tokenWidth + (n * tokenWidth - (i * tokenWidth + tokenWidth)) = omega arith in
+      rw e (splice-rest l b (i * tokenWidth) tokenWidth len (omega arith) (n * tokenWidth - (i * tokenWidth + tokenWidth)))
 
-  pub put-size : length (putRow 20 l i b) ≡ length l
+  pub put-size : length (putRow tokenWidth l i b) ≡ length l
   unfolding putRow
-  put-size = splice-size l b (i * 20) 20 len (omega arith)
+  put-size = splice-size l b (i * tokenWidth) tokenWidth len (omega arith)
 
-pub put-cell-size : (l b : List ℕ) (i : ℕ) → length b ≡ 8 → i < length l / 8 → length (putRow 8 l i b) ≡ length l
+pub put-cell-size : (l b : List ℕ) (i : ℕ) → length b ≡ 8 → i < length l / cellWidth → length (putRow cellWidth l i b) ≡ length l
 unfolding putRow
-put-cell-size l b i len h = splice-size l b (i * 8) 8 len (omega arith)
+put-cell-size l b i len h = splice-size l b (i * cellWidth) 8 len (omega arith)
 
 -- past more records
-pub rest-on : (l m : List ℕ) (n k : ℕ) → n ≤ k → drop (n * 20) l ≡ drop (n * 20) m → drop (k * 20) l ≡ drop (k * 20) m
+pub rest-on : (l m : List ℕ) (n k : ℕ) → n ≤ k → drop (n * tokenWidth) l ≡ drop (n * tokenWidth) m → drop (k * tokenWidth) l ≡ drop (k * tokenWidth) m
 rest-on l m n k h e =
-    let d : k * 20 ≡ n * 20 + (k * 20 - n * 20) = omega arith in
-    rw (d, ← drop-drop (k * 20 - n * 20) (n * 20) l, ← drop-drop (k * 20 - n * 20) (n * 20) m, e)
+    let d : k * tokenWidth ≡ n * tokenWidth + (k * tokenWidth - n * tokenWidth) = omega arith in
+    rw (d, ← drop-drop (k * tokenWidth - n * tokenWidth) (n * tokenWidth) l, ← drop-drop (k * tokenWidth - n * tokenWidth) (n * tokenWidth) m, e)
 
 -- a token of the list is that of its record
 pub token-held : (n i : ℕ) (l : List ℕ) → i < n → getD (tokens n l) i noToken ≡ tokenAt l i
-token-held n i l h = getD-rows 20 decode n i l noToken h
+token-held n i l h = getD-rows tokenWidth decode n i l noToken h
 
 -- ---- operands that are spent
 
@@ -112,7 +113,7 @@ spent-both n i j l h k = go (ℕ-discrete i j)
 -- ---- what a step leaves
 
 module _ {tables links flags l : List ℕ} {used : ℕ} (m : Matching tables links flags l used) where
-  room-bytes : used * 20 ≤ length l
+  room-bytes : used * tokenWidth ≤ length l
   room-bytes = omega (arith, matching-room m)
 
   pub kept-same : Kept tables links flags l used (tokens used l) l
@@ -123,16 +124,16 @@ module _ {tables links flags l : List ℕ} {used : ℕ} (m : Matching tables lin
       → Matching tables links flags′ l′ used
       → Kept tables links flags′ l′ used (spentAt i j (tokens used l)) l
   kept-spent {i} {j} o put e n =
-      let m = set l (i * 20 + 16) 1 in
+      let m = set l (i * tokenWidth + 16) 1 in
       record {
         matching = n;
         held = e ∙ spent-both used i j l (o .firstWithin) (o .secondWithin);
-        size = rw put (length-set m (j * 20 + 16) 1 ∙ length-set l (i * 20 + 16) 1);
-        rest = rw put (drop-set-lt (used * 20) m (j * 20 + 16) 1 (omega (arith, o .secondWithin)) ∙ drop-set-lt (used * 20) l (i * 20 + 16) 1 (omega (arith, o .firstWithin)));
+        size = rw put (length-set m (j * tokenWidth + 16) 1 ∙ length-set l (i * tokenWidth + 16) 1);
+        rest = rw put (drop-set-lt (used * tokenWidth) m (j * tokenWidth + 16) 1 (omega (arith, o .secondWithin)) ∙ drop-set-lt (used * tokenWidth) l (i * tokenWidth + 16) 1 (omega (arith, o .firstWithin)));
       }
 
   -- a token arrives
-  pub kept-arrived : (t : Token) → used < length l / 20 → {links′ flags′ l′ : List ℕ} → l′ ≡ putRow 20 l used (encode t)
+  pub kept-arrived : (t : Token) → used < length l / tokenWidth → {links′ flags′ l′ : List ℕ} → l′ ≡ putRow tokenWidth l used (encode t)
       → tokens (used + 1) l′ ≡ tokens used l ++ t ∷ []
       → Matching tables links′ flags′ l′ (used + 1)
       → Kept tables links′ flags′ l′ (used + 1) (tokens used l ++ t ∷ []) l
@@ -144,19 +145,19 @@ module _ {tables links flags l : List ℕ} {used : ℕ} (m : Matching tables lin
   }
 
   -- tokens are woken
-  pub kept-woken : (cell : ℕ) (v : ℤ) → {links′ flags′ l′ : List ℕ} → l′ ≡ joined encode (map (woken cell v) (tokens used l)) ++ drop (used * 20) l
+  pub kept-woken : (cell : ℕ) (v : ℤ) → {links′ flags′ l′ : List ℕ} → l′ ≡ joined encode (map (woken cell v) (tokens used l)) ++ drop (used * tokenWidth) l
       → tokens used l′ ≡ map (woken cell v) (tokens used l)
       → Matching tables links′ flags′ l′ used
       → Kept tables links′ flags′ l′ used (map (woken cell v) (tokens used l)) l
   kept-woken cell v put e n =
       let us = map (woken cell v) (tokens used l) in
-      let room : used * 20 ≤ length l = room-bytes in
-      let len : length (joined encode us) ≡ used * 20 = length-joined 20 encode length-token us ∙ rw (length-map (tokens used l) (woken cell v), length-rows 20 decode used l) in
+      let room : used * tokenWidth ≤ length l = room-bytes in
+      let len : length (joined encode us) ≡ used * tokenWidth = length-joined tokenWidth encode length-token us ∙ rw (length-map (tokens used l) (woken cell v), length-rows tokenWidth decode used l) in
       record {
         matching = n;
         held = e;
-        size = rw put (length-append (joined encode us) (drop (used * 20) l) ∙ omega (arith, length-drop (used * 20) l));
-        rest = rw put (drop-at (joined encode us) (drop (used * 20) l) (used * 20) len);
+        size = rw put (length-append (joined encode us) (drop (used * tokenWidth) l) ∙ omega (arith, length-drop (used * tokenWidth) l));
+        rest = rw put (drop-at (joined encode us) (drop (used * tokenWidth) l) (used * tokenWidth) len);
       }
 
 -- two steps in turn: the second makes f of the tokens
@@ -176,10 +177,10 @@ module _ {tables links flags l : List ℕ} {n : ℕ} {ts : List Token} {start : 
   kept-as e = record { matching = k .matching; held = k .held ∙ e; size = k .size; rest = k .rest }
 
   -- there is as much room as there was
-  pub kept-room : {m : ℕ} → m ≤ length start / 20 → m ≤ length l / 20
+  pub kept-room : {m : ℕ} → m ≤ length start / tokenWidth → m ≤ length l / tokenWidth
   kept-room h = rw (k .size) h
 
-  pub kept-most : {m : ℕ} → length start / 20 ≤ m → length l / 20 ≤ m
+  pub kept-most : {m : ℕ} → length start / tokenWidth ≤ m → length l / tokenWidth ≤ m
   kept-most h = rw (k .size) h
 
 -- ---- what is free stays free
@@ -278,8 +279,8 @@ all-set P (c ∷ cs) zero x a p = (p, a .1)
 all-set P (c ∷ cs) (suc i) x a p = (a .0, all-set P cs i x (a .1) p)
 
 -- a cell of the list is that of its record
-pub cell-held : (l : List ℕ) (i : ℕ) → i < length l / 8 → getD (cellsIn l) i Absent ≡ Cells.cellAt l i
-cell-held l i h = getD-rows 8 Cells.decode (length l / 8) i l Absent h
+pub cell-held : (l : List ℕ) (i : ℕ) → i < length l / cellWidth → getD (cellsIn l) i Absent ≡ Cells.cellAt l i
+cell-held l i h = getD-rows cellWidth Cells.decode (length l / cellWidth) i l Absent h
 
 pub cells-same : {l : List ℕ} → CellStore l → CellsKept l (cellsIn l) l
 cells-same s = record { store = s; held = refl; size = refl }
@@ -287,16 +288,16 @@ cells-same s = record { store = s; held = refl; size = refl }
 pub cells-as : {l m : List ℕ} {cs ds : List Cell} → CellsKept l cs m → cs ≡ ds → CellsKept l ds m
 cells-as w e = record { store = w .store; held = w .held ∙ e; size = w .size }
 
-pub cells-written : {l : List ℕ} → CellStore l → (i : ℕ) (x : Cell) → i < length l / 8 → Cells.CellFits x → {l′ : List ℕ} → l′ ≡ putRow 8 l i (Cells.encode x)
+pub cells-written : {l : List ℕ} → CellStore l → (i : ℕ) (x : Cell) → i < length l / cellWidth → Cells.CellFits x → {l′ : List ℕ} → l′ ≡ putRow cellWidth l i (Cells.encode x)
     → CellsKept l′ (set (cellsIn l) i x) l
 cells-written {l} s i x h f {l′} put =
-    let n = length l / 8 in
+    let n = length l / cellWidth in
     let cs = cellsIn l in
     let size : length l′ ≡ length l = rw put (put-cell-size l (Cells.encode x) i (length-cell x) h) in
-    let count : length cs ≡ n = length-rows 8 Cells.decode n l in
+    let count : length cs ≡ n = length-rows cellWidth Cells.decode n l in
     let held : cellsIn l′ ≡ set cs i x = rw (size, put) (cells-put x f n i l h (omega arith)) in
     let whole : l ≡ joined Cells.encode cs ++ [] = s .bytes ∙ sym (append-nil (joined Cells.encode cs)) in
-    let bytes : l′ ≡ joined Cells.encode (set cs i x) = put ∙ ap (λ (b : List ℕ). putRow 8 b i (Cells.encode x)) whole ∙ put-joined 8 Cells.encode length-cell cs [] i x (omega arith) ∙ append-nil (joined Cells.encode (set cs i x)) in
+    let bytes : l′ ≡ joined Cells.encode (set cs i x) = put ∙ ap (λ (b : List ℕ). putRow cellWidth b i (Cells.encode x)) whole ∙ put-joined cellWidth Cells.encode length-cell cs [] i x (omega arith) ∙ append-nil (joined Cells.encode (set cs i x)) in
     record {
       store = record {
         bytes = bytes ∙ ap (joined Cells.encode) (sym held);

@@ -11,9 +11,10 @@ use Rattle.record.specs.declared.token.Content.{Content}
 use Rattle.record.specs.declared.token.Content.the-variants.{Live, Deferred}
 use Rattle.record.specs.declared.cell.Cell.{Cell}
 use Rattle.record.specs.declared.cell.Cell.the-variants.{Absent, Waiting, Present}
-use Rattle.buffer.specs.Table.{joined, All}
+use Rattle.buffer.specs.Rows.{joined, All}
 use Rattle.record.specs.TokensAndTags.{tokens, standsAt}
 use Rattle.record.specs.Cells as Cells
+use Rattle.record.specs.Widths.{tokenWidth, cellWidth}
 use Rattle.store_chains.specs.Search.{Free}
 use Rattle.store_chains.specs.Deferred.{woken}
 use Rattle.store_enabled.specs.Store.{Operands}
@@ -66,13 +67,13 @@ FreeKeys ts o = FreeKeysBy ts (o .count) (o .first) (o .second)
 -- ---- the cells
 
 abbrev pub cellsIn : List ℕ → List Cell
-cellsIn l = Cells.cells (length l / 8) l
+cellsIn l = Cells.cells (length l / cellWidth) l
 
 -- a store of whole cells, at most 1,024, in every byte those of its cells
 pub record CellStore (l : List ℕ) : Type 0 where
   pub bytes : l ≡ joined Cells.encode (cellsIn l)
   pub fits : All Cells.CellFits (cellsIn l)
-  pub few : length l / 8 ≤ 1024
+  pub few : length l / cellWidth ≤ 1024
 
 -- FETCH: a cell without a value is waiting
 abbrev pub cellFetched : Cell → Cell
@@ -133,7 +134,7 @@ pub record Kept (tables links flags ledger′ : List ℕ) (used : ℕ) (ts : Lis
   pub matching : Matching tables links flags ledger′ used
   pub held : tokens used ledger′ ≡ ts
   pub size : length ledger′ ≡ length ledger
-  pub rest : drop (used * 20) ledger′ ≡ drop (used * 20) ledger
+  pub rest : drop (used * tokenWidth) ledger′ ≡ drop (used * tokenWidth) ledger
 
 -- the cells are these
 pub record CellsKept (cells′ : List ℕ) (cs : List Cell) (cells : List ℕ) : Type 0 where
@@ -144,6 +145,6 @@ pub record CellsKept (cells′ : List ℕ) (cs : List Cell) (cells : List ℕ) :
 -- what a firing is lent, with the places of its operands
 pub record Lent (tables links flags ledger cells : List ℕ) (used i j : ℕ) : Type 0 where
   pub matching : Matching tables links flags ledger used
-  pub few : length ledger / 20 ≤ 2048
+  pub few : length ledger / tokenWidth ≤ 2048
   pub activity : Operands ledger used i j
   pub store : CellStore cells

@@ -13,6 +13,7 @@ ghost use Prim.Native.Nat.{_+_, _/_, _≤_, _<_};
 ghost use lib.ListN.{length, getD};
 ghost use Rattle.record.specs.TokensAndTags.{tokens};
 ghost use Rattle.record.specs.declared.cell.Cell.the-variants.{Absent};
+ghost use Rattle.record.specs.Widths.{tokenWidth, cellWidth};
 ghost use Rattle.store_chains.specs.Search.{Free};
 ghost use Rattle.store_chains.specs.Deferred.{LowCell};
 ghost use Rattle.store.specs.Matching.{Matching};
@@ -28,7 +29,7 @@ fn append_one(
     key: Key,
     content: Content,
 )
-    requires { ⌜ Matching (now tables) (now links) (now flags) (now ledger) used × (used < length (now ledger) / 20) × (used < 2048) × (key .port < 2) × LowCell content × Free (tokens used (now ledger)) (key .tag) (key .port) ⌝ }
+    requires { ⌜ Matching (now tables) (now links) (now flags) (now ledger) used × (used < length (now ledger) / tokenWidth) × (used < 2048) × (key .port < 2) × LowCell content × Free (tokens used (now ledger)) (key .tag) (key .port) ⌝ }
     ensures { λ _. ⌜ Kept (now (tables .entry)) (now (links .exit)) (now (flags .exit)) (now (ledger .exit)) (used + 1)
         (tokens used (now (ledger .entry)) ++ tokenOut content key ∷ []) (now (ledger .entry)) ⌝ }
 {
@@ -57,7 +58,7 @@ fn append_outputs(
     outputs: Outputs,
     content: Content,
 ) -> usize
-    requires { ⌜ Matching (now tables) (now links) (now flags) (now ledger) used × (used + outputs .count ≤ length (now ledger) / 20) × (length (now ledger) / 20 ≤ 2048) × (outputs .count ≤ 2) × LowPorts outputs × LowCell content × FreeKeys (tokens used (now ledger)) outputs ⌝ }
+    requires { ⌜ Matching (now tables) (now links) (now flags) (now ledger) used × (used + outputs .count ≤ length (now ledger) / tokenWidth) × (length (now ledger) / tokenWidth ≤ 2048) × (outputs .count ≤ 2) × LowPorts outputs × LowCell content × FreeKeys (tokens used (now ledger)) outputs ⌝ }
     ensures { λ r. ⌜ (r ≡ used + outputs .count) × Kept (now (tables .entry)) (now (links .exit)) (now (flags .exit)) (now (ledger .exit)) (used + outputs .count)
         (tokens used (now (ledger .entry)) ++ outputsOf content outputs) (now (ledger .entry)) ⌝ }
 {
@@ -76,7 +77,7 @@ fn append_outputs(
 
 // FETCH: the content of its outputs is the value of a present cell; otherwise they are deferred, and the cell waits.
 fn fetch(cells: &mut [u8], number: u32) -> Content
-    requires { ⌜ CellStore (now cells) × (number < length (now cells) / 8) ⌝ }
+    requires { ⌜ CellStore (now cells) × (number < length (now cells) / cellWidth) ⌝ }
     ensures { λ r. ⌜ r ≡ contentFetched number (getD (cellsIn (now (cells .entry))) number Absent) ⌝ }
     ensures { λ _. ⌜ CellsKept (now (cells .exit)) (cellsFetched number (cellsIn (now (cells .entry)))) (now (cells .entry)) ⌝ }
 {
@@ -91,7 +92,7 @@ fn fetch(cells: &mut [u8], number: u32) -> Content
 
 // What an action makes of the cells; the answer is the content of its outputs. Those of STORE are signals of value 0.
 fn change_cells(cells: &mut [u8], action: Action) -> Content
-    requires { ⌜ CellStore (now cells) × OnCells (length (now cells) / 8) action ⌝ }
+    requires { ⌜ CellStore (now cells) × OnCells (length (now cells) / cellWidth) action ⌝ }
     ensures { λ r. ⌜ r ≡ contentBy action (cellsIn (now (cells .entry))) ⌝ }
     ensures { λ _. ⌜ CellsKept (now (cells .exit)) (cellsBy action (cellsIn (now (cells .entry)))) (now (cells .entry)) ⌝ }
 {
@@ -137,7 +138,7 @@ pub fn carry_out(
     action: Action,
     outputs: Outputs,
 ) -> usize
-    requires { ⌜ Lent (now tables) (now links) (now flags) (now ledger) (now cells) used first second × (used + outputs .count ≤ length (now ledger) / 20) × (outputs .count ≤ 2) × LowPorts outputs × OnCells (length (now cells) / 8) action × FreeKeys (tokens used (now ledger)) outputs ⌝ }
+    requires { ⌜ Lent (now tables) (now links) (now flags) (now ledger) (now cells) used first second × (used + outputs .count ≤ length (now ledger) / tokenWidth) × (outputs .count ≤ 2) × LowPorts outputs × OnCells (length (now cells) / cellWidth) action × FreeKeys (tokens used (now ledger)) outputs ⌝ }
     ensures { λ r. ⌜ (r ≡ used + outputs .count) × Kept (now (tables .entry)) (now (links .exit)) (now (flags .exit)) (now (ledger .exit)) (used + outputs .count)
         (wokenBy action (spentAt first second (tokens used (now (ledger .entry)))) ++ outputsOf (contentBy action (cellsIn (now (cells .entry)))) outputs) (now (ledger .entry))
         × CellsKept (now (cells .exit)) (cellsBy action (cellsIn (now (cells .entry)))) (now (cells .entry)) ⌝ }
@@ -150,7 +151,7 @@ pub fn carry_out(
 
 // Whether an action writes a cell that is present.
 pub fn writes_again(cells: &[u8], action: Action) -> bool
-    requires { ⌜ OnCells (length (now cells) / 8) action ⌝ }
+    requires { ⌜ OnCells (length (now cells) / cellWidth) action ⌝ }
     ensures { λ r. ⌜ r ≡ writesAgain action (cellsIn (now (cells .entry))) ⌝ }
 {
     let Action::Write(number, _) = action else {

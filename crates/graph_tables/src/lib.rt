@@ -17,8 +17,8 @@ ghost use Rattle.graph_tables.specs.Tables.{Arities, Returns, returnEntr
 fn arity_at(graph: &[u8], i: usize) -> u16
     ensures { λ r. ⌜ r ≡ arityIn (graphOf (now (graph .entry))) (rootOf i) ⌝ }
 {
-    if i < graph.len() / 16 {
-        let code = graph[i * 16];
+    if i < graph.len() / instruction::WIDTH {
+        let code = graph[i * instruction::WIDTH];
         if code == 3 {
             0
         } else {
@@ -68,7 +68,7 @@ fn returns(graph: &[u8], out: &mut [u16; 512])
     ensures { λ _. ⌜ Returns (graphOf (now (graph .entry))) (now (out .exit)) × (length (now (out .exit)) ≡ 512) ⌝ }
 {
     *out = [0u16; 512];
-    let mut i = graph.len() / 16;
+    let mut i = graph.len() / instruction::WIDTH;
     while 0 < i {
         i -= 1;
         note(out, instruction::instruction_at(graph, i));

@@ -1,12 +1,14 @@
 // What an accepted run does before its first firing, and how it reads its picks: the cells are cleared, and the
 // input tokens are written to the ledger.
+use record::pick;
 use record::token;
 ghost use mathlib.Core.Path.{_≡_};
 ghost use Prim.Native.Nat.{_/_, _≤_, _<_};
 ghost use lib.ListN.{length, getD, replicate};
 ghost use Rattle.number.specs.Number.{number16};
-ghost use Rattle.buffer.specs.Table.{allRows, All};
+ghost use Rattle.buffer.specs.Rows.{allRows, All};
 ghost use Rattle.record.specs.TokensAndTags.{decode};
+ghost use Rattle.record.specs.Widths.{tokenWidth, pickWidth};
 ghost use Rattle.store.specs.Matching.{Matching};
 ghost use Rattle.load.specs.Accept.{Proper, Alone, Accepted};
 
@@ -30,10 +32,10 @@ fn wide(x: u16) -> usize
 
 // Pick number k, counted from 0, or another number once the picks have run out.
 fn pick_or(picks: &[u8], k: usize, other: u16) -> u16
-    ensures { λ r. ⌜ r ≡ getD (allRows 2 (λ b. number16 b 0) (now (picks .entry))) k other ⌝ }
+    ensures { λ r. ⌜ r ≡ getD (allRows pickWidth (λ b. number16 b 0) (now (picks .entry))) k other ⌝ }
 {
-    if k < picks.len() / 2 {
-        number::u16_at(picks, k * 2)
+    if k < picks.len() / pick::WIDTH {
+        number::u16_at(picks, k * pick::WIDTH)
     } else {
         other
     }
@@ -41,7 +43,7 @@ fn pick_or(picks: &[u8], k: usize, other: u16) -> u16
 
 // 01, "Firing": once picks run out, the first enabled activity is taken, which is pick 0.
 pub fn pick_at(picks: &[u8], k: usize) -> usize
-    ensures { λ r. ⌜ (r ≡ getD (allRows 2 (λ b. number16 b 0) (now (picks .entry))) k 0) × (r < 65536) ⌝ }
+    ensures { λ r. ⌜ (r ≡ getD (allRows pickWidth (λ b. number16 b 0) (now (picks .entry))) k 0) × (r < 65536) ⌝ }
 {
     wide(pick_or(picks, k, 0))
 }
@@ -54,10 +56,10 @@ pub fn inputs(
     ledger: &mut [u8],
     inputs: &[u8],
 ) -> usize
-    requires { ⌜ Matching (now tables) (now links) (now flags) (now ledger) 0 × (length (now inputs) / 20 ≤ length (now ledger) / 20) × (length (now ledger) / 20 ≤ 2048) × All Proper (allRows 20 decode (now inputs)) × Alone (now inputs) ⌝ }
+    requires { ⌜ Matching (now tables) (now links) (now flags) (now ledger) 0 × (length (now inputs) / tokenWidth ≤ length (now ledger) / tokenWidth) × (length (now ledger) / tokenWidth ≤ 2048) × All Proper (allRows tokenWidth decode (now inputs)) × Alone (now inputs) ⌝ }
     ensures { λ r. ⌜ Accepted (now (tables .entry)) (now (links .exit)) (now (flags .exit)) (now (ledger .entry)) (now (ledger .exit)) (now (inputs .entry)) r ⌝ }
 {
-    let n = inputs.len() / 20;
+    let n = inputs.len() / token::WIDTH;
     let mut i = 0;
     while i < n {
         let t = token::token_at(inputs, i);

@@ -8,12 +8,13 @@ use lib.Dec.{eqb}
 use lib.IntN.{ℤ}
 use lib.ListN.{length, getD, set, drop, List·getD-map}
 use lib.Seq.{map-set-same}
-use Rattle.buffer.specs.Table.{putRow, joined, All}
+use Rattle.buffer.specs.Rows.{putRow, joined, All}
 use Rattle.record.specs.TokensAndTags.{tokens, tokenAt, decode, encode}
 use Rattle.buffer.proofs.Tables.{length-rows, getD-rows}
 use Rattle.record.specs.declared.token.Token.{Token}
 use Rattle.record.specs.declared.token.Content.{Content}
 use Rattle.record.specs.declared.token.Content.the-variants.{Live, Spent, Deferred}
+use Rattle.record.specs.Widths.{tokenWidth}
 use Rattle.store_chains.specs.Chains.{bucketKey}
 use Rattle.store_chains.specs.Deferred.{LowCell, keyOf, cellKey, Waiting, contentWoken, woken}
 use Rattle.store_chains.proofs.Chains.{chained-same, chained-past}
@@ -81,13 +82,13 @@ spent-kept tables links flags l used i j w a b flags′ m e s =
     ts = tokens used l
 
     held : (k : ℕ) → k < used → getD ts k (tokenAt l k) ≡ tokenAt l k
-    held k h = getD-rows 20 decode used k l (tokenAt l k) h
+    held k h = getD-rows tokenWidth decode used k l (tokenAt l k) h
 
     key : (k : ℕ) → k < used → cellKey (spentToken (tokenAt l k)) ≡ cellKey (getD ts k (tokenAt l k))
     key k h = rw (held k h) (spent-key (tokenAt l k .content))
 
     low : (k : ℕ) → k < used → LowCell (spentToken (tokenAt l k) .content)
-    low k h = spent-low (tokenAt l k .content) (rw (held k h) at (all-at Low ts k (tokenAt l k) (omega (arith, length-rows 20 decode used l)) (w .inside .cells)))
+    low k h = spent-low (tokenAt l k .content) (rw (held k h) at (all-at Low ts k (tokenAt l k) (omega (arith, length-rows tokenWidth decode used l)) (w .inside .cells)))
 
 -- ---- tokens are woken: the ledger was l at the start of the walk
 
@@ -113,7 +114,7 @@ module _ (cell : ℕ) (v : ℤ) where
 
   pub record Waking (tables links l : List ℕ) (used : ℕ) (flags m : List ℕ) (at : ℕ) : Type 0 where
     pub size : length m ≡ length l
-    pub rest : drop (used * 20) m ≡ drop (used * 20) l
+    pub rest : drop (used * tokenWidth) m ≡ drop (used * tokenWidth) l
     pub store : Stored tables links flags m used
     pub walk : Walk cell v (tokens used l) (tokens used m) at
 
@@ -129,11 +130,11 @@ module _ (cell : ℕ) (v : ℤ) where
 
     module _ (flags₁ m : List ℕ) (at : ℕ) (g : Waking tables links l used flags₁ m at) where
       pub waking-low : at ≤ used
-      waking-low = omega (arith, g .walk .low, length-rows 20 decode used l)
+      waking-low = omega (arith, g .walk .low, length-rows tokenWidth decode used l)
 
       -- one more is woken
       pub waking-step : (at ≡ 0 → ⊥) → (flags₂ m₂ : List ℕ) → length m₂ ≡ length m
-          → m₂ ≡ putRow 20 m (at - 1) (encode (woken cell v (tokenAt m (at - 1))))
+          → m₂ ≡ putRow tokenWidth m (at - 1) (encode (woken cell v (tokenAt m (at - 1))))
           → tokens used m₂ ≡ set (tokens used m) (at - 1) (woken cell v (tokenAt m (at - 1)))
           → Stored tables links flags₂ m₂ used
           → (getD links (at - 1 + 7168) 0 < at) × Waking tables links l used flags₂ m₂ (getD links (at - 1 + 7168) 0)
@@ -144,7 +145,7 @@ module _ (cell : ℕ) (v : ℤ) where
           let d = tokenAt m i in
           let low = waking-low in
           let below : i < used = omega arith in
-          let here : getD us i d ≡ d = getD-rows 20 decode used i m d below in
+          let here : getD us i d ≡ d = getD-rows tokenWidth decode used i m d below in
           let same : tokens used m₂ ≡ set us i (woken cell v (getD us i d)) = rw here e in
           let next-step = walk-step cell v links (tokens used l) d (w .inside .deferred) small us at z (g .walk) in (
             next-step .0,
@@ -162,7 +163,7 @@ module _ (cell : ℕ) (v : ℤ) where
       unfolding Inside
       waking-tokens = walk-end cell v links (tokens used l) (tokenAt l 0) (w .inside .deferred) small (tokens used m) (g .walk)
 
-      pub waking-ledger : m ≡ joined encode (map (woken cell v) (tokens used l)) ++ drop (used * 20) l
+      pub waking-ledger : m ≡ joined encode (map (woken cell v) (tokens used l)) ++ drop (used * tokenWidth) l
       waking-ledger = split used m (g .store .bytes) ∙ (λ k. joined encode (waking-tokens k) ++ g .rest k)
 
       pub waking-end : Matching tables (set links (cell + 6144) 0) flags₁ m used

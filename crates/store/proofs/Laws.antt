@@ -6,10 +6,11 @@ use mathlib.Core.List.{List, _++_}
 use native.Mathlib.Omega.{arith}
 use lib.ListN.{length, getD, take, drop, replicate, length-replicate}
 use borrow.Author.Tests.{eq-eqb}
-use Rattle.buffer.specs.Table.{joined, All}
+use Rattle.buffer.specs.Rows.{joined, All}
 use Rattle.record.specs.TokensAndTags.{tokens, tokenAt, decode, encode, TokenFits}
 use Rattle.buffer.proofs.Tables.{length-rows, getD-rows}
 use Rattle.record.specs.declared.token.Token.{Token}
+use Rattle.record.specs.Widths.{tokenWidth}
 use Rattle.store_flags.specs.Flags.{places, flagsOf, Counted}
 use Rattle.store_flags.proofs.Laws.{zero-at}
 use Rattle.store_flags.proofs.Words.{none-set, counted-none}
@@ -65,28 +66,28 @@ module _ {tables links flags ledger : List ℕ} {used : ℕ} (m : Matching table
   matching-places = right-places tables (tokens used ledger) (flagsOf flags) (matching-stored .right)
 
   pub matching-enabled-below : (k : ℕ) → k < length (enabledPlaces tables (tokens used ledger)) → getD (enabledPlaces tables (tokens used ledger)) k 0 < used
-  matching-enabled-below k h = omega (arith, enabled-below tables (tokens used ledger) k h, length-rows 20 decode used ledger)
+  matching-enabled-below k h = omega (arith, enabled-below tables (tokens used ledger) k h, length-rows tokenWidth decode used ledger)
 
   -- the token at the place of an enabled activity is the earliest of its tag, and all operands of its tag are live
   pub matching-leads : (k : ℕ) → k < length (enabledPlaces tables (tokens used ledger))
       → let i = getD (enabledPlaces tables (tokens used ledger)) k 0 in leads tables (tokens used ledger) i (tokenAt ledger i) ≡ true
   matching-leads k h =
       let i = getD (enabledPlaces tables (tokens used ledger)) k 0 in
-      let here : getD (tokens used ledger) i (tokenAt ledger i) ≡ tokenAt ledger i = getD-rows 20 decode used i ledger (tokenAt ledger i) (matching-enabled-below k h) in
+      let here : getD (tokens used ledger) i (tokenAt ledger i) ≡ tokenAt ledger i = getD-rows tokenWidth decode used i ledger (tokenAt ledger i) (matching-enabled-below k h) in
       let found = rw here at (enabled-leads tables (tokens used ledger) (tokenAt ledger i) k h) in
       rw (eq-eqb _ _ (found .0)) (found .1)
 
   -- the used records
-  pub matching-room : used ≤ length ledger / 20
+  pub matching-room : used ≤ length ledger / tokenWidth
   matching-room = matching-known .room
 
   pub matching-few : used ≤ 2048
   matching-few = known-few links ledger used matching-known
 
-  pub matching-bytes : take (used * 20) ledger ≡ joined encode (tokens used ledger)
+  pub matching-bytes : take (used * tokenWidth) ledger ≡ joined encode (tokens used ledger)
   matching-bytes = matching-stored .bytes
 
-  pub matching-ledger : ledger ≡ joined encode (tokens used ledger) ++ drop (used * 20) ledger
+  pub matching-ledger : ledger ≡ joined encode (tokens used ledger) ++ drop (used * tokenWidth) ledger
   matching-ledger = split used ledger matching-bytes
 
   pub matching-fits : All TokenFits (tokens used ledger)

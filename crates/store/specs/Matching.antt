@@ -1,7 +1,7 @@
 -- The invariant of the matching store; what becomes of a token that is spent is in `enabled`, and passed on here. Assumes nothing.
 use Prim.Native.Nat.{ℕ}
 use mathlib.Core.List.{List}
-use Rattle.buffer.specs.Table.{All}
+use Rattle.buffer.specs.Rows.{All}
 use Rattle.record.specs.TokensAndTags.{tokens}
 use Rattle.record.specs.declared.token.Token.{Token}
 use Rattle.store_chains.specs.Deferred.{LowCell, Waiting}

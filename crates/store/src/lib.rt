@@ -1,17 +1,18 @@
 // The matching store: a ledger, with two arrays beside it. By `links` a token is found by its tag and port, and the tokens
 // deferred on a cell are woken; by `flags` the enabled activities are counted and found by their number; all without a scan
 // of the ledger. `used` is the number of tokens in the ledger, and `tables` those of the graph.
-use store_chains::Found;
 use record::tag::Tag;
 use record::token;
 use record::token::Content;
 use record::token::Token;
+use store_chains::Found;
 ghost use mathlib.Core.Path.{_≡_};
 ghost use mathlib.Core.List.{List, [], _∷_, _++_, map};
 ghost use Prim.Native.Nat.{ℕ, _+_, _*_, _/_, _<_};
 ghost use lib.ListN.{length, getD, drop};
-ghost use Rattle.buffer.specs.Table.{putRow, joined};
+ghost use Rattle.buffer.specs.Rows.{putRow, joined};
 ghost use Rattle.record.specs.TokensAndTags.{encode, tokens, standsAt};
+ghost use Rattle.record.specs.Widths.{tokenWidth};
 ghost use Rattle.store_flags.specs.Flags.{places, flagsOf, Counted};
 ghost use Rattle.store_chains.specs.Search.{firstFrom, Within, Free};
 ghost use Rattle.store_chains.specs.Deferred as Deferred;
@@ -51,8 +52,8 @@ pub fn arrive(
     used: usize,
     t: Token,
 )
-    requires { ⌜ Matching (now tables) (now links) (now flags) (now ledger) used × (used < length (now ledger) / 20) × (used < 2048) × (t .port < 2) × Deferred.LowCell (t .content) × Free (tokens used (now ledger)) (t .tag) (t .port) ⌝ }
-    ensures { λ _. ⌜ now (ledger .exit) ≡ putRow 20 (now (ledger .entry)) used (encode t) ⌝ }
+    requires { ⌜ Matching (now tables) (now links) (now flags) (now ledger) used × (used < length (now ledger) / tokenWidth) × (used < 2048) × (t .port < 2) × Deferred.LowCell (t .content) × Free (tokens used (now ledger)) (t .tag) (t .port) ⌝ }
+    ensures { λ _. ⌜ now (ledger .exit) ≡ putRow tokenWidth (now (ledger .entry)) used (encode t) ⌝ }
     ensures { λ _. ⌜ tokens (used + 1) (now (ledger .exit)) ≡ tokens used (now (ledger .entry)) ++ t ∷ [] ⌝ }
     ensures { λ _. ⌜ Matching (now (tables .entry)) (now (links .exit)) (now (flags .exit)) (now (ledger .exit)) (used + 1) ⌝ }
 {
@@ -62,7 +63,7 @@ pub fn arrive(
 // The operands of an enabled activity are spent; where one is waited for, both places are its place. They were live, so
 // the chains of deferred tokens stay right.
 pub fn spend_operands(flags: &mut [u64; 69], ledger: &mut [u8], first: usize, second: usize)
-    requires { ⌜ Counted (now flags) × (first < 2048) × (second < 2048) × (first < length (now ledger) / 20) × (second < length (now ledger) / 20) ⌝ }
+    requires { ⌜ Counted (now flags) × (first < 2048) × (second < 2048) × (first < length (now ledger) / tokenWidth) × (second < length (now ledger) / tokenWidth) ⌝ }
     ensures { λ _. ⌜ now (ledger .exit) ≡ statesSpent (now (ledger .entry)) first second ⌝ }
     ensures { λ _. ⌜ ((tables links : List ℕ) (used : ℕ) → Matching tables links (now (flags .entry)) (now (ledger .entry)) used → Operands (now (ledger .entry)) used first second
         → (tokens used (now (ledger .exit)) ≡ tokensSpent used (now (ledger .entry)) first second) × Matching tables links (now (flags .exit)) (now (ledger .exit)) used) ⌝ }
@@ -109,7 +110,7 @@ pub fn wake(
     v: i32,
 )
     requires { ⌜ Matching (now tables) (now links) (now flags) (now ledger) used × (cell < 1024) ⌝ }
-    ensures { λ _. ⌜ now (ledger .exit) ≡ joined encode (map (Deferred.woken cell v) (tokens used (now (ledger .entry)))) ++ drop (used * 20) (now (ledger .entry)) ⌝ }
+    ensures { λ _. ⌜ now (ledger .exit) ≡ joined encode (map (Deferred.woken cell v) (tokens used (now (ledger .entry)))) ++ drop (used * tokenWidth) (now (ledger .entry)) ⌝ }
     ensures { λ _. ⌜ tokens used (now (ledger .exit)) ≡ map (Deferred.woken cell v) (tokens used (now (ledger .entry))) ⌝ }
     ensures { λ _. ⌜ Matching (now (tables .entry)) (now (links .exit)) (now (flags .exit)) (now (ledger .exit)) used ⌝ }
 {

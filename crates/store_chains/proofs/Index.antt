@@ -11,6 +11,7 @@ use Rattle.record.specs.TokensAndTags.{tokens, tokenAt, decode, standsAt, sameT
 use Rattle.buffer.proofs.Tables.{getD-rows, length-rows}
 use Rattle.record.specs.declared.tag.Tag.{Tag}
 use Rattle.record.specs.declared.token.Token.{Token}
+use Rattle.record.specs.Widths.{tokenWidth}
 use Rattle.store_chains.specs.Search.{firstFrom, foundOf, Within}
 use Rattle.store_chains.specs.Chains.{bucketOf, bucketKey, lastBelow, Indexed}
 use Rattle.store_chains.proofs.Search.{first-step, first-end, first-within}
@@ -41,14 +42,14 @@ module _ (p : Token → Bool) (n : ℕ) (l : List ℕ) where
   earliest-scan (suc i) best h e = earliest-scan i (cond (p (tokenAt l i)) (suc i) best) (omega arith) (go (p (tokenAt l i)) refl)
     where
       go : (t : Bool) → p (tokenAt l i) ≡ t → foundOf (cond t (suc i) best) ≡ firstFrom p i (drop i (tokens n l))
-      go true d = sym (first-step 20 decode p n i l h ∙ rw d)
-      go false d = e ∙ sym (first-step 20 decode p n i l h ∙ rw d)
+      go true d = sym (first-step tokenWidth decode p n i l h ∙ rw d)
+      go false d = e ∙ sym (first-step tokenWidth decode p n i l h ∙ rw d)
 
   scan-found : foundOf (earliest (λ j. p (tokenAt l j)) n 0) ≡ firstFrom p 0 (tokens n l)
-  scan-found = earliest-scan n 0 (omega arith) (sym (first-end 20 decode p n n l (omega arith)))
+  scan-found = earliest-scan n 0 (omega arith) (sym (first-end tokenWidth decode p n n l (omega arith)))
 
   pub found-within : Within (firstFrom p 0 (tokens n l)) n
-  found-within = rw (length-rows 20 decode n l) at (first-within p (tokens n l))
+  found-within = rw (length-rows tokenWidth decode n l) at (first-within p (tokens n l))
 
 -- ---- tokens of one tag and port are in one chain
 
@@ -92,18 +93,18 @@ module _ (l : List ℕ) (n : ℕ) (tag : Tag) (port : ℕ) where
   in-bucket b e m g i h q =
       let d = tokenAt l i in
       let k : i < n = omega arith in
-      key-at bucketKey (tokens n l) i d (rw (length-rows 20 decode n l) k) ∙ ap bucketKey (getD-rows 20 decode n i l d k) ∙ stands-key tag port d q ∙ ap suc (sym e)
+      key-at bucketKey (tokens n l) i d (rw (length-rows tokenWidth decode n l) k) ∙ ap bucketKey (getD-rows tokenWidth decode n i l d k) ∙ stands-key tag port d q ∙ ap suc (sym e)
 
   module _ (links : List ℕ) (w : Indexed links (tokens n l)) (b : ℕ) (e : b ≡ bucketOf tag port) (small : b < 4096) where
     keys : length (map bucketKey (tokens n l)) ≡ n
-    keys = length-map (tokens n l) bucketKey ∙ length-rows 20 decode n l
+    keys = length-map (tokens n l) bucketKey ∙ length-rows tokenWidth decode n l
 
     pub walk-start : Walk b (getD links b 0) 0
     walk-start =
         let ks = map bucketKey (tokens n l) in
         let here : b + 0 ≡ b = omega arith in
         let on = rw here at (on-first 0 4096 bucketKey links (tokens n l) w b small) in
-        let h : getD links b 0 ≡ lastBelow (suc b) ks n = (rw here at (walk-first 0 4096 bucketKey links (tokens n l) w b small)) ∙ rw (length-rows 20 decode n l) in
+        let h : getD links b 0 ≡ lastBelow (suc b) ks n = (rw here at (walk-first 0 4096 bucketKey links (tokens n l) w b small)) ∙ rw (length-rows tokenWidth decode n l) in
         record { on = on; low = omega (arith, on .below, keys); same = rw h (earliest-skip stands (suc b) ks n 0 (in-bucket b e n (omega arith))) }
 
     pub walk-step : (at best : ℕ) → (at ≡ 0 → ⊥) → Walk b at best → (getD links (at - 1 + 4096) 0 < at) × Walk b (getD links (at - 1 + 4096) 0) (cond (stands (at - 1)) at best)

@@ -9,6 +9,7 @@ ghost use mathlib.Core.List.{List, [], _∷_, _++_};
 ghost use Prim.Native.Nat.{_+_, _/_, _≤_, _<_};
 ghost use lib.ListN.{length, getD, set};
 ghost use Rattle.record.specs.TokensAndTags.{tokens, standsAt};
+ghost use Rattle.record.specs.Widths.{tokenWidth};
 ghost use Rattle.store_chains.specs.Search.{firstFrom, foundOf, Within};
 ghost use Rattle.store_chains.specs.Chains.{bucketOf, Indexed};
 ghost use Rattle.store_chains.specs.Deferred.{LowCell, Waiting};
@@ -57,7 +58,7 @@ fn found_of(best: usize) -> Found
 // The first of the used records that stands at a port of a tag. A chain goes from the last record to the
 // first, so the whole chain is walked.
 pub fn find(links: &[u16; 9216], ledger: &[u8], used: usize, tag: Tag, port: u8) -> Found
-    requires { ⌜ (used ≤ length (now ledger) / 20) × Indexed (now links) (tokens used (now ledger)) ⌝ }
+    requires { ⌜ (used ≤ length (now ledger) / tokenWidth) × Indexed (now links) (tokens used (now ledger)) ⌝ }
     ensures { λ r. ⌜ (r ≡ firstFrom (standsAt tag port) 0 (tokens used (now (ledger .entry)))) × Within r used ⌝ }
 {
     let b = bucket(tag, port);

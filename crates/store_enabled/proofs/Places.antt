@@ -9,13 +9,14 @@ use lib.Dec.{ltb, eqb}
 use lib.ListN.{length, getD, drop}
 use lib.Seq.{getD-drop}
 use borrow.Author.Tests.{eqb-true, eqb-false, eq-eqb, lt-ltb, le-ltb, ltb-true, ltb-false}
-use Rattle.buffer.specs.Table.{All}
+use Rattle.buffer.specs.Rows.{All}
 use Rattle.number.specs.Number.{byteAt, number32, signedOf}
 use Rattle.record.specs.TokensAndTags.{contentOf, tokens, tokenAt, decode, sameTag, standsAt}
 use Rattle.buffer.proofs.Tables.{getD-rows, length-rows}
 use Rattle.record.specs.declared.tag.Tag.{Tag}
 use Rattle.record.specs.declared.token.Token.{Token}
 use Rattle.record.specs.declared.token.Content.the-variants.{Live, Spent, Deferred}
+use Rattle.record.specs.Widths.{tokenWidth}
 use Rattle.store_chains.specs.declared.Found.{Found}
 use Rattle.store_chains.specs.declared.Found.the-variants.{At, Nothing}
 use Rattle.store_chains.specs.Search.{firstFrom, Within}
@@ -35,9 +36,9 @@ live-content bits state = go (eqb state 0) (eqb state 1)
     go false true = refl
     go false false = refl
 
-pub live-state : (l : List ℕ) (i : ℕ) → isLive (tokenAt l i .content) ≡ eqb (getD l (i * 20 + 16) 0) 0
+pub live-state : (l : List ℕ) (i : ℕ) → isLive (tokenAt l i .content) ≡ eqb (getD l (i * tokenWidth + 16) 0) 0
 unfolding decode
-live-state l i = live-content (number32 (drop (i * 20) l) 12) (byteAt (drop (i * 20) l) 16) ∙ rw (getD-drop (i * 20) l 16 0)
+live-state l i = live-content (number32 (drop (i * tokenWidth) l) 12) (byteAt (drop (i * tokenWidth) l) 16) ∙ rw (getD-drop (i * tokenWidth) l 16 0)
 
 -- ---- the token at a port of a tag
 
@@ -55,7 +56,7 @@ live-list tag port d (t ∷ ts) = rw (first-cons (standsAt tag port) t ts) (go (
     go false ih = live-cons t d ts (firstFrom (standsAt tag port) 0 ts) ∙ ih
 
 live-rows : (n : ℕ) (l : List ℕ) (d : Token) (f : Found) → Within f n → liveFound (tokenAt l) f ≡ liveFound (λ i. getD (tokens n l) i d) f
-live-rows n l d (At i) w = rw (getD-rows 20 decode n i l d w)
+live-rows n l d (At i) w = rw (getD-rows tokenWidth decode n i l d w)
 live-rows n l d Nothing w = refl
 
 -- the first at a port of a tag is not live
@@ -138,4 +139,4 @@ module _ (tag : Tag) where
   pub first-place : (n : ℕ) (l : List ℕ) → All (λ (t : Token). t .port < 2) (tokens n l)
       → placeOf (tokens n l) tag
       ≡ lower (placeOr (firstFrom (standsAt tag 0) 0 (tokens n l)) n) (placeOr (firstFrom (standsAt tag 1) 0 (tokens n l)) n)
-  first-place n l w = rw (length-rows 20 decode n l) at (first-tag (tokens n l) w)
+  first-place n l w = rw (length-rows tokenWidth decode n l) at (first-tag (tokens n l) w)

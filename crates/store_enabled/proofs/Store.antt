@@ -7,11 +7,12 @@ use native.Mathlib.Numerals.{add-one}
 use native.Mathlib.Nat.{le-of-suc-le-suc}
 use lib.ListN.{length, getD, set}
 use lib.Seq.{map-set-same}
-use Rattle.buffer.specs.Table.{putRow, All}
+use Rattle.buffer.specs.Rows.{putRow, All}
 use Rattle.record.specs.TokensAndTags.{tokens, tokenAt, decode, encode, standsAt, TokenFits}
 use Rattle.buffer.proofs.Tables.{length-rows, getD-rows}
 use Rattle.record.proofs.Records.{tokens-put, tokens-end}
 use Rattle.record.specs.declared.token.Token.{Token}
+use Rattle.record.specs.Widths.{tokenWidth}
 use Rattle.store_flags.specs.Flags.{flagsOf, Counted}
 use Rattle.store_flags.specs.Marks.{bit}
 use Rattle.store_chains.specs.Chains.{bucketKey, Indexed}
@@ -44,7 +45,7 @@ module _ (P : Token → Type 0) where
   all-at (x ∷ ts) (suc i) d h w = all-at ts i d (le-of-suc-le-suc h) (w .1)
 
 pub known-few : (links l : List ℕ) (used : ℕ) → Known links l used → used ≤ 2048
-known-few links l used w = omega (arith, chained-few 0 4096 bucketKey links (tokens used l) (w .index), length-rows 20 decode used l)
+known-few links l used w = omega (arith, chained-few 0 4096 bucketKey links (tokens used l) (w .index), length-rows tokenWidth decode used l)
 
 -- a store of links that leaves the chains by tag and port
 pub stored-links : (tables links flags l : List ℕ) (used : ℕ) → Stored tables links flags l used → (links′ : List ℕ) → Indexed links′ (tokens used l) → Stored tables links′ flags l used
@@ -68,11 +69,11 @@ pub record Moved (tables links flags m : List ℕ) (used at : ℕ) (us : List To
       → Counted flags′ → Stored tables links flags′ m used
 
 -- a token is added
-module _ (tables links flags l : List ℕ) (used : ℕ) (t : Token) (w : Stored tables links flags l used) (room : used < length l / 20) (few : used < 2048) (low : t .port < 2) (free : Free (tokens used l) (t .tag) (t .port)) (fits : TokenFits t) (m : List ℕ) (put : m ≡ putRow 20 l used (encode t)) (len : length m ≡ length l) (links′ : List ℕ) (index : Indexed links′ (tokens used l ++ t ∷ [])) where
+module _ (tables links flags l : List ℕ) (used : ℕ) (t : Token) (w : Stored tables links flags l used) (room : used < length l / tokenWidth) (few : used < 2048) (low : t .port < 2) (free : Free (tokens used l) (t .tag) (t .port)) (fits : TokenFits t) (m : List ℕ) (put : m ≡ putRow tokenWidth l used (encode t)) (len : length m ≡ length l) (links′ : List ℕ) (index : Indexed links′ (tokens used l ++ t ∷ [])) where
   pub added : Moved tables links′ flags m (used + 1) used (tokens used l ++ t ∷ []) t
   added =
       let ts = tokens used l in
-      let n : length ts ≡ used = length-rows 20 decode used l in
+      let n : length ts ≡ used = length-rows tokenWidth decode used l in
       let e : tokens (used + 1) m ≡ ts ++ t ∷ [] = rw (put, add-one) (tokens-end t fits used l (omega arith)) in
       let known : Known links′ m (used + 1) = record {
         room = rw len (omega arith);
@@ -95,17 +96,17 @@ module _ (tables links flags l : List ℕ) (used : ℕ) (t : Token) (w : Stored 
       }
 
 -- a token is replaced
-module _ (tables links flags l : List ℕ) (used i : ℕ) (t : Token) (w : Stored tables links flags l used) (h : i < used) (a : t .tag ≡ tokenAt l i .tag) (b : t .port ≡ tokenAt l i .port) (fits : TokenFits t) (m : List ℕ) (put : m ≡ putRow 20 l i (encode t)) (len : length m ≡ length l) where
+module _ (tables links flags l : List ℕ) (used i : ℕ) (t : Token) (w : Stored tables links flags l used) (h : i < used) (a : t .tag ≡ tokenAt l i .tag) (b : t .port ≡ tokenAt l i .port) (fits : TokenFits t) (m : List ℕ) (put : m ≡ putRow tokenWidth l i (encode t)) (len : length m ≡ length l) where
   pub changed : Moved tables links flags m used i (set (tokens used l) i t) t
   changed =
       let ts = tokens used l in
       let d = tokenAt l i in
-      let n : length ts ≡ used = length-rows 20 decode used l in
-      let at : getD ts i d ≡ d = getD-rows 20 decode used i l d h in
+      let n : length ts ≡ used = length-rows tokenWidth decode used l in
+      let at : getD ts i d ≡ d = getD-rows tokenWidth decode used i l d h in
       let tag : t .tag ≡ getD ts i d .tag = rw at a in
       let port : t .port ≡ getD ts i d .port = rw at b in
       let key : bucketKey t ≡ bucketKey (getD ts i d) = rw (tag, port) in
-      let space : used * 20 ≤ length l = omega (arith, w .known .room) in
+      let space : used * tokenWidth ≤ length l = omega (arith, w .known .room) in
       let e : tokens used m ≡ set ts i t = rw put (tokens-put t fits used i l h space) in
       let ports = w .known .ports in
       let single : Single (set ts i t) = single-set ts i t d (w .single) (omega arith) tag port in

@@ -6,9 +6,10 @@ use mathlib.Core.Bool.{Bool, true, false, _&&_, cond}
 use mathlib.Core.List.{List}
 use lib.ListN.{length, getD, set, take}
 use lib.Dec.{eqb, ltb}
-use Rattle.buffer.specs.Table.{joined, All}
+use Rattle.buffer.specs.Rows.{joined, All}
 use Rattle.record.specs.TokensAndTags.{encode, tokens, tokenAt, standsAt, TokenFits}
 use Rattle.record.specs.declared.token.Token.{Token}
+use Rattle.record.specs.Widths.{tokenWidth}
 use Rattle.store_flags.specs.Flags.{flagsOf, Counted}
 use Rattle.store_flags.specs.Marks.{Marked}
 use Rattle.store_chains.specs.declared.Found.{Found}
@@ -19,7 +20,7 @@ use Rattle.store_enabled.specs.Enabled.{isLive, isEnabled, tagsOf, tagSa
 
 -- a ledger whose used records are indexed, and stand on ports 0 and 1
 pub record Known (links ledger : List ℕ) (used : ℕ) : Type 0 where
-  pub room : used ≤ length ledger / 20
+  pub room : used ≤ length ledger / tokenWidth
   pub index : Indexed links (tokens used ledger)
   pub ports : All (λ (t : Token). t .port < 2) (tokens used ledger)
 
@@ -34,7 +35,7 @@ Single ts = (i : ℕ) (d : Token) → i < length ts → firstFrom (standsAt (get
 -- the invariant of this crate; the used records are the bytes of their tokens, in every byte
 pub record Stored (tables links flags ledger : List ℕ) (used : ℕ) : Type 0 where
   pub known : Known links ledger used
-  pub bytes : take (used * 20) ledger ≡ joined encode (tokens used ledger)
+  pub bytes : take (used * tokenWidth) ledger ≡ joined encode (tokens used ledger)
   pub fits : All TokenFits (tokens used ledger)
   pub single : Single (tokens used ledger)
   pub counted : Counted flags
@@ -80,7 +81,7 @@ pub record Operands (ledger : List ℕ) (used first second : ℕ) : Type 0 where
 
 -- the bytes and the tokens of a ledger, where the tokens at two places are spent: a live one is spent by its state byte
 abbrev pub statesSpent : List ℕ → (first second : ℕ) → List ℕ
-statesSpent l i j = set (set l (i * 20 + 16) 1) (j * 20 + 16) 1
+statesSpent l i j = set (set l (i * tokenWidth + 16) 1) (j * tokenWidth + 16) 1
 
 abbrev pub tokensSpent : (used : ℕ) → List ℕ → (first second : ℕ) → List Token
 tokensSpent used l i j = set (set (tokens used l) i (spentToken (tokenAt l i))) j (spentToken (tokenAt l j))

@@ -1,16 +1,17 @@
 // The enabled activities of a ledger, kept as flags by place: a token is added, or one is changed, or the
 // operands of an activity are spent, and the flag of its activity is put right.
-use store_chains::Found;
 use record::tag::Tag;
 use record::token;
 use record::token::Token;
+use store_chains::Found;
 ghost use mathlib.Core.Path.{_≡_};
 ghost use mathlib.Core.Bool.{true};
 ghost use mathlib.Core.List.{List, [], _∷_, _++_};
 ghost use Prim.Native.Nat.{ℕ, _+_, _/_, _<_};
 ghost use lib.ListN.{length, getD, set};
-ghost use Rattle.buffer.specs.Table.{putRow};
+ghost use Rattle.buffer.specs.Rows.{putRow};
 ghost use Rattle.record.specs.TokensAndTags.{encode, tokens, tokenAt, standsAt};
+ghost use Rattle.record.specs.Widths.{tokenWidth};
 ghost use Rattle.store_flags.specs.Flags.{flagsOf, Counted};
 ghost use Rattle.store_chains.specs.Search.{firstFrom, Within, Free};
 ghost use Rattle.store_chains.specs.Deferred.{LowCell, Waiting};
@@ -29,18 +30,18 @@ fn place_or(f: Found, other: usize) -> usize
 
 // Whether what was found is live: the state of its record is 0.
 fn live(ledger: &[u8], f: Found) -> bool
-    requires { ⌜ Within f (length (now ledger) / 20) ⌝ }
+    requires { ⌜ Within f (length (now ledger) / tokenWidth) ⌝ }
     ensures { λ r. ⌜ r ≡ liveFound (tokenAt (now (ledger .entry))) f ⌝ }
 {
     match f {
-        Found::At(i) => ledger[i * 20 + 16] == 0,
+        Found::At(i) => ledger[i * token::WIDTH + token::STATE] == 0,
         Found::Nothing => false,
     }
 }
 
 // Whether all operands of an activity are live, where f and g stand on its ports.
 fn ready(ledger: &[u8], f: Found, g: Found, operands: u16) -> bool
-    requires { ⌜ Within f (length (now ledger) / 20) × Within g (length (now ledger) / 20) ⌝ }
+    requires { ⌜ Within f (length (now ledger) / tokenWidth) × Within g (length (now ledger) / tokenWidth) ⌝ }
     ensures { λ r. ⌜ r ≡ readyOf operands (liveFound (tokenAt (now (ledger .entry))) f) (liveFound (tokenAt (now (ledger .entry))) g) ⌝ }
 {
     if operands == 1 {
@@ -57,7 +58,7 @@ fn ready(ledger: &[u8], f: Found, g: Found, operands: u16) -> bool
 
 // The same, where `own` stands on a port and `other` on the other one.
 fn ready_with(ledger: &[u8], port: u8, own: Found, other: Found, operands: u16) -> bool
-    requires { ⌜ Within own (length (now ledger) / 20) × Within other (length (now ledger) / 20) ⌝ }
+    requires { ⌜ Within own (length (now ledger) / tokenWidth) × Within other (length (now ledger) / tokenWidth) ⌝ }
     ensures { λ r. ⌜ r ≡ readyWith operands port (liveFound (tokenAt (now (ledger .entry))) own) (liveFound (tokenAt (now (ledger .entry))) other) ⌝ }
 {
     if port == 0 {
@@ -112,8 +113,8 @@ pub fn append(
     used: usize,
     t: Token,
 )
-    requires { ⌜ Stored (now tables) (now links) (now flags) (now ledger) used × (used < length (now ledger) / 20) × (used < 2048) × (t .port < 2) × LowCell (t .content) × Free (tokens used (now ledger)) (t .tag) (t .port) ⌝ }
-    ensures { λ _. ⌜ now (ledger .exit) ≡ putRow 20 (now (ledger .entry)) used (encode t) ⌝ }
+    requires { ⌜ Stored (now tables) (now links) (now flags) (now ledger) used × (used < length (now ledger) / tokenWidth) × (used < 2048) × (t .port < 2) × LowCell (t .content) × Free (tokens used (now ledger)) (t .tag) (t .port) ⌝ }
+    ensures { λ _. ⌜ now (ledger .exit) ≡ putRow tokenWidth (now (ledger .entry)) used (encode t) ⌝ }
     ensures { λ _. ⌜ tokens (used + 1) (now (ledger .exit)) ≡ tokens used (now (ledger .entry)) ++ t ∷ [] ⌝ }
     ensures { λ _. ⌜ Stored (now (tables .entry)) (now (links .exit)) (now (flags .exit)) (now (ledger .exit)) (used + 1) ⌝ }
     ensures { λ _. ⌜ (Waiting (now (links .entry)) (tokens used (now (ledger .entry))) → Waiting (now (links .exit)) (tokens (used + 1) (now (ledger .exit)))) ⌝ }
@@ -136,7 +137,7 @@ pub fn change(
     t: Token,
 )
     requires { ⌜ Stored (now tables) (now links) (now flags) (now ledger) used × (i < used) × (t .tag ≡ tokenAt (now ledger) i .tag) × (t .port ≡ tokenAt (now ledger) i .port) × (isLive (tokenAt (now ledger) i .content) ≡ true → isLive (t .content) ≡ true) ⌝ }
-    ensures { λ _. ⌜ now (ledger .exit) ≡ putRow 20 (now (ledger .entry)) i (encode t) ⌝ }
+    ensures { λ _. ⌜ now (ledger .exit) ≡ putRow tokenWidth (now (ledger .entry)) i (encode t) ⌝ }
     ensures { λ _. ⌜ tokens used (now (ledger .exit)) ≡ set (tokens used (now (ledger .entry))) i t ⌝ }
     ensures { λ _. ⌜ Stored (now (tables .entry)) (now (links .entry)) (now (flags .exit)) (now (ledger .exit)) used ⌝ }
 {
@@ -149,12 +150,12 @@ pub fn change(
 // Spends the operands of an enabled activity; where one is waited for, both places are its place. The activity is
 // enabled no more, and its flag stands at the place of its earlier operand, so nothing has to be searched for.
 pub fn spend_operands(flags: &mut [u64; 69], ledger: &mut [u8], first: usize, second: usize)
-    requires { ⌜ Counted (now flags) × (first < 2048) × (second < 2048) × (first < length (now ledger) / 20) × (second < length (now ledger) / 20) ⌝ }
+    requires { ⌜ Counted (now flags) × (first < 2048) × (second < 2048) × (first < length (now ledger) / tokenWidth) × (second < length (now ledger) / tokenWidth) ⌝ }
     ensures { λ _. ⌜ now (ledger .exit) ≡ statesSpent (now (ledger .entry)) first second ⌝ }
     ensures { λ _. ⌜ ((tables links : List ℕ) (used : ℕ) → Stored tables links (now (flags .entry)) (now (ledger .entry)) used → Operands (now (ledger .entry)) used first second
         → (tokens used (now (ledger .exit)) ≡ tokensSpent used (now (ledger .entry)) first second) × Stored tables links (now (flags .exit)) (now (ledger .exit)) used) ⌝ }
 {
-    ledger[first * 20 + 16] = 1;
-    ledger[second * 20 + 16] = 1;
+    ledger[first * token::WIDTH + token::STATE] = 1;
+    ledger[second * token::WIDTH + token::STATE] = 1;
     store_flags::lower(flags, earlier(first, second));
 }

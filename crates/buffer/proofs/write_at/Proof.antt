@@ -3,7 +3,7 @@ use borrow.Rule.Slice.PartMut.{post-is}
 use native.Mathlib.Omega.{arith}
 use Prim.Native.Nat.{_+_}
 use lib.ListN.{length}
-use Rattle.buffer.specs.Table.{written}
+use Rattle.buffer.specs.Rows.{written}
 use borrow.Author.Needs.{needs}
 use Rattle.buffer.proofs.write_at.Statement.{statement}
 use Rattle.buffer.proofs.write_at.Tie as tie

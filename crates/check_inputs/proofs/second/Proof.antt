@@ -12,16 +12,17 @@ use Rattle.check_inputs.proofs.Tokens.{length-tokens, in-tokens, none-s
 use Rattle.check_fields.proofs.Turns.{turn, turn-end, take-next}
 use Rattle.check_inputs.proofs.second.Statement.{statement}
 use Rattle.check_inputs.proofs.second.Tie as tie
+use Rattle.record.specs.Widths.{tokenWidth}
 
 abbrev Inv-loop : tie.InvT-loop
 Inv-loop inputs seen₀ i₀ seen i =
-    (i ≤ length inputs / 20)
+    (i ≤ length inputs / tokenWidth)
     × (checkSecond inputs ≡ inTurn (λ k t. demand (not (secondInput (take k (tokensOf inputs)) t)) SecondToken k) i (drop i (tokensOf inputs)))
     × Seen (take i (tokensOf inputs)) seen
     × (length seen ≡ 512)
 
 abbrev μ-loop : tie.MeasureT-loop
-μ-loop inputs seen₀ i₀ seen i = length inputs / 20 - i
+μ-loop inputs seen₀ i₀ seen i = length inputs / tokenWidth - i
 
 pub second-spec : {M : Type 1} → statement M
 unfolding secondInput
@@ -39,7 +40,7 @@ second-spec = tie.close (tie.spec
     let l = c .before .before .before .before .before .loop in
     let s = c .before .before .before .before .before .before .before .args .inputs .now in
     let x = c .before .before .before .token-at .result in
-    let h : l .i < length s / 20 = omega arith in
+    let h : l .i < length s / tokenWidth = omega arith in
     let k : l .i < length (tokensOf s) = omega (arith, length-tokens s) in
     let e = in-tokens s (l .i) h x ∙ sym (c .before .before .before .token-at .ensures) in
     let t = l .inv .1 ∙ turn (λ k t. demand (not (secondInput (take k (tokensOf s)) t)) SecondToken k) (tokensOf s) (l .i) x k e (ap (λ (b : Bool). demand (not b) SecondToken (l .i)) (sym (c .before .is-second .ensures) ∙ c .if1 .taken)) in
@@ -51,7 +52,7 @@ second-spec = tie.close (tie.spec
     let l = c .before .before .before .before .before .loop in
     let s = c .before .before .before .before .before .before .before .args .inputs .now in
     let x = c .before .before .before .token-at .result in
-    let h : l .i < length s / 20 = omega arith in
+    let h : l .i < length s / tokenWidth = omega arith in
     let k : l .i < length (tokensOf s) = omega (arith, length-tokens s) in
     let e = in-tokens s (l .i) h x ∙ sym (c .before .before .before .token-at .ensures) in
     let t = l .inv .1 ∙ turn (λ k t. demand (not (secondInput (take k (tokensOf s)) t)) SecondToken k) (tokensOf s) (l .i) x k e (ap (λ (b : Bool). demand (not b) SecondToken (l .i)) (sym (c .before .is-second .ensures) ∙ c .if1 .left)) in

@@ -6,6 +6,7 @@ use mathlib.Core.Path.{_≡_, refl, sym, _∙_}
 use lib.ListN.{length, take}
 use borrow.Author.Needs.{needs}
 use Rattle.record.specs.TokensAndTags.{standsAt}
+use Rattle.record.specs.Widths.{tokenWidth}
 use Rattle.rules.specs.Check.{any}
 use Rattle.check_inputs.specs.Inputs.{tokensOf}
 use Rattle.check_inputs.proofs.Tokens.{length-tokens, in-tokens, any-more}
@@ -31,7 +32,7 @@ taken-spec = tie.close (tie.spec
     let a = c .before .before .before .before .before .before .args in
     let s = a .inputs .now in
     let x = c .before .before .token-at .result in
-    let h : l .j < length s / 20 = omega (arith, c .before .before .before .before .before .before .pre) in
+    let h : l .j < length s / tokenWidth = omega (arith, c .before .before .before .before .before .before .pre) in
     let e = in-tokens s (l .j) h x ∙ sym (c .before .before .token-at .ensures) in
     let f = standsAt (a .tag) (a .port) in
     let t : any f (take (l .j + 1) (tokensOf s)) ≡ c .before .stands-at .result = any-next f (tokensOf s) (l .j) x (omega (arith, length-tokens s)) e ∙ rw (l .inv .1, ← c .before .stands-at .ensures) in
@@ -43,7 +44,7 @@ taken-spec = tie.close (tie.spec
     let a = c .before .before .before .before .before .before .args in
     let s = a .inputs .now in
     let x = c .before .before .token-at .result in
-    let h : l .j < length s / 20 = omega (arith, c .before .before .before .before .before .before .pre) in
+    let h : l .j < length s / tokenWidth = omega (arith, c .before .before .before .before .before .before .pre) in
     let e = in-tokens s (l .j) h x ∙ sym (c .before .before .token-at .ensures) in
     let f = standsAt (a .tag) (a .port) in
     let t : any f (take (l .j + 1) (tokensOf s)) ≡ c .before .stands-at .result = any-next f (tokensOf s) (l .j) x (omega (arith, length-tokens s)) e ∙ rw (l .inv .1, ← c .before .stands-at .ensures) in

@@ -9,6 +9,7 @@ use Rattle.rules.specs.Run.{picksOf}
 use Rattle.engine.proofs.Starting.{prepared, graph-passed, stores-good, inputs-passed, inputs-fit, inputs-proper, inputs-alone, started, as-lent}
 use Rattle.engine.proofs.accepted.Statement.{statement}
 use Rattle.engine.proofs.accepted.Tie as tie
+use Rattle.record.specs.Widths.{tokenWidth}
 
 pub accepted-spec : {M : Type 1} → statement M
 accepted-spec =
@@ -21,7 +22,7 @@ accepted-spec =
     let a = s .args in
     let stores = stores-good (a .graph .now) (a .inputs .now) (a .picks .now) (a .ledger .now) (a .cells .now) (s .pre) in
     let passed = inputs-passed (a .graph .now) (a .inputs .now) (a .picks .now) (a .ledger .now) (a .cells .now) (s .pre) in
-    (matching-start _ _, inputs-fit (a .graph .now) (a .inputs .now) (length (a .ledger .now) / 20) 0 passed, stores .tokenRecords .1, inputs-proper (a .graph .now) (a .inputs .now) (length (a .ledger .now) / 20) 0 passed, inputs-alone (a .graph .now) (a .inputs .now) (length (a .ledger .now) / 20) 0 passed))
+    (matching-start _ _, inputs-fit (a .graph .now) (a .inputs .now) (length (a .ledger .now) / tokenWidth) 0 passed, stores .tokenRecords .1, inputs-proper (a .graph .now) (a .inputs .now) (length (a .ledger .now) / tokenWidth) 0 passed, inputs-alone (a .graph .now) (a .inputs .now) (length (a .ledger .now) / tokenWidth) 0 passed))
     (λ c κs.
     let i = c .before .before .before .before .before .before .before in
     let k = i .before .before .before .before .before .before .before in

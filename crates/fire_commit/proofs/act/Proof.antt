@@ -5,6 +5,7 @@ use borrow.Author.Needs.{needs}
 use Prim.Native.Nat.{_/_}
 use lib.ListN.{length}
 use Rattle.record.specs.TokensAndTags.{tokens}
+use Rattle.record.specs.Widths.{tokenWidth}
 use Rattle.store.proofs.Laws.{matching-known, matching-few}
 use Rattle.fire_operands.specs.declared.Admitted.{Admitted}
 use Rattle.fire_operands.specs.Operands.{admittedOf}
@@ -19,7 +20,7 @@ again c e = sym (c .writes-again .ensures) ∙ e
 
 -- what admit gave, of the ledger's tokens
 gave : (c : tie.After-admit) {x : Admitted} → c .admit .result ≡ x
-    → (let a = c .before .before .before .before .before .before .before .before .args in admittedOf (length (a .ledger .now) / 20) (tokens (a .used) (a .ledger .now)) (a .sent) ≡ x)
+    → (let a = c .before .before .before .before .before .before .before .before .args in admittedOf (length (a .ledger .now) / tokenWidth) (tokens (a .used) (a .ledger .now)) (a .sent) ≡ x)
 gave c e = sym (c .admit .ensures) ∙ e
 
 pub act-spec : {M : Type 1} → statement M

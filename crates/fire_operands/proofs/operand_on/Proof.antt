@@ -5,6 +5,7 @@ use native.Mathlib.Omega.{arith}
 use borrow.Author.Needs.{needs}
 use Rattle.record.specs.TokensAndTags.{decode}
 use Rattle.buffer.proofs.Tables.{getD-rows}
+use Rattle.record.specs.Widths.{tokenWidth}
 use Rattle.abstraction.specs.Held.{noToken}
 use Rattle.fire_operands.specs.Operands.{operandFound, operandAt}
 use Rattle.fire_operands.proofs.operand_on.Statement.{statement}
@@ -27,5 +28,5 @@ operand-on-spec = tie.close (tie.spec
     let r = c .before in
     let d = r .before in
     let s = d .before .before .before .before .before in
-    rw (sym (d .before .before .before .find .ensures .0) ∙ d .before .i .given .1, getD-rows 20 decode (s .args .used) (d .before .i .given .0 .0) (s .args .ledger .now) noToken (place d), ← r .token-at .ensures)
+    rw (sym (d .before .before .before .find .ensures .0) ∙ d .before .i .given .1, getD-rows tokenWidth decode (s .args .used) (d .before .i .given .0 .0) (s .args .ledger .now) noToken (place d), ← r .token-at .ensures)
     (c .as-operand .ensures)))

@@ -7,6 +7,7 @@ use lib.Seq.{drop-cons}
 use lib.ListN.{length, drop, drop-of-length-le}
 use borrow.Author.Needs.{needs}
 use Rattle.record.specs.GraphRecords.{graphOf}
+use Rattle.record.specs.Widths.{graphWidth}
 use Rattle.graph_tables.specs.Tables.{Returns}
 use Rattle.graph_tables.proofs.Entries.{no-returns, note-returns}
 use Rattle.check_fields.proofs.Sites.{length-at-site}
@@ -15,7 +16,7 @@ use Rattle.graph_tables.proofs.returns.Statement.{statement}
 use Rattle.graph_tables.proofs.returns.Tie as tie
 
 abbrev Inv-loop : tie.InvT-loop
-Inv-loop graph out₀ i₀ out i = (i ≤ length graph / 16) × (length out ≡ 512) × Returns (drop i (graphOf graph)) out
+Inv-loop graph out₀ i₀ out i = (i ≤ length graph / graphWidth) × (length out ≡ 512) × Returns (drop i (graphOf graph)) out
 
 abbrev μ-loop : tie.MeasureT-loop
 μ-loop graph out₀ i₀ out i = i
@@ -26,7 +27,7 @@ returns-spec = tie.close (tie.spec
     μ-loop
     (λ c.
     let g = c .before .before .args .graph .now in
-    (omega arith, refl, rw (drop-of-length-le (graphOf g) {i = length g / 16} (omega (arith, length-graph g))) no-returns))
+    (omega arith, refl, rw (drop-of-length-le (graphOf g) {i = length g / graphWidth} (omega (arith, length-graph g))) no-returns))
     (λ c. omega arith)
     (λ c κs. omega arith)
     (λ c κs. search needs)
@@ -36,7 +37,7 @@ returns-spec = tie.close (tie.spec
     let g = c .before .before .before .before .before .before .before .args .graph .now in
     let j = l .i - 1 in
     let r = c .before .instruction-at .result in
-    let h : j < length g / 16 = omega arith in
+    let h : j < length g / graphWidth = omega arith in
     let e = in-graph g j h r ∙ sym (c .before .instruction-at .ensures) in
     let n : suc j ≡ l .i = omega arith in
     let d : drop j (graphOf g) ≡ r ∷ drop (l .i) (graphOf g) = drop-cons (graphOf g) j r (omega (arith, length-graph g)) ∙ rw (e, n) in (

@@ -7,6 +7,7 @@ use Rattle.load.specs.Accept.{Proper}
 use Rattle.load.proofs.Taken.{Taken, proper, alone, taken-none, taken-more, taken-all}
 use Rattle.load.proofs.inputs.Statement.{statement}
 use Rattle.load.proofs.inputs.Tie as tie
+use Rattle.record.specs.Widths.{tokenWidth}
 
 abbrev Inv-loop : tie.InvT-loop
 Inv-loop tables links₀ flags₀ ledger₀ inputs n i₀ links flags ledger i =
@@ -14,7 +15,7 @@ Inv-loop tables links₀ flags₀ ledger₀ inputs n i₀ links flags ledger i =
 
 abbrev μ-loop : tie.MeasureT-loop
 μ-loop tables links₀ flags₀ ledger₀ inputs n i₀ links flags ledger i =
-    length inputs / 20 - i
+    length inputs / tokenWidth - i
 
 pub inputs-spec : {M : Type 1} → statement M
 inputs-spec = tie.close (tie.spec
@@ -30,7 +31,7 @@ inputs-spec = tie.close (tie.spec
     let a = s .args in
     let l = c .before .before .before .before .before .loop in
     let t = c .before .before .before .token-at in
-    let h : l .i < length (a .inputs .now) / 20 = omega (arith, c .before .before .before .before .loop-test .taken) in
+    let h : l .i < length (a .inputs .now) / tokenWidth = omega (arith, c .before .before .before .before .loop-test .taken) in
     let p : Proper (t .result) = proper (a .inputs .now) (l .i) (t .result) (t .ensures) h (s .pre .3) in
     let free = alone (a .inputs .now) (l .ledger) (l .i) (t .result) (t .ensures) h (l .inv .taken) (s .pre .4) in
     (l .inv .matching, omega (arith, s .pre .1, s .pre .2, l .inv .size), omega (arith, s .pre .1, s .pre .2), p .0, p .1, free))
@@ -40,7 +41,7 @@ inputs-spec = tie.close (tie.spec
     let s = c .before .before .before .before .before .before .before .before .before .before .before in
     let a = s .args in
     let l = c .before .before .before .before .before .before .before .before .loop in
-    let h : l .i < length (a .inputs .now) / 20 = omega (arith, c .before .before .before .before .before .before .before .loop-test .taken) in
+    let h : l .i < length (a .inputs .now) / tokenWidth = omega (arith, c .before .before .before .before .before .before .before .loop-test .taken) in
     let e = c .before .before .before .before .before .before .token-at .ensures in
     let p = c .before .before .arrive in
     taken-more (a .tables .now) (a .ledger .now) (a .inputs .now) (l .ledger) (l .i) (l .inv .size) (l .inv .taken) (l .inv .rest) h (s .pre .1)

@@ -8,8 +8,9 @@ use borrow.Author.Needs.{needs}
 use lib.ListN.{length, drop, List·getD-eq-default}
 use lib.Seq.{getD-drop}
 use Rattle.number.specs.Number.{number16}
-use Rattle.buffer.specs.Table.{allRows}
+use Rattle.buffer.specs.Rows.{allRows}
 use Rattle.buffer.proofs.Tables.{length-rows, getD-rows}
+use Rattle.record.specs.Widths.{pickWidth}
 use Rattle.load.proofs.pick_or.Statement.{statement}
 use Rattle.load.proofs.pick_or.Tie as tie
 
@@ -24,9 +25,9 @@ pick-or-spec = tie.close (tie.spec
     (λ c.
     let a = c .before .before .before .args in
     let l = a .picks .now in
-    c .u16-at .ensures ∙ sym (from l (a .k * 2)) ∙ sym (getD-rows 2 (λ b. number16 b 0) (length l / 2) (a .k) l (a .other) (omega arith)))
+    c .u16-at .ensures ∙ sym (from l (a .k * pickWidth)) ∙ sym (getD-rows pickWidth (λ b. number16 b 0) (length l / pickWidth) (a .k) l (a .other) (omega arith)))
     (λ c.
     let a = c .before .before .args in
     let l = a .picks .now in
-    let h : length (allRows 2 (λ b. number16 b 0) l) ≤ a .k = rw (length-rows 2 (λ b. number16 b 0) (length l / 2) l) (omega arith) in
-    sym (List·getD-eq-default (allRows 2 (λ b. number16 b 0) l) (a .other) h)))
+    let h : length (allRows pickWidth (λ b. number16 b 0) l) ≤ a .k = rw (length-rows pickWidth (λ b. number16 b 0) (length l / pickWidth) l) (omega arith) in
+    sym (List·getD-eq-default (allRows pickWidth (λ b. number16 b 0) l) (a .other) h)))

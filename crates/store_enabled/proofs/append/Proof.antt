@@ -7,6 +7,7 @@ use borrow.Author.Needs.{needs}
 use lib.ListN.{length}
 use Rattle.record.specs.TokensAndTags.{tokens, decode}
 use Rattle.buffer.proofs.Tables.{length-rows}
+use Rattle.record.specs.Widths.{tokenWidth}
 use Rattle.store_flags.specs.Flags.{flagsOf}
 use Rattle.store_enabled.specs.Enabled.{isEnabled, placeOf}
 use Rattle.store_enabled.proofs.Store.{Moved, added}
@@ -25,7 +26,7 @@ entered c =
     let k : length (p .last .0) ≡ length l = omega (arith, p .kept .0) in
     added (a .tables .now) (a .links .now) (a .flags .now) l (a .used) (a .t) (s .pre .0) (s .pre .1) (s .pre .2) (s .pre .3) (s .pre .5)
     (p .ensures .1) (p .last .0) (p .ensures .0) k (c .enter .last .0)
-    (c .enter .ensures .0 (tokens (a .used) l) (length-rows 20 decode (a .used) l) (s .pre .0 .known .index))
+    (c .enter .ensures .0 (tokens (a .used) l) (length-rows tokenWidth decode (a .used) l) (s .pre .0 .known .index))
 
 pub append-spec : {M : Type 1} → statement M
 append-spec = tie.close (tie.spec
@@ -46,4 +47,4 @@ append-spec = tie.close (tie.spec
     let us = ts ++ a .t ∷ [] in
     let once = raised-only (isEnabled (a .tables .now) us (a .t .tag)) (flagsOf (a .flags .now)) (placeOf us (a .t .tag)) (right-wait (a .tables .now) ts (a .t) (flagsOf (a .flags .now)) (s .pre .0 .right)) in
     let flags = c .settle .ensures .0 ∙ rw (c .before .before .before .before .arity .ensures, e .more) once in
-    (c .before .before .before .before .before .before .before .before .before .before .put-token .ensures .0, (e .more, (e .stored (c .settle .last .0) flags (c .settle .ensures .1), λ w. rw (e .more) (c .before .before .before .before .before .before .enter .ensures .1 ts (length-rows 20 decode (a .used) (a .ledger .now)) w))))))
+    (c .before .before .before .before .before .before .before .before .before .before .put-token .ensures .0, (e .more, (e .stored (c .settle .last .0) flags (c .settle .ensures .1), λ w. rw (e .more) (c .before .before .before .before .before .before .enter .ensures .1 ts (length-rows tokenWidth decode (a .used) (a .ledger .now)) w))))))

@@ -7,6 +7,7 @@ use lib.ListN.{length, getD, set}
 use Rattle.record.specs.TokensAndTags.{tokens, tokenAt, decode}
 use Rattle.record.specs.declared.token.Token.{Token}
 use Rattle.buffer.proofs.Tables.{length-rows, getD-rows}
+use Rattle.record.specs.Widths.{tokenWidth}
 use Rattle.store_flags.specs.Flags.{flagsOf}
 use Rattle.store_enabled.specs.Enabled.{isEnabled, placeOf}
 use Rattle.store_enabled.proofs.Store.{Moved, changed, all-at}
@@ -17,10 +18,10 @@ use Rattle.store_enabled.proofs.change.Tie as tie
 -- the record as it was
 module _ (s : tie.Start) where
   before : getD (tokens (s .args .used) (s .args .ledger .now)) (s .args .i) (tokenAt (s .args .ledger .now) (s .args .i)) ≡ tokenAt (s .args .ledger .now) (s .args .i)
-  before = getD-rows 20 decode (s .args .used) (s .args .i) (s .args .ledger .now) (tokenAt (s .args .ledger .now) (s .args .i)) (s .pre .1)
+  before = getD-rows tokenWidth decode (s .args .used) (s .args .i) (s .args .ledger .now) (tokenAt (s .args .ledger .now) (s .args .i)) (s .pre .1)
 
   size : length (tokens (s .args .used) (s .args .ledger .now)) ≡ s .args .used
-  size = length-rows 20 decode (s .args .used) (s .args .ledger .now)
+  size = length-rows tokenWidth decode (s .args .used) (s .args .ledger .now)
 
   low : s .args .t .port < 2
   low = rw (s .pre .3, ← before) (all-at (λ (t : Token). t .port < 2) (tokens (s .args .used) (s .args .ledger .now)) (s .args .i) (tokenAt (s .args .ledger .now) (s .args .i)) (omega (arith, size, s .pre .1)) (s .pre .0 .known .ports))

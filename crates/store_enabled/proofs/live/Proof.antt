@@ -7,9 +7,10 @@ use lib.ListN.{length}
 use Rattle.store_enabled.proofs.Places.{live-state}
 use Rattle.store_enabled.proofs.live.Statement.{statement}
 use Rattle.store_enabled.proofs.live.Tie as tie
+use Rattle.record.specs.Widths.{tokenWidth}
 
 -- what was found lies in the ledger
-inside : (c : tie.After-known-told) → c .before .f .given .0 .0 < length (c .before .before .before .args .ledger .now) / 20
+inside : (c : tie.After-known-told) → c .before .f .given .0 .0 < length (c .before .before .before .args .ledger .now) / tokenWidth
 inside c = rw (c .before .f .given .1) at (c .before .before .before .pre)
 
 pub live-spec : {M : Type 1} → statement M

@@ -1,8 +1,8 @@
--- `checks::buffer::whole` meets its contract. Assumes nothing.
+-- `buffer::whole` meets its contract. Assumes nothing.
 use borrow.Author.Tests.{eq-eqb, ne-eqb}
 use borrow.Author.Needs.{needs}
-use Rattle.checks.proofs.buffer.whole.Statement.{statement}
-use Rattle.checks.proofs.buffer.whole.Tie as tie
+use Rattle.buffer.proofs.whole.Statement.{statement}
+use Rattle.buffer.proofs.whole.Tie as tie
 
 pub whole-spec : {M : Type 1} → statement M
 whole-spec = tie.close (tie.spec
