@@ -26,7 +26,9 @@ use Rattle.store_chains.proofs.Index.{and-left, and-right}
 use Rattle.store_enabled.specs.Enabled.{isLive, liveAt, allLive, tagSame, placeOf, leads, enabledPlaces}
 use Rattle.store_enabled.proofs.Places.{stands-other}
 use Rattle.store_enabled.proofs.Right.{tag-equal, tag-own}
-use Rattle.abstraction.specs.Held.{stateHeld, Arities, OnPorts}
+use Rattle.abstraction.specs.States.{stateHeld, OnPorts}
+use Rattle.abstraction.specs.Tables.{Arities}
+use Rattle.abstraction.proofs.Arities.{arity-small}
 use Rattle.abstraction.proofs.Keys.{has-key, when-stands}
 
 -- ---- tests
@@ -172,12 +174,12 @@ module _ (g : List Instruction) (capacity cells : ℕ) where
     held-is-place : (i : ℕ) (t : Record.Token) → i < length ts → t ≡ getD ts i d → (0 < arityIn g (t .tag) → t .port < arityIn g (t .tag))
         → isPlace M (stateHeld ts cs) i (tokenHeld t) ≡ leads tables ts i t
     held-is-place i t h e o =
-        rw (held-operand (t .tag) t, tag-own (t .tag), table (t .tag) .0, held-content (t .content)) (go (ltb 0 (arityIn g (t .tag))) refl)
+        rw (held-operand (t .tag) t, tag-own (t .tag), table (t .tag), held-content (t .content)) (go (ltb 0 (arityIn g (t .tag))) refl)
       where
         here : 0 < arityIn g (t .tag) → eqb (placeOf ts (t .tag)) i ≡ true → allLive (arityIn g (t .tag)) ts (t .tag) ≡ true → isLive (t .content) ≡ true
         here l q a =
             sym (earliest-live i t d ts h e (eqb-true (placeOf ts (t .tag)) i q))
-            ∙ live-below (arityIn g (t .tag)) (t .port) ts (t .tag) (table (t .tag) .1) (o l) a
+            ∙ live-below (arityIn g (t .tag)) (t .port) ts (t .tag) (arity-small g (t .tag)) (o l) a
 
         go : (b : Bool) → ltb 0 (arityIn g (t .tag)) ≡ b
             → (isLive (t .content) && ltb (t .port) (arityIn g (t .tag))
@@ -187,7 +189,7 @@ module _ (g : List Instruction) (capacity cells : ℕ) where
             let l : 0 < arityIn g (t .tag) = ltb-true 0 (arityIn g (t .tag)) f in
             rw (
               lt-ltb (t .port) (arityIn g (t .tag)) (o l),
-              held-below (arityIn g (t .tag)) (t .tag) ts l (table (t .tag) .1),
+              held-below (arityIn g (t .tag)) (t .tag) ts l (arity-small g (t .tag)),
               held-place (t .tag) ts l ports,
             )
             (and-spared (isLive (t .content)) (allLive (arityIn g (t .tag)) ts (t .tag)) (eqb (placeOf ts (t .tag)) i) (here l))

@@ -1,15 +1,15 @@
--- What the rows of the table of operations have in common: operand counts of 2 at most, and fan-outs that go by the operation alone. Assumes nothing.
-use Prim.Native.Nat.{ℕ, _≤_}
+-- What the rows of the table of operations have in common: fan-outs go by the operation alone. Assumes nothing.
+use Prim.Native.Nat.{ℕ}
 use mathlib.Core.Path.{_≡_, refl, sym, _∙_}
 use mathlib.Core.Bool.{Bool, true, false, _&&_, cond}
 use mathlib.Core.List.{List, [], _∷_}
 use mathlib.Core.Logic.{⊎-elim}
 use lib.ListN.{getD}
-use lib.Dec.{T, eqb, leb, eqb→eq, leb→le}
+use lib.Dec.{T, eqb, eqb→eq}
 use denote.Enum.Declared.{tagOf}
 use types.Run.{OneOf}
 use Rattle.record.specs.declared.operation.Operation.the-variants.{Unknown}
-use Rattle.record.specs.GraphRecords.{Row, table, lookup, noRow, rowOf, operationOf, operandsOf}
+use Rattle.record.specs.GraphRecords.{Row, table, lookup, noRow, rowOf, operationOf}
 use Rattle.record.proofs.operation.Operation.{the-type}
 use Rattle.rules.specs.Check.{all}
 use Rattle.check_fields.proofs.Turns.{and-true, and-left, and-right}
@@ -24,12 +24,9 @@ found f (r ∷ rs) t u n = go (f r) (eqb n (r .code)) refl t (λ k. found f rs k
     go true false p t k = k t
     go false e p t k = absurd t
 
-pub every-row : (f : Row → Bool) → T (all f table) → ((n : ℕ) → T (f (noRow n))) → (n : ℕ) → T (f (rowOf n))
+every-row : (f : Row → Bool) → T (all f table) → ((n : ℕ) → T (f (noRow n))) → (n : ℕ) → T (f (rowOf n))
 unfolding rowOf
 every-row f t u n = found f table t u n
-
-pub operands-small : (n : ℕ) → operandsOf n ≤ 2
-operands-small n = leb→le (operandsOf n) 2 (every-row (λ r. leb (r .operands) 2) tt (λ m. tt) n)
 
 -- the fan-outs of each operation, in the order of its variants
 unfoldable pub leasts : List ℕ

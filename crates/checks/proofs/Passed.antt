@@ -24,7 +24,6 @@ use Rattle.rules.specs.declared.answer.Checked.the-variants.{Passed}
 use Rattle.rules.specs.Check.{demand, all, instructionAt, operandsAt, fanOutAllowed, unusedAreZero, goodArc, within, entersSite, goodSite, checkRecord, checkGraph, checkStores, goodInput, secondInput, checkInputs, check}
 use Rattle.rules.specs.InstructionSet.{returnOf}
 use Rattle.check_inputs.specs.Inputs.{tokensOf}
-use Rattle.graph_tables.specs.Tables.{returnEntry}
 use Rattle.check_fields.proofs.Turns.{and-true-left, and-true-right, both-passed, demanded, each-passed, all-at}
 use Rattle.check_fields.proofs.Constants.{within-is}
 use Rattle.check_fields.proofs.Graphs.{length-graph, past}
@@ -105,29 +104,6 @@ enter-return g i r good e =
     let n : r .fanout ≡ 2 = omega arith in
     let arcs : all (goodArc g) (inUse 2 (r .first) (r .second)) ≡ true = rw n at (good .arcs) in
     good-arc g (r .second) (all-at (goodArc g) (inUse 2 (r .first) (r .second)) arcs 1 (omega arith) (r .second)) .0
-
--- a return that is found is some ENTER's
-found-return : (n site : ℕ) (rs : List Instruction) (d : Instruction) → ((k : ℕ) → k < length rs → getD rs k d .code ≡ 8 → getD rs k d .second .instruction < n)
-    → (i : ℕ) → returnOf site rs ≡ some i → i < n
-unfolding returnOf entersSite
-found-return n site [] d small i e = let z : _≡_ {A = ℕ} 0 1 = cc in absurd (omega arith)
-found-return n site (r ∷ rs) d small i e = go (entersSite (pos site) r) refl e (found-return n site rs d (λ k h. small (suc k) (omega arith)) i)
-  where
-    go : (b : Bool) → entersSite (pos site) r ≡ b → cond b (some (r .second .instruction)) (returnOf site rs) ≡ some i → (returnOf site rs ≡ some i → i < n) → i < n
-    go true p e later =
-        let s : r .second .instruction ≡ i = cc in
-        let h = small 0 (omega arith) (eqb-true (r .code) 8 (and-true-left (eqb (r .code) 8) _ p)) in
-        omega arith
-    go false p e later = later e
-
-pub return-inside : (l : List ℕ) → checkGraph l ≡ Passed → (site i : ℕ) → returnOf site (graphOf l) ≡ some i → i < length (graphOf l)
-unfolding instructionAt
-return-inside l passed site i e =
-    found-return (length (graphOf l)) site (graphOf l) (decode []) (λ k h c. enter-return (graphOf l) k (instructionAt (graphOf l) k) (passed-at l passed k h) c) i e
-
--- so its entry in the table of returns is 1 more
-pub return-entry : (l : List ℕ) → checkGraph l ≡ Passed → (site i : ℕ) → returnOf site (graphOf l) ≡ some i → returnEntry (returnOf site (graphOf l)) ≡ suc i
-return-entry l passed site i e = rw (e, lt-ltb i 65535 (omega (arith, return-inside l passed site i e, passed-length l passed .1)))
 
 -- ---- the stores, by their lengths in bytes
 

@@ -21,10 +21,10 @@ use Rattle.store.proofs.Laws.{matching-ledger}
 use Rattle.machine.specs.Machine.{Outcome, end}
 use Rattle.rules.specs.declared.answer.Refusal.{Refusal}
 use Rattle.rules.specs.Run.{contentHeld, contentRecord, tokenHeld, tokenRecord, cellRecord, outcomeOf}
-use Rattle.abstraction.specs.Held.{cellHeld}
+use Rattle.abstraction.specs.States.{cellHeld}
 use Rattle.fire_outputs.specs.Outputs.{cellsIn}
 use Rattle.fire.specs.Running.{machineFor, stateIn, Running}
-use Rattle.engine.specs.Turns.{Left}
+use Rattle.engine.specs.Turns.{EndedAt}
 
 -- ---- records and the machine's tokens and cells, there and back
 
@@ -71,7 +71,7 @@ module _ (g : List Instruction) {tables links flags ledger′ cells′ : List �
       ∙ ap (λ (l : List ℕ). joined Cells.encode (cellsIn cells′) ++ l) (sym none)
       ∙ sym (ap (λ (cs : List RecordCell.Cell). writtenOver Cells.encode cs cells) (cells-back (cellsIn cells′)))
 
-  pub left : (o : Outcome Refusal) (f : ℕ) → Left (end (machineFor g ledger cells) o f (stateIn ledger′ cells′ n)) (record { outcome = outcomeOf o; firings = f; tokens = n }) ledger cells ledger′ cells′
+  pub left : (o : Outcome Refusal) (f : ℕ) → EndedAt (end (machineFor g ledger cells) o f (stateIn ledger′ cells′ n)) (record { outcome = outcomeOf o; firings = f; tokens = n }) ledger cells ledger′ cells′
   left o f = record {
     answered = λ i. record { outcome = outcomeOf o; firings = f; tokens = sym (length-map (tokens n ledger′) tokenHeld ∙ size) i };
     ledgerLeft = ledger-left;

@@ -15,16 +15,16 @@ use Rattle.store_enabled.specs.Enabled.{enabledPlaces}
 use Rattle.store_flags.specs.Flags.{places, flagsOf}
 use Rattle.machine.specs.Machine.{Machine, Outcome, completed, budgetSpent, End, laterPicks, byPicks, runBy, end}
 use Rattle.store.proofs.Laws.{matching-places}
-use Rattle.load.specs.Accept.{tailOf}
+use Rattle.load.specs.Loaded.{tailOf}
 use Rattle.load.proofs.Laws.{tail-drop}
 use Rattle.fire_outputs.proofs.Laws.{rest-on}
 use Rattle.rules.specs.declared.answer.Refusal.{Refusal}
 use Rattle.rules.specs.declared.answer.Outcome as AnswerOutcome
 use Rattle.rules.specs.InstructionSet.{machineOf}
 use Rattle.rules.specs.Run.{outcomeOf}
-use Rattle.abstraction.specs.Held.{Arities}
+use Rattle.abstraction.specs.Tables.{Arities}
 use Rattle.fire.specs.Running.{machineFor, stateIn, Running}
-use Rattle.engine.specs.Turns.{Advanced, Halted, Left, endOf, restOutcome}
+use Rattle.engine.specs.Turns.{Advanced, Halted, EndedAt, endOf, restOutcome}
 use Rattle.engine.proofs.Turning.{ended, spent-here}
 use Rattle.engine.proofs.Ending.{left}
 
@@ -94,18 +94,18 @@ module _ (g : List Instruction) (ledger₀ cells₀ : List ℕ) (start budget : 
     ends-as : (o : Outcome Refusal) (w : AnswerOutcome.Outcome) {links′ flags′ ledger′ cells′ : List ℕ} → outcomeOf o ≡ w
         → endOf g ledger₀ cells₀ start budget picks ≡ end M₀ o firings (stateIn ledger cells used)
         → Running g tables links′ flags′ ledger′ cells′ used → ledger′ ≡ ledger → cells′ ≡ cells
-        → Left (endOf g ledger₀ cells₀ start budget picks) (record { outcome = w; firings = firings; tokens = used }) ledger₀ cells₀ ledger′ cells′
+        → EndedAt (endOf g ledger₀ cells₀ start budget picks) (record { outcome = w; firings = firings; tokens = used }) ledger₀ cells₀ ledger′ cells′
     ends-as o w {ledger′ = ledger′} {cells′ = cells′} told e r l c =
         let there : end M₀ o firings (stateIn ledger′ cells′ used) ≡ endOf g ledger₀ cells₀ start budget picks =
         (λ i. end M₀ o firings (stateIn (l i) (c i) used)) ∙ sym e in
-        subst (λ (x : AnswerOutcome.Outcome). Left (endOf g ledger₀ cells₀ start budget picks) (record { outcome = x; firings = firings; tokens = used }) ledger₀ cells₀ ledger′ cells′) told
-        (subst (λ (x : End Refusal Tag ℤ). Left x (record { outcome = outcomeOf o; firings = firings; tokens = used }) ledger₀ cells₀ ledger′ cells′) there
+        subst (λ (x : AnswerOutcome.Outcome). EndedAt (endOf g ledger₀ cells₀ start budget picks) (record { outcome = x; firings = firings; tokens = used }) ledger₀ cells₀ ledger′ cells′) told
+        (subst (λ (x : End Refusal Tag ℤ). EndedAt x (record { outcome = outcomeOf o; firings = firings; tokens = used }) ledger₀ cells₀ ledger′ cells′) there
         (left g r ledger₀ cells₀ (ap (drop (used * tokenWidth)) l ∙ so .rest) (ap length c ∙ so .cellSize) o firings))
 
     -- a turn that ended the run
     pub halted : firings < budget → (o : AnswerOutcome.Outcome) (links′ flags′ ledger′ cells′ : List ℕ)
         → Halted o g (drop firings picks) tables links′ flags′ ledger′ cells′ used ledger cells
-        → Left (endOf g ledger₀ cells₀ start budget picks) (record { outcome = o; firings = firings; tokens = used }) ledger₀ cells₀ ledger′ cells′
+        → EndedAt (endOf g ledger₀ cells₀ start budget picks) (record { outcome = o; firings = firings; tokens = used }) ledger₀ cells₀ ledger′ cells′
     halted h o links′ flags′ ledger′ cells′ a =
         let s = stateIn ledger cells used in
         let b = budget - suc firings in
@@ -115,13 +115,13 @@ module _ (g : List Instruction) (ledger₀ cells₀ : List ℕ) (start budget : 
 
     -- the budget is spent
     pub finished : budget ≤ firings → Arities g tables → (w : AnswerOutcome.Outcome) → w ≡ restOutcome (length (places (flagsOf flags)))
-        → Left (endOf g ledger₀ cells₀ start budget picks) (record { outcome = w; firings = firings; tokens = used }) ledger₀ cells₀ ledger cells
+        → EndedAt (endOf g ledger₀ cells₀ start budget picks) (record { outcome = w; firings = firings; tokens = used }) ledger₀ cells₀ ledger cells
     finished h right w e = go (length (places (flagsOf flags))) refl
       where
         same : length (places (flagsOf flags)) ≡ length (enabledPlaces tables (tokens used ledger))
         same = ap length (matching-places (so .running .matching))
 
-        go : (n : ℕ) → length (places (flagsOf flags)) ≡ n → Left (endOf g ledger₀ cells₀ start budget picks) (record { outcome = w; firings = firings; tokens = used }) ledger₀ cells₀ ledger cells
+        go : (n : ℕ) → length (places (flagsOf flags)) ≡ n → EndedAt (endOf g ledger₀ cells₀ start budget picks) (record { outcome = w; firings = firings; tokens = used }) ledger₀ cells₀ ledger cells
         go zero z =
             let s = stateIn ledger cells used in
             let stop = as-lent (λ p q. runBy (machineOf g p q) (byPicks (machineOf g p q)) 0 (drop firings picks) firings s ≡ end (machineOf g p q) completed firings s)

@@ -41,42 +41,16 @@ use Rattle.graph_tables.specs.Tables as Tables
 use Rattle.checks.proofs.Passed.{passed-check, passed-length, return-entry, GoodStores, passed-stores, GoodInputs, passed-inputs, passed-input}
 use Rattle.graph_tables.proofs.Entries.{arity-small}
 use Rattle.check_fields.proofs.Graphs.{arity-past}
-use Rattle.fire_effect.specs.Held.{entryOf, Returns}
+use Rattle.fire_effect.specs.Effects.{entryOf, Returns}
 use Rattle.fire_effect.proofs.Arrives.{arrives-port}
-use Rattle.abstraction.specs.Held.{cellHeld, Arities}
+use Rattle.abstraction.specs.States.{cellHeld, Arities}
 use Rattle.abstraction.proofs.Keys.{alone-free}
 use Rattle.fire_outputs.specs.Outputs.{cellsIn, CellStore}
 use Rattle.fire_outputs.proofs.Laws.{rest-on}
-use Rattle.load.specs.Accept.{Proper, Alone, Accepted}
+use Rattle.load.specs.Loaded.{Proper, Alone, Loaded}
 use Rattle.load.proofs.Laws.{zeros-joined, absent-fit, zeros-cells}
 use Rattle.fire.specs.Running.{stateIn, Arrived, Running, Prepared}
-use Rattle.engine.specs.Turns.{Left, endOf}
-
--- ---- the tables made of the graph
-
-past-end : (l : List ℕ) (k : ℕ) → length l ≤ k → getD l k 0 ≡ 0
-past-end [] k h = refl
-past-end (x ∷ l) zero h = absurd (omega arith)
-past-end (x ∷ l) (suc k) h = past-end l k (omega arith)
-
-module _ (graph : List ℕ) (passed : checkGraph graph ≡ Passed) where
-  arities-right : (tables : List ℕ) → length tables ≡ 512 → Tables.Arities (graphOf graph) tables → Arities (graphOf graph) tables
-  unfolding arityIn
-  arities-right tables size right tag = (go (decLe (suc (tag .instruction)) 256), arity-small (graphOf graph) tag)
-    where
-      go : Dec (suc (tag .instruction) ≤ 256) → getD tables (tag .instruction + 256) 0 ≡ arityIn (graphOf graph) tag
-      go (yes h) = right tag h
-      go (no n) = past-end tables (tag .instruction + 256) (omega arith) ∙ sym (arity-past graph (tag .instruction) (omega (arith, passed-length graph passed .1, passed-length graph passed .2)))
-
-  returns-right : (tables : List ℕ) → Tables.Returns (graphOf graph) tables → Returns tables (graphOf graph)
-  returns-right tables right = record { entry = λ site h. right site h ∙ go site (returnOf site (graphOf graph)) refl }
-    where
-      go : (site : ℕ) (o : Option ℕ) → returnOf site (graphOf graph) ≡ o → Tables.returnEntry (returnOf site (graphOf graph)) ≡ entryOf (returnOf site (graphOf graph))
-      go site none e = ap Tables.returnEntry e ∙ sym (ap entryOf e)
-      go site (some i) e = return-entry graph passed site i e ∙ sym (ap entryOf e)
-
-  pub prepared : (tables : List ℕ) → length tables ≡ 512 → Tables.Arities (graphOf graph) tables → Tables.Returns (graphOf graph) tables → Prepared graph tables
-  prepared tables size a r = record { passed = passed; returnsRight = returns-right tables r; aritiesRight = arities-right tables size a }
+use Rattle.engine.specs.Turns.{EndedAt, endOf}
 
 -- ---- the inputs
 
@@ -160,7 +134,7 @@ module _ (graph inputs picks ledger cells : List ℕ) (accepted : check graph in
   good-start : Good M (firstState inputs (length cells / cellWidth))
   good-start = startGood M (firstState inputs (length cells / cellWidth)) (start (graphOf graph) (length ledger / tokenWidth) (length cells / cellWidth) inputs inputs-passed)
 
-  module _ {tables links flags ledger₁ cells₁ : List ℕ} {used : ℕ} (a : Accepted tables links flags ledger ledger₁ inputs used)
+  module _ {tables links flags ledger₁ cells₁ : List ℕ} {used : ℕ} (a : Loaded tables links flags ledger ledger₁ inputs used)
       (cleared : cells₁ ≡ replicate (length cells) 0) where
     zeros : cells₁ ≡ replicate ((length cells / cellWidth) * cellWidth) 0
     zeros = cleared ∙ ap (λ (n : ℕ). replicate n 0) bytes
@@ -204,10 +178,10 @@ module _ (graph inputs picks ledger cells : List ℕ) (accepted : check graph in
           let r = reached-picks M (firstState inputs (length cells / cellWidth)) budget ps in
           reached-good M (lawful graph graph-passed (length ledger / tokenWidth) (length cells / cellWidth)) (firstState inputs (length cells / cellWidth)) good-start (r .done) (r .sent) (e .state) (r .reached) .cellCount
 
-      pub as-lent : (r : Answer) (ledger′ cells′ : List ℕ) → Left (endOf (graphOf graph) ledger₁ cells₁ used budget ps) r ledger₁ cells₁ ledger′ cells′ → Left e r ledger cells ledger′ cells′
-      as-lent r ledger′ cells′ l = go (subst (λ (x : End Refusal Tag ℤ). Left x r ledger₁ cells₁ ledger′ cells′) same-end l)
+      pub as-lent : (r : Answer) (ledger′ cells′ : List ℕ) → EndedAt (endOf (graphOf graph) ledger₁ cells₁ used budget ps) r ledger₁ cells₁ ledger′ cells′ → EndedAt e r ledger cells ledger′ cells′
+      as-lent r ledger′ cells′ l = go (subst (λ (x : End Refusal Tag ℤ). EndedAt x r ledger₁ cells₁ ledger′ cells′) same-end l)
         where
-          go : Left e r ledger₁ cells₁ ledger′ cells′ → Left e r ledger cells ledger′ cells′
+          go : EndedAt e r ledger₁ cells₁ ledger′ cells′ → EndedAt e r ledger cells ledger′ cells′
           go h =
               let ts = map tokenRecord (e .state .tokens) in
               let cs = map cellRecord (e .state .cells) in

@@ -18,7 +18,7 @@ use Rattle.buffer.proofs.Tables.{getD-rows}
 use Rattle.record.specs.Widths.{tokenWidth, cellWidth}
 use Rattle.store_flags.specs.Flags.{places, flagsOf}
 use Rattle.store.proofs.Laws.{matching-places, matching-enabled-below, matching-leads}
-use Rattle.load.specs.Accept.{headOr0}
+use Rattle.load.specs.Loaded.{headOr0}
 use Rattle.load.proofs.Laws.{head-drop}
 use Rattle.store_enabled.specs.Enabled.{leads, enabledPlaces}
 use Rattle.machine.specs.Machine.{Machine, State, Activity, completed, budgetSpent, enabled, firstPick, laterPicks, pickOf, byPicks, runBy, end, fire, fired, notFired}
@@ -27,7 +27,8 @@ use Rattle.machine.proofs.Orders.{runEmpty, runZero, runFired, runRefused}
 use Rattle.rules.specs.declared.answer.Refusal.{Refusal}
 use Rattle.rules.specs.declared.answer.Outcome.the-variants as Outcomes
 use Rattle.rules.specs.Run.{picksOf}
-use Rattle.abstraction.specs.Held.{noToken, Arities}
+use Rattle.abstraction.specs.States.{noToken}
+use Rattle.abstraction.specs.Tables.{Arities}
 use Rattle.abstraction.proofs.Enabled.{held-enabled}
 use Rattle.fire_outputs.specs.Outputs.{cellsIn}
 use Rattle.fire.proofs.Place.{on-ports}

@@ -47,7 +47,7 @@ Turned (Turns.Ended o) g picks tables links flags ledger′ cells′ used ledger
     Halted o g picks tables links flags ledger′ cells′ used ledger cells
 
 -- what a run that came to this end answers, and leaves in ledger and cells
-pub record Left (e : End Refusal Tag ℤ) (r : Answer) (ledger cells ledger′ cells′ : List ℕ) : Type 0 where
+pub record EndedAt (e : End Refusal Tag ℤ) (r : Answer) (ledger cells ledger′ cells′ : List ℕ) : Type 0 where
   pub answered : r ≡ record { outcome = outcomeOf (e .outcome); firings = e .firings; tokens = length (e .state .tokens) }
   pub ledgerLeft : ledger′ ≡ ledgerOf (map tokenRecord (e .state .tokens)) ledger
   pub cellsLeft : cells′ ≡ writtenOver Cells.encode (map cellRecord (e .state .cells)) cells

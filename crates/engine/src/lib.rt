@@ -15,7 +15,7 @@ ghost use Rattle.rules.specs.declared.answer.Checked.the-variants.{Passed};
 ghost use Rattle.rules.specs.Check.{checkGraph, check};
 ghost use Rattle.rules.specs.Run.{picksOf, firstState, result, Ran};
 ghost use Rattle.fire.specs.Running.{machineFor, Prepared, Running};
-ghost use Rattle.engine.specs.Turns.{Turned, Left, restOutcome, endOf};
+ghost use Rattle.engine.specs.Turns.{Turned, EndedAt, restOutcome, endOf};
 
 // What a turn of a run comes to: an activity fired and left so many tokens, or the run is at its end.
 pub enum Turn {
@@ -76,7 +76,7 @@ fn proceed(
     start: usize,
 ) -> Answer
     requires { ⌜ Prepared (now graph) (now tables) × Running (graphOf (now graph)) (now tables) (now links) (now flags) (now ledger) (now cells) start ⌝ }
-    ensures { λ r. ⌜ Left (endOf (graphOf (now (graph .entry))) (now (ledger .entry)) (now (cells .entry)) start budget (picksOf (now (picks .entry)))) r (now (ledger .entry)) (now (cells .entry)) (now (ledger .exit)) (now (cells .exit)) ⌝ }
+    ensures { λ r. ⌜ EndedAt (endOf (graphOf (now (graph .entry))) (now (ledger .entry)) (now (cells .entry)) start budget (picksOf (now (picks .entry)))) r (now (ledger .entry)) (now (cells .entry)) (now (ledger .exit)) (now (cells .exit)) ⌝ }
 {
     let mut used = start;
     let mut firings = 0;
@@ -124,7 +124,7 @@ fn accepted(
     cells: &mut [u8],
 ) -> Answer
     requires { ⌜ check (now graph) (now inputs) (now picks) (length (now ledger)) (length (now cells)) ≡ Passed ⌝ }
-    ensures { λ r. ⌜ Left (Machine·run (machineFor (graphOf (now (graph .entry))) (now (ledger .entry)) (now (cells .entry))) budget (picksOf (now (picks .entry))) (firstState (now (inputs .entry)) (length (now (cells .entry)) / cellWidth))) r (now (ledger .entry)) (now (cells .entry)) (now (ledger .exit)) (now (cells .exit)) ⌝ }
+    ensures { λ r. ⌜ EndedAt (Machine·run (machineFor (graphOf (now (graph .entry))) (now (ledger .entry)) (now (cells .entry))) budget (picksOf (now (picks .entry))) (firstState (now (inputs .entry)) (length (now (cells .entry)) / cellWidth))) r (now (ledger .entry)) (now (cells .entry)) (now (ledger .exit)) (now (cells .exit)) ⌝ }
 {
     let mut tables = [0u16; 512];
     let mut links = [0u16; 9216];

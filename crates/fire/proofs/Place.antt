@@ -29,10 +29,10 @@ use Rattle.store_enabled.proofs.Places.{first-place, lower-first, lower-second}
 use Rattle.store_enabled.proofs.Store.{all-at}
 use Rattle.rules.specs.Check.{instructionAt, operandsAt}
 use Rattle.rules.specs.InstructionSet.{arityIn}
-use Rattle.abstraction.specs.Held.{noToken, OnPorts}
+use Rattle.abstraction.specs.States.{noToken, OnPorts}
 use Rattle.abstraction.proofs.Keys.{search-at, stands-tag, stands-port}
 use Rattle.fire_operands.specs.Operands.{Earliest}
-use Rattle.fire_operands.proofs.Held.{Places}
+use Rattle.fire_operands.proofs.AsMachine.{Places}
 use Rattle.fire.specs.Running.{Arrived, Running, Prepared}
 
 on-port : (g : List Instruction) (t : Token) → t .port < operandsAt g (t .tag .instruction) → 0 < arityIn g (t .tag) → t .port < arityIn g (t .tag)
@@ -55,7 +55,7 @@ module _ {graph tables links flags ledger cells : List ℕ} {used : ℕ} (ready 
       let ts = tokens used ledger in
       let there : getD ts place noToken ≡ t = getD-rows tokenWidth decode used place ledger noToken within ∙ sym e in
       let inside : place < length ts = omega (arith, length-rows tokenWidth decode used ledger) in
-      let arity : a ≡ arityIn (graphOf graph) (t .tag) = f ∙ ready .aritiesRight (t .tag) .0 in
+      let arity : a ≡ arityIn (graphOf graph) (t .tag) = f ∙ ready .aritiesRight (t .tag) in
       let here = all-at (λ (u : Token). 0 < arityIn (graphOf graph) (u .tag) → u .port < arityIn (graphOf graph) (u .tag)) ts place noToken inside (on-ports (graphOf graph) ts (now .arrived)) in
       let lead : leads tables ts place t ≡ true = subst (λ (u : Token). leads tables ts place u ≡ true) (sym e) first in
       record {

@@ -37,21 +37,22 @@ use Rattle.fire_effect.specs.declared.operate.Effect.{Effect}
 use Rattle.fire_effect.specs.declared.operate.Effect.the-variants.{Refuse, Act}
 use Rattle.fire_effect.specs.declared.operate.Action.{Action}
 use Rattle.fire_effect.specs.declared.operate.Action.the-variants.{Send, Read, Write}
-use Rattle.fire_effect.specs.Held.{keyHeld, keysHeld, keysOf, actionHeld, effectHeld, Arrives, AllSent, Effected}
+use Rattle.fire_effect.specs.Effects.{keyHeld, keysHeld, keysOf, actionHeld, effectHeld, Arrives, AllSent, Effected}
 use Rattle.fire_effect.proofs.Arrives.{arrives-port, arrives-inside}
 use Rattle.fire_effect.proofs.Does.{records}
-use Rattle.abstraction.specs.Held.{noToken, stateHeld}
+use Rattle.abstraction.proofs.Arities.{arity-small}
+use Rattle.abstraction.specs.States.{noToken, stateHeld}
 use Rattle.fire_operands.specs.declared.Admitted.{Admitted}
 use Rattle.fire_operands.specs.declared.Admitted.the-variants.{Yes, No}
 use Rattle.fire_operands.specs.declared.Matched.{Matched}
 use Rattle.fire_operands.specs.declared.Matched.the-variants.{Both, Missing}
 use Rattle.fire_operands.specs.Operands.{matchedAt, admittedOf}
-use Rattle.fire_operands.proofs.Held.{valuesOf, Places, matched-places, held-operands}
-use Rattle.fire_outputs.specs.Outputs.{spendOne, spentAt, outputsBy, outputsOf, LowPortsBy, cellsIn, OnCells, contentBy, wokenBy, writesAgain, Kept, CellsKept, Lent}
+use Rattle.fire_operands.proofs.AsMachine.{valuesOf, Places, matched-places, held-operands}
+use Rattle.fire_outputs.specs.Outputs.{spendOne, spentAt, outputsBy, outputsOf, LowPortsBy, cellsIn, OnCells, contentBy, wokenBy, writesAgain, Kept, CellsKept, Fireable}
 use Rattle.fire_commit.specs.declared.Fired.{Fired}
 use Rattle.fire_commit.specs.declared.Fired.the-variants as Fires
-use Rattle.fire_commit.specs.Commit.{Committed, done, refused, ifAdmitted, committedOf, Left, Fitting}
-use Rattle.fire_commit.proofs.Held.{firedOf, commit-held}
+use Rattle.fire_commit.specs.Commit.{Committed, done, refused, ifAdmitted, committedOf, CommittedTo, Fitting}
+use Rattle.fire_commit.proofs.AsMachine.{firedOf, commit-held}
 use Rattle.fire.proofs.Place.{operands-here}
 use Rattle.fire.specs.Running.{machineFor, stateIn, Arrived, Running, Went, Stopped, Stepped, Prepared}
 
@@ -246,13 +247,13 @@ module _ (graph : List ℕ) (passed : checkGraph graph ≡ Passed) {tables links
           sameCells = c;
         }
 
-        pub stepped : (r : Fired) → Left r (committedOf (length ledger / tokenWidth) (tokens used ledger) (cellsIn cells) i j e) tables links′ flags′ ledger′ cells′ used ledger cells
+        pub stepped : (r : Fired) → CommittedTo r (committedOf (length ledger / tokenWidth) (tokens used ledger) (cellsIn cells) i j e) tables links′ flags′ ledger′ cells′ used ledger cells
             → Stepped r (graphOf graph) τ tables links′ flags′ ledger′ cells′ used ledger cells
         stepped r h = go r (committedOf (length ledger / tokenWidth) (tokens used ledger) (cellsIn cells) i j e) fire-committed
             (grown (graphOf graph) (tokens used ledger) (now .arrived) i j (length ledger / tokenWidth) (cellsIn cells) e (does .arrives)) h
           where
             go : (q : Fired) (x : Committed) → fire M s τ ≡ firedOf x → Grown (graphOf graph) (length (tokens used ledger)) x
-                → Left q x tables links′ flags′ ledger′ cells′ used ledger cells → Stepped q (graphOf graph) τ tables links′ flags′ ledger′ cells′ used ledger cells
+                → CommittedTo q x tables links′ flags′ ledger′ cells′ used ledger cells → Stepped q (graphOf graph) τ tables links′ flags′ ledger′ cells′ used ledger cells
             go (Fires.Done n) (done us ds) f a l = went n us ds f a (l .0) (l .1)
             go (Fires.Done n) (refused q) f a l = absurd l
             go (Fires.Refused q) (done us ds) f a l = absurd l
@@ -285,15 +286,15 @@ module _ (graph : List ℕ) {tables links flags ledger cells : List ℕ} {used :
   matched-here t a m e f q =
       sym
       (q
-      ∙ ap (λ (n : ℕ). matchedAt n (tokens used ledger) (t .tag)) (f ∙ ready .aritiesRight (t .tag) .0)
+      ∙ ap (λ (n : ℕ). matchedAt n (tokens used ledger) (t .tag)) (f ∙ ready .aritiesRight (t .tag))
       ∙ ap (λ (u : Record.Token). matchedAt (arityIn (graphOf graph) (u .tag)) (tokens used ledger) (u .tag)) e)
 
   -- what commit is lent
   pub lent-here : (i j : ℕ) (v w : ℤ) → matchedAt (arityIn (graphOf graph) (tokenAt ledger place .tag)) (tokens used ledger) (tokenAt ledger place .tag) ≡ Both i j v w
-      → Lent tables links flags ledger cells used i j
+      → Fireable tables links flags ledger cells used i j
   lent-here i j v w e =
       let τ = tokenAt ledger place .tag in
-      let p = matched-places (tokens used ledger) τ (arityIn (graphOf graph) τ) (ready .aritiesRight τ .1) e in
+      let p = matched-places (tokens used ledger) τ (arityIn (graphOf graph) τ) (arity-small (graphOf graph) τ) e in
       record {
         matching = now .matching;
         few = now .few;
@@ -306,7 +307,7 @@ module _ (graph : List ℕ) {tables links flags ledger cells : List ℕ} {used :
       → matchedAt (arityIn (graphOf graph) (tokenAt ledger place .tag)) (tokens used ledger) (tokenAt ledger place .tag) ≡ Both i j v w
       → (a b : ℤ) → a ≡ v → b ≡ w → (e : Effect) → Effected (graphOf graph) (length cells / cellWidth) (t .tag) a b e
       → (links′ flags′ ledger′ cells′ : List ℕ) (r : Fired)
-      → Left r (committedOf (length ledger / tokenWidth) (tokens used ledger) (cellsIn cells) i j e) tables links′ flags′ ledger′ cells′ used ledger cells
+      → CommittedTo r (committedOf (length ledger / tokenWidth) (tokens used ledger) (cellsIn cells) i j e) tables links′ flags′ ledger′ cells′ used ledger cells
       → Stepped r (graphOf graph) (tokenAt ledger place .tag) tables links′ flags′ ledger′ cells′ used ledger cells
   stepped-here t same i j v w matched a b p q e does links′ flags′ ledger′ cells′ r left =
       let τ = tokenAt ledger place .tag in
@@ -314,4 +315,4 @@ module _ (graph : List ℕ) {tables links flags ledger cells : List ℕ} {used :
       subst (λ (y : ℤ). Effected (graphOf graph) (length cells / cellWidth) τ v y e) q
       (subst (λ (x : ℤ). Effected (graphOf graph) (length cells / cellWidth) τ x b e) p
       (subst (λ (u : Record.Token). Effected (graphOf graph) (length cells / cellWidth) (u .tag) a b e) same does)) in
-      stepped graph (ready .passed) now τ (ready .aritiesRight τ .1) i j v w matched e does′ links′ flags′ ledger′ cells′ r left
+      stepped graph (ready .passed) now τ (arity-small (graphOf graph) τ) i j v w matched e does′ links′ flags′ ledger′ cells′ r left

@@ -17,8 +17,8 @@ use Rattle.rules.specs.declared.answer.Refusal.{Refusal}
 use Rattle.rules.specs.declared.answer.Checked.the-variants.{Passed}
 use Rattle.rules.specs.Check.{operandsAt, checkGraph}
 use Rattle.rules.specs.InstructionSet.{machineOf}
-use Rattle.abstraction.specs.Held.{stateHeld, Arities}
-use Rattle.fire_effect.specs.Held.{Returns}
+use Rattle.abstraction.specs.States.{stateHeld}
+use Rattle.abstraction.specs.Tables.{Arities, Returns}
 use Rattle.store.specs.Matching.{Matching}
 use Rattle.fire_outputs.specs.Outputs.{cellsIn, CellStore}
 use Rattle.fire_commit.specs.declared.Fired.{Fired}
@@ -68,5 +68,5 @@ Stepped (Fires.Refused r) g τ tables links flags ledger′ cells′ used ledger
 -- what a run has of its graph: it passed the check, and the tables made of it are right
 pub record Prepared (graph tables : List ℕ) : Type 0 where
   pub passed : checkGraph graph ≡ Passed
-  pub returnsRight : Returns tables (graphOf graph)
+  pub returnsRight : Returns (graphOf graph) tables
   pub aritiesRight : Arities (graphOf graph) tables

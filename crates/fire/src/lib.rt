@@ -1,6 +1,7 @@
 // A firing, in the order of Memo 205-1: matching, instruction fetch, operation, new tags, output.
 use fire_commit::Fired;
 use fire_operands::Matched;
+use fire_outputs::Places;
 use record::cell;
 use record::token;
 use rules::answer::Refusal;
@@ -44,15 +45,6 @@ pub fn fire(
     // Instruction fetch, operation and new tags.
     let effect = fire_effect::effect(graph, tables, cells.len() / cell::WIDTH, tag, left, right);
     // Output.
-    fire_commit::commit(
-        tables,
-        links,
-        flags,
-        ledger,
-        cells,
-        used,
-        first,
-        second,
-        effect,
-    )
+    let operands = Places { first, second };
+    fire_commit::commit(tables, links, flags, ledger, cells, used, operands, effect)
 }

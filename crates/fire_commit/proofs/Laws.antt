@@ -26,8 +26,8 @@ use Rattle.fire_effect.specs.declared.operate.Action.{Action}
 use Rattle.fire_operands.specs.declared.Admitted.{Admitted}
 use Rattle.fire_operands.specs.declared.Admitted.the-variants.{Yes, No}
 use Rattle.fire_operands.specs.Operands.{isFound, isTaken, sameKeys, anyTakenOf, admittedOf}
-use Rattle.fire_outputs.specs.Outputs.{spentAt, tokenOut, outputsOf, FreeKeysBy, FreeKeys, contentBy, cellsBy, wokenBy, writesAgain, Kept, CellsKept, Lent}
-use Rattle.fire_commit.specs.Commit.{Committed, done, refused, ifAdmitted, committedOf, Left}
+use Rattle.fire_outputs.specs.Outputs.{spentAt, tokenOut, outputsOf, FreeKeysBy, FreeKeys, contentBy, cellsBy, wokenBy, writesAgain, Kept, CellsKept, Fireable}
+use Rattle.fire_commit.specs.Commit.{Committed, done, refused, ifAdmitted, committedOf, CommittedTo}
 use Rattle.fire_commit.specs.declared.Fired.the-variants as Fires
 
 -- ---- the outputs of an admitted firing have room
@@ -109,11 +109,11 @@ effect-refused capacity ts cs i j p = rw p
 -- ---- the code's answer
 
 -- nothing was written
-pub left-refused : {tables links flags ledger cells : List ℕ} {used i j : ℕ} → Lent tables links flags ledger cells used i j
-    → {x : Committed} {r : Refusal} → x ≡ refused r → Left (Fires.Refused r) x tables links flags ledger cells used ledger cells
+pub left-refused : {tables links flags ledger cells : List ℕ} {used i j : ℕ} → Fireable tables links flags ledger cells used i j
+    → {x : Committed} {r : Refusal} → x ≡ refused r → CommittedTo (Fires.Refused r) x tables links flags ledger cells used ledger cells
 left-refused l e = rw e (refl, refl, refl, l .matching)
 
 pub left-done : {tables links flags ledger′ cells′ : List ℕ} (used : ℕ) {n m : ℕ} {ts : List Token} {cs : List Cell} {ledger cells : List ℕ} {x : Committed}
     → x ≡ done ts cs → n ≡ m → Kept tables links flags ledger′ m ts ledger → CellsKept cells′ cs cells
-    → Left (Fires.Done n) x tables links flags ledger′ cells′ used ledger cells
+    → CommittedTo (Fires.Done n) x tables links flags ledger′ cells′ used ledger cells
 left-done used e p k c = rw (e, p) (k, c)

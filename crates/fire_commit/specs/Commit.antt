@@ -36,12 +36,12 @@ committedOf capacity ts cs i j (Act a o) =
     (ifAdmitted (admittedOf capacity ts o) (done (wokenBy a (spentAt i j ts) ++ outputsOf (contentBy a cs) o) (cellsBy a cs)))
 
 -- the code's answer is that of the definition: done with so many tokens, or refused with ledger and cells as they were
-abbrev pub Left : Fired → Committed → (tables links flags ledger′ cells′ : List ℕ) → (used : ℕ) → (ledger cells : List ℕ) → Type 0
-Left (Fires.Done n) (done ts cs) tables links flags ledger′ cells′ used ledger cells =
+abbrev pub CommittedTo : Fired → Committed → (tables links flags ledger′ cells′ : List ℕ) → (used : ℕ) → (ledger cells : List ℕ) → Type 0
+CommittedTo (Fires.Done n) (done ts cs) tables links flags ledger′ cells′ used ledger cells =
     Kept tables links flags ledger′ n ts ledger × CellsKept cells′ cs cells
-Left (Fires.Done n) (refused r) tables links flags ledger′ cells′ used ledger cells = ⊥
-Left (Fires.Refused r) (done ts cs) tables links flags ledger′ cells′ used ledger cells = ⊥
-Left (Fires.Refused r) (refused q) tables links flags ledger′ cells′ used ledger cells =
+CommittedTo (Fires.Done n) (refused r) tables links flags ledger′ cells′ used ledger cells = ⊥
+CommittedTo (Fires.Refused r) (done ts cs) tables links flags ledger′ cells′ used ledger cells = ⊥
+CommittedTo (Fires.Refused r) (refused q) tables links flags ledger′ cells′ used ledger cells =
     (r ≡ q) × (ledger′ ≡ ledger) × (cells′ ≡ cells) × Matching tables links flags ledger′ used
 
 -- the outputs of an effect are few and at low ports, and its cell is one of the store

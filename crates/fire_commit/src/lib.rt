@@ -3,13 +3,14 @@ use fire_effect::operate::Action;
 use fire_effect::operate::Effect;
 use fire_effect::output::Outputs;
 use fire_operands::Admitted;
+use fire_outputs::Places;
 use rules::answer::Refusal;
 ghost use Prim.Native.Nat.{_/_};
 ghost use lib.ListN.{length};
 ghost use Rattle.record.specs.TokensAndTags.{tokens};
 ghost use Rattle.record.specs.Widths.{tokenWidth, cellWidth};
-ghost use Rattle.fire_outputs.specs.Outputs.{cellsIn, Lent};
-ghost use Rattle.fire_commit.specs.Commit.{committedOf, Left, Fitting};
+ghost use Rattle.fire_outputs.specs.Outputs.{cellsIn, Fireable};
+ghost use Rattle.fire_commit.specs.Commit.{committedOf, CommittedTo, Fitting};
 
 // What comes of a firing: the number of tokens in the ledger after it, or its refusal.
 pub enum Fired {
@@ -25,13 +26,12 @@ fn act(
     ledger: &mut [u8],
     cells: &mut [u8],
     used: usize,
-    first: usize,
-    second: usize,
+    operands: Places,
     action: Action,
     sent: Outputs,
 ) -> Fired
-    requires { ⌜ Lent (now tables) (now links) (now flags) (now ledger) (now cells) used first second × Fitting (length (now cells) / cellWidth) (Effect.Act action sent) ⌝ }
-    ensures { λ r. ⌜ Left r (committedOf (length (now (ledger .entry)) / tokenWidth) (tokens used (now (ledger .entry))) (cellsIn (now (cells .entry))) first second (Effect.Act action sent)) (now (tables .entry)) (now (links .exit)) (now (flags .exit)) (now (ledger .exit)) (now (cells .exit)) used (now (ledger .entry)) (now (cells .entry)) ⌝ }
+    requires { ⌜ Fireable (now tables) (now links) (now flags) (now ledger) (now cells) used (operands .first) (operands .second) × Fitting (length (now cells) / cellWidth) (Effect.Act action sent) ⌝ }
+    ensures { λ r. ⌜ CommittedTo r (committedOf (length (now (ledger .entry)) / tokenWidth) (tokens used (now (ledger .entry))) (cellsIn (now (cells .entry))) (operands .first) (operands .second) (Effect.Act action sent)) (now (tables .entry)) (now (links .exit)) (now (flags .exit)) (now (ledger .exit)) (now (cells .exit)) used (now (ledger .entry)) (now (cells .entry)) ⌝ }
 {
     if fire_outputs::writes_again(cells, action) {
         return Fired::Refused(Refusal::SecondWrite);
@@ -46,8 +46,7 @@ fn act(
             ledger,
             cells,
             used,
-            first,
-            second,
+            operands,
             action,
             sent,
         )),
@@ -62,12 +61,11 @@ pub fn commit(
     ledger: &mut [u8],
     cells: &mut [u8],
     used: usize,
-    first: usize,
-    second: usize,
+    operands: Places,
     effect: Effect,
 ) -> Fired
-    requires { ⌜ Lent (now tables) (now links) (now flags) (now ledger) (now cells) used first second × Fitting (length (now cells) / cellWidth) effect ⌝ }
-    ensures { λ r. ⌜ Left r (committedOf (length (now (ledger .entry)) / tokenWidth) (tokens used (now (ledger .entry))) (cellsIn (now (cells .entry))) first second effect) (now (tables .entry)) (now (links .exit)) (now (flags .exit)) (now (ledger .exit)) (now (cells .exit)) used (now (ledger .entry)) (now (cells .entry)) ⌝ }
+    requires { ⌜ Fireable (now tables) (now links) (now flags) (now ledger) (now cells) used (operands .first) (operands .second) × Fitting (length (now cells) / cellWidth) effect ⌝ }
+    ensures { λ r. ⌜ CommittedTo r (committedOf (length (now (ledger .entry)) / tokenWidth) (tokens used (now (ledger .entry))) (cellsIn (now (cells .entry))) (operands .first) (operands .second) effect) (now (tables .entry)) (now (links .exit)) (now (flags .exit)) (now (ledger .exit)) (now (cells .exit)) used (now (ledger .entry)) (now (cells .entry)) ⌝ }
 {
     match effect {
         Effect::Refuse(r) => Fired::Refused(r),
@@ -78,8 +76,7 @@ pub fn commit(
             ledger,
             cells,
             used,
-            first,
-            second,
+            operands,
             action,
             sent,
         ),

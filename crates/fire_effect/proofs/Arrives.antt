@@ -36,7 +36,7 @@ use Rattle.rules.specs.declared.answer.Refusal.the-variants as Refusals
 use Rattle.rules.specs.declared.answer.Checked.the-variants.{Passed}
 use Rattle.rules.specs.Check.{all, goodArc, instructionAt, operandsAt, checkGraph}
 use Rattle.rules.specs.InstructionSet.{EffectHere, keyUnder, allUnder, sideOf, sendComputed, sendNext, sendEntered, sendReturned, sendLeft, returnOf, onCell, effectOf, effectIn}
-use Rattle.fire_effect.specs.Held.{Arrives, AllSent}
+use Rattle.fire_effect.specs.Effects.{Arrives, AllSent}
 use Rattle.rules.proofs.Passed.{both}
 use Rattle.rules.proofs.PassedGraph.{Good, of-graph, two-operands}
 use Rattle.fire_effect.proofs.Passed.{switch-two, enter-two}

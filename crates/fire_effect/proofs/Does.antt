@@ -30,7 +30,8 @@ use Rattle.fire_effect.specs.declared.operate.Effect.{Effect}
 use Rattle.fire_effect.specs.declared.operate.Effect.the-variants.{Refuse, Act}
 use Rattle.fire_effect.specs.declared.operate.Action.the-variants.{Send, Read, Write}
 use Rattle.fire_effect.specs.declared.operate.Named.the-variants.{Cell, NoSuchCell}
-use Rattle.fire_effect.specs.Held.{keyHeld, keysHeld, keysOf, Sends, Does, namedOf, entryOf}
+use Rattle.fire_effect.specs.Effects.{keyHeld, keysHeld, keysOf, Sends, Does, namedOf}
+use Rattle.abstraction.specs.Tables.{entryOf}
 
 abbrev pub Clash : Type 0
 Clash = _≡_ {A = ℕ} 0 1

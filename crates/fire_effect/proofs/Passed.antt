@@ -16,7 +16,8 @@ use Rattle.rules.specs.declared.answer.Checked.the-variants.{Passed}
 use Rattle.rules.specs.Check.{instructionAt, checkGraph}
 use Rattle.rules.proofs.Passed.{both}
 use Rattle.rules.proofs.PassedGraph.{Good, of-graph, at-most, said-of, least-fan-out, enter-site, leave-site}
-use Rattle.fire_effect.specs.Held.{Returns, Ready}
+use Rattle.abstraction.specs.Tables.{Returns}
+use Rattle.fire_effect.specs.Effects.{Ready}
 use Rattle.fire_effect.proofs.Does.{both-used, records}
 
 module _ {g : List Instruction} {i : ℕ} {r : Instruction} (good : Good g i r) where
@@ -36,7 +37,7 @@ module _ (graph : List ℕ) (i : ℕ) (inside : i < length graph / graphWidth) w
   unfolding instructionAt
   in-bytes = getD-rows graphWidth Graph.decode (length graph / graphWidth) i graph (Graph.decode []) inside
 
-  pub ready : (returns : List ℕ) → checkGraph graph ≡ Passed → Returns returns (graphOf graph) → Ready graph returns (instructionIn graph i)
-  ready returns passed table =
+  pub ready : (tables : List ℕ) → checkGraph graph ≡ Passed → Returns (graphOf graph) tables → Ready graph tables (instructionIn graph i)
+  ready tables passed right =
       let good : Good (graphOf graph) i (instructionIn graph i) = rw in-bytes at (of-graph graph passed i (rw (records graph) inside)) in
-      record { records = at-most graph passed; table = table; ofEnter = enter-site good; ofLeave = leave-site good }
+      record { records = at-most graph passed; returns = right; ofEnter = enter-site good; ofLeave = leave-site good }

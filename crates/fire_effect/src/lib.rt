@@ -14,7 +14,8 @@ ghost use Rattle.record.specs.GraphRecords.{graphOf};
 ghost use Rattle.record.specs.Widths.{graphWidth};
 ghost use Rattle.rules.specs.declared.answer.Checked.the-variants.{Passed};
 ghost use Rattle.rules.specs.Check.{checkGraph};
-ghost use Rattle.fire_effect.specs.Held.{Effected, Returns};
+ghost use Rattle.abstraction.specs.Tables.{Returns};
+ghost use Rattle.fire_effect.specs.Effects.{Effected};
 
 // The effect of the activity of a tag, whose operands on ports 0 and 1 are a and b: instruction fetch,
 // operation, new tags, outputs. `tables` has the return instruction of each site. The graph has passed
@@ -22,7 +23,7 @@ ghost use Rattle.fire_effect.specs.Held.{Effected, Returns};
 // 16 bits.
 pub fn effect(graph: &[u8], tables: &[u16; 512], cells: usize, tag: Tag, a: i32, b: i32) -> Effect
     requires { ⌜ checkGraph (now graph) ≡ Passed ⌝ }
-    requires { ⌜ Returns (now tables) (graphOf (now graph)) ⌝ }
+    requires { ⌜ Returns (graphOf (now graph)) (now tables) ⌝ }
     requires { ⌜ tag .instruction < length (now graph) / graphWidth ⌝ }
     ensures { λ e. ⌜ Effected (graphOf (now (graph .entry))) cells tag a b e ⌝ }
 {

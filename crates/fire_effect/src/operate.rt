@@ -25,7 +25,8 @@ ghost use Rattle.record.specs.Widths.{graphWidth};
 ghost use Rattle.rules.specs.Check.{within};
 ghost use Rattle.rules.specs.InstructionSet.{keyUnder, allUnder, sideOf, sendComputed, sendNext, sendEntered, sendReturned, sendLeft, onCell, effectOf};
 ghost use Rattle.machine.specs.Machine as Machine;
-ghost use Rattle.fire_effect.specs.Held.{Does, Returns, entryOf, namedOf, Ready};
+ghost use Rattle.abstraction.specs.Tables.{Returns, entryOf};
+ghost use Rattle.fire_effect.specs.Effects.{Does, namedOf, Ready};
 
 // What an instruction does beside spending its operands.
 pub enum Action {
@@ -148,7 +149,7 @@ fn returned(a: i32, graph: &[u8], entry: u16, k: u8, caller: Tag) -> Effect
 // LEAVE. 15: "LEAVE at path 0".
 fn leave(a: i32, graph: &[u8], tables: &[u16; 512], tag: Tag, r: Instruction) -> Effect
     requires { ⌜ length (now graph) / graphWidth ≤ 256 ⌝ }
-    requires { ⌜ Returns (now tables) (graphOf (now graph)) ⌝ }
+    requires { ⌜ Returns (graphOf (now graph)) (now tables) ⌝ }
     requires { ⌜ within 0 255 (r .constant) ≡ true ⌝ }
     ensures { λ e. ⌜ Does e (sendLeft (graphOf (now (graph .entry))) (leaveOf tag) r a) ⌝ }
 {

@@ -5,7 +5,7 @@ use record::tag::Tag;
 ghost use mathlib.Core.Path.{_≡_};
 ghost use mathlib.Core.List.{[], _∷_};
 ghost use Rattle.rules.specs.InstructionSet.{keyUnder, allUnder};
-ghost use Rattle.fire_effect.specs.Held.{keyHeld, Sends};
+ghost use Rattle.fire_effect.specs.Effects.{keyHeld, Sends};
 
 pub struct Key {
     pub tag: Tag,

@@ -18,7 +18,7 @@ use Rattle.store_enabled.specs.Enabled.{tagSame, placeOf}
 use Rattle.store_enabled.specs.Store.{Known}
 use Rattle.store_enabled.proofs.Places.{stands-tag, stands-other}
 use Rattle.store_enabled.proofs.Store.{all-at}
-use Rattle.abstraction.specs.Held.{noToken}
+use Rattle.abstraction.specs.States.{noToken}
 use Rattle.fire_operands.specs.declared.Operand.{Operand}
 use Rattle.fire_operands.specs.declared.Operand.the-variants.{Live, Missing}
 use Rattle.fire_operands.specs.Operands.{operandOf, operandFound, operandAt, one, two, Earliest, matchedAt}

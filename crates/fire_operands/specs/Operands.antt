@@ -16,7 +16,7 @@ use Rattle.store_chains.specs.declared.Found.{Found}
 use Rattle.store_chains.specs.declared.Found.the-variants as Search
 use Rattle.store_chains.specs.Search.{firstFrom}
 use Rattle.store_enabled.specs.Enabled.{placeOf}
-use Rattle.abstraction.specs.Held.{noToken}
+use Rattle.abstraction.specs.States.{noToken}
 use Rattle.fire_effect.specs.declared.output.Key.{Key}
 use Rattle.fire_effect.specs.declared.output.Outputs.{Outputs}
 use Rattle.rules.specs.declared.answer.Refusal.the-variants.{LedgerFull, SecondToken}

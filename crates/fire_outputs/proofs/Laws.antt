@@ -37,7 +37,7 @@ use Rattle.fire_effect.specs.declared.output.Key.{Key}
 use Rattle.fire_effect.specs.declared.output.Outputs.{Outputs}
 use Rattle.fire_effect.specs.declared.operate.Action.{Action}
 use Rattle.fire_effect.specs.declared.operate.Action.the-variants.{Send, Read, Write}
-use Rattle.abstraction.specs.Held.{noToken}
+use Rattle.abstraction.specs.States.{noToken}
 use Rattle.fire_outputs.specs.Outputs.{spendOne, spentAt, tokenOut, outputsBy, LowPortsBy, FreeKeysBy, FreeKeys, cellsIn, CellStore, cellFetched, cellsFetched, contentFetched, isPresent, OnCells, contentBy, wokenBy, writesAgain, Kept, CellsKept}
 
 -- ---- one record of a table is replaced

@@ -26,7 +26,7 @@ use Rattle.machine.specs.Orders.{Distinct}
 use Rattle.machine.proofs.View.{noneSome, falseTrue}
 use Rattle.rules.specs.InstructionSet.{arityIn, machineOf}
 use Rattle.rules.specs.Run.{contentHeld, tokenHeld}
-use Rattle.abstraction.specs.Held.{noToken}
+use Rattle.abstraction.specs.States.{noToken}
 use Rattle.abstraction.proofs.Keys.{stands, StandsFirst, found-stands, none-stands, foundContent, held-find}
 use Rattle.abstraction.proofs.Enabled.{held-operand}
 use Rattle.fire_outputs.specs.Outputs.{spendOne, spentAt}

@@ -23,7 +23,7 @@ use Rattle.fire_effect.specs.declared.operate.Action.{Action}
 use Rattle.fire_effect.specs.declared.operate.Action.the-variants.{Send, Read, Write}
 use Rattle.fire_effect.specs.declared.output.Key.{Key}
 use Rattle.fire_effect.specs.declared.output.Outputs.{Outputs}
-use Rattle.abstraction.specs.Held.{noToken}
+use Rattle.abstraction.specs.States.{noToken}
 
 -- ---- the tokens
 
@@ -143,7 +143,7 @@ pub record CellsKept (cells′ : List ℕ) (cs : List Cell) (cells : List ℕ) :
   pub size : length cells′ ≡ length cells
 
 -- what a firing is lent, with the places of its operands
-pub record Lent (tables links flags ledger cells : List ℕ) (used i j : ℕ) : Type 0 where
+pub record Fireable (tables links flags ledger cells : List ℕ) (used i j : ℕ) : Type 0 where
   pub matching : Matching tables links flags ledger used
   pub few : length ledger / tokenWidth ≤ 2048
   pub activity : Operands ledger used i j

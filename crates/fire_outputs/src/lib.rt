@@ -17,7 +17,13 @@ ghost use Rattle.record.specs.Widths.{tokenWidth, cellWidth};
 ghost use Rattle.store_chains.specs.Search.{Free};
 ghost use Rattle.store_chains.specs.Deferred.{LowCell};
 ghost use Rattle.store.specs.Matching.{Matching};
-ghost use Rattle.fire_outputs.specs.Outputs.{Kept, CellStore, CellsKept, spentAt, tokenOut, outputsOf, LowPorts, FreeKeys, cellsIn, cellsFetched, contentFetched, OnCells, contentBy, cellsBy, wokenBy, writesAgain, Lent};
+ghost use Rattle.fire_outputs.specs.Outputs.{Kept, CellStore, CellsKept, spentAt, tokenOut, outputsOf, LowPorts, FreeKeys, cellsIn, cellsFetched, contentFetched, OnCells, contentBy, cellsBy, wokenBy, writesAgain, Fireable};
+
+// The places of an activity's operands in the ledger; where it has one operand, that place twice.
+pub struct Places {
+    pub first: usize,
+    pub second: usize,
+}
 
 // An output goes in as record `used`.
 fn append_one(
@@ -133,17 +139,16 @@ pub fn carry_out(
     ledger: &mut [u8],
     cells: &mut [u8],
     used: usize,
-    first: usize,
-    second: usize,
+    operands: Places,
     action: Action,
     outputs: Outputs,
 ) -> usize
-    requires { ⌜ Lent (now tables) (now links) (now flags) (now ledger) (now cells) used first second × (used + outputs .count ≤ length (now ledger) / tokenWidth) × (outputs .count ≤ 2) × LowPorts outputs × OnCells (length (now cells) / cellWidth) action × FreeKeys (tokens used (now ledger)) outputs ⌝ }
+    requires { ⌜ Fireable (now tables) (now links) (now flags) (now ledger) (now cells) used (operands .first) (operands .second) × (used + outputs .count ≤ length (now ledger) / tokenWidth) × (outputs .count ≤ 2) × LowPorts outputs × OnCells (length (now cells) / cellWidth) action × FreeKeys (tokens used (now ledger)) outputs ⌝ }
     ensures { λ r. ⌜ (r ≡ used + outputs .count) × Kept (now (tables .entry)) (now (links .exit)) (now (flags .exit)) (now (ledger .exit)) (used + outputs .count)
-        (wokenBy action (spentAt first second (tokens used (now (ledger .entry)))) ++ outputsOf (contentBy action (cellsIn (now (cells .entry)))) outputs) (now (ledger .entry))
+        (wokenBy action (spentAt (operands .first) (operands .second) (tokens used (now (ledger .entry)))) ++ outputsOf (contentBy action (cellsIn (now (cells .entry)))) outputs) (now (ledger .entry))
         × CellsKept (now (cells .exit)) (cellsBy action (cellsIn (now (cells .entry)))) (now (cells .entry)) ⌝ }
 {
-    store::spend_operands(flags, ledger, first, second);
+    store::spend_operands(flags, ledger, operands.first, operands.second);
     let content = change_cells(cells, action);
     wake(tables, links, flags, ledger, used, action);
     append_outputs(tables, links, flags, ledger, used, outputs, content)

@@ -5,13 +5,16 @@ use record::instruction;
 use record::instruction::Instruction;
 use record::operation;
 ghost use mathlib.Core.Path.{_≡_};
+ghost use Prim.Native.Nat.{_<_};
 ghost use lib.ListN.{length};
 ghost use mathlib.Core.Option.{some};
 ghost use Rattle.record.specs.GraphRecords.{graphOf};
 ghost use Rattle.record.specs.TokensAndTags.{rootOf};
 ghost use Rattle.rules.specs.InstructionSet.{arityIn};
 ghost use Rattle.check_fields.specs.Sites.{atSite};
-ghost use Rattle.graph_tables.specs.Tables.{Arities, Returns, returnEntry};
+ghost use Rattle.rules.specs.declared.answer.Checked.the-variants.{Passed};
+ghost use Rattle.rules.specs.Check.{checkGraph};
+ghost use Rattle.abstraction.specs.Tables.{Arities, Returns, entryOf};
 
 // How many operands an activity of instruction i waits for.
 fn arity_at(graph: &[u8], i: usize) -> u16
@@ -31,8 +34,8 @@ fn arity_at(graph: &[u8], i: usize) -> u16
 
 // The operand counts, behind the returns.
 fn arities(graph: &[u8], out: &mut [u16; 512])
-    requires { ⌜ length (now out) ≡ 512 ⌝ }
-    ensures { λ _. ⌜ Arities (graphOf (now (graph .entry))) (now (out .exit)) × (length (now (out .exit)) ≡ 512) ⌝ }
+    requires { ⌜ (checkGraph (now graph) ≡ Passed) × (length (now out) ≡ 512) ⌝ }
+    ensures { λ _. ⌜ Arities (graphOf (now (graph .entry))) (now (out .exit)) ⌝ }
     ensures { λ _. ⌜ (Returns (graphOf (now (graph .entry))) (now (out .entry)) → Returns (graphOf (now (graph .entry))) (now (out .exit))) ⌝ }
 {
     let mut i = 0;
@@ -42,16 +45,10 @@ fn arities(graph: &[u8], out: &mut [u16; 512])
     }
 }
 
-// An entry of the table of returns.
-fn entry(i: u16) -> u16
-    ensures { λ r. ⌜ r ≡ returnEntry (some i) ⌝ }
-{
-    if i < 65535 { i + 1 } else { 65535 }
-}
-
 // Puts the return of an ENTER into the table.
 fn note(out: &mut [u16; 512], r: Instruction)
-    ensures { λ _. ⌜ now (out .exit) ≡ atSite (now (out .entry)) r (returnEntry (some (r .second .instruction))) ⌝ }
+    requires { ⌜ (r .code ≡ 8 → r .second .instruction < 256) ⌝ }
+    ensures { λ _. ⌜ now (out .exit) ≡ atSite (now (out .entry)) r (entryOf (some (r .second .instruction))) ⌝ }
 {
     let back = r.second;
     if r.code != 8 {
@@ -59,12 +56,13 @@ fn note(out: &mut [u16; 512], r: Instruction)
     }
     let site = constant::small(r.constant);
     if site < 256 {
-        out[site] = entry(back.instruction);
+        out[site] = back.instruction + 1;
     }
 }
 
 // The returns. The records are gone through from the last to the first, since the first ENTER of a site counts.
 fn returns(graph: &[u8], out: &mut [u16; 512])
+    requires { ⌜ checkGraph (now graph) ≡ Passed ⌝ }
     ensures { λ _. ⌜ Returns (graphOf (now (graph .entry))) (now (out .exit)) × (length (now (out .exit)) ≡ 512) ⌝ }
 {
     *out = [0u16; 512];
@@ -75,9 +73,10 @@ fn returns(graph: &[u8], out: &mut [u16; 512])
     }
 }
 
-// Both tables.
+// Both tables, of a graph that passed its check.
 pub fn make(graph: &[u8], out: &mut [u16; 512])
-    ensures { λ _. ⌜ Arities (graphOf (now (graph .entry))) (now (out .exit)) × Returns (graphOf (now (graph .entry))) (now (out .exit)) × (length (now (out .exit)) ≡ 512) ⌝ }
+    requires { ⌜ checkGraph (now graph) ≡ Passed ⌝ }
+    ensures { λ _. ⌜ Arities (graphOf (now (graph .entry))) (now (out .exit)) × Returns (graphOf (now (graph .entry))) (now (out .exit)) ⌝ }
 {
     returns(graph, out);
     arities(graph, out);

@@ -10,7 +10,7 @@ use Rattle.record.specs.Cells.{CellFits}
 use Rattle.record.specs.declared.cell.Cell.the-variants.{Absent}
 use Rattle.record.proofs.Records.{cells-joined}
 use Rattle.record.specs.Widths.{cellWidth}
-use Rattle.load.specs.Accept.{headOr0, tailOf}
+use Rattle.load.specs.Loaded.{headOr0, tailOf}
 
 -- ---- cells of zeros are absent
 

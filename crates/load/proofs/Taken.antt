@@ -16,7 +16,7 @@ use Rattle.record.specs.Widths.{tokenWidth}
 use Rattle.store_enabled.proofs.Store.{all-at}
 use Rattle.store_chains.specs.Search.{Free}
 use Rattle.store.specs.Matching.{Matching}
-use Rattle.load.specs.Accept.{Proper, Alone, Accepted}
+use Rattle.load.specs.Loaded.{Proper, Alone, Loaded}
 
 pub record Taken (tables links flags ledger ledger′ inputs : List ℕ) (i : ℕ) : Type 0 where
   pub few : i ≤ length inputs / tokenWidth
@@ -74,7 +74,7 @@ module _ (tables ledger inputs : List ℕ) where
         rest = rw (add-one, put) (put-rest l i (encode (tokenAt inputs i)) (length-token (tokenAt inputs i)) (omega arith) ∙ e);
       }
 
-  pub taken-all : (l : List ℕ) (i : ℕ) (links flags : List ℕ) → Taken tables links flags ledger l inputs i → length inputs / tokenWidth ≤ i → Accepted tables links flags ledger l inputs i
+  pub taken-all : (l : List ℕ) (i : ℕ) (links flags : List ℕ) → Taken tables links flags ledger l inputs i → length inputs / tokenWidth ≤ i → Loaded tables links flags ledger l inputs i
   taken-all l i links flags w h =
       let e : i ≡ length inputs / tokenWidth = omega (arith, w .few) in
       record { all = e; matching = w .matching; taken = w .taken ∙ ap (λ (k : ℕ). tokens k inputs) e; size = w .size; rest = w .rest }

@@ -1,2 +1,2 @@
--- The definitions of an accepted run's start. Assumes nothing.
-pub mod Accept
+-- The definitions of the start of a run. Assumes nothing.
+pub mod Loaded

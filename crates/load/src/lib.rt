@@ -10,7 +10,7 @@ ghost use Rattle.buffer.specs.Rows.{allRows, All};
 ghost use Rattle.record.specs.TokensAndTags.{decode};
 ghost use Rattle.record.specs.Widths.{tokenWidth, pickWidth};
 ghost use Rattle.store.specs.Matching.{Matching};
-ghost use Rattle.load.specs.Accept.{Proper, Alone, Accepted};
+ghost use Rattle.load.specs.Loaded.{Proper, Alone, Loaded};
 
 // 01, "Firing": an accepted run first sets all cells absent. The bytes of an absent cell are zeros.
 pub fn clear(cells: &mut [u8])
@@ -57,7 +57,7 @@ pub fn inputs(
     inputs: &[u8],
 ) -> usize
     requires { ⌜ Matching (now tables) (now links) (now flags) (now ledger) 0 × (length (now inputs) / tokenWidth ≤ length (now ledger) / tokenWidth) × (length (now ledger) / tokenWidth ≤ 2048) × All Proper (allRows tokenWidth decode (now inputs)) × Alone (now inputs) ⌝ }
-    ensures { λ r. ⌜ Accepted (now (tables .entry)) (now (links .exit)) (now (flags .exit)) (now (ledger .entry)) (now (ledger .exit)) (now (inputs .entry)) r ⌝ }
+    ensures { λ r. ⌜ Loaded (now (tables .entry)) (now (links .exit)) (now (flags .exit)) (now (ledger .entry)) (now (ledger .exit)) (now (inputs .entry)) r ⌝ }
 {
     let n = inputs.len() / token::WIDTH;
     let mut i = 0;

@@ -1,4 +1,4 @@
--- `record::table::fill` meets its contract. The invariant: the first i bytes are those of `src`, and `dst` keeps its length.
+-- `buffer::fill` meets its contract. The invariant: the first i bytes are those of `src`, and `dst` keeps its length. Assumes nothing.
 use native.Mathlib.Omega.{arith}
 use native.Mathlib.Numerals.{add-one}
 use Prim.Native.Nat.{_≤_, _<_, _-_}

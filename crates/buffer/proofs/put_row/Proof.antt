@@ -1,4 +1,4 @@
--- `record::table::put_row` meets its contract. Assumes nothing.
+-- `buffer::put_row` meets its contract. Assumes nothing.
 use mathlib.Core.Path.{_∙_}
 use borrow.Author.Needs.{needs}
 use Rattle.buffer.proofs.Tables.{written-row}

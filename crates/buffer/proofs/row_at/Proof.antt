@@ -1,4 +1,4 @@
--- `record::table::row_at` meets its contract. Assumes nothing.
+-- `buffer::row_at` meets its contract. Assumes nothing.
 use Prim.Native.Nat.{_*_}
 use borrow.Author.Needs.{needs}
 use Rattle.buffer.proofs.Tables.{tail-part}

@@ -1,4 +1,4 @@
--- `record::table::write_at` meets its contract. Assumes nothing.
+-- `buffer::write_at` meets its contract. Assumes nothing.
 use borrow.Rule.Slice.PartMut.{post-is}
 use native.Mathlib.Omega.{arith}
 use Prim.Native.Nat.{_+_}

@@ -1,4 +1,4 @@
--- `checks::inputs::check` meets its contract. Assumes nothing.
+-- `check_inputs::check` meets its contract. Assumes nothing.
 use borrow.Author.Tests.{le-leb, lt-leb}
 use borrow.Author.Needs.{needs}
 use Rattle.rules.specs.Check.{checkInputs}

@@ -1,4 +1,4 @@
--- `checks::inputs::fields` meets its contract. The invariant: the first i inputs passed, so that the rest decides. Assumes nothing.
+-- `check_inputs::fields` meets its contract. The invariant: the first i inputs passed, so that the rest decides. Assumes nothing.
 use Prim.Native.Nat.{_≤_, _<_, _-_, _/_}
 use native.Mathlib.Omega.{arith}
 use mathlib.Core.Bool.{Bool}

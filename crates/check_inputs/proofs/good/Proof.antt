@@ -1,4 +1,4 @@
--- `checks::inputs::good` meets its contract. Assumes nothing.
+-- `check_inputs::good` meets its contract. Assumes nothing.
 use borrow.Author.Needs.{needs}
 use Rattle.rules.specs.Check.{goodInput}
 use Rattle.check_inputs.proofs.good.Statement.{statement}

@@ -1,4 +1,4 @@
--- `checks::inputs::is_input` meets its contract. Assumes nothing.
+-- `check_inputs::is_input` meets its contract. Assumes nothing.
 use borrow.Author.Tests.{eq-eqb, ne-eqb}
 use borrow.Author.Needs.{needs}
 use Rattle.record.specs.TokensAndTags.{isInput}

@@ -1,4 +1,4 @@
--- `checks::inputs::is_second` meets its contract. Assumes nothing.
+-- `check_inputs::is_second` meets its contract. Assumes nothing.
 use Prim.Native.Nat.{ℕ}
 use mathlib.Core.Bool.{not}
 use mathlib.Core.Path.{sym, ap, _∙_}

@@ -1,4 +1,4 @@
--- `checks::inputs::second` meets its contract. The invariant: the first i inputs passed, so that the rest decides, and the table has an entry for each of these i. Assumes nothing.
+-- `check_inputs::second` meets its contract. The invariant: the first i inputs passed, so that the rest decides, and the table has an entry for each of these i. Assumes nothing.
 use Prim.Native.Nat.{_≤_, _<_, _-_, _/_}
 use native.Mathlib.Omega.{arith}
 use mathlib.Core.Bool.{Bool, not}

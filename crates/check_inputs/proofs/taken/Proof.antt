@@ -1,4 +1,4 @@
--- `checks::inputs::taken` meets its contract. The invariant: none of the first j tokens stands there. Assumes nothing.
+-- `check_inputs::taken` meets its contract. The invariant: none of the first j tokens stands there. Assumes nothing.
 use Prim.Native.Nat.{_+_, _≤_, _<_, _-_, _/_}
 use native.Mathlib.Omega.{arith}
 use mathlib.Core.Bool.{false}

@@ -6,7 +6,7 @@ use lib.ListN.{length, length-replicate}
 use borrow.Author.Needs.{needs}
 use Rattle.store.proofs.Laws.{matching-start}
 use Rattle.rules.specs.Run.{picksOf}
-use Rattle.engine.proofs.Starting.{prepared, graph-passed, stores-good, inputs-passed, inputs-fit, inputs-proper, inputs-alone, started, as-lent}
+use Rattle.engine.proofs.Starting.{graph-passed, stores-good, inputs-passed, inputs-fit, inputs-proper, inputs-alone, started, as-lent}
 use Rattle.engine.proofs.accepted.Statement.{statement}
 use Rattle.engine.proofs.accepted.Tie as tie
 use Rattle.record.specs.Widths.{tokenWidth}
@@ -29,7 +29,7 @@ accepted-spec =
     let t = k .before .before in
     let s = t .before .before .before .before .before .before .before in
     let a = s .args in (
-      prepared (a .graph .now) (graph-passed (a .graph .now) (a .inputs .now) (a .picks .now) (a .ledger .now) (a .cells .now) (s .pre)) _ (t .make .ensures .2) (t .make .ensures .0) (t .make .ensures .1),
+      record { passed = graph-passed (a .graph .now) (a .inputs .now) (a .picks .now) (a .ledger .now) (a .cells .now) (s .pre); returnsRight = t .make .ensures .1; aritiesRight = t .make .ensures .0 },
       started (a .graph .now) (a .inputs .now) (a .picks .now) (a .ledger .now) (a .cells .now) (s .pre) (i .inputs .ensures) (k .clear .ensures),
     ))
     (λ c. search needs)

@@ -5,6 +5,7 @@ use mir.Val.{SFits}
 use mir.Facts.{toZ-ofZ}
 use borrow.Author.Needs.{needs}
 use Rattle.store.proofs.Laws.{matching-known}
+use Rattle.abstraction.proofs.Arities.{arity-small}
 use Rattle.fire.proofs.Place.{earliest-here}
 use Rattle.fire.proofs.Steps.{fitting, fire-missing, room, inside, matched-here, lent-here, stepped-here}
 use Rattle.fire.proofs.fire.Statement.{statement}
@@ -33,7 +34,7 @@ fire-spec =
     let s = t .before .before .before .before .before in
     let found = matched-here _ (s .pre .0) (s .pre .1) (s .args .place) (s .pre .2) (t .token-at .result) (a .arity .result) _ (t .token-at .ensures) (a .arity .ensures) (m .operands-of .ensures) in
     record {
-      step = fire-missing _ (s .pre .0 .passed) (s .pre .1) _ (s .pre .0 .aritiesRight _ .1) (found ∙ c .enum-told .given .1);
+      step = fire-missing _ (s .pre .0 .passed) (s .pre .1) _ (arity-small _ _) (found ∙ c .enum-told .given .1);
       running = s .pre .1;
       sameLedger = refl;
       sameCells = refl;

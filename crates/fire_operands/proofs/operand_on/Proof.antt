@@ -6,7 +6,7 @@ use borrow.Author.Needs.{needs}
 use Rattle.record.specs.TokensAndTags.{decode}
 use Rattle.buffer.proofs.Tables.{getD-rows}
 use Rattle.record.specs.Widths.{tokenWidth}
-use Rattle.abstraction.specs.Held.{noToken}
+use Rattle.abstraction.specs.States.{noToken}
 use Rattle.fire_operands.specs.Operands.{operandFound, operandAt}
 use Rattle.fire_operands.proofs.operand_on.Statement.{statement}
 use Rattle.fire_operands.proofs.operand_on.Tie as tie

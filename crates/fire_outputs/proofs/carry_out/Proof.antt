@@ -15,7 +15,7 @@ use Rattle.fire_outputs.proofs.carry_out.Tie as tie
 -- the operands are spent
 spent : (c : tie.After-spend-operands) → let a = c .before .before .before .before .before .args in
     let after = c .spend-operands .last in
-    Kept (a .tables .now) (a .links .now) (after .0) (after .1 .0) (a .used) (spentAt (a .first) (a .second) (tokens (a .used) (a .ledger .now))) (a .ledger .now)
+    Kept (a .tables .now) (a .links .now) (after .0) (after .1 .0) (a .used) (spentAt (a .operands .first) (a .operands .second) (tokens (a .used) (a .ledger .now))) (a .ledger .now)
 spent c =
     let s = c .before .before .before .before .before in
     let a = s .args in
@@ -44,7 +44,7 @@ carry-out-spec = tie.close (tie.spec
     let k = spent (c .before .before .before .before .before .before .before .before .before .before .before .before .before .before .before) in
     let w = c .before .before .before .before .before .wake .ensures in
     let low = low-content (a .action) (cellsIn (a .cells .now)) (on-more (a .action) (p .0 .store .few) (p .4)) in
-    (w .matching, kept-room w (kept-room k (p .1)), kept-most w (kept-most k (p .0 .few)), p .2, p .3, rw (c .before .before .before .before .before .before .before .before .before .before .before .change-cells .ensures .0) low, rw (w .held, k .held) (keys-carried (a .action) (a .first) (a .second) (tokens (a .used) (a .ledger .now)) (a .outputs) (p .5))))
+    (w .matching, kept-room w (kept-room k (p .1)), kept-most w (kept-most k (p .0 .few)), p .2, p .3, rw (c .before .before .before .before .before .before .before .before .before .before .before .change-cells .ensures .0) low, rw (w .held, k .held) (keys-carried (a .action) (a .operands .first) (a .operands .second) (tokens (a .used) (a .ledger .now)) (a .outputs) (p .5))))
     (λ c. search needs)
     (λ c. search needs)
     (λ c.
@@ -56,6 +56,6 @@ carry-out-spec = tie.close (tie.spec
     let o = c .before .before .append-outputs .ensures in
     let v = kept-again w (λ ts. ts ++ outputsOf (c .before .before .before .before .before .before .before .before .before .before .before .before .before .before .change-cells .result) (a .outputs)) (a .used + a .outputs .count) (le-add-right (a .used) (a .outputs .count)) (o .1) in (
       o .0,
-      kept-as v (ap (λ x. wokenBy (a .action) (spentAt (a .first) (a .second) (tokens (a .used) (a .ledger .now))) ++ outputsOf x (a .outputs)) (e .0)),
+      kept-as v (ap (λ x. wokenBy (a .action) (spentAt (a .operands .first) (a .operands .second) (tokens (a .used) (a .ledger .now))) ++ outputsOf x (a .outputs)) (e .0)),
       e .1,
     )))

@@ -1,4 +1,4 @@
--- `checks::tables::arities` meets its contract. The invariant: the first i entries are right. Assumes nothing.
+-- `graph_tables::arities` meets its contract. The invariant: the first i entries are right. Assumes nothing.
 use Prim.Native.Nat.{ℕ, _+_, _-_, _≤_, _<_}
 use native.Mathlib.Omega.{arith}
 use mathlib.Core.Path.{_≡_, refl, _∙_}
@@ -8,7 +8,7 @@ use borrow.Author.Needs.{needs}
 use Rattle.record.specs.TokensAndTags.{rootOf}
 use Rattle.record.specs.GraphRecords.{graphOf}
 use Rattle.rules.specs.InstructionSet.{arityIn}
-use Rattle.graph_tables.proofs.Entries.{entry-next}
+use Rattle.graph_tables.proofs.Entries.{entry-next, all-arities}
 use Rattle.graph_tables.proofs.arities.Statement.{statement}
 use Rattle.graph_tables.proofs.arities.Tie as tie
 
@@ -24,7 +24,7 @@ unfolding arityIn
 arities-spec = tie.close (tie.spec
     Inv-loop
     μ-loop
-    (λ c. (omega arith, c .before .pre, (λ k h. absurd (omega arith)), λ k h. refl))
+    (λ c. (omega arith, c .before .pre .1, (λ k h. absurd (omega arith)), λ k h. refl))
     (λ c κs. search needs)
     (λ c. omega arith)
     (λ c. omega arith)
@@ -41,4 +41,5 @@ arities-spec = tie.close (tie.spec
     ))
     (λ c.
     let l = c .before .loop in
-    (((λ τ h. l .inv .2 (τ .instruction) (omega arith)), l .inv .1), λ r site h. l .inv .3 site h ∙ r site h)))
+    let s = c .before .before .before in
+    (all-arities (s .args .graph .now) (l .out) (s .pre .0) (l .inv .1) (λ k h. l .inv .2 k (omega arith)), λ r site h. l .inv .3 site h ∙ r site h)))

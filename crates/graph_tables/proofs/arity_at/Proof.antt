@@ -1,4 +1,4 @@
--- `checks::tables::arity_at` meets its contract. Assumes nothing.
+-- `graph_tables::arity_at` meets its contract. Assumes nothing.
 use native.Mathlib.Omega.{arith}
 use mathlib.Core.Path.{sym, _∙_}
 use borrow.Author.Tests.{eq-eqb, ne-eqb}

@@ -9,5 +9,4 @@ make-spec = tie.close (tie.spec
     (λ c κs. search needs)
     (λ c.
     let a = c .arities .ensures in
-    let r = c .before .before .returns .ensures in
-    (a .0 .0, a .1 (r .0), a .0 .1)))
+    (a .0, a .1 (c .before .before .returns .ensures .0))))

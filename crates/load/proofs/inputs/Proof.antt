@@ -3,7 +3,7 @@
 use Prim.Native.Nat.{_/_, _<_, _-_}
 use native.Mathlib.Omega.{arith}
 use lib.ListN.{length}
-use Rattle.load.specs.Accept.{Proper}
+use Rattle.load.specs.Loaded.{Proper}
 use Rattle.load.proofs.Taken.{Taken, proper, alone, taken-none, taken-more, taken-all}
 use Rattle.load.proofs.inputs.Statement.{statement}
 use Rattle.load.proofs.inputs.Tie as tie

@@ -1,4 +1,4 @@
--- `checks::arc::all_good` meets its contract. An arc in use is tested; a fan-out past 1 has both in use. Assumes nothing.
+-- `check_fields::arc::all_good` meets its contract. An arc in use is tested; a fan-out past 1 has both in use. Assumes nothing.
 use mathlib.Core.Path.{sym, _∙_}
 use borrow.Author.Needs.{needs}
 use Rattle.check_fields.proofs.Turns.{and-true}

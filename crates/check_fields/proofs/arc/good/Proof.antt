@@ -1,4 +1,4 @@
--- `checks::arc::good` meets its contract. Assumes nothing.
+-- `check_fields::arc::good` meets its contract. Assumes nothing.
 use borrow.Author.Needs.{needs}
 use Rattle.rules.specs.Check.{goodArc}
 use Rattle.check_fields.proofs.arc.good.Statement.{statement}

@@ -1,4 +1,4 @@
--- `checks::arc::operands_at` meets its contract. The code is the first byte of the record. Assumes nothing.
+-- `check_fields::arc::operands_at` meets its contract. The code is the first byte of the record. Assumes nothing.
 use native.Mathlib.Omega.{arith}
 use mathlib.Core.Path.{sym, _∙_}
 use borrow.Author.Needs.{needs}

@@ -1,4 +1,4 @@
--- `checks::constant::small` meets its contract. Assumes nothing.
+-- `check_fields::constant::small` meets its contract. Assumes nothing.
 use native.Mathlib.Omega.{arith}
 use mir.Facts.{toZ-ofZ}
 use Rattle.check_fields.proofs.Constants.{negative-small, large-small, between-small, between-is}

@@ -1,4 +1,4 @@
--- `checks::fan_out::allowed` meets its contract. Assumes nothing.
+-- `check_fields::fan_out::allowed` meets its contract. Assumes nothing.
 use borrow.Author.Tests.{le-leb, lt-leb}
 use borrow.Author.Needs.{needs}
 use Rattle.rules.specs.Check.{fanOutAllowed}

@@ -1,4 +1,4 @@
--- `checks::fan_out::constant_used_or_zero` meets its contract. Assumes nothing.
+-- `check_fields::fan_out::constant_used_or_zero` meets its contract. Assumes nothing.
 use borrow.Author.Needs.{needs}
 use mir.Facts.{toZ-ofZ}
 use Rattle.check_fields.proofs.fan_out.constant_used_or_zero.Statement.{statement}

@@ -1,4 +1,4 @@
--- `checks::fan_out::good` meets its contract. Assumes nothing.
+-- `check_fields::fan_out::good` meets its contract. Assumes nothing.
 use borrow.Author.Needs.{needs}
 use Rattle.check_fields.proofs.fan_out.good.Statement.{statement}
 use Rattle.check_fields.proofs.fan_out.good.Tie as tie

@@ -1,4 +1,4 @@
--- `checks::fan_out::most` meets its contract. An arm knows which variants it has, and at these the table has one most fan-out. Assumes nothing.
+-- `check_fields::fan_out::most` meets its contract. An arm knows which variants it has, and at these the table has one most fan-out. Assumes nothing.
 use mathlib.Core.List.{[], _∷_}
 use borrow.Author.Needs.{needs}
 use Rattle.check_fields.proofs.FanOuts.{mosts, most-among}

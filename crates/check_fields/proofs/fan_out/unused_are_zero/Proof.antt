@@ -1,4 +1,4 @@
--- `checks::fan_out::unused_are_zero` meets its contract. Assumes nothing.
+-- `check_fields::fan_out::unused_are_zero` meets its contract. Assumes nothing.
 use borrow.Author.Needs.{needs}
 use mir.Facts.{toZ-ofZ}
 use mir.Val.{SFits}

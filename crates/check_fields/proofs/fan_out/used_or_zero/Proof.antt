@@ -1,4 +1,4 @@
--- `checks::fan_out::used_or_zero` meets its contract. Assumes nothing.
+-- `check_fields::fan_out::used_or_zero` meets its contract. Assumes nothing.
 use borrow.Author.Tests.{eq-eqb, ne-eqb}
 use borrow.Author.Needs.{needs}
 use Rattle.rules.specs.Check.{isZero}

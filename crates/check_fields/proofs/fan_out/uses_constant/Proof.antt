@@ -1,4 +1,4 @@
--- `checks::fan_out::uses_constant` meets its contract. Assumes nothing.
+-- `check_fields::fan_out::uses_constant` meets its contract. Assumes nothing.
 use borrow.Author.Tests.{eq-eqb, ne-eqb, le-leb, lt-leb}
 use Rattle.record.specs.GraphRecords.{usesConstant}
 use Rattle.check_fields.proofs.fan_out.uses_constant.Statement.{statement}

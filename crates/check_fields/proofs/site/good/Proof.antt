@@ -1,4 +1,4 @@
--- `checks::site::good` meets its contract. Assumes nothing.
+-- `check_fields::site::good` meets its contract. Assumes nothing.
 use mathlib.Core.Path.{sym, _∙_}
 use borrow.Author.Tests.{eq-eqb, ne-eqb}
 use borrow.Author.Needs.{needs}

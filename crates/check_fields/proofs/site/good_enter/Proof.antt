@@ -1,4 +1,4 @@
--- `checks::site::good_enter` meets its contract. Assumes nothing.
+-- `check_fields::site::good_enter` meets its contract. Assumes nothing.
 use borrow.Author.Tests.{eq-eqb, ne-eqb, lt-ltb, le-ltb, le-leb, lt-leb}
 use borrow.Author.Needs.{needs}
 use mir.Facts.{toZ-ofZ}

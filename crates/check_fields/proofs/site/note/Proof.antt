@@ -1,4 +1,4 @@
--- `checks::site::note` meets its contract. Assumes nothing.
+-- `check_fields::site::note` meets its contract. Assumes nothing.
 use native.Mathlib.Numerals.{add-one}
 use borrow.Author.Tests.{eq-eqb, ne-eqb, lt-ltb, le-ltb}
 use borrow.Author.Needs.{needs}

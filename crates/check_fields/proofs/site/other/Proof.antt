@@ -1,4 +1,4 @@
--- `checks::site::other` meets its contract. Assumes nothing.
+-- `check_fields::site::other` meets its contract. Assumes nothing.
 use mathlib.Core.Path.{_∙_}
 use borrow.Author.Needs.{needs}
 use Rattle.check_fields.proofs.Sites.{other-entry}

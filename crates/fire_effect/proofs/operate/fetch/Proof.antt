@@ -1,7 +1,7 @@
 -- `fire_effect::operate::fetch` meets its contract. Assumes nothing.
 use mathlib.Core.Path.{_≡_, sym, _∙_}
 use mir.Facts.{toZ-ofZ}
-use Rattle.fire_effect.specs.Held.{namedOf}
+use Rattle.fire_effect.specs.Effects.{namedOf}
 use Rattle.fire_effect.proofs.Does.{looked-up, refused, on-cell, on-no-cell}
 use borrow.Author.Needs.{needs}
 use Rattle.fire_effect.proofs.operate.fetch.Statement.{statement}

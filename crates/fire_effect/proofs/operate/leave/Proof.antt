@@ -30,6 +30,6 @@ leave-spec = tie.close (tie.spec
     let site = c .before .before .before .site .given .0 .0 in
     let fits : SFits w32 (s .args .r .constant) = record { sfits = c .before .before .before .before .before .before .before .struct-told .given .1 .1 .1 .1 .0 .1 } in
     let k = c .before .before .before .before .before .before .byte .ensures ∙ ap natAbs (toZ-ofZ fits) in
-    let entry = s .pre .1 .0 .entry site (omega (arith, c .before .before .known-told .given)) in
+    let entry = s .pre .1 .0 site (omega (arith, c .before .before .known-told .given)) in
     rw (sym (c .before .before .before .before .before .leave .ensures) ∙ c .before .before .before .site .given .1, ← k)
     (rw (toZ-ofZ (s .fits .a)) at (c .returned .ensures (returnOf site (graphOf (now (s .args .graph)))) entry))))

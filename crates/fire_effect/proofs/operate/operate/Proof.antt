@@ -8,7 +8,7 @@ use Rattle.record.specs.declared.operation.Operation.{Operation}
 use Rattle.record.specs.GraphRecords.{operationOf, graphOf}
 use Rattle.rules.specs.InstructionSet.{effectOf, allUnder}
 use Rattle.fire_effect.specs.declared.operate.Effect.{Effect}
-use Rattle.fire_effect.specs.Held.{Does}
+use Rattle.fire_effect.specs.Effects.{Does}
 use Rattle.fire_effect.proofs.Does.{of-value}
 use borrow.Author.Needs.{needs}
 use Rattle.fire_effect.proofs.operate.operate.Statement.{statement}
@@ -52,7 +52,7 @@ operate-spec = tie.close (tie.spec
     (λ c. search needs)
     (λ c κs.
     let p = c .before .before .before .before .before .pre in
-    (p .records, (p .table, p .ofLeave (told (c .before .before) (c .enum-told9 .given .1)))))
+    (p .records, (p .returns, p .ofLeave (told (c .before .before) (c .enum-told9 .given .1)))))
     (λ c. search needs)
     (λ c κs. search needs)
     (λ c. search needs)

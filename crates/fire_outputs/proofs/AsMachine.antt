@@ -18,8 +18,8 @@ use Rattle.machine.specs.Machine.{Key, Content, live, deferred, Token, Cell, wh
 use Rattle.rules.specs.Run.{contentHeld, tokenHeld}
 use Rattle.fire_effect.specs.declared.output.Outputs.{Outputs}
 use Rattle.fire_effect.specs.declared.output.Key as EffectKey
-use Rattle.fire_effect.specs.Held.{keysHeld, keysOf}
-use Rattle.abstraction.specs.Held.{cellHeld}
+use Rattle.fire_effect.specs.Effects.{keysHeld, keysOf}
+use Rattle.abstraction.specs.States.{cellHeld}
 use Rattle.fire_outputs.specs.Outputs.{outputsBy, outputsOf, cellFetched, contentFetched}
 use Rattle.fire_outputs.proofs.Spent.{map-map, map-same}
 

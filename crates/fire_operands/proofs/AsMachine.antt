@@ -26,11 +26,11 @@ use Rattle.rules.specs.Run.{contentHeld, tokenHeld}
 use Rattle.store_chains.specs.declared.Found.{Found}
 use Rattle.store_chains.specs.declared.Found.the-variants.{At, Nothing}
 use Rattle.store_chains.specs.Search.{firstFrom}
-use Rattle.abstraction.specs.Held.{noToken, stateHeld}
+use Rattle.abstraction.specs.States.{noToken, stateHeld}
 use Rattle.abstraction.proofs.Keys.{stands, not-stands, search-at, foundContent, held-find}
 use Rattle.fire_effect.specs.declared.output.Key.{Key}
 use Rattle.fire_effect.specs.declared.output.Outputs.{Outputs}
-use Rattle.fire_effect.specs.Held.{keyHeld, keysHeld, keysOf}
+use Rattle.fire_effect.specs.Effects.{keyHeld, keysHeld, keysOf}
 use Rattle.fire_operands.specs.declared.Operand.{Operand}
 use Rattle.fire_operands.specs.declared.Operand.the-variants as Operand
 use Rattle.fire_operands.specs.declared.Matched.{Matched}

@@ -20,7 +20,7 @@ abbrev pub Alone : (inputs : List ℕ) → Type 0
 Alone inputs = (i : ℕ) → i < length inputs / tokenWidth → Free (take i (allRows tokenWidth decode inputs)) (tokenAt inputs i .tag) (tokenAt inputs i .port)
 
 -- 01, "Firing": "An accepted run first .. writes its inputs to the ledger": `ledger` is as lent, `ledger′` has the r inputs
-pub record Accepted (tables links flags ledger ledger′ inputs : List ℕ) (r : ℕ) : Type 0 where
+pub record Loaded (tables links flags ledger ledger′ inputs : List ℕ) (r : ℕ) : Type 0 where
   pub all : r ≡ length inputs / tokenWidth
   pub matching : Matching tables links flags ledger′ r
   pub taken : tokens r ledger′ ≡ allRows tokenWidth decode inputs

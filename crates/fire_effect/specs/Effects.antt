@@ -17,7 +17,8 @@ use Rattle.machine.specs.Machine as Machine
 use Rattle.machine.specs.Machine.{refuse, send, read, write}
 use Rattle.machine.specs.Orders.{CellsBelow}
 use Rattle.rules.specs.Check.{within, operandsAt}
-use Rattle.rules.specs.InstructionSet.{EffectHere, returnOf, effectIn}
+use Rattle.rules.specs.InstructionSet.{EffectHere, effectIn}
+use Rattle.abstraction.specs.Tables.{Returns}
 use Rattle.fire_effect.specs.declared.output.Key.{Key}
 use Rattle.fire_effect.specs.declared.output.Outputs.{Outputs}
 use Rattle.fire_effect.specs.declared.operate.Effect.{Effect}
@@ -51,9 +52,9 @@ effectHeld (Refuse r) = refuse r
 effectHeld (Act a o) = actionHeld a (keysOf o)
 
 -- the count of the outputs is at most 2, and so is the number of the keys (length-keys of proofs/Does)
-abbrev pub Counted : Effect → Type 0
-Counted (Refuse r) = Unit {0}
-Counted (Act a o) = o .count ≤ 2
+abbrev pub FewOutputs : Effect → Type 0
+FewOutputs (Refuse r) = Unit {0}
+FewOutputs (Act a o) = o .count ≤ 2
 
 -- ---- what is promised
 
@@ -63,7 +64,7 @@ pub record Sends (o : Outputs) (keys : List (Machine.Key Tag)) : Type 0 where
 
 pub record Does (e : Effect) (x : EffectHere) : Type 0 where
   pub held : effectHeld e ≡ x
-  pub counted : Counted e
+  pub counted : FewOutputs e
 
 -- a port that a token can come to: below the operand count of its instruction, which is 0 past the graph
 abbrev pub Arrives : List Instruction → Machine.Key Tag → Type 0
@@ -79,7 +80,7 @@ AllSent P (write c v keys) = All P keys
 -- the effect is that of the rules, and what a caller needs of it besides
 pub record Effected (g : List Instruction) (cells : ℕ) (τ : Tag) (a b : ℤ) (e : Effect) : Type 0 where
   pub held : effectHeld e ≡ effectIn g cells τ a b
-  pub counted : Counted e
+  pub counted : FewOutputs e
   pub cellsBelow : CellsBelow cells (effectHeld e)
   pub arrives : AllSent (Arrives g) (effectHeld e)
 
@@ -90,18 +91,9 @@ namedOf cells (negsuc c) = NoSuchCell
 
 -- ---- what is lent
 
--- the entry of a site in a table of returns: 0 if there is no return instruction, else one more than it
-abbrev pub entryOf : Option ℕ → ℕ
-entryOf none = 0
-entryOf (some i) = suc i
-
--- the table of the return instruction of each site
-pub record Returns (returns : List ℕ) (g : List Instruction) : Type 0 where
-  pub entry : (site : ℕ) → site < 256 → getD returns site 0 ≡ entryOf (returnOf site g)
-
--- what the operations ask of the graph, of the table of returns and of an instruction: a graph that passed its check has it
-pub record Ready (graph returns : List ℕ) (r : Instruction) : Type 0 where
+-- what the operations ask of the graph, of its tables and of an instruction: a graph that passed its check has it
+pub record Ready (graph tables : List ℕ) (r : Instruction) : Type 0 where
   pub records : length graph / graphWidth ≤ 256
-  pub table : Returns returns (graphOf graph)
+  pub returns : Returns (graphOf graph) tables
   pub ofEnter : operationOf (r .code) ≡ Enter → within 0 255 (r .constant) ≡ true
   pub ofLeave : operationOf (r .code) ≡ Leave → within 0 255 (r .constant) ≡ true

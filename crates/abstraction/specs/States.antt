@@ -11,7 +11,6 @@ use Rattle.record.specs.declared.instruction.Instruction.{Instruction}
 use Rattle.buffer.specs.Rows.{All}
 use Rattle.record.specs.TokensAndTags.{decode}
 use Rattle.machine.specs.Machine.{Cell, absent, waiting, present, State}
-use Rattle.store_enabled.specs.Enabled.{arityOf}
 use Rattle.rules.specs.InstructionSet.{arityIn}
 use Rattle.rules.specs.Run.{tokenHeld}
 
@@ -26,10 +25,6 @@ cellHeld (Present v) = present v
 
 abbrev pub stateHeld : List Record.Token → List RecordCell.Cell → State Tag ℤ
 stateHeld ts cs = record { tokens = map tokenHeld ts; cells = map cellHeld cs }
-
--- a table that has the arity of every instruction
-abbrev pub Arities : List Instruction → (tables : List ℕ) → Type 0
-Arities g tables = (tag : Tag) → (arityOf tables tag ≡ arityIn g tag) × (arityIn g tag ≤ 2)
 
 -- a token at an instruction that fires stands at one of its operands' ports
 abbrev pub OnPorts : List Instruction → List Record.Token → Type 0

@@ -24,15 +24,15 @@ use Rattle.fire_effect.specs.declared.output.Outputs.{Outputs}
 use Rattle.fire_effect.specs.declared.operate.Effect.{Effect}
 use Rattle.fire_effect.specs.declared.operate.Effect.the-variants.{Refuse, Act}
 use Rattle.fire_effect.specs.declared.operate.Action.the-variants.{Send, Read, Write}
-use Rattle.fire_effect.specs.Held.{keysOf, effectHeld, Counted}
-use Rattle.abstraction.specs.Held.{cellHeld, stateHeld}
+use Rattle.fire_effect.specs.Effects.{keysOf, effectHeld, FewOutputs}
+use Rattle.abstraction.specs.States.{cellHeld, stateHeld}
 use Rattle.fire_operands.specs.declared.Admitted.{Admitted}
 use Rattle.fire_operands.specs.declared.Admitted.the-variants.{Yes, No}
 use Rattle.fire_operands.specs.Operands.{admittedOf}
-use Rattle.fire_operands.proofs.Held.{byAdmitted, Places, held-admitted}
+use Rattle.fire_operands.proofs.AsMachine.{byAdmitted, Places, held-admitted}
 use Rattle.fire_outputs.specs.Outputs.{spentAt, outputsOf, cellsFetched, contentFetched, isPresent}
 use Rattle.fire_outputs.proofs.Spent.{map-map, spent-one, spent-two}
-use Rattle.fire_outputs.proofs.Held.{outputs-held, woken-held, cell-held, set-held, fetched-cell, fetched-content}
+use Rattle.fire_outputs.proofs.AsMachine.{outputs-held, woken-held, cell-held, set-held, fetched-cell, fetched-content}
 use Rattle.fire_commit.specs.Commit.{Committed, done, refused, ifAdmitted, committedOf}
 
 -- in the terms of the machine
@@ -75,7 +75,7 @@ module _ (g : List Instruction) (capacity cells : ℕ) (ts : List Record.Token) 
   write-held Waiting f x e = e
   write-held (Present v) f x e = refl
 
-  pub commit-held : (tag : Tag) (i j : ℕ) (v w : ℤ) → Distinct M (map tokenHeld ts) → Places (arityIn g tag) ts tag i j v w → (e : Effect) → Counted e
+  pub commit-held : (tag : Tag) (i j : ℕ) (v w : ℤ) → Distinct M (map tokenHeld ts) → Places (arityIn g tag) ts tag i j v w → (e : Effect) → FewOutputs e
       → commit M (stateHeld ts cs) tag (effectHeld e) ≡ firedOf (committedOf capacity ts cs i j e)
   unfolding commit committedOf
   commit-held tag i j v w d p (Refuse r) h = refl
