@@ -3,12 +3,11 @@
 use Prim.Native.Nat.{ℕ, zero, suc, _+_, _*_, _/_, _≤_, _<_}
 use mathlib.Core.Path.{_≡_, refl, sym, ap, _∙_, subst}
 use mathlib.Core.List.{List, [], _∷_, _++_, map}
-use mathlib.Core.Option.{Option, none, some}
+use mathlib.Core.Option.{some}
 use native.Mathlib.Omega.{arith}
 use native.Mathlib.Nat.{mul-div-cancel}
-use native.Mathlib.Decide.{decLe}
 use lib.Seq.{drop-drop}
-use lib.ListN.{length, getD, take, drop, replicate, length-replicate, length-map, drop-of-length-le}
+use lib.ListN.{length, take, drop, replicate, length-replicate, length-map, drop-of-length-le}
 use lib.IntN.{ℤ}
 use Rattle.record.specs.declared.tag.Tag.{Tag}
 use Rattle.record.specs.declared.token.Token as Record
@@ -33,23 +32,19 @@ use Rattle.rules.specs.declared.answer.Refusal.{Refusal}
 use Rattle.rules.specs.declared.answer.Answer.{Answer}
 use Rattle.rules.specs.declared.answer.Checked.the-variants.{Passed}
 use Rattle.rules.specs.Check.{checkGraph, checkInputs, check, operandsAt}
-use Rattle.rules.specs.InstructionSet.{arityIn, machineOf, returnOf}
+use Rattle.rules.specs.InstructionSet.{machineOf}
 use Rattle.rules.specs.Run.{contentHeld, tokenHeld, tokenRecord, cellRecord, firstState}
 use Rattle.rules.proofs.Inputs.{start}
 use Rattle.rules.proofs.Lawful.{lawful}
-use Rattle.graph_tables.specs.Tables as Tables
-use Rattle.checks.proofs.Passed.{passed-check, passed-length, return-entry, GoodStores, passed-stores, GoodInputs, passed-inputs, passed-input}
-use Rattle.graph_tables.proofs.Entries.{arity-small}
-use Rattle.check_fields.proofs.Graphs.{arity-past}
-use Rattle.fire_effect.specs.Effects.{entryOf, Returns}
+use Rattle.checks.proofs.Passed.{passed-check, GoodStores, passed-stores, GoodInputs, passed-inputs, passed-input}
 use Rattle.fire_effect.proofs.Arrives.{arrives-port}
-use Rattle.abstraction.specs.States.{cellHeld, Arities}
+use Rattle.abstraction.specs.States.{cellHeld}
 use Rattle.abstraction.proofs.Keys.{alone-free}
 use Rattle.fire_outputs.specs.Outputs.{cellsIn, CellStore}
 use Rattle.fire_outputs.proofs.Laws.{rest-on}
 use Rattle.load.specs.Loaded.{Proper, Alone, Loaded}
 use Rattle.load.proofs.Laws.{zeros-joined, absent-fit, zeros-cells}
-use Rattle.fire.specs.Running.{stateIn, Arrived, Running, Prepared}
+use Rattle.fire.specs.Running.{stateIn, Arrived, Running}
 use Rattle.engine.specs.Turns.{EndedAt, endOf}
 
 -- ---- the inputs

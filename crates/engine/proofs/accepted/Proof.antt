@@ -15,7 +15,10 @@ pub accepted-spec : {M : Type 1} → statement M
 accepted-spec =
     tie.close
     (tie.spec
-    (λ c κs. search needs)
+    (λ c κs.
+    let s = c .before .before .before .before .before .before in
+    let a = s .args in
+    graph-passed (a .graph .now) (a .inputs .now) (a .picks .now) (a .ledger .now) (a .cells .now) (s .pre))
     (λ c κs. search needs)
     (λ c κs.
     let s = c .before .before .before .before .before .before .before .before .before .before .before .before .before .before .before in
