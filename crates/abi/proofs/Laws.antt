@@ -9,9 +9,10 @@ use mathlib.Core.List.{List, [], _∷_, _++_, map}
 use borrow.Author.Tests.{ltb-true, ltb-false, eqb-true}
 use lib.Dec.{eqb, ltb}
 use lib.ListN.{length, length-append}
-use Rattle.table.specs.Table.{allRows, joined}
+use Rattle.buffer.specs.Rows.{allRows, joined}
 use Rattle.record.specs.TokensAndTags as Tokens
 use Rattle.record.specs.Cells as Cells
+use Rattle.record.specs.Widths.{tokenWidth, cellWidth}
 use Rattle.rules.specs.Answer.{Values, numberOf, wordOf, placeIn, valuesOf}
 use Rattle.rules.specs.declared.answer.Refusal.{Refusal}
 use Rattle.rules.specs.declared.answer.Refusal.the-variants.{GraphLength, UnknownOperation, FanOut, BadArc, BadSite, BadInput, BadStore, LedgerFull, SecondToken, NoSuchCell, SecondWrite, OutOfRange, Iteration, TooDeep, NoCaller, UnknownSite, NoReturn}
@@ -174,7 +175,7 @@ unfolding printed answerLine
 text-least a listing cells =
     append-least
     (answerLine a)
-    (joined (λ (l : List ℕ). l) (map tokenLine (allRows 20 Tokens.decode listing) ++ cellLines 0 (allRows 8 Cells.decode cells)))
+    (joined (λ (l : List ℕ). l) (map tokenLine (allRows tokenWidth Tokens.decode listing) ++ cellLines 0 (allRows cellWidth Cells.decode cells)))
     (fields-least (a .outcome) (a .firings) (a .tokens) (placeIn (a .outcome)))
 
 -- ---- a number that names an answer is that answer's: no part of it is passed over

@@ -14,20 +14,20 @@ use Rattle.record.specs.declared.instruction.Destination.{Destination}
 use Rattle.record.specs.declared.instruction.Instruction.{Instruction}
 use Rattle.record.specs.GraphRecords.{decode, isGraphLength, graphOf, destinations, inUse, rowOf, operandsOf}
 use Rattle.number.specs.Number.{byteAt, number16, number32, number64}
-use Rattle.table.specs.Table.{whole, allRows}
+use Rattle.buffer.specs.Rows.{whole, allRows}
 use Rattle.record.specs.TokensAndTags.{isInput}
-use Rattle.table.proofs.Tables.{length-rows, getD-rows}
+use Rattle.buffer.proofs.Tables.{length-rows, getD-rows}
 use Rattle.record.specs.TokensAndTags as Tokens
+use Rattle.record.specs.Widths.{tokenWidth, cellWidth, graphWidth, pickWidth}
 use Rattle.rules.specs.declared.answer.Refusal.the-variants.{GraphLength, BadInput, SecondToken}
 use Rattle.rules.specs.declared.answer.Checked.the-variants.{Passed}
 use Rattle.rules.specs.Check.{demand, all, instructionAt, operandsAt, fanOutAllowed, unusedAreZero, goodArc, within, entersSite, goodSite, checkRecord, checkGraph, checkStores, goodInput, secondInput, checkInputs, check}
 use Rattle.rules.specs.InstructionSet.{returnOf}
-use Rattle.inputs.specs.Inputs.{tokensOf}
-use Rattle.tables.specs.Tables.{returnEntry}
-use Rattle.fields.proofs.Turns.{and-true-left, and-true-right, both-passed, demanded, each-passed, all-at}
-use Rattle.fields.proofs.Constants.{within-is}
-use Rattle.fields.proofs.Graphs.{length-graph, past}
-use Rattle.inputs.proofs.Tokens.{length-tokens, in-tokens}
+use Rattle.check_inputs.specs.Inputs.{tokensOf}
+use Rattle.check_fields.proofs.Turns.{and-true-left, and-true-right, both-passed, demanded, each-passed, all-at}
+use Rattle.check_fields.proofs.Constants.{within-is}
+use Rattle.check_fields.proofs.Graphs.{length-graph, past}
+use Rattle.check_inputs.proofs.Tokens.{length-tokens, in-tokens}
 
 -- ---- the graph
 
@@ -48,14 +48,14 @@ passed-record g i r e =
 
 module _ (l : List ℕ) (passed : checkGraph l ≡ Passed) where
   -- 1 to 256 whole records
-  pub passed-length : (1 ≤ length (graphOf l)) × (length (graphOf l) ≤ 256) × (length l ≡ length (graphOf l) * 16)
+  pub passed-length : (1 ≤ length (graphOf l)) × (length (graphOf l) ≤ 256) × (length l ≡ length (graphOf l) * graphWidth)
   unfolding checkGraph
   passed-length =
       let e = demanded (isGraphLength (length l)) _ _ (both-passed _ _ passed .0) in
       let a = leb-true 1 (length l) (and-true-left (leb 1 (length l)) _ e) in
       let w = and-true-right (leb 1 (length l)) _ e in
-      let b = eqb-true (length l % 16) 0 (and-true-left (eqb (length l % 16) 0) _ w) in
-      let c = leb-true (length l / 16) 256 (and-true-right (eqb (length l % 16) 0) _ w) in
+      let b = eqb-true (length l % graphWidth) 0 (and-true-left (eqb (length l % graphWidth) 0) _ w) in
+      let c = leb-true (length l / graphWidth) 256 (and-true-right (eqb (length l % graphWidth) 0) _ w) in
       let n = length-graph l in
       (omega arith, omega arith, omega arith)
 
@@ -105,36 +105,13 @@ enter-return g i r good e =
     let arcs : all (goodArc g) (inUse 2 (r .first) (r .second)) ≡ true = rw n at (good .arcs) in
     good-arc g (r .second) (all-at (goodArc g) (inUse 2 (r .first) (r .second)) arcs 1 (omega arith) (r .second)) .0
 
--- a return that is found is some ENTER's
-found-return : (n site : ℕ) (rs : List Instruction) (d : Instruction) → ((k : ℕ) → k < length rs → getD rs k d .code ≡ 8 → getD rs k d .second .instruction < n)
-    → (i : ℕ) → returnOf site rs ≡ some i → i < n
-unfolding returnOf entersSite
-found-return n site [] d small i e = let z : _≡_ {A = ℕ} 0 1 = cc in absurd (omega arith)
-found-return n site (r ∷ rs) d small i e = go (entersSite (pos site) r) refl e (found-return n site rs d (λ k h. small (suc k) (omega arith)) i)
-  where
-    go : (b : Bool) → entersSite (pos site) r ≡ b → cond b (some (r .second .instruction)) (returnOf site rs) ≡ some i → (returnOf site rs ≡ some i → i < n) → i < n
-    go true p e later =
-        let s : r .second .instruction ≡ i = cc in
-        let h = small 0 (omega arith) (eqb-true (r .code) 8 (and-true-left (eqb (r .code) 8) _ p)) in
-        omega arith
-    go false p e later = later e
-
-pub return-inside : (l : List ℕ) → checkGraph l ≡ Passed → (site i : ℕ) → returnOf site (graphOf l) ≡ some i → i < length (graphOf l)
-unfolding instructionAt
-return-inside l passed site i e =
-    found-return (length (graphOf l)) site (graphOf l) (decode []) (λ k h c. enter-return (graphOf l) k (instructionAt (graphOf l) k) (passed-at l passed k h) c) i e
-
--- so its entry in the table of returns is 1 more
-pub return-entry : (l : List ℕ) → checkGraph l ≡ Passed → (site i : ℕ) → returnOf site (graphOf l) ≡ some i → returnEntry (returnOf site (graphOf l)) ≡ suc i
-return-entry l passed site i e = rw (e, lt-ltb i 65535 (omega (arith, return-inside l passed site i e, passed-length l passed .1)))
-
 -- ---- the stores, by their lengths in bytes
 
 pub record GoodStores (inputs picks ledger cells : ℕ) : Type 0 where
-  pub inputRecords : (inputs % 20 ≡ 0) × (inputs / 20 ≤ 2048)
-  pub pickRecords : (picks % 2 ≡ 0) × (picks / 2 ≤ 2048)
-  pub tokenRecords : (ledger % 20 ≡ 0) × (ledger / 20 ≤ 2048)
-  pub cellRecords : (cells % 8 ≡ 0) × (cells / 8 ≤ 1024)
+  pub inputRecords : (inputs % tokenWidth ≡ 0) × (inputs / tokenWidth ≤ 2048)
+  pub pickRecords : (picks % pickWidth ≡ 0) × (picks / pickWidth ≤ 2048)
+  pub tokenRecords : (ledger % tokenWidth ≡ 0) × (ledger / tokenWidth ≤ 2048)
+  pub cellRecords : (cells % cellWidth ≡ 0) × (cells / cellWidth ≤ 1024)
 
 passed-whole : (width most n : ℕ) → whole width most n ≡ true → (n % width ≡ 0) × (n / width ≤ most)
 passed-whole width most n e = (eqb-true (n % width) 0 (and-true-left (eqb (n % width) 0) _ e), leb-true (n / width) most (and-true-right (eqb (n % width) 0) _ e))
@@ -143,13 +120,13 @@ pub passed-stores : (inputs picks ledger cells : ℕ) → checkStores inputs pic
 unfolding checkStores
 passed-stores inputs picks ledger cells e =
     let a = demanded _ _ _ e in
-    let b = and-true-right (whole 20 2048 inputs) _ a in
-    let c = and-true-right (whole 2 2048 picks) _ b in
+    let b = and-true-right (whole tokenWidth 2048 inputs) _ a in
+    let c = and-true-right (whole pickWidth 2048 picks) _ b in
     record {
-      inputRecords = passed-whole 20 2048 inputs (and-true-left (whole 20 2048 inputs) _ a);
-      pickRecords = passed-whole 2 2048 picks (and-true-left (whole 2 2048 picks) _ b);
-      tokenRecords = passed-whole 20 2048 ledger (and-true-left (whole 20 2048 ledger) _ c);
-      cellRecords = passed-whole 8 1024 cells (and-true-right (whole 20 2048 ledger) _ c);
+      inputRecords = passed-whole tokenWidth 2048 inputs (and-true-left (whole tokenWidth 2048 inputs) _ a);
+      pickRecords = passed-whole pickWidth 2048 picks (and-true-left (whole pickWidth 2048 picks) _ b);
+      tokenRecords = passed-whole tokenWidth 2048 ledger (and-true-left (whole tokenWidth 2048 ledger) _ c);
+      cellRecords = passed-whole cellWidth 1024 cells (and-true-right (whole tokenWidth 2048 ledger) _ c);
     }
 
 -- ---- the inputs
@@ -181,20 +158,20 @@ passed-input g l e =
 
 pub record GoodInputs (g : List Instruction) (capacity : ℕ) (inputs : List ℕ) : Type 0 where
   pub fit : length (tokensOf inputs) ≤ capacity
-  pub good : (i : ℕ) → i < length inputs / 20 → goodInput g (drop (i * 20) inputs) ≡ true
-  pub alone : (i : ℕ) → i < length inputs / 20 → secondInput (take i (tokensOf inputs)) (Tokens.tokenAt inputs i) ≡ false
+  pub good : (i : ℕ) → i < length inputs / tokenWidth → goodInput g (drop (i * tokenWidth) inputs) ≡ true
+  pub alone : (i : ℕ) → i < length inputs / tokenWidth → secondInput (take i (tokensOf inputs)) (Tokens.tokenAt inputs i) ≡ false
 
 pub passed-inputs : (g : List Instruction) (capacity : ℕ) (inputs : List ℕ) → checkInputs g capacity inputs ≡ Passed → GoodInputs g capacity inputs
 unfolding checkInputs
 passed-inputs g capacity inputs e =
     let a = both-passed _ _ e in
     let b = both-passed _ _ (a .1) in
-    let n = length inputs / 20 in
+    let n = length inputs / tokenWidth in
     record {
       fit = leb-true _ _ (demanded _ _ _ (b .0));
       good = λ i h.
-          sym (getD-rows 20 (goodInput g) n i inputs true h)
-          ∙ demanded _ BadInput (0 + i) (each-passed (λ k x. demand x BadInput k) 0 (allRows 20 (goodInput g) inputs) (a .0) i (omega (arith, length-rows 20 (goodInput g) n inputs)) true);
+          sym (getD-rows tokenWidth (goodInput g) n i inputs true h)
+          ∙ demanded _ BadInput (0 + i) (each-passed (λ k x. demand x BadInput k) 0 (allRows tokenWidth (goodInput g) inputs) (a .0) i (omega (arith, length-rows tokenWidth (goodInput g) n inputs)) true);
       alone = λ i h.
           let d = Tokens.decode [] in
           let ts = tokensOf inputs in
@@ -206,7 +183,7 @@ passed-inputs g capacity inputs e =
 -- ---- all of it
 
 pub passed-check : (graph inputs picks : List ℕ) (ledger cells : ℕ) → check graph inputs picks ledger cells ≡ Passed
-    → (checkGraph graph ≡ Passed) × (checkStores (length inputs) (length picks) ledger cells ≡ Passed) × (checkInputs (graphOf graph) (ledger / 20) inputs ≡ Passed)
+    → (checkGraph graph ≡ Passed) × (checkStores (length inputs) (length picks) ledger cells ≡ Passed) × (checkInputs (graphOf graph) (ledger / tokenWidth) inputs ≡ Passed)
 unfolding check
 passed-check graph inputs picks ledger cells e =
     let a = both-passed (checkGraph graph) _ e in

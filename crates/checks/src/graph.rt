@@ -1,8 +1,7 @@
 // Refusals 1 to 5: the graph.
-use crate::buffer;
-use fields::arc;
-use fields::fan_out;
-use fields::site;
+use check_fields::arc;
+use check_fields::fan_out;
+use check_fields::site;
 use record::instruction;
 use record::instruction::Instruction;
 use record::operation;
@@ -12,7 +11,7 @@ ghost use mathlib.Core.Path.{_≡_};
 ghost use lib.ListN.{take};
 ghost use Rattle.record.specs.GraphRecords.{isGraphLength, graphOf};
 ghost use Rattle.rules.specs.Check.{demand, _andThen_, inTurn, checkRecord, checkGraph};
-ghost use Rattle.fields.specs.Sites.{Sites};
+ghost use Rattle.check_fields.specs.Sites.{Sites};
 
 // The first refusal of record i, by what each of 2 to 5 demands of it.
 fn first_fault(i: usize, known: bool, fields: bool, arcs: bool, site: bool) -> Checked
@@ -51,7 +50,7 @@ fn records(graph: &[u8]) -> Checked
 {
     let mut sites = [0u32; 256];
     let mut i = 0;
-    while i < graph.len() / 16 {
+    while i < graph.len() / instruction::WIDTH {
         let r = instruction::instruction_at(graph, i);
         let checked = record(graph, &sites, i, r);
         let Checked::Passed = checked else {
@@ -67,7 +66,7 @@ fn records(graph: &[u8]) -> Checked
 fn good_length(n: usize) -> bool
     ensures { λ r. ⌜ r ≡ isGraphLength n ⌝ }
 {
-    1 <= n && buffer::whole(16, 256, n)
+    1 <= n && buffer::whole(instruction::WIDTH, 256, n)
 }
 
 pub fn check(graph: &[u8]) -> Checked

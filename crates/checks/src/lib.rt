@@ -1,9 +1,9 @@
 // What is refused before any firing is tried (01, "The answer and the refusals"), in its order: the
 // graph record by record, the stores, the inputs.
-mod buffer;
 pub mod graph;
 pub mod stores;
 
+use record::token;
 use rules::answer::Checked;
 ghost use mathlib.Core.Path.{_≡_};
 ghost use Rattle.rules.specs.Check as Rules;
@@ -20,5 +20,5 @@ pub fn check(graph: &[u8], inputs: &[u8], picks: &[u8], ledger: usize, cells: us
     let Checked::Passed = of_stores else {
         return of_stores;
     };
-    inputs::check(graph, inputs, ledger / 20)
+    check_inputs::check(graph, inputs, ledger / token::WIDTH)
 }

@@ -10,20 +10,21 @@ use Rattle.record.specs.declared.token.Content.the-variants.{Live, Spent, Defer
 use Rattle.record.specs.declared.cell.Cell as RecordCell
 use Rattle.record.specs.declared.cell.Cell.the-variants.{Absent, Waiting, Present}
 use Rattle.record.specs.declared.instruction.Instruction.{Instruction}
-use Rattle.table.specs.Table.{joined, writtenOver}
+use Rattle.buffer.specs.Rows.{joined, writtenOver}
 use Rattle.record.specs.TokensAndTags.{tokens, ledgerOf}
 use Rattle.record.specs.TokensAndTags as Tokens
 use Rattle.record.specs.Cells as Cells
-use Rattle.table.proofs.Tables.{length-rows, length-joined}
+use Rattle.buffer.proofs.Tables.{length-rows, length-joined}
 use Rattle.record.proofs.Records.{length-token}
-use Rattle.matching.proofs.Laws.{matching-ledger}
+use Rattle.record.specs.Widths.{tokenWidth}
+use Rattle.store.proofs.Laws.{matching-ledger}
 use Rattle.machine.specs.Machine.{Outcome, end}
 use Rattle.rules.specs.declared.answer.Refusal.{Refusal}
 use Rattle.rules.specs.Run.{contentHeld, contentRecord, tokenHeld, tokenRecord, cellRecord, outcomeOf}
-use Rattle.held.specs.Held.{cellHeld}
-use Rattle.outputs.specs.Outputs.{cellsIn}
+use Rattle.abstraction.specs.States.{cellHeld}
+use Rattle.fire_outputs.specs.Outputs.{cellsIn}
 use Rattle.fire.specs.Running.{machineFor, stateIn, Running}
-use Rattle.engine.specs.Turns.{Left}
+use Rattle.engine.specs.Turns.{EndedAt}
 
 -- ---- records and the machine's tokens and cells, there and back
 
@@ -47,15 +48,15 @@ cells-back (c ∷ cs) = λ i. cell-back c i ∷ cells-back cs i
 
 -- ---- the end
 
-module _ (g : List Instruction) {arities heads next flags counts waiting later ledger′ cells′ : List ℕ} {n : ℕ}
-    (last : Running g arities heads next flags counts waiting later ledger′ cells′ n) (ledger cells : List ℕ)
-    (rest : drop (n * 20) ledger′ ≡ drop (n * 20) ledger) (cellSize : length cells′ ≡ length cells) where
+module _ (g : List Instruction) {tables links flags ledger′ cells′ : List ℕ} {n : ℕ}
+    (last : Running g tables links flags ledger′ cells′ n) (ledger cells : List ℕ)
+    (rest : drop (n * tokenWidth) ledger′ ≡ drop (n * tokenWidth) ledger) (cellSize : length cells′ ≡ length cells) where
   size : length (tokens n ledger′) ≡ n
-  size = length-rows 20 Tokens.decode n ledger′
+  size = length-rows tokenWidth Tokens.decode n ledger′
 
   ledger-left : ledger′ ≡ ledgerOf (map tokenRecord (map tokenHeld (tokens n ledger′))) ledger
   ledger-left =
-      let bytes : length (joined Tokens.encode (tokens n ledger′)) ≡ n * 20 = length-joined 20 Tokens.encode length-token (tokens n ledger′) ∙ ap (λ (k : ℕ). k * 20) size in
+      let bytes : length (joined Tokens.encode (tokens n ledger′)) ≡ n * tokenWidth = length-joined tokenWidth Tokens.encode length-token (tokens n ledger′) ∙ ap (λ (k : ℕ). k * tokenWidth) size in
       matching-ledger (last .matching)
       ∙ ap (λ (l : List ℕ). joined Tokens.encode (tokens n ledger′) ++ l) (rest ∙ ap (λ (k : ℕ). drop k ledger) (sym bytes))
       ∙ sym (ap (λ (ts : List Record.Token). ledgerOf ts ledger) (tokens-back (tokens n ledger′)))
@@ -70,7 +71,7 @@ module _ (g : List Instruction) {arities heads next flags counts waiting later l
       ∙ ap (λ (l : List ℕ). joined Cells.encode (cellsIn cells′) ++ l) (sym none)
       ∙ sym (ap (λ (cs : List RecordCell.Cell). writtenOver Cells.encode cs cells) (cells-back (cellsIn cells′)))
 
-  pub left : (o : Outcome Refusal) (f : ℕ) → Left (end (machineFor g ledger cells) o f (stateIn ledger′ cells′ n)) (record { outcome = outcomeOf o; firings = f; tokens = n }) ledger cells ledger′ cells′
+  pub left : (o : Outcome Refusal) (f : ℕ) → EndedAt (end (machineFor g ledger cells) o f (stateIn ledger′ cells′ n)) (record { outcome = outcomeOf o; firings = f; tokens = n }) ledger cells ledger′ cells′
   left o f = record {
     answered = λ i. record { outcome = outcomeOf o; firings = f; tokens = sym (length-map (tokens n ledger′) tokenHeld ∙ size) i };
     ledgerLeft = ledger-left;

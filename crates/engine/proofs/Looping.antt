@@ -10,29 +10,30 @@ use lib.IntN.{ℤ}
 use Rattle.record.specs.declared.tag.Tag.{Tag}
 use Rattle.record.specs.declared.instruction.Instruction.{Instruction}
 use Rattle.record.specs.TokensAndTags.{tokens}
-use Rattle.enabled.specs.Enabled.{enabledPlaces}
-use Rattle.flags.specs.Flags.{places, flagsOf}
+use Rattle.record.specs.Widths.{tokenWidth, cellWidth}
+use Rattle.store_enabled.specs.Enabled.{enabledPlaces}
+use Rattle.store_flags.specs.Flags.{places, flagsOf}
 use Rattle.machine.specs.Machine.{Machine, Outcome, completed, budgetSpent, End, laterPicks, byPicks, runBy, end}
-use Rattle.matching.proofs.Laws.{matching-places}
-use Rattle.accept.specs.Accept.{tailOf}
-use Rattle.accept.proofs.Laws.{tail-drop}
-use Rattle.outputs.proofs.Laws.{rest-on}
+use Rattle.store.proofs.Laws.{matching-places}
+use Rattle.load.specs.Loaded.{tailOf}
+use Rattle.load.proofs.Laws.{tail-drop}
+use Rattle.fire_outputs.proofs.Laws.{rest-on}
 use Rattle.rules.specs.declared.answer.Refusal.{Refusal}
 use Rattle.rules.specs.declared.answer.Outcome as AnswerOutcome
 use Rattle.rules.specs.InstructionSet.{machineOf}
 use Rattle.rules.specs.Run.{outcomeOf}
-use Rattle.held.specs.Held.{Arities}
+use Rattle.abstraction.specs.Tables.{Arities}
 use Rattle.fire.specs.Running.{machineFor, stateIn, Running}
-use Rattle.engine.specs.Turns.{Advanced, Halted, Left, endOf, restOutcome}
+use Rattle.engine.specs.Turns.{Advanced, Halted, EndedAt, endOf, restOutcome}
 use Rattle.engine.proofs.Turning.{ended, spent-here}
 use Rattle.engine.proofs.Ending.{left}
 
 -- after so many firings, from a ledger and cells as lent
-pub record SoFar (g : List Instruction) (ledger₀ cells₀ : List ℕ) (start budget : ℕ) (picks arities heads next flags counts waiting later ledger cells : List ℕ) (used firings : ℕ) : Type 0 where
+pub record SoFar (g : List Instruction) (ledger₀ cells₀ : List ℕ) (start budget : ℕ) (picks tables links flags ledger cells : List ℕ) (used firings : ℕ) : Type 0 where
   pub within : firings ≤ budget
-  pub running : Running g arities heads next flags counts waiting later ledger cells used
+  pub running : Running g tables links flags ledger cells used
   pub size : length ledger ≡ length ledger₀
-  pub rest : drop (used * 20) ledger ≡ drop (used * 20) ledger₀
+  pub rest : drop (used * tokenWidth) ledger ≡ drop (used * tokenWidth) ledger₀
   pub cellSize : length cells ≡ length cells₀
   -- the run that is left to do
   pub toDo : endOf g ledger₀ cells₀ start budget picks
@@ -45,8 +46,8 @@ later-drop k xs = go (drop k xs) ∙ tail-drop k xs
     go [] = refl
     go (y ∷ ys) = refl
 
-module _ (g : List Instruction) (ledger₀ cells₀ : List ℕ) (start budget : ℕ) (picks : List ℕ) {arities heads next flags counts waiting later : List ℕ} where
-  pub begun : Running g arities heads next flags counts waiting later ledger₀ cells₀ start → SoFar g ledger₀ cells₀ start budget picks arities heads next flags counts waiting later ledger₀ cells₀ start 0
+module _ (g : List Instruction) (ledger₀ cells₀ : List ℕ) (start budget : ℕ) (picks : List ℕ) {tables links flags : List ℕ} where
+  pub begun : Running g tables links flags ledger₀ cells₀ start → SoFar g ledger₀ cells₀ start budget picks tables links flags ledger₀ cells₀ start 0
   begun r = record {
     within = omega arith;
     running = r;
@@ -56,22 +57,22 @@ module _ (g : List Instruction) (ledger₀ cells₀ : List ℕ) (start budget : 
     toDo = let e : budget ≡ budget - 0 = omega arith in ap (λ (b : ℕ). runBy (machineFor g ledger₀ cells₀) (byPicks (machineFor g ledger₀ cells₀)) b picks 0 (stateIn ledger₀ cells₀ start)) e;
   }
 
-  module _ {ledger cells : List ℕ} {used firings : ℕ} (so : SoFar g ledger₀ cells₀ start budget picks arities heads next flags counts waiting later ledger cells used firings) where
+  module _ {ledger cells : List ℕ} {used firings : ℕ} (so : SoFar g ledger₀ cells₀ start budget picks tables links flags ledger cells used firings) where
     abbrev M₀ : Machine
     M₀ = machineFor g ledger₀ cells₀
 
     -- what holds at the lengths of these buffers holds at those of the lent ones, which are the same
-    as-lent : (P : (capacity count : ℕ) → Type 0) → P (length ledger / 20) (length cells / 8) → P (length ledger₀ / 20) (length cells₀ / 8)
-    as-lent P h = subst (λ (b : ℕ). P (length ledger₀ / 20) (b / 8)) (so .cellSize) (subst (λ (b : ℕ). P (b / 20) (length cells / 8)) (so .size) h)
+    as-lent : (P : (capacity count : ℕ) → Type 0) → P (length ledger / tokenWidth) (length cells / cellWidth) → P (length ledger₀ / tokenWidth) (length cells₀ / cellWidth)
+    as-lent P h = subst (λ (b : ℕ). P (length ledger₀ / tokenWidth) (b / cellWidth)) (so .cellSize) (subst (λ (b : ℕ). P (b / tokenWidth) (length cells / cellWidth)) (so .size) h)
 
     to-do : (b : ℕ) → budget - firings ≡ b → endOf g ledger₀ cells₀ start budget picks ≡ runBy M₀ (byPicks M₀) b (drop firings picks) firings (stateIn ledger cells used)
     to-do b e = so .toDo ∙ ap (λ (n : ℕ). runBy M₀ (byPicks M₀) n (drop firings picks) firings (stateIn ledger cells used)) e
 
     -- a turn that fired
-    pub advanced : firings < budget → (heads′ next′ flags′ counts′ waiting′ later′ ledger′ cells′ : List ℕ) (n : ℕ)
-        → Advanced g (drop firings picks) arities heads′ next′ flags′ counts′ waiting′ later′ ledger′ cells′ n used ledger cells
-        → SoFar g ledger₀ cells₀ start budget picks arities heads′ next′ flags′ counts′ waiting′ later′ ledger′ cells′ n (firings + 1)
-    advanced h heads′ next′ flags′ counts′ waiting′ later′ ledger′ cells′ n a =
+    pub advanced : firings < budget → (links′ flags′ ledger′ cells′ : List ℕ) (n : ℕ)
+        → Advanced g (drop firings picks) tables links′ flags′ ledger′ cells′ n used ledger cells
+        → SoFar g ledger₀ cells₀ start budget picks tables links′ flags′ ledger′ cells′ n (firings + 1)
+    advanced h links′ flags′ ledger′ cells′ n a =
         let s = stateIn ledger cells used in
         let s′ = stateIn ledger′ cells′ n in
         let b = budget - suc firings in
@@ -90,22 +91,22 @@ module _ (g : List Instruction) (ledger₀ cells₀ : List ℕ) (start budget : 
           toDo = rw (add-one firings) (to-do (suc b) (omega arith) ∙ step ∙ then);
         }
 
-    ends-as : (o : Outcome Refusal) (w : AnswerOutcome.Outcome) {heads′ next′ flags′ counts′ waiting′ later′ ledger′ cells′ : List ℕ} → outcomeOf o ≡ w
+    ends-as : (o : Outcome Refusal) (w : AnswerOutcome.Outcome) {links′ flags′ ledger′ cells′ : List ℕ} → outcomeOf o ≡ w
         → endOf g ledger₀ cells₀ start budget picks ≡ end M₀ o firings (stateIn ledger cells used)
-        → Running g arities heads′ next′ flags′ counts′ waiting′ later′ ledger′ cells′ used → ledger′ ≡ ledger → cells′ ≡ cells
-        → Left (endOf g ledger₀ cells₀ start budget picks) (record { outcome = w; firings = firings; tokens = used }) ledger₀ cells₀ ledger′ cells′
+        → Running g tables links′ flags′ ledger′ cells′ used → ledger′ ≡ ledger → cells′ ≡ cells
+        → EndedAt (endOf g ledger₀ cells₀ start budget picks) (record { outcome = w; firings = firings; tokens = used }) ledger₀ cells₀ ledger′ cells′
     ends-as o w {ledger′ = ledger′} {cells′ = cells′} told e r l c =
         let there : end M₀ o firings (stateIn ledger′ cells′ used) ≡ endOf g ledger₀ cells₀ start budget picks =
         (λ i. end M₀ o firings (stateIn (l i) (c i) used)) ∙ sym e in
-        subst (λ (x : AnswerOutcome.Outcome). Left (endOf g ledger₀ cells₀ start budget picks) (record { outcome = x; firings = firings; tokens = used }) ledger₀ cells₀ ledger′ cells′) told
-        (subst (λ (x : End Refusal Tag ℤ). Left x (record { outcome = outcomeOf o; firings = firings; tokens = used }) ledger₀ cells₀ ledger′ cells′) there
-        (left g r ledger₀ cells₀ (ap (drop (used * 20)) l ∙ so .rest) (ap length c ∙ so .cellSize) o firings))
+        subst (λ (x : AnswerOutcome.Outcome). EndedAt (endOf g ledger₀ cells₀ start budget picks) (record { outcome = x; firings = firings; tokens = used }) ledger₀ cells₀ ledger′ cells′) told
+        (subst (λ (x : End Refusal Tag ℤ). EndedAt x (record { outcome = outcomeOf o; firings = firings; tokens = used }) ledger₀ cells₀ ledger′ cells′) there
+        (left g r ledger₀ cells₀ (ap (drop (used * tokenWidth)) l ∙ so .rest) (ap length c ∙ so .cellSize) o firings))
 
     -- a turn that ended the run
-    pub halted : firings < budget → (o : AnswerOutcome.Outcome) (heads′ next′ flags′ counts′ waiting′ later′ ledger′ cells′ : List ℕ)
-        → Halted o g (drop firings picks) arities heads′ next′ flags′ counts′ waiting′ later′ ledger′ cells′ used ledger cells
-        → Left (endOf g ledger₀ cells₀ start budget picks) (record { outcome = o; firings = firings; tokens = used }) ledger₀ cells₀ ledger′ cells′
-    halted h o heads′ next′ flags′ counts′ waiting′ later′ ledger′ cells′ a =
+    pub halted : firings < budget → (o : AnswerOutcome.Outcome) (links′ flags′ ledger′ cells′ : List ℕ)
+        → Halted o g (drop firings picks) tables links′ flags′ ledger′ cells′ used ledger cells
+        → EndedAt (endOf g ledger₀ cells₀ start budget picks) (record { outcome = o; firings = firings; tokens = used }) ledger₀ cells₀ ledger′ cells′
+    halted h o links′ flags′ ledger′ cells′ a =
         let s = stateIn ledger cells used in
         let b = budget - suc firings in
         let step : runBy M₀ (byPicks M₀) (suc b) (drop firings picks) firings s ≡ end M₀ (a .outcome) firings s =
@@ -113,21 +114,21 @@ module _ (g : List Instruction) (ledger₀ cells₀ : List ℕ) (start budget : 
         ends-as (a .outcome) o (a .told) (to-do (suc b) (omega arith) ∙ step) (a .running) (a .sameLedger) (a .sameCells)
 
     -- the budget is spent
-    pub finished : budget ≤ firings → Arities g arities → (w : AnswerOutcome.Outcome) → w ≡ restOutcome (length (places (flagsOf flags)))
-        → Left (endOf g ledger₀ cells₀ start budget picks) (record { outcome = w; firings = firings; tokens = used }) ledger₀ cells₀ ledger cells
+    pub finished : budget ≤ firings → Arities g tables → (w : AnswerOutcome.Outcome) → w ≡ restOutcome (length (places (flagsOf flags)))
+        → EndedAt (endOf g ledger₀ cells₀ start budget picks) (record { outcome = w; firings = firings; tokens = used }) ledger₀ cells₀ ledger cells
     finished h right w e = go (length (places (flagsOf flags))) refl
       where
-        same : length (places (flagsOf flags)) ≡ length (enabledPlaces arities (tokens used ledger))
+        same : length (places (flagsOf flags)) ≡ length (enabledPlaces tables (tokens used ledger))
         same = ap length (matching-places (so .running .matching))
 
-        go : (n : ℕ) → length (places (flagsOf flags)) ≡ n → Left (endOf g ledger₀ cells₀ start budget picks) (record { outcome = w; firings = firings; tokens = used }) ledger₀ cells₀ ledger cells
+        go : (n : ℕ) → length (places (flagsOf flags)) ≡ n → EndedAt (endOf g ledger₀ cells₀ start budget picks) (record { outcome = w; firings = firings; tokens = used }) ledger₀ cells₀ ledger cells
         go zero z =
             let s = stateIn ledger cells used in
             let stop = as-lent (λ p q. runBy (machineOf g p q) (byPicks (machineOf g p q)) 0 (drop firings picks) firings s ≡ end (machineOf g p q) completed firings s)
-            (ended g arities right ledger cells used (so .running .arrived) 0 (drop firings picks) firings (sym same ∙ z)) in
+            (ended g tables right ledger cells used (so .running .arrived) 0 (drop firings picks) firings (sym same ∙ z)) in
             ends-as completed w (sym (e ∙ ap restOutcome z)) (to-do 0 (omega arith) ∙ stop) (so .running) refl refl
         go (suc n) z =
             let s = stateIn ledger cells used in
             let stop = as-lent (λ p q. runBy (machineOf g p q) (byPicks (machineOf g p q)) 0 (drop firings picks) firings s ≡ end (machineOf g p q) budgetSpent firings s)
-            (spent-here g arities right ledger cells used (so .running .arrived) (drop firings picks) firings (λ q. let y : suc n ≡ 0 = sym z ∙ same ∙ q in omega arith)) in
+            (spent-here g tables right ledger cells used (so .running .arrived) (drop firings picks) firings (λ q. let y : suc n ≡ 0 = sym z ∙ same ∙ q in omega arith)) in
             ends-as budgetSpent w (sym (e ∙ ap restOutcome z)) (to-do 0 (omega arith) ∙ stop) (so .running) refl refl

@@ -3,26 +3,26 @@
 use Prim.Native.Nat.{ℕ, zero, suc, _+_, _*_, _/_, _≤_, _<_}
 use mathlib.Core.Path.{_≡_, refl, sym, ap, _∙_, subst}
 use mathlib.Core.List.{List, [], _∷_, _++_, map}
-use mathlib.Core.Option.{Option, none, some}
+use mathlib.Core.Option.{some}
 use native.Mathlib.Omega.{arith}
 use native.Mathlib.Nat.{mul-div-cancel}
-use native.Mathlib.Decide.{decLe}
 use lib.Seq.{drop-drop}
-use lib.ListN.{length, getD, take, drop, replicate, length-replicate, length-map, drop-of-length-le}
+use lib.ListN.{length, take, drop, replicate, length-replicate, length-map, drop-of-length-le}
 use lib.IntN.{ℤ}
 use Rattle.record.specs.declared.tag.Tag.{Tag}
 use Rattle.record.specs.declared.token.Token as Record
 use Rattle.record.specs.declared.token.Content as RecordContent
 use Rattle.record.specs.declared.token.Content.the-variants.{Live, Spent, Deferred}
 use Rattle.record.specs.declared.cell.Cell.the-variants.{Absent}
-use Rattle.table.specs.Table.{All, rows, allRows, joined}
+use Rattle.buffer.specs.Rows.{All, rows, allRows, joined}
 use Rattle.record.specs.GraphRecords.{graphOf}
 use Rattle.record.specs.TokensAndTags.{tokens}
 use Rattle.record.specs.TokensAndTags as Tokens
 use Rattle.record.specs.Cells as Cells
-use Rattle.table.proofs.Tables.{length-rows, length-joined}
+use Rattle.buffer.proofs.Tables.{length-rows, length-joined}
 use Rattle.record.proofs.Records.{length-token, length-cell}
-use Rattle.chains.specs.Deferred.{LowCell}
+use Rattle.record.specs.Widths.{tokenWidth, cellWidth}
+use Rattle.store_chains.specs.Deferred.{LowCell}
 use Rattle.machine.specs.Machine.{Machine, State, End, absent, run}
 use Rattle.machine.specs.Orders as Orders
 use Rattle.machine.specs.Orders.{Good}
@@ -32,60 +32,30 @@ use Rattle.rules.specs.declared.answer.Refusal.{Refusal}
 use Rattle.rules.specs.declared.answer.Answer.{Answer}
 use Rattle.rules.specs.declared.answer.Checked.the-variants.{Passed}
 use Rattle.rules.specs.Check.{checkGraph, checkInputs, check, operandsAt}
-use Rattle.rules.specs.InstructionSet.{arityIn, machineOf, returnOf}
+use Rattle.rules.specs.InstructionSet.{machineOf}
 use Rattle.rules.specs.Run.{contentHeld, tokenHeld, tokenRecord, cellRecord, firstState}
 use Rattle.rules.proofs.Inputs.{start}
 use Rattle.rules.proofs.Lawful.{lawful}
-use Rattle.tables.specs.Tables as Tables
-use Rattle.checks.proofs.Passed.{passed-check, passed-length, return-entry, GoodStores, passed-stores, GoodInputs, passed-inputs, passed-input}
-use Rattle.tables.proofs.Entries.{arity-small}
-use Rattle.fields.proofs.Graphs.{arity-past}
-use Rattle.effect.specs.Held.{entryOf, Returns}
-use Rattle.effect.proofs.Arrives.{arrives-port}
-use Rattle.held.specs.Held.{cellHeld, Arities}
-use Rattle.held.proofs.Keys.{alone-free}
-use Rattle.outputs.specs.Outputs.{cellsIn, CellStore}
-use Rattle.outputs.proofs.Laws.{rest-on}
-use Rattle.accept.specs.Accept.{Proper, Alone, Accepted}
-use Rattle.accept.proofs.Laws.{zeros-joined, absent-fit, zeros-cells}
-use Rattle.fire.specs.Running.{stateIn, Arrived, Running, Prepared}
-use Rattle.engine.specs.Turns.{Left, endOf}
-
--- ---- the tables made of the graph
-
-past-end : (l : List ℕ) (k : ℕ) → length l ≤ k → getD l k 0 ≡ 0
-past-end [] k h = refl
-past-end (x ∷ l) zero h = absurd (omega arith)
-past-end (x ∷ l) (suc k) h = past-end l k (omega arith)
-
-module _ (graph : List ℕ) (passed : checkGraph graph ≡ Passed) where
-  arities-right : (arities : List ℕ) → length arities ≡ 256 → Tables.Arities (graphOf graph) arities → Arities (graphOf graph) arities
-  unfolding arityIn
-  arities-right arities size right tag = (go (decLe (suc (tag .instruction)) 256), arity-small (graphOf graph) tag)
-    where
-      go : Dec (suc (tag .instruction) ≤ 256) → getD arities (tag .instruction) 0 ≡ arityIn (graphOf graph) tag
-      go (yes h) = right tag h
-      go (no n) = past-end arities (tag .instruction) (omega arith) ∙ sym (arity-past graph (tag .instruction) (omega (arith, passed-length graph passed .1, passed-length graph passed .2)))
-
-  returns-right : (returns : List ℕ) → Tables.Returns (graphOf graph) returns → Returns returns (graphOf graph)
-  returns-right returns right = record { entry = λ site h. right site h ∙ go site (returnOf site (graphOf graph)) refl }
-    where
-      go : (site : ℕ) (o : Option ℕ) → returnOf site (graphOf graph) ≡ o → Tables.returnEntry (returnOf site (graphOf graph)) ≡ entryOf (returnOf site (graphOf graph))
-      go site none e = ap Tables.returnEntry e ∙ sym (ap entryOf e)
-      go site (some i) e = return-entry graph passed site i e ∙ sym (ap entryOf e)
-
-  pub prepared : (returns arities : List ℕ) → length arities ≡ 256 → Tables.Arities (graphOf graph) arities → Tables.Returns (graphOf graph) returns → Prepared graph returns arities
-  prepared returns arities size a r = record { passed = passed; returnsRight = returns-right returns r; aritiesRight = arities-right arities size a }
+use Rattle.checks.proofs.Passed.{passed-check, GoodStores, passed-stores, GoodInputs, passed-inputs, passed-input}
+use Rattle.fire_effect.proofs.Arrives.{arrives-port}
+use Rattle.abstraction.specs.States.{cellHeld}
+use Rattle.abstraction.proofs.Keys.{alone-free}
+use Rattle.fire_outputs.specs.Outputs.{cellsIn, CellStore}
+use Rattle.fire_outputs.proofs.Laws.{rest-on}
+use Rattle.load.specs.Loaded.{Proper, Alone, Loaded}
+use Rattle.load.proofs.Laws.{zeros-joined, absent-fit, zeros-cells}
+use Rattle.fire.specs.Running.{stateIn, Arrived, Running}
+use Rattle.engine.specs.Turns.{EndedAt, endOf}
 
 -- ---- the inputs
 
-rows-all : (P : Record.Token → Type 0) (n : ℕ) (l : List ℕ) → ((i : ℕ) → i < n → P (Tokens.decode (drop (i * 20) l))) → All P (rows 20 Tokens.decode n l)
+rows-all : (P : Record.Token → Type 0) (n : ℕ) (l : List ℕ) → ((i : ℕ) → i < n → P (Tokens.decode (drop (i * tokenWidth) l))) → All P (rows tokenWidth Tokens.decode n l)
 rows-all P zero l h = tt
 rows-all P (suc n) l h = (
   h 0 (omega arith),
-  rows-all P n (drop 20 l) (λ i k.
-      let m : suc i * 20 ≡ 20 + i * 20 = omega arith in
-      subst (λ (b : List ℕ). P (Tokens.decode b)) (ap (λ (j : ℕ). drop j l) m ∙ sym (drop-drop (i * 20) 20 l)) (h (suc i) (omega arith))),
+  rows-all P n (drop tokenWidth l) (λ i k.
+      let m : suc i * tokenWidth ≡ tokenWidth + i * tokenWidth = omega arith in
+      subst (λ (b : List ℕ). P (Tokens.decode b)) (ap (λ (j : ℕ). drop j l) m ∙ sym (drop-drop (i * tokenWidth) tokenWidth l)) (h (suc i) (omega arith))),
 )
 
 low-live : (x : RecordContent.Content) → Orders.Live (some (contentHeld x)) → LowCell x
@@ -97,10 +67,10 @@ module _ (graph inputs : List ℕ) (capacity count : ℕ) (accepted : checkInput
   inputs-good : GoodInputs (graphOf graph) capacity inputs
   inputs-good = passed-inputs (graphOf graph) capacity inputs accepted
 
-  inputs-arrive : Arrived (graphOf graph) (allRows 20 Tokens.decode inputs)
+  inputs-arrive : Arrived (graphOf graph) (allRows tokenWidth Tokens.decode inputs)
   unfolding Tokens.decode
-  inputs-arrive = rows-all (λ (t : Record.Token). t .port < operandsAt (graphOf graph) (t .tag .instruction)) (length inputs / 20) inputs
-      (λ i h. passed-input (graphOf graph) (drop (i * 20) inputs) (inputs-good .good i h) .port)
+  inputs-arrive = rows-all (λ (t : Record.Token). t .port < operandsAt (graphOf graph) (t .tag .instruction)) (length inputs / tokenWidth) inputs
+      (λ i h. passed-input (graphOf graph) (drop (i * tokenWidth) inputs) (inputs-good .good i h) .port)
 
   low-cells : (ts : List Record.Token) → Orders.AllLive (machineOf (graphOf graph) capacity count) (map tokenHeld ts) → All (λ (t : Record.Token). LowCell (t .content)) ts
   low-cells [] a = tt
@@ -110,15 +80,15 @@ module _ (graph inputs : List ℕ) (capacity count : ℕ) (accepted : checkInput
   both-all [] a b = tt
   both-all (t ∷ ts) a b = ((arrives-port (graphOf graph) (record { tag = t .tag; port = t .port }) (a .0), b .0), both-all ts (a .1) (b .1))
 
-  pub inputs-proper : All Proper (allRows 20 Tokens.decode inputs)
+  pub inputs-proper : All Proper (allRows tokenWidth Tokens.decode inputs)
   unfolding firstState
-  inputs-proper = both-all (allRows 20 Tokens.decode inputs) inputs-arrive (low-cells (allRows 20 Tokens.decode inputs) (start (graphOf graph) capacity count inputs accepted .allLive))
+  inputs-proper = both-all (allRows tokenWidth Tokens.decode inputs) inputs-arrive (low-cells (allRows tokenWidth Tokens.decode inputs) (start (graphOf graph) capacity count inputs accepted .allLive))
 
   pub inputs-alone : Alone inputs
-  inputs-alone i h = alone-free (take i (allRows 20 Tokens.decode inputs)) (Tokens.tokenAt inputs i) (inputs-good .alone i h)
+  inputs-alone i h = alone-free (take i (allRows tokenWidth Tokens.decode inputs)) (Tokens.tokenAt inputs i) (inputs-good .alone i h)
 
-  pub inputs-fit : length inputs / 20 ≤ capacity
-  inputs-fit = omega (arith, inputs-good .fit, length-rows 20 Tokens.decode (length inputs / 20) inputs)
+  pub inputs-fit : length inputs / tokenWidth ≤ capacity
+  inputs-fit = omega (arith, inputs-good .fit, length-rows tokenWidth Tokens.decode (length inputs / tokenWidth) inputs)
 
 -- ---- the state
 
@@ -126,23 +96,23 @@ absent-held : (n : ℕ) → map cellHeld (replicate n Absent) ≡ replicate n ab
 absent-held zero = refl
 absent-held (suc n) = ap (λ l. absent ∷ l) (absent-held n)
 
-zeros-in : (l : List ℕ) (n : ℕ) → l ≡ replicate (n * 8) 0 → cellsIn l ≡ replicate n Absent
+zeros-in : (l : List ℕ) (n : ℕ) → l ≡ replicate (n * cellWidth) 0 → cellsIn l ≡ replicate n Absent
 zeros-in l n e =
-    let size : length l / 8 ≡ n = ap (λ (b : List ℕ). length b / 8) e ∙ ap (λ (k : ℕ). k / 8) (length-replicate {A = ℕ} (n * 8) 0) ∙ mul-div-cancel n (omega arith) in
+    let size : length l / cellWidth ≡ n = ap (λ (b : List ℕ). length b / cellWidth) e ∙ ap (λ (k : ℕ). k / cellWidth) (length-replicate {A = ℕ} (n * cellWidth) 0) ∙ mul-div-cancel n (omega arith) in
     ap (λ (k : ℕ). Cells.cells k l) size ∙ ap (Cells.cells n) e ∙ zeros-cells n
 
-zeros-store : (l : List ℕ) (n : ℕ) → l ≡ replicate (n * 8) 0 → n ≤ 1024 → CellStore l
+zeros-store : (l : List ℕ) (n : ℕ) → l ≡ replicate (n * cellWidth) 0 → n ≤ 1024 → CellStore l
 zeros-store l n e h =
     let inside = zeros-in l n e in
     record {
       bytes = e ∙ zeros-joined n ∙ sym (ap (joined Cells.encode) inside);
       fits = subst (λ cs. All Cells.CellFits cs) (sym inside) (absent-fit n);
-      few = omega (arith, ap length e, length-replicate {A = ℕ} (n * 8) 0);
+      few = omega (arith, ap length e, length-replicate {A = ℕ} (n * cellWidth) 0);
     }
 
 module _ (graph inputs picks ledger cells : List ℕ) (accepted : check graph inputs picks (length ledger) (length cells) ≡ Passed) where
   abbrev M : Machine
-  M = machineOf (graphOf graph) (length ledger / 20) (length cells / 8)
+  M = machineOf (graphOf graph) (length ledger / tokenWidth) (length cells / cellWidth)
 
   pub graph-passed : checkGraph graph ≡ Passed
   graph-passed = passed-check graph inputs picks (length ledger) (length cells) accepted .0
@@ -150,68 +120,68 @@ module _ (graph inputs picks ledger cells : List ℕ) (accepted : check graph in
   pub stores-good : GoodStores (length inputs) (length picks) (length ledger) (length cells)
   stores-good = passed-stores (length inputs) (length picks) (length ledger) (length cells) (passed-check graph inputs picks (length ledger) (length cells) accepted .1)
 
-  pub inputs-passed : checkInputs (graphOf graph) (length ledger / 20) inputs ≡ Passed
+  pub inputs-passed : checkInputs (graphOf graph) (length ledger / tokenWidth) inputs ≡ Passed
   inputs-passed = passed-check graph inputs picks (length ledger) (length cells) accepted .2
 
-  bytes : length cells ≡ (length cells / 8) * 8
+  bytes : length cells ≡ (length cells / cellWidth) * cellWidth
   bytes = omega (arith, stores-good .cellRecords)
 
-  good-start : Good M (firstState inputs (length cells / 8))
-  good-start = startGood M (firstState inputs (length cells / 8)) (start (graphOf graph) (length ledger / 20) (length cells / 8) inputs inputs-passed)
+  good-start : Good M (firstState inputs (length cells / cellWidth))
+  good-start = startGood M (firstState inputs (length cells / cellWidth)) (start (graphOf graph) (length ledger / tokenWidth) (length cells / cellWidth) inputs inputs-passed)
 
-  module _ {arities heads next flags counts waiting later ledger₁ cells₁ : List ℕ} {used : ℕ} (a : Accepted arities heads next flags counts waiting later ledger ledger₁ inputs used)
+  module _ {tables links flags ledger₁ cells₁ : List ℕ} {used : ℕ} (a : Loaded tables links flags ledger ledger₁ inputs used)
       (cleared : cells₁ ≡ replicate (length cells) 0) where
-    zeros : cells₁ ≡ replicate ((length cells / 8) * 8) 0
+    zeros : cells₁ ≡ replicate ((length cells / cellWidth) * cellWidth) 0
     zeros = cleared ∙ ap (λ (n : ℕ). replicate n 0) bytes
 
     cellSize : length cells₁ ≡ length cells
     cellSize = ap length cleared ∙ length-replicate {A = ℕ} (length cells) 0
 
-    same-state : stateIn ledger₁ cells₁ used ≡ firstState inputs (length cells / 8)
+    same-state : stateIn ledger₁ cells₁ used ≡ firstState inputs (length cells / cellWidth)
     unfolding firstState
-    same-state = λ i. record { tokens = map tokenHeld (a .taken i); cells = (ap (map cellHeld) (zeros-in cells₁ (length cells / 8) zeros) ∙ absent-held (length cells / 8)) i }
+    same-state = λ i. record { tokens = map tokenHeld (a .taken i); cells = (ap (map cellHeld) (zeros-in cells₁ (length cells / cellWidth) zeros) ∙ absent-held (length cells / cellWidth)) i }
 
-    pub started : Running (graphOf graph) arities heads next flags counts waiting later ledger₁ cells₁ used
+    pub started : Running (graphOf graph) tables links flags ledger₁ cells₁ used
     started = record {
       matching = a .matching;
       few = omega (arith, a .size, stores-good .tokenRecords);
-      store = zeros-store cells₁ (length cells / 8) zeros (omega (arith, stores-good .cellRecords));
-      arrived = subst (Arrived (graphOf graph)) (sym (a .taken)) (inputs-arrive graph inputs (length ledger / 20) (length cells / 8) inputs-passed);
+      store = zeros-store cells₁ (length cells / cellWidth) zeros (omega (arith, stores-good .cellRecords));
+      arrived = subst (Arrived (graphOf graph)) (sym (a .taken)) (inputs-arrive graph inputs (length ledger / tokenWidth) (length cells / cellWidth) inputs-passed);
       good =
-          subst (λ (n : ℕ). Good (machineOf (graphOf graph) (n / 20) (length cells₁ / 8)) (stateIn ledger₁ cells₁ used)) (sym (a .size))
-          (subst (λ (n : ℕ). Good (machineOf (graphOf graph) (length ledger / 20) (n / 8)) (stateIn ledger₁ cells₁ used)) (sym cellSize)
+          subst (λ (n : ℕ). Good (machineOf (graphOf graph) (n / tokenWidth) (length cells₁ / cellWidth)) (stateIn ledger₁ cells₁ used)) (sym (a .size))
+          (subst (λ (n : ℕ). Good (machineOf (graphOf graph) (length ledger / tokenWidth) (n / cellWidth)) (stateIn ledger₁ cells₁ used)) (sym cellSize)
           (subst (λ (x : State Tag ℤ). Good M x) (sym same-state) good-start));
     }
 
     -- the end of the run is 01's, and what it leaves is said of the buffers as lent
     module _ (budget : ℕ) (ps : List ℕ) where
       abbrev e : End Refusal Tag ℤ
-      e = run M budget ps (firstState inputs (length cells / 8))
+      e = run M budget ps (firstState inputs (length cells / cellWidth))
 
       same-end : endOf (graphOf graph) ledger₁ cells₁ used budget ps ≡ e
-      same-end = λ i. run (machineOf (graphOf graph) (a .size i / 20) (cellSize i / 8)) budget ps (same-state i)
+      same-end = λ i. run (machineOf (graphOf graph) (a .size i / tokenWidth) (cellSize i / cellWidth)) budget ps (same-state i)
 
       token-count : used ≤ length (e .state .tokens)
       unfolding firstState
       token-count =
-          let r = reached-picks M (firstState inputs (length cells / 8)) budget ps in
-          let n = reached-count M (lawful graph graph-passed (length ledger / 20) (length cells / 8)) (firstState inputs (length cells / 8)) good-start (r .done) (r .sent) (e .state) (r .reached) in
-          omega (arith, n, length-map (allRows 20 Tokens.decode inputs) tokenHeld, length-rows 20 Tokens.decode (length inputs / 20) inputs, a .all)
+          let r = reached-picks M (firstState inputs (length cells / cellWidth)) budget ps in
+          let n = reached-count M (lawful graph graph-passed (length ledger / tokenWidth) (length cells / cellWidth)) (firstState inputs (length cells / cellWidth)) good-start (r .done) (r .sent) (e .state) (r .reached) in
+          omega (arith, n, length-map (allRows tokenWidth Tokens.decode inputs) tokenHeld, length-rows tokenWidth Tokens.decode (length inputs / tokenWidth) inputs, a .all)
 
-      cell-count : length (e .state .cells) ≡ length cells / 8
+      cell-count : length (e .state .cells) ≡ length cells / cellWidth
       cell-count =
-          let r = reached-picks M (firstState inputs (length cells / 8)) budget ps in
-          reached-good M (lawful graph graph-passed (length ledger / 20) (length cells / 8)) (firstState inputs (length cells / 8)) good-start (r .done) (r .sent) (e .state) (r .reached) .cellCount
+          let r = reached-picks M (firstState inputs (length cells / cellWidth)) budget ps in
+          reached-good M (lawful graph graph-passed (length ledger / tokenWidth) (length cells / cellWidth)) (firstState inputs (length cells / cellWidth)) good-start (r .done) (r .sent) (e .state) (r .reached) .cellCount
 
-      pub as-lent : (r : Answer) (ledger′ cells′ : List ℕ) → Left (endOf (graphOf graph) ledger₁ cells₁ used budget ps) r ledger₁ cells₁ ledger′ cells′ → Left e r ledger cells ledger′ cells′
-      as-lent r ledger′ cells′ l = go (subst (λ (x : End Refusal Tag ℤ). Left x r ledger₁ cells₁ ledger′ cells′) same-end l)
+      pub as-lent : (r : Answer) (ledger′ cells′ : List ℕ) → EndedAt (endOf (graphOf graph) ledger₁ cells₁ used budget ps) r ledger₁ cells₁ ledger′ cells′ → EndedAt e r ledger cells ledger′ cells′
+      as-lent r ledger′ cells′ l = go (subst (λ (x : End Refusal Tag ℤ). EndedAt x r ledger₁ cells₁ ledger′ cells′) same-end l)
         where
-          go : Left e r ledger₁ cells₁ ledger′ cells′ → Left e r ledger cells ledger′ cells′
+          go : EndedAt e r ledger₁ cells₁ ledger′ cells′ → EndedAt e r ledger cells ledger′ cells′
           go h =
               let ts = map tokenRecord (e .state .tokens) in
               let cs = map cellRecord (e .state .cells) in
-              let tokenBytes : length (joined Tokens.encode ts) ≡ length (e .state .tokens) * 20 = length-joined 20 Tokens.encode length-token ts ∙ ap (λ (n : ℕ). n * 20) (length-map (e .state .tokens) tokenRecord) in
-              let cellBytes : length (joined Cells.encode cs) ≡ length cells = length-joined 8 Cells.encode length-cell cs ∙ ap (λ (n : ℕ). n * 8) (length-map (e .state .cells) cellRecord ∙ cell-count) ∙ sym bytes in
+              let tokenBytes : length (joined Tokens.encode ts) ≡ length (e .state .tokens) * tokenWidth = length-joined tokenWidth Tokens.encode length-token ts ∙ ap (λ (n : ℕ). n * tokenWidth) (length-map (e .state .tokens) tokenRecord) in
+              let cellBytes : length (joined Cells.encode cs) ≡ length cells = length-joined cellWidth Cells.encode length-cell cs ∙ ap (λ (n : ℕ). n * cellWidth) (length-map (e .state .cells) cellRecord ∙ cell-count) ∙ sym bytes in
               let rest : drop (length (joined Tokens.encode ts)) ledger₁ ≡ drop (length (joined Tokens.encode ts)) ledger =
               ap (λ (n : ℕ). drop n ledger₁) tokenBytes ∙ rest-on ledger₁ ledger used (length (e .state .tokens)) token-count (a .rest) ∙ sym (ap (λ (n : ℕ). drop n ledger) tokenBytes) in
               let short₁ : length cells₁ ≤ length (joined Cells.encode cs) = omega (arith, cellBytes, cellSize) in

@@ -14,21 +14,23 @@ use Rattle.record.specs.declared.instruction.Instruction.{Instruction}
 use Rattle.record.specs.GraphRecords.{graphOf}
 use Rattle.record.specs.TokensAndTags.{tokens, tokenAt}
 use Rattle.record.specs.TokensAndTags as Tokens
-use Rattle.table.proofs.Tables.{getD-rows}
-use Rattle.flags.specs.Flags.{places, flagsOf}
-use Rattle.matching.proofs.Laws.{matching-places, matching-enabled-below, matching-leads}
-use Rattle.accept.specs.Accept.{headOr0}
-use Rattle.accept.proofs.Laws.{head-drop}
-use Rattle.enabled.specs.Enabled.{leads, enabledPlaces}
+use Rattle.buffer.proofs.Tables.{getD-rows}
+use Rattle.record.specs.Widths.{tokenWidth, cellWidth}
+use Rattle.store_flags.specs.Flags.{places, flagsOf}
+use Rattle.store.proofs.Laws.{matching-places, matching-enabled-below, matching-leads}
+use Rattle.load.specs.Loaded.{headOr0}
+use Rattle.load.proofs.Laws.{head-drop}
+use Rattle.store_enabled.specs.Enabled.{leads, enabledPlaces}
 use Rattle.machine.specs.Machine.{Machine, State, Activity, completed, budgetSpent, enabled, firstPick, laterPicks, pickOf, byPicks, runBy, end, fire, fired, notFired}
 use Rattle.machine.specs.Machine as Machines
 use Rattle.machine.proofs.Orders.{runEmpty, runZero, runFired, runRefused}
 use Rattle.rules.specs.declared.answer.Refusal.{Refusal}
 use Rattle.rules.specs.declared.answer.Outcome.the-variants as Outcomes
 use Rattle.rules.specs.Run.{picksOf}
-use Rattle.held.specs.Held.{noToken, Arities}
-use Rattle.held.proofs.Enabled.{held-enabled}
-use Rattle.outputs.specs.Outputs.{cellsIn}
+use Rattle.abstraction.specs.States.{noToken}
+use Rattle.abstraction.specs.Tables.{Arities}
+use Rattle.abstraction.proofs.Enabled.{held-enabled}
+use Rattle.fire_outputs.specs.Outputs.{cellsIn}
 use Rattle.fire.proofs.Place.{on-ports}
 use Rattle.fire.specs.Running.{machineFor, stateIn, Arrived, Running, Went, Stopped, Prepared}
 use Rattle.engine.specs.Turns.{Advanced, Halted}
@@ -40,7 +42,7 @@ getD-map f [] k d e h = absurd (omega arith)
 getD-map f (x ∷ xs) zero d e h = refl
 getD-map f (x ∷ xs) (suc k) d e h = getD-map f xs k d e (omega arith)
 
-module _ (g : List Instruction) (arities : List ℕ) (right : Arities g arities) (ledger cells : List ℕ) (used : ℕ) (arrived : Arrived g (tokens used ledger)) where
+module _ (g : List Instruction) (tables : List ℕ) (right : Arities g tables) (ledger cells : List ℕ) (used : ℕ) (arrived : Arrived g (tokens used ledger)) where
   abbrev M : Machine
   M = machineFor g ledger cells
 
@@ -50,22 +52,22 @@ module _ (g : List Instruction) (arities : List ℕ) (right : Arities g arities)
   abbrev activity : ℕ → Activity Tag
   activity p = record { place = p; tag = getD (tokens used ledger) p noToken .tag }
 
-  enabled-here : enabled M s ≡ map activity (enabledPlaces arities (tokens used ledger))
-  enabled-here = held-enabled g (length ledger / 20) (length cells / 8) arities (tokens used ledger) (cellsIn cells) noToken right (on-ports g (tokens used ledger) arrived)
+  enabled-here : enabled M s ≡ map activity (enabledPlaces tables (tokens used ledger))
+  enabled-here = held-enabled g (length ledger / tokenWidth) (length cells / cellWidth) tables (tokens used ledger) (cellsIn cells) noToken right (on-ports g (tokens used ledger) arrived)
 
   -- nothing is enabled
-  pub ended : (b : ℕ) (picks : List ℕ) (f : ℕ) → length (enabledPlaces arities (tokens used ledger)) ≡ 0 → runBy M (byPicks M) b picks f s ≡ end M completed f s
-  ended b picks f e = runEmpty M (byPicks M) b picks f s (enabled-here ∙ go (enabledPlaces arities (tokens used ledger)) e)
+  pub ended : (b : ℕ) (picks : List ℕ) (f : ℕ) → length (enabledPlaces tables (tokens used ledger)) ≡ 0 → runBy M (byPicks M) b picks f s ≡ end M completed f s
+  ended b picks f e = runEmpty M (byPicks M) b picks f s (enabled-here ∙ go (enabledPlaces tables (tokens used ledger)) e)
     where
       go : (l : List ℕ) → length l ≡ 0 → map activity l ≡ []
       go [] h = refl
       go (p ∷ l) h = absurd (omega arith)
 
   -- something is, and the budget is spent
-  pub spent-here : (picks : List ℕ) (f : ℕ) → (length (enabledPlaces arities (tokens used ledger)) ≡ 0 → ⊥) → runBy M (byPicks M) 0 picks f s ≡ end M budgetSpent f s
-  spent-here picks f n = go (enabledPlaces arities (tokens used ledger)) refl n
+  pub spent-here : (picks : List ℕ) (f : ℕ) → (length (enabledPlaces tables (tokens used ledger)) ≡ 0 → ⊥) → runBy M (byPicks M) 0 picks f s ≡ end M budgetSpent f s
+  spent-here picks f n = go (enabledPlaces tables (tokens used ledger)) refl n
     where
-      go : (l : List ℕ) → enabledPlaces arities (tokens used ledger) ≡ l → (length l ≡ 0 → ⊥) → runBy M (byPicks M) 0 picks f s ≡ end M budgetSpent f s
+      go : (l : List ℕ) → enabledPlaces tables (tokens used ledger) ≡ l → (length l ≡ 0 → ⊥) → runBy M (byPicks M) 0 picks f s ≡ end M budgetSpent f s
       go [] e h = absurd (h refl)
       go (p ∷ l) e h = runZero M (byPicks M) picks f s (activity p) (map activity l) (enabled-here ∙ ap (map activity) e)
 
@@ -75,12 +77,12 @@ module _ (g : List Instruction) (arities : List ℕ) (right : Arities g arities)
       let size : length (map activity (p ∷ l)) ≡ length (p ∷ l) = length-map (p ∷ l) activity in
       ap (λ (n : ℕ). getD (activity p ∷ map activity l) (pick % n) (activity p)) size ∙ getD-map activity (p ∷ l) (pick % length (p ∷ l)) 0 (activity p) (mod-lt pick (omega arith))
 
-  module _ (picks : List ℕ) (place : ℕ) (some : length (enabledPlaces arities (tokens used ledger)) ≡ 0 → ⊥)
-      (chosen : place ≡ getD (enabledPlaces arities (tokens used ledger)) (firstPick picks % length (enabledPlaces arities (tokens used ledger))) 0) where
+  module _ (picks : List ℕ) (place : ℕ) (some : length (enabledPlaces tables (tokens used ledger)) ≡ 0 → ⊥)
+      (chosen : place ≡ getD (enabledPlaces tables (tokens used ledger)) (firstPick picks % length (enabledPlaces tables (tokens used ledger))) 0) where
     pub goes-on : (x : State Tag ℤ) → fire M s (getD (tokens used ledger) place noToken .tag) ≡ fired x → (b f : ℕ) → runBy M (byPicks M) (suc b) picks f s ≡ runBy M (byPicks M) b (laterPicks picks) (suc f) x
-    goes-on x e b f = go (enabledPlaces arities (tokens used ledger)) refl some chosen
+    goes-on x e b f = go (enabledPlaces tables (tokens used ledger)) refl some chosen
       where
-        go : (l : List ℕ) → enabledPlaces arities (tokens used ledger) ≡ l → (length l ≡ 0 → ⊥) → place ≡ getD l (firstPick picks % length l) 0
+        go : (l : List ℕ) → enabledPlaces tables (tokens used ledger) ≡ l → (length l ≡ 0 → ⊥) → place ≡ getD l (firstPick picks % length l) 0
             → runBy M (byPicks M) (suc b) picks f s ≡ runBy M (byPicks M) b (laterPicks picks) (suc f) x
         go [] q h c = absurd (h refl)
         go (p ∷ l) q h c =
@@ -88,9 +90,9 @@ module _ (g : List Instruction) (arities : List ℕ) (right : Arities g arities)
             (ap (λ (a : Activity Tag). fire M s (a .tag)) (picked (firstPick picks) p l ∙ ap activity (sym c)) ∙ e)
 
     pub halts : (r : Refusal) → fire M s (getD (tokens used ledger) place noToken .tag) ≡ notFired r → (b f : ℕ) → runBy M (byPicks M) (suc b) picks f s ≡ end M (Machines.refused r place) f s
-    halts r e b f = go (enabledPlaces arities (tokens used ledger)) refl some chosen
+    halts r e b f = go (enabledPlaces tables (tokens used ledger)) refl some chosen
       where
-        go : (l : List ℕ) → enabledPlaces arities (tokens used ledger) ≡ l → (length l ≡ 0 → ⊥) → place ≡ getD l (firstPick picks % length l) 0
+        go : (l : List ℕ) → enabledPlaces tables (tokens used ledger) ≡ l → (length l ≡ 0 → ⊥) → place ≡ getD l (firstPick picks % length l) 0
             → runBy M (byPicks M) (suc b) picks f s ≡ end M (Machines.refused r place) f s
         go [] q h c = absurd (h refl)
         go (p ∷ l) q h c =
@@ -107,54 +109,54 @@ first-pick k xs = go (drop k xs) ∙ head-drop k xs
     go [] = refl
     go (y ∷ ys) = refl
 
-module _ (graph returns picks : List ℕ) {arities heads next flags counts waiting later ledger cells : List ℕ} {used : ℕ} (ready : Prepared graph returns arities)
-    (now : Running (graphOf graph) arities heads next flags counts waiting later ledger cells used) (firings : ℕ) where
+module _ (graph picks : List ℕ) {tables links flags ledger cells : List ℕ} {used : ℕ} (ready : Prepared graph tables)
+    (now : Running (graphOf graph) tables links flags ledger cells used) (firings : ℕ) where
   abbrev later-picks : List ℕ
   later-picks = drop firings (picksOf picks)
 
-  count : (e : ℕ) → e ≡ length (places (flagsOf flags)) → e ≡ length (enabledPlaces arities (tokens used ledger))
+  count : (e : ℕ) → e ≡ length (places (flagsOf flags)) → e ≡ length (enabledPlaces tables (tokens used ledger))
   count e h = h ∙ ap length (matching-places (now .matching))
 
-  pub turn-none : (e : ℕ) → e ≡ length (places (flagsOf flags)) → e ≡ 0 → Halted Outcomes.Completed (graphOf graph) later-picks arities heads next flags counts waiting later ledger cells used ledger cells
+  pub turn-none : (e : ℕ) → e ≡ length (places (flagsOf flags)) → e ≡ 0 → Halted Outcomes.Completed (graphOf graph) later-picks tables links flags ledger cells used ledger cells
   turn-none e h z = record {
     outcome = completed;
     told = refl;
-    ends = λ b f. ended (graphOf graph) arities (ready .aritiesRight) ledger cells used (now .arrived) (suc b) later-picks f (sym (count e h) ∙ z);
+    ends = λ b f. ended (graphOf graph) tables (ready .aritiesRight) ledger cells used (now .arrived) (suc b) later-picks f (sym (count e h) ∙ z);
     running = now;
     sameLedger = refl;
     sameCells = refl;
   }
 
   module _ (e pick place : ℕ) (all : e ≡ length (places (flagsOf flags))) (some : e ≡ 0 → ⊥) (here : pick ≡ getD (picksOf picks) firings 0) (taken : place ≡ getD (places (flagsOf flags)) (pick % e) 0) where
-    numbered : place ≡ getD (enabledPlaces arities (tokens used ledger)) (pick % e) 0
+    numbered : place ≡ getD (enabledPlaces tables (tokens used ledger)) (pick % e) 0
     numbered = taken ∙ ap (λ (l : List ℕ). getD l (pick % e) 0) (matching-places (now .matching))
 
-    chosen : place ≡ getD (enabledPlaces arities (tokens used ledger)) (firstPick later-picks % length (enabledPlaces arities (tokens used ledger))) 0
+    chosen : place ≡ getD (enabledPlaces tables (tokens used ledger)) (firstPick later-picks % length (enabledPlaces tables (tokens used ledger))) 0
     chosen =
         numbered
-        ∙ ap (λ (n : ℕ). getD (enabledPlaces arities (tokens used ledger)) (n % e) 0) (here ∙ sym (first-pick firings (picksOf picks)))
-        ∙ ap (λ (n : ℕ). getD (enabledPlaces arities (tokens used ledger)) (firstPick later-picks % n) 0) (count e all)
+        ∙ ap (λ (n : ℕ). getD (enabledPlaces tables (tokens used ledger)) (n % e) 0) (here ∙ sym (first-pick firings (picksOf picks)))
+        ∙ ap (λ (n : ℕ). getD (enabledPlaces tables (tokens used ledger)) (firstPick later-picks % n) 0) (count e all)
 
     pub below : pick % e < length (places (flagsOf flags))
     below = subst (λ (n : ℕ). pick % e < n) all (mod-lt pick (omega arith))
 
-    pub place-enabled : (place < used) × (leads arities (tokens used ledger) place (tokenAt ledger place) ≡ true)
+    pub place-enabled : (place < used) × (leads tables (tokens used ledger) place (tokenAt ledger place) ≡ true)
     place-enabled =
         let k = subst (λ (n : ℕ). pick % e < n) (count e all) (mod-lt pick (omega arith)) in
-        subst (λ (n : ℕ). (n < used) × (leads arities (tokens used ledger) n (tokenAt ledger n) ≡ true)) (sym numbered)
+        subst (λ (n : ℕ). (n < used) × (leads tables (tokens used ledger) n (tokenAt ledger n) ≡ true)) (sym numbered)
         (matching-enabled-below (now .matching) (pick % e) k, matching-leads (now .matching) (pick % e) k)
 
-    enabled-some : length (enabledPlaces arities (tokens used ledger)) ≡ 0 → ⊥
+    enabled-some : length (enabledPlaces tables (tokens used ledger)) ≡ 0 → ⊥
     enabled-some z = some (count e all ∙ z)
 
     that-tag : tokenAt ledger place .tag ≡ getD (tokens used ledger) place noToken .tag
-    that-tag = ap (λ (t : Record.Token). t .tag) (sym (getD-rows 20 Tokens.decode used place ledger noToken (place-enabled .0)))
+    that-tag = ap (λ (t : Record.Token). t .tag) (sym (getD-rows tokenWidth Tokens.decode used place ledger noToken (place-enabled .0)))
 
-    module _ {heads′ next′ flags′ counts′ waiting′ later′ ledger′ cells′ : List ℕ} where
-      pub turn-done : {n : ℕ} → Went (graphOf graph) (tokenAt ledger place .tag) arities heads′ next′ flags′ counts′ waiting′ later′ ledger′ cells′ n used ledger cells
-          → Advanced (graphOf graph) later-picks arities heads′ next′ flags′ counts′ waiting′ later′ ledger′ cells′ n used ledger cells
+    module _ {links′ flags′ ledger′ cells′ : List ℕ} where
+      pub turn-done : {n : ℕ} → Went (graphOf graph) (tokenAt ledger place .tag) tables links′ flags′ ledger′ cells′ n used ledger cells
+          → Advanced (graphOf graph) later-picks tables links′ flags′ ledger′ cells′ n used ledger cells
       turn-done w = record {
-        goesOn = goes-on (graphOf graph) arities (ready .aritiesRight) ledger cells used (now .arrived) later-picks place enabled-some chosen _
+        goesOn = goes-on (graphOf graph) tables (ready .aritiesRight) ledger cells used (now .arrived) later-picks place enabled-some chosen _
             (ap (fire (machineFor (graphOf graph) ledger cells) (stateIn ledger cells used)) (sym that-tag) ∙ w .step);
         running = w .running;
         grown = w .grown;
@@ -163,12 +165,12 @@ module _ (graph returns picks : List ℕ) {arities heads next flags counts waiti
         cellSize = w .cellSize;
       }
 
-      pub turn-refused : {r : Refusal} → Stopped r (graphOf graph) (tokenAt ledger place .tag) arities heads′ next′ flags′ counts′ waiting′ later′ ledger′ cells′ used ledger cells
-          → Halted (Outcomes.Refused r place) (graphOf graph) later-picks arities heads′ next′ flags′ counts′ waiting′ later′ ledger′ cells′ used ledger cells
+      pub turn-refused : {r : Refusal} → Stopped r (graphOf graph) (tokenAt ledger place .tag) tables links′ flags′ ledger′ cells′ used ledger cells
+          → Halted (Outcomes.Refused r place) (graphOf graph) later-picks tables links′ flags′ ledger′ cells′ used ledger cells
       turn-refused {r} w = record {
         outcome = Machines.refused r place;
         told = refl;
-        ends = halts (graphOf graph) arities (ready .aritiesRight) ledger cells used (now .arrived) later-picks place enabled-some chosen r
+        ends = halts (graphOf graph) tables (ready .aritiesRight) ledger cells used (now .arrived) later-picks place enabled-some chosen r
             (ap (fire (machineFor (graphOf graph) ledger cells) (stateIn ledger cells used)) (sym that-tag) ∙ w .step);
         running = w .running;
         sameLedger = w .sameLedger;

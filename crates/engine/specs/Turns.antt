@@ -7,8 +7,9 @@ use lib.IntN.{ℤ}
 use Rattle.record.specs.declared.tag.Tag.{Tag}
 use Rattle.record.specs.declared.instruction.Instruction.{Instruction}
 use Rattle.record.specs.TokensAndTags.{ledgerOf}
-use Rattle.table.specs.Table.{writtenOver}
+use Rattle.buffer.specs.Rows.{writtenOver}
 use Rattle.record.specs.Cells as Cells
+use Rattle.record.specs.Widths.{tokenWidth}
 use Rattle.machine.specs.Machine.{Outcome, End, byPicks, runBy, run, end, laterPicks}
 use Rattle.rules.specs.declared.answer.Refusal.{Refusal}
 use Rattle.rules.specs.declared.answer.Outcome as AnswerOutcome
@@ -20,33 +21,33 @@ use Rattle.engine.specs.declared.Turn.{Turn}
 use Rattle.engine.specs.declared.Turn.the-variants as Turns
 
 -- a turn that fired left n tokens, and the run goes on from there with the picks after the first
-pub record Advanced (g : List Instruction) (picks : List ℕ) (arities heads next flags counts waiting later ledger′ cells′ : List ℕ) (n used : ℕ) (ledger cells : List ℕ) : Type 0 where
+pub record Advanced (g : List Instruction) (picks : List ℕ) (tables links flags ledger′ cells′ : List ℕ) (n used : ℕ) (ledger cells : List ℕ) : Type 0 where
   pub goesOn : (b f : ℕ) → runBy (machineFor g ledger cells) (byPicks (machineFor g ledger cells)) (suc b) picks f (stateIn ledger cells used)
       ≡ runBy (machineFor g ledger cells) (byPicks (machineFor g ledger cells)) b (laterPicks picks) (suc f) (stateIn ledger′ cells′ n)
-  pub running : Running g arities heads next flags counts waiting later ledger′ cells′ n
+  pub running : Running g tables links flags ledger′ cells′ n
   pub grown : used ≤ n
   pub size : length ledger′ ≡ length ledger
-  pub rest : drop (n * 20) ledger′ ≡ drop (n * 20) ledger
+  pub rest : drop (n * tokenWidth) ledger′ ≡ drop (n * tokenWidth) ledger
   pub cellSize : length cells′ ≡ length cells
 
 -- a turn that ended the run left ledger and cells as it found them
-pub record Halted (o : AnswerOutcome.Outcome) (g : List Instruction) (picks : List ℕ) (arities heads next flags counts waiting later ledger′ cells′ : List ℕ) (used : ℕ) (ledger cells : List ℕ) : Type 0 where
+pub record Halted (o : AnswerOutcome.Outcome) (g : List Instruction) (picks : List ℕ) (tables links flags ledger′ cells′ : List ℕ) (used : ℕ) (ledger cells : List ℕ) : Type 0 where
   pub outcome : Outcome Refusal
   pub told : outcomeOf outcome ≡ o
   pub ends : (b f : ℕ) → runBy (machineFor g ledger cells) (byPicks (machineFor g ledger cells)) (suc b) picks f (stateIn ledger cells used)
       ≡ end (machineFor g ledger cells) outcome f (stateIn ledger cells used)
-  pub running : Running g arities heads next flags counts waiting later ledger′ cells′ used
+  pub running : Running g tables links flags ledger′ cells′ used
   pub sameLedger : ledger′ ≡ ledger
   pub sameCells : cells′ ≡ cells
 
-abbrev pub Turned : Turn → List Instruction → (picks : List ℕ) → (arities heads next flags counts waiting later ledger′ cells′ : List ℕ) → (used : ℕ) → (ledger cells : List ℕ) → Type 0
-Turned (Turns.Fired n) g picks arities heads next flags counts waiting later ledger′ cells′ used ledger cells =
-    Advanced g picks arities heads next flags counts waiting later ledger′ cells′ n used ledger cells
-Turned (Turns.Ended o) g picks arities heads next flags counts waiting later ledger′ cells′ used ledger cells =
-    Halted o g picks arities heads next flags counts waiting later ledger′ cells′ used ledger cells
+abbrev pub Turned : Turn → List Instruction → (picks : List ℕ) → (tables links flags ledger′ cells′ : List ℕ) → (used : ℕ) → (ledger cells : List ℕ) → Type 0
+Turned (Turns.Fired n) g picks tables links flags ledger′ cells′ used ledger cells =
+    Advanced g picks tables links flags ledger′ cells′ n used ledger cells
+Turned (Turns.Ended o) g picks tables links flags ledger′ cells′ used ledger cells =
+    Halted o g picks tables links flags ledger′ cells′ used ledger cells
 
 -- what a run that came to this end answers, and leaves in ledger and cells
-pub record Left (e : End Refusal Tag ℤ) (r : Answer) (ledger cells ledger′ cells′ : List ℕ) : Type 0 where
+pub record EndedAt (e : End Refusal Tag ℤ) (r : Answer) (ledger cells ledger′ cells′ : List ℕ) : Type 0 where
   pub answered : r ≡ record { outcome = outcomeOf (e .outcome); firings = e .firings; tokens = length (e .state .tokens) }
   pub ledgerLeft : ledger′ ≡ ledgerOf (map tokenRecord (e .state .tokens)) ledger
   pub cellsLeft : cells′ ≡ writtenOver Cells.encode (map cellRecord (e .state .cells)) cells

@@ -1,6 +1,6 @@
 // The engine: a graph and its inputs are checked, and fired under picks.
 use checks::graph;
-use commit::Fired;
+use fire_commit::Fired;
 use rules::answer::Answer;
 use rules::answer::Checked;
 use rules::answer::Outcome;
@@ -8,13 +8,14 @@ ghost use Prim.Native.Nat.{_/_};
 ghost use mathlib.Core.Path.{_≡_};
 ghost use lib.ListN.{length, drop};
 ghost use Rattle.record.specs.GraphRecords.{graphOf};
-ghost use Rattle.flags.specs.Flags.{Counted, places, flagsOf};
+ghost use Rattle.record.specs.Widths.{cellWidth};
+ghost use Rattle.store_flags.specs.Flags.{Counted, places, flagsOf};
 ghost use Rattle.machine.specs.Machine.{run as Machine·run};
 ghost use Rattle.rules.specs.declared.answer.Checked.the-variants.{Passed};
 ghost use Rattle.rules.specs.Check.{checkGraph, check};
 ghost use Rattle.rules.specs.Run.{picksOf, firstState, result, Ran};
 ghost use Rattle.fire.specs.Running.{machineFor, Prepared, Running};
-ghost use Rattle.engine.specs.Turns.{Turned, Left, restOutcome, endOf};
+ghost use Rattle.engine.specs.Turns.{Turned, EndedAt, restOutcome, endOf};
 
 // What a turn of a run comes to: an activity fired and left so many tokens, or the run is at its end.
 pub enum Turn {
@@ -25,44 +26,25 @@ pub enum Turn {
 // The activity that the pick takes fires, if one is enabled.
 fn take_turn(
     graph: &[u8],
-    returns: &[u16; 256],
+    tables: &[u16; 512],
     picks: &[u8],
     firings: usize,
-    arities: &[u8],
-    heads: &mut [u16; 4096],
-    next: &mut [u16; 2048],
-    flags: &mut [u64; 33],
-    counts: &mut [u16; 36],
-    waiting: &mut [u16; 1024],
-    later: &mut [u16; 2048],
+    links: &mut [u16; 9216],
+    flags: &mut [u64; 69],
     ledger: &mut [u8],
     cells: &mut [u8],
     used: usize,
 ) -> Turn
-    requires { ⌜ Prepared (now graph) (now returns) (now arities) × Running (graphOf (now graph)) (now arities) (now heads) (now next) (now flags) (now counts) (now waiting) (now later) (now ledger) (now cells) used ⌝ }
-    ensures { λ r. ⌜ Turned r (graphOf (now (graph .entry))) (drop firings (picksOf (now (picks .entry)))) (now (arities .entry)) (now (heads .exit)) (now (next .exit)) (now (flags .exit)) (now (counts .exit)) (now (waiting .exit)) (now (later .exit)) (now (ledger .exit)) (now (cells .exit)) used (now (ledger .entry)) (now (cells .entry)) ⌝ }
+    requires { ⌜ Prepared (now graph) (now tables) × Running (graphOf (now graph)) (now tables) (now links) (now flags) (now ledger) (now cells) used ⌝ }
+    ensures { λ r. ⌜ Turned r (graphOf (now (graph .entry))) (drop firings (picksOf (now (picks .entry)))) (now (tables .entry)) (now (links .exit)) (now (flags .exit)) (now (ledger .exit)) (now (cells .exit)) used (now (ledger .entry)) (now (cells .entry)) ⌝ }
 {
-    let e = matching::enabled_count(flags, counts);
+    let e = store::enabled_count(flags);
     if e == 0 {
         return Turn::Ended(Outcome::Completed);
     }
-    let number = accept::pick_at(picks, firings) % e;
-    let place = matching::enabled_at(flags, counts, number);
-    let fired = fire::fire(
-        graph,
-        returns,
-        arities,
-        heads,
-        next,
-        flags,
-        counts,
-        waiting,
-        later,
-        ledger,
-        cells,
-        used,
-        place,
-    );
+    let number = load::pick_at(picks, firings) % e;
+    let place = store::enabled_at(flags, number);
+    let fired = fire::fire(graph, tables, links, flags, ledger, cells, used, place);
     match fired {
         Fired::Done(n) => Turn::Fired(n),
         Fired::Refused(r) => Turn::Ended(Outcome::Refused(r, place)),
@@ -70,11 +52,11 @@ fn take_turn(
 }
 
 // How a run ends whose budget is spent: completed is tried first.
-fn rest(flags: &[u64; 33], counts: &[u16; 36]) -> Outcome
-    requires { ⌜ Counted (now flags) (now counts) ⌝ }
+fn rest(flags: &[u64; 69]) -> Outcome
+    requires { ⌜ Counted (now flags) ⌝ }
     ensures { λ r. ⌜ r ≡ restOutcome (length (places (flagsOf (now (flags .entry))))) ⌝ }
 {
-    if matching::enabled_count(flags, counts) == 0 {
+    if store::enabled_count(flags) == 0 {
         Outcome::Completed
     } else {
         Outcome::Spent
@@ -84,38 +66,28 @@ fn rest(flags: &[u64; 33], counts: &[u16; 36]) -> Outcome
 // A run goes on from a state, with picks and a budget.
 fn proceed(
     graph: &[u8],
-    returns: &[u16; 256],
+    tables: &[u16; 512],
     picks: &[u8],
     budget: usize,
-    arities: &[u8],
-    heads: &mut [u16; 4096],
-    next: &mut [u16; 2048],
-    flags: &mut [u64; 33],
-    counts: &mut [u16; 36],
-    waiting: &mut [u16; 1024],
-    later: &mut [u16; 2048],
+    links: &mut [u16; 9216],
+    flags: &mut [u64; 69],
     ledger: &mut [u8],
     cells: &mut [u8],
     start: usize,
 ) -> Answer
-    requires { ⌜ Prepared (now graph) (now returns) (now arities) × Running (graphOf (now graph)) (now arities) (now heads) (now next) (now flags) (now counts) (now waiting) (now later) (now ledger) (now cells) start ⌝ }
-    ensures { λ r. ⌜ Left (endOf (graphOf (now (graph .entry))) (now (ledger .entry)) (now (cells .entry)) start budget (picksOf (now (picks .entry)))) r (now (ledger .entry)) (now (cells .entry)) (now (ledger .exit)) (now (cells .exit)) ⌝ }
+    requires { ⌜ Prepared (now graph) (now tables) × Running (graphOf (now graph)) (now tables) (now links) (now flags) (now ledger) (now cells) start ⌝ }
+    ensures { λ r. ⌜ EndedAt (endOf (graphOf (now (graph .entry))) (now (ledger .entry)) (now (cells .entry)) start budget (picksOf (now (picks .entry)))) r (now (ledger .entry)) (now (cells .entry)) (now (ledger .exit)) (now (cells .exit)) ⌝ }
 {
     let mut used = start;
     let mut firings = 0;
     while firings < budget {
         let turned = take_turn(
             graph,
-            returns,
+            tables,
             picks,
             firings,
-            arities,
-            heads,
-            next,
+            links,
             flags,
-            counts,
-            waiting,
-            later,
             ledger,
             cells,
             used,
@@ -135,7 +107,7 @@ fn proceed(
         }
     }
     Answer {
-        outcome: rest(flags, counts),
+        outcome: rest(flags),
         firings,
         tokens: used,
     }
@@ -152,42 +124,21 @@ fn accepted(
     cells: &mut [u8],
 ) -> Answer
     requires { ⌜ check (now graph) (now inputs) (now picks) (length (now ledger)) (length (now cells)) ≡ Passed ⌝ }
-    ensures { λ r. ⌜ Left (Machine·run (machineFor (graphOf (now (graph .entry))) (now (ledger .entry)) (now (cells .entry))) budget (picksOf (now (picks .entry))) (firstState (now (inputs .entry)) (length (now (cells .entry)) / 8))) r (now (ledger .entry)) (now (cells .entry)) (now (ledger .exit)) (now (cells .exit)) ⌝ }
+    ensures { λ r. ⌜ EndedAt (Machine·run (machineFor (graphOf (now (graph .entry))) (now (ledger .entry)) (now (cells .entry))) budget (picksOf (now (picks .entry))) (firstState (now (inputs .entry)) (length (now (cells .entry)) / cellWidth))) r (now (ledger .entry)) (now (cells .entry)) (now (ledger .exit)) (now (cells .exit)) ⌝ }
 {
-    let mut arities = [0u8; 256];
-    let mut returns = [0u16; 256];
-    let mut heads = [0u16; 4096];
-    let mut next = [0u16; 2048];
-    let mut flags = [0u64; 33];
-    let mut counts = [0u16; 36];
-    let mut waiting = [0u16; 1024];
-    let mut later = [0u16; 2048];
-    tables::arities(graph, &mut arities);
-    tables::returns(graph, &mut returns);
-    accept::clear(cells);
-    let used = accept::inputs(
-        &arities,
-        &mut heads,
-        &mut next,
-        &mut flags,
-        &mut counts,
-        &mut waiting,
-        &mut later,
-        ledger,
-        inputs,
-    );
+    let mut tables = [0u16; 512];
+    let mut links = [0u16; 9216];
+    let mut flags = [0u64; 69];
+    graph_tables::make(graph, &mut tables);
+    load::clear(cells);
+    let used = load::inputs(&tables, &mut links, &mut flags, ledger, inputs);
     proceed(
         graph,
-        &returns,
+        &tables,
         picks,
         budget,
-        &arities,
-        &mut heads,
-        &mut next,
+        &mut links,
         &mut flags,
-        &mut counts,
-        &mut waiting,
-        &mut later,
         ledger,
         cells,
         used,

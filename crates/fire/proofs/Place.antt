@@ -1,6 +1,6 @@
 -- The token at the place of an enabled activity is its earliest operand, on a port that its instruction has; and what matching found are the operands
 -- of an activity. Assumes nothing.
-use Prim.Native.Nat.{ℕ, _<_}
+use Prim.Native.Nat.{ℕ, _+_, _<_}
 use mathlib.Core.Path.{_≡_, refl, sym, ap, subst, _∙_}
 use mathlib.Core.Bool.{Bool, true, false, cond}
 use mathlib.Core.List.{List, [], _∷_}
@@ -10,28 +10,29 @@ use lib.ListN.{length, getD}
 use lib.Dec.{eqb}
 use lib.IntN.{ℤ}
 use borrow.Author.Tests.{eqb-true}
-use Rattle.table.specs.Table.{All}
+use Rattle.buffer.specs.Rows.{All}
 use Rattle.record.specs.declared.tag.Tag.{Tag}
 use Rattle.record.specs.declared.token.Token.{Token}
 use Rattle.record.specs.declared.token.Content.the-variants.{Live}
 use Rattle.record.specs.declared.instruction.Instruction.{Instruction}
 use Rattle.record.specs.GraphRecords.{operandsOf, graphOf}
 use Rattle.record.specs.TokensAndTags.{decode, tokens, tokenAt, standsAt}
-use Rattle.table.proofs.Tables.{length-rows, getD-rows}
-use Rattle.chains.specs.declared.Found.{Found}
-use Rattle.chains.specs.declared.Found.the-variants.{At, Nothing}
-use Rattle.chains.specs.Search.{firstFrom}
-use Rattle.chains.proofs.Index.{and-left}
-use Rattle.enabled.specs.Enabled.{isLive, isEnabled, placeOf, leads}
-use Rattle.enabled.specs.Store.{lower, Operands}
-use Rattle.enabled.proofs.Places.{first-place, lower-first, lower-second}
-use Rattle.enabled.proofs.Store.{all-at}
+use Rattle.buffer.proofs.Tables.{length-rows, getD-rows}
+use Rattle.record.specs.Widths.{tokenWidth}
+use Rattle.store_chains.specs.declared.Found.{Found}
+use Rattle.store_chains.specs.declared.Found.the-variants.{At, Nothing}
+use Rattle.store_chains.specs.Search.{firstFrom}
+use Rattle.store_chains.proofs.Index.{and-left}
+use Rattle.store_enabled.specs.Enabled.{isLive, isEnabled, placeOf, leads}
+use Rattle.store_enabled.specs.Store.{lower, Operands}
+use Rattle.store_enabled.proofs.Places.{first-place, lower-first, lower-second}
+use Rattle.store_enabled.proofs.Store.{all-at}
 use Rattle.rules.specs.Check.{instructionAt, operandsAt}
 use Rattle.rules.specs.InstructionSet.{arityIn}
-use Rattle.held.specs.Held.{noToken, OnPorts}
-use Rattle.held.proofs.Keys.{search-at, stands-tag, stands-port}
-use Rattle.operands.specs.Operands.{Earliest}
-use Rattle.operands.proofs.Held.{Places}
+use Rattle.abstraction.specs.States.{noToken, OnPorts}
+use Rattle.abstraction.proofs.Keys.{search-at, stands-tag, stands-port}
+use Rattle.fire_operands.specs.Operands.{Earliest}
+use Rattle.fire_operands.proofs.AsMachine.{Places}
 use Rattle.fire.specs.Running.{Arrived, Running, Prepared}
 
 on-port : (g : List Instruction) (t : Token) → t .port < operandsAt g (t .tag .instruction) → 0 < arityIn g (t .tag) → t .port < arityIn g (t .tag)
@@ -46,20 +47,20 @@ pub on-ports : (g : List Instruction) (ts : List Token) → Arrived g ts → OnP
 on-ports g [] a = tt
 on-ports g (t ∷ ts) a = (on-port g t (a .0), on-ports g ts (a .1))
 
-module _ {graph returns arities heads next flags counts waiting later ledger cells : List ℕ} {used : ℕ} (ready : Prepared graph returns arities)
-    (now : Running (graphOf graph) arities heads next flags counts waiting later ledger cells used) (place : ℕ) (within : place < used)
-    (first : leads arities (tokens used ledger) place (tokenAt ledger place) ≡ true) where
-  pub earliest-here : (t : Token) (a : ℕ) → t ≡ tokenAt ledger place → a ≡ getD arities (t .tag .instruction) 0 → Earliest a (tokens used ledger) (t .tag) place
+module _ {graph tables links flags ledger cells : List ℕ} {used : ℕ} (ready : Prepared graph tables)
+    (now : Running (graphOf graph) tables links flags ledger cells used) (place : ℕ) (within : place < used)
+    (first : leads tables (tokens used ledger) place (tokenAt ledger place) ≡ true) where
+  pub earliest-here : (t : Token) (a : ℕ) → t ≡ tokenAt ledger place → a ≡ getD tables (t .tag .instruction + 256) 0 → Earliest a (tokens used ledger) (t .tag) place
   earliest-here t a e f =
       let ts = tokens used ledger in
-      let there : getD ts place noToken ≡ t = getD-rows 20 decode used place ledger noToken within ∙ sym e in
-      let inside : place < length ts = omega (arith, length-rows 20 decode used ledger) in
-      let arity : a ≡ arityIn (graphOf graph) (t .tag) = f ∙ ready .aritiesRight (t .tag) .0 in
+      let there : getD ts place noToken ≡ t = getD-rows tokenWidth decode used place ledger noToken within ∙ sym e in
+      let inside : place < length ts = omega (arith, length-rows tokenWidth decode used ledger) in
+      let arity : a ≡ arityIn (graphOf graph) (t .tag) = f ∙ ready .aritiesRight (t .tag) in
       let here = all-at (λ (u : Token). 0 < arityIn (graphOf graph) (u .tag) → u .port < arityIn (graphOf graph) (u .tag)) ts place noToken inside (on-ports (graphOf graph) ts (now .arrived)) in
-      let lead : leads arities ts place t ≡ true = subst (λ (u : Token). leads arities ts place u ≡ true) (sym e) first in
+      let lead : leads tables ts place t ≡ true = subst (λ (u : Token). leads tables ts place u ≡ true) (sym e) first in
       record {
         within = inside;
-        first = eqb-true (placeOf ts (t .tag)) place (and-left (eqb (placeOf ts (t .tag)) place) (isEnabled arities ts (t .tag)) lead);
+        first = eqb-true (placeOf ts (t .tag)) place (and-left (eqb (placeOf ts (t .tag)) place) (isEnabled tables ts (t .tag)) lead);
         waited = rw (there, arity) (rw there at here);
       }
 
@@ -82,10 +83,10 @@ one-port g ts a τ one = go (firstFrom (standsAt τ 1) 0 ts) refl
 module _ (g : List Instruction) (ledger : List ℕ) (used : ℕ) (ports : All (λ (t : Token). t .port < 2) (tokens used ledger)) (arrived : Arrived g (tokens used ledger)) (τ : Tag) {i j : ℕ} {v w : ℤ}
     (p : Places (arityIn g τ) (tokens used ledger) τ i j v w) where
   size : length (tokens used ledger) ≡ used
-  size = length-rows 20 decode used ledger
+  size = length-rows tokenWidth decode used ledger
 
   read : (k : ℕ) → k < length (tokens used ledger) → getD (tokens used ledger) k noToken ≡ tokenAt ledger k
-  read k h = getD-rows 20 decode used k ledger noToken (omega (arith, size))
+  read k h = getD-rows tokenWidth decode used k ledger noToken (omega (arith, size))
 
   tag-at : (port k : ℕ) → k < length (tokens used ledger) → firstFrom (standsAt τ port) 0 (tokens used ledger) ≡ At k → tokenAt ledger k .tag ≡ τ
   tag-at port k h e = ap (λ (t : Token). t .tag) (sym (read k h)) ∙ stands-tag τ port (getD (tokens used ledger) k noToken) (search-at (standsAt τ port) noToken k (tokens used ledger) e .passes)

@@ -13,14 +13,15 @@ use Rattle.record.specs.declared.token.Token as Record
 use Rattle.record.specs.declared.token.Content as RecordContent
 use Rattle.record.specs.declared.cell.Cell as RecordCell
 use Rattle.record.specs.declared.instruction.Instruction.{Instruction}
-use Rattle.table.specs.Table.{All}
+use Rattle.buffer.specs.Rows.{All}
 use Rattle.record.specs.TokensAndTags.{tokens, tokenAt}
 use Rattle.record.specs.GraphRecords.{graphOf}
 use Rattle.record.specs.TokensAndTags as Tokens
-use Rattle.table.proofs.Tables.{length-rows, getD-rows}
-use Rattle.chains.specs.Deferred.{woken}
-use Rattle.matching.specs.Matching.{spentToken, Matching}
-use Rattle.matching.proofs.Laws.{matching-room, matching-ports}
+use Rattle.buffer.proofs.Tables.{length-rows, getD-rows}
+use Rattle.record.specs.Widths.{tokenWidth, cellWidth, graphWidth}
+use Rattle.store_chains.specs.Deferred.{woken}
+use Rattle.store.specs.Matching.{spentToken, Matching}
+use Rattle.store.proofs.Laws.{matching-room, matching-ports}
 use Rattle.machine.specs.Machine.{Key, Machine, State, fire, fired, notFired, commit}
 use Rattle.machine.specs.Orders.{Good, CellsBelow, outputs}
 use Rattle.machine.proofs.Reached.{reached-good}
@@ -30,27 +31,28 @@ use Rattle.rules.specs.declared.answer.Checked.the-variants.{Passed}
 use Rattle.rules.specs.Check.{operandsAt, checkGraph}
 use Rattle.rules.specs.InstructionSet.{arityIn, machineOf, effectIn}
 use Rattle.rules.proofs.Lawful.{lawful}
-use Rattle.effect.specs.declared.output.Key as EffectKey
-use Rattle.effect.specs.declared.output.Outputs.{Outputs}
-use Rattle.effect.specs.declared.operate.Effect.{Effect}
-use Rattle.effect.specs.declared.operate.Effect.the-variants.{Refuse, Act}
-use Rattle.effect.specs.declared.operate.Action.{Action}
-use Rattle.effect.specs.declared.operate.Action.the-variants.{Send, Read, Write}
-use Rattle.effect.specs.Held.{keyHeld, keysHeld, keysOf, actionHeld, effectHeld, Arrives, AllSent, Effected}
-use Rattle.effect.proofs.Arrives.{arrives-port, arrives-inside}
-use Rattle.effect.proofs.Does.{records}
-use Rattle.held.specs.Held.{noToken, stateHeld}
-use Rattle.operands.specs.declared.Admitted.{Admitted}
-use Rattle.operands.specs.declared.Admitted.the-variants.{Yes, No}
-use Rattle.operands.specs.declared.Matched.{Matched}
-use Rattle.operands.specs.declared.Matched.the-variants.{Both, Missing}
-use Rattle.operands.specs.Operands.{matchedAt, admittedOf}
-use Rattle.operands.proofs.Held.{valuesOf, Places, matched-places, held-operands}
-use Rattle.outputs.specs.Outputs.{spendOne, spentAt, outputsBy, outputsOf, LowPortsBy, cellsIn, OnCells, contentBy, wokenBy, writesAgain, Kept, CellsKept, Lent}
-use Rattle.commit.specs.declared.Fired.{Fired}
-use Rattle.commit.specs.declared.Fired.the-variants as Fires
-use Rattle.commit.specs.Commit.{Committed, done, refused, ifAdmitted, committedOf, Left, Fitting}
-use Rattle.commit.proofs.Held.{firedOf, commit-held}
+use Rattle.fire_effect.specs.declared.output.Key as EffectKey
+use Rattle.fire_effect.specs.declared.output.Outputs.{Outputs}
+use Rattle.fire_effect.specs.declared.operate.Effect.{Effect}
+use Rattle.fire_effect.specs.declared.operate.Effect.the-variants.{Refuse, Act}
+use Rattle.fire_effect.specs.declared.operate.Action.{Action}
+use Rattle.fire_effect.specs.declared.operate.Action.the-variants.{Send, Read, Write}
+use Rattle.fire_effect.specs.Effects.{keyHeld, keysHeld, keysOf, actionHeld, effectHeld, Arrives, AllSent, Effected}
+use Rattle.fire_effect.proofs.Arrives.{arrives-port, arrives-inside}
+use Rattle.fire_effect.proofs.Does.{records}
+use Rattle.abstraction.proofs.Arities.{arity-small}
+use Rattle.abstraction.specs.States.{noToken, stateHeld}
+use Rattle.fire_operands.specs.declared.Admitted.{Admitted}
+use Rattle.fire_operands.specs.declared.Admitted.the-variants.{Yes, No}
+use Rattle.fire_operands.specs.declared.Matched.{Matched}
+use Rattle.fire_operands.specs.declared.Matched.the-variants.{Both, Missing}
+use Rattle.fire_operands.specs.Operands.{matchedAt, admittedOf}
+use Rattle.fire_operands.proofs.AsMachine.{valuesOf, Places, matched-places, held-operands}
+use Rattle.fire_outputs.specs.Outputs.{spendOne, spentAt, outputsBy, outputsOf, LowPortsBy, cellsIn, OnCells, contentBy, wokenBy, writesAgain, Kept, CellsKept, Fireable}
+use Rattle.fire_commit.specs.declared.Fired.{Fired}
+use Rattle.fire_commit.specs.declared.Fired.the-variants as Fires
+use Rattle.fire_commit.specs.Commit.{Committed, done, refused, ifAdmitted, committedOf, CommittedTo, Fitting}
+use Rattle.fire_commit.proofs.AsMachine.{firedOf, commit-held}
 use Rattle.fire.proofs.Place.{operands-here}
 use Rattle.fire.specs.Running.{machineFor, stateIn, Arrived, Running, Went, Stopped, Stepped, Prepared}
 
@@ -169,8 +171,8 @@ module _ (g : List Instruction) (ts : List Record.Token) (h : Arrived g ts) (i j
 
 -- ---- a firing
 
-module _ (graph : List ℕ) (passed : checkGraph graph ≡ Passed) {arities heads next flags counts waiting later ledger cells : List ℕ} {used : ℕ}
-    (now : Running (graphOf graph) arities heads next flags counts waiting later ledger cells used) (τ : Tag) (few : arityIn (graphOf graph) τ ≤ 2) where
+module _ (graph : List ℕ) (passed : checkGraph graph ≡ Passed) {tables links flags ledger cells : List ℕ} {used : ℕ}
+    (now : Running (graphOf graph) tables links flags ledger cells used) (τ : Tag) (few : arityIn (graphOf graph) τ ≤ 2) where
   abbrev g : List Instruction
   g = graphOf graph
 
@@ -183,32 +185,32 @@ module _ (graph : List ℕ) (passed : checkGraph graph ≡ Passed) {arities head
   -- operands that are missing
   pub fire-missing : matchedAt (arityIn (graphOf graph) τ) (tokens used ledger) τ ≡ Missing → fire M s τ ≡ notFired SecondToken
   unfolding fire
-  fire-missing e = rw (held-operands (graphOf graph) (length ledger / 20) (length cells / 8) (tokens used ledger) (cellsIn cells) τ few ∙ ap valuesOf e)
+  fire-missing e = rw (held-operands (graphOf graph) (length ledger / tokenWidth) (length cells / cellWidth) (tokens used ledger) (cellsIn cells) τ few ∙ ap valuesOf e)
 
   -- operands that matching found
   module _ (i j : ℕ) (v w : ℤ) (matched : matchedAt (arityIn (graphOf graph) τ) (tokens used ledger) τ ≡ Both i j v w) where
     pub places : Places (arityIn (graphOf graph) τ) (tokens used ledger) τ i j v w
     places = matched-places (tokens used ledger) τ (arityIn (graphOf graph) τ) few matched
 
-    fire-found : fire M s τ ≡ commit M s τ (effectIn (graphOf graph) (length cells / 8) τ v w)
+    fire-found : fire M s τ ≡ commit M s τ (effectIn (graphOf graph) (length cells / cellWidth) τ v w)
     unfolding fire
-    fire-found = rw (held-operands (graphOf graph) (length ledger / 20) (length cells / 8) (tokens used ledger) (cellsIn cells) τ few ∙ ap valuesOf matched)
+    fire-found = rw (held-operands (graphOf graph) (length ledger / tokenWidth) (length cells / cellWidth) (tokens used ledger) (cellsIn cells) τ few ∙ ap valuesOf matched)
 
-    module _ (e : Effect) (does : Effected (graphOf graph) (length cells / 8) τ v w e) where
-      fire-committed : fire M s τ ≡ firedOf (committedOf (length ledger / 20) (tokens used ledger) (cellsIn cells) i j e)
+    module _ (e : Effect) (does : Effected (graphOf graph) (length cells / cellWidth) τ v w e) where
+      fire-committed : fire M s τ ≡ firedOf (committedOf (length ledger / tokenWidth) (tokens used ledger) (cellsIn cells) i j e)
       fire-committed =
           fire-found
           ∙ ap (commit M s τ) (sym (does .held))
-          ∙ commit-held (graphOf graph) (length ledger / 20) (length cells / 8) (tokens used ledger) (cellsIn cells) τ i j v w (now .good .distinct) places e (does .counted)
+          ∙ commit-held (graphOf graph) (length ledger / tokenWidth) (length cells / cellWidth) (tokens used ledger) (cellsIn cells) τ i j v w (now .good .distinct) places e (does .counted)
 
       good-after : (x : State Tag ℤ) → fire M s τ ≡ fired x → Good M x
-      good-after x f = reached-good M (lawful graph passed (length ledger / 20) (length cells / 8)) s (now .good) 1 (0 + outputs M s τ) x (s, 0, τ, (refl, refl), f, refl)
+      good-after x f = reached-good M (lawful graph passed (length ledger / tokenWidth) (length cells / cellWidth)) s (now .good) 1 (0 + outputs M s τ) x (s, 0, τ, (refl, refl), f, refl)
 
-      module _ (heads′ next′ flags′ counts′ waiting′ later′ ledger′ cells′ : List ℕ) where
+      module _ (links′ flags′ ledger′ cells′ : List ℕ) where
         -- done: the tokens and cells that it left are those of the machine
         went : (n : ℕ) (us : List Record.Token) (ds : List RecordCell.Cell) → fire M s τ ≡ fired (stateHeld us ds) → Arrived (graphOf graph) us × (length (tokens used ledger) ≤ length us)
-            → Kept arities heads′ next′ flags′ counts′ waiting′ later′ ledger′ n us ledger → CellsKept cells′ ds cells
-            → Went (graphOf graph) τ arities heads′ next′ flags′ counts′ waiting′ later′ ledger′ cells′ n used ledger cells
+            → Kept tables links′ flags′ ledger′ n us ledger → CellsKept cells′ ds cells
+            → Went (graphOf graph) τ tables links′ flags′ ledger′ cells′ n used ledger cells
         went n us ds f a k c =
             let same : stateHeld us ds ≡ stateIn ledger′ cells′ n = λ x. stateHeld (sym (k .held) x) (sym (c .held) x) in
             record {
@@ -219,19 +221,19 @@ module _ (graph : List ℕ) (passed : checkGraph graph ≡ Passed) {arities head
                 store = c .store;
                 arrived = rw (k .held) (a .0);
                 good =
-                    subst (λ (b : ℕ). Good (machineOf (graphOf graph) (b / 20) (length cells′ / 8)) (stateIn ledger′ cells′ n)) (sym (k .size))
-                    (subst (λ (b : ℕ). Good (machineOf (graphOf graph) (length ledger / 20) (b / 8)) (stateIn ledger′ cells′ n)) (sym (c .size))
+                    subst (λ (b : ℕ). Good (machineOf (graphOf graph) (b / tokenWidth) (length cells′ / cellWidth)) (stateIn ledger′ cells′ n)) (sym (k .size))
+                    (subst (λ (b : ℕ). Good (machineOf (graphOf graph) (length ledger / tokenWidth) (b / cellWidth)) (stateIn ledger′ cells′ n)) (sym (c .size))
                     (subst (λ (x : State Tag ℤ). Good M x) same (good-after (stateHeld us ds) f)));
               };
-              grown = omega (arith, a .1, length-rows 20 Tokens.decode used ledger, length-rows 20 Tokens.decode n ledger′, ap length (k .held));
+              grown = omega (arith, a .1, length-rows tokenWidth Tokens.decode used ledger, length-rows tokenWidth Tokens.decode n ledger′, ap length (k .held));
               size = k .size;
               rest = k .rest;
               cellSize = c .size;
             }
 
         -- refused: ledger and cells are as they were
-        stopped : (r : Refusal) → fire M s τ ≡ notFired r → ledger′ ≡ ledger → cells′ ≡ cells → Matching arities heads′ next′ flags′ counts′ waiting′ later′ ledger′ used
-            → Stopped r (graphOf graph) τ arities heads′ next′ flags′ counts′ waiting′ later′ ledger′ cells′ used ledger cells
+        stopped : (r : Refusal) → fire M s τ ≡ notFired r → ledger′ ≡ ledger → cells′ ≡ cells → Matching tables links′ flags′ ledger′ used
+            → Stopped r (graphOf graph) τ tables links′ flags′ ledger′ cells′ used ledger cells
         stopped r f l c m = record {
           step = f;
           running = record {
@@ -245,13 +247,13 @@ module _ (graph : List ℕ) (passed : checkGraph graph ≡ Passed) {arities head
           sameCells = c;
         }
 
-        pub stepped : (r : Fired) → Left r (committedOf (length ledger / 20) (tokens used ledger) (cellsIn cells) i j e) arities heads′ next′ flags′ counts′ waiting′ later′ ledger′ cells′ used ledger cells
-            → Stepped r (graphOf graph) τ arities heads′ next′ flags′ counts′ waiting′ later′ ledger′ cells′ used ledger cells
-        stepped r h = go r (committedOf (length ledger / 20) (tokens used ledger) (cellsIn cells) i j e) fire-committed
-            (grown (graphOf graph) (tokens used ledger) (now .arrived) i j (length ledger / 20) (cellsIn cells) e (does .arrives)) h
+        pub stepped : (r : Fired) → CommittedTo r (committedOf (length ledger / tokenWidth) (tokens used ledger) (cellsIn cells) i j e) tables links′ flags′ ledger′ cells′ used ledger cells
+            → Stepped r (graphOf graph) τ tables links′ flags′ ledger′ cells′ used ledger cells
+        stepped r h = go r (committedOf (length ledger / tokenWidth) (tokens used ledger) (cellsIn cells) i j e) fire-committed
+            (grown (graphOf graph) (tokens used ledger) (now .arrived) i j (length ledger / tokenWidth) (cellsIn cells) e (does .arrives)) h
           where
             go : (q : Fired) (x : Committed) → fire M s τ ≡ firedOf x → Grown (graphOf graph) (length (tokens used ledger)) x
-                → Left q x arities heads′ next′ flags′ counts′ waiting′ later′ ledger′ cells′ used ledger cells → Stepped q (graphOf graph) τ arities heads′ next′ flags′ counts′ waiting′ later′ ledger′ cells′ used ledger cells
+                → CommittedTo q x tables links′ flags′ ledger′ cells′ used ledger cells → Stepped q (graphOf graph) τ tables links′ flags′ ledger′ cells′ used ledger cells
             go (Fires.Done n) (done us ds) f a l = went n us ds f a (l .0) (l .1)
             go (Fires.Done n) (refused q) f a l = absurd l
             go (Fires.Refused q) (done us ds) f a l = absurd l
@@ -264,35 +266,35 @@ at-place P d [] i h a = absurd (omega arith)
 at-place P d (t ∷ ts) zero h a = a .0
 at-place P d (t ∷ ts) (suc i) h a = at-place P d ts i (omega arith) (a .1)
 
-module _ (graph returns : List ℕ) {arities heads next flags counts waiting later ledger cells : List ℕ} {used : ℕ} (ready : Prepared graph returns arities)
-    (now : Running (graphOf graph) arities heads next flags counts waiting later ledger cells used) (place : ℕ) (within : place < used) where
-  pub room : place < length ledger / 20
+module _ (graph : List ℕ) {tables links flags ledger cells : List ℕ} {used : ℕ} (ready : Prepared graph tables)
+    (now : Running (graphOf graph) tables links flags ledger cells used) (place : ℕ) (within : place < used) where
+  pub room : place < length ledger / tokenWidth
   room = omega (arith, matching-room (now .matching))
 
   -- the token at the place is of an instruction of the graph
-  pub inside : (t : Record.Token) → t ≡ tokenAt ledger place → t .tag .instruction < length graph / 16
+  pub inside : (t : Record.Token) → t ≡ tokenAt ledger place → t .tag .instruction < length graph / graphWidth
   inside t e =
-      let size = length-rows 20 Tokens.decode used ledger in
+      let size = length-rows tokenWidth Tokens.decode used ledger in
       let here = at-place (λ (u : Record.Token). u .port < operandsAt (graphOf graph) (u .tag .instruction)) noToken (tokens used ledger) place (omega arith) (now .arrived) in
-      let same : getD (tokens used ledger) place noToken ≡ t = getD-rows 20 Tokens.decode used place ledger noToken within ∙ sym e in
+      let same : getD (tokens used ledger) place noToken ≡ t = getD-rows tokenWidth Tokens.decode used place ledger noToken within ∙ sym e in
       let arrives : t .port < operandsAt (graphOf graph) (t .tag .instruction) = subst (λ (u : Record.Token). u .port < operandsAt (graphOf graph) (u .tag .instruction)) same here in
       omega (arith, arrives-inside (graphOf graph) (record { tag = t .tag; port = t .port }) arrives, records graph)
 
   -- what matching found for it
-  pub matched-here : (t : Record.Token) (a : ℕ) (m : Matched) → t ≡ tokenAt ledger place → a ≡ getD arities (t .tag .instruction) 0 → m ≡ matchedAt a (tokens used ledger) (t .tag)
+  pub matched-here : (t : Record.Token) (a : ℕ) (m : Matched) → t ≡ tokenAt ledger place → a ≡ getD tables (t .tag .instruction + 256) 0 → m ≡ matchedAt a (tokens used ledger) (t .tag)
       → matchedAt (arityIn (graphOf graph) (tokenAt ledger place .tag)) (tokens used ledger) (tokenAt ledger place .tag) ≡ m
   matched-here t a m e f q =
       sym
       (q
-      ∙ ap (λ (n : ℕ). matchedAt n (tokens used ledger) (t .tag)) (f ∙ ready .aritiesRight (t .tag) .0)
+      ∙ ap (λ (n : ℕ). matchedAt n (tokens used ledger) (t .tag)) (f ∙ ready .aritiesRight (t .tag))
       ∙ ap (λ (u : Record.Token). matchedAt (arityIn (graphOf graph) (u .tag)) (tokens used ledger) (u .tag)) e)
 
   -- what commit is lent
   pub lent-here : (i j : ℕ) (v w : ℤ) → matchedAt (arityIn (graphOf graph) (tokenAt ledger place .tag)) (tokens used ledger) (tokenAt ledger place .tag) ≡ Both i j v w
-      → Lent arities heads next flags counts waiting later ledger cells used i j
+      → Fireable tables links flags ledger cells used i j
   lent-here i j v w e =
       let τ = tokenAt ledger place .tag in
-      let p = matched-places (tokens used ledger) τ (arityIn (graphOf graph) τ) (ready .aritiesRight τ .1) e in
+      let p = matched-places (tokens used ledger) τ (arityIn (graphOf graph) τ) (arity-small (graphOf graph) τ) e in
       record {
         matching = now .matching;
         few = now .few;
@@ -303,14 +305,14 @@ module _ (graph returns : List ℕ) {arities heads next flags counts waiting lat
   -- from matching to output
   pub stepped-here : (t : Record.Token) → t ≡ tokenAt ledger place → (i j : ℕ) (v w : ℤ)
       → matchedAt (arityIn (graphOf graph) (tokenAt ledger place .tag)) (tokens used ledger) (tokenAt ledger place .tag) ≡ Both i j v w
-      → (a b : ℤ) → a ≡ v → b ≡ w → (e : Effect) → Effected (graphOf graph) (length cells / 8) (t .tag) a b e
-      → (heads′ next′ flags′ counts′ waiting′ later′ ledger′ cells′ : List ℕ) (r : Fired)
-      → Left r (committedOf (length ledger / 20) (tokens used ledger) (cellsIn cells) i j e) arities heads′ next′ flags′ counts′ waiting′ later′ ledger′ cells′ used ledger cells
-      → Stepped r (graphOf graph) (tokenAt ledger place .tag) arities heads′ next′ flags′ counts′ waiting′ later′ ledger′ cells′ used ledger cells
-  stepped-here t same i j v w matched a b p q e does heads′ next′ flags′ counts′ waiting′ later′ ledger′ cells′ r left =
+      → (a b : ℤ) → a ≡ v → b ≡ w → (e : Effect) → Effected (graphOf graph) (length cells / cellWidth) (t .tag) a b e
+      → (links′ flags′ ledger′ cells′ : List ℕ) (r : Fired)
+      → CommittedTo r (committedOf (length ledger / tokenWidth) (tokens used ledger) (cellsIn cells) i j e) tables links′ flags′ ledger′ cells′ used ledger cells
+      → Stepped r (graphOf graph) (tokenAt ledger place .tag) tables links′ flags′ ledger′ cells′ used ledger cells
+  stepped-here t same i j v w matched a b p q e does links′ flags′ ledger′ cells′ r left =
       let τ = tokenAt ledger place .tag in
-      let does′ : Effected (graphOf graph) (length cells / 8) τ v w e =
-      subst (λ (y : ℤ). Effected (graphOf graph) (length cells / 8) τ v y e) q
-      (subst (λ (x : ℤ). Effected (graphOf graph) (length cells / 8) τ x b e) p
-      (subst (λ (u : Record.Token). Effected (graphOf graph) (length cells / 8) (u .tag) a b e) same does)) in
-      stepped graph (ready .passed) now τ (ready .aritiesRight τ .1) i j v w matched e does′ heads′ next′ flags′ counts′ waiting′ later′ ledger′ cells′ r left
+      let does′ : Effected (graphOf graph) (length cells / cellWidth) τ v w e =
+      subst (λ (y : ℤ). Effected (graphOf graph) (length cells / cellWidth) τ v y e) q
+      (subst (λ (x : ℤ). Effected (graphOf graph) (length cells / cellWidth) τ x b e) p
+      (subst (λ (u : Record.Token). Effected (graphOf graph) (length cells / cellWidth) (u .tag) a b e) same does)) in
+      stepped graph (ready .passed) now τ (arity-small (graphOf graph) τ) i j v w matched e does′ links′ flags′ ledger′ cells′ r left

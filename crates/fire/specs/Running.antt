@@ -7,25 +7,26 @@ use lib.IntN.{ℤ}
 use Rattle.record.specs.declared.tag.Tag.{Tag}
 use Rattle.record.specs.declared.token.Token as Record
 use Rattle.record.specs.declared.instruction.Instruction.{Instruction}
-use Rattle.table.specs.Table.{All}
+use Rattle.buffer.specs.Rows.{All}
 use Rattle.record.specs.GraphRecords.{graphOf}
 use Rattle.record.specs.TokensAndTags.{tokens}
+use Rattle.record.specs.Widths.{tokenWidth, cellWidth}
 use Rattle.machine.specs.Machine.{Machine, State, fire, fired, notFired}
 use Rattle.machine.specs.Orders.{Good}
 use Rattle.rules.specs.declared.answer.Refusal.{Refusal}
 use Rattle.rules.specs.declared.answer.Checked.the-variants.{Passed}
 use Rattle.rules.specs.Check.{operandsAt, checkGraph}
 use Rattle.rules.specs.InstructionSet.{machineOf}
-use Rattle.held.specs.Held.{stateHeld, Arities}
-use Rattle.effect.specs.Held.{Returns}
-use Rattle.matching.specs.Matching.{Matching}
-use Rattle.outputs.specs.Outputs.{cellsIn, CellStore}
-use Rattle.commit.specs.declared.Fired.{Fired}
-use Rattle.commit.specs.declared.Fired.the-variants as Fires
+use Rattle.abstraction.specs.States.{stateHeld}
+use Rattle.abstraction.specs.Tables.{Arities, Returns}
+use Rattle.store.specs.Matching.{Matching}
+use Rattle.fire_outputs.specs.Outputs.{cellsIn, CellStore}
+use Rattle.fire_commit.specs.declared.Fired.{Fired}
+use Rattle.fire_commit.specs.declared.Fired.the-variants as Fires
 
 -- the machine of a graph over a ledger and cells, and its state there
 abbrev pub machineFor : List Instruction → (ledger cells : List ℕ) → Machine
-machineFor g ledger cells = machineOf g (length ledger / 20) (length cells / 8)
+machineFor g ledger cells = machineOf g (length ledger / tokenWidth) (length cells / cellWidth)
 
 abbrev pub stateIn : (ledger cells : List ℕ) → (used : ℕ) → State Tag ℤ
 stateIn ledger cells used = stateHeld (tokens used ledger) (cellsIn cells)
@@ -35,37 +36,37 @@ abbrev pub Arrived : List Instruction → List Record.Token → Type 0
 Arrived g ts = All (λ (t : Record.Token). t .port < operandsAt g (t .tag .instruction)) ts
 
 -- between firings
-pub record Running (g : List Instruction) (arities heads next flags counts waiting later ledger cells : List ℕ) (used : ℕ) : Type 0 where
-  pub matching : Matching arities heads next flags counts waiting later ledger used
-  pub few : length ledger / 20 ≤ 2048
+pub record Running (g : List Instruction) (tables links flags ledger cells : List ℕ) (used : ℕ) : Type 0 where
+  pub matching : Matching tables links flags ledger used
+  pub few : length ledger / tokenWidth ≤ 2048
   pub store : CellStore cells
   pub arrived : Arrived g (tokens used ledger)
   pub good : Good (machineFor g ledger cells) (stateIn ledger cells used)
 
 -- a firing that was done left n tokens
-pub record Went (g : List Instruction) (τ : Tag) (arities heads next flags counts waiting later ledger′ cells′ : List ℕ) (n used : ℕ) (ledger cells : List ℕ) : Type 0 where
+pub record Went (g : List Instruction) (τ : Tag) (tables links flags ledger′ cells′ : List ℕ) (n used : ℕ) (ledger cells : List ℕ) : Type 0 where
   pub step : fire (machineFor g ledger cells) (stateIn ledger cells used) τ ≡ fired (stateIn ledger′ cells′ n)
-  pub running : Running g arities heads next flags counts waiting later ledger′ cells′ n
+  pub running : Running g tables links flags ledger′ cells′ n
   pub grown : used ≤ n
   pub size : length ledger′ ≡ length ledger
-  pub rest : drop (n * 20) ledger′ ≡ drop (n * 20) ledger
+  pub rest : drop (n * tokenWidth) ledger′ ≡ drop (n * tokenWidth) ledger
   pub cellSize : length cells′ ≡ length cells
 
 -- a firing that was refused left ledger and cells as it found them
-pub record Stopped (r : Refusal) (g : List Instruction) (τ : Tag) (arities heads next flags counts waiting later ledger′ cells′ : List ℕ) (used : ℕ) (ledger cells : List ℕ) : Type 0 where
+pub record Stopped (r : Refusal) (g : List Instruction) (τ : Tag) (tables links flags ledger′ cells′ : List ℕ) (used : ℕ) (ledger cells : List ℕ) : Type 0 where
   pub step : fire (machineFor g ledger cells) (stateIn ledger cells used) τ ≡ notFired r
-  pub running : Running g arities heads next flags counts waiting later ledger′ cells′ used
+  pub running : Running g tables links flags ledger′ cells′ used
   pub sameLedger : ledger′ ≡ ledger
   pub sameCells : cells′ ≡ cells
 
-abbrev pub Stepped : Fired → List Instruction → Tag → (arities heads next flags counts waiting later ledger′ cells′ : List ℕ) → (used : ℕ) → (ledger cells : List ℕ) → Type 0
-Stepped (Fires.Done n) g τ arities heads next flags counts waiting later ledger′ cells′ used ledger cells =
-    Went g τ arities heads next flags counts waiting later ledger′ cells′ n used ledger cells
-Stepped (Fires.Refused r) g τ arities heads next flags counts waiting later ledger′ cells′ used ledger cells =
-    Stopped r g τ arities heads next flags counts waiting later ledger′ cells′ used ledger cells
+abbrev pub Stepped : Fired → List Instruction → Tag → (tables links flags ledger′ cells′ : List ℕ) → (used : ℕ) → (ledger cells : List ℕ) → Type 0
+Stepped (Fires.Done n) g τ tables links flags ledger′ cells′ used ledger cells =
+    Went g τ tables links flags ledger′ cells′ n used ledger cells
+Stepped (Fires.Refused r) g τ tables links flags ledger′ cells′ used ledger cells =
+    Stopped r g τ tables links flags ledger′ cells′ used ledger cells
 
 -- what a run has of its graph: it passed the check, and the tables made of it are right
-pub record Prepared (graph returns arities : List ℕ) : Type 0 where
+pub record Prepared (graph tables : List ℕ) : Type 0 where
   pub passed : checkGraph graph ≡ Passed
-  pub returnsRight : Returns returns (graphOf graph)
-  pub aritiesRight : Arities (graphOf graph) arities
+  pub returnsRight : Returns (graphOf graph) tables
+  pub aritiesRight : Arities (graphOf graph) tables

@@ -8,6 +8,7 @@ use lib.Dec.{eqb}
 use lib.ListN.{length}
 use borrow.Author.Tests.{eqb-true, leb-true, eq-eqb, le-leb}
 use Rattle.record.specs.TokensAndTags.{mostTokens}
+use Rattle.record.specs.Widths.{tokenWidth}
 use Rattle.listing.specs.Listing.{accepted, answer, outAfter, listing, numberOf}
 use Rattle.listing.specs.declared.Listed.{Listed}
 use Rattle.listing.specs.declared.Listed.the-variants.{Done, BadStore}
@@ -17,19 +18,19 @@ use Rattle.listing.proofs.Lists.{both, and-true}
 
 pub record Lengths (ledger out : ℕ) : Type 0 where
   pub same : ledger ≡ out
-  pub whole : ledger % 20 ≡ 0
-  pub few : ledger / 20 ≤ mostTokens
+  pub whole : ledger % tokenWidth ≡ 0
+  pub few : ledger / tokenWidth ≤ mostTokens
 
 pub lengths : (ledger out : ℕ) → accepted ledger out ≡ true → Lengths ledger out
 unfolding accepted
 lengths ledger out h =
     let p = and-true (eqb ledger out) _ h in
-    let q = and-true (eqb (ledger % 20) 0) _ (p .1) in
-    record { same = eqb-true ledger out (p .0); whole = eqb-true (ledger % 20) 0 (q .0); few = leb-true (ledger / 20) mostTokens (q .1) }
+    let q = and-true (eqb (ledger % tokenWidth) 0) _ (p .1) in
+    record { same = eqb-true ledger out (p .0); whole = eqb-true (ledger % tokenWidth) 0 (q .0); few = leb-true (ledger / tokenWidth) mostTokens (q .1) }
 
 pub accepting : (ledger out : ℕ) → Lengths ledger out → accepted ledger out ≡ true
 unfolding accepted
-accepting ledger out l = rw (eq-eqb ledger out (l .same), eq-eqb (ledger % 20) 0 (l .whole), le-leb (ledger / 20) mostTokens (l .few))
+accepting ledger out l = rw (eq-eqb ledger out (l .same), eq-eqb (ledger % tokenWidth) 0 (l .whole), le-leb (ledger / tokenWidth) mostTokens (l .few))
 
 -- ---- what `list` returns, by its number
 

@@ -9,11 +9,12 @@ use lib.ListN.{length, take, length-map}
 use lib.ListN.{drop-of-length-le}
 use Rattle.record.specs.declared.token.Token.{Token}
 use Rattle.number.specs.Number.{Bytes}
-use Rattle.table.specs.Table.{All, joined}
+use Rattle.buffer.specs.Rows.{All, joined}
 use Rattle.record.specs.TokensAndTags.{encode, mostTokens, capacityOf, ledgerOf}
 use Rattle.record.specs.Cells as Cells
 use Rattle.record.proofs.Records.{length-token, length-cell}
-use Rattle.table.proofs.Tables.{length-joined}
+use Rattle.buffer.proofs.Tables.{length-joined}
+use Rattle.record.specs.Widths.{tokenWidth, cellWidth}
 use Rattle.machine.specs.Machine as Machine
 use Rattle.rules.specs.declared.answer.Refusal.{Refusal}
 use Rattle.rules.specs.declared.answer.Outcome.{Outcome}
@@ -57,18 +58,18 @@ is-completed (Outcomes.Refused r place) h = absurd h
 
 -- ---- what a run that completes leaves, in bytes
 
-used-bytes : (x : Result) → Rules.Completed x → (lent : List ℕ) → take (Run.answer x .tokens * 20) (ledgerAfter x lent) ≡ joined encode (tokensOf x)
+used-bytes : (x : Result) → Rules.Completed x → (lent : List ℕ) → take (Run.answer x .tokens * tokenWidth) (ledgerAfter x lent) ≡ joined encode (tokensOf x)
 unfolding Run.answer ledgerAfter
 used-bytes (refusedAtOnce r p) h lent = absurd h
 used-bytes (ranTo e) h lent =
-    ap (λ (n : ℕ). take (n * 20) (ledgerOf (tokensOf (ranTo e)) lent)) (sym (length-map (e .state .tokens) tokenRecord)) ∙ used-records (tokensOf (ranTo e)) lent
+    ap (λ (n : ℕ). take (n * tokenWidth) (ledgerOf (tokensOf (ranTo e)) lent)) (sym (length-map (e .state .tokens) tokenRecord)) ∙ used-records (tokensOf (ranTo e)) lent
 
-cell-bytes : (x : Result) → Rules.Completed x → (lent : List ℕ) → length lent % 8 ≡ 0 → CellCount x (length lent / 8) → cellsAfter x lent ≡ joined Cells.encode (cellsOf x)
+cell-bytes : (x : Result) → Rules.Completed x → (lent : List ℕ) → length lent % cellWidth ≡ 0 → CellCount x (length lent / cellWidth) → cellsAfter x lent ≡ joined Cells.encode (cellsOf x)
 unfolding cellsAfter
 cell-bytes (refusedAtOnce r p) h lent whole count = absurd h
 cell-bytes (ranTo e) h lent whole count =
     let written = joined Cells.encode (cellsOf (ranTo e)) in
-    let n : length written ≡ length (cellsOf (ranTo e)) * 8 = length-joined 8 Cells.encode length-cell (cellsOf (ranTo e)) in
+    let n : length written ≡ length (cellsOf (ranTo e)) * cellWidth = length-joined cellWidth Cells.encode length-cell (cellsOf (ranTo e)) in
     let all : length lent ≤ length written = omega arith in
     ap (λ (l : List ℕ). written ++ l) (drop-of-length-le lent all) ∙ append-nil written
 
@@ -83,12 +84,12 @@ once-apart [] h = tt
 once-apart (t ∷ ts) h = (all-apart t ts (h .0), once-apart ts (h .1))
 
 records-of : (ts : List Token) → records (joined encode ts) ≡ map encode ts
-records-of ts = records-joined encode ts (all-of (λ t. length (encode t) ≡ 20) length-token ts)
+records-of ts = records-joined encode ts (all-of (λ t. length (encode t) ≡ tokenWidth) length-token ts)
 
 -- ---- two runs
 
 module _ (graph inputs : List ℕ) (graphBytes : Bytes graph) (inputBytes : Bytes inputs) (l m : Lent) (a : AllowedLent l) (b : AllowedLent m)
-    (capacities : capacityOf (length (l .ledger)) ≡ capacityOf (length (m .ledger))) (counts : length (l .cells) / 8 ≡ length (m .cells) / 8)
+    (capacities : capacityOf (length (l .ledger)) ≡ capacityOf (length (m .ledger))) (counts : length (l .cells) / cellWidth ≡ length (m .cells) / cellWidth)
     (x y : Left) (ranX : RanOn graph inputs l x) (ranY : RanOn graph inputs m y) where
   abbrev resultOf : Lent → Result
   resultOf k = result graph inputs (k .picks) 2048 (length (k .ledger)) (length (k .cells))
@@ -105,7 +106,7 @@ module _ (graph inputs : List ℕ) (graphBytes : Bytes graph) (inputBytes : Byte
   cells-of : (k : Lent) → AllowedLent k → (z : Left) → RanOn graph inputs k z → Rules.Completed (resultOf k) → z .cells ≡ joined Cells.encode (cellsOf (resultOf k))
   cells-of k ok z ran c =
       let fits = result-fits graph inputs (k .picks) 2048 (length (k .ledger)) (length (k .cells)) graphBytes inputBytes in
-      ran .cellsLeft ∙ cell-bytes (resultOf k) c (k .cells) (whole-bytes 8 mostCells (length (k .cells)) (ok .allowedCells) .0) (fits .cellCount)
+      ran .cellsLeft ∙ cell-bytes (resultOf k) c (k .cells) (whole-bytes cellWidth mostCells (length (k .cells)) (ok .allowedCells) .0) (fits .cellCount)
 
   alike : Completed (x .answer .outcome) → Alike x y
   alike done =
@@ -117,7 +118,7 @@ module _ (graph inputs : List ℕ) (graphBytes : Bytes graph) (inputBytes : Byte
       let ux = used-of l x ranX cx in
       let uy = used-of m y ranY cy in
       let fits = result-fits graph inputs (l .picks) 2048 (length (l .ledger)) (length (l .cells)) graphBytes inputBytes in
-      let few = whole-bytes 20 mostTokens (length (l .ledger)) (a .allowedLedger) .1 in
+      let few = whole-bytes tokenWidth mostTokens (length (l .ledger)) (a .allowedLedger) .1 in
       let outcomes : x .answer .outcome ≡ y .answer .outcome = is-completed (x .answer .outcome) done ∙ sym (is-completed (y .answer .outcome) (ended m y ranY .completes .0 cy)) in
       let firings : x .answer .firings ≡ y .answer .firings = rw (ranX .answered, ranY .answered) (same .firings) in
       let tokens : x .answer .tokens ≡ y .answer .tokens = rw (ranX .answered, ranY .answered) (same .tokens) in

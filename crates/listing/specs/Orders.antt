@@ -8,6 +8,7 @@ use mathlib.Core.Logic.{_↔_}
 use lib.ListN.{length, take}
 use Rattle.number.specs.Number.{Bytes}
 use Rattle.record.specs.TokensAndTags.{capacityOf}
+use Rattle.record.specs.Widths.{tokenWidth, cellWidth}
 use Rattle.rules.specs.declared.answer.Answer.{Answer}
 use Rattle.rules.specs.declared.answer.Outcome.{Outcome}
 use Rattle.rules.specs.declared.answer.Outcome.the-variants as Outcomes
@@ -56,7 +57,7 @@ Refused (Outcomes.Refused r place) = Unit {0}
 
 -- the first t ledger records, of t tokens, which `list` is lent
 abbrev pub used : Left → List ℕ
-used x = take (x .answer .tokens * 20) (x .ledger)
+used x = take (x .answer .tokens * tokenWidth) (x .ledger)
 
 -- ---- the claim
 
@@ -84,5 +85,5 @@ pub record Agree (x y : Left) : Type 0 where
 -- cells held beforehand may differ."
 abbrev pub AnyTwoOrders : Type 0
 AnyTwoOrders = (graph inputs : List ℕ) → Bytes graph → Bytes inputs → (l m : Lent) → AllowedLent l → AllowedLent m
-    → capacityOf (length (l .ledger)) ≡ capacityOf (length (m .ledger)) → length (l .cells) / 8 ≡ length (m .cells) / 8
+    → capacityOf (length (l .ledger)) ≡ capacityOf (length (m .ledger)) → length (l .cells) / cellWidth ≡ length (m .cells) / cellWidth
     → (x y : Left) → RanOn graph inputs l x → RanOn graph inputs m y → Agree x y

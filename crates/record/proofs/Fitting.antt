@@ -10,7 +10,7 @@ use mir.Syntax.{w32}
 use mir.Val.{SFits}
 use mir.Facts.{sfits-toZ}
 use Rattle.number.specs.Number.{Bytes, byteAt, number32, signedOf}
-use Rattle.table.specs.Table.{rows, All}
+use Rattle.buffer.specs.Rows.{rows, All}
 use Rattle.record.specs.GraphRecords as Graph
 use Rattle.record.specs.TokensAndTags as Tokens
 use Rattle.record.specs.TokensAndTags.{contentOf, ContentFits, TokenFits}

@@ -9,7 +9,7 @@ use lib.ListN.{length, getD, take, set}
 use lib.Seq.{getD-take}
 use lib.Dec.{T, ltb, ltb→lt}
 use Rattle.number.specs.Number.{byteAt, number32, bitsOf, bytes32}
-use Rattle.table.specs.Table.{putRow, joined, All}
+use Rattle.buffer.specs.Rows.{putRow, joined, All}
 use Rattle.record.specs.GraphRecords as Graph
 use Rattle.record.specs.TokensAndTags as Tokens
 use Rattle.record.specs.TokensAndTags.{contentOf, stateOf, valueOf, ContentFits, TokenFits, tokens}
@@ -22,7 +22,8 @@ use Rattle.record.specs.declared.token.Content.the-variants.{Live, Spent
 use Rattle.record.specs.declared.cell.Cell.{Cell}
 use Rattle.record.specs.declared.cell.Cell.the-variants.{Absent, Waiting, Present}
 use Rattle.number.proofs.Numbers.{number16-bytes, number32-bytes, number64-bytes, fits16, fits32, fits64, number32-small, bytes16-number, bytes32-number, bytes64-number, bits-fit, signed-bits, bits-signed}
-use Rattle.table.proofs.Tables.{rows-put, rows-end, rows-joined}
+use Rattle.buffer.proofs.Tables.{rows-put, rows-end, rows-joined}
+use Rattle.record.specs.Widths.{tokenWidth, cellWidth}
 
 -- ---- a list as its elements
 
@@ -77,7 +78,7 @@ content-back (Live v) f = rw (fits32 _ (bits-fit v f), signed-bits v f)
 content-back (Spent v) f = rw (fits32 _ (bits-fit v f), signed-bits v f)
 content-back (Deferred n) f = rw (fits32 n f)
 
-pub length-token : (t : Token) → length (Tokens.encode t) ≡ 20
+pub length-token : (t : Token) → length (Tokens.encode t) ≡ tokenWidth
 unfolding Tokens.encode
 length-token t = refl
 
@@ -95,7 +96,7 @@ token-back t rest f =
 
 -- what a record may hold whose bytes are written back: a state of the three, and zeros
 pub record ProperToken (l : List ℕ) : Type 0 where
-  pub size : length l ≡ 20
+  pub size : length l ≡ tokenWidth
   pub small : (k : ℕ) → byteAt l k < 256
   pub state : byteAt l 16 < 3
   pub zeros : (byteAt l 17 ≡ 0) × (byteAt l 18 ≡ 0) × (byteAt l 19 ≡ 0)
@@ -123,7 +124,7 @@ token-bytes-back l p =
     let value = ap (λ (n : ℕ). bytes32 n) (value-back (number32 l 12) (byteAt l 16) (p .state) (number32-small l bytes 12)) ∙ bytes32-number l bytes 12 in
     let state = state-back (number32 l 12) (byteAt l 16) (p .state) in
     (λ i. path i ++ byteAt l 8 ∷ byteAt l 9 ∷ bytes16-number l bytes 10 i ++ value i ++ state i ∷ sym (z .0) i ∷ sym (z .1) i ∷ sym (z .2) i ∷ [])
-    ∙ elements 20 l (p .size)
+    ∙ elements tokenWidth l (p .size)
 
 -- ---- cells
 
@@ -165,27 +166,27 @@ cell-bytes-back l p =
 -- ---- a record is read from its own bytes alone
 
 module _ (l : List ℕ) where
-  pub token-front : Tokens.decode (take 20 l) ≡ Tokens.decode l
+  pub token-front : Tokens.decode (take tokenWidth l) ≡ Tokens.decode l
   unfolding Tokens.decode
   token-front =
       rw (
-        front 20 l 0 tt,
-        front 20 l 1 tt,
-        front 20 l 2 tt,
-        front 20 l 3 tt,
-        front 20 l 4 tt,
-        front 20 l 5 tt,
-        front 20 l 6 tt,
-        front 20 l 7 tt,
-        front 20 l 8 tt,
-        front 20 l 9 tt,
-        front 20 l 10 tt,
-        front 20 l 11 tt,
-        front 20 l 12 tt,
-        front 20 l 13 tt,
-        front 20 l 14 tt,
-        front 20 l 15 tt,
-        front 20 l 16 tt,
+        front tokenWidth l 0 tt,
+        front tokenWidth l 1 tt,
+        front tokenWidth l 2 tt,
+        front tokenWidth l 3 tt,
+        front tokenWidth l 4 tt,
+        front tokenWidth l 5 tt,
+        front tokenWidth l 6 tt,
+        front tokenWidth l 7 tt,
+        front tokenWidth l 8 tt,
+        front tokenWidth l 9 tt,
+        front tokenWidth l 10 tt,
+        front tokenWidth l 11 tt,
+        front tokenWidth l 12 tt,
+        front tokenWidth l 13 tt,
+        front tokenWidth l 14 tt,
+        front tokenWidth l 15 tt,
+        front tokenWidth l 16 tt,
       )
 
   cell-front : Cells.decode (take 8 l) ≡ Cells.decode l
@@ -198,17 +199,17 @@ own w read front l m e = sym (front l) ∙ ap read e ∙ front m
 -- ---- tables of tokens and of cells
 
 module _ (t : Token) (f : TokenFits t) where
-  pub tokens-put : (n i : ℕ) (l : List ℕ) → i < n → n * 20 ≤ length l → tokens n (putRow 20 l i (Tokens.encode t)) ≡ set (tokens n l) i t
-  tokens-put = rows-put 20 Tokens.decode (own 20 Tokens.decode token-front) (Tokens.encode t) t (length-token t) (λ r. token-back t r f)
+  pub tokens-put : (n i : ℕ) (l : List ℕ) → i < n → n * tokenWidth ≤ length l → tokens n (putRow tokenWidth l i (Tokens.encode t)) ≡ set (tokens n l) i t
+  tokens-put = rows-put tokenWidth Tokens.decode (own tokenWidth Tokens.decode token-front) (Tokens.encode t) t (length-token t) (λ r. token-back t r f)
 
-  pub tokens-end : (n : ℕ) (l : List ℕ) → suc n * 20 ≤ length l → tokens (suc n) (putRow 20 l n (Tokens.encode t)) ≡ tokens n l ++ t ∷ []
-  tokens-end = rows-end 20 Tokens.decode (own 20 Tokens.decode token-front) (Tokens.encode t) t (length-token t) (λ r. token-back t r f)
+  pub tokens-end : (n : ℕ) (l : List ℕ) → suc n * tokenWidth ≤ length l → tokens (suc n) (putRow tokenWidth l n (Tokens.encode t)) ≡ tokens n l ++ t ∷ []
+  tokens-end = rows-end tokenWidth Tokens.decode (own tokenWidth Tokens.decode token-front) (Tokens.encode t) t (length-token t) (λ r. token-back t r f)
 
 pub tokens-joined : (ts : List Token) (r : List ℕ) → All TokenFits ts → tokens (length ts) (joined Tokens.encode ts ++ r) ≡ ts
-tokens-joined = rows-joined 20 Tokens.encode length-token Tokens.decode TokenFits token-back
+tokens-joined = rows-joined tokenWidth Tokens.encode length-token Tokens.decode TokenFits token-back
 
-pub cells-put : (x : Cell) → CellFits x → (n i : ℕ) (l : List ℕ) → i < n → n * 8 ≤ length l → cells n (putRow 8 l i (Cells.encode x)) ≡ set (cells n l) i x
-cells-put x f = rows-put 8 Cells.decode (own 8 Cells.decode cell-front) (Cells.encode x) x (length-cell x) (λ r. cell-back x r f)
+pub cells-put : (x : Cell) → CellFits x → (n i : ℕ) (l : List ℕ) → i < n → n * cellWidth ≤ length l → cells n (putRow cellWidth l i (Cells.encode x)) ≡ set (cells n l) i x
+cells-put x f = rows-put cellWidth Cells.decode (own cellWidth Cells.decode cell-front) (Cells.encode x) x (length-cell x) (λ r. cell-back x r f)
 
 pub cells-joined : (xs : List Cell) (r : List ℕ) → All CellFits xs → cells (length xs) (joined Cells.encode xs ++ r) ≡ xs
-cells-joined = rows-joined 8 Cells.encode length-cell Cells.decode CellFits cell-back
+cells-joined = rows-joined cellWidth Cells.encode length-cell Cells.decode CellFits cell-back

@@ -8,9 +8,10 @@ use lib.Dec.{eqb}
 use mir.Syntax.{w32}
 use mir.Val.{SFits}
 use Rattle.number.specs.Number.{byteAt, number32, signedOf, bitsOf, bytes32}
-use Rattle.table.specs.Table.{rows}
+use Rattle.buffer.specs.Rows.{rows}
 use Rattle.record.specs.declared.cell.Cell.{Cell}
 use Rattle.record.specs.declared.cell.Cell.the-variants.{Absent, Waiting, Present}
+use Rattle.record.specs.Widths.{cellWidth}
 
 -- the cell of a value and a state; a state past 2, which no rule writes, reads as absent
 unfoldable pub cellOf : (bits state : ℕ) → Cell
@@ -36,8 +37,8 @@ CellFits (Present v) = SFits w32 v
 
 -- the cell of record i
 abbrev pub cellAt : List ℕ → ℕ → Cell
-cellAt l i = decode (drop (i * 8) l)
+cellAt l i = decode (drop (i * cellWidth) l)
 
 -- the cells of the first n records
 abbrev pub cells : ℕ → List ℕ → List Cell
-cells n l = rows 8 decode n l
+cells n l = rows cellWidth decode n l

@@ -8,18 +8,19 @@ use lib.IntN.{ℤ, pos}
 use mir.Syntax.{w32}
 use mir.Val.{SFits}
 use Rattle.number.specs.Number.{byteAt, number16, number32, signedOf, bitsOf, bytes16, bytes32}
-use Rattle.table.specs.Table.{whole, allRows}
+use Rattle.buffer.specs.Rows.{whole, allRows}
 use Rattle.record.specs.declared.instruction.Destination.{Destination}
 use Rattle.record.specs.declared.instruction.Instruction.{Instruction}
 use Rattle.record.specs.declared.operation.Arithmetic.{Arithmetic}
 use Rattle.record.specs.declared.operation.Arithmetic.the-variants.{Add, Sub, Mul, Div, Rem, Lt, Le, Eq}
 use Rattle.record.specs.declared.operation.Operation.{Operation}
 use Rattle.record.specs.declared.operation.Operation.the-variants.{Copy, Sink, Out, Const, Switch, Gate, Next, Enter, Leave, Fetch, Store, OnTwo, OnConstant, Unknown}
+use Rattle.record.specs.Widths.{graphWidth}
 
 -- ---- "A graph is 1 to 256 records of 16 bytes without a header; a record's position is its instruction number."
 
 abbrev pub isGraphLength : (length : ℕ) → Bool
-isGraphLength n = leb 1 n && whole 16 256 n
+isGraphLength n = leb 1 n && whole graphWidth 256 n
 
 -- ---- "Byte 0: operation. Byte 1: fan-out, the number of destinations in use. Bytes 2 and 3: ports of destinations 1 and 2.
 -- Bytes 4-5 and 6-7: their instructions. Bytes 8-11: a constant, signed, 32 bits. Bytes 12-15: zero."
@@ -55,10 +56,10 @@ pub record InstructionFits (r : Instruction) : Type 0 where
 
 -- instruction number i of a graph's bytes
 abbrev pub instructionIn : List ℕ → ℕ → Instruction
-instructionIn l i = decode (drop (i * 16) l)
+instructionIn l i = decode (drop (i * graphWidth) l)
 
 abbrev pub graphOf : List ℕ → List Instruction
-graphOf l = allRows 16 decode l
+graphOf l = allRows graphWidth decode l
 
 -- the destinations in use
 abbrev pub inUse : (fanOut : ℕ) → (first second : Destination) → List Destination

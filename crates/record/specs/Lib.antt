@@ -1,4 +1,5 @@
 -- 01, "Graph records", "Tokens and tags", and of "Firing" the cells and the tags of calls. Assumes nothing.
+pub mod Widths
 pub mod GraphRecords
 pub mod TokensAndTags
 pub mod Calls

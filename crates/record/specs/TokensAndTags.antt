@@ -7,11 +7,12 @@ use lib.Dec.{eqb}
 use mir.Syntax.{w32}
 use mir.Val.{SFits}
 use Rattle.number.specs.Number.{byteAt, number16, number32, number64, signedOf, bitsOf, bytes16, bytes32, bytes64}
-use Rattle.table.specs.Table.{rows, writtenOver}
+use Rattle.buffer.specs.Rows.{rows, writtenOver}
 use Rattle.record.specs.declared.tag.Tag.{Tag}
 use Rattle.record.specs.declared.token.Token.{Token}
 use Rattle.record.specs.declared.token.Content.{Content}
 use Rattle.record.specs.declared.token.Content.the-variants.{Live, Spent, Deferred}
+use Rattle.record.specs.Widths.{tokenWidth}
 
 -- ---- "A token record has 20 bytes: path (0-7), iteration (8), port (9), instruction (10-11), signed value (12-15), state (16), zeros (17-19).
 -- States: 0 live, 1 spent, 2 deferred."
@@ -89,15 +90,15 @@ abbrev pub mostTokens : ℕ
 mostTokens = 2048
 
 abbrev pub capacityOf : (length : ℕ) → ℕ
-capacityOf n = n / 20
+capacityOf n = n / tokenWidth
 
 -- the token of record i
 abbrev pub tokenAt : List ℕ → ℕ → Token
-tokenAt l i = decode (drop (i * 20) l)
+tokenAt l i = decode (drop (i * tokenWidth) l)
 
 -- the tokens of the first n records
 abbrev pub tokens : ℕ → List ℕ → List Token
-tokens n l = rows 20 decode n l
+tokens n l = rows tokenWidth decode n l
 
 -- a ledger that took these tokens
 abbrev pub ledgerOf : List Token → (lent : List ℕ) → List ℕ

@@ -2,8 +2,12 @@
 ghost use mathlib.Core.Path.{_≡_};
 ghost use Prim.Native.Nat.{_/_, _≤_, _<_};
 ghost use lib.ListN.{length};
-ghost use Rattle.table.specs.Table.{putRow};
+ghost use Rattle.buffer.specs.Rows.{putRow};
 ghost use Rattle.record.specs.Cells as Cells;
+ghost use Rattle.record.specs.Widths.{cellWidth};
+
+// The bytes of a cell record.
+pub const WIDTH: usize = 8;
 
 // 01, "Firing": a cell is absent, waiting or present.
 pub enum Cell {
@@ -32,7 +36,7 @@ pub fn decode(s: &[u8]) -> Cell
 }
 
 // The bytes of a record's fields.
-fn bytes_of(value: u32, state: u8) -> [u8; 8]
+fn bytes_of(value: u32, state: u8) -> [u8; WIDTH]
     ensures { λ r. ⌜ r ≡ Cells.cellBytes value state ⌝ }
 {
     [
@@ -47,7 +51,7 @@ fn bytes_of(value: u32, state: u8) -> [u8; 8]
     ]
 }
 
-pub fn encode(cell: Cell) -> [u8; 8]
+pub fn encode(cell: Cell) -> [u8; WIDTH]
     ensures { λ r. ⌜ (r ≡ Cells.encode cell) × Cells.CellFits cell ⌝ }
 {
     match cell {
@@ -59,17 +63,17 @@ pub fn encode(cell: Cell) -> [u8; 8]
 
 // The cell of record i.
 pub fn cell_at(cells: &[u8], i: usize) -> Cell
-    requires { ⌜ i < length (now cells) / 8 ⌝ }
+    requires { ⌜ i < length (now cells) / cellWidth ⌝ }
     ensures { λ r. ⌜ r ≡ Cells.cellAt (now (cells .entry)) i ⌝ }
 {
-    decode(table::row_at(cells, 8, i))
+    decode(buffer::row_at(cells, WIDTH, i))
 }
 
 // Writes a cell as record i; every other byte stays.
 pub fn put_cell(cells: &mut [u8], i: usize, cell: Cell)
-    requires { ⌜ i < length (now cells) / 8 ⌝ }
-    ensures { λ _. ⌜ (now (cells .exit) ≡ putRow 8 (now (cells .entry)) i (Cells.encode cell)) × Cells.CellFits cell ⌝ }
+    requires { ⌜ i < length (now cells) / cellWidth ⌝ }
+    ensures { λ _. ⌜ (now (cells .exit) ≡ putRow cellWidth (now (cells .entry)) i (Cells.encode cell)) × Cells.CellFits cell ⌝ }
 {
     let bytes = encode(cell);
-    table::put_row(cells, 8, i, &bytes);
+    buffer::put_row(cells, WIDTH, i, &bytes);
 }

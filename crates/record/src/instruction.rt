@@ -2,9 +2,13 @@
 ghost use mathlib.Core.Path.{_≡_};
 ghost use Prim.Native.Nat.{_/_, _≤_, _<_};
 ghost use lib.ListN.{length};
-ghost use Rattle.table.specs.Table.{putRow};
+ghost use Rattle.buffer.specs.Rows.{putRow};
 ghost use Rattle.record.specs.GraphRecords as Graph;
 ghost use Rattle.record.specs.GraphRecords.{instructionBytes, instructionIn, InstructionFits};
+ghost use Rattle.record.specs.Widths.{graphWidth};
+
+// The bytes of a graph record.
+pub const WIDTH: usize = 16;
 
 // A port of an instruction.
 pub struct Destination {
@@ -54,7 +58,7 @@ fn bytes_of(
     second: Destination,
     constant: u32,
     zeros: u32,
-) -> [u8; 16]
+) -> [u8; WIDTH]
     ensures { λ r. ⌜ r ≡ instructionBytes code fanout first second constant zeros ⌝ }
 {
     let i = first.instruction;
@@ -79,7 +83,7 @@ fn bytes_of(
     ]
 }
 
-pub fn encode(r: Instruction) -> [u8; 16]
+pub fn encode(r: Instruction) -> [u8; WIDTH]
     ensures { λ b. ⌜ (b ≡ Graph.encode r) × InstructionFits r ⌝ }
 {
     let first = r.first;
@@ -96,17 +100,17 @@ pub fn encode(r: Instruction) -> [u8; 16]
 
 // Instruction i of a graph.
 pub fn instruction_at(graph: &[u8], i: usize) -> Instruction
-    requires { ⌜ i < length (now graph) / 16 ⌝ }
+    requires { ⌜ i < length (now graph) / graphWidth ⌝ }
     ensures { λ r. ⌜ r ≡ instructionIn (now (graph .entry)) i ⌝ }
 {
-    decode(table::row_at(graph, 16, i))
+    decode(buffer::row_at(graph, WIDTH, i))
 }
 
 // Writes r as instruction i of a graph; every other byte stays.
 pub fn put_instruction(graph: &mut [u8], i: usize, r: Instruction)
-    requires { ⌜ i < length (now graph) / 16 ⌝ }
-    ensures { λ _. ⌜ (now (graph .exit) ≡ putRow 16 (now (graph .entry)) i (Graph.encode r)) × InstructionFits r ⌝ }
+    requires { ⌜ i < length (now graph) / graphWidth ⌝ }
+    ensures { λ _. ⌜ (now (graph .exit) ≡ putRow graphWidth (now (graph .entry)) i (Graph.encode r)) × InstructionFits r ⌝ }
 {
     let bytes = encode(r);
-    table::put_row(graph, 16, i, &bytes);
+    buffer::put_row(graph, WIDTH, i, &bytes);
 }

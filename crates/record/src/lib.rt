@@ -2,5 +2,6 @@
 pub mod cell;
 pub mod instruction;
 pub mod operation;
+pub mod pick;
 pub mod tag;
 pub mod token;

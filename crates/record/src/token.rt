@@ -3,9 +3,15 @@ use crate::tag::Tag;
 ghost use mathlib.Core.Path.{_≡_};
 ghost use Prim.Native.Nat.{_/_, _≤_, _<_};
 ghost use lib.ListN.{length};
-ghost use Rattle.table.specs.Table.{putRow};
+ghost use Rattle.buffer.specs.Rows.{putRow};
 ghost use Rattle.record.specs.TokensAndTags as Tokens;
 ghost use Rattle.record.specs.TokensAndTags.{contentOf, stateOf, valueOf, tokenBytes, tokenAt, standsAt, ContentFits, TokenFits};
+ghost use Rattle.record.specs.Widths.{tokenWidth};
+
+// The bytes of a token record, and where its state stands.
+pub const WIDTH: usize = 20;
+
+pub const STATE: usize = 16;
 
 // The value of a live or a spent token; of a deferred one the number of the cell that it waits for.
 pub enum Content {
@@ -33,7 +39,7 @@ fn content_of(bits: u32, state: u8) -> Content
 
 // The token of the record that s starts with.
 pub fn decode(s: &[u8]) -> Token
-    requires { ⌜ 20 ≤ length (now s) ⌝ }
+    requires { ⌜ tokenWidth ≤ length (now s) ⌝ }
     ensures { λ r. ⌜ r ≡ Tokens.decode (now (s .entry)) ⌝ }
 {
     let tag = Tag {
@@ -69,7 +75,14 @@ fn value_of(content: Content) -> u32
 }
 
 // The bytes of a record's fields.
-fn bytes_of(path: u64, iteration: u8, port: u8, instruction: u16, value: u32, state: u8) -> [u8; 20]
+fn bytes_of(
+    path: u64,
+    iteration: u8,
+    port: u8,
+    instruction: u16,
+    value: u32,
+    state: u8,
+) -> [u8; WIDTH]
     ensures { λ r. ⌜ r ≡ tokenBytes path iteration port instruction value state ⌝ }
 {
     let high = path / 4294967296;
@@ -97,7 +110,7 @@ fn bytes_of(path: u64, iteration: u8, port: u8, instruction: u16, value: u32, st
     ]
 }
 
-pub fn encode(t: Token) -> [u8; 20]
+pub fn encode(t: Token) -> [u8; WIDTH]
     ensures { λ r. ⌜ (r ≡ Tokens.encode t) × TokenFits t ⌝ }
 {
     let tag = t.tag;
@@ -114,19 +127,19 @@ pub fn encode(t: Token) -> [u8; 20]
 
 // The token of record i of a ledger.
 pub fn token_at(ledger: &[u8], i: usize) -> Token
-    requires { ⌜ i < length (now ledger) / 20 ⌝ }
+    requires { ⌜ i < length (now ledger) / tokenWidth ⌝ }
     ensures { λ r. ⌜ r ≡ tokenAt (now (ledger .entry)) i ⌝ }
 {
-    decode(table::row_at(ledger, 20, i))
+    decode(buffer::row_at(ledger, WIDTH, i))
 }
 
 // Writes t as record i of a ledger; every other byte stays.
 pub fn put_token(ledger: &mut [u8], i: usize, t: Token)
-    requires { ⌜ i < length (now ledger) / 20 ⌝ }
-    ensures { λ _. ⌜ (now (ledger .exit) ≡ putRow 20 (now (ledger .entry)) i (Tokens.encode t)) × TokenFits t ⌝ }
+    requires { ⌜ i < length (now ledger) / tokenWidth ⌝ }
+    ensures { λ _. ⌜ (now (ledger .exit) ≡ putRow tokenWidth (now (ledger .entry)) i (Tokens.encode t)) × TokenFits t ⌝ }
 {
     let bytes = encode(t);
-    table::put_row(ledger, 20, i, &bytes);
+    buffer::put_row(ledger, WIDTH, i, &bytes);
 }
 
 // Whether t stands at a port of a tag.

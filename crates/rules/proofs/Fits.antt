@@ -25,7 +25,7 @@ use Rattle.record.specs.declared.token.Token as Record
 use Rattle.record.specs.declared.token.Content as RecordContent
 use Rattle.record.specs.declared.token.Content.the-variants as Contents
 use Rattle.number.specs.Number.{Bytes}
-use Rattle.table.specs.Table.{All, whole, allRows}
+use Rattle.buffer.specs.Rows.{All, whole, allRows}
 use Rattle.record.specs.TokensAndTags as Tokens
 use Rattle.record.specs.TokensAndTags.{ContentFits, TokenFits, mostTokens, capacityOf}
 use Rattle.record.specs.Cells.{CellFits}
@@ -33,7 +33,8 @@ use Rattle.record.specs.Calls.{entered, nextOf, enterOf, leaveOf}
 use Rattle.record.specs.GraphRecords.{inUse, operationOf, graphOf, InstructionFits}
 use Rattle.record.specs.GraphRecords as Graph
 use Rattle.record.proofs.Fitting.{token-fits, instruction-fits, rows-fit}
-use Rattle.table.proofs.Tables.{length-rows}
+use Rattle.buffer.proofs.Tables.{length-rows}
+use Rattle.record.specs.Widths.{tokenWidth, cellWidth, graphWidth, pickWidth}
 use Rattle.arithmetic.specs.declared.Computed.{Computed}
 use Rattle.arithmetic.specs.declared.Computed.the-variants.{Value, OutOfRange}
 use Rattle.arithmetic.specs.Arithmetic.{computeOf, eqZ}
@@ -181,7 +182,7 @@ module _ (graph : List ℕ) (bytes : Bytes graph) (passed : checkGraph graph ≡
   g = graphOf graph
 
   few : length g ≤ 256
-  few = rw (length-rows 16 Graph.decode (length graph / 16) graph) (at-most graph passed)
+  few = rw (length-rows graphWidth Graph.decode (length graph / graphWidth) graph) (at-most graph passed)
 
   each-fits : (rs : List Instruction) (i : ℕ) → All InstructionFits rs → InstructionFits (Graph.decode []) → InstructionFits (getD rs i (Graph.decode []))
   each-fits [] i h d = d
@@ -190,7 +191,7 @@ module _ (graph : List ℕ) (bytes : Bytes graph) (passed : checkGraph graph ≡
 
   at-fits : (i : ℕ) → InstructionFits (instructionAt g i)
   unfolding instructionAt
-  at-fits i = each-fits g i (rows-fit InstructionFits Graph.decode instruction-fits 16 (length graph / 16) graph bytes) (instruction-fits [] (λ k. omega arith))
+  at-fits i = each-fits g i (rows-fit InstructionFits Graph.decode instruction-fits 16 (length graph / graphWidth) graph bytes) (instruction-fits [] (λ k. omega arith))
 
   past-unknown : (i : ℕ) → length g ≤ i → operationOf (instructionAt g i .code) ≡ Operations.Unknown
   unfolding instructionAt Graph.decode Graph.rowOf
@@ -237,7 +238,7 @@ module _ (graph : List ℕ) (bytes : Bytes graph) (passed : checkGraph graph ≡
   start-fits : (inputs : List ℕ) → Bytes inputs → Start (machineOf g capacity cells) (firstState inputs cells) → Fits (firstState inputs cells)
   unfolding firstState
   start-fits inputs b s = record {
-    tokens = inputs-fit (allRows 20 Tokens.decode inputs) (rows-fit TokenFits Tokens.decode token-fits 20 (length inputs / 20) inputs b) (s .allLive);
+    tokens = inputs-fit (allRows tokenWidth Tokens.decode inputs) (rows-fit TokenFits Tokens.decode token-fits tokenWidth (length inputs / tokenWidth) inputs b) (s .allLive);
     cells = absent-fit cells;
   }
 
@@ -266,13 +267,13 @@ module _ (graph : List ℕ) (bytes : Bytes graph) (passed : checkGraph graph ≡
 
 -- ---- whole runs
 
-cells-few : (inputs picks ledger cells : ℕ) → checkStores inputs picks ledger cells ≡ Passed → cells / 8 ≤ mostCells
+cells-few : (inputs picks ledger cells : ℕ) → checkStores inputs picks ledger cells ≡ Passed → cells / cellWidth ≤ mostCells
 unfolding checkStores
 cells-few inputs picks ledger cells e =
     let all = demand-passed _ Refusals.BadStore 0 e in
-    let later = both (whole 20 mostTokens inputs) _ all .1 in
-    let last = both (whole 2 mostTokens picks) _ later .1 in
-    leb-true (cells / 8) mostCells (both (eqb (cells % 8) 0) _ (both (whole 20 mostTokens ledger) _ last .1) .1)
+    let later = both (whole tokenWidth mostTokens inputs) _ all .1 in
+    let last = both (whole pickWidth mostTokens picks) _ later .1 in
+    leb-true (cells / cellWidth) mostCells (both (eqb (cells % cellWidth) 0) _ (both (whole tokenWidth mostTokens ledger) _ last .1) .1)
 
 -- a run that was not refused at once leaves as many cells as there are
 abbrev pub CellCount : Result → ℕ → Type 0
@@ -303,15 +304,15 @@ run-fits graph graphBytes passed capacity cells few inputs inputBytes begun budg
     }
 
 module _ (graph inputs picks : List ℕ) (budget ledger cells : ℕ) (graphBytes : Bytes graph) (inputBytes : Bytes inputs) where
-  pub result-fits : AllFit (result graph inputs picks budget ledger cells) (capacityOf ledger) (cells / 8)
+  pub result-fits : AllFit (result graph inputs picks budget ledger cells) (capacityOf ledger) (cells / cellWidth)
   unfolding result unlessFailed check checkStores
   result-fits = go (check graph inputs picks ledger cells) refl
     where
-      go : (c : Checked) → check graph inputs picks ledger cells ≡ c → AllFit (result graph inputs picks budget ledger cells) (capacityOf ledger) (cells / 8)
+      go : (c : Checked) → check graph inputs picks ledger cells ≡ c → AllFit (result graph inputs picks budget ledger cells) (capacityOf ledger) (cells / cellWidth)
       go (Failed r p) e = rw e (record { tokens = tt; cells = tt; room = omega arith; cellCount = tt })
       go Passed e =
           let parts = andThen-passed (checkGraph graph) _ e in
           let later = andThen-passed (checkStores (length inputs) (length picks) ledger cells) _ (parts .1) in
-          let few : cells / 8 ≤ mostCells = cells-few (length inputs) (length picks) ledger cells (later .0) in
-          let begun = start (graphOf graph) (capacityOf ledger) (cells / 8) inputs (later .1) in
-          rw e (run-fits graph graphBytes (parts .0) (capacityOf ledger) (cells / 8) few inputs inputBytes begun budget (picksOf picks))
+          let few : cells / cellWidth ≤ mostCells = cells-few (length inputs) (length picks) ledger cells (later .0) in
+          let begun = start (graphOf graph) (capacityOf ledger) (cells / cellWidth) inputs (later .1) in
+          rw e (run-fits graph graphBytes (parts .0) (capacityOf ledger) (cells / cellWidth) few inputs inputBytes begun budget (picksOf picks))

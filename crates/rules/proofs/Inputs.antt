@@ -13,9 +13,10 @@ use Rattle.record.specs.declared.tag.Tag.{Tag}
 use Rattle.record.specs.declared.token.Token.{Token}
 use Rattle.record.specs.declared.instruction.Instruction.{Instruction}
 use Rattle.number.specs.Number.{byteAt, number16, number32, number64, signedOf}
-use Rattle.table.specs.Table.{rows, allRows}
+use Rattle.buffer.specs.Rows.{rows, allRows}
 use Rattle.record.specs.TokensAndTags.{isInput, standsAt, sameTag, contentOf}
 use Rattle.record.specs.TokensAndTags as Tokens
+use Rattle.record.specs.Widths.{tokenWidth}
 use Rattle.machine.specs.Machine.{Key, Machine, find, sameKey}
 use Rattle.machine.specs.Orders.{Live, Distinct, AllLive, Start}
 use Rattle.machine.proofs.View.{when-no, falseTrue}
@@ -40,13 +41,13 @@ module _ (g : List Instruction) (capacity cells : ℕ) where
   abbrev M : Machine
   M = machineOf g capacity cells
 
-  inputs-live : (n i : ℕ) (l : List ℕ) → inTurn (λ k good. demand good Refusals.BadInput k) i (rows 20 (goodInput g) n l) ≡ Passed → AllLive M (map tokenHeld (rows 20 Tokens.decode n l))
+  inputs-live : (n i : ℕ) (l : List ℕ) → inTurn (λ k good. demand good Refusals.BadInput k) i (rows tokenWidth (goodInput g) n l) ≡ Passed → AllLive M (map tokenHeld (rows tokenWidth Tokens.decode n l))
   unfolding goodInput
   inputs-live zero i l e = tt
   inputs-live (suc n) i l e =
       let parts = andThen-passed (demand (goodInput g l) Refusals.BadInput i) _ e in
       let good = demand-passed (goodInput g l) Refusals.BadInput i (parts .0) in
-      (input-live l (both (isInput l) (ltb (byteAt l 9) (operandsAt g (number16 l 10))) good .0), inputs-live n (suc i) (drop 20 l) (parts .1))
+      (input-live l (both (isInput l) (ltb (byteAt l 9) (operandsAt g (number16 l 10))) good .0), inputs-live n (suc i) (drop tokenWidth l) (parts .1))
 
   -- ---- their keys are different
 
@@ -86,9 +87,9 @@ module _ (g : List Instruction) (capacity cells : ℕ) where
   pub start : (inputs : List ℕ) → checkInputs g capacity inputs ≡ Passed → Start M (firstState inputs cells)
   unfolding checkInputs secondInput firstState
   start inputs e =
-      let ts = allRows 20 Tokens.decode inputs in
+      let ts = allRows tokenWidth Tokens.decode inputs in
       let d = Tokens.decode [] in
-      let parts = andThen-passed (inTurn (λ k good. demand good Refusals.BadInput k) 0 (allRows 20 (goodInput g) inputs)) _ e in
+      let parts = andThen-passed (inTurn (λ k good. demand good Refusals.BadInput k) 0 (allRows tokenWidth (goodInput g) inputs)) _ e in
       let later = andThen-passed (demand (leb (length ts) capacity) Refusals.LedgerFull capacity) _ (parts .1) in
       let apart : (k : ℕ) → k < length ts → Alone (take k ts) (getD ts k d) = λ k h.
       let at = turn-passed (λ i t. demand (not (secondInput (take i ts) t)) Refusals.SecondToken i) d 0 ts (later .1) k h in
@@ -96,6 +97,6 @@ module _ (g : List Instruction) (capacity cells : ℕ) where
       record {
         distinct = all-different d ts apart;
         room = rw (length-map ts tokenHeld) (leb-true (length ts) capacity (demand-passed (leb (length ts) capacity) Refusals.LedgerFull capacity (later .0)));
-        allLive = inputs-live (length inputs / 20) 0 inputs (parts .0);
+        allLive = inputs-live (length inputs / tokenWidth) 0 inputs (parts .0);
         absentCells = refl;
       }

@@ -19,14 +19,15 @@ use Rattle.record.specs.declared.token.Content.the-variants.{Live, Spent, Defer
 use Rattle.record.specs.declared.token.Content as RecordContent
 use Rattle.record.specs.declared.instruction.Instruction.{Instruction}
 use Rattle.number.specs.Number.{Bytes, byteAt, number16, number32, number64}
-use Rattle.table.specs.Table.{rows, allRows, joined, whole, writtenOver}
+use Rattle.buffer.specs.Rows.{rows, allRows, joined, whole, writtenOver}
 use Rattle.record.specs.GraphRecords.{graphOf}
 use Rattle.record.specs.TokensAndTags.{isInput, mostTokens, capacityOf, ledgerOf}
 use Rattle.record.specs.TokensAndTags as Tokens
 use Rattle.record.specs.Cells as Cells
 use Rattle.record.proofs.Records.{token-bytes-back, token-front, length-token}
 use Rattle.record.proofs.Fitting.{bytes-drop}
-use Rattle.table.proofs.Tables.{length-joined, rows-raw}
+use Rattle.buffer.proofs.Tables.{length-joined, rows-raw}
+use Rattle.record.specs.Widths.{tokenWidth, cellWidth, pickWidth}
 use Rattle.machine.specs.Machine.{absent, refused, Machine, State, budgetSpent, End, run}
 use Rattle.machine.specs.Machine as Machine
 use Rattle.machine.proofs.Refused.{refused-picks, run-zero}
@@ -58,13 +59,13 @@ refused-before-firing graph inputs picks budget ledger cells r place failed = rw
 -- ---- "Here and in every other buffer, bytes past what is written stay as lent."
 
 -- the used records are as many as the answer has tokens
-pub rest-as-lent : (x : Result) (ledger : List ℕ) → drop (answer x .tokens * 20) (ledgerAfter x ledger) ≡ drop (answer x .tokens * 20) ledger
+pub rest-as-lent : (x : Result) (ledger : List ℕ) → drop (answer x .tokens * tokenWidth) (ledgerAfter x ledger) ≡ drop (answer x .tokens * tokenWidth) ledger
 unfolding answer ledgerAfter
 rest-as-lent (refusedAtOnce r p) ledger = refl
 rest-as-lent (ranTo e) ledger =
     let ts = map tokenRecord (e .state .tokens) in
-    let n : length (joined Tokens.encode ts) ≡ length (e .state .tokens) * 20 = length-joined 20 Tokens.encode length-token ts ∙ ap (λ (k : ℕ). k * 20) (length-map (e .state .tokens) tokenRecord) in
-    drop-at (joined Tokens.encode ts) _ (length (e .state .tokens) * 20) n ∙ ap (λ (k : ℕ). drop k ledger) n
+    let n : length (joined Tokens.encode ts) ≡ length (e .state .tokens) * tokenWidth = length-joined tokenWidth Tokens.encode length-token ts ∙ ap (λ (k : ℕ). k * tokenWidth) (length-map (e .state .tokens) tokenRecord) in
+    drop-at (joined Tokens.encode ts) _ (length (e .state .tokens) * tokenWidth) n ∙ ap (λ (k : ℕ). drop k ledger) n
 
 -- ---- a refused firing
 
@@ -86,8 +87,8 @@ pub refused-firing : (graph inputs picks : List ℕ) (budget : ℕ) (ledger cell
     ledger cells
 unfolding result unlessFailed answer
 refused-firing graph inputs picks budget ledger cells passed r place refusing =
-    let M = machineOf (graphOf graph) (capacityOf (length ledger)) (length cells / 8) in
-    let s = firstState inputs (length cells / 8) in
+    let M = machineOf (graphOf graph) (capacityOf (length ledger)) (length cells / cellWidth) in
+    let s = firstState inputs (length cells / cellWidth) in
     let e = run M budget (picksOf picks) s in
     rw passed (as-before e (run M (e .firings) (picksOf picks) s) (refused-picks M s budget (picksOf picks) r place (is-refused (e .outcome) r place (rw passed at refusing))) ledger cells)
   where
@@ -99,33 +100,33 @@ refused-firing graph inputs picks budget ledger cells passed r place refusing =
 -- ---- "An accepted run first sets all cells absent and writes its inputs to the ledger."
 
 -- the record that l starts with, written back
-input-back : (l : List ℕ) → Bytes l → 20 ≤ length l → isInput l ≡ true → Tokens.encode (Tokens.decode l) ≡ take 20 l
+input-back : (l : List ℕ) → Bytes l → tokenWidth ≤ length l → isInput l ≡ true → Tokens.encode (Tokens.decode l) ≡ take tokenWidth l
 unfolding isInput
 input-back l b long good =
     let rest = both (eqb (number64 l 0) 0) _ good .1 in
     let zeros : number32 l 16 ≡ 0 = eqb-true (number32 l 16) 0 (both (eqb (byteAt l 8) 0) _ rest .1) in
-    let front : (k : ℕ) → k < 20 → byteAt (take 20 l) k ≡ byteAt l k = λ k h. getD-take 20 l k 0 h in
+    let front : (k : ℕ) → k < tokenWidth → byteAt (take tokenWidth l) k ≡ byteAt l k = λ k h. getD-take tokenWidth l k 0 h in
     ap Tokens.encode (sym (token-front l))
-    ∙ token-bytes-back (take 20 l) (record {
-      size = length-take-le 20 l long;
-      small = λ k. small k (decLe (suc k) 20);
+    ∙ token-bytes-back (take tokenWidth l) (record {
+      size = length-take-le tokenWidth l long;
+      small = λ k. small k (decLe (suc k) tokenWidth);
       state = rw (front 16 (omega arith)) (omega arith);
       zeros = (rw (front 17 (omega arith)) (omega arith), rw (front 18 (omega arith)) (omega arith), rw (front 19 (omega arith)) (omega arith));
     })
   where
-    small : (k : ℕ) → Dec (suc k ≤ 20) → byteAt (take 20 l) k < 256
-    small k (yes h) = rw (getD-take 20 l k 0 h) (b k)
-    small k (no n) = rw (getD-past (take 20 l) k 0 (omega (arith, length-take-le 20 l long))) (omega arith)
+    small : (k : ℕ) → Dec (suc k ≤ tokenWidth) → byteAt (take tokenWidth l) k < 256
+    small k (yes h) = rw (getD-take tokenWidth l k 0 h) (b k)
+    small k (no n) = rw (getD-past (take tokenWidth l) k 0 (omega (arith, length-take-le tokenWidth l long))) (omega arith)
 
-inputs-back : (g : List Instruction) (n i : ℕ) (l : List ℕ) → Bytes l → n * 20 ≤ length l → inTurn (λ k good. demand good Refusals.BadInput k) i (rows 20 (goodInput g) n l) ≡ Passed
-    → joined Tokens.encode (rows 20 Tokens.decode n l) ≡ joined (λ (r : List ℕ). r) (rows 20 (take 20) n l)
+inputs-back : (g : List Instruction) (n i : ℕ) (l : List ℕ) → Bytes l → n * tokenWidth ≤ length l → inTurn (λ k good. demand good Refusals.BadInput k) i (rows tokenWidth (goodInput g) n l) ≡ Passed
+    → joined Tokens.encode (rows tokenWidth Tokens.decode n l) ≡ joined (λ (r : List ℕ). r) (rows tokenWidth (take tokenWidth) n l)
 unfolding goodInput
 inputs-back g zero i l b long e = refl
 inputs-back g (suc n) i l b long e =
     let parts = andThen-passed (demand (goodInput g l) Refusals.BadInput i) _ e in
     let good = both (isInput l) (ltb (byteAt l 9) (operandsAt g (number16 l 10))) (demand-passed (goodInput g l) Refusals.BadInput i (parts .0)) .0 in
-    let later = inputs-back g n (suc i) (drop 20 l) (bytes-drop 20 l b) (omega (arith, length-drop 20 l, suc-mul n 20)) (parts .1) in
-    λ j. input-back l b (omega (arith, suc-mul n 20)) good j ++ later j
+    let later = inputs-back g n (suc i) (drop tokenWidth l) (bytes-drop tokenWidth l b) (omega (arith, length-drop tokenWidth l, suc-mul n tokenWidth)) (parts .1) in
+    λ j. input-back l b (omega (arith, suc-mul n tokenWidth)) good j ++ later j
 
 held-back : (ts : List Record.Token) → map tokenRecord (map tokenHeld ts) ≡ ts
 held-back [] = refl
@@ -136,33 +137,33 @@ held-back (t ∷ ts) = λ j. record { tag = t .tag; port = t .port; content = co
     content (Spent v) = refl
     content (Deferred c) = refl
 
-absent-bytes : (n : ℕ) → joined Cells.encode (map cellRecord (replicate n absent)) ≡ replicate (n * 8) 0
+absent-bytes : (n : ℕ) → joined Cells.encode (map cellRecord (replicate n absent)) ≡ replicate (n * cellWidth) 0
 unfolding Cells.encode
 absent-bytes zero = refl
-absent-bytes (suc n) = rw (absent-bytes n, suc-mul n 8, add-comm (n * 8) 8) (replicate-append-replicate 8 (n * 8) 0)
+absent-bytes (suc n) = rw (absent-bytes n, suc-mul n 8, add-comm (n * cellWidth) 8) (replicate-append-replicate 8 (n * cellWidth) 0)
 
-stores-whole : (inputs picks ledger cells : ℕ) → checkStores inputs picks ledger cells ≡ Passed → (inputs % 20 ≡ 0) × (cells % 8 ≡ 0)
+stores-whole : (inputs picks ledger cells : ℕ) → checkStores inputs picks ledger cells ≡ Passed → (inputs % tokenWidth ≡ 0) × (cells % cellWidth ≡ 0)
 unfolding checkStores
 stores-whole inputs picks ledger cells e =
-    let all = both (whole 20 mostTokens inputs) _ (demand-passed _ Refusals.BadStore 0 e) in
-    let later = both (whole 2 mostTokens picks) _ (all .1) .1 in
-    let last = both (whole 20 mostTokens ledger) _ later .1 in
-    (eqb-true (inputs % 20) 0 (both (eqb (inputs % 20) 0) _ (all .0) .0), eqb-true (cells % 8) 0 (both (eqb (cells % 8) 0) _ last .0))
+    let all = both (whole tokenWidth mostTokens inputs) _ (demand-passed _ Refusals.BadStore 0 e) in
+    let later = both (whole pickWidth mostTokens picks) _ (all .1) .1 in
+    let last = both (whole tokenWidth mostTokens ledger) _ later .1 in
+    (eqb-true (inputs % tokenWidth) 0 (both (eqb (inputs % tokenWidth) 0) _ (all .0) .0), eqb-true (cells % cellWidth) 0 (both (eqb (cells % cellWidth) 0) _ last .0))
 
-first-left : (g : List Instruction) (capacity : ℕ) (picks inputs ledger cells : List ℕ) → Bytes inputs → length inputs % 20 ≡ 0 → length cells % 8 ≡ 0 → checkInputs g capacity inputs ≡ Passed
-    → (ledgerAfter (ranTo (run (machineOf g capacity (length cells / 8)) 0 picks (firstState inputs (length cells / 8)))) ledger ≡ inputs ++ drop (length inputs) ledger)
-    × (cellsAfter (ranTo (run (machineOf g capacity (length cells / 8)) 0 picks (firstState inputs (length cells / 8)))) cells ≡ replicate (length cells) 0)
+first-left : (g : List Instruction) (capacity : ℕ) (picks inputs ledger cells : List ℕ) → Bytes inputs → length inputs % tokenWidth ≡ 0 → length cells % cellWidth ≡ 0 → checkInputs g capacity inputs ≡ Passed
+    → (ledgerAfter (ranTo (run (machineOf g capacity (length cells / cellWidth)) 0 picks (firstState inputs (length cells / cellWidth)))) ledger ≡ inputs ++ drop (length inputs) ledger)
+    × (cellsAfter (ranTo (run (machineOf g capacity (length cells / cellWidth)) 0 picks (firstState inputs (length cells / cellWidth)))) cells ≡ replicate (length cells) 0)
 unfolding ledgerAfter cellsAfter firstState checkInputs
 first-left g capacity picks inputs ledger cells b wi wc passed =
-    let n = length inputs / 20 in
-    let s = firstState inputs (length cells / 8) in
-    let state = run-zero (machineOf g capacity (length cells / 8)) s picks in
-    let good = andThen-passed (inTurn (λ k ok. demand ok Refusals.BadInput k) 0 (allRows 20 (goodInput g) inputs)) _ passed .0 in
+    let n = length inputs / tokenWidth in
+    let s = firstState inputs (length cells / cellWidth) in
+    let state = run-zero (machineOf g capacity (length cells / cellWidth)) s picks in
+    let good = andThen-passed (inTurn (λ k ok. demand ok Refusals.BadInput k) 0 (allRows tokenWidth (goodInput g) inputs)) _ passed .0 in
     let tokens : joined Tokens.encode (map tokenRecord (s .tokens)) ≡ inputs =
-    ap (joined Tokens.encode) (held-back (allRows 20 Tokens.decode inputs)) ∙ inputs-back g n 0 inputs b (omega arith) good ∙ rows-raw 20 n inputs ∙ take-all (n * 20) inputs (omega arith) in
+    ap (joined Tokens.encode) (held-back (allRows tokenWidth Tokens.decode inputs)) ∙ inputs-back g n 0 inputs b (omega arith) good ∙ rows-raw tokenWidth n inputs ∙ take-all (n * tokenWidth) inputs (omega arith) in
     let none : List ℕ = replicate (length cells) 0 in
-    let bytes : length cells / 8 * 8 ≡ length cells = omega arith in
-    let zeros : joined Cells.encode (map cellRecord (s .cells)) ≡ none = absent-bytes (length cells / 8) ∙ ap (λ (k : ℕ). replicate k 0) bytes in
+    let bytes : length cells / cellWidth * cellWidth ≡ length cells = omega arith in
+    let zeros : joined Cells.encode (map cellRecord (s .cells)) ≡ none = absent-bytes (length cells / cellWidth) ∙ ap (λ (k : ℕ). replicate k 0) bytes in
     let long : length cells ≤ length none = omega (arith, length-replicate {A = ℕ} (length cells) 0) in
     let rest : drop (length none) cells ≡ [] = drop-of-length-le cells long in (
       ap (λ (x : State Tag ℤ). ledgerOf (map tokenRecord (x .tokens)) ledger) state ∙ ap (λ (l : List ℕ). l ++ drop (length l) ledger) tokens,

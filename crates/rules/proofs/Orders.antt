@@ -12,9 +12,10 @@ use lib.IntN.{ℤ}
 use borrow.Author.Tests.{eqb-true, leb-true}
 use Rattle.record.specs.declared.tag.Tag.{Tag}
 use Rattle.record.specs.declared.token.Token as Record
-use Rattle.table.specs.Table.{whole, All}
+use Rattle.buffer.specs.Rows.{whole, All}
 use Rattle.record.specs.GraphRecords.{graphOf}
 use Rattle.record.specs.TokensAndTags.{mostTokens, capacityOf}
+use Rattle.record.specs.Widths.{tokenWidth, cellWidth}
 use Rattle.machine.specs.Machine.{Token, Machine, State, when, find, sameKey, run}
 use Rattle.machine.specs.Orders.{Distinct, Good}
 use Rattle.machine.proofs.View.{noneSome, keyPath}
@@ -46,10 +47,10 @@ whole-bytes width most n e =
     let parts = both (eqb (n % width) 0) (leb (n / width) most) e in
     (eqb-true (n % width) 0 (parts .0), leb-true (n / width) most (parts .1))
 
-same-length : (n m : ℕ) → n % 20 ≡ 0 → m % 20 ≡ 0 → n / 20 ≡ m / 20 → n ≡ m
+same-length : (n m : ℕ) → n % tokenWidth ≡ 0 → m % tokenWidth ≡ 0 → n / tokenWidth ≡ m / tokenWidth → n ≡ m
 same-length n m p q e = omega arith
 
-same-cells : (n m : ℕ) → n % 8 ≡ 0 → m % 8 ≡ 0 → n / 8 ≡ m / 8 → n ≡ m
+same-cells : (n m : ℕ) → n % cellWidth ≡ 0 → m % cellWidth ≡ 0 → n / cellWidth ≡ m / cellWidth → n ≡ m
 same-cells n m p q e = omega arith
 
 -- ---- runs from inputs that passed
@@ -124,12 +125,12 @@ module _ (graph inputs picks picks′ : List ℕ) (ledger cells : ℕ) (a : Allo
       let e′ = sym same-check ∙ e in
       let parts = andThen-passed (checkGraph graph) _ e in
       let later = andThen-passed (checkStores (length inputs) (length picks) ledger cells) _ (parts .1) in
-      let few = whole-bytes 20 mostTokens ledger (a .allowedLedger) .1 in
-      rw (e, e′) (agree graph inputs (capacityOf ledger) (cells / 8) few (parts .0) (later .1) (picksOf picks) (picksOf picks′))
+      let few = whole-bytes tokenWidth mostTokens ledger (a .allowedLedger) .1 in
+      rw (e, e′) (agree graph inputs (capacityOf ledger) (cells / cellWidth) few (parts .0) (later .1) (picksOf picks) (picksOf picks′))
 
 pub any-two-orders : AnyTwoOrders
 any-two-orders graph inputs picks picks′ ledger ledger′ cells cells′ a b c d =
-    let l = same-length ledger ledger′ (whole-bytes 20 mostTokens ledger (a .allowedLedger) .0) (whole-bytes 20 mostTokens ledger′ (b .allowedLedger) .0) c in
-    let k = same-cells cells cells′ (whole-bytes 8 mostCells cells (a .allowedCells) .0) (whole-bytes 8 mostCells cells′ (b .allowedCells) .0) d in
+    let l = same-length ledger ledger′ (whole-bytes tokenWidth mostTokens ledger (a .allowedLedger) .0) (whole-bytes tokenWidth mostTokens ledger′ (b .allowedLedger) .0) c in
+    let k = same-cells cells cells′ (whole-bytes cellWidth mostCells cells (a .allowedCells) .0) (whole-bytes cellWidth mostCells cells′ (b .allowedCells) .0) d in
     let b′ : Allowed picks′ ledger cells = rw (l, k) b in
     rw (← l, ← k) (unfolded graph inputs picks picks′ ledger cells a b′ (check graph inputs picks ledger cells) refl)

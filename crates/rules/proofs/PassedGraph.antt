@@ -14,6 +14,7 @@ use Rattle.record.specs.declared.operation.Operation.{Operation}
 use Rattle.record.specs.declared.operation.Operation.the-variants.{Copy, Sink, Out, Const, Switch, Gate, Next, Enter, Leave, Fetch, Store, OnTwo, OnConstant, Unknown}
 use Rattle.record.specs.GraphRecords.{Row, table, lookup, rowOf, operationOf, operandsOf, graphOf, isGraphLength, destinations}
 use Rattle.record.specs.GraphRecords as Graph
+use Rattle.record.specs.Widths.{graphWidth}
 use Rattle.rules.specs.declared.answer.Refusal.the-variants.{GraphLength, UnknownOperation, FanOut, BadArc, BadSite}
 use Rattle.rules.specs.declared.answer.Checked.the-variants.{Passed}
 use Rattle.rules.specs.Check.{demand, all, any, otherReturn, inTurn, instructionAt, fanOutAllowed, unusedAreZero, goodArc, within, goodSite, checkRecord, checkGraph}
@@ -53,8 +54,8 @@ module _ (graph : List ℕ) (passed : checkGraph graph ≡ Passed) where
   of-graph i h =
       of-record (graphOf graph) i _ (rw (zero-add i) at (turn-passed (checkRecord (graphOf graph)) (Graph.decode []) 0 (graphOf graph) (parts .1) i h))
 
-  pub at-most : length graph / 16 ≤ 256
-  at-most = leb-true _ _ (both (eqb (length graph % 16) 0) _ (both (leb 1 (length graph)) _ (parts .0) .1) .1)
+  pub at-most : length graph / graphWidth ≤ 256
+  at-most = leb-true _ _ (both (eqb (length graph % graphWidth) 0) _ (both (leb 1 (length graph)) _ (parts .0) .1) .1)
 
 -- ---- the table: the code and the least fan-out of the operations that ask for more than the others, and two operands at most
 

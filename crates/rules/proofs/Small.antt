@@ -11,12 +11,13 @@ use lib.ListN.{length, take}
 use lib.IntN.{ℤ}
 use Rattle.record.specs.declared.tag.Tag.{Tag}
 use Rattle.record.specs.declared.instruction.Instruction.{Instruction}
-use Rattle.table.specs.Table.{whole, allRows}
-use Rattle.table.proofs.Tables.{length-rows}
+use Rattle.buffer.specs.Rows.{whole, allRows}
+use Rattle.buffer.proofs.Tables.{length-rows}
 use Rattle.record.specs.GraphRecords.{isGraphLength, graphOf, destinations, operandsOf}
 use Rattle.record.specs.GraphRecords as Graph
 use Rattle.record.specs.TokensAndTags.{mostTokens, capacityOf}
 use Rattle.record.specs.TokensAndTags as Tokens
+use Rattle.record.specs.Widths.{tokenWidth, cellWidth, graphWidth, pickWidth}
 use Rattle.machine.specs.Machine.{Machine, State, completed, budgetSpent, refused, Ledger, run}
 use Rattle.machine.specs.Machine as Machine
 use Rattle.machine.proofs.Orders.{startGood}
@@ -83,28 +84,28 @@ graph-below : (graph : List ℕ) → Below (checkGraph graph)
 unfolding checkGraph
 graph-below graph =
     first-below (isGraphLength (length graph)) GraphLength 0 _ (λ e. omega arith) (λ e.
-    let size = whole-bytes 16 256 (length graph) (both (leb 1 (length graph)) (whole 16 256 (length graph)) e .1) .1 in
-    turn-below (checkRecord (graphOf graph)) (record-below (graphOf graph)) 0 (graphOf graph) (omega (arith, length-rows 16 Graph.decode (length graph / 16) graph)))
+    let size = whole-bytes graphWidth 256 (length graph) (both (leb 1 (length graph)) (whole graphWidth 256 (length graph)) e .1) .1 in
+    turn-below (checkRecord (graphOf graph)) (record-below (graphOf graph)) 0 (graphOf graph) (omega (arith, length-rows graphWidth Graph.decode (length graph / graphWidth) graph)))
 
 -- "inputs, picks, ledger or cells not whole records, or more than 2,048 of them"
-stores-few : (inputs picks ledger cells : ℕ) → checkStores inputs picks ledger cells ≡ Passed → (inputs / 20 ≤ mostTokens) × (capacityOf ledger ≤ mostTokens)
+stores-few : (inputs picks ledger cells : ℕ) → checkStores inputs picks ledger cells ≡ Passed → (inputs / tokenWidth ≤ mostTokens) × (capacityOf ledger ≤ mostTokens)
 unfolding checkStores
 stores-few inputs picks ledger cells e =
-    let all = both (whole 20 mostTokens inputs) _ (demand-passed _ BadStore 0 e) in
-    let later = both (whole 2 mostTokens picks) _ (all .1) .1 in
-    let last = both (whole 20 mostTokens ledger) _ later .0 in
-    (whole-bytes 20 mostTokens inputs (all .0) .1, whole-bytes 20 mostTokens ledger last .1)
+    let all = both (whole tokenWidth mostTokens inputs) _ (demand-passed _ BadStore 0 e) in
+    let later = both (whole pickWidth mostTokens picks) _ (all .1) .1 in
+    let last = both (whole tokenWidth mostTokens ledger) _ later .0 in
+    (whole-bytes tokenWidth mostTokens inputs (all .0) .1, whole-bytes tokenWidth mostTokens ledger last .1)
 
 -- the place of 8 is the capacity, and where the inputs exceed it, it is less than their number
-inputs-below : (g : List Instruction) (capacity : ℕ) (inputs : List ℕ) → length inputs / 20 ≤ mostTokens → Below (checkInputs g capacity inputs)
+inputs-below : (g : List Instruction) (capacity : ℕ) (inputs : List ℕ) → length inputs / tokenWidth ≤ mostTokens → Below (checkInputs g capacity inputs)
 unfolding checkInputs
 inputs-below g capacity inputs few =
-    let n = length inputs / 20 in
-    let ts = allRows 20 Tokens.decode inputs in
-    let goods = allRows 20 (goodInput g) inputs in
-    let many : length ts ≡ n = length-rows 20 Tokens.decode n inputs in
+    let n = length inputs / tokenWidth in
+    let ts = allRows tokenWidth Tokens.decode inputs in
+    let goods = allRows tokenWidth (goodInput g) inputs in
+    let many : length ts ≡ n = length-rows tokenWidth Tokens.decode n inputs in
     then-below (inTurn (λ i good. demand good BadInput i) 0 goods) _
-    (turn-below (λ i good. demand good BadInput i) (λ i good h. demand-below good BadInput i (λ e. h)) 0 goods (omega (arith, length-rows 20 (goodInput g) n inputs)))
+    (turn-below (λ i good. demand good BadInput i) (λ i good h. demand-below good BadInput i (λ e. h)) 0 goods (omega (arith, length-rows tokenWidth (goodInput g) n inputs)))
     (λ e.
     first-below (leb (length ts) capacity) LedgerFull capacity _ (λ f. let more = leb-false (length ts) capacity f in omega arith) (λ f.
     turn-below (λ i t. demand (not (secondInput (take i ts) t)) SecondToken i) (λ i t h. demand-below (not (secondInput (take i ts) t)) SecondToken i (λ k. h)) 0 ts (omega arith)))
@@ -112,7 +113,7 @@ inputs-below g capacity inputs few =
 stores-below : (inputs picks ledger cells : ℕ) → Below (checkStores inputs picks ledger cells)
 unfolding checkStores
 stores-below inputs picks ledger cells =
-    demand-below (whole 20 mostTokens inputs && (whole 2 mostTokens picks && (whole 20 mostTokens ledger && whole 8 mostCells cells))) BadStore 0 (λ e. omega arith)
+    demand-below (whole tokenWidth mostTokens inputs && (whole pickWidth mostTokens picks && (whole tokenWidth mostTokens ledger && whole cellWidth mostCells cells))) BadStore 0 (λ e. omega arith)
 
 check-below : (graph inputs picks : List ℕ) (ledger cells : ℕ) → Below (check graph inputs picks ledger cells)
 unfolding check
@@ -166,4 +167,4 @@ answer-small graph inputs picks budget ledger cells = go (check graph inputs pic
         let parts = andThen-passed (checkGraph graph) _ e in
         let later = andThen-passed (checkStores (length inputs) (length picks) ledger cells) _ (parts .1) in
         let few = stores-few (length inputs) (length picks) ledger cells (later .0) .1 in
-        rw e (run-small graph inputs (capacityOf ledger) (cells / 8) few (parts .0) (later .1) budget (picksOf picks))
+        rw e (run-small graph inputs (capacityOf ledger) (cells / cellWidth) few (parts .0) (later .1) budget (picksOf picks))

@@ -8,6 +8,7 @@ use Rattle.record.specs.declared.tag.Tag.{Tag}
 use Rattle.number.specs.Number.{bitsOf, bytes16, bytes32}
 use Rattle.record.specs.GraphRecords.{graphOf}
 use Rattle.record.specs.TokensAndTags as Tokens
+use Rattle.record.specs.Widths.{tokenWidth, cellWidth}
 use Rattle.machine.specs.Machine.{Key, Content, live, spent, deferred, Token, Cell, absent, waiting, present, Effect, send}
 use Rattle.rules.specs.declared.answer.Refusal.{Refusal}
 use Rattle.rules.specs.Answer.{Values, valuesOf}
@@ -77,7 +78,7 @@ seenIn (ranTo e) = ran (valuesOf (answer (ranTo e))) (e .state .tokens) (written
 
 -- by the rules
 unfoldable pub seen : Case → Seen
-seen (running graph inputs picks budget capacity cells a ts cs) = seenIn (result graph inputs picks budget (20 * capacity) (8 * cells))
+seen (running graph inputs picks budget capacity cells a ts cs) = seenIn (result graph inputs picks budget (tokenWidth * capacity) (cellWidth * cells))
 seen (firing graph cells τ a b e) = did (effectIn (graphOf graph) cells τ a b)
 
 -- by the table

@@ -12,11 +12,12 @@ use Rattle.record.specs.declared.token.Token.{Token}
 use Rattle.record.specs.declared.instruction.Destination.{Destination}
 use Rattle.record.specs.declared.instruction.Instruction.{Instruction}
 use Rattle.number.specs.Number.{byteAt, number16}
-use Rattle.table.specs.Table.{whole, allRows}
+use Rattle.buffer.specs.Rows.{whole, allRows}
 use Rattle.record.specs.GraphRecords.{isGraphLength, graphOf, destinations, rowOf, operandsOf, usesConstant}
 use Rattle.record.specs.GraphRecords as Graph
 use Rattle.record.specs.TokensAndTags.{isInput, standsAt, mostTokens, capacityOf}
 use Rattle.record.specs.TokensAndTags as Tokens
+use Rattle.record.specs.Widths.{tokenWidth, cellWidth, pickWidth}
 use Rattle.arithmetic.specs.Arithmetic.{eqZ}
 use Rattle.rules.specs.declared.answer.Refusal.{Refusal}
 use Rattle.rules.specs.declared.answer.Refusal.the-variants.{GraphLength, UnknownOperation, FanOut, BadArc, BadSite, BadInput, BadStore, LedgerFull, SecondToken}
@@ -113,7 +114,7 @@ mostCells = 1024
 
 unfoldable pub checkStores : (inputs picks ledger cells : ℕ) → Checked
 checkStores inputs picks ledger cells =
-    demand (whole 20 mostTokens inputs && (whole 2 mostTokens picks && (whole 20 mostTokens ledger && whole 8 mostCells cells))) BadStore 0
+    demand (whole tokenWidth mostTokens inputs && (whole pickWidth mostTokens picks && (whole tokenWidth mostTokens ledger && whole cellWidth mostCells cells))) BadStore 0
 
 -- ---- the inputs
 
@@ -127,8 +128,8 @@ secondInput earlier t = any (standsAt (t .tag) (t .port)) earlier
 
 unfoldable pub checkInputs : List Instruction → (capacity : ℕ) → (inputs : List ℕ) → Checked
 checkInputs g capacity inputs =
-    let ts = allRows 20 Tokens.decode inputs in
-    inTurn (λ i good. demand good BadInput i) 0 (allRows 20 (goodInput g) inputs)
+    let ts = allRows tokenWidth Tokens.decode inputs in
+    inTurn (λ i good. demand good BadInput i) 0 (allRows tokenWidth (goodInput g) inputs)
     andThen demand (leb (length ts) capacity) LedgerFull capacity
     andThen inTurn (λ i t. demand (not (secondInput (take i ts) t)) SecondToken i) 0 ts
 

@@ -8,8 +8,9 @@ use mathlib.Core.Logic.{_↔_}
 use lib.ListN.{length}
 use Rattle.record.specs.declared.token.Token.{Token}
 use Rattle.record.specs.declared.cell.Cell.{Cell}
-use Rattle.table.specs.Table.{whole, All}
+use Rattle.buffer.specs.Rows.{whole, All}
 use Rattle.record.specs.TokensAndTags.{mostTokens, capacityOf}
+use Rattle.record.specs.Widths.{tokenWidth, cellWidth, pickWidth}
 use Rattle.machine.specs.Machine.{End}
 use Rattle.machine.specs.Orders as Ends
 use Rattle.rules.specs.Check.{mostCells}
@@ -67,13 +68,13 @@ pub record Agree (x y : Result) : Type 0 where
 
 -- "picks, ledger and cells of allowed length", the last two by their lengths in bytes
 pub record Allowed (picks : List ℕ) (ledger cells : ℕ) : Type 0 where
-  pub allowedPicks : whole 2 mostTokens (length picks) ≡ true
-  pub allowedLedger : whole 20 mostTokens ledger ≡ true
-  pub allowedCells : whole 8 mostCells cells ≡ true
+  pub allowedPicks : whole pickWidth mostTokens (length picks) ≡ true
+  pub allowedLedger : whole tokenWidth mostTokens ledger ≡ true
+  pub allowedCells : whole cellWidth mostCells cells ≡ true
 
 -- "Whatever graph and inputs are lent, and whichever two lists of picks order the firings, with equal ledger capacity and cell count, a budget of 2,048"
 abbrev pub AnyTwoOrders : Type 0
 AnyTwoOrders = (graph inputs picks picks′ : List ℕ) (ledger ledger′ cells cells′ : ℕ)
     → Allowed picks ledger cells → Allowed picks′ ledger′ cells′
-    → capacityOf ledger ≡ capacityOf ledger′ → cells / 8 ≡ cells′ / 8
+    → capacityOf ledger ≡ capacityOf ledger′ → cells / cellWidth ≡ cells′ / cellWidth
     → Agree (result graph inputs picks 2048 ledger cells) (result graph inputs picks′ 2048 ledger′ cells′)

@@ -11,11 +11,12 @@ use Rattle.record.specs.declared.token.Content.the-variants.{Live, Spent, Defer
 use Rattle.record.specs.declared.cell.Cell as RecordCell
 use Rattle.record.specs.declared.cell.Cell.the-variants.{Absent, Waiting, Present}
 use Rattle.number.specs.Number.{number16}
-use Rattle.table.specs.Table.{allRows, writtenOver}
+use Rattle.buffer.specs.Rows.{allRows, writtenOver}
 use Rattle.record.specs.GraphRecords.{graphOf}
 use Rattle.record.specs.TokensAndTags.{capacityOf, ledgerOf}
 use Rattle.record.specs.TokensAndTags as Tokens
 use Rattle.record.specs.Cells as Cells
+use Rattle.record.specs.Widths.{tokenWidth, cellWidth, pickWidth}
 use Rattle.machine.specs.Machine.{Content, live, spent, deferred, Token, Cell, absent, waiting, present, State, Outcome, completed, budgetSpent, refused, End, run}
 use Rattle.rules.specs.declared.answer.Refusal.{Refusal}
 use Rattle.rules.specs.declared.answer.Outcome as AnswerOutcome
@@ -53,11 +54,11 @@ cellRecord (present v) = Present v
 
 -- "An accepted run first sets all cells absent and writes its inputs to the ledger."
 unfoldable pub firstState : (inputs : List ℕ) → (cells : ℕ) → State Tag ℤ
-firstState inputs n = record { tokens = map tokenHeld (allRows 20 Tokens.decode inputs); cells = replicate n absent }
+firstState inputs n = record { tokens = map tokenHeld (allRows tokenWidth Tokens.decode inputs); cells = replicate n absent }
 
 -- "each pick [is an] unsigned 16-bit number"
 unfoldable pub picksOf : List ℕ → List ℕ
-picksOf l = allRows 2 (λ b. number16 b 0) l
+picksOf l = allRows pickWidth (λ b. number16 b 0) l
 
 -- refused before any firing is tried, or run to an end
 pub data Result : Type 0 where
@@ -72,7 +73,7 @@ unlessFailed (Failed r p) x = refusedAtOnce r p
 unfoldable pub result : (graph inputs picks : List ℕ) → (budget ledger cells : ℕ) → Result
 result graph inputs picks budget ledger cells =
     unlessFailed (check graph inputs picks ledger cells)
-    (ranTo (run (machineOf (graphOf graph) (capacityOf ledger) (cells / 8)) budget (picksOf picks) (firstState inputs (cells / 8))))
+    (ranTo (run (machineOf (graphOf graph) (capacityOf ledger) (cells / cellWidth)) budget (picksOf picks) (firstState inputs (cells / cellWidth))))
 
 -- ---- what it answers
 

@@ -12,7 +12,7 @@ use lib.ListN.{length, drop, length-append}
 use mir.Syntax.{w32}
 use mir.Val.{SFits}
 use Rattle.number.specs.Number.{Bytes, signedOf}
-use Rattle.table.specs.Table.{rows, joined}
+use Rattle.buffer.specs.Rows.{rows, joined}
 use Rattle.record.specs.TokensAndTags as Tokens
 use Rattle.record.specs.Cells as Cells
 use Rattle.record.specs.Cells.{CellFits}
@@ -22,6 +22,7 @@ use Rattle.record.specs.declared.token.Content.the-variants.{Live, Spent, Defer
 use Rattle.record.specs.declared.cell.Cell.{Cell}
 use Rattle.record.specs.declared.cell.Cell.the-variants.{Absent, Waiting, Present}
 use Rattle.record.proofs.Fitting.{bytes-drop, signed-fits, token-fits, cell-fits}
+use Rattle.record.specs.Widths.{tokenWidth, cellWidth}
 use Rattle.rules.specs.Answer.{numberOf, placeIn}
 use Rattle.rules.specs.declared.answer.Refusal.{Refusal}
 use Rattle.rules.specs.declared.answer.Refusal.the-variants.{GraphLength, UnknownOperation, FanOut, BadArc, BadSite, BadInput, BadStore, LedgerFull, SecondToken, NoSuchCell, SecondWrite, OutOfRange, Iteration, TooDeep, NoCaller, UnknownSite, NoReturn}
@@ -135,28 +136,28 @@ cell-short k (Present v) h f = stated-short k (bytes "present") v h (omega arith
 
 -- ---- the records of a buffer of bytes
 
-tokens-within : (n : ℕ) (l : List ℕ) → Bytes l → length (joined (λ (x : List ℕ). x) (map tokenLine (rows 20 Tokens.decode n l))) ≤ n * 56
+tokens-within : (n : ℕ) (l : List ℕ) → Bytes l → length (joined (λ (x : List ℕ). x) (map tokenLine (rows tokenWidth Tokens.decode n l))) ≤ n * 56
 tokens-within zero l b = omega arith
 tokens-within (suc n) l b =
-    let rest = joined (λ (x : List ℕ). x) (map tokenLine (rows 20 Tokens.decode n (drop 20 l))) in
-    omega (arith, length-append (tokenLine (Tokens.decode l)) rest, token-short (Tokens.decode l) (token-fits l b), tokens-within n (drop 20 l) (bytes-drop 20 l b), suc-mul n 56)
+    let rest = joined (λ (x : List ℕ). x) (map tokenLine (rows tokenWidth Tokens.decode n (drop tokenWidth l))) in
+    omega (arith, length-append (tokenLine (Tokens.decode l)) rest, token-short (Tokens.decode l) (token-fits l b), tokens-within n (drop tokenWidth l) (bytes-drop tokenWidth l b), suc-mul n 56)
 
-cells-within : (k n : ℕ) (l : List ℕ) → k + n ≤ 2 ^ 64 → Bytes l → length (joined (λ (x : List ℕ). x) (cellLines k (rows 8 Cells.decode n l))) ≤ n * 46
+cells-within : (k n : ℕ) (l : List ℕ) → k + n ≤ 2 ^ 64 → Bytes l → length (joined (λ (x : List ℕ). x) (cellLines k (rows cellWidth Cells.decode n l))) ≤ n * 46
 cells-within k zero l h b = omega arith
 cells-within k (suc n) l h b =
-    let rest = joined (λ (x : List ℕ). x) (cellLines (suc k) (rows 8 Cells.decode n (drop 8 l))) in
-    omega (arith, length-append (cellLine k (Cells.decode l)) rest, cell-short k (Cells.decode l) (omega arith) (cell-fits l b), cells-within (suc k) n (drop 8 l) (omega arith) (bytes-drop 8 l b), suc-mul n 46)
+    let rest = joined (λ (x : List ℕ). x) (cellLines (suc k) (rows cellWidth Cells.decode n (drop cellWidth l))) in
+    omega (arith, length-append (cellLine k (Cells.decode l)) rest, cell-short k (Cells.decode l) (omega arith) (cell-fits l b), cells-within (suc k) n (drop cellWidth l) (omega arith) (bytes-drop cellWidth l b), suc-mul n 46)
 
 -- ---- the whole text
 
 pub text-within : (a : Answer) (listing cells : List ℕ) → AnswerFits a → Bytes listing → Bytes cells → length cells < 2 ^ 64
-    → length (printed a listing cells) ≤ 74 + (length listing / 20 * 56 + length cells / 8 * 46)
+    → length (printed a listing cells) ≤ 74 + (length listing / tokenWidth * 56 + length cells / cellWidth * 46)
 unfolding printed
 text-within a listing cells f bl bc h =
-    let n = length listing / 20 in
-    let m = length cells / 8 in
-    let ts = map tokenLine (rows 20 Tokens.decode n listing) in
-    let cs = cellLines 0 (rows 8 Cells.decode m cells) in
+    let n = length listing / tokenWidth in
+    let m = length cells / cellWidth in
+    let ts = map tokenLine (rows tokenWidth Tokens.decode n listing) in
+    let cs = cellLines 0 (rows cellWidth Cells.decode m cells) in
     let jt = joined (λ (x : List ℕ). x) ts in
     let jc = joined (λ (x : List ℕ). x) cs in
     let e : length (joined (λ (x : List ℕ). x) (ts ++ cs)) ≡ length jt + length jc = ap length (joined-append ts cs) ∙ length-append jt jc in
@@ -171,7 +172,7 @@ text-within a listing cells f bl bc h =
 
 -- where there is so much room, printing is done
 pub fits-in : (a : Answer) (listing cells out : List ℕ) → AnswerFits a → Bytes listing → Bytes cells → length cells < 2 ^ 64
-    → 74 + (length listing / 20 * 56 + length cells / 8 * 46) ≤ length out → printedOf (printed a listing cells) out ≡ Done (length (printed a listing cells))
+    → 74 + (length listing / tokenWidth * 56 + length cells / cellWidth * 46) ≤ length out → printedOf (printed a listing cells) out ≡ Done (length (printed a listing cells))
 unfolding printedOf
 fits-in a listing cells out f bl bc h room =
     rw (le-leb (length (printed a listing cells)) (length out) (omega (arith, text-within a listing cells f bl bc h)))

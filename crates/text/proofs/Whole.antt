@@ -7,11 +7,12 @@ use mathlib.Core.Path.{_≡_, refl, sym, ap, _∙_}
 use mathlib.Core.List.{List, [], _∷_, _++_, map, append-assoc, append-nil}
 use lib.ListN.{length, getD, take, drop, length-append, length-drop, length-map, take-append-drop, List·getD-append}
 use lib.Seq.{take-suc, take-all, drop-drop, getD-append-add, take-at, drop-append-add, length-take-le}
-use Rattle.table.specs.Table.{rows, joined, written}
+use Rattle.buffer.specs.Rows.{rows, joined, written}
 use Rattle.record.specs.TokensAndTags as Tokens
 use Rattle.record.specs.Cells as Cells
 use Rattle.record.specs.declared.cell.Cell.{Cell}
-use Rattle.table.proofs.Tables.{length-rows, getD-rows}
+use Rattle.buffer.proofs.Tables.{length-rows, getD-rows}
+use Rattle.record.specs.Widths.{tokenWidth, cellWidth}
 use Rattle.rules.specs.declared.answer.Answer.{Answer}
 use Rattle.text.specs.Text.{tokenLine, cellLine, cellLines, lines}
 
@@ -25,32 +26,32 @@ length-cells : (k : ℕ) (xs : List Cell) → length (cellLines k xs) ≡ length
 length-cells k [] = refl
 length-cells k (x ∷ xs) = ap suc (length-cells (suc k) xs)
 
-cell-line : (k m i : ℕ) (l : List ℕ) → i < m → getD (cellLines k (rows 8 Cells.decode m l)) i [] ≡ cellLine (k + i) (Cells.decode (drop (i * 8) l))
+cell-line : (k m i : ℕ) (l : List ℕ) → i < m → getD (cellLines k (rows cellWidth Cells.decode m l)) i [] ≡ cellLine (k + i) (Cells.decode (drop (i * cellWidth) l))
 cell-line k zero i l h = absurd (not-suc-le-zero h)
-cell-line k (suc m) zero l h = let e : k ≡ k + 0 = omega arith in rw (zero-mul 8, ← e)
+cell-line k (suc m) zero l h = let e : k ≡ k + 0 = omega arith in rw (zero-mul cellWidth, ← e)
 cell-line k (suc m) (suc i) l h =
     let e : suc k + i ≡ k + suc i = omega arith in
-    cell-line (suc k) m i (drop 8 l) (le-of-suc-le-suc h) ∙ rw (drop-drop (i * 8) 8 l, suc-mul i 8, add-comm (i * 8) 8, e)
+    cell-line (suc k) m i (drop cellWidth l) (le-of-suc-le-suc h) ∙ rw (drop-drop (i * cellWidth) cellWidth l, suc-mul i cellWidth, add-comm (i * cellWidth) cellWidth, e)
 
 module _ (a : Answer) (listing cells : List ℕ) where
   abbrev n : ℕ
-  n = length listing / 20
+  n = length listing / tokenWidth
 
   abbrev m : ℕ
-  m = length cells / 8
+  m = length cells / cellWidth
 
   abbrev tokens : List (List ℕ)
-  tokens = map tokenLine (rows 20 Tokens.decode n listing)
+  tokens = map tokenLine (rows tokenWidth Tokens.decode n listing)
 
   abbrev below : List (List ℕ)
-  below = cellLines 0 (rows 8 Cells.decode m cells)
+  below = cellLines 0 (rows cellWidth Cells.decode m cells)
 
   length-tokens : length tokens ≡ n
-  length-tokens = length-map (rows 20 Tokens.decode n listing) tokenLine ∙ length-rows 20 Tokens.decode n listing
+  length-tokens = length-map (rows tokenWidth Tokens.decode n listing) tokenLine ∙ length-rows tokenWidth Tokens.decode n listing
 
   pub length-lines : length (lines a listing cells) ≡ 1 + (n + m)
   length-lines =
-      omega (arith, length-append tokens below, length-tokens, length-cells 0 (rows 8 Cells.decode m cells), length-rows 8 Cells.decode m cells)
+      omega (arith, length-append tokens below, length-tokens, length-cells 0 (rows cellWidth Cells.decode m cells), length-rows cellWidth Cells.decode m cells)
 
   pub line-token : (j : ℕ) → (j ≡ 0 → ⊥) → j ≤ n → getD (lines a listing cells) j [] ≡ tokenLine (Tokens.tokenAt listing (j - 1))
   line-token zero z h = absurd (z refl)
@@ -58,8 +59,8 @@ module _ (a : Answer) (listing cells : List ℕ) where
       let e : suc i - 1 ≡ i = omega arith in
       let lt : i < n = omega arith in
       rw e (List·getD-append tokens below [] i (omega (arith, length-tokens))
-      ∙ ap (λ (l : List (List ℕ)). getD l i []) (map-rows tokenLine 20 Tokens.decode n listing)
-      ∙ getD-rows 20 (λ b. tokenLine (Tokens.decode b)) n i listing [] lt)
+      ∙ ap (λ (l : List (List ℕ)). getD l i []) (map-rows tokenLine tokenWidth Tokens.decode n listing)
+      ∙ getD-rows tokenWidth (λ b. tokenLine (Tokens.decode b)) n i listing [] lt)
 
   pub line-cell : (j : ℕ) → n < j → j < 1 + (n + m) → getD (lines a listing cells) j [] ≡ cellLine (j - 1 - n) (Cells.cellAt cells (j - 1 - n))
   line-cell zero h k = absurd (omega arith)

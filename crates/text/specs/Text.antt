@@ -7,7 +7,7 @@ use lib.ListN.{length, drop}
 use lib.Dec.{ltb, leb}
 use lib.IntN.{ℤ, pos, negsuc}
 use Rattle.number.specs.Number.{signedOf}
-use Rattle.table.specs.Table.{allRows, joined}
+use Rattle.buffer.specs.Rows.{allRows, joined}
 use Rattle.record.specs.TokensAndTags as Tokens
 use Rattle.record.specs.Cells as Cells
 use Rattle.record.specs.declared.token.Token.{Token}
@@ -15,6 +15,7 @@ use Rattle.record.specs.declared.token.Content.{Content}
 use Rattle.record.specs.declared.token.Content.the-variants.{Live, Spent, Deferred}
 use Rattle.record.specs.declared.cell.Cell.{Cell}
 use Rattle.record.specs.declared.cell.Cell.the-variants.{Absent, Waiting, Present}
+use Rattle.record.specs.Widths.{tokenWidth, cellWidth}
 use Rattle.rules.specs.Answer.{numberOf, placeIn}
 use Rattle.rules.specs.declared.answer.Outcome.{Outcome}
 use Rattle.rules.specs.declared.answer.Outcome.the-variants as Outcomes
@@ -99,7 +100,7 @@ cellLines k (x ∷ xs) = cellLine k x ∷ cellLines (suc k) xs
 
 -- of the whole token records of a listing and the whole cell records of the cells
 abbrev pub lines : Answer → (listing cells : List ℕ) → List (List ℕ)
-lines a listing cells = answerLine a ∷ map tokenLine (allRows 20 Tokens.decode listing) ++ cellLines 0 (allRows 8 Cells.decode cells)
+lines a listing cells = answerLine a ∷ map tokenLine (allRows tokenWidth Tokens.decode listing) ++ cellLines 0 (allRows cellWidth Cells.decode cells)
 
 unfoldable pub printed : Answer → (listing cells : List ℕ) → List ℕ
 printed a listing cells = joined (λ (l : List ℕ). l) (lines a listing cells)

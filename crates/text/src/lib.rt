@@ -10,6 +10,7 @@ ghost use mathlib.Core.List.{[], _++_};
 ghost use lib.Dec.{leb};
 ghost use lib.ListN.{length, take, drop, getD};
 ghost use Rattle.text.specs.Text.{lines, printed, printedOf, outAfter};
+ghost use Rattle.record.specs.Widths.{tokenWidth, cellWidth};
 
 pub enum Printed {
     // So many bytes were written.
@@ -19,17 +20,17 @@ pub enum Printed {
 
 // How many lines there are, one to each absent cell counted too.
 fn count(listing: &[u8], cells: &[u8]) -> usize
-    ensures { λ r. ⌜ r ≡ 1 + (length (now (listing .entry)) / 20 + length (now (cells .entry)) / 8) ⌝ }
+    ensures { λ r. ⌜ r ≡ 1 + (length (now (listing .entry)) / tokenWidth + length (now (cells .entry)) / cellWidth) ⌝ }
 {
-    1 + (listing.len() / 20 + cells.len() / 8)
+    1 + (listing.len() / token::WIDTH + cells.len() / cell::WIDTH)
 }
 
 // Makes line j; that of an absent cell is empty.
 fn line_at(answer: Answer, listing: &[u8], cells: &[u8], j: usize, line: &mut [u8]) -> usize
-    requires { ⌜ (j < 1 + (length (now listing) / 20 + length (now cells) / 8)) × (length (now line) ≡ 128) ⌝ }
+    requires { ⌜ (j < 1 + (length (now listing) / tokenWidth + length (now cells) / cellWidth)) × (length (now line) ≡ 128) ⌝ }
     ensures { λ r. ⌜ (r ≤ 128) × (take r (now (line .exit)) ≡ getD (lines answer (now (listing .entry)) (now (cells .entry))) j []) ⌝ }
 {
-    let tokens = listing.len() / 20;
+    let tokens = listing.len() / token::WIDTH;
     if j == 0 {
         line::of_answer(answer, line)
     } else if j <= tokens {
@@ -71,7 +72,7 @@ fn write(answer: Answer, listing: &[u8], cells: &[u8], out: &mut [u8]) -> usize
     let mut j = 0;
     while j < n {
         let k = line_at(answer, listing, cells, j, &mut line);
-        table::write_at(out, at, &line[0..k]);
+        buffer::write_at(out, at, &line[0..k]);
         at += k;
         j += 1;
     }

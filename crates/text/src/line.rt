@@ -66,7 +66,7 @@ fn put_word(line: &mut [u8], at: usize, word: &[u8], end: u8) -> usize
     requires { ⌜ at + length (now word) + 1 ≤ length (now line) ⌝ }
     ensures { λ r. ⌜ Added (now (line .entry)) (now (line .exit)) at r (now (word .entry) ++ end ∷ []) ⌝ }
 {
-    table::write_at(line, at, word);
+    buffer::write_at(line, at, word);
     put_byte(line, at + word.len(), end)
 }
 

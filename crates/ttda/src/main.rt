@@ -5,6 +5,7 @@ use libc::ENAMETOOLONG;
 use libc::ENOENT;
 use libc::STDOUT_FILENO;
 use listing::Listed;
+use record::token;
 use rules::answer::Answer;
 use text::Printed;
 ghost use mathlib.Core.Path.{_≡_};
@@ -46,9 +47,9 @@ fn read_in(folder: &[u8], name: &[u8], buf: &mut [u8]) -> isize
         return read_file(name, buf);
     }
     let mut path = io::buffer();
-    table::write_at(&mut path, 0, folder);
+    buffer::write_at(&mut path, 0, folder);
     path[n] = b'/';
-    table::write_at(&mut path, n + 1, name);
+    buffer::write_at(&mut path, n + 1, name);
     read_file(&path[..n + 1 + name.len()], buf)
 }
 
@@ -75,8 +76,8 @@ fn folder_in(buf: &mut [u8]) -> isize {
 fn used_bytes(tokens: usize, ledger: &[u8]) -> usize
     ensures { λ r. ⌜ r ≤ length (now (ledger .entry)) ⌝ }
 {
-    if tokens <= ledger.len() / 20 {
-        tokens * 20
+    if tokens <= ledger.len() / token::WIDTH {
+        tokens * token::WIDTH
     } else {
         ledger.len()
     }

@@ -1,31 +1,25 @@
--- The place in an outcome. Assumes nothing.
+-- `abi::place_of` meets its contract: the place in an outcome. Assumes nothing.
 use borrow.Author.Needs.{needs}
 use mathlib.Core.Path.{ap, sym}
 use Rattle.rules.specs.Answer.{placeIn}
 use Rattle.abi.proofs.place_of.Statement.{statement}
 use Rattle.abi.proofs.place_of.Tie as tie
 
--- src/lib.rt:20:31
 enum-told : tie.Need-enum-told
 enum-told c = search needs
 
--- src/lib.rt:21:27
 enum-told-2 : tie.Need-enum-told-2
 enum-told-2 c = search needs
 
--- src/lib.rt:22:29
 enum-known-outcome : tie.Need-enum-known-outcome
 enum-known-outcome c = search needs
 
--- src/lib.rt:16:1
 returns : tie.Need-returns
 returns c = search needs
 
--- src/lib.rt:16:1
 returns-2 : tie.Need-returns-2
 returns-2 c = search needs
 
--- src/lib.rt:16:1
 returns-3 : tie.Need-returns-3
 returns-3 c = sym (ap placeIn (c .before .outcome .given .1))
 

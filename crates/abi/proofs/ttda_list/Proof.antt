@@ -1,37 +1,30 @@
--- The listing as a number, from listing's promise. Assumes nothing.
+-- `abi::ttda_list` meets its contract: the listing as a number, from listing's promise. Assumes nothing.
 use borrow.Author.Needs.{needs}
 use mathlib.Core.Path.{ap, sym, _∙_}
 use Rattle.listing.specs.Listing.{numberOf}
 use Rattle.abi.proofs.ttda_list.Statement.{statement}
 use Rattle.abi.proofs.ttda_list.Tie as tie
 
--- src/lib.rt:57:9
 list-requires : tie.Need-list-requires
 list-requires c κs = search needs
 
--- src/lib.rt:59:25
 enum-told : tie.Need-enum-told
 enum-told c = search needs
 
--- src/lib.rt:60:29
 enum-told-2 : tie.Need-enum-told-2
 enum-told-2 c = search needs
 
--- src/lib.rt:53:1
 same-length : tie.Need-same-length
 same-length c = search needs
 
--- src/lib.rt:53:1
 returns : tie.Need-returns
 returns c =
     let listed = c .before .before .before .before .list .ensures in
     (sym (ap numberOf (c .enum-told .given .1)) ∙ listed .0, listed .1)
 
--- src/lib.rt:53:1
 same-length-2 : tie.Need-same-length-2
 same-length-2 c = search needs
 
--- src/lib.rt:53:1
 returns-2 : tie.Need-returns-2
 returns-2 c =
     let listed = c .before .before .before .before .list .ensures in

@@ -1,4 +1,4 @@
--- The printed lines as a number of bytes, from text's promise. Assumes nothing.
+-- `abi::ttda_print` meets its contract: the printed lines as a number of bytes, from text's promise. Assumes nothing.
 use borrow.Author.Needs.{needs}
 use mathlib.Core.Path.{ap, sym, _∙_}
 use Rattle.abi.specs.Numbers.{lengthOf}

@@ -1,4 +1,4 @@
--- The run as a number, from the engine's promise. Assumes nothing.
+-- `abi::ttda_run` meets its contract: the run as a number, from the engine's promise. Assumes nothing.
 use borrow.Author.Needs.{needs}
 use mathlib.Core.Path.{ap, _∙_}
 use Rattle.rules.specs.Answer.{valuesOf}
@@ -6,23 +6,18 @@ use Rattle.abi.specs.Numbers.{packed}
 use Rattle.abi.proofs.ttda_run.Statement.{statement}
 use Rattle.abi.proofs.ttda_run.Tie as tie
 
--- src/lib.rt:50:15
 run-requires : tie.Need-run-requires
 run-requires c κs = search needs
 
--- src/lib.rt:50:5
 number-of-requires : tie.Need-number-of-requires
 number-of-requires c κs = search needs
 
--- src/lib.rt:37:1
 same-length : tie.Need-same-length
 same-length c = search needs
 
--- src/lib.rt:37:1
 same-length-2 : tie.Need-same-length-2
 same-length-2 c = search needs
 
--- src/lib.rt:37:1
 returns : tie.Need-returns
 returns c =
     let ran = c .before .before .before .before .before .run .ensures in

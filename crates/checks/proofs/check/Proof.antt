@@ -1,7 +1,7 @@
 -- `checks::check` meets its contract. A part that fails is the answer; the next is looked at only where all before passed. Assumes nothing.
 use borrow.Author.Needs.{needs}
 use Rattle.rules.specs.Check.{check}
-use Rattle.fields.proofs.Turns.{stopped}
+use Rattle.check_fields.proofs.Turns.{stopped}
 use Rattle.checks.proofs.check.Statement.{statement}
 use Rattle.checks.proofs.check.Tie as tie
 

@@ -4,18 +4,18 @@ use Prim.Native.Nat.{_-_}
 use native.Mathlib.Omega.{arith}
 use borrow.Author.Needs.{needs}
 use Rattle.record.specs.GraphRecords.{graphOf}
-use Rattle.matching.proofs.Laws.{matching-counted}
+use Rattle.store.proofs.Laws.{matching-counted}
 use Rattle.rules.specs.Run.{picksOf}
 use Rattle.engine.proofs.Looping.{SoFar, begun, advanced, halted, finished}
 use Rattle.engine.proofs.proceed.Statement.{statement}
 use Rattle.engine.proofs.proceed.Tie as tie
 
 abbrev Inv-loop : tie.InvT-loop
-Inv-loop graph returns picks budget arities heads₀ next₀ flags₀ counts₀ waiting₀ later₀ ledger₀ cells₀ start used₀ firings₀ heads next flags counts waiting later ledger cells used firings =
-    SoFar (graphOf graph) ledger₀ cells₀ start budget (picksOf picks) arities heads next flags counts waiting later ledger cells used firings
+Inv-loop graph tables picks budget links₀ flags₀ ledger₀ cells₀ start used₀ firings₀ links flags ledger cells used firings =
+    SoFar (graphOf graph) ledger₀ cells₀ start budget (picksOf picks) tables links flags ledger cells used firings
 
 abbrev μ-loop : tie.MeasureT-loop
-μ-loop graph returns picks budget arities heads₀ next₀ flags₀ counts₀ waiting₀ later₀ ledger₀ cells₀ start used₀ firings₀ heads next flags counts waiting later ledger cells used firings =
+μ-loop graph tables picks budget links₀ flags₀ ledger₀ cells₀ start used₀ firings₀ links flags ledger cells used firings =
     budget - firings
 
 pub proceed-spec : {M : Type 1} → statement M
@@ -24,17 +24,17 @@ proceed-spec =
     (tie.spec
     Inv-loop
     μ-loop
-    (λ c. begun _ _ _ _ _ _ (c .before .before .before .before .before .pre .1))
-    (λ c κs. (c .before .before .before .before .before .before .before .before .before .before .before .before .before .before .before .pre .0, c .before .before .before .before .before .before .before .before .before .loop .inv .running))
+    (λ c. begun _ _ _ _ _ _ (c .before .before .before .before .pre .1))
+    (λ c κs. (c .before .before .before .before .before .before .before .before .before .before .pre .0, c .before .before .before .before .before .loop .inv .running))
     (λ c. search needs)
-    (λ c. omega (arith, c .before .before .before .before .before .before .before .before .before .before .before .before .before .before .before .before .loop-test .taken))
-    (λ c. omega (arith, c .before .before .before .before .before .before .before .before .before .before .before .before .before .before .before .before .loop-test .taken))
-    (λ c. advanced _ _ _ _ _ _ (c .before .before .before .before .before .before .before .before .before .before .before .before .before .before .before .before .before .loop .inv) (c .before .before .before .before .before .before .before .before .before .before .before .before .before .before .before .before .loop-test .taken) _ _ _ _ _ _ _ _ _ (rw (c .before .turned .given .1) at (c .before .before .before .before .before .before .before .take-turn .ensures)))
-    (λ c. search needs)
-    (λ c. search needs)
-    (λ c. search needs)
-    (λ c. halted _ _ _ _ _ _ (c .before .before .before .before .before .before .before .before .before .before .before .before .before .before .before .before .before .loop .inv) (c .before .before .before .before .before .before .before .before .before .before .before .before .before .before .before .before .loop-test .taken) _ _ _ _ _ _ _ _ _ (rw (c .before .turned2 .given .1) at (c .before .before .before .before .before .before .before .take-turn .ensures)))
-    (λ c κs. matching-counted (c .before .before .before .loop .inv .running .matching))
+    (λ c. omega (arith, c .before .before .before .before .before .before .before .before .before .before .before .before .loop-test .taken))
+    (λ c. omega (arith, c .before .before .before .before .before .before .before .before .before .before .before .before .loop-test .taken))
+    (λ c. advanced _ _ _ _ _ _ (c .before .before .before .before .before .before .before .before .before .before .before .before .before .loop .inv) (c .before .before .before .before .before .before .before .before .before .before .before .before .loop-test .taken) _ _ _ _ _ (rw (c .before .turned .given .1) at (c .before .before .before .before .before .before .before .take-turn .ensures)))
     (λ c. search needs)
     (λ c. search needs)
-    (λ c. finished _ _ _ _ _ _ (c .before .before .before .before .loop .inv) (c .before .before .before .loop-test .left) (c .before .before .before .before .before .before .before .before .before .before .pre .0 .aritiesRight) _ (c .rest .ensures)))
+    (λ c. search needs)
+    (λ c. halted _ _ _ _ _ _ (c .before .before .before .before .before .before .before .before .before .before .before .before .before .loop .inv) (c .before .before .before .before .before .before .before .before .before .before .before .before .loop-test .taken) _ _ _ _ _ (rw (c .before .turned2 .given .1) at (c .before .before .before .before .before .before .before .take-turn .ensures)))
+    (λ c κs. matching-counted (c .before .before .loop .inv .running .matching))
+    (λ c. search needs)
+    (λ c. search needs)
+    (λ c. finished _ _ _ _ _ _ (c .before .before .before .loop .inv) (c .before .before .loop-test .left) (c .before .before .before .before .before .before .before .before .pre .0 .aritiesRight) _ (c .rest .ensures)))

@@ -1,7 +1,7 @@
 -- `engine::take_turn` meets its contract: the activity that the pick takes fires, joined by proofs/Turning. Assumes nothing.
 use mathlib.Core.Path.{refl}
 use borrow.Author.Needs.{needs}
-use Rattle.matching.proofs.Laws.{matching-counted}
+use Rattle.store.proofs.Laws.{matching-counted}
 use Rattle.rules.specs.Run.{picksOf}
 use Rattle.engine.proofs.Turning.{turn-none, below, place-enabled, turn-done, turn-refused}
 use Rattle.engine.proofs.take_turn.Statement.{statement}
@@ -12,23 +12,23 @@ unfolding picksOf
 take-turn-spec =
     tie.close
     (tie.spec
-    (λ c κs. matching-counted (c .before .before .before .before .before .before .before .pre .1 .matching))
+    (λ c κs. matching-counted (c .before .before .before .before .before .pre .1 .matching))
     (λ c.
-    let s = c .before .before .before .before .before .before .before .before .before in
-    turn-none _ _ (s .args .picks .now) (s .pre .0) (s .pre .1) (s .args .firings) _ (c .before .enabled-count .ensures) (c .if1 .taken))
+    let s = c .before .before .before .before .before .before .before in
+    turn-none _ (s .args .picks .now) (s .pre .0) (s .pre .1) (s .args .firings) _ (c .before .enabled-count .ensures) (c .if1 .taken))
     (λ c κs. search needs)
     (λ c. search needs)
     (λ c κs.
-    let p = c .before .before in
+    let p = c .before in
     let n = p .before .before in
-    let s = n .before .before .before .before .before .before .before .before in
-    (matching-counted (s .pre .1 .matching), below _ _ (s .args .picks .now) (s .pre .0) (s .pre .1) (s .args .firings) _ _ _ (n .enabled-count .ensures) (p .before .if1 .left) (p .pick-at .ensures .0) refl))
+    let s = n .before .before .before .before .before .before in
+    (matching-counted (s .pre .1 .matching), below _ (s .args .picks .now) (s .pre .0) (s .pre .1) (s .args .firings) _ _ _ (n .enabled-count .ensures) (p .before .if1 .left) (p .pick-at .ensures .0) refl))
     (λ c κs.
-    let a = c .before .before .before .before .before .before .before .before in
-    let p = a .before .before .before in
+    let a = c .before .before .before .before in
+    let p = a .before .before in
     let n = p .before .before in
-    let s = n .before .before .before .before .before .before .before .before in
-    let there = place-enabled _ _ (s .args .picks .now) (s .pre .0) (s .pre .1) (s .args .firings) _ _ _ (n .enabled-count .ensures) (p .before .if1 .left) (p .pick-at .ensures .0) (a .enabled-at .ensures .0) in
+    let s = n .before .before .before .before .before .before in
+    let there = place-enabled _ (s .args .picks .now) (s .pre .0) (s .pre .1) (s .args .firings) _ _ _ (n .enabled-count .ensures) (p .before .if1 .left) (p .pick-at .ensures .0) (a .enabled-at .ensures .0) in
     (s .pre .0, s .pre .1, there .0, there .1))
     (λ c. search needs)
     (λ c. search needs)
@@ -36,17 +36,17 @@ take-turn-spec =
     (λ c. search needs)
     (λ c.
     let f = c .before .before .before .before .before .before .before in
-    let a = f .before .before .before .before .before .before .before .before .before in
-    let p = a .before .before .before in
+    let a = f .before .before .before .before .before in
+    let p = a .before .before in
     let n = p .before .before in
-    let s = n .before .before .before .before .before .before .before .before in
-    turn-done _ _ (s .args .picks .now) (s .pre .0) (s .pre .1) (s .args .firings) _ _ _ (n .enabled-count .ensures) (p .before .if1 .left) (p .pick-at .ensures .0) (a .enabled-at .ensures .0) (rw (c .before .fired .given .1) at (f .fire .ensures)))
+    let s = n .before .before .before .before .before .before in
+    turn-done _ (s .args .picks .now) (s .pre .0) (s .pre .1) (s .args .firings) _ _ _ (n .enabled-count .ensures) (p .before .if1 .left) (p .pick-at .ensures .0) (a .enabled-at .ensures .0) (rw (c .before .fired .given .1) at (f .fire .ensures)))
     (λ c. search needs)
     (λ c. search needs)
     (λ c.
     let f = c .before .before .before .before .before .before .before in
-    let a = f .before .before .before .before .before .before .before .before .before in
-    let p = a .before .before .before in
+    let a = f .before .before .before .before .before in
+    let p = a .before .before in
     let n = p .before .before in
-    let s = n .before .before .before .before .before .before .before .before in
-    turn-refused _ _ (s .args .picks .now) (s .pre .0) (s .pre .1) (s .args .firings) _ _ _ (n .enabled-count .ensures) (p .before .if1 .left) (p .pick-at .ensures .0) (a .enabled-at .ensures .0) (rw (c .before .fired2 .given .1) at (f .fire .ensures))))
+    let s = n .before .before .before .before .before .before in
+    turn-refused _ (s .args .picks .now) (s .pre .0) (s .pre .1) (s .args .firings) _ _ _ (n .enabled-count .ensures) (p .before .if1 .left) (p .pick-at .ensures .0) (a .enabled-at .ensures .0) (rw (c .before .fired2 .given .1) at (f .fire .ensures))))

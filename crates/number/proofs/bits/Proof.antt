@@ -1,4 +1,4 @@
--- `record::number::bits` meets its contract. Assumes nothing.
+-- `number::bits` meets its contract. Assumes nothing.
 use native.Mathlib.Omega.{arith}
 use mir.Facts.{toZ-ofZ}
 use Rattle.number.specs.Number.{bitsOf}

@@ -1,4 +1,4 @@
--- `record::number::signed` meets its contract. From 2 ^ 31 on, the bits of the complement of the complement are the bits.
+-- `number::signed` meets its contract. From 2 ^ 31 on, the bits of the complement of the complement are the bits. Assumes nothing.
 use borrow.Author.Needs.{needs}
 use native.Mathlib.Omega.{arith}
 use Prim.Native.Nat.{_-_}

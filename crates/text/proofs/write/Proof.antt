@@ -9,6 +9,7 @@ use Rattle.text.specs.Text.{lines, printed}
 use Rattle.text.proofs.Whole.{made, made-all, made-longer, length-lines, line-length, part, kept-length, next-fits, next}
 use Rattle.text.proofs.write.Statement.{statement}
 use Rattle.text.proofs.write.Tie as tie
+use Rattle.record.specs.Widths.{tokenWidth, cellWidth}
 
 abbrev Inv-loop : tie.InvT-loop
 Inv-loop answer listing cells out₀ n line₀ at₀ j₀ out line at j =
@@ -21,7 +22,7 @@ abbrev μ-loop : tie.MeasureT-loop
 abbrev text : tie.Start Inv-loop μ-loop → List (List ℕ)
 text s = lines (s .args .answer) (s .args .listing .now) (s .args .cells .now)
 
-text-lines : (s : tie.Start Inv-loop μ-loop) → length (text s) ≡ 1 + (length (s .args .listing .now) / 20 + length (s .args .cells .now) / 8)
+text-lines : (s : tie.Start Inv-loop μ-loop) → length (text s) ≡ 1 + (length (s .args .listing .now) / tokenWidth + length (s .args .cells .now) / cellWidth)
 text-lines s = length-lines (s .args .answer) (s .args .listing .now) (s .args .cells .now)
 
 pub write-spec : {M : Type 1} → statement M

@@ -7,69 +7,53 @@ use Rattle.text.proofs.Room.{done-within}
 use Rattle.ttda.proofs.put.Statement.{statement}
 use Rattle.ttda.proofs.put.Tie as tie
 
--- src/main.rt:51:11
 print-requires : tie.Need-print-requires
 print-requires c κs = search needs
 
--- src/main.rt:52:23
 enum-known-n : tie.Need-enum-known-n
 enum-known-n c = search needs
 
--- src/main.rt:53:46
 slice-reshare-prefix-write-all : tie.Need-slice-reshare-prefix-write-all
 slice-reshare-prefix-write-all c =
     let p = c .before .before .before .before .before .print in
     omega (arith, done-within _ _ _ (sym (p .ensures .0) ∙ c .before .n .given .1))
 
--- src/main.rt:53:46
 slice-aggregate-write-all : tie.Need-slice-aggregate-write-all
 slice-aggregate-write-all c = sym (length-take-le _ _ (slice-reshare-prefix-write-all (c .before)))
 
--- src/main.rt:53:17
 write-all-requires : tie.Need-write-all-requires
 write-all-requires c κs = search needs
 
--- src/main.rt:54:26
 slice-aggregate-fail : tie.Need-slice-aggregate-fail
 slice-aggregate-fail c = search needs
 
--- src/main.rt:54:17
 fail-requires : tie.Need-fail-requires
 fail-requires c κs = search needs
 
--- src/main.rt:58:22
 enum-told : tie.Need-enum-told
 enum-told c = search needs
 
--- src/main.rt:58:22
 slice-aggregate-fail-2 : tie.Need-slice-aggregate-fail-2
 slice-aggregate-fail-2 c = search needs
 
--- src/main.rt:58:13
 fail-requires-2 : tie.Need-fail-requires-2
 fail-requires-2 c κs = search needs
 
--- src/main.rt:50:1
 same-length : tie.Need-same-length
 same-length c = search needs
 
--- src/main.rt:50:1
 returns : tie.Need-returns
 returns c = search needs
 
--- src/main.rt:50:1
 same-length-2 : tie.Need-same-length-2
 same-length-2 c = search needs
 
--- src/main.rt:50:1
 returns-2 : tie.Need-returns-2
 returns-2 c = search needs
 
--- src/main.rt:50:1
 same-length-3 : tie.Need-same-length-3
 same-length-3 c = search needs
 
--- src/main.rt:50:1
 returns-3 : tie.Need-returns-3
 returns-3 c = search needs
 

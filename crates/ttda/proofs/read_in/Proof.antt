@@ -7,73 +7,56 @@ use lib.Seq.{length-take-le}
 use Rattle.ttda.proofs.read_in.Statement.{statement}
 use Rattle.ttda.proofs.read_in.Tie as tie
 
--- src/main.rt:47:9
 read-file-requires : tie.Need-read-file-requires
 read-file-requires c κs = search needs
 
--- src/main.rt:47:9
 same-length : tie.Need-same-length
 same-length c = search needs
 
--- src/main.rt:47:9
 returns : tie.Need-returns
 returns c = search needs
 
--- src/main.rt:49:20
 buffer-requires : tie.Need-buffer-requires
 buffer-requires c κs = search needs
 
--- src/main.rt:50:21
 slice-aggregate-write-at : tie.Need-slice-aggregate-write-at
 slice-aggregate-write-at c = search needs
 
--- src/main.rt:50:5
 write-at-requires : tie.Need-write-at-requires
 write-at-requires c κs = search needs
 
--- src/main.rt:51:5
 array-write-path : tie.Need-array-write-path
 array-write-path c = search needs
 
--- src/main.rt:52:21
 slice-aggregate-write-at-2 : tie.Need-slice-aggregate-write-at-2
 slice-aggregate-write-at-2 c = search needs
 
--- src/main.rt:52:32
 add-write-at : tie.Need-add-write-at
 add-write-at c = search needs
 
--- src/main.rt:52:5
 write-at-requires-2 : tie.Need-write-at-requires-2
 write-at-requires-2 c κs =
     let n = length (c .before .before .before .before .before .before .before .before .before .args .folder .now) in
     omega (arith, length-set (c .before .before .write-at .last .0) n 47)
 
--- src/main.rt:53:23
 add-path : tie.Need-add-path
 add-path c = search needs
 
--- src/main.rt:53:23
 add-path-2 : tie.Need-add-path-2
 add-path-2 c = search needs
 
--- src/main.rt:53:15
 array-share-prefix-path : tie.Need-array-share-prefix-path
 array-share-prefix-path c = search needs
 
--- src/main.rt:53:15
 slice-aggregate-read-file : tie.Need-slice-aggregate-read-file
 slice-aggregate-read-file c = sym (length-take-le _ _ (search needs))
 
--- src/main.rt:53:5
 read-file-requires-2 : tie.Need-read-file-requires-2
 read-file-requires-2 c κs = search needs
 
--- src/main.rt:42:1
 same-length-2 : tie.Need-same-length-2
 same-length-2 c = search needs
 
--- src/main.rt:42:1
 returns-2 : tie.Need-returns-2
 returns-2 c = search needs
 

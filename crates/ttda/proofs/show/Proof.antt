@@ -5,95 +5,72 @@ use lib.Seq.{length-take-le}
 use Rattle.ttda.proofs.show.Statement.{statement}
 use Rattle.ttda.proofs.show.Tie as tie
 
--- src/main.rt:75:9
 run-requires : tie.Need-run-requires
 run-requires c κs = search needs
 
--- src/main.rt:76:9
 used-bytes-requires : tie.Need-used-bytes-requires
 used-bytes-requires c κs = search needs
 
--- src/main.rt:77:25
 slice-reshare-prefix-list : tie.Need-slice-reshare-prefix-list
 slice-reshare-prefix-list c = search needs
 
--- src/main.rt:77:25
 slice-aggregate-list : tie.Need-slice-aggregate-list
 slice-aggregate-list c = sym (length-take-le _ _ (search needs))
 
--- src/main.rt:77:42
 slice-relend-prefix-list : tie.Need-slice-relend-prefix-list
 slice-relend-prefix-list c = search needs
 
--- src/main.rt:77:42
 slice-aggregate-list-2 : tie.Need-slice-aggregate-list-2
 slice-aggregate-list-2 c = sym (length-take-le _ _ (search needs))
 
--- src/main.rt:77:11
 list-requires : tie.Need-list-requires
 list-requires c κs = search needs
 
--- src/main.rt:78:37
 enum-told : tie.Need-enum-told
 enum-told c = search needs
 
--- src/main.rt:78:37
 slice-reshare-prefix-put : tie.Need-slice-reshare-prefix-put
 slice-reshare-prefix-put c = search needs
 
--- src/main.rt:78:37
 slice-aggregate-put : tie.Need-slice-aggregate-put
 slice-aggregate-put c = sym (length-take-le _ _ (search needs))
 
--- src/main.rt:78:25
 put-requires : tie.Need-put-requires
 put-requires c κs = search needs
 
--- src/main.rt:79:38
 enum-told-2 : tie.Need-enum-told-2
 enum-told-2 c = search needs
 
--- src/main.rt:79:38
 slice-aggregate-fail : tie.Need-slice-aggregate-fail
 slice-aggregate-fail c = search needs
 
--- src/main.rt:79:29
 fail-requires : tie.Need-fail-requires
 fail-requires c κs = search needs
 
--- src/main.rt:64:1
 same-length : tie.Need-same-length
 same-length c = search needs
 
--- src/main.rt:64:1
 same-length-2 : tie.Need-same-length-2
 same-length-2 c = search needs
 
--- src/main.rt:64:1
 same-length-3 : tie.Need-same-length-3
 same-length-3 c = search needs
 
--- src/main.rt:64:1
 same-length-4 : tie.Need-same-length-4
 same-length-4 c = search needs
 
--- src/main.rt:64:1
 returns : tie.Need-returns
 returns c = search needs
 
--- src/main.rt:64:1
 same-length-5 : tie.Need-same-length-5
 same-length-5 c = search needs
 
--- src/main.rt:64:1
 same-length-6 : tie.Need-same-length-6
 same-length-6 c = search needs
 
--- src/main.rt:64:1
 same-length-7 : tie.Need-same-length-7
 same-length-7 c = search needs
 
--- src/main.rt:64:1
 returns-2 : tie.Need-returns-2
 returns-2 c = search needs
 

@@ -5,24 +5,25 @@ use mathlib.Core.Path.{_≡_, refl, sym, _∙_}
 use lib.ListN.{length, take, drop}
 use borrow.Author.Needs.{needs}
 use Rattle.record.specs.GraphRecords.{graphOf}
+use Rattle.record.specs.Widths.{graphWidth}
 use Rattle.rules.specs.Check.{inTurn, checkRecord}
-use Rattle.fields.specs.Sites.{Sites}
-use Rattle.fields.proofs.Turns.{stopped, take-next, turn, turn-end}
+use Rattle.check_fields.specs.Sites.{Sites}
+use Rattle.check_fields.proofs.Turns.{stopped, take-next, turn, turn-end}
 use Rattle.checks.proofs.Passed.{passed-record}
-use Rattle.fields.proofs.Graphs.{length-graph, in-graph}
-use Rattle.fields.proofs.Sites.{no-sites, note-sites, length-at-site}
+use Rattle.check_fields.proofs.Graphs.{length-graph, in-graph}
+use Rattle.check_fields.proofs.Sites.{no-sites, note-sites, length-at-site}
 use Rattle.checks.proofs.graph.records.Statement.{statement}
 use Rattle.checks.proofs.graph.records.Tie as tie
 
 abbrev Inv-loop : tie.InvT-loop
 Inv-loop graph sites₀ i₀ sites i =
-    (i ≤ length graph / 16)
+    (i ≤ length graph / graphWidth)
     × (inTurn (checkRecord (graphOf graph)) 0 (graphOf graph) ≡ inTurn (checkRecord (graphOf graph)) i (drop i (graphOf graph)))
     × Sites (take i (graphOf graph)) sites
     × (length sites ≡ 256)
 
 abbrev μ-loop : tie.MeasureT-loop
-μ-loop graph sites₀ i₀ sites i = length graph / 16 - i
+μ-loop graph sites₀ i₀ sites i = length graph / graphWidth - i
 
 pub records-spec : {M : Type 1} → statement M
 records-spec = tie.close (tie.spec
@@ -37,7 +38,7 @@ records-spec = tie.close (tie.spec
     let l = c .before .before .before .before .before .before .loop in
     let g = c .before .before .before .before .before .before .before .before .args .graph .now in
     let r = c .before .before .before .before .instruction-at .result in
-    let h : l .i < length g / 16 = omega arith in
+    let h : l .i < length g / graphWidth = omega arith in
     let e = in-graph g (l .i) h r ∙ sym (c .before .before .before .before .instruction-at .ensures) in
     let t = l .inv .1 ∙ turn (checkRecord (graphOf g)) (graphOf g) (l .i) r (omega (arith, length-graph g)) e (sym (c .before .before .«record» .ensures)) in
     stopped _ _ _ _ (c .enum-told2 .given .1) ∙ sym t)
@@ -48,7 +49,7 @@ records-spec = tie.close (tie.spec
     let l = c .before .before .before .before .before .before .before .before .loop in
     let g = c .before .before .before .before .before .before .before .before .before .before .args .graph .now in
     let r = c .before .before .before .before .before .before .instruction-at .result in
-    let h : l .i < length g / 16 = omega arith in
+    let h : l .i < length g / graphWidth = omega arith in
     let e = in-graph g (l .i) h r ∙ sym (c .before .before .before .before .before .before .instruction-at .ensures) in
     let t = l .inv .1 ∙ turn (checkRecord (graphOf g)) (graphOf g) (l .i) r (omega (arith, length-graph g)) e (sym (c .before .before .before .before .«record» .ensures)) in
     let p = c .before .before .enum-told .given .1 in

@@ -1,4 +1,4 @@
--- `text::line::put_decimal`, which calls itself, meets its contract. The measure is the number: its tenth is below it. Assumes nothing.
+-- `text::line::+put_decimal`, which calls itself, meets its contract. The measure is the number: its tenth is below it. Assumes nothing.
 use Prim.Native.Nat.{ℕ, _<_, _≤_}
 use borrow.Author.Needs.{needs}
 use native.Mathlib.Omega.{arith}

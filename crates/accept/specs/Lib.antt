@@ -1,2 +1,0 @@
--- The definitions of an accepted run's start. Assumes nothing.
-pub mod Accept

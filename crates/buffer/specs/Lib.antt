@@ -1,0 +1,2 @@
+-- Records of one width in a buffer. Assumes nothing.
+pub mod Rows

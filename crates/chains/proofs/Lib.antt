@@ -1,5 +1,0 @@
--- The laws of chains of tokens. Assumes nothing.
-pub mod Search
-pub mod Chains
-pub mod Index
-pub mod Deferred

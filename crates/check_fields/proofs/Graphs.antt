@@ -1,0 +1,76 @@
+-- The records of a graph's bytes as the list of its instructions. Assumes nothing.
+use Prim.Native.Nat.{ℕ, zero, suc, _*_, _/_, _≤_, _<_}
+use native.Mathlib.Omega.{arith}
+use native.Mathlib.Nat.{add-zero}
+use mathlib.Core.Path.{_≡_, refl, ap, _∙_}
+use mathlib.Core.List.{List, [], _∷_}
+use mathlib.Core.Bool.{cond}
+use lib.Dec.{eqb}
+use lib.ListN.{length, getD, List·getD-eq-default}
+use lib.Seq.{getD-drop}
+use Rattle.record.specs.declared.instruction.Destination.{Destination}
+use Rattle.record.specs.declared.instruction.Instruction.{Instruction}
+use Rattle.record.specs.GraphRecords.{decode, graphOf, instructionIn, inUse, rowOf, operandsOf}
+use Rattle.buffer.proofs.Tables.{length-rows, getD-rows}
+use Rattle.record.specs.TokensAndTags.{rootOf}
+use Rattle.record.specs.Widths.{graphWidth}
+use Rattle.rules.specs.Check.{instructionAt, operandsAt}
+use Rattle.rules.specs.InstructionSet.{arityIn}
+
+pub length-graph : (l : List ℕ) → length (graphOf l) ≡ length l / graphWidth
+length-graph l = length-rows graphWidth decode (length l / graphWidth) l
+
+module _ (l : List ℕ) (i : ℕ) where
+  module _ (h : i < length l / graphWidth) where
+    -- whatever stands past the graph
+    pub in-graph : (d : Instruction) → getD (graphOf l) i d ≡ instructionIn l i
+    in-graph d = getD-rows graphWidth decode (length l / graphWidth) i l d h
+
+    pub at-graph : instructionAt (graphOf l) i ≡ instructionIn l i
+    unfolding instructionAt
+    at-graph = in-graph (decode [])
+
+    pub code-at : instructionAt (graphOf l) i .code ≡ getD l (i * graphWidth) 0
+    unfolding decode
+    code-at = ap (λ (r : Instruction). r .code) at-graph ∙ getD-drop (i * graphWidth) l 0 0 ∙ rw (add-zero (i * graphWidth))
+
+  module _ (h : length l / graphWidth ≤ i) where
+    pub past-graph : instructionAt (graphOf l) i ≡ decode []
+    unfolding instructionAt
+    past-graph = List·getD-eq-default (graphOf l) (decode []) (omega (arith, length-graph l))
+
+    pub code-past : instructionAt (graphOf l) i .code ≡ 0
+    unfolding decode
+    code-past = ap (λ (r : Instruction). r .code) past-graph
+
+  pub operands-in : i < length l / graphWidth → operandsAt (graphOf l) i ≡ operandsOf (getD l (i * graphWidth) 0)
+  unfolding operandsAt
+  operands-in h = ap (λ (c : ℕ). operandsOf c) (code-at h)
+
+  pub operands-past : length l / graphWidth ≤ i → operandsAt (graphOf l) i ≡ 0
+  unfolding operandsAt rowOf
+  operands-past h = ap (λ (c : ℕ). operandsOf c) (code-past h)
+
+-- a fan-out past 1 has both destinations in use
+pub both-in-use : (n : ℕ) (d e : Destination) → (n ≡ 0 → ⊥) → (n ≡ 1 → ⊥) → inUse n d e ≡ d ∷ e ∷ []
+both-in-use zero d e h k = absurd (h refl)
+both-in-use (suc zero) d e h k = absurd (k refl)
+both-in-use (suc (suc n)) d e h k = refl
+
+pub one-up : (n : ℕ) → (n ≡ 0 → ⊥) → 1 ≤ n
+one-up n h = omega arith
+
+-- what an activity waits for, by its instruction's code
+module _ (l : List ℕ) (i : ℕ) where
+  pub arity-in : i < length l / graphWidth → arityIn (graphOf l) (rootOf i) ≡ cond (eqb (getD l (i * graphWidth) 0) 3) 0 (operandsOf (getD l (i * graphWidth) 0))
+  unfolding arityIn
+  arity-in h = ap (λ (c : ℕ). cond (eqb c 3) 0 (operandsOf c)) (code-at l i h)
+
+  pub arity-past : length l / graphWidth ≤ i → arityIn (graphOf l) (rootOf i) ≡ 0
+  unfolding arityIn rowOf
+  arity-past h = ap (λ (c : ℕ). cond (eqb c 3) 0 (operandsOf c)) (code-past l i h)
+
+-- an instruction past any graph has no operands
+pub past : (g : List Instruction) (i : ℕ) → length g ≤ i → operandsAt g i ≡ 0
+unfolding operandsAt instructionAt decode rowOf
+past g i h = ap (λ (r : Instruction). operandsOf (r .code)) (List·getD-eq-default g (decode []) h)

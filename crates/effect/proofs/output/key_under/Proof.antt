@@ -1,9 +1,0 @@
--- `effect::output::key_under` meets its contract. Assumes nothing.
-use borrow.Author.Needs.{needs}
-use Rattle.effect.proofs.output.key_under.Statement.{statement}
-use Rattle.effect.proofs.output.key_under.Tie as tie
-
-pub key-under-spec : {M : Type 1} → statement M
-key-under-spec = tie.close (tie.spec
-    (λ c κs. search needs)
-    (λ c. rw (c .to .ensures)))

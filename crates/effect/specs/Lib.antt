@@ -1,2 +1,0 @@
--- The definitions of what an instruction asks for. Assumes nothing.
-pub mod Held

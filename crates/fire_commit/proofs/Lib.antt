@@ -1,0 +1,3 @@
+-- The proofs of what comes of an effect. Assumes nothing.
+pub mod AsMachine
+pub mod Laws

@@ -1,0 +1,35 @@
+-- `fire_effect::operate::leave` meets its contract. Assumes nothing.
+use mathlib.Core.Path.{sym, ap, _∙_}
+use mir.Facts.{toZ-ofZ}
+use native.Mathlib.Omega.{arith}
+use lib.IntN.{natAbs}
+use mir.Syntax.{w32}
+use mir.Val.{SFits}
+use denote.Ref.{now}
+use Rattle.record.specs.GraphRecords.{graphOf}
+use Rattle.rules.specs.InstructionSet.{sendLeft, returnOf}
+use Rattle.fire_effect.proofs.Does.{refused}
+use borrow.Author.Needs.{needs}
+use Rattle.fire_effect.proofs.operate.leave.Statement.{statement}
+use Rattle.fire_effect.proofs.operate.leave.Tie as tie
+
+pub leave-spec : {M : Type 1} → statement M
+unfolding sendLeft
+leave-spec = tie.close (tie.spec
+    (λ c κs. search needs)
+    (λ c κs. search needs)
+    (λ c. search needs)
+    (λ c. search needs)
+    (λ c. rw (sym (c .before .before .leave .ensures) ∙ c .enum-told .given .1) (refused _))
+    (λ c. search needs)
+    (λ c. search needs)
+    (λ c. search needs)
+    (λ c κs. search needs)
+    (λ c.
+    let s = c .before .before .before .before .before .before .before .before .before in
+    let site = c .before .before .before .site .given .0 .0 in
+    let fits : SFits w32 (s .args .r .constant) = record { sfits = c .before .before .before .before .before .before .before .struct-told .given .1 .1 .1 .1 .0 .1 } in
+    let k = c .before .before .before .before .before .before .byte .ensures ∙ ap natAbs (toZ-ofZ fits) in
+    let entry = s .pre .1 .0 site (omega (arith, c .before .before .known-told .given)) in
+    rw (sym (c .before .before .before .before .before .leave .ensures) ∙ c .before .before .before .site .given .1, ← k)
+    (rw (toZ-ofZ (s .fits .a)) at (c .returned .ensures (returnOf site (graphOf (now (s .args .graph)))) entry))))

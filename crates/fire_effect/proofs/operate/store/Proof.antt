@@ -1,0 +1,23 @@
+-- `fire_effect::operate::store` meets its contract. Assumes nothing.
+use mathlib.Core.Path.{_≡_, sym, _∙_}
+use mir.Facts.{toZ-ofZ}
+use Rattle.fire_effect.specs.Effects.{namedOf}
+use Rattle.fire_effect.proofs.Does.{written, refused, on-cell, on-no-cell}
+use borrow.Author.Needs.{needs}
+use Rattle.fire_effect.proofs.operate.store.Statement.{statement}
+use Rattle.fire_effect.proofs.operate.store.Tie as tie
+
+-- what cell_of gave, at the operand itself
+gave : (c : tie.After-cell-of) → c .cell-of .result ≡ namedOf (c .before .args .cells) (c .before .args .a)
+gave c = rw (toZ-ofZ (c .before .fits .a)) at (c .cell-of .ensures)
+
+pub store-spec : {M : Type 1} → statement M
+store-spec = tie.close (tie.spec
+    (λ c κs. search needs)
+    (λ c. search needs)
+    (λ c. search needs)
+    (λ c. rw (on-no-cell _ _ _ (sym (c .enum-told .given .1) ∙ gave (c .before .before))) (refused _))
+    (λ c κs. search needs)
+    (λ c.
+    let s = c .before .before .before .before .before in
+    rw (on-cell _ _ _ (sym (c .before .before .c .given .1) ∙ gave (c .before .before .before .before))) (written (toZ-ofZ (s .fits .b)) (c .under .ensures))))

@@ -1,0 +1,2 @@
+-- The definitions of what an instruction asks for. Assumes nothing.
+pub mod Effects

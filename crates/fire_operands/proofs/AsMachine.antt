@@ -1,0 +1,256 @@
+-- The machine's operands of a tag are the values of the matched token records, whose places are given; and the machine's tests of the outputs of a
+-- firing are those of the records. Assumes nothing.
+use Prim.Native.Nat.{ℕ, zero, suc, _+_, _<_, _≤_}
+use mathlib.Core.Path.{_≡_, refl, sym, ap, _∙_}
+use mathlib.Core.Bool.{Bool, true, false, _||_, cond}
+use mathlib.Core.List.{List, [], _∷_, _++_, map}
+use mathlib.Core.Logic.{_⊎_, inl, inr}
+use mathlib.Core.Option.{Option, none, some}
+use native.Mathlib.Omega.{arith}
+use lib.Dec.{eqb, ltb}
+use lib.IntN.{ℤ}
+use lib.ListN.{length, getD, length-map}
+use Rattle.record.specs.declared.tag.Tag.{Tag}
+use Rattle.record.specs.declared.token.Token as Record
+use Rattle.record.specs.declared.token.Content as RecordContent
+use Rattle.record.specs.declared.token.Content.the-variants.{Live, Spent, Deferred}
+use Rattle.record.specs.declared.cell.Cell as RecordCell
+use Rattle.record.specs.declared.instruction.Instruction.{Instruction}
+use Rattle.record.specs.TokensAndTags.{standsAt}
+use Rattle.machine.specs.Machine.{Machine, Content, Cell, Fired, fired, notFired, Operands, when, liveValue, isThere, output, allBelow, twoValues, sameKey, look, operands, liveAt, among, taken, anyTaken, exceeds, admit, Ledger}
+use Rattle.machine.proofs.View.{when-yes, when-no}
+use Rattle.rules.specs.declared.answer.Refusal.{Refusal}
+use Rattle.rules.specs.declared.answer.Refusal.the-variants.{LedgerFull, SecondToken}
+use Rattle.rules.specs.InstructionSet.{arityIn, machineOf}
+use Rattle.rules.specs.Run.{contentHeld, tokenHeld}
+use Rattle.store_chains.specs.declared.Found.{Found}
+use Rattle.store_chains.specs.declared.Found.the-variants.{At, Nothing}
+use Rattle.store_chains.specs.Search.{firstFrom}
+use Rattle.abstraction.specs.States.{noToken, stateHeld}
+use Rattle.abstraction.proofs.Keys.{stands, not-stands, search-at, foundContent, held-find}
+use Rattle.fire_effect.specs.declared.output.Key.{Key}
+use Rattle.fire_effect.specs.declared.output.Outputs.{Outputs}
+use Rattle.fire_effect.specs.Effects.{keyHeld, keysHeld, keysOf}
+use Rattle.fire_operands.specs.declared.Operand.{Operand}
+use Rattle.fire_operands.specs.declared.Operand.the-variants as Operand
+use Rattle.fire_operands.specs.declared.Matched.{Matched}
+use Rattle.fire_operands.specs.declared.Matched.the-variants.{Both, Missing}
+use Rattle.fire_operands.specs.declared.Admitted.{Admitted}
+use Rattle.fire_operands.specs.declared.Admitted.the-variants.{Yes, No}
+use Rattle.fire_operands.specs.Operands.{operandOf, operandFound, operandAt, one, two, matchedAt, isFound, isTaken, sameKeys, anyTakenOf, admittedOf}
+
+-- ---- the operands of a tag, as values
+
+abbrev valueOf : Operand → Option ℤ
+valueOf (Operand.Live i v) = some v
+valueOf Operand.Missing = none
+
+abbrev pub valuesOf : Matched → Option (Operands ℤ)
+valuesOf (Both i j v w) = some (record { left = v; right = w })
+valuesOf Missing = none
+
+content-value : (i : ℕ) (x : RecordContent.Content) → liveValue (some (contentHeld x)) ≡ valueOf (operandOf i x)
+unfolding operandOf
+content-value i (Live v) = refl
+content-value i (Spent v) = refl
+content-value i (Deferred c) = refl
+
+found-value : (ts : List Record.Token) (f : Found) → liveValue (foundContent noToken ts f) ≡ valueOf (operandFound ts f)
+unfolding operandFound
+found-value ts (At i) = content-value i (getD ts i noToken .content)
+found-value ts Nothing = refl
+
+-- what the machine makes of the values at the ports below n
+abbrev chosen : (n : ℕ) → (value : ℕ → Option ℤ) → Option (Operands ℤ)
+chosen n value = cond (allBelow value n) (twoValues n (value 0) (value 1)) none
+
+module _ (value : ℕ → Option ℤ) where
+  one-value : (o : Operand) → value 0 ≡ valueOf o → chosen 1 value ≡ valuesOf (one o)
+  unfolding one
+  one-value (Operand.Live i v) e = rw e
+  one-value Operand.Missing e = rw e
+
+  two-values : (o p : Operand) → value 0 ≡ valueOf o → value 1 ≡ valueOf p → chosen 2 value ≡ valuesOf (two o p)
+  unfolding two
+  two-values (Operand.Live i v) (Operand.Live j w) e f = rw (e, f)
+  two-values (Operand.Live i v) Operand.Missing e f = rw (e, f)
+  two-values Operand.Missing (Operand.Live j w) e f = rw (e, f)
+  two-values Operand.Missing Operand.Missing e f = rw (e, f)
+
+  values : (ts : List Record.Token) (tag : Tag) (n : ℕ) → n ≤ 2 → value 0 ≡ valueOf (operandAt ts tag 0) → value 1 ≡ valueOf (operandAt ts tag 1)
+      → chosen n value ≡ valuesOf (matchedAt n ts tag)
+  unfolding matchedAt
+  values ts tag zero h e f = refl
+  values ts tag (suc zero) h e f = one-value (operandAt ts tag 0) e
+  values ts tag (suc (suc zero)) h e f = two-values (operandAt ts tag 0) (operandAt ts tag 1) e f
+  values ts tag (suc (suc (suc n))) h e f = absurd (omega arith)
+
+-- ---- the places of the operands
+
+-- the token at place i is the first at port 0 of the tag, and live with the value v; the token at place j is that at port 1, live with w, or, where
+-- one operand is waited for, the same
+pub record Places (n : ℕ) (ts : List Record.Token) (tag : Tag) (i j : ℕ) (v w : ℤ) : Type 0 where
+  pub firstWithin : i < length ts
+  pub secondWithin : j < length ts
+  pub firstFound : firstFrom (standsAt tag 0) 0 ts ≡ At i
+  pub secondFound : ((n ≡ 1) × (j ≡ i)) ⊎ ((n ≡ 2) × (firstFrom (standsAt tag 1) 0 ts ≡ At j))
+  pub left : getD ts i noToken .content ≡ Live v
+  pub right : getD ts j noToken .content ≡ Live w
+
+-- the same of one port
+record Place (port : ℕ) (ts : List Record.Token) (tag : Tag) (i : ℕ) (v : ℤ) : Type 0 where
+  within : i < length ts
+  found : firstFrom (standsAt tag port) 0 ts ≡ At i
+  value : getD ts i noToken .content ≡ Live v
+
+module _ (ts : List Record.Token) (tag : Tag) where
+  operand-place : (port : ℕ) {i : ℕ} {v : ℤ} → operandAt ts tag port ≡ Operand.Live i v → Place port ts tag i v
+  unfolding operandAt operandFound operandOf
+  operand-place port {i} {v} h = go (firstFrom (standsAt tag port) 0 ts) refl h
+    where
+      at : (k : ℕ) → firstFrom (standsAt tag port) 0 ts ≡ At k → (x : RecordContent.Content) → getD ts k noToken .content ≡ x
+          → operandOf k x ≡ Operand.Live i v → Place port ts tag i v
+      at k e (Live u) c q =
+          let p : k ≡ i = cc in
+          let f : firstFrom (standsAt tag port) 0 ts ≡ At i = e ∙ ap At p in
+          record {
+            within = search-at (standsAt tag port) noToken i ts f .within;
+            found = f;
+            value = ap (λ (m : ℕ). getD ts m noToken .content) (sym p) ∙ c ∙ (let r : u ≡ v = cc in ap Live r);
+          }
+      at k e (Spent u) c q = absurd (let z : _≡_ {A = ℕ} 0 1 = cc in omega arith)
+      at k e (Deferred u) c q = absurd (let z : _≡_ {A = ℕ} 0 1 = cc in omega arith)
+
+      go : (f : Found) → firstFrom (standsAt tag port) 0 ts ≡ f → operandFound ts f ≡ Operand.Live i v → Place port ts tag i v
+      go (At k) e q = at k e (getD ts k noToken .content) refl q
+      go Nothing e q = absurd (let z : _≡_ {A = ℕ} 0 1 = cc in omega arith)
+
+  one-place : {i j : ℕ} {v w : ℤ} (o : Operand) → operandAt ts tag 0 ≡ o → one o ≡ Both i j v w → Places 1 ts tag i j v w
+  unfolding one
+  one-place {i} {j} {v} {w} (Operand.Live k u) e q =
+      let a : Operand.Live k u ≡ Operand.Live i v = cc in
+      let p = operand-place 0 (e ∙ a) in
+      let s : j ≡ i = cc in
+      let x : v ≡ w = cc in
+      record {
+        firstWithin = p .within;
+        secondWithin = rw s (p .within);
+        firstFound = p .found;
+        secondFound = inl (refl, s);
+        left = p .value;
+        right = rw s (p .value ∙ ap Live x);
+      }
+  one-place Operand.Missing e q = absurd (let z : _≡_ {A = ℕ} 0 1 = cc in omega arith)
+
+  two-places : {i j : ℕ} {v w : ℤ} (o p : Operand) → operandAt ts tag 0 ≡ o → operandAt ts tag 1 ≡ p → two o p ≡ Both i j v w → Places 2 ts tag i j v w
+  unfolding two
+  two-places {i} {j} {v} {w} (Operand.Live k u) (Operand.Live l x) e f q =
+      let a : Operand.Live k u ≡ Operand.Live i v = cc in
+      let b : Operand.Live l x ≡ Operand.Live j w = cc in
+      let p = operand-place 0 (e ∙ a) in
+      let r = operand-place 1 (f ∙ b) in
+      record {
+        firstWithin = p .within;
+        secondWithin = r .within;
+        firstFound = p .found;
+        secondFound = inr (refl, r .found);
+        left = p .value;
+        right = r .value;
+      }
+  two-places (Operand.Live k u) Operand.Missing e f q = absurd (let z : _≡_ {A = ℕ} 0 1 = cc in omega arith)
+  two-places Operand.Missing p e f q = absurd (let z : _≡_ {A = ℕ} 0 1 = cc in omega arith)
+
+  pub matched-places : (n : ℕ) {i j : ℕ} {v w : ℤ} → n ≤ 2 → matchedAt n ts tag ≡ Both i j v w → Places n ts tag i j v w
+  unfolding matchedAt
+  matched-places zero h q = absurd (let z : _≡_ {A = ℕ} 0 1 = cc in omega arith)
+  matched-places (suc zero) h q = one-place (operandAt ts tag 0) refl q
+  matched-places (suc (suc zero)) h q = two-places (operandAt ts tag 0) (operandAt ts tag 1) refl refl q
+  matched-places (suc (suc (suc n))) h q = absurd (omega arith)
+
+-- ---- the outputs
+
+-- what becomes of a firing
+abbrev pub byAdmitted : Admitted → Fired Refusal Tag ℤ → Fired Refusal Tag ℤ
+byAdmitted Yes f = f
+byAdmitted (No r) f = notFired r
+
+by-tests : (a b : Bool) (f : Fired Refusal Tag ℤ)
+    → cond a (notFired LedgerFull) (cond b (notFired SecondToken) f) ≡ byAdmitted (cond a (No LedgerFull) (cond b (No SecondToken) Yes)) f
+by-tests true b f = refl
+by-tests false true f = refl
+by-tests false false f = refl
+
+keys-count : (n : ℕ) (j k : Key) → n ≤ 2 → length (keysHeld n j k) ≡ n
+keys-count zero j k h = refl
+keys-count (suc zero) j k h = refl
+keys-count (suc (suc zero)) j k h = refl
+keys-count (suc (suc (suc n))) j k h = absurd (omega arith)
+
+found-there : (ts : List Record.Token) (f : Found) → isThere (foundContent noToken ts f) ≡ isFound f
+found-there ts (At i) = refl
+found-there ts Nothing = refl
+
+or-one : (a : Bool) → (a || false || false) ≡ cond a true false
+or-one true = refl
+or-one false = refl
+
+or-two : (a b c : Bool) → (a || b || (c || false || false)) ≡ cond a true (cond b true c)
+or-two true b c = refl
+or-two false true c = refl
+or-two false false true = refl
+or-two false false false = refl
+
+-- a token with this key
+keyed : Key → Record.Token
+keyed k = record { tag = k .tag; port = k .port; content = Deferred 0 }
+
+-- ---- the machine and the records
+
+module _ (g : List Instruction) (capacity cells : ℕ) (ts : List Record.Token) (cs : List RecordCell.Cell) where
+  abbrev M : Machine
+  M = machineOf g capacity cells
+
+  held-value : (tag : Tag) (port : ℕ) → liveAt M (look M (stateHeld ts cs)) tag port ≡ valueOf (operandAt ts tag port)
+  unfolding operandAt
+  held-value tag port = rw (held-find g capacity cells tag port noToken ts) (found-value ts (firstFrom (standsAt tag port) 0 ts))
+
+  pub held-operands : (tag : Tag) → arityIn g tag ≤ 2 → operands M (look M (stateHeld ts cs)) tag ≡ valuesOf (matchedAt (arityIn g tag) ts tag)
+  held-operands tag h = values (liveAt M (look M (stateHeld ts cs)) tag) ts tag (arityIn g tag) h (held-value tag 0) (held-value tag 1)
+
+  pub held-taken : (k : Key) → taken M (keyHeld k) (map tokenHeld ts) ≡ isTaken ts k
+  unfolding isTaken
+  held-taken k = rw (held-find g capacity cells (k .tag) (k .port) noToken ts) (found-there ts (firstFrom (standsAt (k .tag) (k .port)) 0 ts))
+
+  held-among : (j k : Key) → among M (keyHeld j) (keyHeld k ∷ []) ≡ sameKeys j k
+  unfolding sameKeys standsAt keyed
+  held-among j k = go (sameKeys j k) refl
+    where
+      go : (b : Bool) → sameKeys j k ≡ b → when (sameKey M (keyHeld j) (keyHeld k)) true false ≡ b
+      go true e = when-yes (sameKey M (keyHeld j) (keyHeld k)) true false (stands (k .tag) (k .port) (keyed j) e)
+      go false e = when-no (sameKey M (keyHeld j) (keyHeld k)) true false (not-stands (k .tag) (k .port) (keyed j) e)
+
+  -- refusal 8
+  pub held-exceeds : (o : Outputs) → o .count ≤ 2 → exceeds M (map tokenHeld ts) (keysOf o) ≡ ltb capacity (length ts + o .count)
+  held-exceeds o h = rw (length-map ts tokenHeld, keys-count (o .count) (o .first) (o .second) h)
+
+  -- refusal 9
+  pub held-any-taken : (o : Outputs) → o .count ≤ 2 → anyTaken M (map tokenHeld ts) (keysOf o) ≡ anyTakenOf ts o
+  unfolding anyTakenOf
+  held-any-taken o h = go (o .count) h
+    where
+      go : (n : ℕ) → n ≤ 2 → anyTaken M (map tokenHeld ts) (keysHeld n (o .first) (o .second))
+          ≡ cond (eqb n 0) false
+          (cond (isTaken ts (o .first)) true (cond (eqb n 1) false (cond (sameKeys (o .first) (o .second)) true (isTaken ts (o .second)))))
+      go zero h = refl
+      go (suc zero) h = rw (held-taken (o .first)) (or-one (isTaken ts (o .first)))
+      go (suc (suc zero)) h =
+          rw (held-taken (o .first), held-among (o .first) (o .second), held-taken (o .second))
+          (or-two (isTaken ts (o .first)) (sameKeys (o .first) (o .second)) (isTaken ts (o .second)))
+      go (suc (suc (suc n))) h = absurd (omega arith)
+
+  pub held-admitted : (o : Outputs) → o .count ≤ 2 → (left : Ledger M) (cells′ : List (Cell ℤ)) (x : Content ℤ)
+      → admit M (stateHeld ts cs) left cells′ x (keysOf o)
+      ≡ byAdmitted (admittedOf capacity ts o) (fired (record { tokens = left ++ map (output x) (keysOf o); cells = cells′ }))
+  unfolding admit admittedOf
+  held-admitted o h left cells′ x =
+      rw (held-exceeds o h, held-any-taken o h) (by-tests (ltb capacity (length ts + o .count)) (anyTakenOf ts o) _)

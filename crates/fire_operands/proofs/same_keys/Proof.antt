@@ -1,0 +1,13 @@
+-- `fire_operands::same_keys` meets its contract. Assumes nothing.
+use borrow.Author.Needs.{needs}
+use borrow.Author.Tests.{eq-eqb, ne-eqb}
+use Rattle.fire_operands.specs.Operands.{sameKeys}
+use Rattle.fire_operands.proofs.same_keys.Statement.{statement}
+use Rattle.fire_operands.proofs.same_keys.Tie as tie
+
+pub same-keys-spec : {M : Type 1} → statement M
+unfolding sameKeys
+same-keys-spec = tie.close (tie.spec
+    (λ c κs. search needs)
+    (λ c. rw (eq-eqb _ _ (c .before .if1 .taken)) (c .same .ensures))
+    (λ c. rw (ne-eqb _ _ (c .if1 .left))))

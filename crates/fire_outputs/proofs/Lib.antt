@@ -1,0 +1,4 @@
+-- The proofs of what a firing writes. Assumes nothing.
+pub mod Laws
+pub mod AsMachine
+pub mod Spent

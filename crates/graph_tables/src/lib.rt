@@ -1,0 +1,83 @@
+// Two tables of a graph in one array, by which a run need not look through it: returns by site in the first half, operand
+// counts by instruction in the second.
+use check_fields::constant;
+use record::instruction;
+use record::instruction::Instruction;
+use record::operation;
+ghost use mathlib.Core.Path.{_≡_};
+ghost use Prim.Native.Nat.{_<_};
+ghost use lib.ListN.{length};
+ghost use mathlib.Core.Option.{some};
+ghost use Rattle.record.specs.GraphRecords.{graphOf};
+ghost use Rattle.record.specs.TokensAndTags.{rootOf};
+ghost use Rattle.rules.specs.InstructionSet.{arityIn};
+ghost use Rattle.check_fields.specs.Sites.{atSite};
+ghost use Rattle.rules.specs.declared.answer.Checked.the-variants.{Passed};
+ghost use Rattle.rules.specs.Check.{checkGraph};
+ghost use Rattle.abstraction.specs.Tables.{Arities, Returns, entryOf};
+
+// How many operands an activity of instruction i waits for.
+fn arity_at(graph: &[u8], i: usize) -> u16
+    ensures { λ r. ⌜ r ≡ arityIn (graphOf (now (graph .entry))) (rootOf i) ⌝ }
+{
+    if i < graph.len() / instruction::WIDTH {
+        let code = graph[i * instruction::WIDTH];
+        if code == 3 {
+            0
+        } else {
+            operation::operands(code) as u16
+        }
+    } else {
+        0
+    }
+}
+
+// The operand counts, behind the returns.
+fn arities(graph: &[u8], out: &mut [u16; 512])
+    requires { ⌜ (checkGraph (now graph) ≡ Passed) × (length (now out) ≡ 512) ⌝ }
+    ensures { λ _. ⌜ Arities (graphOf (now (graph .entry))) (now (out .exit)) ⌝ }
+    ensures { λ _. ⌜ (Returns (graphOf (now (graph .entry))) (now (out .entry)) → Returns (graphOf (now (graph .entry))) (now (out .exit))) ⌝ }
+{
+    let mut i = 0;
+    while i < 256 {
+        out[i + 256] = arity_at(graph, i);
+        i += 1;
+    }
+}
+
+// Puts the return of an ENTER into the table.
+fn note(out: &mut [u16; 512], r: Instruction)
+    requires { ⌜ (r .code ≡ 8 → r .second .instruction < 256) ⌝ }
+    ensures { λ _. ⌜ now (out .exit) ≡ atSite (now (out .entry)) r (entryOf (some (r .second .instruction))) ⌝ }
+{
+    let back = r.second;
+    if r.code != 8 {
+        return;
+    }
+    let site = constant::small(r.constant);
+    if site < 256 {
+        out[site] = back.instruction + 1;
+    }
+}
+
+// The returns. The records are gone through from the last to the first, since the first ENTER of a site counts.
+fn returns(graph: &[u8], out: &mut [u16; 512])
+    requires { ⌜ checkGraph (now graph) ≡ Passed ⌝ }
+    ensures { λ _. ⌜ Returns (graphOf (now (graph .entry))) (now (out .exit)) × (length (now (out .exit)) ≡ 512) ⌝ }
+{
+    *out = [0u16; 512];
+    let mut i = graph.len() / instruction::WIDTH;
+    while 0 < i {
+        i -= 1;
+        note(out, instruction::instruction_at(graph, i));
+    }
+}
+
+// Both tables, of a graph that passed its check.
+pub fn make(graph: &[u8], out: &mut [u16; 512])
+    requires { ⌜ checkGraph (now graph) ≡ Passed ⌝ }
+    ensures { λ _. ⌜ Arities (graphOf (now (graph .entry))) (now (out .exit)) × Returns (graphOf (now (graph .entry))) (now (out .exit)) ⌝ }
+{
+    returns(graph, out);
+    arities(graph, out);
+}

@@ -1,2 +1,0 @@
--- The definitions of records as tokens and cells of the machine. Assumes nothing.
-pub mod Held

@@ -1,0 +1,38 @@
+-- What holds once the inputs are in the ledger, and the picks as a list that is used up from its front. Assumes nothing.
+use Prim.Native.Nat.{ℕ, _*_, _/_, _<_}
+use mathlib.Core.Path.{_≡_}
+use mathlib.Core.List.{List, [], _∷_}
+use lib.ListN.{length, take, drop}
+use Rattle.buffer.specs.Rows.{allRows}
+use Rattle.record.specs.TokensAndTags.{tokens, tokenAt, decode}
+use Rattle.record.specs.declared.token.Token.{Token}
+use Rattle.record.specs.Widths.{tokenWidth}
+use Rattle.store_chains.specs.Search.{Free}
+use Rattle.store_chains.specs.Deferred.{LowCell}
+use Rattle.store.specs.Matching.{Matching}
+
+-- what the matching store asks of a token that arrives
+abbrev pub Proper : Token → Type 0
+Proper t = (t .port < 2) × LowCell (t .content)
+
+-- none of the inputs before it stands where an input does, which refusal 9 is for
+abbrev pub Alone : (inputs : List ℕ) → Type 0
+Alone inputs = (i : ℕ) → i < length inputs / tokenWidth → Free (take i (allRows tokenWidth decode inputs)) (tokenAt inputs i .tag) (tokenAt inputs i .port)
+
+-- 01, "Firing": "An accepted run first .. writes its inputs to the ledger": `ledger` is as lent, `ledger′` has the r inputs
+pub record Loaded (tables links flags ledger ledger′ inputs : List ℕ) (r : ℕ) : Type 0 where
+  pub all : r ≡ length inputs / tokenWidth
+  pub matching : Matching tables links flags ledger′ r
+  pub taken : tokens r ledger′ ≡ allRows tokenWidth decode inputs
+  pub size : length ledger′ ≡ length ledger
+  -- 01, "Tokens and tags": "bytes past what is written stay as lent"
+  pub rest : drop (r * tokenWidth) ledger′ ≡ drop (r * tokenWidth) ledger
+
+-- 01, "Firing": "Once picks run out, the first is taken", which is pick 0
+abbrev pub headOr0 : List ℕ → ℕ
+headOr0 [] = 0
+headOr0 (x ∷ xs) = x
+
+abbrev pub tailOf : List ℕ → List ℕ
+tailOf [] = []
+tailOf (x ∷ xs) = xs

@@ -1,0 +1,87 @@
+-- `store::wake` meets its contract. The loop's invariant: the tokens of the cell's chain from `at` back are as they were, and those past it
+-- are woken. The measure is `at`, since a chain goes back. Assumes nothing.
+use Prim.Native.Nat.{_+_, _-_, _≤_, _<_}
+use mathlib.Core.Path.{_≡_, _∙_}
+use native.Mathlib.Omega.{arith}
+use mir.Facts.{toZ-ofZ}
+use mir.Syntax.{w32}
+use mir.Val.{toZ, ofZ}
+use borrow.Author.Needs.{needs}
+use lib.ListN.{getD}
+use Rattle.record.specs.TokensAndTags.{tokenAt}
+use Rattle.store_chains.specs.Deferred as Deferred
+use Rattle.store.proofs.Changes.{woken-live, Waking, waking-start, waking-low, waking-step, waking-tokens, waking-ledger, waking-end}
+use Rattle.store.proofs.wake.Statement.{statement}
+use Rattle.store.proofs.wake.Tie as tie
+
+abbrev Inv-loop : tie.InvT-loop
+Inv-loop tables links flags₀ ledger₀ used cell v head at₀ flags ledger at =
+    Waking cell (toZ w32 v) tables links ledger₀ used flags ledger at
+
+abbrev μ-loop : tie.MeasureT-loop
+μ-loop tables links flags₀ ledger₀ used cell v head at₀ flags ledger at = at
+
+low : (c : tie.At-loop Inv-loop μ-loop) → c .loop .at ≤ c .before .before .before .before .args .used
+low c =
+    let s = c .before .before .before .before in
+    let a = s .args in
+    let l = c .loop in
+    waking-low (a .cell) (toZ w32 (ofZ w32 (a .v))) (a .tables .now) (a .links .now) (a .flags .now) (a .ledger .now) (a .used) (s .pre .0) (s .pre .1) (l .flags) (l .ledger) (l .at) (l .inv)
+
+stepped : (c : tie.After-change Inv-loop μ-loop) → let a = c .before .before .before .before .before .before .before .before .before .before .before .before .args in
+    let l = c .before .before .before .before .before .before .before .before .loop in
+    let n = getD (a .links .now) (l .at - 1 + 7168) 0 in
+    (n < l .at) × Waking (a .cell) (toZ w32 (ofZ w32 (a .v))) (a .tables .now) (a .links .now) (a .ledger .now) (a .used) (c .change .last .1 .1 .0) (c .change .last .1 .1 .1 .0) n
+stepped c =
+    let s = c .before .before .before .before .before .before .before .before .before .before .before .before in
+    let a = s .args in
+    let l = c .before .before .before .before .before .before .before .before .loop in
+    let p = c .change in
+    let z = toZ w32 (ofZ w32 (a .v)) in
+    let e : c .before .before .before .before .woken .result ≡ Deferred.woken (a .cell) z (tokenAt (l .ledger) (l .at - 1)) = c .before .before .before .before .woken .ensures ∙ rw (c .before .before .before .before .before .token-at .ensures) in
+    waking-step (a .cell) z (a .tables .now) (a .links .now) (a .flags .now) (a .ledger .now) (a .used) (s .pre .0) (s .pre .1) (l .flags) (l .ledger) (l .at) (l .inv) (c .before .before .before .before .before .before .before .loop-test .taken)
+    (p .last .1 .1 .0) (p .last .1 .1 .1 .0) (omega (arith, p .kept .1 .1 .1 .0)) (rw e at (p .ensures .0)) (rw e at (p .ensures .1 .0)) (p .ensures .1 .1)
+
+pub wake-spec : {M : Type 1} → statement M
+wake-spec = tie.close (tie.spec
+    Inv-loop
+    μ-loop
+    (λ c. search needs)
+    (λ c. search needs)
+    (λ c. omega (arith, c .before .pre .1))
+    (λ c κs. search needs)
+    (λ c.
+    let s = c .before .before .before in
+    let a = s .args in
+    rw (c .wide .ensures)
+    (waking-start (a .cell) (toZ w32 (ofZ w32 (a .v))) (a .tables .now) (a .links .now) (a .flags .now) (a .ledger .now) (a .used) (s .pre .0) (s .pre .1)))
+    (λ c. search needs)
+    (λ c κs. omega (arith, low (c .before .before), c .before .loop-test .taken, c .before .before .loop .inv .store .known .room))
+    (λ c κs. search needs)
+    (λ c κs.
+    let a = c .before .before .before .before .before .before .before .before .before .before .before .args in
+    let l = c .before .before .before .before .before .before .before .loop in
+    let e = c .before .before .before .woken .ensures in
+    let t = c .before .before .before .before .token-at .ensures in
+    (l .inv .store, omega (arith, low (c .before .before .before .before .before .before .before), c .before .before .before .before .before .before .loop-test .taken), rw (e, t), rw (e, t), rw (e, t) (woken-live (a .cell) (toZ w32 (ofZ w32 (a .v))) (tokenAt (l .ledger) (l .at - 1) .content))))
+    (λ c. search needs)
+    (λ c. search needs)
+    (λ c. omega (arith, c .before .before .before .before .before .before .before .before .before .before .loop .inv .walk .on .small, c .before .before .before .before .before .before .before .before .before .loop-test .taken))
+    (λ c κs. search needs)
+    (λ c. rw (c .wide2 .ensures) (stepped (c .before .before .before .before) .0))
+    (λ c. rw (c .wide2 .ensures) (stepped (c .before .before .before .before) .1))
+    (λ c. search needs)
+    (λ c. omega (arith, c .before .before .before .before .before .pre .1))
+    (λ c. omega (arith, c .before .loop .inv .size))
+    (λ c.
+    let s = c .before .before .before .before .before in
+    let a = s .args in
+    let l = c .before .loop in
+    let z : l .at ≡ 0 = c .loop-test .left in
+    let g : Waking (a .cell) (a .v) (a .tables .now) (a .links .now) (a .ledger .now) (a .used) (l .flags) (l .ledger) 0 = rw (z, toZ-ofZ (s .fits .v)) at (l .inv) in (
+      waking-ledger (a .cell) (a .v) (a .tables .now) (a .links .now) (a .flags .now) (a .ledger .now) (a .used) (s .pre .0) (s .pre .1) (l .flags) (l .ledger) g,
+      (
+        waking-tokens (a .cell) (a .v) (a .tables .now) (a .links .now) (a .flags .now) (a .ledger .now) (a .used) (s .pre .0) (s .pre .1) (l .flags) (l .ledger) g,
+        waking-end (a .cell) (a .v) (a .tables .now) (a .links .now) (a .flags .now) (a .ledger .now) (a .used) (s .pre .0) (s .pre .1) (l .flags) (l .ledger) g,
+      ),
+    )))

@@ -1,0 +1,127 @@
+// The matching store: a ledger, with two arrays beside it. By `links` a token is found by its tag and port, and the tokens
+// deferred on a cell are woken; by `flags` the enabled activities are counted and found by their number; all without a scan
+// of the ledger. `used` is the number of tokens in the ledger, and `tables` those of the graph.
+use record::tag::Tag;
+use record::token;
+use record::token::Content;
+use record::token::Token;
+use store_chains::Found;
+ghost use mathlib.Core.Path.{_≡_};
+ghost use mathlib.Core.List.{List, [], _∷_, _++_, map};
+ghost use Prim.Native.Nat.{ℕ, _+_, _*_, _/_, _<_};
+ghost use lib.ListN.{length, getD, drop};
+ghost use Rattle.buffer.specs.Rows.{putRow, joined};
+ghost use Rattle.record.specs.TokensAndTags.{encode, tokens, standsAt};
+ghost use Rattle.record.specs.Widths.{tokenWidth};
+ghost use Rattle.store_flags.specs.Flags.{places, flagsOf, Counted};
+ghost use Rattle.store_chains.specs.Search.{firstFrom, Within, Free};
+ghost use Rattle.store_chains.specs.Deferred as Deferred;
+ghost use Rattle.store_enabled.specs.Store.{Known, Operands, statesSpent, tokensSpent};
+ghost use Rattle.store.specs.Matching.{Matching};
+
+// The first token that stands at a port of a tag.
+pub fn find(links: &[u16; 9216], ledger: &[u8], used: usize, tag: Tag, port: u8) -> Found
+    requires { ⌜ Known (now links) (now ledger) used ⌝ }
+    ensures { λ r. ⌜ (r ≡ firstFrom (standsAt tag port) 0 (tokens used (now (ledger .entry)))) × Within r used ⌝ }
+{
+    store_chains::find(links, ledger, used, tag, port)
+}
+
+// How many activities are enabled.
+pub fn enabled_count(flags: &[u64; 69]) -> usize
+    requires { ⌜ Counted (now flags) ⌝ }
+    ensures { λ r. ⌜ r ≡ length (places (flagsOf (now (flags .entry)))) ⌝ }
+{
+    store_flags::count(flags)
+}
+
+// The place of enabled activity number k, counted from 0.
+pub fn enabled_at(flags: &[u64; 69], k: usize) -> usize
+    requires { ⌜ Counted (now flags) × (k < length (places (flagsOf (now flags)))) ⌝ }
+    ensures { λ r. ⌜ (r ≡ getD (places (flagsOf (now (flags .entry)))) k 0) × (r < 2048) ⌝ }
+{
+    store_flags::select(flags, k)
+}
+
+// A token arrives where none stands: it becomes record `used`.
+pub fn arrive(
+    tables: &[u16; 512],
+    links: &mut [u16; 9216],
+    flags: &mut [u64; 69],
+    ledger: &mut [u8],
+    used: usize,
+    t: Token,
+)
+    requires { ⌜ Matching (now tables) (now links) (now flags) (now ledger) used × (used < length (now ledger) / tokenWidth) × (used < 2048) × (t .port < 2) × Deferred.LowCell (t .content) × Free (tokens used (now ledger)) (t .tag) (t .port) ⌝ }
+    ensures { λ _. ⌜ now (ledger .exit) ≡ putRow tokenWidth (now (ledger .entry)) used (encode t) ⌝ }
+    ensures { λ _. ⌜ tokens (used + 1) (now (ledger .exit)) ≡ tokens used (now (ledger .entry)) ++ t ∷ [] ⌝ }
+    ensures { λ _. ⌜ Matching (now (tables .entry)) (now (links .exit)) (now (flags .exit)) (now (ledger .exit)) (used + 1) ⌝ }
+{
+    store_enabled::append(tables, links, flags, ledger, used, t);
+}
+
+// The operands of an enabled activity are spent; where one is waited for, both places are its place. They were live, so
+// the chains of deferred tokens stay right.
+pub fn spend_operands(flags: &mut [u64; 69], ledger: &mut [u8], first: usize, second: usize)
+    requires { ⌜ Counted (now flags) × (first < 2048) × (second < 2048) × (first < length (now ledger) / tokenWidth) × (second < length (now ledger) / tokenWidth) ⌝ }
+    ensures { λ _. ⌜ now (ledger .exit) ≡ statesSpent (now (ledger .entry)) first second ⌝ }
+    ensures { λ _. ⌜ ((tables links : List ℕ) (used : ℕ) → Matching tables links (now (flags .entry)) (now (ledger .entry)) used → Operands (now (ledger .entry)) used first second
+        → (tokens used (now (ledger .exit)) ≡ tokensSpent used (now (ledger .entry)) first second) × Matching tables links (now (flags .exit)) (now (ledger .exit)) used) ⌝ }
+{
+    store_enabled::spend_operands(flags, ledger, first, second);
+}
+
+fn content_woken(x: Content, cell: u32, v: i32) -> Content
+    ensures { λ r. ⌜ r ≡ Deferred.contentWoken cell v x ⌝ }
+{
+    match x {
+        Content::Live(w) => Content::Live(w),
+        Content::Spent(w) => Content::Spent(w),
+        Content::Deferred(n) => {
+            if n == cell {
+                Content::Live(v)
+            } else {
+                Content::Deferred(n)
+            }
+        }
+    }
+}
+
+fn woken(t: Token, cell: u32, v: i32) -> Token
+    ensures { λ r. ⌜ r ≡ Deferred.woken cell v t ⌝ }
+{
+    let tag = t.tag;
+    let content = t.content;
+    Token {
+        tag,
+        port: t.port,
+        content: content_woken(content, cell, v),
+    }
+}
+
+// Every token that is deferred on a cell becomes live, with the cell's value. The cost is that of the tokens woken.
+pub fn wake(
+    tables: &[u16; 512],
+    links: &mut [u16; 9216],
+    flags: &mut [u64; 69],
+    ledger: &mut [u8],
+    used: usize,
+    cell: u32,
+    v: i32,
+)
+    requires { ⌜ Matching (now tables) (now links) (now flags) (now ledger) used × (cell < 1024) ⌝ }
+    ensures { λ _. ⌜ now (ledger .exit) ≡ joined encode (map (Deferred.woken cell v) (tokens used (now (ledger .entry)))) ++ drop (used * tokenWidth) (now (ledger .entry)) ⌝ }
+    ensures { λ _. ⌜ tokens used (now (ledger .exit)) ≡ map (Deferred.woken cell v) (tokens used (now (ledger .entry))) ⌝ }
+    ensures { λ _. ⌜ Matching (now (tables .entry)) (now (links .exit)) (now (flags .exit)) (now (ledger .exit)) used ⌝ }
+{
+    let head = (cell as usize) + store_chains::WAITING;
+    let mut at = store_chains::wide(links[head]);
+    while at != 0 {
+        let i = at - 1;
+        let t = token::token_at(ledger, i);
+        let u = woken(t, cell, v);
+        store_enabled::change(tables, links, flags, ledger, used, i, u);
+        at = store_chains::wide(links[i + store_chains::LATER]);
+    }
+    links[head] = 0;
+}

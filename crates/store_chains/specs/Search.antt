@@ -1,0 +1,29 @@
+-- A search of a list from its front. Assumes nothing.
+use Prim.Native.Nat.{ℕ, zero, suc, _<_}
+use mathlib.Core.Path.{_≡_}
+use mathlib.Core.Bool.{Bool, cond}
+use mathlib.Core.List.{List, [], _∷_}
+use Rattle.record.specs.TokensAndTags.{standsAt}
+use Rattle.record.specs.declared.tag.Tag.{Tag}
+use Rattle.record.specs.declared.token.Token.{Token}
+use Rattle.store_chains.specs.declared.Found.{Found}
+use Rattle.store_chains.specs.declared.Found.the-variants.{At, Nothing}
+
+-- the place of the first element that passes a test, where the list's first has place i
+abbrev pub firstFrom : {A : Type 0} → (A → Bool) → ℕ → List A → Found
+firstFrom p i [] = Nothing
+firstFrom p i (x ∷ xs) = cond (p x) (At i) (firstFrom p (suc i) xs)
+
+-- a place + 1, or 0 for none
+abbrev pub foundOf : ℕ → Found
+foundOf zero = Nothing
+foundOf (suc i) = At i
+
+-- what was found is below n
+abbrev pub Within : Found → ℕ → Type 0
+Within (At i) n = i < n
+Within Nothing n = Unit {0}
+
+-- no token stands at a port of a tag: one that arrives there is no second
+abbrev pub Free : List Token → Tag → (port : ℕ) → Type 0
+Free ts tag port = firstFrom (standsAt tag port) 0 ts ≡ Nothing

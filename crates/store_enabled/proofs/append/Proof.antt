@@ -1,0 +1,50 @@
+-- `store_enabled::append` meets its contract: none stood on the arriving token's port, and where its activity is not ready the flags stay. Assumes nothing.
+use Prim.Native.Nat.{_+_}
+use mathlib.Core.Path.{_≡_, _∙_}
+use mathlib.Core.List.{[], _∷_, _++_}
+use native.Mathlib.Omega.{arith}
+use borrow.Author.Needs.{needs}
+use lib.ListN.{length}
+use Rattle.record.specs.TokensAndTags.{tokens, decode}
+use Rattle.buffer.proofs.Tables.{length-rows}
+use Rattle.record.specs.Widths.{tokenWidth}
+use Rattle.store_flags.specs.Flags.{flagsOf}
+use Rattle.store_enabled.specs.Enabled.{isEnabled, placeOf}
+use Rattle.store_enabled.proofs.Store.{Moved, added}
+use Rattle.store_enabled.proofs.Arriving.{right-wait, raised-only}
+use Rattle.store_enabled.proofs.append.Statement.{statement}
+use Rattle.store_enabled.proofs.append.Tie as tie
+
+-- the record is written and the chains have it; its flag is still to be put
+entered : (c : tie.After-enter) → let a = c .before .before .before .before .before .before .before .before .args in
+    Moved (a .tables .now) (c .enter .last .0) (a .flags .now) (c .before .before .before .before .put-token .last .0) (a .used + 1) (a .used) (tokens (a .used) (a .ledger .now) ++ a .t ∷ []) (a .t)
+entered c =
+    let s = c .before .before .before .before .before .before .before .before in
+    let a = s .args in
+    let p = c .before .before .before .before .put-token in
+    let l = a .ledger .now in
+    let k : length (p .last .0) ≡ length l = omega (arith, p .kept .0) in
+    added (a .tables .now) (a .links .now) (a .flags .now) l (a .used) (a .t) (s .pre .0) (s .pre .1) (s .pre .2) (s .pre .3) (s .pre .5)
+    (p .ensures .1) (p .last .0) (p .ensures .0) k (c .enter .last .0)
+    (c .enter .ensures .0 (tokens (a .used) l) (length-rows tokenWidth decode (a .used) l) (s .pre .0 .known .index))
+
+pub append-spec : {M : Type 1} → statement M
+append-spec = tie.close (tie.spec
+    (λ c κs. search needs)
+    (λ c κs. search needs)
+    (λ c κs. search needs)
+    (λ c. search needs)
+    (λ c κs.
+    let s = c .before .before .before .before .before .before .before .before .before .before .before .before .before in
+    let e = entered (c .before .before .before .before .before) in
+    (s .pre .0 .counted, e .known, omega arith, s .pre .3, e .own))
+    (λ c. search needs)
+    (λ c.
+    let s = c .before .before .before .before .before .before .before .before .before .before .before .before .before .before in
+    let a = s .args in
+    let e = entered (c .before .before .before .before .before .before) in
+    let ts = tokens (a .used) (a .ledger .now) in
+    let us = ts ++ a .t ∷ [] in
+    let once = raised-only (isEnabled (a .tables .now) us (a .t .tag)) (flagsOf (a .flags .now)) (placeOf us (a .t .tag)) (right-wait (a .tables .now) ts (a .t) (flagsOf (a .flags .now)) (s .pre .0 .right)) in
+    let flags = c .settle .ensures .0 ∙ rw (c .before .before .before .before .arity .ensures, e .more) once in
+    (c .before .before .before .before .before .before .before .before .before .before .put-token .ensures .0, (e .more, (e .stored (c .settle .last .0) flags (c .settle .ensures .1), λ w. rw (e .more) (c .before .before .before .before .before .before .enter .ensures .1 ts (length-rows tokenWidth decode (a .used) (a .ledger .now)) w))))))

@@ -1,0 +1,26 @@
+-- `store_enabled::live` meets its contract. Assumes nothing.
+use Prim.Native.Nat.{_/_, _<_}
+use mathlib.Core.Path.{sym}
+use native.Mathlib.Omega.{arith}
+use borrow.Author.Needs.{needs}
+use lib.ListN.{length}
+use Rattle.store_enabled.proofs.Places.{live-state}
+use Rattle.store_enabled.proofs.live.Statement.{statement}
+use Rattle.store_enabled.proofs.live.Tie as tie
+use Rattle.record.specs.Widths.{tokenWidth}
+
+-- what was found lies in the ledger
+inside : (c : tie.After-known-told) → c .before .f .given .0 .0 < length (c .before .before .before .args .ledger .now) / tokenWidth
+inside c = rw (c .before .f .given .1) at (c .before .before .before .pre)
+
+pub live-spec : {M : Type 1} → statement M
+live-spec = tie.close (tie.spec
+    (λ c. search needs)
+    (λ c. omega (arith, inside c))
+    (λ c. omega (arith, inside c))
+    (λ c. omega (arith, inside (c .before)))
+    (λ c. search needs)
+    (λ c.
+    let d = c .before .before in
+    rw (d .f .given .1) (sym (live-state (d .before .before .args .ledger .now) (d .f .given .0 .0))))
+    (λ c. search needs))

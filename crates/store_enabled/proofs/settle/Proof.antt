@@ -1,0 +1,48 @@
+-- `store_enabled::settle` meets its contract: what was found on the other port says both where the tag's activity stands and whether it is ready. Assumes nothing.
+use mathlib.Core.Path.{_≡_, sym, _∙_}
+use native.Mathlib.Omega.{arith}
+use borrow.Author.Needs.{needs}
+use Rattle.record.specs.TokensAndTags.{tokens}
+use Rattle.store_chains.proofs.Search.{within-more}
+use Rattle.store_enabled.specs.Enabled.{allLive, placeOf}
+use Rattle.store_enabled.specs.Store.{placeOr, lower}
+use Rattle.store_enabled.proofs.Store.{known-few}
+use Rattle.store_enabled.proofs.Places.{lower-below}
+use Rattle.store_enabled.proofs.Arriving.{own-place, own-ready}
+use Rattle.store_enabled.proofs.settle.Statement.{statement}
+use Rattle.store_enabled.proofs.settle.Tie as tie
+
+-- the place of the tag
+here : (c : tie.After-find) → let a = c .before .before .args in placeOf (tokens (a .used) (a .ledger .now)) (a .tag) ≡ lower (a .own) (placeOr (c .find .result) (a .own))
+here c =
+    let s = c .before .before in
+    let a = s .args in
+    own-place (a .tag) (a .port) (a .own) (a .used) (a .ledger .now) (s .pre .2) (s .pre .3) (s .pre .4) (c .find .result) (c .find .ensures .0) (s .pre .1 .ports)
+
+-- whether its operands are all live
+whole : (c : tie.After-ready-with) → let a = c .before .before .before .args in c .ready-with .result ≡ allLive (a .operands) (tokens (a .used) (a .ledger .now)) (a .tag)
+whole c =
+    let s = c .before .before .before in
+    let a = s .args in
+    let f = c .before .find in
+    c .ready-with .ensures ∙ own-ready (a .tag) (a .port) (a .own) (a .used) (a .ledger .now) (s .pre .2) (s .pre .3) (s .pre .4) (f .result) (f .ensures .0) (a .operands)
+
+pub settle-spec : {M : Type 1} → statement M
+settle-spec = tie.close (tie.spec
+    (λ c. omega (arith, c .before .pre .3))
+    (λ c κs. let s = c .before in (s .pre .1 .room, s .pre .1 .index))
+    (λ c κs.
+    let s = c .before .before in
+    (omega (arith, s .pre .1 .room, s .pre .2), within-more (c .find .result) _ _ (s .pre .1 .room) (c .find .ensures .1)))
+    (λ c κs. search needs)
+    (λ c κs. search needs)
+    (λ c κs.
+    let s = c .before .before .before .before .before .before .before in
+    let a = s .args in
+    (rw (c .earlier .ensures) (lower-below (a .own) _ 2048 (omega (arith, s .pre .2, known-few (a .links .now) (a .ledger .now) (a .used) (s .pre .1)))), s .pre .0))
+    (λ c.
+    let on = sym (whole (c .before .before .before .before .before)) ∙ c .before .before .before .before .if1 .taken in
+    (c .raise .ensures .0 ∙ rw (c .before .earlier .ensures, c .before .before .place-or .ensures, here (c .before .before .before .before .before .before), on), c .raise .ensures .1))
+    (λ c.
+    let off = sym (whole (c .before)) ∙ c .if1 .left in
+    (rw off, c .before .before .before .before .pre .0)))

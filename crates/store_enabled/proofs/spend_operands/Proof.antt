@@ -1,0 +1,29 @@
+-- `store_enabled::spend_operands` meets its contract. Assumes nothing.
+use Prim.Native.Nat.{_+_, _*_}
+use mathlib.Core.Path.{refl, _∙_}
+use native.Mathlib.Omega.{arith}
+use borrow.Author.Needs.{needs}
+use lib.ListN.{length-set}
+use Rattle.store_enabled.proofs.Places.{lower-below}
+use Rattle.store_enabled.proofs.Spending.{both-spent}
+use Rattle.store_enabled.proofs.spend_operands.Statement.{statement}
+use Rattle.store_enabled.proofs.spend_operands.Tie as tie
+use Rattle.record.specs.Widths.{tokenWidth}
+
+pub spend-operands-spec : {M : Type 1} → statement M
+spend-operands-spec = tie.close (tie.spec
+    (λ c. search needs)
+    (λ c. search needs)
+    (λ c. search needs)
+    (λ c. search needs)
+    (λ c. search needs)
+    (λ c. let a = c .before .args in omega (arith, length-set (a .ledger .now) (a .first * tokenWidth + 16) 1, c .before .pre .4))
+    (λ c κs. search needs)
+    (λ c κs.
+    let s = c .before .before .before in
+    (rw (c .earlier .ensures) (lower-below (s .args .first) (s .args .second) 2048 (s .pre .1)), s .pre .0))
+    (λ c. search needs)
+    (λ c.
+    let s = c .before .before .before .before in
+    let a = s .args in
+    (refl, λ tables links used w o. both-spent tables links (a .flags .now) (a .ledger .now) used (a .first) (a .second) w o (c .lower .last .0) (c .lower .ensures .0 ∙ rw (c .before .earlier .ensures)) (c .lower .ensures .1))))

@@ -1,0 +1,87 @@
+-- What is kept beside the used records of a ledger: the chains by tag and port, and the flags of the enabled activities with their counts.
+-- Assumes nothing.
+use Prim.Native.Nat.{ℕ, _+_, _*_, _/_, _≤_, _<_}
+use mathlib.Core.Path.{_≡_}
+use mathlib.Core.Bool.{Bool, true, false, _&&_, cond}
+use mathlib.Core.List.{List}
+use lib.ListN.{length, getD, set, take}
+use lib.Dec.{eqb, ltb}
+use Rattle.buffer.specs.Rows.{joined, All}
+use Rattle.record.specs.TokensAndTags.{encode, tokens, tokenAt, standsAt, TokenFits}
+use Rattle.record.specs.declared.token.Token.{Token}
+use Rattle.record.specs.Widths.{tokenWidth}
+use Rattle.store_flags.specs.Flags.{flagsOf, Counted}
+use Rattle.store_flags.specs.Marks.{Marked}
+use Rattle.store_chains.specs.declared.Found.{Found}
+use Rattle.store_chains.specs.declared.Found.the-variants.{At, Nothing}
+use Rattle.store_chains.specs.Chains.{Indexed}
+use Rattle.store_chains.specs.Search.{firstFrom}
+use Rattle.store_enabled.specs.Enabled.{isLive, isEnabled, tagsOf, tagSame, placeOf, spentToken}
+
+-- a ledger whose used records are indexed, and stand on ports 0 and 1
+pub record Known (links ledger : List ℕ) (used : ℕ) : Type 0 where
+  pub room : used ≤ length ledger / tokenWidth
+  pub index : Indexed links (tokens used ledger)
+  pub ports : All (λ (t : Token). t .port < 2) (tokens used ledger)
+
+-- the flags are those of the enabled activities
+unfoldable pub Right : (tables : List ℕ) → List Token → (flags : List ℕ) → Type 0
+Right tables ts flags = Marked tagSame (isEnabled tables ts) (tagsOf ts) flags
+
+-- 01, "Firing", refusal 9: no two tokens stand on one port of a tag, so each is the first that a search of its port finds
+unfoldable pub Single : List Token → Type 0
+Single ts = (i : ℕ) (d : Token) → i < length ts → firstFrom (standsAt (getD ts i d .tag) (getD ts i d .port)) 0 ts ≡ At i
+
+-- the invariant of this crate; the used records are the bytes of their tokens, in every byte
+pub record Stored (tables links flags ledger : List ℕ) (used : ℕ) : Type 0 where
+  pub known : Known links ledger used
+  pub bytes : take (used * tokenWidth) ledger ≡ joined encode (tokens used ledger)
+  pub fits : All TokenFits (tokens used ledger)
+  pub single : Single (tokens used ledger)
+  pub counted : Counted flags
+  pub right : Right tables (tokens used ledger) (flagsOf flags)
+
+-- the flag of an activity is raised if its operands are all live, and else left as it was
+abbrev pub raisedIf : (live : Bool) → (flags : List ℕ) → (place : ℕ) → List ℕ
+raisedIf live flags place = cond live (set flags place 1) flags
+
+-- ---- answers of a search
+
+abbrev pub placeOr : Found → (other : ℕ) → ℕ
+placeOr (At i) n = i
+placeOr Nothing n = n
+
+abbrev pub lower : ℕ → ℕ → ℕ
+lower a b = cond (ltb a b) a b
+
+abbrev pub liveFound : (ℕ → Token) → Found → Bool
+liveFound at (At i) = isLive (at i .content)
+liveFound at Nothing = false
+
+-- of n operands all are live, where a and b say it of ports 0 and 1
+abbrev pub readyOf : (n : ℕ) → (a b : Bool) → Bool
+readyOf n a b = cond (eqb n 1) a (cond (eqb n 2) (a && b) false)
+
+-- the same, where a says it of a port below 2 and b of the other
+abbrev pub readyWith : (n port : ℕ) → (a b : Bool) → Bool
+readyWith n port a b = cond (eqb port 0) (readyOf n a b) (readyOf n b a)
+
+-- ---- operands that are spent
+
+-- the tokens at two places, or at one that is given twice, are operands of an activity: both are live, the first is that of port 0, and the
+-- earlier is the first of their tag
+pub record Operands (ledger : List ℕ) (used first second : ℕ) : Type 0 where
+  pub firstWithin : first < used
+  pub secondWithin : second < used
+  pub firstLive : isLive (tokenAt ledger first .content) ≡ true
+  pub secondLive : isLive (tokenAt ledger second .content) ≡ true
+  pub oneTag : tokenAt ledger second .tag ≡ tokenAt ledger first .tag
+  pub found : firstFrom (standsAt (tokenAt ledger first .tag) 0) 0 (tokens used ledger) ≡ At first
+  pub place : placeOf (tokens used ledger) (tokenAt ledger first .tag) ≡ lower first second
+
+-- the bytes and the tokens of a ledger, where the tokens at two places are spent: a live one is spent by its state byte
+abbrev pub statesSpent : List ℕ → (first second : ℕ) → List ℕ
+statesSpent l i j = set (set l (i * tokenWidth + 16) 1) (j * tokenWidth + 16) 1
+
+abbrev pub tokensSpent : (used : ℕ) → List ℕ → (first second : ℕ) → List Token
+tokensSpent used l i j = set (set (tokens used l) i (spentToken (tokenAt l i))) j (spentToken (tokenAt l j))

@@ -1,0 +1,161 @@
+// The enabled activities of a ledger, kept as flags by place: a token is added, or one is changed, or the
+// operands of an activity are spent, and the flag of its activity is put right.
+use record::tag::Tag;
+use record::token;
+use record::token::Token;
+use store_chains::Found;
+ghost use mathlib.Core.Path.{_≡_};
+ghost use mathlib.Core.Bool.{true};
+ghost use mathlib.Core.List.{List, [], _∷_, _++_};
+ghost use Prim.Native.Nat.{ℕ, _+_, _/_, _<_};
+ghost use lib.ListN.{length, getD, set};
+ghost use Rattle.buffer.specs.Rows.{putRow};
+ghost use Rattle.record.specs.TokensAndTags.{encode, tokens, tokenAt, standsAt};
+ghost use Rattle.record.specs.Widths.{tokenWidth};
+ghost use Rattle.store_flags.specs.Flags.{flagsOf, Counted};
+ghost use Rattle.store_chains.specs.Search.{firstFrom, Within, Free};
+ghost use Rattle.store_chains.specs.Deferred.{LowCell, Waiting};
+ghost use Rattle.store_chains.specs.declared.Found.the-variants.{At};
+ghost use Rattle.store_enabled.specs.Enabled.{isLive, allLive, placeOf};
+ghost use Rattle.store_enabled.specs.Store.{Known, Stored, raisedIf, placeOr, lower, liveFound, readyOf, readyWith, Operands, statesSpent, tokensSpent};
+
+fn place_or(f: Found, other: usize) -> usize
+    ensures { λ r. ⌜ r ≡ placeOr f other ⌝ }
+{
+    match f {
+        Found::At(i) => i,
+        Found::Nothing => other,
+    }
+}
+
+// Whether what was found is live: the state of its record is 0.
+fn live(ledger: &[u8], f: Found) -> bool
+    requires { ⌜ Within f (length (now ledger) / tokenWidth) ⌝ }
+    ensures { λ r. ⌜ r ≡ liveFound (tokenAt (now (ledger .entry))) f ⌝ }
+{
+    match f {
+        Found::At(i) => ledger[i * token::WIDTH + token::STATE] == 0,
+        Found::Nothing => false,
+    }
+}
+
+// Whether all operands of an activity are live, where f and g stand on its ports.
+fn ready(ledger: &[u8], f: Found, g: Found, operands: u16) -> bool
+    requires { ⌜ Within f (length (now ledger) / tokenWidth) × Within g (length (now ledger) / tokenWidth) ⌝ }
+    ensures { λ r. ⌜ r ≡ readyOf operands (liveFound (tokenAt (now (ledger .entry))) f) (liveFound (tokenAt (now (ledger .entry))) g) ⌝ }
+{
+    if operands == 1 {
+        return live(ledger, f);
+    }
+    if operands == 2 {
+        if live(ledger, f) {
+            return live(ledger, g);
+        }
+        return false;
+    }
+    false
+}
+
+// The same, where `own` stands on a port and `other` on the other one.
+fn ready_with(ledger: &[u8], port: u8, own: Found, other: Found, operands: u16) -> bool
+    requires { ⌜ Within own (length (now ledger) / tokenWidth) × Within other (length (now ledger) / tokenWidth) ⌝ }
+    ensures { λ r. ⌜ r ≡ readyWith operands port (liveFound (tokenAt (now (ledger .entry))) own) (liveFound (tokenAt (now (ledger .entry))) other) ⌝ }
+{
+    if port == 0 {
+        ready(ledger, own, other, operands)
+    } else {
+        ready(ledger, other, own, operands)
+    }
+}
+
+fn earlier(a: usize, b: usize) -> usize
+    ensures { λ r. ⌜ r ≡ lower a b ⌝ }
+{
+    if a < b { a } else { b }
+}
+
+// Raises the flag of the activity of the token at `own`, if its operands are all live. No other token stands on that one's
+// port, so that of the operands only the other is searched for.
+fn settle(
+    flags: &mut [u64; 69],
+    links: &[u16; 9216],
+    ledger: &[u8],
+    used: usize,
+    own: usize,
+    tag: Tag,
+    port: u8,
+    operands: u16,
+)
+    requires { ⌜ Counted (now flags) × Known (now links) (now ledger) used × (own < used) × (port < 2) × (firstFrom (standsAt tag port) 0 (tokens used (now ledger)) ≡ At own) ⌝ }
+    ensures { λ _. ⌜ flagsOf (now (flags .exit)) ≡ raisedIf (allLive operands (tokens used (now (ledger .entry))) tag) (flagsOf (now (flags .entry))) (placeOf (tokens used (now (ledger .entry))) tag) ⌝ }
+    ensures { λ _. ⌜ Counted (now (flags .exit)) ⌝ }
+{
+    let other = store_chains::find(links, ledger, used, tag, 1 - port);
+    if ready_with(ledger, port, Found::At(own), other, operands) {
+        store_flags::raise(flags, earlier(own, place_or(other, own)));
+    }
+}
+
+// How many operands the activities of an instruction wait for. The counts stand in the second half of a graph's tables.
+pub fn arity(tables: &[u16], instruction: u16) -> u16
+    ensures { λ r. ⌜ r ≡ getD (now (tables .entry)) (instruction + 256) 0 ⌝ }
+{
+    let i = (instruction as usize) + 256;
+    if i < tables.len() { tables[i] } else { 0 }
+}
+
+// Adds t after the used records, where none stands on its port of its tag. A flag that was raised stays.
+pub fn append(
+    tables: &[u16; 512],
+    links: &mut [u16; 9216],
+    flags: &mut [u64; 69],
+    ledger: &mut [u8],
+    used: usize,
+    t: Token,
+)
+    requires { ⌜ Stored (now tables) (now links) (now flags) (now ledger) used × (used < length (now ledger) / tokenWidth) × (used < 2048) × (t .port < 2) × LowCell (t .content) × Free (tokens used (now ledger)) (t .tag) (t .port) ⌝ }
+    ensures { λ _. ⌜ now (ledger .exit) ≡ putRow tokenWidth (now (ledger .entry)) used (encode t) ⌝ }
+    ensures { λ _. ⌜ tokens (used + 1) (now (ledger .exit)) ≡ tokens used (now (ledger .entry)) ++ t ∷ [] ⌝ }
+    ensures { λ _. ⌜ Stored (now (tables .entry)) (now (links .exit)) (now (flags .exit)) (now (ledger .exit)) (used + 1) ⌝ }
+    ensures { λ _. ⌜ (Waiting (now (links .entry)) (tokens used (now (ledger .entry))) → Waiting (now (links .exit)) (tokens (used + 1) (now (ledger .exit)))) ⌝ }
+{
+    let tag = t.tag;
+    token::put_token(ledger, used, t);
+    store_chains::enter(links, used, t);
+    let operands = arity(tables, tag.instruction);
+    settle(flags, links, ledger, used + 1, used, tag, t.port, operands);
+}
+
+// Puts t, of the same tag and port, in the place of token i. What was live stays so, and so does a flag that was raised.
+pub fn change(
+    tables: &[u16; 512],
+    links: &[u16; 9216],
+    flags: &mut [u64; 69],
+    ledger: &mut [u8],
+    used: usize,
+    i: usize,
+    t: Token,
+)
+    requires { ⌜ Stored (now tables) (now links) (now flags) (now ledger) used × (i < used) × (t .tag ≡ tokenAt (now ledger) i .tag) × (t .port ≡ tokenAt (now ledger) i .port) × (isLive (tokenAt (now ledger) i .content) ≡ true → isLive (t .content) ≡ true) ⌝ }
+    ensures { λ _. ⌜ now (ledger .exit) ≡ putRow tokenWidth (now (ledger .entry)) i (encode t) ⌝ }
+    ensures { λ _. ⌜ tokens used (now (ledger .exit)) ≡ set (tokens used (now (ledger .entry))) i t ⌝ }
+    ensures { λ _. ⌜ Stored (now (tables .entry)) (now (links .entry)) (now (flags .exit)) (now (ledger .exit)) used ⌝ }
+{
+    let tag = t.tag;
+    token::put_token(ledger, i, t);
+    let operands = arity(tables, tag.instruction);
+    settle(flags, links, ledger, used, i, tag, t.port, operands);
+}
+
+// Spends the operands of an enabled activity; where one is waited for, both places are its place. The activity is
+// enabled no more, and its flag stands at the place of its earlier operand, so nothing has to be searched for.
+pub fn spend_operands(flags: &mut [u64; 69], ledger: &mut [u8], first: usize, second: usize)
+    requires { ⌜ Counted (now flags) × (first < 2048) × (second < 2048) × (first < length (now ledger) / tokenWidth) × (second < length (now ledger) / tokenWidth) ⌝ }
+    ensures { λ _. ⌜ now (ledger .exit) ≡ statesSpent (now (ledger .entry)) first second ⌝ }
+    ensures { λ _. ⌜ ((tables links : List ℕ) (used : ℕ) → Stored tables links (now (flags .entry)) (now (ledger .entry)) used → Operands (now (ledger .entry)) used first second
+        → (tokens used (now (ledger .exit)) ≡ tokensSpent used (now (ledger .entry)) first second) × Stored tables links (now (flags .exit)) (now (ledger .exit)) used) ⌝ }
+{
+    ledger[first * token::WIDTH + token::STATE] = 1;
+    ledger[second * token::WIDTH + token::STATE] = 1;
+    store_flags::lower(flags, earlier(first, second));
+}

@@ -1,2 +1,0 @@
--- Records of one width in a buffer. Assumes nothing.
-pub mod Table
