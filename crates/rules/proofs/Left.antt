@@ -19,7 +19,7 @@ use Rattle.record.specs.declared.token.Content.the-variants.{Live, Spent, Defer
 use Rattle.record.specs.declared.token.Content as RecordContent
 use Rattle.record.specs.declared.instruction.Instruction.{Instruction}
 use Rattle.number.specs.Number.{Bytes, byteAt, number16, number32, number64}
-use Rattle.buffer.specs.Rows.{rows, allRows, joined, whole, writtenOver}
+use Rattle.buffer.specs.Rows.{rows, allRows, joined, writtenOver}
 use Rattle.record.specs.GraphRecords.{graphOf}
 use Rattle.record.specs.TokensAndTags.{isInput, mostTokens, capacityOf, ledgerOf}
 use Rattle.record.specs.TokensAndTags as Tokens
@@ -27,7 +27,7 @@ use Rattle.record.specs.Cells as Cells
 use Rattle.record.proofs.Records.{token-bytes-back, token-front, length-token}
 use Rattle.record.proofs.Fitting.{bytes-drop}
 use Rattle.buffer.proofs.Tables.{length-joined, rows-raw}
-use Rattle.record.specs.Widths.{tokenWidth, cellWidth, pickWidth}
+use Rattle.record.specs.Widths.{tokenWidth, cellWidth}
 use Rattle.machine.specs.Machine.{absent, refused, Machine, State, budgetSpent, End, run}
 use Rattle.machine.specs.Machine as Machine
 use Rattle.machine.proofs.Refused.{refused-picks, run-zero}
@@ -35,10 +35,11 @@ use Rattle.rules.specs.declared.answer.Refusal.{Refusal}
 use Rattle.rules.specs.declared.answer.Refusal.the-variants as Refusals
 use Rattle.rules.specs.declared.answer.Outcome.the-variants as Outcomes
 use Rattle.rules.specs.declared.answer.Checked.the-variants.{Passed, Failed}
-use Rattle.rules.specs.Check.{demand, inTurn, goodInput, operandsAt, checkGraph, checkStores, checkInputs, check}
+use Rattle.rules.specs.Check.{demand, inTurn, goodInput, operandsAt, checkStores, checkInputs, check, mostCells}
 use Rattle.rules.specs.InstructionSet.{machineOf}
 use Rattle.rules.specs.Run.{contentHeld, contentRecord, tokenHeld, tokenRecord, cellRecord, firstState, picksOf, Result, refusedAtOnce, ranTo, outcomeOf, unlessFailed, result, answer, ledgerAfter, cellsAfter}
 use Rattle.rules.proofs.Passed.{both, demand-passed, andThen-passed, getD-past}
+use Rattle.rules.proofs.Accepted.{whole-bytes, stores-whole, accepted}
 
 -- ---- "All these answer 0 firings and 0 tokens and write no buffer."
 
@@ -142,14 +143,6 @@ unfolding Cells.encode
 absent-bytes zero = refl
 absent-bytes (suc n) = rw (absent-bytes n, suc-mul n 8, add-comm (n * cellWidth) 8) (replicate-append-replicate 8 (n * cellWidth) 0)
 
-stores-whole : (inputs picks ledger cells : ℕ) → checkStores inputs picks ledger cells ≡ Passed → (inputs % tokenWidth ≡ 0) × (cells % cellWidth ≡ 0)
-unfolding checkStores
-stores-whole inputs picks ledger cells e =
-    let all = both (whole tokenWidth mostTokens inputs) _ (demand-passed _ Refusals.BadStore 0 e) in
-    let later = both (whole pickWidth mostTokens picks) _ (all .1) .1 in
-    let last = both (whole tokenWidth mostTokens ledger) _ later .1 in
-    (eqb-true (inputs % tokenWidth) 0 (both (eqb (inputs % tokenWidth) 0) _ (all .0) .0), eqb-true (cells % cellWidth) 0 (both (eqb (cells % cellWidth) 0) _ last .0))
-
 first-left : (g : List Instruction) (capacity : ℕ) (picks inputs ledger cells : List ℕ) → Bytes inputs → length inputs % tokenWidth ≡ 0 → length cells % cellWidth ≡ 0 → checkInputs g capacity inputs ≡ Passed
     → (ledgerAfter (ranTo (run (machineOf g capacity (length cells / cellWidth)) 0 picks (firstState inputs (length cells / cellWidth)))) ledger ≡ inputs ++ drop (length inputs) ledger)
     × (cellsAfter (ranTo (run (machineOf g capacity (length cells / cellWidth)) 0 picks (firstState inputs (length cells / cellWidth)))) cells ≡ replicate (length cells) 0)
@@ -179,7 +172,7 @@ pub accepted-first : (graph inputs picks : List ℕ) (ledger cells : List ℕ) �
     × (cellsAfter (result graph inputs picks 0 (length ledger) (length cells)) cells ≡ replicate (length cells) 0)
 unfolding result unlessFailed check
 accepted-first graph inputs picks ledger cells b passed =
-    let parts = andThen-passed (checkGraph graph) _ passed in
-    let later = andThen-passed (checkStores (length inputs) (length picks) (length ledger) (length cells)) _ (parts .1) in
-    let wholes = stores-whole (length inputs) (length picks) (length ledger) (length cells) (later .0) in
-    rw passed (first-left (graphOf graph) (capacityOf (length ledger)) (picksOf picks) inputs ledger cells b (wholes .0) (wholes .1) (later .1))
+    let (stores, a) = accepted graph inputs (capacityOf (length ledger)) (checkStores (length inputs) (length picks) (length ledger) (length cells)) passed in
+    let wholes = stores-whole (length inputs) (length picks) (length ledger) (length cells) stores in
+    rw passed (first-left (graphOf graph) (capacityOf (length ledger)) (picksOf picks) inputs ledger cells b
+    (whole-bytes tokenWidth mostTokens (length inputs) (wholes .wholeInputs) .0) (whole-bytes cellWidth mostCells (length cells) (wholes .wholeCells) .0) (a .inputsPassed))

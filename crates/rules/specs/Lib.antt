@@ -6,3 +6,4 @@ pub mod Run
 pub mod Computed
 pub mod Cases
 pub mod Orders
+pub mod Invariants
