@@ -25,7 +25,8 @@ use Rattle.rules.specs.Run.{Result, refusedAtOnce, ranTo, outcomeOf, result, le
 use Rattle.rules.specs.Run as Run
 use Rattle.rules.specs.Orders.{tokensOf, cellsOf, EachOnce}
 use Rattle.rules.specs.Orders as Rules
-use Rattle.rules.proofs.Orders.{any-two-orders, perm-map, whole-bytes}
+use Rattle.rules.proofs.Accepted.{whole-bytes}
+use Rattle.rules.proofs.Orders.{any-two-orders, perm-map}
 use Rattle.rules.proofs.Fits.{CellCount, result-fits}
 use Rattle.listing.specs.Listing.{records, answer}
 use Rattle.listing.specs.Sorted.{Pairwise}
