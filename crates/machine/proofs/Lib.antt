@@ -13,5 +13,6 @@ pub mod Orders
 pub mod Reached
 pub mod Kept
 pub mod Refused
+pub mod Parts
 pub mod Bounds
 pub mod Example

@@ -49,7 +49,7 @@ use Rattle.rules.specs.declared.answer.Refusal.the-variants as Refusals
 use Rattle.rules.specs.Check.{instructionAt, within, checkGraph, checkStores, check, mostCells}
 use Rattle.rules.specs.InstructionSet.{EffectHere, keyUnder, allUnder, sideOf, sendComputed, sendNext, sendEntered, sendReturned, returnOf, sendLeft, onCell, effectOf, effectIn, machineOf}
 use Rattle.rules.specs.Run.{contentHeld, contentRecord, tokenHeld, tokenRecord, cellRecord, firstState, picksOf, Result, refusedAtOnce, ranTo, result}
-use Rattle.rules.specs.Orders.{tokensOf, cellsOf}
+use Rattle.rules.specs.Fits.{AllFit, ResultsFit}
 use Rattle.rules.proofs.Passed.{both, getD-past}
 use Rattle.rules.proofs.PassedGraph.{of-graph, at-most, enter-site}
 use Rattle.rules.proofs.Lawful.{lawful}
@@ -266,17 +266,6 @@ module _ (graph : List ℕ) (bytes : Bytes graph) (passed : checkGraph graph ≡
 
 -- ---- whole runs
 
--- a run that was not refused at once leaves as many cells as there are
-abbrev pub CellCount : Result → ℕ → Type 0
-CellCount (refusedAtOnce r p) n = Unit {0}
-CellCount (ranTo e) n = length (cellsOf (ranTo e)) ≡ n
-
-pub record AllFit (x : Result) (capacity count : ℕ) : Type 0 where
-  pub tokens : All TokenFits (tokensOf x)
-  pub cells : All CellFits (cellsOf x)
-  pub room : length (tokensOf x) ≤ capacity
-  pub cellCount : CellCount x count
-
 run-fits : (graph : List ℕ) → Bytes graph → checkGraph graph ≡ Passed → (capacity cells : ℕ) → cells ≤ mostCells → (inputs : List ℕ) → Bytes inputs
     → Start (machineOf (graphOf graph) capacity cells) (firstState inputs cells) → (budget : ℕ) (picks : List ℕ)
     → AllFit (ranTo (run (machineOf (graphOf graph) capacity cells) budget picks (firstState inputs cells))) capacity cells
@@ -294,11 +283,10 @@ run-fits graph graphBytes passed capacity cells few inputs inputBytes begun budg
       cellCount = length-map (x .cells) cellRecord ∙ good .cellCount;
     }
 
-module _ (graph inputs picks : List ℕ) (budget ledger cells : ℕ) (graphBytes : Bytes graph) (inputBytes : Bytes inputs) where
-  pub result-fits : AllFit (result graph inputs picks budget ledger cells) (capacityOf ledger) (cells / cellWidth)
-  unfolding result check
-  result-fits =
-      by-check (check graph inputs picks ledger cells) _ (λ x. AllFit x (capacityOf ledger) (cells / cellWidth)) (λ r p e. record { tokens = tt; cells = tt; room = omega arith; cellCount = tt }) (λ e.
-      let (stores, a) = accepted graph inputs (capacityOf ledger) (checkStores (length inputs) (length picks) ledger cells) e in
-      let few = whole-bytes cellWidth mostCells cells (stores-whole (length inputs) (length picks) ledger cells stores .wholeCells) .1 in
-      run-fits graph graphBytes (a .graphPassed) (capacityOf ledger) (cells / cellWidth) few inputs inputBytes (begins graph inputs (capacityOf ledger) (cells / cellWidth) a) budget (picksOf picks))
+pub result-fits : ResultsFit
+unfolding result check
+result-fits graph inputs picks budget ledger cells graphBytes inputBytes =
+    by-check (check graph inputs picks ledger cells) _ (λ x. AllFit x (capacityOf ledger) (cells / cellWidth)) (λ r p e. record { tokens = tt; cells = tt; room = omega arith; cellCount = tt }) (λ e.
+    let (stores, a) = accepted graph inputs (capacityOf ledger) (checkStores (length inputs) (length picks) ledger cells) e in
+    let few = whole-bytes cellWidth mostCells cells (stores-whole (length inputs) (length picks) ledger cells stores .wholeCells) .1 in
+    run-fits graph graphBytes (a .graphPassed) (capacityOf ledger) (cells / cellWidth) few inputs inputBytes (begins graph inputs (capacityOf ledger) (cells / cellWidth) a) budget (picksOf picks))

@@ -23,28 +23,15 @@ use Rattle.machine.specs.Machine as Machine
 use Rattle.machine.proofs.Bounds.{PlaceWithin, picks-bounded, picks-firings}
 use Rattle.rules.specs.declared.answer.Refusal.{Refusal}
 use Rattle.rules.specs.declared.answer.Refusal.the-variants.{GraphLength, UnknownOperation, FanOut, BadArc, BadSite, BadInput, BadStore, LedgerFull, SecondToken}
-use Rattle.rules.specs.declared.answer.Answer.{Answer}
 use Rattle.rules.specs.declared.answer.Checked.{Checked}
 use Rattle.rules.specs.declared.answer.Checked.the-variants.{Passed, Failed}
 use Rattle.rules.specs.Answer.{placeIn}
 use Rattle.rules.specs.Check.{demand, _andThen_, all, inTurn, fanOutAllowed, unusedAreZero, goodArc, goodSite, checkRecord, checkGraph, checkStores, goodInput, secondInput, checkInputs, check, mostCells}
 use Rattle.rules.specs.InstructionSet.{machineOf}
 use Rattle.rules.specs.Run.{firstState, picksOf, refusedAtOnce, ranTo, outcomeOf, result, answer}
+use Rattle.rules.specs.Small.{Small, AnswersSmall}
 use Rattle.rules.proofs.Passed.{both}
 use Rattle.rules.proofs.Accepted.{whole-bytes, stores-whole, Accepted, accepted, law, good, by-check}
-
--- of the answer of a run with that budget
-pub record Small (budget : ℕ) (a : Answer) : Type 0 where
-  -- "Firings are those done, the refused one not counted."
-  pub firings : a .firings ≤ budget
-  -- "Firings never exceed tokens."
-  pub byTokens : a .firings ≤ a .tokens
-  -- "The ledger takes every token in order of arrival, up to 2,048 records"
-  pub tokens : a .tokens ≤ mostTokens
-  -- "Place: the record or input at fault (for 8 the first that doesn't fit), 0 for 1 and 7": "A graph is 1 to 256 records", and "more than 2,048" inputs are
-  -- refused by 7 before any of them is at fault. In a firing "the place is the activity's": "the ledger position of its earliest operand".
-  -- "The place is 0 unless refused."
-  pub place : placeIn (a .outcome) < mostTokens
 
 -- ---- a refusal before any firing: its place is below 2,048
 
@@ -145,7 +132,7 @@ refused-small : (budget : ℕ) (r : Refusal) (p : ℕ) → p < mostTokens → Sm
 unfolding answer
 refused-small budget r p h = record { firings = omega arith; byTokens = omega arith; tokens = omega arith; place = h }
 
-pub answer-small : (graph inputs picks : List ℕ) (budget ledger cells : ℕ) → Small budget (answer (result graph inputs picks budget ledger cells))
+pub answer-small : AnswersSmall
 unfolding result check
 answer-small graph inputs picks budget ledger cells =
     by-check (check graph inputs picks ledger cells) _ (λ x. Small budget (answer x)) (λ r p e. refused-small budget r p (rw e at (check-below graph inputs picks ledger cells))) (λ e.

@@ -7,3 +7,7 @@ pub mod Computed
 pub mod Cases
 pub mod Orders
 pub mod Invariants
+pub mod Small
+pub mod Fits
+pub mod Demand1
+pub mod Demand2
