@@ -2,6 +2,7 @@
 -- two orders holds. Assumes nothing.
 use Prim.Native.Nat.{ℕ, _/_, _%_, _≤_}
 use mathlib.Core.Path.{_≡_, refl, sym, ap, _∙_}
+use mathlib.Core.Bool.{Bool, true, false}
 use mathlib.Core.List.{List, [], _∷_, map, List·Permᴰ, List·Permᴰ·nil, List·Permᴰ·cons, List·Permᴰ·swap, List·Permᴰ·trans}
 use mathlib.Core.Option.{none, some}
 use native.Mathlib.Omega.{arith}
@@ -9,7 +10,7 @@ use lib.ListN.{length}
 use lib.IntN.{ℤ}
 use Rattle.record.specs.declared.tag.Tag.{Tag}
 use Rattle.record.specs.declared.token.Token as Record
-use Rattle.buffer.specs.Rows.{All}
+use Rattle.buffer.specs.Rows.{All, whole}
 use Rattle.record.specs.GraphRecords.{graphOf}
 use Rattle.record.specs.TokensAndTags.{mostTokens, capacityOf}
 use Rattle.record.specs.Widths.{tokenWidth, cellWidth}
@@ -18,11 +19,13 @@ use Rattle.machine.specs.Orders.{Distinct, Good}
 use Rattle.machine.proofs.View.{noneSome, keyPath}
 use Rattle.machine.proofs.Orders.{orders, neverSpent, refuses}
 use Rattle.machine.proofs.Reached.{reached-good, reached-picks}
+use Rattle.rules.specs.declared.answer.Refusal.{Refusal}
+use Rattle.rules.specs.declared.answer.Refusal.the-variants.{BadStore}
 use Rattle.rules.specs.declared.answer.Checked.{Checked}
 use Rattle.rules.specs.declared.answer.Checked.the-variants.{Passed, Failed}
-use Rattle.rules.specs.Check.{checkStores, check, mostCells}
+use Rattle.rules.specs.Check.{checkGraph, checkStores, check, mostCells}
 use Rattle.rules.specs.InstructionSet.{machineOf}
-use Rattle.rules.specs.Run.{tokenRecord, cellRecord, firstState, picksOf, ranTo, unlessFailed, result, answer}
+use Rattle.rules.specs.Run.{tokenRecord, cellRecord, firstState, picksOf, Result, refusedAtOnce, ranTo, unlessFailed, result, answer}
 use Rattle.rules.specs.Orders.{EachOnce, Agree, Allowed, AnyTwoOrders}
 use Rattle.rules.proofs.Accepted.{whole-bytes, Accepted, accepted, law, good}
 
@@ -113,9 +116,34 @@ module _ (graph inputs picks picks′ : List ℕ) (ledger cells : ℕ) (a : Allo
       let few = whole-bytes tokenWidth mostTokens ledger (a .allowedLedger) .1 in
       rw (e, e′) (agree graph inputs (capacityOf ledger) (cells / cellWidth) few (accepted graph inputs (capacityOf ledger) (checkStores (length inputs) (length picks) ledger cells) e .1) (picksOf picks) (picksOf picks′))
 
-pub any-two-orders : AnyTwoOrders
-any-two-orders graph inputs picks picks′ ledger ledger′ cells cells′ a b c d =
+-- with picks, ledger and cells of allowed length
+allowed-orders : (graph inputs picks picks′ : List ℕ) (ledger ledger′ cells cells′ : ℕ) → Allowed picks ledger cells → Allowed picks′ ledger′ cells′
+    → capacityOf ledger ≡ capacityOf ledger′ → cells / cellWidth ≡ cells′ / cellWidth
+    → Agree (result graph inputs picks 2048 ledger cells) (result graph inputs picks′ 2048 ledger′ cells′)
+allowed-orders graph inputs picks picks′ ledger ledger′ cells cells′ a b c d =
     let l = same-length ledger ledger′ (whole-bytes tokenWidth mostTokens ledger (a .allowedLedger) .0) (whole-bytes tokenWidth mostTokens ledger′ (b .allowedLedger) .0) c in
     let k = same-cells cells cells′ (whole-bytes cellWidth mostCells cells (a .allowedCells) .0) (whole-bytes cellWidth mostCells cells′ (b .allowedCells) .0) d in
     let b′ : Allowed picks′ ledger cells = rw (l, k) b in
     rw (← l, ← k) (unfolded graph inputs picks picks′ ledger cells a b′ (check graph inputs picks ledger cells) refl)
+
+-- two runs that are refused before any firing
+both-refused : {x y : Result} (q r : Refusal) (m n : ℕ) → x ≡ refusedAtOnce q m → y ≡ refusedAtOnce r n → Agree x y
+both-refused q r m n e f = rw (e, f) (record { completes = (λ h. h, λ h. h); alike = λ h. absurd h; refused = (λ h. h, λ h. h); neverSpent = λ h. h })
+
+-- a graph that fails its check is refused whatever else is lent, and so are inputs that are not whole records
+graph-refused : (graph inputs picks : List ℕ) (ledger cells : ℕ) (r : Refusal) (p : ℕ) → checkGraph graph ≡ Failed r p → result graph inputs picks 2048 ledger cells ≡ refusedAtOnce r p
+unfolding result check unlessFailed
+graph-refused graph inputs picks ledger cells r p e = rw e
+
+inputs-refused : (graph inputs picks : List ℕ) (ledger cells : ℕ) → checkGraph graph ≡ Passed → whole tokenWidth mostTokens (length inputs) ≡ false → result graph inputs picks 2048 ledger cells ≡ refusedAtOnce BadStore 0
+unfolding result check checkStores unlessFailed
+inputs-refused graph inputs picks ledger cells e w = rw (e, w)
+
+pub any-two-orders : AnyTwoOrders
+any-two-orders graph inputs picks picks′ ledger ledger′ cells cells′ a b c d = go (checkGraph graph) refl (whole tokenWidth mostTokens (length inputs)) refl
+  where
+    go : (x : Checked) → checkGraph graph ≡ x → (w : Bool) → whole tokenWidth mostTokens (length inputs) ≡ w
+        → Agree (result graph inputs picks 2048 ledger cells) (result graph inputs picks′ 2048 ledger′ cells′)
+    go (Failed r p) e w f = both-refused r r p p (graph-refused graph inputs picks ledger cells r p e) (graph-refused graph inputs picks′ ledger′ cells′ r p e)
+    go Passed e false f = both-refused BadStore BadStore 0 0 (inputs-refused graph inputs picks ledger cells e f) (inputs-refused graph inputs picks′ ledger′ cells′ e f)
+    go Passed e true f = allowed-orders graph inputs picks picks′ ledger ledger′ cells cells′ (a e f) (b e f) c d
