@@ -4,11 +4,12 @@ use Prim.Native.Nat.{ℕ, _/_, _%_, _≤_}
 use mathlib.Core.Path.{_≡_, refl}
 use mathlib.Core.Bool.{true}
 use mathlib.Core.List.{List}
+use lib.ListN.{length}
 use lib.Dec.{eqb, leb}
 use borrow.Author.Tests.{eqb-true, leb-true}
 use Rattle.buffer.specs.Rows.{whole}
 use Rattle.record.specs.GraphRecords.{graphOf}
-use Rattle.record.specs.TokensAndTags.{mostTokens}
+use Rattle.record.specs.TokensAndTags.{mostTokens, capacityOf}
 use Rattle.record.specs.Widths.{tokenWidth, cellWidth, pickWidth}
 use Rattle.machine.specs.Orders.{Lawful, Good, Start}
 use Rattle.machine.proofs.Orders.{startGood}
@@ -16,9 +17,10 @@ use Rattle.rules.specs.declared.answer.Refusal.{Refusal}
 use Rattle.rules.specs.declared.answer.Refusal.the-variants.{BadStore}
 use Rattle.rules.specs.declared.answer.Checked.{Checked}
 use Rattle.rules.specs.declared.answer.Checked.the-variants.{Passed, Failed}
-use Rattle.rules.specs.Check.{_andThen_, checkGraph, checkStores, checkInputs, mostCells}
+use Rattle.rules.specs.Check.{_andThen_, checkGraph, checkStores, checkInputs, check, mostCells}
 use Rattle.rules.specs.InstructionSet.{machineOf}
-use Rattle.rules.specs.Run.{firstState, Result, refusedAtOnce, unlessFailed}
+use Rattle.rules.specs.Run.{firstState, Result, refusedAtOnce, unlessFailed, result}
+use Rattle.rules.specs.Orders.{Completed}
 use Rattle.rules.proofs.Passed.{both, demand-passed, andThen-passed}
 use Rattle.rules.proofs.Lawful.{lawful}
 use Rattle.rules.proofs.Inputs.{start}
@@ -75,3 +77,10 @@ pub by-check : (c : Checked) (x : Result) (P : Result → Type 0) → ((r : Refu
 unfolding unlessFailed
 by-check Passed x P failed passed = passed refl
 by-check (Failed r p) x P failed passed = failed r p refl
+
+-- a run that completes passed the check of its stores
+pub completed-stores : (graph inputs picks : List ℕ) (budget ledger cells : ℕ) → Completed (result graph inputs picks budget ledger cells) → checkStores (length inputs) (length picks) ledger cells ≡ Passed
+unfolding result check
+completed-stores graph inputs picks budget ledger cells =
+    by-check (check graph inputs picks ledger cells) _ (λ x. Completed x → checkStores (length inputs) (length picks) ledger cells ≡ Passed) (λ r p e h. absurd h)
+    (λ e h. accepted graph inputs (capacityOf ledger) (checkStores (length inputs) (length picks) ledger cells) e .0)

@@ -25,15 +25,16 @@ use Rattle.rules.specs.Run.{Result, refusedAtOnce, ranTo, outcomeOf, result, le
 use Rattle.rules.specs.Run as Run
 use Rattle.rules.specs.Orders.{tokensOf, cellsOf, EachOnce}
 use Rattle.rules.specs.Orders as Rules
-use Rattle.rules.proofs.Accepted.{whole-bytes}
+use Rattle.rules.proofs.Accepted.{whole-bytes, Whole, stores-whole, completed-stores}
 use Rattle.rules.proofs.Orders.{any-two-orders, perm-map}
-use Rattle.rules.proofs.Fits.{CellCount, result-fits}
+use Rattle.rules.specs.Fits.{CellCount}
+use Rattle.rules.proofs.Fits.{result-fits}
 use Rattle.listing.specs.Listing.{records, answer}
 use Rattle.listing.specs.Sorted.{Pairwise}
-use Rattle.listing.specs.Orders.{Lent, Left, RanOn, AllowedLent, Completed, Spent, Refused, used, Alike, Agree, AnyTwoOrders}
+use Rattle.listing.specs.Demand3.{Lent, Left, RanOn, NotForOthers, Completed, Spent, Refused, used, Alike, Agree, Demand3}
 use Rattle.listing.proofs.Lists.{all-of}
 use Rattle.listing.proofs.Laws.{records-joined}
-use Rattle.listing.proofs.AnyTwoOrders.{places-differ, used-records, length-tokens, list-orders}
+use Rattle.listing.proofs.AnyTwoOrders.{places-differ, records-differ, used-records, length-tokens, list-orders}
 
 -- ---- how a run ended: its result and its answer say the same
 
@@ -89,7 +90,7 @@ records-of ts = records-joined encode ts (all-of (λ t. length (encode t) ≡ to
 
 -- ---- two runs
 
-module _ (graph inputs : List ℕ) (graphBytes : Bytes graph) (inputBytes : Bytes inputs) (l m : Lent) (a : AllowedLent l) (b : AllowedLent m)
+module _ (graph inputs : List ℕ) (graphBytes : Bytes graph) (inputBytes : Bytes inputs) (l m : Lent) (a : NotForOthers graph inputs l) (b : NotForOthers graph inputs m)
     (capacities : capacityOf (length (l .ledger)) ≡ capacityOf (length (m .ledger))) (counts : length (l .cells) / cellWidth ≡ length (m .cells) / cellWidth)
     (x y : Left) (ranX : RanOn graph inputs l x) (ranY : RanOn graph inputs m y) where
   abbrev resultOf : Lent → Result
@@ -104,10 +105,14 @@ module _ (graph inputs : List ℕ) (graphBytes : Bytes graph) (inputBytes : Byte
   used-of : (k : Lent) (z : Left) → RanOn graph inputs k z → Rules.Completed (resultOf k) → used z ≡ joined encode (tokensOf (resultOf k))
   used-of k z ran c = rw (ran .answered, ran .ledgerLeft) (used-bytes (resultOf k) c (k .ledger))
 
-  cells-of : (k : Lent) → AllowedLent k → (z : Left) → RanOn graph inputs k z → Rules.Completed (resultOf k) → z .cells ≡ joined Cells.encode (cellsOf (resultOf k))
-  cells-of k ok z ran c =
+  -- a run that completes passed every check
+  stores-of : (k : Lent) → Rules.Completed (resultOf k) → Whole (length inputs) (length (k .picks)) (length (k .ledger)) (length (k .cells))
+  stores-of k c = stores-whole (length inputs) (length (k .picks)) (length (k .ledger)) (length (k .cells)) (completed-stores graph inputs (k .picks) 2048 (length (k .ledger)) (length (k .cells)) c)
+
+  cells-of : (k : Lent) (z : Left) → RanOn graph inputs k z → Rules.Completed (resultOf k) → z .cells ≡ joined Cells.encode (cellsOf (resultOf k))
+  cells-of k z ran c =
       let fits = result-fits graph inputs (k .picks) 2048 (length (k .ledger)) (length (k .cells)) graphBytes inputBytes in
-      ran .cellsLeft ∙ cell-bytes (resultOf k) c (k .cells) (whole-bytes cellWidth mostCells (length (k .cells)) (ok .allowedCells) .0) (fits .cellCount)
+      ran .cellsLeft ∙ cell-bytes (resultOf k) c (k .cells) (whole-bytes cellWidth mostCells (length (k .cells)) (stores-of k c .wholeCells) .0) (fits .cellCount)
 
   alike : Completed (x .answer .outcome) → Alike x y
   alike done =
@@ -119,17 +124,19 @@ module _ (graph inputs : List ℕ) (graphBytes : Bytes graph) (inputBytes : Byte
       let ux = used-of l x ranX cx in
       let uy = used-of m y ranY cy in
       let fits = result-fits graph inputs (l .picks) 2048 (length (l .ledger)) (length (l .cells)) graphBytes inputBytes in
-      let few = whole-bytes tokenWidth mostTokens (length (l .ledger)) (a .allowedLedger) .1 in
+      let few = whole-bytes tokenWidth mostTokens (length (l .ledger)) (stores-of l cx .wholeLedger) .1 in
       let outcomes : x .answer .outcome ≡ y .answer .outcome = is-completed (x .answer .outcome) done ∙ sym (is-completed (y .answer .outcome) (ended m y ranY .completes .0 cy)) in
       let firings : x .answer .firings ≡ y .answer .firings = rw (ranX .answered, ranY .answered) (same .firings) in
       let tokens : x .answer .tokens ≡ y .answer .tokens = rw (ranX .answered, ranY .answered) (same .tokens) in
+      let apart = places-differ ts (once-apart ts (same .eachOnce)) in
       record {
         answers = λ i. record { outcome = outcomes i; firings = firings i; tokens = tokens i };
-        cells = cells-of l a x ranX cx ∙ ap (joined Cells.encode) (same .cells) ∙ sym (cells-of m b y ranY cy);
+        cells = cells-of l x ranX cx ∙ ap (joined Cells.encode) (same .cells) ∙ sym (cells-of m y ranY cy);
         sameTokens = rw (ux, uy, records-of ts, records-of us) (perm-map encode (same .sameTokens));
+        eachOnce = rw (ux, records-of ts) (records-differ ts (fits .tokens) apart);
         listings = λ out out′ e e′.
             rw (ux, uy)
-            (list-orders out out′ (same .sameTokens) (places-differ ts (once-apart ts (same .eachOnce))) (fits .tokens) (omega (arith, fits .room, few))
+            (list-orders out out′ (same .sameTokens) apart (fits .tokens) (omega (arith, fits .room, few))
             (e ∙ ap length ux ∙ length-tokens ts) (e′ ∙ ap length uy ∙ length-tokens us));
       }
 
@@ -144,5 +151,5 @@ module _ (graph inputs : List ℕ) (graphBytes : Bytes graph) (inputBytes : Byte
         neverSpent = λ h. agreed .neverSpent (ex .spends h);
       }
 
-pub any-two-orders-agree : AnyTwoOrders
-any-two-orders-agree graph inputs bg bi l m a b c d x y rx ry = agree graph inputs bg bi l m a b c d x y rx ry
+pub demand3 : Demand3
+demand3 graph inputs bg bi l m a b c d x y rx ry = agree graph inputs bg bi l m a b c d x y rx ry
