@@ -6,7 +6,9 @@ use mathlib.Core.List.{List, [], _∷_, _++_, map, append-nil}
 use mathlib.Core.Logic.{_↔_}
 use native.Mathlib.Omega.{arith}
 use lib.ListN.{length, take, length-map}
+use lib.IntN.{ℤ}
 use lib.ListN.{drop-of-length-le}
+use Rattle.record.specs.declared.tag.Tag.{Tag}
 use Rattle.record.specs.declared.token.Token.{Token}
 use Rattle.number.specs.Number.{Bytes}
 use Rattle.buffer.specs.Rows.{All, joined}
@@ -38,12 +40,12 @@ use Rattle.listing.proofs.AnyTwoOrders.{places-differ, records-differ, 
 
 -- ---- how a run ended: its result and its answer say the same
 
-record SameEnd (x : Result) (o : Outcome) : Type 0 where
-  completes : Rules.Completed x ↔ Completed o
-  refuses : Rules.Refused x ↔ Refused o
-  spends : Spent o → Rules.Spent x
+pub record SameEnd (x : Result) (o : Outcome) : Type 0 where
+  pub completes : Rules.Completed x ↔ Completed o
+  pub refuses : Rules.Refused x ↔ Refused o
+  pub spends : Spent o → Rules.Spent x
 
-same-end : (x : Result) → SameEnd x (Run.answer x .outcome)
+pub same-end : (x : Result) → SameEnd x (Run.answer x .outcome)
 unfolding Run.answer
 same-end (refusedAtOnce r p) = record { completes = (λ h. h, λ h. h); refuses = (λ h. h, λ h. h); spends = λ h. h }
 same-end (ranTo e) = go (e .outcome)
@@ -58,22 +60,25 @@ is-completed Outcomes.Completed h = refl
 is-completed Outcomes.Spent h = absurd h
 is-completed (Outcomes.Refused r place) h = absurd h
 
--- ---- what a run that completes leaves, in bytes
+-- ---- what a run leaves, in bytes
 
-used-bytes : (x : Result) → Rules.Completed x → (lent : List ℕ) → take (Run.answer x .tokens * tokenWidth) (ledgerAfter x lent) ≡ joined encode (tokensOf x)
+pub used-bytes : (x : Result) (lent : List ℕ) → take (Run.answer x .tokens * tokenWidth) (ledgerAfter x lent) ≡ joined encode (tokensOf x)
 unfolding Run.answer ledgerAfter
-used-bytes (refusedAtOnce r p) h lent = absurd h
-used-bytes (ranTo e) h lent =
+used-bytes (refusedAtOnce r p) lent = refl
+used-bytes (ranTo e) lent =
     ap (λ (n : ℕ). take (n * tokenWidth) (ledgerOf (tokensOf (ranTo e)) lent)) (sym (length-map (e .state .tokens) tokenRecord)) ∙ used-records (tokensOf (ranTo e)) lent
 
-cell-bytes : (x : Result) → Rules.Completed x → (lent : List ℕ) → length lent % cellWidth ≡ 0 → CellCount x (length lent / cellWidth) → cellsAfter x lent ≡ joined Cells.encode (cellsOf x)
+pub ran-cells : (e : Machine.End Refusal Tag ℤ) (lent : List ℕ) → length lent % cellWidth ≡ 0 → CellCount (ranTo e) (length lent / cellWidth) → cellsAfter (ranTo e) lent ≡ joined Cells.encode (cellsOf (ranTo e))
 unfolding cellsAfter
-cell-bytes (refusedAtOnce r p) h lent whole count = absurd h
-cell-bytes (ranTo e) h lent whole count =
+ran-cells e lent whole count =
     let written = joined Cells.encode (cellsOf (ranTo e)) in
     let n : length written ≡ length (cellsOf (ranTo e)) * cellWidth = length-joined cellWidth Cells.encode length-cell (cellsOf (ranTo e)) in
     let all : length lent ≤ length written = omega arith in
     ap (λ (l : List ℕ). written ++ l) (drop-of-length-le lent all) ∙ append-nil written
+
+cell-bytes : (x : Result) → Rules.Completed x → (lent : List ℕ) → length lent % cellWidth ≡ 0 → CellCount x (length lent / cellWidth) → cellsAfter x lent ≡ joined Cells.encode (cellsOf x)
+cell-bytes (refusedAtOnce r p) h lent whole count = absurd h
+cell-bytes (ranTo e) h lent whole count = ran-cells e lent whole count
 
 -- ---- tokens and their records
 
@@ -102,8 +107,8 @@ module _ (graph inputs : List ℕ) (graphBytes : Bytes graph) (inputBytes : Byte
   ended : (k : Lent) (z : Left) → RanOn graph inputs k z → SameEnd (resultOf k) (z .answer .outcome)
   ended k z ran = subst (λ (r : Answer). SameEnd (resultOf k) (r .outcome)) (sym (ran .answered)) (same-end (resultOf k))
 
-  used-of : (k : Lent) (z : Left) → RanOn graph inputs k z → Rules.Completed (resultOf k) → used z ≡ joined encode (tokensOf (resultOf k))
-  used-of k z ran c = rw (ran .answered, ran .ledgerLeft) (used-bytes (resultOf k) c (k .ledger))
+  used-of : (k : Lent) (z : Left) → RanOn graph inputs k z → used z ≡ joined encode (tokensOf (resultOf k))
+  used-of k z ran = rw (ran .answered, ran .ledgerLeft) (used-bytes (resultOf k) (k .ledger))
 
   -- a run that completes passed every check
   stores-of : (k : Lent) → Rules.Completed (resultOf k) → Whole (length inputs) (length (k .picks)) (length (k .ledger)) (length (k .cells))
@@ -121,8 +126,8 @@ module _ (graph inputs : List ℕ) (graphBytes : Bytes graph) (inputBytes : Byte
       let same = agreed .alike cx in
       let ts = tokensOf (resultOf l) in
       let us = tokensOf (resultOf m) in
-      let ux = used-of l x ranX cx in
-      let uy = used-of m y ranY cy in
+      let ux = used-of l x ranX in
+      let uy = used-of m y ranY in
       let fits = result-fits graph inputs (l .picks) 2048 (length (l .ledger)) (length (l .cells)) graphBytes inputBytes in
       let few = whole-bytes tokenWidth mostTokens (length (l .ledger)) (stores-of l cx .wholeLedger) .1 in
       let outcomes : x .answer .outcome ≡ y .answer .outcome = is-completed (x .answer .outcome) done ∙ sym (is-completed (y .answer .outcome) (ended m y ranY .completes .0 cy)) in
