@@ -27,7 +27,7 @@ use Rattle.rules.specs.Run.{Result, refusedAtOnce, ranTo, outcomeOf, result, le
 use Rattle.rules.specs.Run as Run
 use Rattle.rules.specs.Orders.{tokensOf, cellsOf, EachOnce}
 use Rattle.rules.specs.Orders as Rules
-use Rattle.rules.proofs.Accepted.{whole-bytes, Whole, stores-whole, completed-stores}
+use Rattle.rules.proofs.Accepted.{whole-bytes, Whole, stores-whole, Begun, begun-stores}
 use Rattle.rules.proofs.Orders.{any-two-orders, perm-map}
 use Rattle.rules.specs.Fits.{CellCount}
 use Rattle.rules.proofs.Fits.{result-fits}
@@ -59,6 +59,10 @@ is-completed : (o : Outcome) → Completed o → o ≡ Outcomes.Completed
 is-completed Outcomes.Completed h = refl
 is-completed Outcomes.Spent h = absurd h
 is-completed (Outcomes.Refused r place) h = absurd h
+
+completed-begun : (x : Result) → Rules.Completed x → Begun x
+completed-begun (refusedAtOnce r p) h = h
+completed-begun (ranTo e) h = tt
 
 -- ---- what a run leaves, in bytes
 
@@ -110,9 +114,9 @@ module _ (graph inputs : List ℕ) (graphBytes : Bytes graph) (inputBytes : Byte
   used-of : (k : Lent) (z : Left) → RanOn graph inputs k z → used z ≡ joined encode (tokensOf (resultOf k))
   used-of k z ran = rw (ran .answered, ran .ledgerLeft) (used-bytes (resultOf k) (k .ledger))
 
-  -- a run that completes passed every check
+  -- a run that completes passed the check of its stores
   stores-of : (k : Lent) → Rules.Completed (resultOf k) → Whole (length inputs) (length (k .picks)) (length (k .ledger)) (length (k .cells))
-  stores-of k c = stores-whole (length inputs) (length (k .picks)) (length (k .ledger)) (length (k .cells)) (completed-stores graph inputs (k .picks) 2048 (length (k .ledger)) (length (k .cells)) c)
+  stores-of k c = stores-whole (length inputs) (length (k .picks)) (length (k .ledger)) (length (k .cells)) (begun-stores graph inputs (k .picks) 2048 (length (k .ledger)) (length (k .cells)) (completed-begun (resultOf k) c))
 
   cells-of : (k : Lent) (z : Left) → RanOn graph inputs k z → Rules.Completed (resultOf k) → z .cells ≡ joined Cells.encode (cellsOf (resultOf k))
   cells-of k z ran c =

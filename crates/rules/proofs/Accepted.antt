@@ -19,8 +19,7 @@ use Rattle.rules.specs.declared.answer.Checked.{Checked}
 use Rattle.rules.specs.declared.answer.Checked.the-variants.{Passed, Failed}
 use Rattle.rules.specs.Check.{_andThen_, checkGraph, checkStores, checkInputs, check, mostCells}
 use Rattle.rules.specs.InstructionSet.{machineOf}
-use Rattle.rules.specs.Run.{firstState, Result, refusedAtOnce, unlessFailed, result}
-use Rattle.rules.specs.Orders.{Completed}
+use Rattle.rules.specs.Run.{firstState, Result, refusedAtOnce, ranTo, unlessFailed, result}
 use Rattle.rules.proofs.Passed.{both, demand-passed, andThen-passed}
 use Rattle.rules.proofs.Lawful.{lawful}
 use Rattle.rules.proofs.Inputs.{start}
@@ -78,9 +77,14 @@ unfolding unlessFailed
 by-check Passed x P failed passed = passed refl
 by-check (Failed r p) x P failed passed = failed r p refl
 
--- a run that completes passed the check of its stores
-pub completed-stores : (graph inputs picks : List ℕ) (budget ledger cells : ℕ) → Completed (result graph inputs picks budget ledger cells) → checkStores (length inputs) (length picks) ledger cells ≡ Passed
+-- a run that was not refused before any firing
+abbrev pub Begun : Result → Type 0
+Begun (refusedAtOnce r p) = ⊥
+Begun (ranTo e) = Unit {0}
+
+-- passed the check of its stores
+pub begun-stores : (graph inputs picks : List ℕ) (budget ledger cells : ℕ) → Begun (result graph inputs picks budget ledger cells) → checkStores (length inputs) (length picks) ledger cells ≡ Passed
 unfolding result check
-completed-stores graph inputs picks budget ledger cells =
-    by-check (check graph inputs picks ledger cells) _ (λ x. Completed x → checkStores (length inputs) (length picks) ledger cells ≡ Passed) (λ r p e h. absurd h)
+begun-stores graph inputs picks budget ledger cells =
+    by-check (check graph inputs picks ledger cells) _ (λ x. Begun x → checkStores (length inputs) (length picks) ledger cells ≡ Passed) (λ r p e h. absurd h)
     (λ e h. accepted graph inputs (capacityOf ledger) (checkStores (length inputs) (length picks) ledger cells) e .0)
