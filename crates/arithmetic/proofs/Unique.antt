@@ -1,4 +1,4 @@
--- The quotient and the remainder are the only pair of numbers with the laws of `Division.antt`.
+-- The quotient and the remainder are the only pair of numbers with the laws of specs/Division (`only`).
 -- A number is taken as its sign and its size: `val true m` is -m. Assumes nothing.
 use mathlib.Core.Path.{_≡_, refl, sym, ap, _∙_, subst}
 use mathlib.Core.Logic.{_⊎_, inl, inr, ⊎-elim}
@@ -10,11 +10,8 @@ use lib.Arith.{digits-div, digits-mod}
 use lib.IntN.{ℤ, pos, negsuc, negℤ, natAbs, negℤ-+ℤ, *ℤ-comm, _+ℤ_, _*ℤ_}
 use lib.Signed.{quotZ, remZ}
 use borrow.Author.Tests.{lt-ltb, le-ltb}
+use Rattle.arithmetic.specs.Division.{isNeg, Pair, Only, OnlyPair}
 use Rattle.arithmetic.proofs.Division.{pos-times-neg, neg-times-neg}
-
-abbrev pub isNeg : ℤ → Bool
-isNeg (pos n) = false
-isNeg (negsuc n) = true
 
 abbrev val : Bool → ℕ → ℤ
 val true m = negℤ (pos m)
@@ -65,10 +62,6 @@ val-rem : (s : Bool) (m : ℕ) (d : ℤ) → remZ (val s m) d ≡ val s (m % nat
 val-rem true zero d = rw (zero-mod (natAbs d))
 val-rem true (suc m) d = refl
 val-rem false m d = refl
-
--- q and r are the quotient and the remainder of b * q + r by b
-abbrev Pair : ℤ → ℤ → ℤ → Type 0
-Pair b q r = (quotZ (b *ℤ q +ℤ r) b ≡ q) × (remZ (b *ℤ q +ℤ r) b ≡ r)
 
 differ-back : (t u : Bool) → differ (differ t u) t ≡ u
 differ-back true true = refl
@@ -127,9 +120,6 @@ disagree t u B (suc Q) (suc k) h c =
     (λ e. unlike p (sym (isNeg-suc (not p) k) ∙ e ∙ ap (λ (z : ℤ). isNeg (z +ℤ val (not p) (suc k))) (val-mul t u B (suc Q)) ∙ opposed p (B * suc Q) (suc k) (omega (arith, mul-le-mul-left {m = 1} {n = suc Q} B (omega arith)))))
     c)
 
-abbrev Only : ℤ → ℤ → ℤ → Type 0
-Only b q r = natAbs r < natAbs b → (r ≡ pos 0) ⊎ (isNeg r ≡ isNeg (b *ℤ q +ℤ r)) → Pair b q r
-
 only-val : (t u s : Bool) (B Q k : ℕ) → Only (val t B) (val u Q) (val s k)
 only-val t u s B Q k h c =
     let l : k < B = omega (arith, natAbs-val t B, natAbs-val s k, h) in
@@ -138,7 +128,7 @@ only-val t u s B Q k h c =
     (λ e. rw e (disagree t u B Q k l (rw e at c)))
     (either (differ t u) s)
 
-pub only : (b q r : ℤ) → Only b q r
+pub only : OnlyPair
 only b q r =
     subst (λ (z : ℤ). Only z q r) (val-of b)
     (subst (λ (z : ℤ). Only (val (isNeg b) (natAbs b)) z r) (val-of q)

@@ -37,7 +37,7 @@ divided (negsuc n) z = ranged z
 abbrev pub truth : Bool → Computed
 truth t = cond t (Value (pos 1)) (Value (pos 0))
 
--- what an operation gives. quotZ rounds toward zero, and remZ has the dividend's sign (proofs/Division, proofs/Unique)
+-- what an operation gives. quotZ rounds toward zero, and remZ has the dividend's sign (specs/Division)
 unfoldable pub computeOf : Arithmetic → ℤ → ℤ → Computed
 computeOf Add a b = ranged (a +ℤ b)
 computeOf Sub a b = ranged (a -ℤ b)

@@ -20,7 +20,8 @@ fn is_input(s: &[u8]) -> bool
     requires { ⌜ tokenWidth ≤ length (now s) ⌝ }
     ensures { λ r. ⌜ r ≡ isInput (now (s .entry)) ⌝ }
 {
-    number::u64_at(s, 0) == 0 && (s[8] == 0 && number::u32_at(s, 16) == 0)
+    let root = Tag::root(0);
+    number::u64_at(s, 0) == root.path && (s[8] == root.iteration && number::u32_at(s, 16) == 0)
 }
 
 // 6, of the record that s starts with.

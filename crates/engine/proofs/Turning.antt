@@ -23,7 +23,7 @@ use Rattle.load.proofs.Laws.{head-drop}
 use Rattle.store_enabled.specs.Enabled.{leads, enabledPlaces}
 use Rattle.machine.specs.Machine.{Machine, State, Activity, completed, budgetSpent, enabled, firstPick, laterPicks, pickOf, byPicks, runBy, end, fire, fired, notFired}
 use Rattle.machine.specs.Machine as Machines
-use Rattle.machine.proofs.Orders.{runEmpty, runZero, runFired, runRefused}
+use Rattle.machine.proofs.Runs.{runEmpty, runZero, runFired, runRefused}
 use Rattle.rules.specs.declared.answer.Refusal.{Refusal}
 use Rattle.rules.specs.declared.answer.Outcome.the-variants as Outcomes
 use Rattle.rules.specs.Run.{picksOf}

@@ -12,6 +12,7 @@ ghost use Rattle.record.specs.Widths.{cellWidth};
 ghost use Rattle.store_flags.specs.Flags.{Counted, places, flagsOf};
 ghost use Rattle.machine.specs.Machine.{run as Machine·run};
 ghost use Rattle.rules.specs.declared.answer.Checked.the-variants.{Passed};
+ghost use Rattle.rules.specs.Answer.{valuesChecked};
 ghost use Rattle.rules.specs.Check.{checkGraph, check};
 ghost use Rattle.rules.specs.Run.{picksOf, firstState, result, Ran};
 ghost use Rattle.fire.specs.Running.{machineFor, Prepared, Running};
@@ -147,7 +148,7 @@ fn accepted(
 
 // Refusals 1 to 5, without a run.
 pub fn check_graph(graph: &[u8]) -> Checked
-    ensures { λ r. ⌜ r ≡ checkGraph (now (graph .entry)) ⌝ }
+    ensures { λ r. ⌜ (r ≡ checkGraph (now (graph .entry))) × (valuesChecked r ≡ valuesChecked (checkGraph (now (graph .entry)))) ⌝ }
 {
     graph::check(graph)
 }

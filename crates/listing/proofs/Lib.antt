@@ -1,4 +1,4 @@
--- The lemmas, and the laws of a listing: Orders is demand 3; Laws, AnyTwoOrders and Answers are for crates above. Assumes nothing.
+-- The lemmas, and the laws of a listing: Demand3 is demand 3; Laws, AnyTwoOrders and Answers are for crates above. Assumes nothing.
 pub mod Lists
 pub mod Sorting
 pub mod Keys
@@ -8,5 +8,5 @@ pub mod RecordsAt
 pub mod Answers
 pub mod Laws
 pub mod AnyTwoOrders
-pub mod Orders
+pub mod Demand3
 pub mod Examples

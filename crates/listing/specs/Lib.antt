@@ -3,4 +3,4 @@ pub mod Sort
 pub mod Listing
 pub mod Sorted
 pub mod Positions
-pub mod Orders
+pub mod Demand3

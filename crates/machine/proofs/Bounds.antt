@@ -1,20 +1,22 @@
 -- How far a run goes: it does no more firings than its budget, its ledger holds no more tokens than the capacity, and the place of a refusal is a position
 -- of that ledger (`run-bounded`, and for a list of picks `picks-bounded`); it does no more firings than there are tokens (`picks-firings`).
 -- Assumes nothing. The first two take any machine, and of the state that its tokens are no more than the capacity.
-use mathlib.Core.Path.{_≡_, refl}
+use mathlib.Core.Path.{_≡_, refl, subst}
 use mathlib.Core.List.{List, [], _∷_, map}
 use mathlib.Core.Option.{Option, none, some}
 use mathlib.Core.Bool.{Bool, true, false}
-use Prim.Native.Nat.{ℕ, zero, suc, _+_, _≤_, _<_}
+use Prim.Native.Nat.{ℕ, _+_, _≤_, _<_}
 use native.Mathlib.Omega.{arith}
 use lib.ListN.{length, set, length-append, length-map}
 use borrow.Author.Tests.{ltb-false}
-use Rattle.machine.specs.Machine.{Key, Content, live, Cell, absent, waiting, present, refuse, send, read, write, Machine, Activity, fired, notFired}
-use Rattle.machine.specs.Machine.{Outcome, completed, budgetSpent, refused, onOption, fill, cellAt, contentRead, ifPresent, changed, output, Operands, firstPick, laterPicks}
-use Rattle.machine.specs.Machine.{Ledger, StateOf, EffectOf, FiredOf, EndOf, look, operands, spendAt, anyTaken, exceeds, enabled, admit, commit, fire, Choice, byPicks, runBy, run}
-use Rattle.machine.specs.Orders.{Lawful, Good, LawfulChoice}
+use Rattle.machine.specs.Machine.{Key, Content, live, Cell, absent, waiting, present, refuse, send, read, write, Machine, fired, notFired}
+use Rattle.machine.specs.Machine.{Outcome, completed, budgetSpent, refused, onOption, fill, cellAt, contentRead, ifPresent, changed, output, Operands}
+use Rattle.machine.specs.Machine.{Ledger, StateOf, EffectOf, FiredOf, EndOf, look, operands, spendAt, anyTaken, exceeds, admit, commit, fire, Choice, byPicks, runBy, run}
+use Rattle.machine.specs.Orders.{Lawful, Good, LawfulChoice, Says}
+use Rattle.machine.specs.Sequences.{Fires, logOf}
 use Rattle.machine.proofs.Enabled.{enabledPlace}
-use Rattle.machine.proofs.Orders.{byPicksLawful, runEmpty, runZero, runFired, runRefused}
+use Rattle.machine.proofs.Runs.{ran}
+use Rattle.machine.proofs.Orders.{byPicksLawful}
 use Rattle.machine.proofs.Reached.{reached-firings, reached-picks}
 
 module _ (M : Machine) where
@@ -76,30 +78,24 @@ module _ (M : Machine) where
     pub tokens : length (e .state .tokens) ≤ M .capacity
     pub place : PlaceWithin (e .outcome) (e .state .tokens)
 
+  fires-room : (τs : List (M .Tag)) (s x : StateOf M) → Fires M s τs x → length (s .tokens) ≤ M .capacity → length (x .tokens) ≤ M .capacity
+  fires-room [] s x p room = subst (λ (y : StateOf M). length (y .tokens) ≤ M .capacity) p room
+  fires-room (τ ∷ τs) s x (y, e, p) room = fires-room τs y x p (rw e at (fired-room s τ))
+
+  place-within : (o : Outcome (M .Refusal)) (b n : ℕ) (x : StateOf M) → Says M o b n x → PlaceWithin o (x .tokens)
+  place-within completed b n x h = tt
+  place-within budgetSpent b n x h = tt
+  place-within (refused r p) b n x (l, a, m, q, e) = subst (λ (k : ℕ). k < length (x .tokens)) q (enabledPlace M x a m)
+
   -- f firings were done before; the choice is any that takes one of the enabled
   pub run-bounded : (c : Choice M) → LawfulChoice M c → (budget : ℕ) (picks : List ℕ) (f : ℕ) (s : StateOf M) → length (s .tokens) ≤ M .capacity → Bounded (f + budget) (runBy M c budget picks f s)
-  run-bounded c ok zero ps f s room = go (enabled M s) refl
-    where
-      go : (l : List (Activity (M .Tag))) → enabled M s ≡ l → Bounded (f + 0) (runBy M c zero ps f s)
-      go [] e = rw (runEmpty M c zero ps f s e) (record { firings = omega arith; tokens = room; place = tt })
-      go (a ∷ more) e = rw (runZero M c ps f s a more e) (record { firings = omega arith; tokens = room; place = tt })
-  run-bounded c ok (suc b) ps f s room = go (enabled M s) refl (λ x. run-bounded c ok b (laterPicks ps) (suc f) x)
-    where
-      Rest : Type 0
-      Rest = (x : StateOf M) → length (x .tokens) ≤ M .capacity → Bounded (suc f + b) (runBy M c b (laterPicks ps) (suc f) x)
-
-      byFiring : (a : Activity (M .Tag)) (more : List (Activity (M .Tag))) → enabled M s ≡ a ∷ more → Rest → (y : FiredOf M) → fire M s (c s (firstPick ps) a more .tag) ≡ y → Room y
-          → Bounded (f + suc b) (runBy M c (suc b) ps f s)
-      byFiring a more e rest (notFired r) h fits =
-          rw (runRefused M c b ps f s a more r e h)
-          (record { firings = omega arith; tokens = room; place = enabledPlace M s (c s (firstPick ps) a more) (rw e (ok s (firstPick ps) a more)) })
-      byFiring a more e rest (fired x) h fits =
-          let later = rest x fits in
-          rw (runFired M c b ps f s x a more e h) (record { firings = let z = later .firings in omega arith; tokens = later .tokens; place = later .place })
-
-      go : (l : List (Activity (M .Tag))) → enabled M s ≡ l → Rest → Bounded (f + suc b) (runBy M c (suc b) ps f s)
-      go [] e rest = rw (runEmpty M c (suc b) ps f s e) (record { firings = omega arith; tokens = room; place = tt })
-      go (a ∷ more) e rest = byFiring a more e rest (fire M s (c s (firstPick ps) a more .tag)) refl (fired-room s (c s (firstPick ps) a more .tag))
+  run-bounded c ok b ps f s room =
+      let h = ran M c ok b ps f s in
+      record {
+        firings = let z = h .logged .firings in let y = h .within in omega arith;
+        tokens = fires-room (logOf M c b ps s) s _ (h .logged .fires) room;
+        place = place-within (runBy M c b ps f s .outcome) b _ _ (h .says);
+      }
 
   -- a run by picks
   pub picks-bounded : (s : StateOf M) → length (s .tokens) ≤ M .capacity → (budget : ℕ) (picks : List ℕ) → Bounded budget (run M budget picks s)

@@ -5,7 +5,6 @@ use mathlib.Core.List.{List, [], _∷_, _++_, map}
 use mathlib.Core.Option.{Option, none, some}
 use mathlib.Core.Bool.{Bool, true, false, cond}
 use Prim.Native.Nat.{ℕ, zero, suc, _<_}
-use native.Mathlib.Omega.{arith}
 use native.Mathlib.Decide.{ℕ-discrete}
 use lib.ListN.{getD, set}
 use Rattle.machine.specs.Machine.{Key, Content, live, spent, deferred, Token, Cell, absent, waiting, present, refuse, send, read, write, Machine, fired, notFired}
@@ -13,6 +12,7 @@ use Rattle.machine.specs.Machine.{when, onOption, liveValue, spend, fill
 use Rattle.machine.specs.Machine.{Ledger, StateOf, EffectOf, FiredOf, sameKey, at, find, look, operandOf, liveAt, allLive, operands, spendAt, anyTaken, exceeds, admit, commit, fire, run}
 use Rattle.machine.specs.Orders.{Reached}
 use Rattle.machine.proofs.View.{noneSome}
+use Rattle.machine.proofs.Sequences.{firedSame, neverFired}
 use Rattle.machine.proofs.Reached.{reached-picks}
 
 -- ---- lists
@@ -138,27 +138,21 @@ module _ (M : Machine) (OfKey : Key (M .Tag) → Type 0) (OfValue : M .Value →
   readContent c waiting k h = k
   readContent c (present v) k h = h
 
-  firedSame : (x y : StateOf M) → _≡_ {A = FiredOf M} (fired x) (fired y) → x ≡ y
-  firedSame x y e = cc
-
-  neverFired {ℓ} : {B : Type ℓ} (r : M .Refusal) (x : StateOf M) → _≡_ {A = FiredOf M} (notFired r) (fired x) → B
-  neverFired r x e = absurd (let z : _≡_ {A = ℕ} 0 1 = cc in omega arith)
-
   admitted : (s : StateOf M) (left : Ledger M) (cells : List (Cell (M .Value))) (c : Content (M .Value)) (keys : List (Key (M .Tag))) (x : StateOf M)
       → Each OfToken left → Each OfCell cells → OfContent c → Each OfKey keys → admit M s left cells c keys ≡ fired x → OfState x
   unfolding admit
   admitted s left cells c keys x hl hc h hk e = go (exceeds M (s .tokens) keys) (anyTaken M (s .tokens) keys) e
     where
       go : (p q : Bool) → cond p (notFired (M .ledgerFull)) (cond q (notFired (M .secondToken)) (fired (record { tokens = left ++ map (output c) keys; cells = cells }))) ≡ fired x → OfState x
-      go true q f = neverFired _ x f
-      go false true f = neverFired _ x f
+      go true q f = neverFired M _ x f
+      go false true f = neverFired M _ x f
       go false false f =
-          subst OfState (firedSame _ x f)
+          subst OfState (firedSame M _ x f)
           (record { tokens = each-append OfToken left (map (output c) keys) hl (each-map OfKey OfToken (output c) (λ k g. (g, h)) keys hk); cells = hc })
 
   committed : (s : StateOf M) (τ : M .Tag) (e : EffectOf M) (x : StateOf M) → OfValue (M .signal) → OfState s → OfEffect e → commit M s τ e ≡ fired x → OfState x
   unfolding commit
-  committed s τ (refuse r) x sig h g e = neverFired r x e
+  committed s τ (refuse r) x sig h g e = neverFired M r x e
   committed s τ (send v keys) x sig h g e =
       admitted s _ (s .cells) (live v) keys x
       (each-map OfToken OfToken (changed (spendAt M τ)) (λ t k. (k .0, spentStays (operandOf M τ (t .key)) (t .content) (k .1))) (s .tokens) (h .tokens))
@@ -180,7 +174,7 @@ module _ (M : Machine) (OfKey : Key (M .Tag) → Type 0) (OfValue : M .Value →
           → ifPresent y (notFired (M .secondWrite)) (admit M s (map (changed (λ k z. fill c v (spendAt M τ k z))) (s .tokens)) (set (s .cells) c (present v)) (live (M .signal)) keys) ≡ fired x → OfState x
       go absent f = written f
       go waiting f = written f
-      go (present w) f = neverFired _ x f
+      go (present w) f = neverFired M _ x f
 
   module _ (keeps : Keeps) where
     pub fired-keeps : (s : StateOf M) (τ : M .Tag) (x : StateOf M) → OfState s → fire M s τ ≡ fired x → OfState x
@@ -189,7 +183,7 @@ module _ (M : Machine) (OfKey : Key (M .Tag) → Type 0) (OfValue : M .Value →
       where
         go : (q : Option (Operands (M .Value))) → operands M (look M s) τ ≡ q
             → _≡_ {A = FiredOf M} (onOption q (notFired (M .secondToken)) (λ p. commit M s τ (M .effect τ (p .left) (p .right)))) (fired x) → OfState x
-        go none f g = neverFired _ x g
+        go none f g = neverFired M _ x g
         go (some o) f g =
             let (k, v, w) = operandsFound s τ o (h .tokens) f in
             committed s τ (M .effect τ (o .left) (o .right)) x (keeps .signal) h (keeps .effect τ (o .left) (o .right) k v w) g

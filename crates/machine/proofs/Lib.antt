@@ -1,13 +1,18 @@
--- The theorems (Enabled, Orders, Reached, Kept, Refused, Bounds), what they are proved from (Swap, View, Store, Perm), and a computed example.
--- Assumes nothing.
+-- The theorems (Enabled, Sequences, Runs, Orders, Reached, Kept, Refused, Bounds), what they are proved from (Lists, Swap, View, Store, Tags, Perm), and a
+-- computed example. Assumes nothing.
+pub mod Lists
 pub mod Swap
 pub mod View
 pub mod Store
+pub mod Tags
 pub mod Perm
 pub mod Enabled
+pub mod Sequences
+pub mod Runs
 pub mod Orders
 pub mod Reached
 pub mod Kept
 pub mod Refused
+pub mod Parts
 pub mod Bounds
 pub mod Example

@@ -2,21 +2,26 @@
 -- reached by its firings (`reached-run`, and for a list of picks `reached-picks`). Assumes nothing. The first takes the machine
 -- and that its instruction set is lawful.
 use mathlib.Core.Path.{_≡_, refl, sym, ap, subst, _∙_}
-use mathlib.Core.List.{List, [], _∷_, List·Memᴰ·head}
+use mathlib.Core.List.{List, [], _∷_}
 use mathlib.Core.Option.{Option, none, some}
 use mathlib.Core.Bool.{Bool, true, false, cond}
 use Prim.Native.Nat.{ℕ, zero, suc, _+_, _≤_, _<_}
 use native.Mathlib.Decide.{ℕ-discrete}
 use native.Mathlib.Omega.{arith}
 use lib.ListN.{length, getD, replicate}
-use Rattle.machine.specs.Machine.{Key, Content, live, spent, deferred, Cell, absent, waiting, present, refuse, send, read, write, Machine, Activity, fired, notFired}
-use Rattle.machine.specs.Machine.{Outcome, completed, budgetSpent, refused, when, onOption, spend, cellAt, contentRead, Operands, firstPick, laterPicks}
-use Rattle.machine.specs.Machine.{Ledger, StateOf, EffectOf, FiredOf, EndOf, sameKey, at, find, look, operandOf, operands, spendAt, among, enabled, commit, fire, byPicks, runBy, run}
-use Rattle.machine.specs.Orders.{ReadsForSome, Lawful, Live, Spent, AllLive, Good, Start, keysOf, outputs, Reached, ReachedInvariants, Says, Ended, RunsEnd}
+use Rattle.machine.specs.Machine.{Key, Content, live, spent, deferred, Cell, absent, waiting, present, refuse, send, read, write, Machine, fired}
+use Rattle.machine.specs.Machine.{when, onOption, spend, cellAt, contentRead, Operands}
+use Rattle.machine.specs.Machine.{Ledger, StateOf, EffectOf, sameKey, at, find, look, operandOf, operands, spendAt, among, fire, byPicks, runBy, run}
+use Rattle.machine.specs.Orders.{ReadsForSome, Lawful, Live, Spent, AllLive, Good, Start, keysOf, outputs, Reached, ReachedInvariants, Ended, RunsEnd}
+use Rattle.machine.specs.Sequences.{Fires, spentTags, logOf}
+use Rattle.machine.proofs.Lists.{perm-length}
 use Rattle.machine.proofs.View.{when-yes, noneSome, falseTrue, omap, orElse, given, Source, value, fetched, resolve, settle, onlyAt, cellStep, cellAfter}
-use Rattle.machine.proofs.View.{View, DeltaOf, deltaOf, Allowed, change, apply, Ready, freshGet, operandKey, operandAt, operandLive}
-use Rattle.machine.proofs.Store.{spents, spentsLength, view}
-use Rattle.machine.proofs.Orders.{byPicksLawful, startGood, runEmpty, runZero, runFired, runRefused, fireResult}
+use Rattle.machine.proofs.View.{View, DeltaOf, deltaOf, Allowed, change, apply, freshGet, operandKey, operandAt, operandLive}
+use Rattle.machine.proofs.Store.{view}
+use Rattle.machine.proofs.Tags.{tagsLength}
+use Rattle.machine.proofs.Sequences.{firing}
+use Rattle.machine.proofs.Runs.{ran}
+use Rattle.machine.proofs.Orders.{byPicksLawful, startGood}
 
 -- ---- contents and cells
 
@@ -253,15 +258,6 @@ module _ (M : Machine) where
 
   -- ---- a firing
 
-  firedReady : (s x : StateOf M) (τ : M .Tag) → fire M s τ ≡ fired x → Ready M (view M s) τ
-  unfolding fire
-  firedReady s x τ e = go (operands M (look M s) τ) refl e
-    where
-      go : (q : Option (Operands (M .Value))) → operands M (look M s) τ ≡ q
-          → _≡_ {A = FiredOf M} (onOption q (notFired (M .secondToken)) (λ p. commit M s τ (M .effect τ (p .left) (p .right)))) (fired x) → Ready M (view M s) τ
-      go none f g = absurd (let z : _≡_ {A = ℕ} 0 1 = cc in omega arith)
-      go (some p) f g = (p, f)
-
   outputsKnown : (s : StateOf M) (τ : M .Tag) (p : Operands (M .Value)) (d : DeltaOf M) → operands M (look M s) τ ≡ some p → deltaOf M (M .effect τ (p .left) (p .right)) ≡ some d
       → outputs M s τ ≡ length (d .keys)
   outputsKnown s τ p d e f = rw e (ap length (keysKnown (M .effect τ (p .left) (p .right)) d f))
@@ -271,25 +267,24 @@ module _ (M : Machine) where
     record Carried (s : StateOf M) (f o : ℕ) (x : StateOf M) : Type 0 where
       good : Good M x
       count : length (x .tokens) ≡ length (s .tokens) + o
-      spending : spents M (s .tokens) + f ≤ spents M (x .tokens)
+      spending : length (spentTags M (x .tokens)) ≡ length (spentTags M (s .tokens)) + f
       kept : Kept (view M s) → Kept (view M x)
 
     carried : (s : StateOf M) → Good M s → (f o : ℕ) (x : StateOf M) → Reached M s f o x → Carried s f o x
     carried s g zero o x (e, q) = subst (Carried s 0 o) (sym q) (record { good = g; count = omega arith; spending = omega arith; kept = λ h. h })
     carried s g (suc f) o x (y, n, τ, r, e, q) = next (carried s g f n y r)
       where
-        ready : Ready M (view M y) τ
-        ready = firedReady y x τ e
-
         next : Carried s f n y → Carried s (suc f) o x
         next h =
-            let (st, gx, more) = rw e at (fireResult M law y τ (h .good) ready) in
+            let fr = firing M law y x τ (h .good) e in
+            let st = fr .step in
+            let more = perm-length (fr .tags) in
             let c : length (y .tokens) + length (st .delta .keys) ≡ length (x .tokens) = ap (λ v. v .used) (st .result) in
             let p = outputsKnown y τ (st .ops) (st .delta) (st .given) (st .known) in
             let hc = h .count in
             let hs = h .spending in
             record {
-              good = gx;
+              good = fr .good;
               count = omega arith;
               spending = omega arith;
               kept = λ z. subst Kept (st .result) (keptAfter (view M y) τ (st .delta)
@@ -304,7 +299,7 @@ module _ (M : Machine) where
     reached-count s g f o x r = carried s g f o x r .count
 
     pub reached-firings : (s : StateOf M) → Good M s → (f o : ℕ) (x : StateOf M) → Reached M s f o x → f ≤ length (x .tokens)
-    reached-firings s g f o x r = let h = carried s g f o x r .spending in let l = spentsLength M (x .tokens) in omega arith
+    reached-firings s g f o x r = let h = carried s g f o x r .spending in let l = tagsLength M (x .tokens) in omega arith
 
     pub reached-invariants : ReachedInvariants M
     reached-invariants s st f o x r = record {
@@ -334,43 +329,16 @@ module _ (M : Machine) where
   prepend s x τ e zero o y (h, q) = (s, 0, τ, (refl, refl), e ∙ ap fired (sym q), omega arith)
   prepend s x τ e (suc f) o y (z, n, σ, r, g, q) = (z, outputs M s τ + n, σ, prepend s x τ e f n z r, g, omega arith)
 
-  saysLater : (o : Outcome (M .Refusal)) (b n : ℕ) (x : StateOf M) → Says M o b n x → Says M o (suc b) (suc n) x
-  saysLater completed b n x h = h
-  saysLater budgetSpent b n x (e, a, m) = (ap suc e, a, m)
-  saysLater (refused r p) b n x (l, a, m, q, e) = (omega arith, a, m, q, e)
-
-  endedAt : (s : StateOf M) (b f : ℕ) (o : Outcome (M .Refusal)) → Says M o b 0 s → Ended M s b f (record { outcome = o; firings = f; state = s })
-  endedAt s b f o h = record { done = 0; sent = 0; firings = omega arith; reached = (refl, refl); says = h }
+  -- a sequence reaches its end
+  pub sequenceReaches : (τs : List (M .Tag)) (s x : StateOf M) → Fires M s τs x → (sent : ℕ) × Reached M s (length τs) sent x
+  sequenceReaches [] s x p = (0, (refl, sym p))
+  sequenceReaches (τ ∷ τs) s x (y, e, p) = let (o, r) = sequenceReaches τs y x p in (outputs M s τ + o, prepend s y τ e (length τs) o x r)
 
   pub reached-run : RunsEnd M
-  reached-run c ok s zero ps f = go (enabled M s) refl
-    where
-      go : (l : List (Activity (M .Tag))) → enabled M s ≡ l → Ended M s 0 f (runBy M c zero ps f s)
-      go [] e = rw (runEmpty M c zero ps f s e) (endedAt s 0 f completed e)
-      go (a ∷ more) e = rw (runZero M c ps f s a more e) (endedAt s 0 f budgetSpent (refl, a, rw e (List·Memᴰ·head refl)))
-  reached-run c ok s (suc b) ps f = go (enabled M s) refl (λ x. reached-run c ok x b (laterPicks ps) (suc f))
-    where
-      Rest : Type 0
-      Rest = (x : StateOf M) → Ended M x b (suc f) (runBy M c b (laterPicks ps) (suc f) x)
-
-      oneMore : (x : StateOf M) (τ : M .Tag) (e : EndOf M) → fire M s τ ≡ fired x → Ended M x b (suc f) e → Ended M s (suc b) f e
-      oneMore x τ e h r = record {
-        done = suc (r .done);
-        sent = outputs M s τ + r .sent;
-        firings = let z = r .firings in omega arith;
-        reached = prepend s x τ h (r .done) (r .sent) (e .state) (r .reached);
-        says = saysLater (e .outcome) b (r .done) (e .state) (r .says);
-      }
-
-      byFiring : (a : Activity (M .Tag)) (more : List (Activity (M .Tag))) → enabled M s ≡ a ∷ more → Rest → (y : FiredOf M) → fire M s (c s (firstPick ps) a more .tag) ≡ y
-          → Ended M s (suc b) f (runBy M c (suc b) ps f s)
-      byFiring a more e rest (notFired r) h = rw (runRefused M c b ps f s a more r e h)
-          (endedAt s (suc b) f (refused r (c s (firstPick ps) a more .place)) (omega arith, c s (firstPick ps) a more, rw e (ok s (firstPick ps) a more), refl, h))
-      byFiring a more e rest (fired x) h = rw (runFired M c b ps f s x a more e h) (oneMore x (c s (firstPick ps) a more .tag) (runBy M c b (laterPicks ps) (suc f) x) h (rest x))
-
-      go : (l : List (Activity (M .Tag))) → enabled M s ≡ l → Rest → Ended M s (suc b) f (runBy M c (suc b) ps f s)
-      go [] e rest = rw (runEmpty M c (suc b) ps f s e) (endedAt s (suc b) f completed e)
-      go (a ∷ more) e rest = byFiring a more e rest (fire M s (c s (firstPick ps) a more .tag)) refl
+  reached-run c ok s b ps f =
+      let h = ran M c ok b ps f s in
+      let (o, r) = sequenceReaches (logOf M c b ps s) s (runBy M c b ps f s .state) (h .logged .fires) in
+      record { done = length (logOf M c b ps s); sent = o; firings = h .logged .firings; reached = r; says = h .says }
 
   -- a run by picks
   pub reached-picks : (s : StateOf M) (budget : ℕ) (picks : List ℕ) → Ended M s budget 0 (run M budget picks s)

@@ -1,18 +1,18 @@
--- A firing over the lists of tokens and cells is a firing over the view (`commitResult`), it keeps keys different, and it
--- spends a token more. Assumes nothing.
+-- A firing over the lists of tokens and cells is a firing over the view (`commitResult`), and it keeps keys
+-- different. Assumes nothing.
 use mathlib.Core.Path.{_≡_, refl, sym, ap, subst, _∙_, fun-ext}
 use mathlib.Core.List.{List, [], _∷_, _++_, map}
 use mathlib.Core.Option.{Option, none, some}
-use mathlib.Core.Bool.{Bool, true, false, _||_, cond}
-use Prim.Native.Nat.{ℕ, suc, _+_, _≤_, _<_}
+use mathlib.Core.Bool.{Bool, true, false, _||_}
+use Prim.Native.Nat.{ℕ, _+_, _<_}
 use native.Mathlib.Decide.{ℕ-discrete}
 use native.Mathlib.Omega.{arith}
 use lib.ListN.{length, set, length-append, length-map, length-set}
 use lib.Seq.{getD-set-same, getD-set-other}
 use borrow.Author.Tests.{ltb-true, ltb-false}
 use Rattle.machine.specs.Machine.{Key, Content, live, spent, deferred, Token, Cell, absent, waiting, present, refuse, send, read, write, Machine, fired, notFired}
-use Rattle.machine.specs.Machine.{when, onOption, isThere, spend, fill, cellAt, cellRead, contentRead, ifPresent, changed, output}
-use Rattle.machine.specs.Machine.{Ledger, StateOf, EffectOf, FiredOf, Contents, sameKey, find, look, operandOf, spendAt, among, anyTaken, exceeds, admit, commit}
+use Rattle.machine.specs.Machine.{when, isThere, fill, cellAt, cellRead, contentRead, ifPresent, changed, output}
+use Rattle.machine.specs.Machine.{Ledger, StateOf, EffectOf, FiredOf, Contents, sameKey, find, look, spendAt, among, anyTaken, exceeds, admit, commit}
 use Rattle.machine.specs.Orders.{CellsBelow, Distinct}
 use Rattle.machine.proofs.View.{when-yes, noneSome, falseTrue, omap, orElse, given, value, resolve, settle, onlyAt, cellStep, NotPresent, Unwritten, cellAfter}
 use Rattle.machine.proofs.View.{View, DeltaOf, deltaOf, Fresh, Allowed, change, apply, freshGet, freshChange}
@@ -20,32 +20,6 @@ use Rattle.machine.proofs.View.{View, DeltaOf, deltaOf, Fresh, Allowed,
 -- ---- contents
 
 module _ {W : Type 0} where
-  -- 1 if spent
-  abbrev pub weight : Content W → ℕ
-  weight (live v) = 0
-  weight (spent v) = 1
-  weight (deferred c) = 0
-
-  weightOne : (y : Content W) → weight y ≤ 1
-  weightOne (live v) = omega arith
-  weightOne (spent v) = omega arith
-  weightOne (deferred c) = omega arith
-
-  settleWeight : (f : ℕ → Option W) (y : Content W) → weight (settle f y) ≡ weight y
-  settleWeight f (live v) = refl
-  settleWeight f (spent v) = refl
-  settleWeight f (deferred c) = go (f c)
-    where
-      go : (q : Option W) → weight (onOption q (deferred c) live) ≡ 0
-      go none = refl
-      go (some v) = refl
-
-  spendWeight : (b : Bool) (y : Content W) → weight y ≤ weight (cond b (spend y) y)
-  spendWeight true (live v) = omega arith
-  spendWeight true (spent v) = omega arith
-  spendWeight true (deferred v) = omega arith
-  spendWeight false y = omega arith
-
   settleNone : (y : Content W) → y ≡ settle (λ c. none) y
   settleNone (live v) = refl
   settleNone (spent v) = refl
@@ -161,59 +135,6 @@ module _ (M : Machine) where
   takenOf ts [] f = refl
   takenOf ts (k ∷ ks) f = rw (f .0, f .1) (takenOf ts ks (f .2))
 
-  -- ---- spent tokens
-
-  abbrev pub spents : Ledger M → ℕ
-  spents [] = 0
-  spents (x ∷ xs) = weight (x .content) + spents xs
-
-  spentsAppend : (l m : Ledger M) → spents l ≤ spents (l ++ m)
-  spentsAppend [] m = omega arith
-  spentsAppend (x ∷ xs) m = let h = spentsAppend xs m in omega arith
-
-  pub spentsLength : (l : Ledger M) → spents l ≤ length l
-  spentsLength [] = omega arith
-  spentsLength (x ∷ xs) = let h = spentsLength xs in let w = weightOne (x .content) in omega arith
-
-  -- a live token is not spent
-  pub spentsLive : (k : Key (M .Tag)) (u : M .Value) (l : Ledger M) → find M k l ≡ some (live u) → spents l < length l
-  spentsLive k u [] e = noneSome e
-  spentsLive k u (x ∷ xs) e = go (λ h. spentsLive k u xs h) (sameKey M k (x .key)) e
-    where
-      here : (y : Content (M .Value)) → y ≡ live u → weight y ≡ 0
-      here y e = rw e
-
-      go : (find M k xs ≡ some (live u) → spents xs < length xs) → (d : Dec (k ≡ x .key)) → when d (some (x .content)) (find M k xs) ≡ some (live u) → weight (x .content) + spents xs < suc (length xs)
-      go rec (yes p) h = let z = here (x .content) (cc) in let w = spentsLength xs in omega arith
-      go rec (no n) h = let z = rec h in let w = weightOne (x .content) in omega arith
-
-  changeWeight : (t : M .Tag) (d : DeltaOf M) (k : Key (M .Tag)) (y : Content (M .Value)) → weight y ≤ weight (change M t d k y)
-  changeWeight t d k y = let h = settleWeight (d .writes) (spendAt M t k y) in let w = spendWeight (operandOf M t k) y in omega arith
-
-  spentsChanged : (t : M .Tag) (d : DeltaOf M) (l : Ledger M) → spents l ≤ spents (map (changed (change M t d)) l)
-  spentsChanged t d [] = omega arith
-  spentsChanged t d (x ∷ xs) = let h = spentsChanged t d xs in let w = changeWeight t d (x .key) (x .content) in omega arith
-
-  spentsMore : (t : M .Tag) (d : DeltaOf M) (k : Key (M .Tag)) (u : M .Value) (l : Ledger M) → operandOf M t k ≡ true → find M k l ≡ some (live u)
-      → spents l < spents (map (changed (change M t d)) l)
-  spentsMore t d k u [] o e = noneSome e
-  spentsMore t d k u (x ∷ xs) o e = go (λ h. spentsMore t d k u xs o h) (sameKey M k (x .key)) e
-    where
-      before : (y : Content (M .Value)) → y ≡ live u → weight y ≡ 0
-      before y h = rw h
-
-      after : (j : Key (M .Tag)) (y : Content (M .Value)) → k ≡ j → y ≡ live u → weight (change M t d j y) ≡ 1
-      after j y p h = rw (h, ← p, o)
-
-      go : (find M k xs ≡ some (live u) → spents xs < spents (map (changed (change M t d)) xs)) → (q : Dec (k ≡ x .key)) → when q (some (x .content)) (find M k xs) ≡ some (live u)
-          → spents (x ∷ xs) < spents (map (changed (change M t d)) (x ∷ xs))
-      go rec (yes p) h =
-          let q : x .content ≡ live u = cc in
-          let b = before (x .content) q in
-          let a = after (x .key) (x .content) p q in
-          let w = spentsChanged t d xs in omega arith
-      go rec (no n) h = let z = rec h in let w = changeWeight t d (x .key) (x .content) in omega arith
-
   -- ---- a firing
 
   -- a state by key and by cell
@@ -226,7 +147,10 @@ module _ (M : Machine) where
     pub seen : apply M t d (view s) ≡ view x
     pub distinct : Distinct M (x .tokens)
     pub cellCount : length (x .cells) ≡ length (s .cells)
-    pub gain : (k : Key (M .Tag)) (u : M .Value) → operandOf M t k ≡ true → find M k (s .tokens) ≡ some (live u) → spents (s .tokens) < spents (x .tokens)
+    -- its tokens one by one: those of s changed, and behind them the outputs, all with one content
+    pub sent : Content (M .Value)
+    pub sentFrom : sent ≡ resolve (cellAfter d (cellAt (s .cells))) (d .source)
+    pub listed : x .tokens ≡ map (changed (change M t d)) (s .tokens) ++ map (output sent) (d .keys)
 
   abbrev pub Result : StateOf M → M .Tag → DeltaOf M → FiredOf M → Type 0
   Result s t d (notFired r) = ¬ (Allowed M (view s) d)
@@ -240,7 +164,9 @@ module _ (M : Machine) where
     seen = λ i. record { tok = λ k. sym (toks k) i; cell = sym c i; used = sym lengths i };
     distinct = distinctAppend (change M t d) y (s .tokens) (d .keys) ds (al .fresh);
     cellCount = l;
-    gain = λ k u o e. let h = spentsMore t d k u (s .tokens) o e in let w = spentsAppend (map (changed (change M t d)) (s .tokens)) (map (output y) (d .keys)) in omega arith;
+    sent = y;
+    sentFrom = v;
+    listed = refl;
   }
     where
       toks : (k : Key (M .Tag)) → find M k (map (changed (change M t d)) (s .tokens) ++ map (output y) (d .keys)) ≡ apply M t d (view s) .tok k

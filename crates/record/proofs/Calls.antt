@@ -8,7 +8,7 @@ use native.Mathlib.Nat.{pow-suc, pow-le-pow-right}
 use borrow.Author.Tests.{ne-eqb, lt-ltb, le-ltb}
 use lib.ListN.{length}
 use Rattle.buffer.specs.Rows.{All}
-use Rattle.record.specs.Calls.{mostLevels, entered, enterOf, leaveOf, Call, CallFits, pathOf}
+use Rattle.record.specs.Calls.{mostLevels, entered, enterOf, leaveOf, Call, CallFits, pathOf, CallLaws}
 use Rattle.record.specs.declared.tag.Tag.{Tag}
 use Rattle.record.specs.declared.tag.Entered.the-variants.{In, TooDeep}
 use Rattle.record.specs.declared.tag.Left.the-variants.{To}
@@ -79,3 +79,8 @@ too-deep k site (c ∷ cs) f e h =
 -- where the calls of a path are cs, those of the path that ENTER gives are one more
 pub entered-path : (k : Tag) (site : ℕ) (cs : List Call) → k .path ≡ pathOf cs → entered k site .path ≡ pathOf (record { site = site; iteration = k .iteration } ∷ cs)
 entered-path k site cs e = ap (λ (n : ℕ). n * 65536 + site * 256 + k .iteration) e
+
+-- ---- the statement
+
+pub calls : CallLaws
+calls = record { leaveInverts = leave-entered; different = different; enters = enters; tooDeep = too-deep }

@@ -23,6 +23,7 @@ use Rattle.record.specs.declared.cell.Cell.{Cell}
 use Rattle.record.specs.declared.cell.Cell.the-variants.{Absent, Waiting, Present}
 use Rattle.number.proofs.Numbers.{number16-bytes, number32-bytes, number64-bytes, fits16, fits32, fits64, number32-small, bytes16-number, bytes32-number, bytes64-number, bits-fit, signed-bits, bits-signed}
 use Rattle.buffer.proofs.Tables.{rows-put, rows-end, rows-joined}
+use Rattle.record.specs.Codecs.{ProperToken, ProperCell, Codecs}
 use Rattle.record.specs.Widths.{tokenWidth, cellWidth}
 
 -- ---- a list as its elements
@@ -94,13 +95,6 @@ token-back t rest f =
       content-back _ (f .content),
     )
 
--- what a record may hold whose bytes are written back: a state of the three, and zeros
-pub record ProperToken (l : List ℕ) : Type 0 where
-  pub size : length l ≡ tokenWidth
-  pub small : (k : ℕ) → byteAt l k < 256
-  pub state : byteAt l 16 < 3
-  pub zeros : (byteAt l 17 ≡ 0) × (byteAt l 18 ≡ 0) × (byteAt l 19 ≡ 0)
-
 state-back : (bits s : ℕ) → s < 3 → stateOf (contentOf bits s) ≡ s
 unfolding contentOf
 state-back bits zero h = refl
@@ -139,14 +133,6 @@ unfolding Cells.encode Cells.decode Cells.cellOf
 cell-back Absent rest f = refl
 cell-back Waiting rest f = refl
 cell-back (Present v) rest f = rw (number32-bytes (bitsOf v) [], fits32 _ (bits-fit v f), signed-bits v f)
-
--- what a record may hold whose bytes are written back: a state of the three, zeros, and the value 0 until present
-pub record ProperCell (l : List ℕ) : Type 0 where
-  pub size : length l ≡ 8
-  pub small : (k : ℕ) → byteAt l k < 256
-  pub state : byteAt l 4 < 3
-  pub value : byteAt l 4 < 2 → number32 l 0 ≡ 0
-  pub zeros : (byteAt l 5 ≡ 0) × (byteAt l 6 ≡ 0) × (byteAt l 7 ≡ 0)
 
 cell-bytes : (bits s : ℕ) → s < 3 → (s < 2 → bits ≡ 0) → bits < 2 ^ 32 → Cells.encode (cellOf bits s) ≡ Cells.cellBytes bits s
 unfolding Cells.encode cellOf
@@ -213,3 +199,15 @@ cells-put x f = rows-put cellWidth Cells.decode (own cellWidth Cells.decode cell
 
 pub cells-joined : (xs : List Cell) (r : List ℕ) → All CellFits xs → cells (length xs) (joined Cells.encode xs ++ r) ≡ xs
 cells-joined = rows-joined cellWidth Cells.encode length-cell Cells.decode CellFits cell-back
+
+-- ---- the statement
+
+pub codecs : Codecs
+codecs = record {
+  instruction = instruction-back;
+  token = token-back;
+  cell = cell-back;
+  instructionBytes = instruction-bytes-back;
+  tokenBytes = token-bytes-back;
+  cellBytes = cell-bytes-back;
+}

@@ -1,8 +1,10 @@
 -- 01, "Firing", of tags: NEXT adds 1 to the iteration, ENTER names a call by its path, LEAVE finds the caller in the path. Assumes nothing.
 use Prim.Native.Nat.{ℕ, _+_, _-_, _*_, _/_, _%_, _^_, _<_, _≤_}
-use mathlib.Core.Bool.{Bool, cond}
+use mathlib.Core.Path.{_≡_}
+use mathlib.Core.Bool.{cond}
 use mathlib.Core.List.{List, [], _∷_}
 use lib.Dec.{ltb, eqb}
+use lib.ListN.{length}
 use Rattle.buffer.specs.Rows.{All}
 use Rattle.record.specs.declared.tag.Tag.{Tag}
 use Rattle.record.specs.declared.tag.Entered.{Entered}
@@ -53,3 +55,14 @@ pub record CallFits (c : Call) : Type 0 where
 abbrev pub pathOf : List Call → ℕ
 pathOf [] = 0
 pathOf (c ∷ cs) = pathOf cs * 65536 + c .site * 256 + c .iteration
+
+-- ---- what is stated of calls; it is proved in proofs/Calls
+
+pub record CallLaws : Type 0 where
+  -- LEAVE inverts ENTER
+  pub leaveInverts : (k : Tag) (site : ℕ) → k .iteration < 256 → 0 < site → site < 256 → leaveOf (entered k site) ≡ To site k
+  -- different calls have different paths
+  pub different : (cs ds : List Call) → All CallFits cs → All CallFits ds → pathOf cs ≡ pathOf ds → cs ≡ ds
+  -- ENTER is refused at the most levels, and not before
+  pub enters : (k : Tag) (site : ℕ) (cs : List Call) → All CallFits cs → k .path ≡ pathOf cs → length cs < mostLevels → enterOf k site ≡ In (entered k site)
+  pub tooDeep : (k : Tag) (site : ℕ) (cs : List Call) → All CallFits cs → k .path ≡ pathOf cs → mostLevels ≤ length cs → enterOf k site ≡ TooDeep

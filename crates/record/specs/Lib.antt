@@ -4,3 +4,4 @@ pub mod GraphRecords
 pub mod TokensAndTags
 pub mod Calls
 pub mod Cells
+pub mod Codecs

@@ -25,16 +25,16 @@ use Rattle.record.specs.declared.token.Token as Record
 use Rattle.record.specs.declared.token.Content as RecordContent
 use Rattle.record.specs.declared.token.Content.the-variants as Contents
 use Rattle.number.specs.Number.{Bytes}
-use Rattle.buffer.specs.Rows.{All, whole, allRows}
+use Rattle.buffer.specs.Rows.{All, allRows}
 use Rattle.record.specs.TokensAndTags as Tokens
-use Rattle.record.specs.TokensAndTags.{ContentFits, TokenFits, mostTokens, capacityOf}
+use Rattle.record.specs.TokensAndTags.{ContentFits, TokenFits, capacityOf}
 use Rattle.record.specs.Cells.{CellFits}
 use Rattle.record.specs.Calls.{entered, nextOf, enterOf, leaveOf}
 use Rattle.record.specs.GraphRecords.{inUse, operationOf, graphOf, InstructionFits}
 use Rattle.record.specs.GraphRecords as Graph
 use Rattle.record.proofs.Fitting.{token-fits, instruction-fits, rows-fit}
 use Rattle.buffer.proofs.Tables.{length-rows}
-use Rattle.record.specs.Widths.{tokenWidth, cellWidth, graphWidth, pickWidth}
+use Rattle.record.specs.Widths.{tokenWidth, cellWidth, graphWidth}
 use Rattle.arithmetic.specs.declared.Computed.{Computed}
 use Rattle.arithmetic.specs.declared.Computed.the-variants.{Value, OutOfRange}
 use Rattle.arithmetic.specs.Arithmetic.{computeOf, eqZ}
@@ -44,17 +44,16 @@ use Rattle.machine.specs.Orders.{Live, AllLive, Start}
 use Rattle.machine.proofs.Orders.{startGood}
 use Rattle.machine.proofs.Reached.{reached-good, reached-picks}
 use Rattle.machine.proofs.Kept.{Each, OfContent, OfToken, OfCell, OfState, OfEffect, Keeps, run-keeps}
-use Rattle.rules.specs.declared.answer.Checked.{Checked}
-use Rattle.rules.specs.declared.answer.Checked.the-variants.{Passed, Failed}
+use Rattle.rules.specs.declared.answer.Checked.the-variants.{Passed}
 use Rattle.rules.specs.declared.answer.Refusal.the-variants as Refusals
 use Rattle.rules.specs.Check.{instructionAt, within, checkGraph, checkStores, check, mostCells}
 use Rattle.rules.specs.InstructionSet.{EffectHere, keyUnder, allUnder, sideOf, sendComputed, sendNext, sendEntered, sendReturned, returnOf, sendLeft, onCell, effectOf, effectIn, machineOf}
-use Rattle.rules.specs.Run.{contentHeld, contentRecord, tokenHeld, tokenRecord, cellRecord, firstState, picksOf, Result, refusedAtOnce, ranTo, unlessFailed, result}
-use Rattle.rules.specs.Orders.{tokensOf, cellsOf}
-use Rattle.rules.proofs.Passed.{both, demand-passed, andThen-passed, getD-past}
+use Rattle.rules.specs.Run.{contentHeld, contentRecord, tokenHeld, tokenRecord, cellRecord, firstState, picksOf, Result, refusedAtOnce, ranTo, result}
+use Rattle.rules.specs.Fits.{AllFit, ResultsFit}
+use Rattle.rules.proofs.Passed.{both, getD-past}
 use Rattle.rules.proofs.PassedGraph.{of-graph, at-most, enter-site}
 use Rattle.rules.proofs.Lawful.{lawful}
-use Rattle.rules.proofs.Inputs.{start}
+use Rattle.rules.proofs.Accepted.{whole-bytes, stores-whole, accepted, begins, by-check}
 
 -- ---- keys
 
@@ -267,25 +266,6 @@ module _ (graph : List ℕ) (bytes : Bytes graph) (passed : checkGraph graph ≡
 
 -- ---- whole runs
 
-cells-few : (inputs picks ledger cells : ℕ) → checkStores inputs picks ledger cells ≡ Passed → cells / cellWidth ≤ mostCells
-unfolding checkStores
-cells-few inputs picks ledger cells e =
-    let all = demand-passed _ Refusals.BadStore 0 e in
-    let later = both (whole tokenWidth mostTokens inputs) _ all .1 in
-    let last = both (whole pickWidth mostTokens picks) _ later .1 in
-    leb-true (cells / cellWidth) mostCells (both (eqb (cells % cellWidth) 0) _ (both (whole tokenWidth mostTokens ledger) _ last .1) .1)
-
--- a run that was not refused at once leaves as many cells as there are
-abbrev pub CellCount : Result → ℕ → Type 0
-CellCount (refusedAtOnce r p) n = Unit {0}
-CellCount (ranTo e) n = length (cellsOf (ranTo e)) ≡ n
-
-pub record AllFit (x : Result) (capacity count : ℕ) : Type 0 where
-  pub tokens : All TokenFits (tokensOf x)
-  pub cells : All CellFits (cellsOf x)
-  pub room : length (tokensOf x) ≤ capacity
-  pub cellCount : CellCount x count
-
 run-fits : (graph : List ℕ) → Bytes graph → checkGraph graph ≡ Passed → (capacity cells : ℕ) → cells ≤ mostCells → (inputs : List ℕ) → Bytes inputs
     → Start (machineOf (graphOf graph) capacity cells) (firstState inputs cells) → (budget : ℕ) (picks : List ℕ)
     → AllFit (ranTo (run (machineOf (graphOf graph) capacity cells) budget picks (firstState inputs cells))) capacity cells
@@ -303,16 +283,10 @@ run-fits graph graphBytes passed capacity cells few inputs inputBytes begun budg
       cellCount = length-map (x .cells) cellRecord ∙ good .cellCount;
     }
 
-module _ (graph inputs picks : List ℕ) (budget ledger cells : ℕ) (graphBytes : Bytes graph) (inputBytes : Bytes inputs) where
-  pub result-fits : AllFit (result graph inputs picks budget ledger cells) (capacityOf ledger) (cells / cellWidth)
-  unfolding result unlessFailed check checkStores
-  result-fits = go (check graph inputs picks ledger cells) refl
-    where
-      go : (c : Checked) → check graph inputs picks ledger cells ≡ c → AllFit (result graph inputs picks budget ledger cells) (capacityOf ledger) (cells / cellWidth)
-      go (Failed r p) e = rw e (record { tokens = tt; cells = tt; room = omega arith; cellCount = tt })
-      go Passed e =
-          let parts = andThen-passed (checkGraph graph) _ e in
-          let later = andThen-passed (checkStores (length inputs) (length picks) ledger cells) _ (parts .1) in
-          let few : cells / cellWidth ≤ mostCells = cells-few (length inputs) (length picks) ledger cells (later .0) in
-          let begun = start (graphOf graph) (capacityOf ledger) (cells / cellWidth) inputs (later .1) in
-          rw e (run-fits graph graphBytes (parts .0) (capacityOf ledger) (cells / cellWidth) few inputs inputBytes begun budget (picksOf picks))
+pub result-fits : ResultsFit
+unfolding result check
+result-fits graph inputs picks budget ledger cells graphBytes inputBytes =
+    by-check (check graph inputs picks ledger cells) _ (λ x. AllFit x (capacityOf ledger) (cells / cellWidth)) (λ r p e. record { tokens = tt; cells = tt; room = omega arith; cellCount = tt }) (λ e.
+    let (stores, a) = accepted graph inputs (capacityOf ledger) (checkStores (length inputs) (length picks) ledger cells) e in
+    let few = whole-bytes cellWidth mostCells cells (stores-whole (length inputs) (length picks) ledger cells stores .wholeCells) .1 in
+    run-fits graph graphBytes (a .graphPassed) (capacityOf ledger) (cells / cellWidth) few inputs inputBytes (begins graph inputs (capacityOf ledger) (cells / cellWidth) a) budget (picksOf picks))

@@ -1,6 +1,6 @@
--- What a run leaves, for a reader of 01: a refusal before any firing writes nothing; a run first sets all cells absent and writes its inputs; a refused
--- firing leaves ledger and cells as it found them; bytes past what is written stay as lent. All of it follows from `result`, `answer`, `ledgerAfter` and
--- `cellsAfter`, by which the promise of `run` is made. Assumes nothing.
+-- Demands 1 and 2, proved (`demand1`, `demand2`): a refusal before any firing writes nothing; a refused firing leaves ledger and cells as it found them; bytes
+-- past what is written stay as lent; a run first sets all cells absent and writes its inputs, and then fires by the rules. All of it follows from `result`,
+-- `answer`, `ledgerAfter` and `cellsAfter`, by which the promise of `run` is made. Assumes nothing.
 use Prim.Native.Nat.{ℕ, zero, suc, _*_, _/_, _%_, _<_, _≤_}
 use mathlib.Core.Path.{_≡_, refl, sym, ap, _∙_}
 use mathlib.Core.Bool.{true}
@@ -19,7 +19,7 @@ use Rattle.record.specs.declared.token.Content.the-variants.{Live, Spent, Defer
 use Rattle.record.specs.declared.token.Content as RecordContent
 use Rattle.record.specs.declared.instruction.Instruction.{Instruction}
 use Rattle.number.specs.Number.{Bytes, byteAt, number16, number32, number64}
-use Rattle.buffer.specs.Rows.{rows, allRows, joined, whole, writtenOver}
+use Rattle.buffer.specs.Rows.{rows, allRows, joined, writtenOver}
 use Rattle.record.specs.GraphRecords.{graphOf}
 use Rattle.record.specs.TokensAndTags.{isInput, mostTokens, capacityOf, ledgerOf}
 use Rattle.record.specs.TokensAndTags as Tokens
@@ -27,39 +27,38 @@ use Rattle.record.specs.Cells as Cells
 use Rattle.record.proofs.Records.{token-bytes-back, token-front, length-token}
 use Rattle.record.proofs.Fitting.{bytes-drop}
 use Rattle.buffer.proofs.Tables.{length-joined, rows-raw}
-use Rattle.record.specs.Widths.{tokenWidth, cellWidth, pickWidth}
+use Rattle.record.specs.Widths.{tokenWidth, cellWidth}
 use Rattle.machine.specs.Machine.{absent, refused, Machine, State, budgetSpent, End, run}
 use Rattle.machine.specs.Machine as Machine
 use Rattle.machine.proofs.Refused.{refused-picks, run-zero}
+use Rattle.machine.proofs.Parts.{next-firing}
 use Rattle.rules.specs.declared.answer.Refusal.{Refusal}
 use Rattle.rules.specs.declared.answer.Refusal.the-variants as Refusals
 use Rattle.rules.specs.declared.answer.Outcome.the-variants as Outcomes
 use Rattle.rules.specs.declared.answer.Checked.the-variants.{Passed, Failed}
-use Rattle.rules.specs.Check.{demand, inTurn, goodInput, operandsAt, checkGraph, checkStores, checkInputs, check}
+use Rattle.rules.specs.Check.{demand, inTurn, goodInput, operandsAt, checkStores, checkInputs, check, mostCells}
 use Rattle.rules.specs.InstructionSet.{machineOf}
 use Rattle.rules.specs.Run.{contentHeld, contentRecord, tokenHeld, tokenRecord, cellRecord, firstState, picksOf, Result, refusedAtOnce, ranTo, outcomeOf, unlessFailed, result, answer, ledgerAfter, cellsAfter}
+use Rattle.rules.specs.Demand1.{Untouched, AsBefore, Demand1}
+use Rattle.rules.specs.Demand2.{Demand2}
 use Rattle.rules.proofs.Passed.{both, demand-passed, andThen-passed, getD-past}
+use Rattle.rules.proofs.Accepted.{whole-bytes, stores-whole, accepted}
 
 -- ---- "All these answer 0 firings and 0 tokens and write no buffer."
-
-pub record Untouched (x : Result) (r : Refusal) (place : ℕ) (ledger cells : List ℕ) : Type 0 where
-  pub answered : answer x ≡ record { outcome = Outcomes.Refused r place; firings = 0; tokens = 0 }
-  pub ledgerLeft : ledgerAfter x ledger ≡ ledger
-  pub cellsLeft : cellsAfter x cells ≡ cells
 
 at-once : (r : Refusal) (place : ℕ) (ledger cells : List ℕ) → Untouched (refusedAtOnce r place) r place ledger cells
 unfolding answer ledgerAfter cellsAfter
 at-once r place ledger cells = record { answered = refl; ledgerLeft = refl; cellsLeft = refl }
 
 -- for a refusal that the check finds, whatever ledger and cells held
-pub refused-before-firing : (graph inputs picks : List ℕ) (budget : ℕ) (ledger cells : List ℕ) (r : Refusal) (place : ℕ) → check graph inputs picks (length ledger) (length cells) ≡ Failed r place → Untouched (result graph inputs picks budget (length ledger) (length cells)) r place ledger cells
+refused-before-firing : (graph inputs picks : List ℕ) (budget : ℕ) (ledger cells : List ℕ) (r : Refusal) (place : ℕ) → check graph inputs picks (length ledger) (length cells) ≡ Failed r place → Untouched (result graph inputs picks budget (length ledger) (length cells)) r place ledger cells
 unfolding result unlessFailed
 refused-before-firing graph inputs picks budget ledger cells r place failed = rw failed (at-once r place ledger cells)
 
 -- ---- "Here and in every other buffer, bytes past what is written stay as lent."
 
 -- the used records are as many as the answer has tokens
-pub rest-as-lent : (x : Result) (ledger : List ℕ) → drop (answer x .tokens * tokenWidth) (ledgerAfter x ledger) ≡ drop (answer x .tokens * tokenWidth) ledger
+rest-as-lent : (x : Result) (ledger : List ℕ) → drop (answer x .tokens * tokenWidth) (ledgerAfter x ledger) ≡ drop (answer x .tokens * tokenWidth) ledger
 unfolding answer ledgerAfter
 rest-as-lent (refusedAtOnce r p) ledger = refl
 rest-as-lent (ranTo e) ledger =
@@ -69,18 +68,11 @@ rest-as-lent (ranTo e) ledger =
 
 -- ---- a refused firing
 
--- "ledger and cells stay as before this firing, and the run ends": the same run with a budget of the firings that were done is stopped right before the
--- refused one, and leaves the same
-pub record AsBefore (x before : Result) (ledger cells : List ℕ) : Type 0 where
-  pub stopped : answer before ≡ record { outcome = Outcomes.Spent; firings = answer x .firings; tokens = answer x .tokens }
-  pub ledgerLeft : ledgerAfter x ledger ≡ ledgerAfter before ledger
-  pub cellsLeft : cellsAfter x cells ≡ cellsAfter before cells
-
 as-before : (e d : End Refusal Tag ℤ) → d ≡ record { outcome = budgetSpent; firings = e .firings; state = e .state } → (ledger cells : List ℕ) → AsBefore (ranTo e) (ranTo d) ledger cells
 unfolding answer ledgerAfter cellsAfter
 as-before e d same ledger cells = rw same (record { stopped = refl; ledgerLeft = refl; cellsLeft = refl })
 
-pub refused-firing : (graph inputs picks : List ℕ) (budget : ℕ) (ledger cells : List ℕ) → check graph inputs picks (length ledger) (length cells) ≡ Passed → (r : Refusal) (place : ℕ)
+refused-firing : (graph inputs picks : List ℕ) (budget : ℕ) (ledger cells : List ℕ) → check graph inputs picks (length ledger) (length cells) ≡ Passed → (r : Refusal) (place : ℕ)
     → answer (result graph inputs picks budget (length ledger) (length cells)) .outcome ≡ Outcomes.Refused r place
     → AsBefore (result graph inputs picks budget (length ledger) (length cells))
     (result graph inputs picks (answer (result graph inputs picks budget (length ledger) (length cells)) .firings) (length ledger) (length cells))
@@ -142,14 +134,6 @@ unfolding Cells.encode
 absent-bytes zero = refl
 absent-bytes (suc n) = rw (absent-bytes n, suc-mul n 8, add-comm (n * cellWidth) 8) (replicate-append-replicate 8 (n * cellWidth) 0)
 
-stores-whole : (inputs picks ledger cells : ℕ) → checkStores inputs picks ledger cells ≡ Passed → (inputs % tokenWidth ≡ 0) × (cells % cellWidth ≡ 0)
-unfolding checkStores
-stores-whole inputs picks ledger cells e =
-    let all = both (whole tokenWidth mostTokens inputs) _ (demand-passed _ Refusals.BadStore 0 e) in
-    let later = both (whole pickWidth mostTokens picks) _ (all .1) .1 in
-    let last = both (whole tokenWidth mostTokens ledger) _ later .1 in
-    (eqb-true (inputs % tokenWidth) 0 (both (eqb (inputs % tokenWidth) 0) _ (all .0) .0), eqb-true (cells % cellWidth) 0 (both (eqb (cells % cellWidth) 0) _ last .0))
-
 first-left : (g : List Instruction) (capacity : ℕ) (picks inputs ledger cells : List ℕ) → Bytes inputs → length inputs % tokenWidth ≡ 0 → length cells % cellWidth ≡ 0 → checkInputs g capacity inputs ≡ Passed
     → (ledgerAfter (ranTo (run (machineOf g capacity (length cells / cellWidth)) 0 picks (firstState inputs (length cells / cellWidth)))) ledger ≡ inputs ++ drop (length inputs) ledger)
     × (cellsAfter (ranTo (run (machineOf g capacity (length cells / cellWidth)) 0 picks (firstState inputs (length cells / cellWidth)))) cells ≡ replicate (length cells) 0)
@@ -174,12 +158,33 @@ first-left g capacity picks inputs ledger cells b wi wc passed =
     )
 
 -- before the first firing the ledger has the inputs' bytes and then what it was lent with, and every byte of the cells is 0
-pub accepted-first : (graph inputs picks : List ℕ) (ledger cells : List ℕ) → Bytes inputs → check graph inputs picks (length ledger) (length cells) ≡ Passed
+accepted-first : (graph inputs picks : List ℕ) (ledger cells : List ℕ) → Bytes inputs → check graph inputs picks (length ledger) (length cells) ≡ Passed
     → (ledgerAfter (result graph inputs picks 0 (length ledger) (length cells)) ledger ≡ inputs ++ drop (length inputs) ledger)
     × (cellsAfter (result graph inputs picks 0 (length ledger) (length cells)) cells ≡ replicate (length cells) 0)
 unfolding result unlessFailed check
 accepted-first graph inputs picks ledger cells b passed =
-    let parts = andThen-passed (checkGraph graph) _ passed in
-    let later = andThen-passed (checkStores (length inputs) (length picks) (length ledger) (length cells)) _ (parts .1) in
-    let wholes = stores-whole (length inputs) (length picks) (length ledger) (length cells) (later .0) in
-    rw passed (first-left (graphOf graph) (capacityOf (length ledger)) (picksOf picks) inputs ledger cells b (wholes .0) (wholes .1) (later .1))
+    let (stores, a) = accepted graph inputs (capacityOf (length ledger)) (checkStores (length inputs) (length picks) (length ledger) (length cells)) passed in
+    let wholes = stores-whole (length inputs) (length picks) (length ledger) (length cells) stores in
+    rw passed (first-left (graphOf graph) (capacityOf (length ledger)) (picksOf picks) inputs ledger cells b
+    (whole-bytes tokenWidth mostTokens (length inputs) (wholes .wholeInputs) .0) (whole-bytes cellWidth mostCells (length cells) (wholes .wholeCells) .0) (a .inputsPassed))
+
+-- ---- the demands
+
+pub demand1 : Demand1
+demand1 graph inputs picks ledger cells budget = record {
+  refusedBeforeFiring = refused-before-firing graph inputs picks budget ledger cells;
+  refusedFiring = refused-firing graph inputs picks budget ledger cells;
+  restAsLent = rest-as-lent (result graph inputs picks budget (length ledger) (length cells)) ledger;
+}
+
+ended-at : {x y : End Refusal Tag ℤ} → ranTo x ≡ ranTo y → x ≡ y
+ended-at e = cc
+
+pub demand2 : Demand2
+unfolding result unlessFailed
+demand2 graph inputs picks ledger cells b passed = record {
+  starts = accepted-first graph inputs picks ledger cells b passed;
+  fires = λ n budget less x a more stopped some.
+      rw passed
+      (ap ranTo (next-firing (machineOf (graphOf graph) (capacityOf (length ledger)) (length cells / cellWidth)) (firstState inputs (length cells / cellWidth)) (picksOf picks) n budget less x a more (ended-at (rw passed at stopped)) some));
+}

@@ -4,6 +4,8 @@ pub mod Passed
 pub mod PassedGraph
 pub mod Lawful
 pub mod Inputs
+pub mod Accepted
+pub mod Invariants
 pub mod Fits
 pub mod Orders
 pub mod Left

@@ -2,34 +2,32 @@
 -- two orders holds. Assumes nothing.
 use Prim.Native.Nat.{ℕ, _/_, _%_, _≤_}
 use mathlib.Core.Path.{_≡_, refl, sym, ap, _∙_}
-use mathlib.Core.Bool.{true}
+use mathlib.Core.Bool.{Bool, true, false}
 use mathlib.Core.List.{List, [], _∷_, map, List·Permᴰ, List·Permᴰ·nil, List·Permᴰ·cons, List·Permᴰ·swap, List·Permᴰ·trans}
 use mathlib.Core.Option.{none, some}
 use native.Mathlib.Omega.{arith}
 use lib.ListN.{length}
-use lib.Dec.{eqb, leb}
 use lib.IntN.{ℤ}
-use borrow.Author.Tests.{eqb-true, leb-true}
 use Rattle.record.specs.declared.tag.Tag.{Tag}
 use Rattle.record.specs.declared.token.Token as Record
-use Rattle.buffer.specs.Rows.{whole, All}
+use Rattle.buffer.specs.Rows.{All, whole}
 use Rattle.record.specs.GraphRecords.{graphOf}
 use Rattle.record.specs.TokensAndTags.{mostTokens, capacityOf}
 use Rattle.record.specs.Widths.{tokenWidth, cellWidth}
 use Rattle.machine.specs.Machine.{Token, Machine, State, when, find, sameKey, run}
 use Rattle.machine.specs.Orders.{Distinct, Good}
 use Rattle.machine.proofs.View.{noneSome, keyPath}
-use Rattle.machine.proofs.Orders.{startGood, orders, neverSpent, refuses}
+use Rattle.machine.proofs.Orders.{orders, neverSpent, refuses}
 use Rattle.machine.proofs.Reached.{reached-good, reached-picks}
+use Rattle.rules.specs.declared.answer.Refusal.{Refusal}
+use Rattle.rules.specs.declared.answer.Refusal.the-variants.{BadStore}
 use Rattle.rules.specs.declared.answer.Checked.{Checked}
 use Rattle.rules.specs.declared.answer.Checked.the-variants.{Passed, Failed}
-use Rattle.rules.specs.Check.{_andThen_, checkGraph, checkStores, checkInputs, check, mostCells}
+use Rattle.rules.specs.Check.{checkGraph, checkStores, check, mostCells}
 use Rattle.rules.specs.InstructionSet.{machineOf}
-use Rattle.rules.specs.Run.{tokenRecord, cellRecord, firstState, picksOf, ranTo, unlessFailed, result, answer}
+use Rattle.rules.specs.Run.{tokenRecord, cellRecord, firstState, picksOf, Result, refusedAtOnce, ranTo, unlessFailed, result, answer}
 use Rattle.rules.specs.Orders.{EachOnce, Agree, Allowed, AnyTwoOrders}
-use Rattle.rules.proofs.Passed.{both, andThen-passed}
-use Rattle.rules.proofs.Lawful.{lawful}
-use Rattle.rules.proofs.Inputs.{start}
+use Rattle.rules.proofs.Accepted.{whole-bytes, Accepted, accepted, law, good}
 
 -- ---- lists
 
@@ -41,12 +39,6 @@ perm-map f (List·Permᴰ·trans d e) = List·Permᴰ·trans (perm-map f d) (per
 
 -- ---- lengths
 
--- whole records: as many bytes as so many records have
-pub whole-bytes : (width most n : ℕ) → whole width most n ≡ true → (n % width ≡ 0) × (n / width ≤ most)
-whole-bytes width most n e =
-    let parts = both (eqb (n % width) 0) (leb (n / width) most) e in
-    (eqb-true (n % width) 0 (parts .0), leb-true (n / width) most (parts .1))
-
 same-length : (n m : ℕ) → n % tokenWidth ≡ 0 → m % tokenWidth ≡ 0 → n / tokenWidth ≡ m / tokenWidth → n ≡ m
 same-length n m p q e = omega arith
 
@@ -55,15 +47,12 @@ same-cells n m p q e = omega arith
 
 -- ---- runs from inputs that passed
 
-module _ (graph inputs : List ℕ) (capacity cells : ℕ) (few : capacity ≤ 2048) (passed : checkGraph graph ≡ Passed) (accepted : checkInputs (graphOf graph) capacity inputs ≡ Passed) where
+module _ (graph inputs : List ℕ) (capacity cells : ℕ) (few : capacity ≤ 2048) (a : Accepted graph inputs capacity) where
   abbrev M : Machine
   M = machineOf (graphOf graph) capacity cells
 
   abbrev s : State Tag ℤ
   s = firstState inputs cells
-
-  good : Good M s
-  good = startGood M s (start (graphOf graph) capacity cells inputs accepted)
 
   -- keys that differ in the machine differ as records
   others : (t : Token Tag ℤ) (us : List (Token Tag ℤ)) → find M (t .key) us ≡ none
@@ -86,26 +75,27 @@ module _ (graph inputs : List ℕ) (capacity cells : ℕ) (few : capacity ≤ 20
   end : (picks : List ℕ) → Good M (run M 2048 picks s .state)
   end picks =
       let e = reached-picks M s 2048 picks in
-      reached-good M (lawful graph passed capacity cells) s good (e .done) (e .sent) _ (e .reached)
+      reached-good M (law graph inputs capacity cells a) s (good graph inputs capacity cells a) (e .done) (e .sent) _ (e .reached)
 
   agree : (picks picks′ : List ℕ) → Agree (ranTo (run M 2048 picks s)) (ranTo (run M 2048 picks′ s))
   unfolding answer
   agree picks picks′ =
-      let law = lawful graph passed capacity cells in
-      let same = orders M law s good 2048 picks picks′ in
+      let lawful = law graph inputs capacity cells a in
+      let first = good graph inputs capacity cells a in
+      let same = orders M lawful s first 2048 picks picks′ in
       record {
         completes = same .completes;
         alike = λ c.
-            let a = same .alike c in
+            let z = same .alike c in
             record {
-              firings = a .firings;
-              tokens = a .count;
-              cells = ap (map cellRecord) (a .cells);
-              sameTokens = perm-map tokenRecord (a .tokens);
+              firings = z .firings;
+              tokens = z .count;
+              cells = ap (map cellRecord) (z .cells);
+              sameTokens = perm-map tokenRecord (z .tokens);
               eachOnce = once (run M 2048 picks s .state .tokens) (end picks .distinct);
             };
-        refused = refuses M law s good 2048 picks picks′ few;
-        neverSpent = neverSpent M law s good 2048 picks few;
+        refused = refuses M lawful s first 2048 picks picks′ few;
+        neverSpent = neverSpent M lawful s first 2048 picks few;
       }
 
 -- ---- whole runs
@@ -123,14 +113,37 @@ module _ (graph inputs picks picks′ : List ℕ) (ledger cells : ℕ) (a : Allo
       rw (e, e′) (record { completes = (λ h. h, λ h. h); alike = λ h. absurd h; refused = (λ h. h, λ h. h); neverSpent = λ h. h })
   unfolded Passed e =
       let e′ = sym same-check ∙ e in
-      let parts = andThen-passed (checkGraph graph) _ e in
-      let later = andThen-passed (checkStores (length inputs) (length picks) ledger cells) _ (parts .1) in
       let few = whole-bytes tokenWidth mostTokens ledger (a .allowedLedger) .1 in
-      rw (e, e′) (agree graph inputs (capacityOf ledger) (cells / cellWidth) few (parts .0) (later .1) (picksOf picks) (picksOf picks′))
+      rw (e, e′) (agree graph inputs (capacityOf ledger) (cells / cellWidth) few (accepted graph inputs (capacityOf ledger) (checkStores (length inputs) (length picks) ledger cells) e .1) (picksOf picks) (picksOf picks′))
 
-pub any-two-orders : AnyTwoOrders
-any-two-orders graph inputs picks picks′ ledger ledger′ cells cells′ a b c d =
+-- with picks, ledger and cells of allowed length
+allowed-orders : (graph inputs picks picks′ : List ℕ) (ledger ledger′ cells cells′ : ℕ) → Allowed picks ledger cells → Allowed picks′ ledger′ cells′
+    → capacityOf ledger ≡ capacityOf ledger′ → cells / cellWidth ≡ cells′ / cellWidth
+    → Agree (result graph inputs picks 2048 ledger cells) (result graph inputs picks′ 2048 ledger′ cells′)
+allowed-orders graph inputs picks picks′ ledger ledger′ cells cells′ a b c d =
     let l = same-length ledger ledger′ (whole-bytes tokenWidth mostTokens ledger (a .allowedLedger) .0) (whole-bytes tokenWidth mostTokens ledger′ (b .allowedLedger) .0) c in
     let k = same-cells cells cells′ (whole-bytes cellWidth mostCells cells (a .allowedCells) .0) (whole-bytes cellWidth mostCells cells′ (b .allowedCells) .0) d in
     let b′ : Allowed picks′ ledger cells = rw (l, k) b in
     rw (← l, ← k) (unfolded graph inputs picks picks′ ledger cells a b′ (check graph inputs picks ledger cells) refl)
+
+-- two runs that are refused before any firing
+both-refused : {x y : Result} (q r : Refusal) (m n : ℕ) → x ≡ refusedAtOnce q m → y ≡ refusedAtOnce r n → Agree x y
+both-refused q r m n e f = rw (e, f) (record { completes = (λ h. h, λ h. h); alike = λ h. absurd h; refused = (λ h. h, λ h. h); neverSpent = λ h. h })
+
+-- a graph that fails its check is refused whatever else is lent, and so are inputs that are not whole records
+graph-refused : (graph inputs picks : List ℕ) (ledger cells : ℕ) (r : Refusal) (p : ℕ) → checkGraph graph ≡ Failed r p → result graph inputs picks 2048 ledger cells ≡ refusedAtOnce r p
+unfolding result check unlessFailed
+graph-refused graph inputs picks ledger cells r p e = rw e
+
+inputs-refused : (graph inputs picks : List ℕ) (ledger cells : ℕ) → checkGraph graph ≡ Passed → whole tokenWidth mostTokens (length inputs) ≡ false → result graph inputs picks 2048 ledger cells ≡ refusedAtOnce BadStore 0
+unfolding result check checkStores unlessFailed
+inputs-refused graph inputs picks ledger cells e w = rw (e, w)
+
+pub any-two-orders : AnyTwoOrders
+any-two-orders graph inputs picks picks′ ledger ledger′ cells cells′ a b c d = go (checkGraph graph) refl (whole tokenWidth mostTokens (length inputs)) refl
+  where
+    go : (x : Checked) → checkGraph graph ≡ x → (w : Bool) → whole tokenWidth mostTokens (length inputs) ≡ w
+        → Agree (result graph inputs picks 2048 ledger cells) (result graph inputs picks′ 2048 ledger′ cells′)
+    go (Failed r p) e w f = both-refused r r p p (graph-refused graph inputs picks ledger cells r p e) (graph-refused graph inputs picks′ ledger′ cells′ r p e)
+    go Passed e false f = both-refused BadStore BadStore 0 0 (inputs-refused graph inputs picks ledger cells e f) (inputs-refused graph inputs picks′ ledger′ cells′ e f)
+    go Passed e true f = allowed-orders graph inputs picks picks′ ledger ledger′ cells cells′ (a e f) (b e f) c d

@@ -20,34 +20,18 @@ use Rattle.record.specs.TokensAndTags as Tokens
 use Rattle.record.specs.Widths.{tokenWidth, cellWidth, graphWidth, pickWidth}
 use Rattle.machine.specs.Machine.{Machine, State, completed, budgetSpent, refused, Ledger, run}
 use Rattle.machine.specs.Machine as Machine
-use Rattle.machine.proofs.Orders.{startGood}
 use Rattle.machine.proofs.Bounds.{PlaceWithin, picks-bounded, picks-firings}
 use Rattle.rules.specs.declared.answer.Refusal.{Refusal}
 use Rattle.rules.specs.declared.answer.Refusal.the-variants.{GraphLength, UnknownOperation, FanOut, BadArc, BadSite, BadInput, BadStore, LedgerFull, SecondToken}
-use Rattle.rules.specs.declared.answer.Answer.{Answer}
 use Rattle.rules.specs.declared.answer.Checked.{Checked}
 use Rattle.rules.specs.declared.answer.Checked.the-variants.{Passed, Failed}
 use Rattle.rules.specs.Answer.{placeIn}
 use Rattle.rules.specs.Check.{demand, _andThen_, all, inTurn, fanOutAllowed, unusedAreZero, goodArc, goodSite, checkRecord, checkGraph, checkStores, goodInput, secondInput, checkInputs, check, mostCells}
 use Rattle.rules.specs.InstructionSet.{machineOf}
-use Rattle.rules.specs.Run.{firstState, picksOf, refusedAtOnce, ranTo, outcomeOf, unlessFailed, result, answer}
-use Rattle.rules.proofs.Passed.{both, demand-passed, andThen-passed}
-use Rattle.rules.proofs.Lawful.{lawful}
-use Rattle.rules.proofs.Inputs.{start}
-use Rattle.rules.proofs.Orders.{whole-bytes}
-
--- of the answer of a run with that budget
-pub record Small (budget : ℕ) (a : Answer) : Type 0 where
-  -- "Firings are those done, the refused one not counted."
-  pub firings : a .firings ≤ budget
-  -- "Firings never exceed tokens."
-  pub byTokens : a .firings ≤ a .tokens
-  -- "The ledger takes every token in order of arrival, up to 2,048 records"
-  pub tokens : a .tokens ≤ mostTokens
-  -- "Place: the record or input at fault (for 8 the first that doesn't fit), 0 for 1 and 7": "A graph is 1 to 256 records", and "more than 2,048" inputs are
-  -- refused by 7 before any of them is at fault. In a firing "the place is the activity's": "the ledger position of its earliest operand".
-  -- "The place is 0 unless refused."
-  pub place : placeIn (a .outcome) < mostTokens
+use Rattle.rules.specs.Run.{firstState, picksOf, refusedAtOnce, ranTo, outcomeOf, result, answer}
+use Rattle.rules.specs.Small.{Small, AnswersSmall}
+use Rattle.rules.proofs.Passed.{both}
+use Rattle.rules.proofs.Accepted.{whole-bytes, stores-whole, Accepted, accepted, law, good, by-check}
 
 -- ---- a refusal before any firing: its place is below 2,048
 
@@ -87,15 +71,6 @@ graph-below graph =
     let size = whole-bytes graphWidth 256 (length graph) (both (leb 1 (length graph)) (whole graphWidth 256 (length graph)) e .1) .1 in
     turn-below (checkRecord (graphOf graph)) (record-below (graphOf graph)) 0 (graphOf graph) (omega (arith, length-rows graphWidth Graph.decode (length graph / graphWidth) graph)))
 
--- "inputs, picks, ledger or cells not whole records, or more than 2,048 of them"
-stores-few : (inputs picks ledger cells : ℕ) → checkStores inputs picks ledger cells ≡ Passed → (inputs / tokenWidth ≤ mostTokens) × (capacityOf ledger ≤ mostTokens)
-unfolding checkStores
-stores-few inputs picks ledger cells e =
-    let all = both (whole tokenWidth mostTokens inputs) _ (demand-passed _ BadStore 0 e) in
-    let later = both (whole pickWidth mostTokens picks) _ (all .1) .1 in
-    let last = both (whole tokenWidth mostTokens ledger) _ later .0 in
-    (whole-bytes tokenWidth mostTokens inputs (all .0) .1, whole-bytes tokenWidth mostTokens ledger last .1)
-
 -- the place of 8 is the capacity, and where the inputs exceed it, it is less than their number
 inputs-below : (g : List Instruction) (capacity : ℕ) (inputs : List ℕ) → length inputs / tokenWidth ≤ mostTokens → Below (checkInputs g capacity inputs)
 unfolding checkInputs
@@ -120,11 +95,11 @@ unfolding check
 check-below graph inputs picks ledger cells =
     then-below (checkGraph graph) _ (graph-below graph) (λ e.
     then-below (checkStores (length inputs) (length picks) ledger cells) _ (stores-below (length inputs) (length picks) ledger cells) (λ f.
-    inputs-below (graphOf graph) (capacityOf ledger) inputs (stores-few (length inputs) (length picks) ledger cells f .0)))
+    inputs-below (graphOf graph) (capacityOf ledger) inputs (whole-bytes tokenWidth mostTokens (length inputs) (stores-whole (length inputs) (length picks) ledger cells f .wholeInputs) .1)))
 
 -- ---- a run from inputs that passed
 
-module _ (graph inputs : List ℕ) (capacity cells : ℕ) (few : capacity ≤ mostTokens) (passed : checkGraph graph ≡ Passed) (accepted : checkInputs (graphOf graph) capacity inputs ≡ Passed) where
+module _ (graph inputs : List ℕ) (capacity cells : ℕ) (few : capacity ≤ mostTokens) (a : Accepted graph inputs capacity) where
   abbrev M : Machine
   M = machineOf (graphOf graph) capacity cells
 
@@ -139,13 +114,13 @@ module _ (graph inputs : List ℕ) (capacity cells : ℕ) (few : capacity ≤ mo
   run-small : (budget : ℕ) (picks : List ℕ) → Small budget (answer (ranTo (run M budget picks s)))
   unfolding answer
   run-small budget picks =
-      let good = startGood M s (start (graphOf graph) capacity cells inputs accepted) in
+      let first = good graph inputs capacity cells a in
       let e = run M budget picks s in
-      let bounds = picks-bounded M s (good .room) budget picks in
+      let bounds = picks-bounded M s (first .room) budget picks in
       let room = bounds .tokens in
       record {
         firings = bounds .firings;
-        byTokens = picks-firings M (lawful graph passed capacity cells) s good budget picks;
+        byTokens = picks-firings M (law graph inputs capacity cells a) s first budget picks;
         tokens = omega arith;
         place = place-small (e .outcome) (e .state .tokens) (bounds .place) room;
       }
@@ -157,14 +132,10 @@ refused-small : (budget : ℕ) (r : Refusal) (p : ℕ) → p < mostTokens → Sm
 unfolding answer
 refused-small budget r p h = record { firings = omega arith; byTokens = omega arith; tokens = omega arith; place = h }
 
-pub answer-small : (graph inputs picks : List ℕ) (budget ledger cells : ℕ) → Small budget (answer (result graph inputs picks budget ledger cells))
-unfolding result unlessFailed check
-answer-small graph inputs picks budget ledger cells = go (check graph inputs picks ledger cells) refl
-  where
-    go : (c : Checked) → check graph inputs picks ledger cells ≡ c → Small budget (answer (result graph inputs picks budget ledger cells))
-    go (Failed r p) e = rw e (refused-small budget r p (rw e at (check-below graph inputs picks ledger cells)))
-    go Passed e =
-        let parts = andThen-passed (checkGraph graph) _ e in
-        let later = andThen-passed (checkStores (length inputs) (length picks) ledger cells) _ (parts .1) in
-        let few = stores-few (length inputs) (length picks) ledger cells (later .0) .1 in
-        rw e (run-small graph inputs (capacityOf ledger) (cells / cellWidth) few (parts .0) (later .1) budget (picksOf picks))
+pub answer-small : AnswersSmall
+unfolding result check
+answer-small graph inputs picks budget ledger cells =
+    by-check (check graph inputs picks ledger cells) _ (λ x. Small budget (answer x)) (λ r p e. refused-small budget r p (rw e at (check-below graph inputs picks ledger cells))) (λ e.
+    let (stores, a) = accepted graph inputs (capacityOf ledger) (checkStores (length inputs) (length picks) ledger cells) e in
+    let few = whole-bytes tokenWidth mostTokens ledger (stores-whole (length inputs) (length picks) ledger cells stores .wholeLedger) .1 in
+    run-small graph inputs (capacityOf ledger) (cells / cellWidth) few a budget (picksOf picks))

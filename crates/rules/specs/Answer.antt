@@ -5,6 +5,8 @@ use Rattle.rules.specs.declared.answer.Refusal.the-variants.{GraphLength
 use Rattle.rules.specs.declared.answer.Outcome.{Outcome}
 use Rattle.rules.specs.declared.answer.Outcome.the-variants.{Completed, Spent, Refused}
 use Rattle.rules.specs.declared.answer.Answer.{Answer}
+use Rattle.rules.specs.declared.answer.Checked.{Checked}
+use Rattle.rules.specs.declared.answer.Checked.the-variants.{Passed, Failed}
 
 -- the column "No."
 abbrev pub numberOf : Refusal → ℕ
@@ -47,3 +49,8 @@ pub record Values : Type 0 where
 
 abbrev pub valuesOf : Answer → Values
 valuesOf a = record { word = wordOf (a .outcome); firings = a .firings; tokens = a .tokens; place = placeIn (a .outcome) }
+
+-- of a check: one that failed has the values of the answer that it leads to, "0 firings and 0 tokens", and one that passed has none but zeros
+abbrev pub valuesChecked : Checked → Values
+valuesChecked Passed = record { word = 0; firings = 0; tokens = 0; place = 0 }
+valuesChecked (Failed r place) = record { word = numberOf r; firings = 0; tokens = 0; place = place }

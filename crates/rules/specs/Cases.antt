@@ -9,8 +9,9 @@ use Rattle.number.specs.Number.{bitsOf, bytes16, bytes32}
 use Rattle.record.specs.GraphRecords.{graphOf}
 use Rattle.record.specs.TokensAndTags as Tokens
 use Rattle.record.specs.Widths.{tokenWidth, cellWidth}
-use Rattle.machine.specs.Machine.{Key, Content, live, spent, deferred, Token, Cell, absent, waiting, present, Effect, send}
+use Rattle.machine.specs.Machine.{Key, Content, live, spent, deferred, Token, Cell, absent, waiting, present, Effect, send, refuse}
 use Rattle.rules.specs.declared.answer.Refusal.{Refusal}
+use Rattle.rules.specs.declared.answer.Refusal.the-variants as Refusals
 use Rattle.rules.specs.Answer.{Values, valuesOf}
 use Rattle.rules.specs.InstructionSet.{effectIn}
 use Rattle.rules.specs.Run.{tokenRecord, Result, refusedAtOnce, ranTo, result, answer}
@@ -321,6 +322,33 @@ twoReads =
     ∷ [])
     (cell 5 (present (pos 40)) ∷ [])
 
+-- refused before any firing: 0 firings, 0 tokens, nothing in ledger and cells
+abbrev pub refusedFirst : (graph inputs picks : List ℕ) → (capacity cells : ℕ) → (number place : ℕ) → Case
+refusedFirst graph inputs picks capacity cells number place = running graph inputs picks 2048 capacity cells (values number 0 0 place) [] []
+
+-- by the graph alone, with no inputs
+abbrev pub badGraph : List ℕ → (number place : ℕ) → Case
+badGraph graph number place = refusedFirst graph [] [] 2048 8 number place
+
+-- by inputs, picks, ledger or cells, with 0 as COPY to 1, which is OUT
+abbrev pub badLent : (inputs picks : List ℕ) → (capacity cells : ℕ) → (number place : ℕ) → Case
+badLent inputs picks capacity cells number place = refusedFirst (to1 1 (pos 0) 0 1 ++ to0 3 (pos 0)) inputs picks capacity cells number place
+
+-- an input that is not at the root
+abbrev pub lostInput : List ℕ
+lostInput = Tokens.encode (tokenRecord (token 256 0 0 0 (live (pos 7))))
+
+-- LEAVE at path 0
+abbrev pub leavesRoot : Case
+leavesRoot = running (to0 9 (pos 0)) (input 0 0 (pos 7)) [] 2048 2048 8 (values 15 0 1 0) (root 0 0 (live (pos 7)) ∷ []) []
+
+-- 0 enters site 1 at 1, which leaves with a constant of 1: the return instruction 2 plus 1 is past the graph
+abbrev pub returnsPast : Case
+returnsPast =
+    running (to2 8 (pos 1) 0 1 0 2 ++ to0 9 (pos 1) ++ to0 3 (pos 0)) (input 0 0 (pos 7)) [] 2048 2048 8 (values 17 1 2 1)
+    (root 0 0 (spent (pos 7)) ∷ token 256 0 1 0 (live (pos 7)) ∷ [])
+    []
+
 abbrev pub distinguishing : List Case
 distinguishing =
     secondAfterSpent
@@ -345,6 +373,37 @@ distinguishing =
     -- refusal 3: SINK with an unused port, or a constant, not zero
     ∷ running (2 ∷ 0 ∷ 1 ∷ replicate 13 0) [] [] 2048 2048 8 (values 3 0 0 0) [] []
     ∷ running (to0 2 (pos 1)) [] [] 2048 2048 8 (values 3 0 0 0) [] []
+    -- refusal 1: no record; a record and a byte
+    ∷ badGraph [] 1 0
+    ∷ badGraph (to0 2 (pos 0) ++ 0 ∷ []) 1 0
+    -- 2: code 12, in record 1
+    ∷ badGraph (to0 2 (pos 0) ++ to0 12 (pos 0)) 2 1
+    -- 4: an arc to an absent instruction; to a port not below the operand count. The fault of record 0 is found before that of record 1
+    ∷ badGraph (to1 1 (pos 0) 0 2 ++ to0 12 (pos 0)) 4 0
+    ∷ badGraph (to0 3 (pos 0) ++ to1 1 (pos 0) 1 0) 4 1
+    -- 5: a site of 256, and of 0; a return port that is not 0; a second ENTER of a site, with another return; a LEAVE constant of 256, and of -1
+    ∷ badGraph (to2 8 (pos 256) 0 1 0 1 ++ to0 3 (pos 0)) 5 0
+    ∷ badGraph (to2 8 (pos 0) 0 1 0 1 ++ to0 3 (pos 0)) 5 0
+    ∷ badGraph (to2 8 (pos 1) 0 1 1 1 ++ to1 16 (pos 0) 0 1) 5 0
+    ∷ badGraph (to2 8 (pos 1) 0 2 0 2 ++ to2 8 (pos 1) 0 2 0 3 ++ to0 3 (pos 0) ++ to0 3 (pos 0)) 5 1
+    ∷ badGraph (to0 9 (pos 256)) 5 0
+    ∷ badGraph (to0 9 (negsuc 0)) 5 0
+    -- 6: not at the root; at an absent instruction; at an absent port
+    ∷ badLent (input 0 0 (pos 7) ++ lostInput) [] 2048 8 6 1
+    ∷ badLent (input 2 0 (pos 7)) [] 2048 8 6 0
+    ∷ badLent (input 0 1 (pos 7)) [] 2048 8 6 0
+    -- 7: inputs, and picks, not whole; ledger, and cells, of a record too many
+    ∷ badLent (0 ∷ []) [] 2048 8 7 0
+    ∷ badLent [] (0 ∷ []) 2048 8 7 0
+    ∷ badLent [] [] 2049 8 7 0
+    ∷ badLent [] [] 2048 1025 7 0
+    -- 7 before 6 before 8
+    ∷ badLent lostInput [] 2049 8 7 0
+    ∷ badLent (input 0 0 (pos 7) ++ lostInput) [] 0 8 6 1
+    -- 13, 15, 17
+    ∷ firing (to1 7 (pos 0) 0 1 ++ to0 3 (pos 0)) 8 (record { path = 0; iteration = 255; instruction = 0 }) (pos 7) (pos 0) (refuse Refusals.Iteration)
+    ∷ leavesRoot
+    ∷ returnsPast
     ∷ []
 
 abbrev pub cases : List Case

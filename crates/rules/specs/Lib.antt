@@ -6,3 +6,8 @@ pub mod Run
 pub mod Computed
 pub mod Cases
 pub mod Orders
+pub mod Invariants
+pub mod Small
+pub mod Fits
+pub mod Demand1
+pub mod Demand2

@@ -1,4 +1,4 @@
--- Demand 3 over the rules: 01, "Any two orders". One claim about two whole runs over one graph and one list of inputs, for every two lists of picks.
+-- Demand 3 over the rules, in tokens and cells; listing/specs/Demand3 says it of bytes. 01, "Any two orders": one claim about two whole runs over one graph and one list of inputs, for every two lists of picks.
 -- The statement; it is proved in proofs/Orders. Assumes nothing.
 use Prim.Native.Nat.{ℕ, _/_}
 use mathlib.Core.Path.{_≡_}
@@ -13,7 +13,8 @@ use Rattle.record.specs.TokensAndTags.{mostTokens, capacityOf}
 use Rattle.record.specs.Widths.{tokenWidth, cellWidth, pickWidth}
 use Rattle.machine.specs.Machine.{End}
 use Rattle.machine.specs.Orders as Ends
-use Rattle.rules.specs.Check.{mostCells}
+use Rattle.rules.specs.declared.answer.Checked.the-variants.{Passed}
+use Rattle.rules.specs.Check.{checkGraph, mostCells}
 use Rattle.rules.specs.Run.{tokenRecord, cellRecord, Result, refusedAtOnce, ranTo, result, answer}
 
 -- ---- how a run ended
@@ -66,15 +67,20 @@ pub record Agree (x y : Result) : Type 0 where
   -- a budget of 2,048 is never spent
   pub neverSpent : ¬ (Spent x)
 
--- "picks, ledger and cells of allowed length", the last two by their lengths in bytes
+-- demand 3: "picks, ledger and cells of allowed length", the last two by their lengths in bytes
 pub record Allowed (picks : List ℕ) (ledger cells : ℕ) : Type 0 where
   pub allowedPicks : whole pickWidth mostTokens (length picks) ≡ true
   pub allowedLedger : whole tokenWidth mostTokens ledger ≡ true
   pub allowedCells : whole cellWidth mostCells cells ≡ true
 
+-- 01 asks for less: "neither run is refused by 7 for a buffer other than the inputs". Lengths are looked at only once the graph has passed its check: a graph
+-- that fails is refused in every run, and so are inputs that are not whole records
+abbrev pub NotForOtherBuffers : (graph inputs picks : List ℕ) (ledger cells : ℕ) → Type 0
+NotForOtherBuffers graph inputs picks ledger cells = checkGraph graph ≡ Passed → whole tokenWidth mostTokens (length inputs) ≡ true → Allowed picks ledger cells
+
 -- "Whatever graph and inputs are lent, and whichever two lists of picks order the firings, with equal ledger capacity and cell count, a budget of 2,048"
 abbrev pub AnyTwoOrders : Type 0
 AnyTwoOrders = (graph inputs picks picks′ : List ℕ) (ledger ledger′ cells cells′ : ℕ)
-    → Allowed picks ledger cells → Allowed picks′ ledger′ cells′
+    → NotForOtherBuffers graph inputs picks ledger cells → NotForOtherBuffers graph inputs picks′ ledger′ cells′
     → capacityOf ledger ≡ capacityOf ledger′ → cells / cellWidth ≡ cells′ / cellWidth
     → Agree (result graph inputs picks 2048 ledger cells) (result graph inputs picks′ 2048 ledger′ cells′)

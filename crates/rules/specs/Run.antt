@@ -24,6 +24,7 @@ use Rattle.rules.specs.declared.answer.Outcome.the-variants as Outcomes
 use Rattle.rules.specs.declared.answer.Answer.{Answer}
 use Rattle.rules.specs.declared.answer.Checked.{Checked}
 use Rattle.rules.specs.declared.answer.Checked.the-variants.{Passed, Failed}
+use Rattle.rules.specs.Answer.{valuesOf}
 use Rattle.rules.specs.Check.{check}
 use Rattle.rules.specs.InstructionSet.{machineOf}
 
@@ -97,8 +98,9 @@ unfoldable pub cellsAfter : Result → (lent : List ℕ) → List ℕ
 cellsAfter (refusedAtOnce r p) lent = lent
 cellsAfter (ranTo e) lent = writtenOver Cells.encode (map cellRecord (e .state .cells)) lent
 
--- what a run promises: its answer, and the end contents of ledger and cells
+-- what a run promises: its answer, also in 01's numbers, and the end contents of ledger and cells
 pub record Ran (x : Result) (r : Answer) (ledger ledger′ cells cells′ : List ℕ) : Type 0 where
   pub answered : r ≡ answer x
+  pub numbers : valuesOf r ≡ valuesOf (answer x)
   pub ledgerLeft : ledger′ ≡ ledgerAfter x ledger
   pub cellsLeft : cells′ ≡ cellsAfter x cells

@@ -14,6 +14,7 @@ use Rattle.rules.specs.declared.answer.Outcome.{Outcome}
 use Rattle.rules.specs.declared.answer.Outcome.the-variants.{Completed, Spent, Refused}
 use Rattle.rules.specs.declared.answer.Answer.{Answer}
 use Rattle.text.specs.Words.{bytes}
+use Rattle.text.specs.Same.{SameText}
 use Rattle.text.specs.Read.{readOn, read}
 use Rattle.text.specs.Text.{digit, decimal, line, outcomeFields, answerLine, printed}
 use Rattle.text.proofs.Decimals.{decimal-digit, decimal-more}
@@ -59,8 +60,7 @@ answer-by-values a = rw (fields-by-word (a .outcome))
 pub same-first-line : (a b : Answer) → valuesOf a ≡ valuesOf b → answerLine a ≡ answerLine b
 same-first-line a b e = answer-by-values a ∙ ap valuesLine e ∙ sym (answer-by-values b)
 
-pub same-text : (a b : Answer) (listing listing′ cells cells′ : List ℕ) → valuesOf a ≡ valuesOf b → listing ≡ listing′ → cells ≡ cells′
-    → printed a listing cells ≡ printed b listing′ cells′
+pub same-text : SameText
 unfolding printed
 same-text a b listing listing′ cells cells′ e p q = rw (same-first-line a b e, p, q)
 

@@ -2,17 +2,17 @@
 use Prim.Native.Nat.{ℕ, zero, suc, _+_, _*_, _/_, _^_, _≤_, _<_}
 use native.Mathlib.Omega.{arith}
 use native.Mathlib.Nat.{suc-mul, le-trans}
-use mathlib.Core.Path.{_≡_, refl, ap, _∙_}
+use mathlib.Core.Path.{_≡_, refl, ap, subst, _∙_}
 use mathlib.Core.Bool.{Bool, true, false, cond}
 use mathlib.Core.List.{List, [], _∷_, _++_, map}
 use borrow.Author.Tests.{leb-true, le-leb}
 use lib.Dec.{leb}
 use lib.IntN.{ℤ, pos, negsuc}
-use lib.ListN.{length, drop, length-append}
+use lib.ListN.{length, length-append}
 use mir.Syntax.{w32}
 use mir.Val.{SFits}
 use Rattle.number.specs.Number.{Bytes, signedOf}
-use Rattle.buffer.specs.Rows.{rows, joined}
+use Rattle.buffer.specs.Rows.{All, allRows, joined}
 use Rattle.record.specs.TokensAndTags as Tokens
 use Rattle.record.specs.Cells as Cells
 use Rattle.record.specs.Cells.{CellFits}
@@ -21,7 +21,8 @@ use Rattle.record.specs.declared.token.Content.{Content}
 use Rattle.record.specs.declared.token.Content.the-variants.{Live, Spent, Deferred}
 use Rattle.record.specs.declared.cell.Cell.{Cell}
 use Rattle.record.specs.declared.cell.Cell.the-variants.{Absent, Waiting, Present}
-use Rattle.record.proofs.Fitting.{bytes-drop, signed-fits, token-fits, cell-fits}
+use Rattle.buffer.proofs.Tables.{length-rows}
+use Rattle.record.proofs.Fitting.{signed-fits, token-fits, cell-fits, rows-fit}
 use Rattle.record.specs.Widths.{tokenWidth, cellWidth}
 use Rattle.rules.specs.Answer.{numberOf, placeIn}
 use Rattle.rules.specs.declared.answer.Refusal.{Refusal}
@@ -134,41 +135,47 @@ cell-short k Absent h f = omega arith
 cell-short k Waiting h f = stated-short k (bytes "waiting") (pos 0) h (omega arith) (record { sfits = omega arith })
 cell-short k (Present v) h f = stated-short k (bytes "present") v h (omega arith) f
 
--- ---- the records of a buffer of bytes
+-- ---- the lines of tokens and of cells that fit their records
 
-tokens-within : (n : ℕ) (l : List ℕ) → Bytes l → length (joined (λ (x : List ℕ). x) (map tokenLine (rows tokenWidth Tokens.decode n l))) ≤ n * 56
-tokens-within zero l b = omega arith
-tokens-within (suc n) l b =
-    let rest = joined (λ (x : List ℕ). x) (map tokenLine (rows tokenWidth Tokens.decode n (drop tokenWidth l))) in
-    omega (arith, length-append (tokenLine (Tokens.decode l)) rest, token-short (Tokens.decode l) (token-fits l b), tokens-within n (drop tokenWidth l) (bytes-drop tokenWidth l b), suc-mul n 56)
+tokens-within : (ts : List Token) → All Tokens.TokenFits ts → length (joined (λ (x : List ℕ). x) (map tokenLine ts)) ≤ length ts * 56
+tokens-within [] f = omega arith
+tokens-within (t ∷ ts) f =
+    omega (arith, length-append (tokenLine t) (joined (λ (x : List ℕ). x) (map tokenLine ts)), token-short t (f .0), tokens-within ts (f .1), suc-mul (length ts) 56)
 
-cells-within : (k n : ℕ) (l : List ℕ) → k + n ≤ 2 ^ 64 → Bytes l → length (joined (λ (x : List ℕ). x) (cellLines k (rows cellWidth Cells.decode n l))) ≤ n * 46
-cells-within k zero l h b = omega arith
-cells-within k (suc n) l h b =
-    let rest = joined (λ (x : List ℕ). x) (cellLines (suc k) (rows cellWidth Cells.decode n (drop cellWidth l))) in
-    omega (arith, length-append (cellLine k (Cells.decode l)) rest, cell-short k (Cells.decode l) (omega arith) (cell-fits l b), cells-within (suc k) n (drop cellWidth l) (omega arith) (bytes-drop cellWidth l b), suc-mul n 46)
+cells-within : (k : ℕ) (xs : List Cell) → k + length xs ≤ 2 ^ 64 → All CellFits xs → length (joined (λ (x : List ℕ). x) (cellLines k xs)) ≤ length xs * 46
+cells-within k [] h f = omega arith
+cells-within k (x ∷ xs) h f =
+    omega (arith, length-append (cellLine k x) (joined (λ (y : List ℕ). y) (cellLines (suc k) xs)), cell-short k x (omega arith) (f .0), cells-within (suc k) xs (omega arith) (f .1), suc-mul (length xs) 46)
 
 -- ---- the whole text
 
-pub text-within : (a : Answer) (listing cells : List ℕ) → AnswerFits a → Bytes listing → Bytes cells → length cells < 2 ^ 64
+pub lines-within : (a : Answer) (listing cells : List ℕ) → AnswerFits a → All Tokens.TokenFits (allRows tokenWidth Tokens.decode listing) → All CellFits (allRows cellWidth Cells.decode cells) → length cells < 2 ^ 64
     → length (printed a listing cells) ≤ 74 + (length listing / tokenWidth * 56 + length cells / cellWidth * 46)
 unfolding printed
-text-within a listing cells f bl bc h =
+lines-within a listing cells f ft fc h =
     let n = length listing / tokenWidth in
     let m = length cells / cellWidth in
-    let ts = map tokenLine (rows tokenWidth Tokens.decode n listing) in
-    let cs = cellLines 0 (rows cellWidth Cells.decode m cells) in
-    let jt = joined (λ (x : List ℕ). x) ts in
-    let jc = joined (λ (x : List ℕ). x) cs in
-    let e : length (joined (λ (x : List ℕ). x) (ts ++ cs)) ≡ length jt + length jc = ap length (joined-append ts cs) ∙ length-append jt jc in
+    let ts = allRows tokenWidth Tokens.decode listing in
+    let cs = allRows cellWidth Cells.decode cells in
+    let jt = joined (λ (x : List ℕ). x) (map tokenLine ts) in
+    let jc = joined (λ (x : List ℕ). x) (cellLines 0 cs) in
+    let many : length ts ≡ n = length-rows tokenWidth Tokens.decode n listing in
+    let more : length cs ≡ m = length-rows cellWidth Cells.decode m cells in
+    let e : length (joined (λ (x : List ℕ). x) (map tokenLine ts ++ cellLines 0 cs)) ≡ length jt + length jc = ap length (joined-append (map tokenLine ts) (cellLines 0 cs)) ∙ length-append jt jc in
+    let wt : length jt ≤ n * 56 = subst (λ (k : ℕ). length jt ≤ k * 56) many (tokens-within ts ft) in
+    let wc : length jc ≤ m * 46 = subst (λ (k : ℕ). length jc ≤ k * 46) more (cells-within 0 cs (omega arith) fc) in
     omega (
       arith,
-      length-append (answerLine a) (joined (λ (x : List ℕ). x) (ts ++ cs)),
+      length-append (answerLine a) (joined (λ (x : List ℕ). x) (map tokenLine ts ++ cellLines 0 cs)),
       e,
       answer-short a f,
-      tokens-within n listing bl,
-      cells-within 0 m cells (omega arith) bc,
     )
+
+-- of bytes, whatever they are
+pub text-within : (a : Answer) (listing cells : List ℕ) → AnswerFits a → Bytes listing → Bytes cells → length cells < 2 ^ 64
+    → length (printed a listing cells) ≤ 74 + (length listing / tokenWidth * 56 + length cells / cellWidth * 46)
+text-within a listing cells f bl bc h =
+    lines-within a listing cells f (rows-fit Tokens.TokenFits Tokens.decode token-fits tokenWidth (length listing / tokenWidth) listing bl) (rows-fit CellFits Cells.decode cell-fits cellWidth (length cells / cellWidth) cells bc) h
 
 -- where there is so much room, printing is done
 pub fits-in : (a : Answer) (listing cells out : List ℕ) → AnswerFits a → Bytes listing → Bytes cells → length cells < 2 ^ 64

@@ -2,6 +2,7 @@
 -- Assumes nothing.
 pub mod Words
 pub mod Text
+pub mod Same
 pub mod Read
 pub mod Room
 pub mod Lines

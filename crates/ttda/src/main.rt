@@ -4,15 +4,10 @@
 use libc::ENAMETOOLONG;
 use libc::ENOENT;
 use libc::STDOUT_FILENO;
-use listing::Listed;
-use record::token;
-use rules::answer::Answer;
 use text::Printed;
 ghost use mathlib.Core.Path.{_≡_};
 ghost use Prim.Native.Nat.{_≤_};
 ghost use lib.ListN.{length};
-
-const BUDGET: u16 = 2048;
 
 // Reads a file to the start of buf, and answers how many bytes, or -1 after saying why not. A missing
 // file counts as empty. Where the file is longer than buf, buf is longer than what a run accepts.
@@ -72,20 +67,9 @@ fn folder_in(buf: &mut [u8]) -> isize {
     n as isize
 }
 
-// The bytes of so many records, at most the ledger's.
-fn used_bytes(tokens: usize, ledger: &[u8]) -> usize
-    ensures { λ r. ⌜ r ≤ length (now (ledger .entry)) ⌝ }
-{
-    if tokens <= ledger.len() / token::WIDTH {
-        tokens * token::WIDTH
-    } else {
-        ledger.len()
-    }
-}
-
-// Prints the whole text or, where it cannot, a line on standard error.
-fn put(answer: Answer, listing: &[u8], cells: &[u8], out: &mut [u8]) {
-    match text::print(answer, listing, cells, out) {
+// Prints the run of a graph, inputs and picks or, where it cannot, a line on standard error.
+fn show(graph: &[u8], inputs: &[u8], picks: &[u8], out: &mut [u8]) {
+    match printing::print_run(graph, inputs, picks, out) {
         Printed::Done(n) => {
             if !io::write_all(STDOUT_FILENO, &out[..n]) {
                 os::fail(b"write");
@@ -94,26 +78,6 @@ fn put(answer: Answer, listing: &[u8], cells: &[u8], out: &mut [u8]) {
         Printed::TooSmall => {
             os::fail(b"text");
         }
-    }
-}
-
-// Runs, lists and prints, with the buffers that it is lent.
-fn show(
-    graph: &[u8],
-    inputs: &[u8],
-    picks: &[u8],
-    ledger: &mut [u8],
-    cells: &mut [u8],
-    sorted: &mut [u8],
-    out: &mut [u8],
-)
-    requires { ⌜ length (now sorted) ≡ length (now ledger) ⌝ }
-{
-    let answer = engine::run(graph, inputs, picks, BUDGET, ledger, cells);
-    let used = used_bytes(answer.tokens, ledger);
-    match listing::list(&ledger[..used], &mut sorted[..used]) {
-        Listed::Done => put(answer, &sorted[..used], cells, out),
-        Listed::BadStore => os::fail(b"ledger"),
     }
 }
 
@@ -134,20 +98,9 @@ fn show_folder(folder: &[u8])
     let g = io::count(g, &graph);
     let i = io::count(i, &inputs);
     let p = io::count(p, &picks);
-    let mut ledger = [0u8; 40960];
-    let mut cells = [0u8; 8192];
-    let mut sorted = [0u8; 40960];
-    // Room for every text (`text-within` of the crate text).
+    // Room for every text (`EveryTextFits` of the crate printing).
     let mut out = [0u8; 161866];
-    show(
-        &graph[..g],
-        &inputs[..i],
-        &picks[..p],
-        &mut ledger,
-        &mut cells,
-        &mut sorted,
-        &mut out,
-    );
+    show(&graph[..g], &inputs[..i], &picks[..p], &mut out);
 }
 
 fn main() {

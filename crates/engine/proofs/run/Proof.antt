@@ -1,6 +1,7 @@
 -- `engine::run` meets its contract: a check that failed leaves everything as lent, and an accepted run ends as the rules say. Assumes nothing.
-use mathlib.Core.Path.{refl, sym, _∙_}
+use mathlib.Core.Path.{refl, sym, ap, _∙_}
 use borrow.Author.Needs.{needs}
+use Rattle.rules.specs.Answer.{valuesOf}
 use Rattle.rules.specs.Run.{result, unlessFailed, answer, ledgerAfter, cellsAfter}
 use Rattle.engine.proofs.run.Statement.{statement}
 use Rattle.engine.proofs.run.Tie as tie
@@ -16,10 +17,10 @@ run-spec =
     (λ c κs. sym (c .before .before .before .before .check .ensures) ∙ c .before .before .enum-told .given .1)
     (λ c.
     let e = sym (c .before .before .before .check .ensures) ∙ c .before .checked .given .1 in
-    rw e (record { answered = refl; ledgerLeft = refl; cellsLeft = refl }))
+    rw e (record { answered = refl; numbers = refl; ledgerLeft = refl; cellsLeft = refl }))
     (λ c. search needs)
     (λ c. search needs)
     (λ c.
     let e = sym (c .before .before .before .before .before .before .before .before .before .check .ensures) ∙ c .before .before .before .before .before .before .before .enum-told .given .1 in
     let l = c .before .before .before .before .accepted .ensures in
-    rw e (record { answered = l .answered; ledgerLeft = l .ledgerLeft; cellsLeft = l .cellsLeft })))
+    rw e (record { answered = l .answered; numbers = ap valuesOf (l .answered); ledgerLeft = l .ledgerLeft; cellsLeft = l .cellsLeft })))

@@ -15,8 +15,8 @@ arity-at-spec = tie.close (tie.spec
     (λ c. search needs)
     (λ c.
     let a = c .before .before .before .before .args in
-    sym (arity-in (a .graph .now) (a .i) (omega arith) ∙ rw (eq-eqb _ _ (c .if2 .taken))))
+    sym (arity-in (a .graph .now) (a .i) (omega arith) ∙ rw (eq-eqb _ 3 (c .if2 .taken))))
     (λ c.
     let a = c .before .before .before .before .before .args in
-    c .operands .ensures ∙ sym (arity-in (a .graph .now) (a .i) (omega arith) ∙ rw (ne-eqb _ _ (c .before .if2 .left))))
+    c .operands .ensures ∙ sym (arity-in (a .graph .now) (a .i) (omega arith) ∙ rw (ne-eqb _ 3 (c .before .if2 .left))))
     (λ c. let a = c .before .before .args in sym (arity-past (a .graph .now) (a .i) (omega arith))))

@@ -6,7 +6,9 @@ use mathlib.Core.List.{List, [], _∷_, _++_, map, append-nil}
 use mathlib.Core.Logic.{_↔_}
 use native.Mathlib.Omega.{arith}
 use lib.ListN.{length, take, length-map}
+use lib.IntN.{ℤ}
 use lib.ListN.{drop-of-length-le}
+use Rattle.record.specs.declared.tag.Tag.{Tag}
 use Rattle.record.specs.declared.token.Token.{Token}
 use Rattle.number.specs.Number.{Bytes}
 use Rattle.buffer.specs.Rows.{All, joined}
@@ -25,23 +27,25 @@ use Rattle.rules.specs.Run.{Result, refusedAtOnce, ranTo, outcomeOf, result, le
 use Rattle.rules.specs.Run as Run
 use Rattle.rules.specs.Orders.{tokensOf, cellsOf, EachOnce}
 use Rattle.rules.specs.Orders as Rules
-use Rattle.rules.proofs.Orders.{any-two-orders, perm-map, whole-bytes}
-use Rattle.rules.proofs.Fits.{CellCount, result-fits}
+use Rattle.rules.proofs.Accepted.{whole-bytes, Whole, stores-whole, Begun, begun-stores}
+use Rattle.rules.proofs.Orders.{any-two-orders, perm-map}
+use Rattle.rules.specs.Fits.{CellCount}
+use Rattle.rules.proofs.Fits.{result-fits}
 use Rattle.listing.specs.Listing.{records, answer}
 use Rattle.listing.specs.Sorted.{Pairwise}
-use Rattle.listing.specs.Orders.{Lent, Left, RanOn, AllowedLent, Completed, Spent, Refused, used, Alike, Agree, AnyTwoOrders}
+use Rattle.listing.specs.Demand3.{Lent, Left, RanOn, NotForOthers, Completed, Spent, Refused, used, Alike, Agree, Demand3}
 use Rattle.listing.proofs.Lists.{all-of}
 use Rattle.listing.proofs.Laws.{records-joined}
-use Rattle.listing.proofs.AnyTwoOrders.{places-differ, used-records, length-tokens, list-orders}
+use Rattle.listing.proofs.AnyTwoOrders.{places-differ, records-differ, used-records, length-tokens, list-orders}
 
 -- ---- how a run ended: its result and its answer say the same
 
-record SameEnd (x : Result) (o : Outcome) : Type 0 where
-  completes : Rules.Completed x ↔ Completed o
-  refuses : Rules.Refused x ↔ Refused o
-  spends : Spent o → Rules.Spent x
+pub record SameEnd (x : Result) (o : Outcome) : Type 0 where
+  pub completes : Rules.Completed x ↔ Completed o
+  pub refuses : Rules.Refused x ↔ Refused o
+  pub spends : Spent o → Rules.Spent x
 
-same-end : (x : Result) → SameEnd x (Run.answer x .outcome)
+pub same-end : (x : Result) → SameEnd x (Run.answer x .outcome)
 unfolding Run.answer
 same-end (refusedAtOnce r p) = record { completes = (λ h. h, λ h. h); refuses = (λ h. h, λ h. h); spends = λ h. h }
 same-end (ranTo e) = go (e .outcome)
@@ -56,22 +60,29 @@ is-completed Outcomes.Completed h = refl
 is-completed Outcomes.Spent h = absurd h
 is-completed (Outcomes.Refused r place) h = absurd h
 
--- ---- what a run that completes leaves, in bytes
+completed-begun : (x : Result) → Rules.Completed x → Begun x
+completed-begun (refusedAtOnce r p) h = h
+completed-begun (ranTo e) h = tt
 
-used-bytes : (x : Result) → Rules.Completed x → (lent : List ℕ) → take (Run.answer x .tokens * tokenWidth) (ledgerAfter x lent) ≡ joined encode (tokensOf x)
+-- ---- what a run leaves, in bytes
+
+pub used-bytes : (x : Result) (lent : List ℕ) → take (Run.answer x .tokens * tokenWidth) (ledgerAfter x lent) ≡ joined encode (tokensOf x)
 unfolding Run.answer ledgerAfter
-used-bytes (refusedAtOnce r p) h lent = absurd h
-used-bytes (ranTo e) h lent =
+used-bytes (refusedAtOnce r p) lent = refl
+used-bytes (ranTo e) lent =
     ap (λ (n : ℕ). take (n * tokenWidth) (ledgerOf (tokensOf (ranTo e)) lent)) (sym (length-map (e .state .tokens) tokenRecord)) ∙ used-records (tokensOf (ranTo e)) lent
 
-cell-bytes : (x : Result) → Rules.Completed x → (lent : List ℕ) → length lent % cellWidth ≡ 0 → CellCount x (length lent / cellWidth) → cellsAfter x lent ≡ joined Cells.encode (cellsOf x)
+pub ran-cells : (e : Machine.End Refusal Tag ℤ) (lent : List ℕ) → length lent % cellWidth ≡ 0 → CellCount (ranTo e) (length lent / cellWidth) → cellsAfter (ranTo e) lent ≡ joined Cells.encode (cellsOf (ranTo e))
 unfolding cellsAfter
-cell-bytes (refusedAtOnce r p) h lent whole count = absurd h
-cell-bytes (ranTo e) h lent whole count =
+ran-cells e lent whole count =
     let written = joined Cells.encode (cellsOf (ranTo e)) in
     let n : length written ≡ length (cellsOf (ranTo e)) * cellWidth = length-joined cellWidth Cells.encode length-cell (cellsOf (ranTo e)) in
     let all : length lent ≤ length written = omega arith in
     ap (λ (l : List ℕ). written ++ l) (drop-of-length-le lent all) ∙ append-nil written
+
+cell-bytes : (x : Result) → Rules.Completed x → (lent : List ℕ) → length lent % cellWidth ≡ 0 → CellCount x (length lent / cellWidth) → cellsAfter x lent ≡ joined Cells.encode (cellsOf x)
+cell-bytes (refusedAtOnce r p) h lent whole count = absurd h
+cell-bytes (ranTo e) h lent whole count = ran-cells e lent whole count
 
 -- ---- tokens and their records
 
@@ -88,7 +99,7 @@ records-of ts = records-joined encode ts (all-of (λ t. length (encode t) ≡ to
 
 -- ---- two runs
 
-module _ (graph inputs : List ℕ) (graphBytes : Bytes graph) (inputBytes : Bytes inputs) (l m : Lent) (a : AllowedLent l) (b : AllowedLent m)
+module _ (graph inputs : List ℕ) (graphBytes : Bytes graph) (inputBytes : Bytes inputs) (l m : Lent) (a : NotForOthers graph inputs l) (b : NotForOthers graph inputs m)
     (capacities : capacityOf (length (l .ledger)) ≡ capacityOf (length (m .ledger))) (counts : length (l .cells) / cellWidth ≡ length (m .cells) / cellWidth)
     (x y : Left) (ranX : RanOn graph inputs l x) (ranY : RanOn graph inputs m y) where
   abbrev resultOf : Lent → Result
@@ -100,13 +111,17 @@ module _ (graph inputs : List ℕ) (graphBytes : Bytes graph) (inputBytes : Byte
   ended : (k : Lent) (z : Left) → RanOn graph inputs k z → SameEnd (resultOf k) (z .answer .outcome)
   ended k z ran = subst (λ (r : Answer). SameEnd (resultOf k) (r .outcome)) (sym (ran .answered)) (same-end (resultOf k))
 
-  used-of : (k : Lent) (z : Left) → RanOn graph inputs k z → Rules.Completed (resultOf k) → used z ≡ joined encode (tokensOf (resultOf k))
-  used-of k z ran c = rw (ran .answered, ran .ledgerLeft) (used-bytes (resultOf k) c (k .ledger))
+  used-of : (k : Lent) (z : Left) → RanOn graph inputs k z → used z ≡ joined encode (tokensOf (resultOf k))
+  used-of k z ran = rw (ran .answered, ran .ledgerLeft) (used-bytes (resultOf k) (k .ledger))
 
-  cells-of : (k : Lent) → AllowedLent k → (z : Left) → RanOn graph inputs k z → Rules.Completed (resultOf k) → z .cells ≡ joined Cells.encode (cellsOf (resultOf k))
-  cells-of k ok z ran c =
+  -- a run that completes passed the check of its stores
+  stores-of : (k : Lent) → Rules.Completed (resultOf k) → Whole (length inputs) (length (k .picks)) (length (k .ledger)) (length (k .cells))
+  stores-of k c = stores-whole (length inputs) (length (k .picks)) (length (k .ledger)) (length (k .cells)) (begun-stores graph inputs (k .picks) 2048 (length (k .ledger)) (length (k .cells)) (completed-begun (resultOf k) c))
+
+  cells-of : (k : Lent) (z : Left) → RanOn graph inputs k z → Rules.Completed (resultOf k) → z .cells ≡ joined Cells.encode (cellsOf (resultOf k))
+  cells-of k z ran c =
       let fits = result-fits graph inputs (k .picks) 2048 (length (k .ledger)) (length (k .cells)) graphBytes inputBytes in
-      ran .cellsLeft ∙ cell-bytes (resultOf k) c (k .cells) (whole-bytes cellWidth mostCells (length (k .cells)) (ok .allowedCells) .0) (fits .cellCount)
+      ran .cellsLeft ∙ cell-bytes (resultOf k) c (k .cells) (whole-bytes cellWidth mostCells (length (k .cells)) (stores-of k c .wholeCells) .0) (fits .cellCount)
 
   alike : Completed (x .answer .outcome) → Alike x y
   alike done =
@@ -115,20 +130,22 @@ module _ (graph inputs : List ℕ) (graphBytes : Bytes graph) (inputBytes : Byte
       let same = agreed .alike cx in
       let ts = tokensOf (resultOf l) in
       let us = tokensOf (resultOf m) in
-      let ux = used-of l x ranX cx in
-      let uy = used-of m y ranY cy in
+      let ux = used-of l x ranX in
+      let uy = used-of m y ranY in
       let fits = result-fits graph inputs (l .picks) 2048 (length (l .ledger)) (length (l .cells)) graphBytes inputBytes in
-      let few = whole-bytes tokenWidth mostTokens (length (l .ledger)) (a .allowedLedger) .1 in
+      let few = whole-bytes tokenWidth mostTokens (length (l .ledger)) (stores-of l cx .wholeLedger) .1 in
       let outcomes : x .answer .outcome ≡ y .answer .outcome = is-completed (x .answer .outcome) done ∙ sym (is-completed (y .answer .outcome) (ended m y ranY .completes .0 cy)) in
       let firings : x .answer .firings ≡ y .answer .firings = rw (ranX .answered, ranY .answered) (same .firings) in
       let tokens : x .answer .tokens ≡ y .answer .tokens = rw (ranX .answered, ranY .answered) (same .tokens) in
+      let apart = places-differ ts (once-apart ts (same .eachOnce)) in
       record {
         answers = λ i. record { outcome = outcomes i; firings = firings i; tokens = tokens i };
-        cells = cells-of l a x ranX cx ∙ ap (joined Cells.encode) (same .cells) ∙ sym (cells-of m b y ranY cy);
+        cells = cells-of l x ranX cx ∙ ap (joined Cells.encode) (same .cells) ∙ sym (cells-of m y ranY cy);
         sameTokens = rw (ux, uy, records-of ts, records-of us) (perm-map encode (same .sameTokens));
+        eachOnce = rw (ux, records-of ts) (records-differ ts (fits .tokens) apart);
         listings = λ out out′ e e′.
             rw (ux, uy)
-            (list-orders out out′ (same .sameTokens) (places-differ ts (once-apart ts (same .eachOnce))) (fits .tokens) (omega (arith, fits .room, few))
+            (list-orders out out′ (same .sameTokens) apart (fits .tokens) (omega (arith, fits .room, few))
             (e ∙ ap length ux ∙ length-tokens ts) (e′ ∙ ap length uy ∙ length-tokens us));
       }
 
@@ -143,5 +160,5 @@ module _ (graph inputs : List ℕ) (graphBytes : Bytes graph) (inputBytes : Byte
         neverSpent = λ h. agreed .neverSpent (ex .spends h);
       }
 
-pub any-two-orders-agree : AnyTwoOrders
-any-two-orders-agree graph inputs bg bi l m a b c d x y rx ry = agree graph inputs bg bi l m a b c d x y rx ry
+pub demand3 : Demand3
+demand3 graph inputs bg bi l m a b c d x y rx ry = agree graph inputs bg bi l m a b c d x y rx ry

@@ -1,6 +1,6 @@
--- Demand 3, whole: 01, "Any two orders". One claim about two runs over one graph and one list of inputs, in bytes: for every two lists of picks,
--- and whatever ledger and cells held before. It speaks of what `run` (crate engine) and `list` promise, `Ran` and `answer` with `outAfter`.
--- The statement; it is proved in proofs/Orders. Assumes nothing.
+-- Demand 3, whole, in the words of the demand and of 01, "Any two orders". One claim about two runs over one graph and one list of inputs, in bytes: for every
+-- two lists of picks, and whatever ledger and cells held before. It speaks of what `run` (crate engine) and `list` promise, `Ran` and `answer` with `outAfter`.
+-- The statement; it is proved in proofs/Demand3. Assumes nothing.
 use Prim.Native.Nat.{ℕ, _*_, _/_}
 use mathlib.Core.Path.{_≡_}
 use mathlib.Core.List.{List, List·Permᴰ}
@@ -13,8 +13,9 @@ use Rattle.rules.specs.declared.answer.Answer.{Answer}
 use Rattle.rules.specs.declared.answer.Outcome.{Outcome}
 use Rattle.rules.specs.declared.answer.Outcome.the-variants as Outcomes
 use Rattle.rules.specs.Run.{result, Ran}
-use Rattle.rules.specs.Orders.{Allowed}
-use Rattle.listing.specs.Listing.{records, answer, outAfter}
+use Rattle.rules.specs.Orders.{NotForOtherBuffers}
+use Rattle.listing.specs.Listing.{recordKey, records, answer, outAfter}
+use Rattle.listing.specs.Sorted.{DifferentKeys}
 
 -- ---- a run
 
@@ -34,9 +35,10 @@ pub record Left : Type 0 where
 abbrev pub RanOn : (graph inputs : List ℕ) → Lent → Left → Type 0
 RanOn graph inputs l x = Ran (result graph inputs (l .picks) 2048 (length (l .ledger)) (length (l .cells))) (x .answer) (l .ledger) (x .ledger) (l .cells) (x .cells)
 
--- "neither refused by 7 for a buffer other than the inputs"
-abbrev pub AllowedLent : Lent → Type 0
-AllowedLent l = Allowed (l .picks) (length (l .ledger)) (length (l .cells))
+-- 01: "neither run is refused by 7 for a buffer other than the inputs". The demand's "picks, ledger and cells of allowed length" is a case of it; where the
+-- graph fails its check, lengths do not count, and both runs are refused
+abbrev pub NotForOthers : (graph inputs : List ℕ) → Lent → Type 0
+NotForOthers graph inputs l = NotForOtherBuffers graph inputs (l .picks) (length (l .ledger)) (length (l .cells))
 
 -- ---- how it ended
 
@@ -63,27 +65,30 @@ used x = take (x .answer .tokens * tokenWidth) (x .ledger)
 
 -- of two runs that complete
 pub record Alike (x y : Left) : Type 0 where
-  -- "If one run completes with f firings and t tokens, so does the other."
+  -- 01: "If one run completes with f firings and t tokens, so does the other."
   pub answers : x .answer ≡ y .answer
-  -- "All cell bytes are equal."
+  -- 01: "All cell bytes are equal."
   pub cells : x .cells ≡ y .cells
-  -- "The first t ledger records of one run are those of the other in some order, in every byte of each, states included"
+  -- 01: "The first t ledger records of one run are those of the other in some order, in every byte of each, states included"
   pub sameTokens : List·Permᴰ (records (used x)) (records (used y))
-  -- "The listings of the two, in outputs of their length, are equal in every byte": `list` is done with both
+  -- the demand: "both ledgers hold the same tokens, each once": no two records have one path, iteration, instruction and port
+  pub eachOnce : DifferentKeys recordKey (records (used x))
+  -- 01: "The listings of the two, in outputs of their length, are equal in every byte": `list` is done with both
   pub listings : (out out′ : List ℕ) → length out ≡ length (used x) → length out′ ≡ length (used y)
       → (answer (used x) out ≡ 0) × (answer (used y) out′ ≡ 0) × (outAfter (used x) out ≡ outAfter (used y) out′)
 
 pub record Agree (x y : Left) : Type 0 where
+  -- the demand: "one run completes exactly when the other does"
   pub completes : Completed (x .answer .outcome) ↔ Completed (y .answer .outcome)
   pub alike : Completed (x .answer .outcome) → Alike x y
-  -- "If one run is refused, so is the other"
+  -- 01: "If one run is refused, so is the other"
   pub refused : Refused (x .answer .outcome) ↔ Refused (y .answer .outcome)
   -- a budget of 2,048 is never spent
   pub neverSpent : ¬ (Spent (x .answer .outcome))
 
--- "two whole runs over one graph and one list of inputs, for every two lists of picks [..] Capacity and cell count are equal [..] What ledger and
+-- 01: "two whole runs over one graph and one list of inputs, for every two lists of picks [..] Capacity and cell count are equal [..] What ledger and
 -- cells held beforehand may differ."
-abbrev pub AnyTwoOrders : Type 0
-AnyTwoOrders = (graph inputs : List ℕ) → Bytes graph → Bytes inputs → (l m : Lent) → AllowedLent l → AllowedLent m
+abbrev pub Demand3 : Type 0
+Demand3 = (graph inputs : List ℕ) → Bytes graph → Bytes inputs → (l m : Lent) → NotForOthers graph inputs l → NotForOthers graph inputs m
     → capacityOf (length (l .ledger)) ≡ capacityOf (length (m .ledger)) → length (l .cells) / cellWidth ≡ length (m .cells) / cellWidth
     → (x y : Left) → RanOn graph inputs l x → RanOn graph inputs m y → Agree x y

@@ -1,0 +1,105 @@
+-- Every text that the printing program prints fits 161,866 bytes (`every-text-fits`). Assumes nothing.
+use Prim.Native.Nat.{ℕ, _*_, _/_, _^_, _<_, _≤_}
+use mathlib.Core.Path.{_≡_, refl, sym, ap, subst, _∙_}
+use mathlib.Core.List.{List, [], append-nil}
+use native.Mathlib.Omega.{arith}
+use native.Mathlib.Nat.{mul-div-cancel}
+use lib.ListN.{length, take, replicate, length-replicate}
+use Rattle.number.specs.Number.{Bytes}
+use Rattle.buffer.specs.Rows.{All, allRows, joined}
+use Rattle.record.specs.declared.token.Token.{Token}
+use Rattle.record.specs.declared.cell.Cell.{Cell}
+use Rattle.record.specs.TokensAndTags.{TokenFits, encode, mostTokens}
+use Rattle.record.specs.TokensAndTags as Tokens
+use Rattle.record.specs.Cells.{CellFits}
+use Rattle.record.specs.Cells as Cells
+use Rattle.record.specs.Widths.{tokenWidth, cellWidth}
+use Rattle.buffer.proofs.Tables.{length-joined}
+use Rattle.record.proofs.Records.{length-token, length-cell, tokens-joined, cells-joined}
+use Rattle.load.proofs.Laws.{zeros-cells, absent-fit}
+use Rattle.rules.specs.Check.{mostCells}
+use Rattle.rules.specs.Run.{Result, refusedAtOnce, ranTo, answer, ledgerAfter, cellsAfter}
+use Rattle.rules.specs.Orders.{tokensOf, cellsOf}
+use Rattle.rules.specs.Small.{Small}
+use Rattle.rules.specs.Fits.{CellCount, AllFit}
+use Rattle.rules.proofs.Small.{answer-small}
+use Rattle.rules.proofs.Fits.{result-fits}
+use Rattle.listing.specs.Listing.{keyOf, keyLe, sortBy, listing}
+use Rattle.listing.proofs.Lists.{all-perm}
+use Rattle.listing.proofs.Sorting.{length-sort}
+use Rattle.listing.proofs.Laws.{sort-permutation}
+use Rattle.listing.proofs.AnyTwoOrders.{token-listing}
+use Rattle.listing.proofs.Demand3.{used-bytes, ran-cells}
+use Rattle.text.proofs.Room.{lines-within}
+use Rattle.printing.specs.PrintedRun.{ledgerBytes, cellBytes, runOf, textLeft, printedRun, mostBytes, EveryTextFits}
+
+-- ---- records that hold what fits them are read back
+
+token-rows : (ts : List Token) → All TokenFits ts → allRows tokenWidth Tokens.decode (joined encode ts) ≡ ts
+token-rows ts f =
+    let size : length (joined encode ts) / tokenWidth ≡ length ts = ap (λ (n : ℕ). n / tokenWidth) (length-joined tokenWidth encode length-token ts) ∙ mul-div-cancel (length ts) (omega arith) in
+    ap (λ (n : ℕ). Tokens.tokens n (joined encode ts)) size ∙ ap (Tokens.tokens (length ts)) (sym (append-nil (joined encode ts))) ∙ tokens-joined ts [] f
+
+cell-rows : (xs : List Cell) → All CellFits xs → allRows cellWidth Cells.decode (joined Cells.encode xs) ≡ xs
+cell-rows xs f =
+    let size : length (joined Cells.encode xs) / cellWidth ≡ length xs = ap (λ (n : ℕ). n / cellWidth) (length-joined cellWidth Cells.encode length-cell xs) ∙ mul-div-cancel (length xs) (omega arith) in
+    ap (λ (n : ℕ). Cells.cells n (joined Cells.encode xs)) size ∙ ap (Cells.cells (length xs)) (sym (append-nil (joined Cells.encode xs))) ∙ cells-joined xs [] f
+
+-- ---- what a run leaves
+
+abbrev ledgerLeft : Result → List ℕ
+ledgerLeft x = listing (take (answer x .tokens * tokenWidth) (ledgerAfter x (replicate ledgerBytes 0)))
+
+abbrev cellsLeft : Result → List ℕ
+cellsLeft x = cellsAfter x (replicate cellBytes 0)
+
+-- so many tokens, each of which fits
+pub record FewTokens (l : List ℕ) : Type 0 where
+  pub fit : All TokenFits (allRows tokenWidth Tokens.decode l)
+  pub few : length l ≤ ledgerBytes
+
+pub record FewCells (l : List ℕ) : Type 0 where
+  pub fit : All CellFits (allRows cellWidth Cells.decode l)
+  pub few : length l ≡ cellBytes
+
+sorted-tokens : (ts : List Token) → All TokenFits ts → length ts ≤ mostTokens → FewTokens (joined encode (sortBy keyOf ts))
+sorted-tokens ts f h =
+    let fits = all-perm TokenFits (sort-permutation keyOf ts) f in
+    record {
+      fit = rw (token-rows (sortBy keyOf ts) fits) fits;
+      few = omega (arith, length-joined tokenWidth encode length-token (sortBy keyOf ts), length-sort (λ a b. keyLe (keyOf a) (keyOf b)) ts);
+    }
+
+tokens-left : (x : Result) → AllFit x mostTokens mostCells → FewTokens (ledgerLeft x)
+tokens-left x a =
+    subst FewTokens (sym (ap listing (used-bytes x (replicate ledgerBytes 0)) ∙ token-listing (tokensOf x) (a .tokens))) (sorted-tokens (tokensOf x) (a .tokens) (a .room))
+
+zero-length : length (replicate {A = ℕ} cellBytes 0) ≡ cellBytes
+zero-length = length-replicate {A = ℕ} cellBytes 0
+
+cells-left : (x : Result) → AllFit x mostTokens mostCells → FewCells (cellsLeft x)
+unfolding cellsAfter
+cells-left (refusedAtOnce r p) a =
+    let size : length (replicate {A = ℕ} cellBytes 0) / cellWidth ≡ mostCells = ap (λ (n : ℕ). n / cellWidth) zero-length in
+    record {
+      fit = subst (All CellFits) (sym (ap (λ (n : ℕ). Cells.cells n (replicate cellBytes 0)) size ∙ zeros-cells mostCells)) (absent-fit mostCells);
+      few = zero-length;
+    }
+cells-left (ranTo e) a =
+    let count : CellCount (ranTo e) (length (replicate {A = ℕ} cellBytes 0) / cellWidth) = omega (arith, zero-length, a .cellCount) in
+    let written = ran-cells e (replicate cellBytes 0) (omega (arith, zero-length)) count in
+    subst FewCells (sym written) (record {
+      fit = rw (cell-rows (cellsOf (ranTo e)) (a .cells)) (a .cells);
+      few = omega (arith, length-joined cellWidth Cells.encode length-cell (cellsOf (ranTo e)), a .cellCount);
+    })
+
+pub every-text-fits : EveryTextFits
+unfolding printedRun runOf
+every-text-fits graph inputs picks bg bi =
+    let x = runOf graph inputs picks in
+    let fits = result-fits graph inputs picks 2048 ledgerBytes cellBytes bg bi in
+    let small = answer-small graph inputs picks 2048 ledgerBytes cellBytes in
+    let ts = tokens-left x fits in
+    let cs = cells-left x fits in
+    let within = lines-within (answer x) (ledgerLeft x) (cellsLeft x) (record { firings = omega (arith, small .firings); tokens = omega (arith, small .tokens); place = omega (arith, small .place) }) (ts .fit) (cs .fit) (omega (arith, cs .few)) in
+    omega (arith, within, ts .few, cs .few)

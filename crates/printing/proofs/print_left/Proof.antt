@@ -1,0 +1,34 @@
+-- `printing::print_left` meets its contract: what is listed is the used records. Assumes nothing.
+use Prim.Native.Nat.{ℕ}
+use mathlib.Core.Path.{_≡_, sym, ap, _∙_}
+use mathlib.Core.List.{List}
+use native.Mathlib.Omega.{arith}
+use borrow.Author.Needs.{needs}
+use Rattle.text.specs.Text.{printed, printedOf, outAfter}
+use Rattle.printing.proofs.Left.{listed}
+use Rattle.printing.proofs.print_left.Statement.{statement}
+use Rattle.printing.proofs.print_left.Tie as tie
+
+pub print-left-spec : {M : Type 1} → statement M
+print-left-spec = tie.close (tie.spec
+    (λ c. search needs)
+    (λ c. search needs)
+    (λ c. search needs)
+    (λ c. search needs)
+    (λ c. search needs)
+    (λ c. search needs)
+    (λ c. search needs)
+    (λ c κs. search needs)
+    (λ c. search needs)
+    (λ c. search needs)
+    (λ c. search needs)
+    (λ c κs. search needs)
+    (λ c. search needs)
+    (λ c. search needs)
+    (λ c.
+    let p = c .before .before .print .ensures in
+    let l = c .before .before .before .before .before .before .before .before .list .ensures in
+    let s = c .before .before .before .before .before .before .before .before .before .before .before .before .before .before .before .before in
+    let a = s .args in
+    let e = listed (a .ledger .now) (a .sorted .now) _ _ (a .answer .tokens) (s .pre .0) (omega (arith, s .pre .1)) (omega (arith, s .pre .1, s .pre .2)) (l .1) in
+    (p .0 ∙ ap (λ (z : List ℕ). printedOf (printed (a .answer) z (a .cells .now)) (a .out .now)) e, p .1 ∙ ap (λ (z : List ℕ). outAfter (printed (a .answer) z (a .cells .now)) (a .out .now)) e)))

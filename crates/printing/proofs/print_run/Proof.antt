@@ -1,0 +1,32 @@
+-- `printing::print_run` meets its contract: the run, by what it leaves of zeros. Assumes nothing.
+use Prim.Native.Nat.{ℕ}
+use mathlib.Core.Path.{ap, _∙_}
+use mathlib.Core.List.{List}
+use native.Mathlib.Omega.{arith}
+use borrow.Author.Needs.{needs}
+use Rattle.text.specs.Text.{printedOf, outAfter}
+use Rattle.printing.proofs.Left.{few-tokens, within, left-printed}
+use Rattle.printing.proofs.print_run.Statement.{statement}
+use Rattle.printing.proofs.print_run.Tie as tie
+
+pub print-run-spec : {M : Type 1} → statement M
+print-run-spec = tie.close (tie.spec
+    (λ c. search needs)
+    (λ c. search needs)
+    (λ c κs. search needs)
+    (λ c. search needs)
+    (λ c. search needs)
+    (λ c. search needs)
+    (λ c κs.
+    let r = c .before .before .before .before .before .before .run .ensures in
+    (few-tokens _ _ _ _ _ _ r, within _ _ (few-tokens _ _ _ _ _ _ r) (search needs), search needs))
+    (λ c. search needs)
+    (λ c.
+    let p = c .before .before .before .print-left .ensures in
+    let r = c .before .before .before .before .before .before .before .before .before .before .run .ensures in
+    let a = c .before .before .before .before .before .before .before .before .before .before .before .before .before .before .before .before .before .args in
+    let e = left-printed (a .graph .now) (a .inputs .now) (a .picks .now) r in
+    record {
+      answered = p .0 ∙ ap (λ (t : List ℕ). printedOf t (a .out .now)) e;
+      outLeft = p .1 ∙ ap (λ (t : List ℕ). outAfter t (a .out .now)) e;
+    }))
