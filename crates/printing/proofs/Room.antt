@@ -30,7 +30,7 @@ use Rattle.listing.proofs.Sorting.{length-sort}
 use Rattle.listing.proofs.Laws.{sort-permutation}
 use Rattle.listing.proofs.AnyTwoOrders.{token-listing}
 use Rattle.listing.proofs.Demand3.{used-bytes, ran-cells}
-use Rattle.text.proofs.Room.{lines-within}
+use Rattle.text.proofs.Room.{fitting-within}
 use Rattle.printing.specs.PrintedRun.{ledgerBytes, cellBytes, runOf, textLeft, printedRun, mostBytes, EveryTextFits}
 
 -- ---- records that hold what fits them are read back
@@ -101,5 +101,5 @@ every-text-fits graph inputs picks bg bi =
     let small = answer-small graph inputs picks 2048 ledgerBytes cellBytes in
     let ts = tokens-left x fits in
     let cs = cells-left x fits in
-    let within = lines-within (answer x) (ledgerLeft x) (cellsLeft x) (record { firings = omega (arith, small .firings); tokens = omega (arith, small .tokens); place = omega (arith, small .place) }) (ts .fit) (cs .fit) (omega (arith, cs .few)) in
+    let within = fitting-within (answer x) (ledgerLeft x) (cellsLeft x) (record { firings = omega (arith, small .firings); tokens = omega (arith, small .tokens); place = omega (arith, small .place) }) (ts .fit) (cs .fit) (omega (arith, cs .few)) in
     omega (arith, within, ts .few, cs .few)

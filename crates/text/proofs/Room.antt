@@ -1,14 +1,14 @@
 -- How long a text is at most, so that a buffer can be lent in which every text fits: 74 bytes for the answer, 56 a token and 46 a cell. Assumes nothing.
-use Prim.Native.Nat.{ℕ, zero, suc, _+_, _*_, _/_, _^_, _≤_, _<_}
+use Prim.Native.Nat.{ℕ, zero, suc, _+_, _-_, _*_, _/_, _^_, _≤_, _<_}
 use native.Mathlib.Omega.{arith}
 use native.Mathlib.Nat.{suc-mul, le-trans}
 use mathlib.Core.Path.{_≡_, refl, ap, subst, _∙_}
 use mathlib.Core.Bool.{Bool, true, false, cond}
 use mathlib.Core.List.{List, [], _∷_, _++_, map}
-use borrow.Author.Tests.{leb-true, le-leb}
+use borrow.Author.Tests.{leb-true, leb-false, le-leb}
 use lib.Dec.{leb}
 use lib.IntN.{ℤ, pos, negsuc}
-use lib.ListN.{length, length-append}
+use lib.ListN.{length, drop, getD, length-append}
 use mir.Syntax.{w32}
 use mir.Val.{SFits}
 use Rattle.number.specs.Number.{Bytes, signedOf}
@@ -22,7 +22,7 @@ use Rattle.record.specs.declared.token.Content.the-variants.{Live, Spent, Defer
 use Rattle.record.specs.declared.cell.Cell.{Cell}
 use Rattle.record.specs.declared.cell.Cell.the-variants.{Absent, Waiting, Present}
 use Rattle.buffer.proofs.Tables.{length-rows}
-use Rattle.record.proofs.Fitting.{signed-fits, token-fits, cell-fits, rows-fit}
+use Rattle.record.proofs.Fitting.{bytes-drop, signed-fits, token-fits, cell-fits, rows-fit}
 use Rattle.record.specs.Widths.{tokenWidth, cellWidth}
 use Rattle.rules.specs.Answer.{numberOf, placeIn}
 use Rattle.rules.specs.declared.answer.Refusal.{Refusal}
@@ -31,11 +31,11 @@ use Rattle.rules.specs.declared.answer.Outcome.{Outcome}
 use Rattle.rules.specs.declared.answer.Outcome.the-variants as Outcomes
 use Rattle.rules.specs.declared.answer.Answer.{Answer}
 use Rattle.text.specs.Words.{bytes}
-use Rattle.text.specs.Text.{decimal, signedDecimal, line, outcomeFields, stateWord, valueIn, answerLine, tokenLine, statedLine, cellLine, cellLines, printed, printedOf}
+use Rattle.text.specs.Text.{decimal, signedDecimal, line, outcomeFields, stateWord, valueIn, answerLine, tokenLine, statedLine, cellLine, cellLines, lines, printed, printedOf}
 use Rattle.text.specs.declared.Printed.the-variants.{Done, TooSmall}
-use Rattle.text.specs.Room.{AnswerFits}
+use Rattle.text.specs.Room.{AnswerFits, mostBytes}
 use Rattle.text.proofs.Decimals.{at-most, short}
-use Rattle.text.proofs.Whole.{joined-append}
+use Rattle.text.proofs.Whole.{joined-append, line-token, line-cell}
 
 -- ---- a line by its fields: each has at most so many bytes, and one byte behind it
 
@@ -83,18 +83,32 @@ number-short NoReturn = omega arith
 
 -- ---- the first line
 
-by-outcome : (o : Outcome) (f t p : ℕ) → f < 2 ^ 64 → t < 2 ^ 64 → p < 2 ^ 64 → length (line (outcomeFields o ++ decimal f ∷ decimal t ∷ decimal p ∷ [])) ≤ 74
-by-outcome Outcomes.Completed f t p hf ht hp =
-    le-trans (line-within (bytes "completed") (decimal f ∷ decimal t ∷ decimal p ∷ []) 9 (20 ∷ 20 ∷ 20 ∷ []) (omega arith) (short f hf, (short t ht, (short p hp, tt)))) (omega arith)
-by-outcome Outcomes.Spent f t p hf ht hp =
-    le-trans (line-within (bytes "spent") (decimal f ∷ decimal t ∷ decimal p ∷ []) 5 (20 ∷ 20 ∷ 20 ∷ []) (omega arith) (short f hf, (short t ht, (short p hp, tt)))) (omega arith)
-by-outcome (Outcomes.Refused r place) f t p hf ht hp =
-    line-within (bytes "refused") (decimal (numberOf r) ∷ decimal f ∷ decimal t ∷ decimal p ∷ []) 7 (2 ∷ 20 ∷ 20 ∷ 20 ∷ []) (omega arith)
-    (at-most 1 (numberOf r) (number-short r), (short f hf, (short t ht, (short p hp, tt))))
+-- of an outcome at most, with 20 digits to firings and tokens each and two to a refusal
+abbrev pub mostFirst : Outcome → ℕ
+mostFirst Outcomes.Completed = 54
+mostFirst Outcomes.Spent = 50
+mostFirst (Outcomes.Refused r place) = 54 + length (decimal place)
+
+by-outcome : (o : Outcome) (f t : ℕ) → f < 2 ^ 64 → t < 2 ^ 64 → length (line (outcomeFields o ++ decimal f ∷ decimal t ∷ decimal (placeIn o) ∷ [])) ≤ mostFirst o
+by-outcome Outcomes.Completed f t hf ht =
+    line-within (bytes "completed") (decimal f ∷ decimal t ∷ decimal 0 ∷ []) 9 (20 ∷ 20 ∷ 1 ∷ []) (omega arith) (short f hf, (short t ht, (at-most 0 0 (omega arith), tt)))
+by-outcome Outcomes.Spent f t hf ht =
+    line-within (bytes "spent") (decimal f ∷ decimal t ∷ decimal 0 ∷ []) 5 (20 ∷ 20 ∷ 1 ∷ []) (omega arith) (short f hf, (short t ht, (at-most 0 0 (omega arith), tt)))
+by-outcome (Outcomes.Refused r place) f t hf ht =
+    le-trans (line-within (bytes "refused") (decimal (numberOf r) ∷ decimal f ∷ decimal t ∷ decimal place ∷ []) 7 (2 ∷ 20 ∷ 20 ∷ length (decimal place) ∷ []) (omega arith)
+    (at-most 1 (numberOf r) (number-short r), (short f hf, (short t ht, (omega arith, tt))))) (omega arith)
+
+pub first-short : (a : Answer) → a .firings < 2 ^ 64 → a .tokens < 2 ^ 64 → length (answerLine a) ≤ mostFirst (a .outcome)
+unfolding answerLine
+first-short a f t = by-outcome (a .outcome) (a .firings) (a .tokens) f t
+
+most-first : (o : Outcome) → placeIn o < 2 ^ 64 → mostFirst o ≤ 74
+most-first Outcomes.Completed h = omega arith
+most-first Outcomes.Spent h = omega arith
+most-first (Outcomes.Refused r place) h = omega (arith, short place h)
 
 pub answer-short : (a : Answer) → AnswerFits a → length (answerLine a) ≤ 74
-unfolding answerLine
-answer-short a h = by-outcome (a .outcome) (a .firings) (a .tokens) (placeIn (a .outcome)) (h .firings) (h .tokens) (h .place)
+answer-short a h = omega (arith, first-short a (h .firings) (h .tokens), most-first (a .outcome) (h .place))
 
 -- ---- the line of a token whose fields are those of a record
 
@@ -147,12 +161,13 @@ cells-within k [] h f = omega arith
 cells-within k (x ∷ xs) h f =
     omega (arith, length-append (cellLine k x) (joined (λ (y : List ℕ). y) (cellLines (suc k) xs)), cell-short k x (omega arith) (f .0), cells-within (suc k) xs (omega arith) (f .1), suc-mul (length xs) 46)
 
--- ---- the whole text
+-- ---- the whole text, and each line of it
 
-pub lines-within : (a : Answer) (listing cells : List ℕ) → AnswerFits a → All Tokens.TokenFits (allRows tokenWidth Tokens.decode listing) → All CellFits (allRows cellWidth Cells.decode cells) → length cells < 2 ^ 64
-    → length (printed a listing cells) ≤ 74 + (length listing / tokenWidth * 56 + length cells / cellWidth * 46)
+-- of lines whose tokens and cells fit their records
+pub lines-within : (a : Answer) (listing cells : List ℕ) → All Tokens.TokenFits (allRows tokenWidth Tokens.decode listing) → All CellFits (allRows cellWidth Cells.decode cells) → length cells < 2 ^ 64
+    → length (printed a listing cells) ≤ length (answerLine a) + mostBytes listing cells
 unfolding printed
-lines-within a listing cells f ft fc h =
+lines-within a listing cells ft fc h =
     let n = length listing / tokenWidth in
     let m = length cells / cellWidth in
     let ts = allRows tokenWidth Tokens.decode listing in
@@ -164,22 +179,40 @@ lines-within a listing cells f ft fc h =
     let e : length (joined (λ (x : List ℕ). x) (map tokenLine ts ++ cellLines 0 cs)) ≡ length jt + length jc = ap length (joined-append (map tokenLine ts) (cellLines 0 cs)) ∙ length-append jt jc in
     let wt : length jt ≤ n * 56 = subst (λ (k : ℕ). length jt ≤ k * 56) many (tokens-within ts ft) in
     let wc : length jc ≤ m * 46 = subst (λ (k : ℕ). length jc ≤ k * 46) more (cells-within 0 cs (omega arith) fc) in
-    omega (
-      arith,
-      length-append (answerLine a) (joined (λ (x : List ℕ). x) (map tokenLine ts ++ cellLines 0 cs)),
-      e,
-      answer-short a f,
-    )
+    omega (arith, length-append (answerLine a) (joined (λ (x : List ℕ). x) (map tokenLine ts ++ cellLines 0 cs)), e)
+
+pub fitting-within : (a : Answer) (listing cells : List ℕ) → AnswerFits a → All Tokens.TokenFits (allRows tokenWidth Tokens.decode listing) → All CellFits (allRows cellWidth Cells.decode cells) → length cells < 2 ^ 64
+    → length (printed a listing cells) ≤ 74 + mostBytes listing cells
+fitting-within a listing cells f ft fc h = omega (arith, lines-within a listing cells ft fc h, answer-short a f)
 
 -- of bytes, whatever they are
+pub bytes-within : (a : Answer) (listing cells : List ℕ) → Bytes listing → Bytes cells → length cells < 2 ^ 64
+    → length (printed a listing cells) ≤ length (answerLine a) + mostBytes listing cells
+bytes-within a listing cells bl bc h =
+    lines-within a listing cells (rows-fit Tokens.TokenFits Tokens.decode token-fits tokenWidth (length listing / tokenWidth) listing bl) (rows-fit CellFits Cells.decode cell-fits cellWidth (length cells / cellWidth) cells bc) h
+
 pub text-within : (a : Answer) (listing cells : List ℕ) → AnswerFits a → Bytes listing → Bytes cells → length cells < 2 ^ 64
-    → length (printed a listing cells) ≤ 74 + (length listing / tokenWidth * 56 + length cells / cellWidth * 46)
-text-within a listing cells f bl bc h =
-    lines-within a listing cells f (rows-fit Tokens.TokenFits Tokens.decode token-fits tokenWidth (length listing / tokenWidth) listing bl) (rows-fit CellFits Cells.decode cell-fits cellWidth (length cells / cellWidth) cells bc) h
+    → length (printed a listing cells) ≤ 74 + mostBytes listing cells
+text-within a listing cells f bl bc h = omega (arith, bytes-within a listing cells bl bc h, answer-short a f)
+
+pub line-short : (a : Answer) (listing cells : List ℕ) → length (answerLine a) ≤ 74 → Bytes listing → Bytes cells → length cells < 2 ^ 64
+    → (j : ℕ) → j < 1 + (length listing / tokenWidth + length cells / cellWidth) → length (getD (lines a listing cells) j []) ≤ 74
+line-short a listing cells f bl bc h zero lt = f
+line-short a listing cells f bl bc h (suc i) lt = go (leb (suc i) (length listing / tokenWidth)) refl
+  where
+    go : (b : Bool) → leb (suc i) (length listing / tokenWidth) ≡ b → length (getD (lines a listing cells) (suc i) []) ≤ 74
+    go true e =
+        let k = (suc i - 1) * tokenWidth in
+        let s = token-short (Tokens.tokenAt listing (suc i - 1)) (token-fits (drop k listing) (bytes-drop k listing bl)) in
+        rw (line-token a listing cells (suc i) (λ z. absurd (omega arith)) (leb-true (suc i) (length listing / tokenWidth) e)) (omega arith)
+    go false e =
+        let k = suc i - 1 - length listing / tokenWidth in
+        let s = cell-short k (Cells.cellAt cells k) (omega arith) (cell-fits (drop (k * cellWidth) cells) (bytes-drop (k * cellWidth) cells bc)) in
+        rw (line-cell a listing cells (suc i) (leb-false (suc i) (length listing / tokenWidth) e) lt) (omega arith)
 
 -- where there is so much room, printing is done
 pub fits-in : (a : Answer) (listing cells out : List ℕ) → AnswerFits a → Bytes listing → Bytes cells → length cells < 2 ^ 64
-    → 74 + (length listing / tokenWidth * 56 + length cells / cellWidth * 46) ≤ length out → printedOf (printed a listing cells) out ≡ Done (length (printed a listing cells))
+    → 74 + mostBytes listing cells ≤ length out → printedOf (printed a listing cells) out ≡ Done (length (printed a listing cells))
 unfolding printedOf
 fits-in a listing cells out f bl bc h room =
     rw (le-leb (length (printed a listing cells)) (length out) (omega (arith, text-within a listing cells f bl bc h)))

@@ -5,9 +5,9 @@ use native.Mathlib.Numerals.{add-one}
 use native.Mathlib.Nat.{not-suc-le-zero, le-of-suc-le-suc, suc-mul, zero-mul, add-comm, zero-add}
 use mathlib.Core.Path.{_≡_, refl, sym, ap, _∙_}
 use mathlib.Core.List.{List, [], _∷_, _++_, map, append-assoc, append-nil}
-use lib.ListN.{length, getD, take, drop, length-append, length-drop, length-map, take-append-drop, List·getD-append}
-use lib.Seq.{take-suc, take-all, drop-drop, getD-append-add, take-at, drop-append-add, length-take-le}
-use Rattle.buffer.specs.Rows.{rows, joined, written}
+use lib.ListN.{length, getD, take, drop, length-append, length-map, take-append-drop, List·getD-append}
+use lib.Seq.{take-suc, take-all, drop-drop, getD-append-add}
+use Rattle.buffer.specs.Rows.{rows, joined}
 use Rattle.record.specs.TokensAndTags as Tokens
 use Rattle.record.specs.Cells as Cells
 use Rattle.record.specs.declared.cell.Cell.{Cell}
@@ -15,6 +15,8 @@ use Rattle.buffer.proofs.Tables.{length-rows, getD-rows}
 use Rattle.record.specs.Widths.{tokenWidth, cellWidth}
 use Rattle.rules.specs.declared.answer.Answer.{Answer}
 use Rattle.text.specs.Text.{tokenLine, cellLine, cellLines, lines}
+use Rattle.text.specs.Lines.{RoomFor, Added}
+use Rattle.text.proofs.Lines.{both}
 
 -- ---- which line stands where
 
@@ -96,34 +98,11 @@ module _ (ls : List (List ℕ)) where
       let e = ap (λ (l : List (List ℕ)). length (joined (λ (l : List ℕ). l) l)) (take-append-drop j ls) in
       omega (arith, e, ap length (joined-append (take j ls) (drop j ls)), length-append (made j) (joined (λ (l : List ℕ). l) (drop j ls)))
 
--- a text written behind another one, in a buffer that was lent
-pub written-behind : (t s lent : List ℕ) → written (t ++ drop (length t) lent) (length t) s ≡ (t ++ s) ++ drop (length t + length s) lent
-unfolding written
-written-behind t s lent =
-    let d = drop (length t) lent in
-    rw (take-at t d (length t) refl, drop-append-add t d (length s), drop-drop (length s) (length t) lent) (sym (append-assoc t s (drop (length t + length s) lent)))
+-- ---- the first j lines are put at the start of a buffer: `at` is where they end
 
--- the length of a line that was made in an array
-pub line-length : (k : ℕ) (l x : List ℕ) → k ≤ 128 → length l ≡ 128 → take k l ≡ x → length x ≡ k
-line-length k l x h e p = ap length (sym p) ∙ length-take-le k l (omega arith)
+module _ (ls : List (List ℕ)) {lent out : List ℕ} {at : ℕ} (j : ℕ) (lt : j < length ls) (a : Added lent out 0 at (made ls j)) where
+  pub next-room : RoomFor lent 0 (joined (λ (l : List ℕ). l) ls) → RoomFor out at (getD ls j [])
+  next-room h = record { room = omega (arith, h .room, a .place, a .kept, made-longer ls j lt, made-within ls (j + 1)) }
 
--- and as a part of that array
-pub part : (k : ℕ) (l x : List ℕ) → take k l ≡ x → take (k - 0) l ≡ x
-part k l x p = let e : k - 0 ≡ k = omega arith in rw e p
-
--- ---- a buffer that was lent, with the first j lines at its start: `at` is their length
-
-module _ (ls : List (List ℕ)) (lent : List ℕ) (room : length (joined (λ (l : List ℕ). l) ls) ≤ length lent) (at j : ℕ) where
-  module _ (out : List ℕ) where
-    pub kept-length : at ≡ length (made ls j) → out ≡ made ls j ++ drop at lent → length out ≡ length lent
-    kept-length ea eo = ap length eo ∙ length-append (made ls j) (drop at lent) ∙ omega (arith, length-drop at lent, made-within ls j)
-
-    pub next : (s : List ℕ) (k : ℕ) → j < length ls → at ≡ length (made ls j) → out ≡ made ls j ++ drop at lent → s ≡ getD ls j [] → length (getD ls j []) ≡ k
-        → written out at s ≡ made ls (j + 1) ++ drop (at + k) lent
-    next s k lt ea eo es ek =
-        let t = made ls j in
-        let g = getD ls j [] in
-        rw (eo, ea, es, ← ek) (written-behind t g lent ∙ ap (λ (x : List ℕ). x ++ drop (length t + length g) lent) (sym (made-next ls j lt)))
-
-  pub next-fits : j < length ls → at ≡ length (made ls j) → at + length (getD ls j []) ≤ length lent
-  next-fits lt ea = omega (arith, made-longer ls j lt, made-within ls (j + 1))
+  pub next-made : {after : List ℕ} {r : ℕ} → Added out after at r (getD ls j []) → Added lent after 0 r (made ls (j + 1))
+  next-made b = rw (made-next ls j lt) (both a b)

@@ -1,5 +1,8 @@
--- What an answer holds, as a machine has it: what is asked where the length of a text is bounded. Assumes nothing.
-use Prim.Native.Nat.{_^_, _<_}
+-- The length of a text: what its lines have at most, and what an answer holds, as a machine has it, where that is said of the first. Assumes nothing.
+use Prim.Native.Nat.{ℕ, _+_, _*_, _/_, _^_, _<_}
+use mathlib.Core.List.{List}
+use lib.ListN.{length}
+use Rattle.record.specs.Widths.{tokenWidth, cellWidth}
 use Rattle.rules.specs.Answer.{placeIn}
 use Rattle.rules.specs.declared.answer.Answer.{Answer}
 
@@ -7,3 +10,7 @@ pub record AnswerFits (a : Answer) : Type 0 where
   pub firings : a .firings < 2 ^ 64
   pub tokens : a .tokens < 2 ^ 64
   pub place : placeIn (a .outcome) < 2 ^ 64
+
+-- the lines of so many tokens and cells: 56 bytes a token and 46 a cell at most, with 20 digits to a number of 64 bits
+abbrev pub mostBytes : (listing cells : List ℕ) → ℕ
+mostBytes listing cells = length listing / tokenWidth * 56 + length cells / cellWidth * 46

@@ -4,12 +4,15 @@ mod line;
 use record::cell;
 use record::token;
 use rules::answer::Answer;
+use rules::answer::Outcome;
 ghost use mathlib.Core.Path.{_≡_};
 ghost use Prim.Native.Nat.{_+_, _/_, _≤_, _<_};
 ghost use mathlib.Core.List.{[], _++_};
 ghost use lib.Dec.{leb};
-ghost use lib.ListN.{length, take, drop, getD};
-ghost use Rattle.text.specs.Text.{lines, printed, printedOf, outAfter};
+ghost use lib.ListN.{length, drop, getD};
+ghost use Rattle.text.specs.Text.{answerLine, lines, printed, printedOf, outAfter};
+ghost use Rattle.text.specs.Lines.{RoomFor, Added};
+ghost use Rattle.text.specs.Room.{mostBytes};
 ghost use Rattle.record.specs.Widths.{tokenWidth, cellWidth};
 
 pub enum Printed {
@@ -18,6 +21,14 @@ pub enum Printed {
     TooSmall,
 }
 
+// The bytes of the longest lines, with 20 digits to a number of 64 bits: of a refused answer, which is
+// the longest of all, of a token and of a cell.
+const ANSWER: usize = 74;
+
+const TOKEN: usize = 56;
+
+const CELL: usize = 46;
+
 // How many lines there are, one to each absent cell counted too.
 fn count(listing: &[u8], cells: &[u8]) -> usize
     ensures { λ r. ⌜ r ≡ 1 + (length (now (listing .entry)) / tokenWidth + length (now (cells .entry)) / cellWidth) ⌝ }
@@ -25,33 +36,70 @@ fn count(listing: &[u8], cells: &[u8]) -> usize
     1 + (listing.len() / token::WIDTH + cells.len() / cell::WIDTH)
 }
 
-// Makes line j; that of an absent cell is empty.
-fn line_at(answer: Answer, listing: &[u8], cells: &[u8], j: usize, line: &mut [u8]) -> usize
-    requires { ⌜ (j < 1 + (length (now listing) / tokenWidth + length (now cells) / cellWidth)) × (length (now line) ≡ 128) ⌝ }
-    ensures { λ r. ⌜ (r ≤ 128) × (take r (now (line .exit)) ≡ getD (lines answer (now (listing .entry)) (now (cells .entry))) j []) ⌝ }
+// Puts line j into `out` from `at` on; that of an absent cell is empty.
+fn put_line(
+    out: &mut [u8],
+    at: usize,
+    answer: Answer,
+    listing: &[u8],
+    cells: &[u8],
+    j: usize,
+) -> usize
+    requires { ⌜ (j < 1 + (length (now listing) / tokenWidth + length (now cells) / cellWidth)) × RoomFor (now out) at (getD (lines answer (now listing) (now cells)) j []) ⌝ }
+    ensures { λ r. ⌜ Added (now (out .entry)) (now (out .exit)) at r (getD (lines answer (now (listing .entry)) (now (cells .entry))) j []) ⌝ }
 {
     let tokens = listing.len() / token::WIDTH;
     if j == 0 {
-        line::of_answer(answer, line)
+        line::put_answer(out, at, answer)
     } else if j <= tokens {
-        line::of_token(token::token_at(listing, j - 1), line)
+        line::put_token(out, at, token::token_at(listing, j - 1))
     } else {
         let k = j - 1 - tokens;
-        line::of_cell(k, cell::cell_at(cells, k), line)
+        line::put_cell(out, at, k, cell::cell_at(cells, k))
     }
 }
 
-// Whether the text is at most `room` bytes long. The length itself may be past what a usize holds, so
-// each line is taken off the room.
+// How long the first line is at most: 20 digits to a number, two to a refusal, one to a place below 10.
+fn most_first(answer: Answer) -> usize
+    ensures { λ r. ⌜ (length (answerLine answer) ≤ r) × (r ≤ 74) ⌝ }
+{
+    let outcome = answer.outcome;
+    match outcome {
+        Outcome::Completed => 54,
+        Outcome::Spent => 50,
+        Outcome::Refused(_, place) => { if place < 10 { 55 } else { ANSWER } }
+    }
+}
+
+// Whether a first line of so many bytes and the longest lines of the records are at most `room` bytes.
+fn longest_fits(first: usize, listing: &[u8], cells: &[u8], room: usize) -> bool
+    ensures { λ r. ⌜ r ≡ leb (first + mostBytes (now (listing .entry)) (now (cells .entry))) room ⌝ }
+{
+    let tokens = listing.len() / token::WIDTH;
+    if room < first {
+        return false;
+    }
+    let left = room - first;
+    if left / TOKEN < tokens {
+        return false;
+    }
+    cells.len() / cell::WIDTH <= (left - tokens * TOKEN) / CELL
+}
+
+// Whether the text is at most `room` bytes long. Where the longest one is, no line has to be made. Else
+// each line is taken off the room, since the length itself may be past what a usize holds.
 fn fits(answer: Answer, listing: &[u8], cells: &[u8], room: usize) -> bool
     ensures { λ r. ⌜ r ≡ leb (length (printed answer (now (listing .entry)) (now (cells .entry)))) room ⌝ }
 {
+    if longest_fits(most_first(answer), listing, cells, room) {
+        return true;
+    }
     let n = count(listing, cells);
-    let mut line = [0u8; 128];
+    let mut line = [0u8; ANSWER];
     let mut left = room;
     let mut j = 0;
     while j < n {
-        let k = line_at(answer, listing, cells, j, &mut line);
+        let k = put_line(&mut line, 0, answer, listing, cells, j);
         if left < k {
             return false;
         }
@@ -61,19 +109,16 @@ fn fits(answer: Answer, listing: &[u8], cells: &[u8], room: usize) -> bool
     true
 }
 
-// Writes the text to the start of `out`, and answers how long it is.
+// Writes the text to the start of `out`, line by line in place, and answers how long it is.
 fn write(answer: Answer, listing: &[u8], cells: &[u8], out: &mut [u8]) -> usize
-    requires { ⌜ length (printed answer (now listing) (now cells)) ≤ length (now out) ⌝ }
-    ensures { λ r. ⌜ (r ≡ length (printed answer (now (listing .entry)) (now (cells .entry)))) × (now (out .exit) ≡ printed answer (now (listing .entry)) (now (cells .entry)) ++ drop r (now (out .entry))) ⌝ }
+    requires { ⌜ RoomFor (now out) 0 (printed answer (now listing) (now cells)) ⌝ }
+    ensures { λ r. ⌜ Added (now (out .entry)) (now (out .exit)) 0 r (printed answer (now (listing .entry)) (now (cells .entry))) ⌝ }
 {
     let n = count(listing, cells);
-    let mut line = [0u8; 128];
     let mut at = 0;
     let mut j = 0;
     while j < n {
-        let k = line_at(answer, listing, cells, j, &mut line);
-        buffer::write_at(out, at, &line[0..k]);
-        at += k;
+        at = put_line(out, at, answer, listing, cells, j);
         j += 1;
     }
     at

@@ -1,6 +1,5 @@
-// One printed line, made in an array from its start on. Each function that adds to a line takes the
-// number of bytes made before, and answers the number made after. 128 bytes are room for the longest
-// line with 20 digits to each number.
+// Printed lines, made in place: each function puts a text into a buffer from `at` on, answers where it
+// ends, and leaves every other byte as it was. It asks for room for just that text.
 use record::cell::Cell;
 use record::token::Content;
 use record::token::Token;
@@ -8,66 +7,106 @@ use rules::answer;
 use rules::answer::Answer;
 use rules::answer::Outcome;
 ghost use mathlib.Core.Path.{_≡_};
-ghost use Prim.Native.Nat.{_+_, _≤_, _<_};
+ghost use Prim.Native.Nat.{_<_, _≤_, _+_};
 ghost use mathlib.Core.List.{[], _∷_, _++_};
-ghost use lib.ListN.{length, take};
+ghost use lib.ListN.{length};
 ghost use Rattle.rules.specs.Answer.{placeIn};
 ghost use Rattle.text.specs.Text.{decimal, signedDecimal, stateWord, valueIn, outcomeFields, answerLine, tokenLine, statedLine, cellLine};
-ghost use Rattle.text.specs.Lines.{Added, spaced};
+ghost use Rattle.text.specs.Lines.{RoomFor, Added, lastDigits, spaced};
 
-// Adds a byte.
-fn put_byte(line: &mut [u8], at: usize, b: u8) -> usize
-    requires { ⌜ at < length (now line) ⌝ }
-    ensures { λ r. ⌜ Added (now (line .entry)) (now (line .exit)) at r (b ∷ []) ⌝ }
+fn put_byte(out: &mut [u8], at: usize, b: u8) -> usize
+    requires { ⌜ at < length (now out) ⌝ }
+    ensures { λ r. ⌜ Added (now (out .entry)) (now (out .exit)) at r (b ∷ []) ⌝ }
 {
-    line[at] = b;
+    out[at] = b;
     at + 1
 }
 
-// Adds the digits of n, the last one after those of the rest.
-fn put_decimal(line: &mut [u8], at: usize, n: u64) -> usize
-    requires { ⌜ at + length (decimal n) ≤ length (now line) ⌝ }
-    ensures { λ r. ⌜ Added (now (line .entry)) (now (line .exit)) at r (decimal n) ⌝ }
+// How many digits n has.
+fn digits(n: u64) -> usize
+    ensures { λ r. ⌜ r ≡ length (decimal n) ⌝ }
 {
-    if n < 10 {
-        put_byte(line, at, 48 + n as u8)
+    let mut rest = n;
+    let mut k = 0;
+    while 1000 <= rest {
+        rest /= 1000;
+        k += 3;
+    }
+    if rest < 10 {
+        k + 1
+    } else if rest < 100 {
+        k + 2
     } else {
-        let end = put_decimal(line, at, n / 10);
-        put_byte(line, end, 48 + (n % 10) as u8)
+        k + 3
     }
 }
 
-// Adds a number, and the byte that ends the field.
-fn put_number(line: &mut [u8], at: usize, n: u64, end: u8) -> usize
-    requires { ⌜ at + 21 ≤ length (now line) ⌝ }
-    ensures { λ r. ⌜ Added (now (line .entry)) (now (line .exit)) at r (decimal n ++ end ∷ []) × (r ≤ at + 21) ⌝ }
+// Puts the last k digits of n, the last one first.
+fn put_last_digits(out: &mut [u8], at: usize, k: usize, n: u64) -> usize
+    requires { ⌜ at + k ≤ length (now out) ⌝ }
+    ensures { λ r. ⌜ Added (now (out .entry)) (now (out .exit)) at r (lastDigits k n) ⌝ }
 {
-    let k = put_decimal(line, at, n);
-    put_byte(line, k, end)
+    let mut rest = n;
+    let mut left = k;
+    while 0 < left {
+        left -= 1;
+        out[at + left] = 48 + (rest % 10) as u8;
+        rest /= 10;
+    }
+    at + k
 }
 
-// Adds a signed number, and the byte that ends the field. The magnitude of a number below 0 is what its
+// Puts n. Most numbers have three digits at most, and these need no loop.
+fn put_decimal(out: &mut [u8], at: usize, n: u64) -> usize
+    requires { ⌜ RoomFor (now out) at (decimal n) ⌝ }
+    ensures { λ r. ⌜ Added (now (out .entry)) (now (out .exit)) at r (decimal n) ⌝ }
+{
+    if n < 10 {
+        return put_byte(out, at, 48 + n as u8);
+    }
+    if n < 100 {
+        let tens = put_byte(out, at, 48 + (n / 10) as u8);
+        return put_byte(out, tens, 48 + (n % 10) as u8);
+    }
+    if n < 1000 {
+        let hundreds = put_byte(out, at, 48 + (n / 100) as u8);
+        let tens = put_byte(out, hundreds, 48 + (n / 10 % 10) as u8);
+        return put_byte(out, tens, 48 + (n % 10) as u8);
+    }
+    put_last_digits(out, at, digits(n), n)
+}
+
+// Puts a number, and the byte that ends the field.
+fn put_number(out: &mut [u8], at: usize, n: u64, end: u8) -> usize
+    requires { ⌜ RoomFor (now out) at (decimal n ++ end ∷ []) ⌝ }
+    ensures { λ r. ⌜ Added (now (out .entry)) (now (out .exit)) at r (decimal n ++ end ∷ []) ⌝ }
+{
+    let k = put_decimal(out, at, n);
+    put_byte(out, k, end)
+}
+
+// Puts a signed number, and the byte that ends the field. The magnitude of a number below 0 is what its
 // bits lack of 2 to the 32, so the least number needs no case of its own.
-fn put_signed(line: &mut [u8], at: usize, value: i32, end: u8) -> usize
-    requires { ⌜ at + 22 ≤ length (now line) ⌝ }
-    ensures { λ r. ⌜ Added (now (line .entry)) (now (line .exit)) at r (signedDecimal value ++ end ∷ []) × (r ≤ at + 22) ⌝ }
+fn put_signed(out: &mut [u8], at: usize, value: i32, end: u8) -> usize
+    requires { ⌜ RoomFor (now out) at (signedDecimal value ++ end ∷ []) ⌝ }
+    ensures { λ r. ⌜ Added (now (out .entry)) (now (out .exit)) at r (signedDecimal value ++ end ∷ []) ⌝ }
 {
     let bits = number::bits(value);
     if bits < 2147483648 {
-        put_number(line, at, bits as u64, end)
+        put_number(out, at, bits as u64, end)
     } else {
-        let k = put_byte(line, at, b'-');
-        put_number(line, k, 4294967296 - bits as u64, end)
+        let k = put_byte(out, at, b'-');
+        put_number(out, k, 4294967296 - bits as u64, end)
     }
 }
 
-// Adds a word, and the byte that ends the field.
-fn put_word(line: &mut [u8], at: usize, word: &[u8], end: u8) -> usize
-    requires { ⌜ at + length (now word) + 1 ≤ length (now line) ⌝ }
-    ensures { λ r. ⌜ Added (now (line .entry)) (now (line .exit)) at r (now (word .entry) ++ end ∷ []) ⌝ }
+// Puts a word, and the byte that ends the field.
+fn put_word(out: &mut [u8], at: usize, word: &[u8], end: u8) -> usize
+    requires { ⌜ RoomFor (now out) at (now word ++ end ∷ []) ⌝ }
+    ensures { λ r. ⌜ Added (now (out .entry)) (now (out .exit)) at r (now (word .entry) ++ end ∷ []) ⌝ }
 {
-    buffer::write_at(line, at, word);
-    put_byte(line, at + word.len(), end)
+    buffer::write_at(out, at, word);
+    put_byte(out, at + word.len(), end)
 }
 
 // The value field of a token as a signed number.
@@ -81,67 +120,67 @@ fn value_in(content: Content) -> i32
     }
 }
 
-// Adds the state word of a token, which ends its line.
-fn put_state(line: &mut [u8], at: usize, content: Content) -> usize
-    requires { ⌜ at + 9 ≤ length (now line) ⌝ }
-    ensures { λ r. ⌜ Added (now (line .entry)) (now (line .exit)) at r (stateWord content ++ 10 ∷ []) × (r ≤ at + 9) ⌝ }
+// Puts the state word of a token, which ends its line.
+fn put_state(out: &mut [u8], at: usize, content: Content) -> usize
+    requires { ⌜ RoomFor (now out) at (stateWord content ++ 10 ∷ []) ⌝ }
+    ensures { λ r. ⌜ Added (now (out .entry)) (now (out .exit)) at r (stateWord content ++ 10 ∷ []) ⌝ }
 {
     match content {
-        Content::Live(_) => put_word(line, at, b"live", b'\n'),
-        Content::Spent(_) => put_word(line, at, b"spent", b'\n'),
-        Content::Deferred(_) => put_word(line, at, b"deferred", b'\n'),
+        Content::Live(_) => put_word(out, at, b"live", b'\n'),
+        Content::Spent(_) => put_word(out, at, b"spent", b'\n'),
+        Content::Deferred(_) => put_word(out, at, b"deferred", b'\n'),
     }
 }
 
-// The line of a token.
-pub fn of_token(t: Token, line: &mut [u8]) -> usize
-    requires { ⌜ length (now line) ≡ 128 ⌝ }
-    ensures { λ r. ⌜ (r ≤ 128) × (take r (now (line .exit)) ≡ tokenLine t) ⌝ }
+// Puts the line of a token.
+pub fn put_token(out: &mut [u8], at: usize, t: Token) -> usize
+    requires { ⌜ RoomFor (now out) at (tokenLine t) ⌝ }
+    ensures { λ r. ⌜ Added (now (out .entry)) (now (out .exit)) at r (tokenLine t) ⌝ }
 {
     let tag = t.tag;
     let content = t.content;
-    let path = put_number(line, 0, tag.path, b' ');
-    let iteration = put_number(line, path, tag.iteration as u64, b' ');
-    let instruction = put_number(line, iteration, tag.instruction as u64, b' ');
-    let port = put_number(line, instruction, t.port as u64, b' ');
-    let value = put_signed(line, port, value_in(content), b' ');
-    put_state(line, value, content)
+    let path = put_number(out, at, tag.path, b' ');
+    let iteration = put_number(out, path, tag.iteration as u64, b' ');
+    let instruction = put_number(out, iteration, tag.instruction as u64, b' ');
+    let port = put_number(out, instruction, t.port as u64, b' ');
+    let value = put_signed(out, port, value_in(content), b' ');
+    put_state(out, value, content)
 }
 
-// The line of cell k with a state word and a value.
-fn of_stated(k: usize, word: &[u8], value: i32, line: &mut [u8]) -> usize
-    requires { ⌜ (length (now word) ≤ 7) × (length (now line) ≡ 128) ⌝ }
-    ensures { λ r. ⌜ (r ≤ 128) × (take r (now (line .exit)) ≡ statedLine k (now (word .entry)) value) ⌝ }
+// Puts the line of cell k with a state word and a value.
+fn put_stated(out: &mut [u8], at: usize, k: usize, word: &[u8], value: i32) -> usize
+    requires { ⌜ RoomFor (now out) at (statedLine k (now word) value) ⌝ }
+    ensures { λ r. ⌜ Added (now (out .entry)) (now (out .exit)) at r (statedLine k (now (word .entry)) value) ⌝ }
 {
-    let name = put_word(line, 0, b"cell", b' ');
-    let number = put_number(line, name, k as u64, b' ');
-    let state = put_word(line, number, word, b' ');
-    put_signed(line, state, value, b'\n')
+    let name = put_word(out, at, b"cell", b' ');
+    let number = put_number(out, name, k as u64, b' ');
+    let state = put_word(out, number, word, b' ');
+    put_signed(out, state, value, b'\n')
 }
 
-// The line of cell k; an absent one has none.
-pub fn of_cell(k: usize, cell: Cell, line: &mut [u8]) -> usize
-    requires { ⌜ length (now line) ≡ 128 ⌝ }
-    ensures { λ r. ⌜ (r ≤ 128) × (take r (now (line .exit)) ≡ cellLine k cell) ⌝ }
+// Puts the line of cell k; an absent one has none.
+pub fn put_cell(out: &mut [u8], at: usize, k: usize, cell: Cell) -> usize
+    requires { ⌜ RoomFor (now out) at (cellLine k cell) ⌝ }
+    ensures { λ r. ⌜ Added (now (out .entry)) (now (out .exit)) at r (cellLine k cell) ⌝ }
 {
     match cell {
-        Cell::Absent => 0,
-        Cell::Waiting => of_stated(k, b"waiting", 0, line),
-        Cell::Present(value) => of_stated(k, b"present", value, line),
+        Cell::Absent => at,
+        Cell::Waiting => put_stated(out, at, k, b"waiting", 0),
+        Cell::Present(value) => put_stated(out, at, k, b"present", value),
     }
 }
 
-// Starts a line with the word of an outcome, and the number of a refusal.
-fn put_outcome(line: &mut [u8], outcome: Outcome) -> usize
-    requires { ⌜ length (now line) ≡ 128 ⌝ }
-    ensures { λ r. ⌜ Added (now (line .entry)) (now (line .exit)) 0 r (spaced (outcomeFields outcome)) × (r ≤ 29) ⌝ }
+// Puts the word of an outcome, and the number of a refusal.
+fn put_outcome(out: &mut [u8], at: usize, outcome: Outcome) -> usize
+    requires { ⌜ RoomFor (now out) at (spaced (outcomeFields outcome)) ⌝ }
+    ensures { λ r. ⌜ Added (now (out .entry)) (now (out .exit)) at r (spaced (outcomeFields outcome)) ⌝ }
 {
     match outcome {
-        Outcome::Completed => put_word(line, 0, b"completed", b' '),
-        Outcome::Spent => put_word(line, 0, b"spent", b' '),
+        Outcome::Completed => put_word(out, at, b"completed", b' '),
+        Outcome::Spent => put_word(out, at, b"spent", b' '),
         Outcome::Refused(r, _) => {
-            let word = put_word(line, 0, b"refused", b' ');
-            put_number(line, word, answer::number(r) as u64, b' ')
+            let word = put_word(out, at, b"refused", b' ');
+            put_number(out, word, answer::number(r) as u64, b' ')
         }
     }
 }
@@ -157,14 +196,14 @@ fn place_in(outcome: Outcome) -> usize
     }
 }
 
-// The first line.
-pub fn of_answer(answer: Answer, line: &mut [u8]) -> usize
-    requires { ⌜ length (now line) ≡ 128 ⌝ }
-    ensures { λ r. ⌜ (r ≤ 128) × (take r (now (line .exit)) ≡ answerLine answer) ⌝ }
+// Puts the first line.
+pub fn put_answer(out: &mut [u8], at: usize, answer: Answer) -> usize
+    requires { ⌜ RoomFor (now out) at (answerLine answer) ⌝ }
+    ensures { λ r. ⌜ Added (now (out .entry)) (now (out .exit)) at r (answerLine answer) ⌝ }
 {
     let outcome = answer.outcome;
-    let word = put_outcome(line, outcome);
-    let firings = put_number(line, word, answer.firings as u64, b' ');
-    let tokens = put_number(line, firings, answer.tokens as u64, b' ');
-    put_number(line, tokens, place_in(outcome) as u64, b'\n')
+    let word = put_outcome(out, at, outcome);
+    let firings = put_number(out, word, answer.firings as u64, b' ');
+    let tokens = put_number(out, firings, answer.tokens as u64, b' ');
+    put_number(out, tokens, place_in(outcome) as u64, b'\n')
 }

@@ -1,13 +1,13 @@
 -- `text::print` meets its contract: the text is written where it fits, and nothing where it does not. Assumes nothing.
 use borrow.Author.Needs.{needs}
-use mathlib.Core.Path.{_≡_, sym, ap, _∙_}
+use native.Mathlib.Omega.{arith}
+use mathlib.Core.Path.{_≡_, sym, _∙_}
 use mathlib.Core.Bool.{true, false}
-use mathlib.Core.List.{_++_}
-use Prim.Native.Nat.{ℕ}
 use borrow.Author.Tests.{leb-true}
 use lib.Dec.{leb}
-use lib.ListN.{length, drop}
+use lib.ListN.{length}
 use Rattle.text.specs.Text.{printed, printedOf, outAfter}
+use Rattle.text.proofs.Lines.{from-start}
 use Rattle.text.proofs.print.Statement.{statement}
 use Rattle.text.proofs.print.Tie as tie
 
@@ -20,14 +20,14 @@ print-spec =
     (λ c κs.
     let a = c .before .before .before .before .before .before .args in
     let t = printed (a .answer) (a .listing .now) (a .cells .now) in
-    leb-true (length t) (length (a .out .now)) (sym (c .before .before .fits2 .ensures) ∙ c .before .if1 .taken))
+    record { room = omega (arith, leb-true (length t) (length (a .out .now)) (sym (c .before .before .fits2 .ensures) ∙ c .before .if1 .taken)) })
     (λ c. search needs)
     (λ c.
     let a = c .before .before .before .before .before .before .before .before .before .args in
     let t = printed (a .answer) (a .listing .now) (a .cells .now) in
     let b : leb (length t) (length (a .out .now)) ≡ true = sym (c .before .before .before .before .before .fits2 .ensures) ∙ c .before .before .before .before .if1 .taken in
-    let w = c .before .before .write .ensures in
-    (rw (b, w .0), rw b (w .1 ∙ ap (λ (n : ℕ). t ++ drop n (a .out .now)) (w .0))))
+    let w = from-start (c .before .before .write .ensures) in
+    (rw (b, w .0), rw b (w .1)))
     (λ c.
     let a = c .before .before .before .before .before .args in
     let t = printed (a .answer) (a .listing .now) (a .cells .now) in

@@ -11,4 +11,4 @@ put-byte-spec =
     (λ c. search needs)
     (λ c. search needs)
     (λ c. search needs)
-    (λ c. added-byte (c .args .line .now) (c .args .at) (c .args .b) (c .pre)))
+    (λ c. added-byte (c .args .out .now) (c .args .at) (c .args .b) (c .pre)))

@@ -1,8 +1,9 @@
--- `text::line::put_number` meets its contract: a machine number has 20 digits at most. Assumes nothing.
+-- `text::line::put_number` meets its contract. Assumes nothing.
 use borrow.Author.Needs.{needs}
 use native.Mathlib.Omega.{arith}
-use Rattle.text.proofs.Decimals.{short}
-use Rattle.text.proofs.Lines.{both}
+use mathlib.Core.List.{[], _∷_}
+use Rattle.text.specs.Text.{decimal}
+use Rattle.text.proofs.Lines.{both, room-first, room-rest}
 use Rattle.text.proofs.line.put_number.Statement.{statement}
 use Rattle.text.proofs.line.put_number.Tie as tie
 
@@ -10,14 +11,7 @@ pub put-number-spec : {M : Type 1} → statement M
 put-number-spec =
     tie.close
     (tie.spec
-    (λ c κs. let s = c .before .before in omega (arith, short (s .args .n) (s .fits .n .fits), s .pre))
-    (λ c κs.
-    let s = c .before .before .before .before .before .before in
-    let d = c .before .before .before .put-decimal .ensures in
-    omega (arith, short (s .args .n) (s .fits .n .fits), d .place, d .kept, s .pre))
+    (λ c κs. let s = c .before .before in room-first (decimal (s .args .n)) (s .args .end ∷ []) (s .pre))
+    (λ c κs. let s = c .before .before .before .before .before .before in omega (arith, room-rest (s .args .end ∷ []) (c .before .before .before .put-decimal .ensures) (s .pre) .room))
     (λ c. search needs)
-    (λ c.
-    let s = c .before .before .before .before .before .before .before .before .before in
-    let d = c .before .before .before .before .before .before .put-decimal .ensures in
-    let b = c .before .before .put-byte .ensures in
-    (both d b, omega (arith, short (s .args .n) (s .fits .n .fits), d .place, b .place))))
+    (λ c. both (c .before .before .before .before .before .before .put-decimal .ensures) (c .before .before .put-byte .ensures)))

@@ -3,10 +3,12 @@ use borrow.Author.Needs.{needs}
 use native.Mathlib.Omega.{arith}
 use Prim.Native.Nat.{_-_}
 use mathlib.Core.Path.{_≡_}
+use mathlib.Core.List.{[], _∷_, _++_}
 use mir.Facts.{toZ-ofZ}
 use Rattle.number.specs.Number.{bitsOf}
+use Rattle.text.specs.Text.{decimal}
 use Rattle.text.proofs.Decimals.{signed-up, signed-down}
-use Rattle.text.proofs.Lines.{both}
+use Rattle.text.proofs.Lines.{both, room-rest}
 use Rattle.text.proofs.line.put_signed.Statement.{statement}
 use Rattle.text.proofs.line.put_signed.Tie as tie
 
@@ -16,25 +18,34 @@ put-signed-spec =
     (tie.spec
     (λ c κs. search needs)
     (λ c. search needs)
-    (λ c κs. search needs)
-    (λ c κs. search needs)
+    (λ c κs.
+    let s = c .before .before .before .before in
+    let b = c .before .before .bits in
+    let e : b .result ≡ bitsOf (s .args .value) = rw (toZ-ofZ (s .fits .value)) at (b .ensures) in
+    rw (signed-up (s .args .value) (b .result) (s .fits .value) e (c .before .if1 .taken)) at (s .pre))
+    (λ c κs.
+    let s = c .before .before .before .before in
+    let b = c .before .before .bits in
+    let e : b .result ≡ bitsOf (s .args .value) = rw (toZ-ofZ (s .fits .value)) at (b .ensures) in
+    let p = rw (signed-down (s .args .value) (b .result) (s .fits .value) e (c .before .if1 .left)) at (s .pre) in
+    omega (arith, p .room))
     (λ c. search needs)
     (λ c. search needs)
-    (λ c κs. search needs)
+    (λ c κs.
+    let s = c .before .before .before .before .before .before .before .before in
+    let b = c .before .before .before .before .before .before .bits in
+    let e : b .result ≡ bitsOf (s .args .value) = rw (toZ-ofZ (s .fits .value)) at (b .ensures) in
+    let p = rw (signed-down (s .args .value) (b .result) (s .fits .value) e (c .before .before .before .before .before .if1 .left)) at (s .pre) in
+    room-rest (decimal (4294967296 - b .result) ++ s .args .end ∷ []) (c .before .before .before .put-byte .ensures) p)
     (λ c. search needs)
     (λ c.
     let s = c .before .before .before .before .before .before .before in
-    let f = s .fits .value in
     let b = c .before .before .before .before .before .bits in
-    let e : b .result ≡ bitsOf (s .args .value) = rw (toZ-ofZ f) at (b .ensures) in
-    let p = c .before .before .put-number .ensures in
-    (rw (signed-up (s .args .value) (b .result) f e (c .before .before .before .before .if1 .taken)) (p .0), omega (arith, p .1)))
+    let e : b .result ≡ bitsOf (s .args .value) = rw (toZ-ofZ (s .fits .value)) at (b .ensures) in
+    rw (signed-up (s .args .value) (b .result) (s .fits .value) e (c .before .before .before .before .if1 .taken)) (c .before .before .put-number .ensures))
     (λ c. search needs)
     (λ c.
     let s = c .before .before .before .before .before .before .before .before .before .before .before in
-    let f = s .fits .value in
     let b = c .before .before .before .before .before .before .before .before .before .bits in
-    let e : b .result ≡ bitsOf (s .args .value) = rw (toZ-ofZ f) at (b .ensures) in
-    let m = c .before .before .before .before .before .before .put-byte .ensures in
-    let p = c .before .before .put-number2 .ensures in
-    (rw (signed-down (s .args .value) (b .result) f e (c .before .before .before .before .before .before .before .before .if1 .left)) (both m (p .0)), omega (arith, p .1, m .place))))
+    let e : b .result ≡ bitsOf (s .args .value) = rw (toZ-ofZ (s .fits .value)) at (b .ensures) in
+    rw (signed-down (s .args .value) (b .result) (s .fits .value) e (c .before .before .before .before .before .before .before .before .if1 .left)) (both (c .before .before .before .before .before .before .put-byte .ensures) (c .before .before .put-number2 .ensures))))

@@ -2,7 +2,8 @@
 use borrow.Author.Needs.{needs}
 use native.Mathlib.Omega.{arith}
 use mathlib.Core.Path.{_≡_}
-use lib.ListN.{length}
+use mathlib.Core.List.{[], _∷_}
+use lib.ListN.{length, length-append}
 use Rattle.text.proofs.Lines.{added-written, both}
 use Rattle.text.proofs.line.put_word.Statement.{statement}
 use Rattle.text.proofs.line.put_word.Tie as tie
@@ -11,14 +12,15 @@ pub put-word-spec : {M : Type 1} → statement M
 put-word-spec =
     tie.close
     (tie.spec
-    (λ c κs. search needs)
+    (λ c κs. let s = c .before .before .before in omega (arith, length-append (s .args .word .now) (s .args .end ∷ []), s .pre .room))
     (λ c. search needs)
     (λ c κs.
-    let a = c .before .before .before .before .before .before .before .args in
-    let e : length (c .before .before .before .write-at .last .0) ≡ length (a .line .now) = c .before .before .before .write-at .kept .0 in
-    omega arith)
+    let s = c .before .before .before .before .before .before .before in
+    let e : length (c .before .before .before .write-at .last .0) ≡ length (s .args .out .now) = c .before .before .before .write-at .kept .0 in
+    omega (arith, length-append (s .args .word .now) (s .args .end ∷ []), s .pre .room))
     (λ c. search needs)
     (λ c.
-    let a = c .before .before .before .before .before .before .before .before .before .before .args in
-    let w = added-written (a .line .now) (a .at) (a .word .now) (omega arith) in
+    let s = c .before .before .before .before .before .before .before .before .before .before in
+    let a = s .args in
+    let w = added-written (a .out .now) (a .at) (a .word .now) (omega (arith, length-append (a .word .now) (a .end ∷ []), s .pre .room)) in
     both (rw (← c .before .before .before .before .before .before .write-at .ensures) at w) (c .before .before .put-byte .ensures)))
