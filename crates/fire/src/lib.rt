@@ -1,8 +1,14 @@
 // A firing, in the order of Memo 205-1: matching, instruction fetch, operation, new tags, output.
 use fire_commit::Fired;
+use fire_effect::operate;
+use fire_effect::operate::Operated;
+use fire_effect::tags;
+use fire_effect::tags::NewTags;
 use fire_operands::Matched;
 use fire_outputs::Places;
 use record::cell;
+use record::instruction;
+use record::operation;
 use record::token;
 use rules::answer::Refusal;
 ghost use Prim.Native.Nat.{_<_};
@@ -42,9 +48,32 @@ pub fn fire(
         // No enabled activity lacks an operand.
         return Fired::Refused(Refusal::SecondToken);
     };
-    // Instruction fetch, operation and new tags.
-    let effect = fire_effect::effect(graph, tables, cells.len() / cell::WIDTH, tag, left, right);
-    // Output.
     let operands = Places { first, second };
-    fire_commit::commit(tables, links, flags, ledger, cells, used, operands, effect)
+    // Instruction fetch.
+    let r = instruction::instruction_at(graph, tag.instruction as usize);
+    let o = operation::decode(r.code);
+    // Operation.
+    let operated = operate::operate(o, r.constant, cells.len() / cell::WIDTH, left, right);
+    let action = match operated {
+        Operated::Refuse(refusal) => return Fired::Refused(refusal),
+        Operated::Act(action) => action,
+    };
+    // New tags.
+    let made = tags::new_tags(graph, tables, o, tag, r, right);
+    let outputs = match made {
+        NewTags::Refuse(refusal) => return Fired::Refused(refusal),
+        NewTags::To(outputs) => outputs,
+    };
+    // Output.
+    fire_commit::commit(
+        tables,
+        links,
+        flags,
+        ledger,
+        cells,
+        used,
+        operands,
+        action,
+        outputs,
+    )
 }
