@@ -28,15 +28,15 @@ pub fn commit(
     used: usize,
     operands: Places,
     action: Action,
-    outputs: Outputs,
+    sent: Outputs,
 ) -> Fired
-    requires { ⌜ Fireable (now tables) (now links) (now flags) (now ledger) (now cells) used (operands .first) (operands .second) × Fitting (length (now cells) / cellWidth) action outputs ⌝ }
-    ensures { λ r. ⌜ CommittedTo r (committedOf (length (now (ledger .entry)) / tokenWidth) (tokens used (now (ledger .entry))) (cellsIn (now (cells .entry))) (operands .first) (operands .second) action outputs) (now (tables .entry)) (now (links .exit)) (now (flags .exit)) (now (ledger .exit)) (now (cells .exit)) used (now (ledger .entry)) (now (cells .entry)) ⌝ }
+    requires { ⌜ Fireable (now tables) (now links) (now flags) (now ledger) (now cells) used (operands .first) (operands .second) × Fitting (length (now cells) / cellWidth) action sent ⌝ }
+    ensures { λ r. ⌜ CommittedTo r (committedOf (length (now (ledger .entry)) / tokenWidth) (tokens used (now (ledger .entry))) (cellsIn (now (cells .entry))) (operands .first) (operands .second) action sent) (now (tables .entry)) (now (links .exit)) (now (flags .exit)) (now (ledger .exit)) (now (cells .exit)) used (now (ledger .entry)) (now (cells .entry)) ⌝ }
 {
     if fire_outputs::writes_again(cells, action) {
         return Fired::Refused(Refusal::SecondWrite);
     }
-    let admitted = fire_operands::admit(links, ledger, used, outputs);
+    let admitted = fire_operands::admit(links, ledger, used, sent);
     match admitted {
         Admitted::No(r) => Fired::Refused(r),
         Admitted::Yes => Fired::Done(fire_outputs::carry_out(
@@ -48,7 +48,7 @@ pub fn commit(
             used,
             operands,
             action,
-            outputs,
+            sent,
         )),
     }
 }

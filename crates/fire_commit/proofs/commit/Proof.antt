@@ -20,14 +20,14 @@ again c e = sym (c .writes-again .ensures) ∙ e
 
 -- what admit gave, of the ledger's tokens
 gave : (c : tie.After-admit) {x : Admitted} → c .admit .result ≡ x
-    → (let a = c .before .before .before .before .before .before .before .before .args in admittedOf (length (a .ledger .now) / tokenWidth) (tokens (a .used) (a .ledger .now)) (a .outputs) ≡ x)
+    → (let a = c .before .before .before .before .before .before .before .before .args in admittedOf (length (a .ledger .now) / tokenWidth) (tokens (a .used) (a .ledger .now)) (a .sent) ≡ x)
 gave c e = sym (c .admit .ensures) ∙ e
 
 pub commit-spec : {M : Type 1} → statement M
 commit-spec = tie.close (tie.spec
     (λ c κs. c .before .before .before .pre .1 .2)
     (λ c. search needs)
-    (λ c. let s = c .before .before .before .before .before in left-refused (s .pre .0) (second-write _ _ _ _ _ (s .args .action) (s .args .outputs) (again (c .before) (c .if1 .taken))))
+    (λ c. let s = c .before .before .before .before .before in left-refused (s .pre .0) (second-write _ _ _ _ _ (s .args .action) (s .args .sent) (again (c .before) (c .if1 .taken))))
     (λ c κs. let m = c .before .before .before .before .before .before .before .pre .0 .matching in (matching-known m, matching-few m))
     (λ c. search needs)
     (λ c. search needs)
@@ -36,19 +36,19 @@ commit-spec = tie.close (tie.spec
     let a = s .args in
     let f = s .pre .1 in
     let yes = gave (c .before .before .before .before .before .before) (c .before .before .before .before .enum-told .given .1) in
-    (s .pre .0, admitted-room _ (a .used) (a .ledger .now) (a .outputs) yes, f .0, f .1, f .2, admitted-free _ (tokens (a .used) (a .ledger .now)) (a .outputs) yes))
+    (s .pre .0, admitted-room _ (a .used) (a .ledger .now) (a .sent) yes, f .0, f .1, f .2, admitted-free _ (tokens (a .used) (a .ledger .now)) (a .sent) yes))
     (λ c. search needs)
     (λ c. search needs)
     (λ c.
     let s = c .before .before .before .before .before .before .before .before .before .before .before in
-    left-refused (s .pre .0) (act-refused _ _ _ _ _ (s .args .action) (s .args .outputs) (again (c .before .before .before .before .before .before .before) (c .before .before .before .before .before .before .if1 .left)) (gave (c .before .before .before) (c .before .admitted .given .1))))
+    left-refused (s .pre .0) (act-refused _ _ _ _ _ (s .args .action) (s .args .sent) (again (c .before .before .before .before .before .before .before) (c .before .before .before .before .before .before .if1 .left)) (gave (c .before .before .before) (c .before .admitted .given .1))))
     (λ c. search needs)
     (λ c. search needs)
     (λ c.
     let s = c .before .before .before .before .before .before .before .before .before .before .before .before .before .before .before .before .before .before .before in
     let e = c .before .before .before .before .carry-out .ensures in
     left-done (s .args .used)
-    (act-done _ _ _ _ _ (s .args .action) (s .args .outputs) (again (c .before .before .before .before .before .before .before .before .before .before .before .before .before .before .before) (c .before .before .before .before .before .before .before .before .before .before .before .before .before .before .if1 .left)) (gave (c .before .before .before .before .before .before .before .before .before .before .before) (c .before .before .before .before .before .before .before .before .before .enum-told .given .1)))
+    (act-done _ _ _ _ _ (s .args .action) (s .args .sent) (again (c .before .before .before .before .before .before .before .before .before .before .before .before .before .before .before) (c .before .before .before .before .before .before .before .before .before .before .before .before .before .before .if1 .left)) (gave (c .before .before .before .before .before .before .before .before .before .before .before) (c .before .before .before .before .before .before .before .before .before .enum-told .given .1)))
     (e .0)
     (e .1)
     (e .2)))
