@@ -22,7 +22,7 @@ use Rattle.record.specs.Widths.{tokenWidth, cellWidth, graphWidth}
 use Rattle.store_chains.specs.Deferred.{woken}
 use Rattle.store.specs.Matching.{spentToken, Matching}
 use Rattle.store.proofs.Laws.{matching-room, matching-ports}
-use Rattle.machine.specs.Machine.{Key, Machine, State, fire, fired, notFired, commit}
+use Rattle.machine.specs.Machine.{Key, Machine, State, refuse, fire, fired, notFired, commit}
 use Rattle.machine.specs.Orders.{Good, CellsBelow, outputs}
 use Rattle.machine.proofs.Reached.{reached-good}
 use Rattle.rules.specs.declared.answer.Refusal.{Refusal}
@@ -33,11 +33,9 @@ use Rattle.rules.specs.InstructionSet.{arityIn, machineOf, effectIn}
 use Rattle.rules.proofs.Lawful.{lawful}
 use Rattle.fire_effect.specs.declared.output.Key as EffectKey
 use Rattle.fire_effect.specs.declared.output.Outputs.{Outputs}
-use Rattle.fire_effect.specs.declared.operate.Effect.{Effect}
-use Rattle.fire_effect.specs.declared.operate.Effect.the-variants.{Refuse, Act}
 use Rattle.fire_effect.specs.declared.operate.Action.{Action}
 use Rattle.fire_effect.specs.declared.operate.Action.the-variants.{Send, Read, Write}
-use Rattle.fire_effect.specs.Effects.{keyHeld, keysHeld, keysOf, actionHeld, effectHeld, Arrives, AllSent, Effected}
+use Rattle.fire_effect.specs.Effects.{keyHeld, keysHeld, keysOf, actionHeld, Arrives, AllSent, Effected}
 use Rattle.fire_effect.proofs.Arrives.{arrives-port, arrives-inside}
 use Rattle.fire_effect.proofs.Does.{records}
 use Rattle.abstraction.proofs.Arities.{arity-small}
@@ -107,10 +105,9 @@ on-cells n (Send v) keys h = tt
 on-cells n (Read c) keys h = h
 on-cells n (Write c v) keys h = h
 
--- what the code's commit requires of an effect
-pub fitting : (g : List Instruction) (cells : ℕ) (τ : Tag) (a b : ℤ) (e : Effect) → Effected g cells τ a b e → Fitting cells e
-fitting g cells τ a b (Refuse r) h = tt
-fitting g cells τ a b (Act x o) h =
+-- what the code's commit requires of them
+pub fitting : (g : List Instruction) (cells : ℕ) (τ : Tag) (a b : ℤ) (x : Action) (o : Outputs) → Effected g cells τ a b x o → Fitting cells x o
+fitting g cells τ a b x o h =
     (h .counted, low-ports g (o .count) (o .first) (o .second) (sent-keys (Arrives g) x (keysOf o) (h .arrives)), on-cells cells x (keysOf o) (h .cellsBelow))
 
 -- ---- tokens after a firing
@@ -161,10 +158,9 @@ module _ (g : List Instruction) (ts : List Record.Token) (h : Arrived g ts) (i j
   all-woken (Read c) us b = b
   all-woken (Write c v) us b = all-map P (woken c v) (λ t l. l) us b
 
-  grown : (capacity : ℕ) (cs : List RecordCell.Cell) (e : Effect) → AllSent (Arrives g) (effectHeld e) → Grown g (length ts) (committedOf capacity ts cs i j e)
+  grown : (capacity : ℕ) (cs : List RecordCell.Cell) (x : Action) (o : Outputs) → AllSent (Arrives g) (actionHeld x (keysOf o)) → Grown g (length ts) (committedOf capacity ts cs i j x o)
   unfolding committedOf
-  grown capacity cs (Refuse r) a = tt
-  grown capacity cs (Act x o) a =
+  grown capacity cs x o a =
       let us = spentAt i j ts in
       let out = with-outputs (wokenBy x us) o (contentBy x cs) (all-woken x us (all-spent-at P by-key i j ts h)) (length-woken x us ∙ length-spent-at i j ts) (sent-keys (Arrives g) x (keysOf o) a) in
       unless-again g (length ts) (writesAgain x cs) _ (if-admitted g (length ts) (admittedOf capacity ts o) _ out)
@@ -196,12 +192,17 @@ module _ (graph : List ℕ) (passed : checkGraph graph ≡ Passed) {tables links
     unfolding fire
     fire-found = rw (held-operands (graphOf graph) (length ledger / tokenWidth) (length cells / cellWidth) (tokens used ledger) (cellsIn cells) τ few ∙ ap valuesOf matched)
 
-    module _ (e : Effect) (does : Effected (graphOf graph) (length cells / cellWidth) τ v w e) where
-      fire-committed : fire M s τ ≡ firedOf (committedOf (length ledger / tokenWidth) (tokens used ledger) (cellsIn cells) i j e)
+    -- an effect that is a refusal
+    pub fire-refused : {r : Refusal} → effectIn (graphOf graph) (length cells / cellWidth) τ v w ≡ refuse r → fire M s τ ≡ notFired r
+    unfolding commit
+    fire-refused e = fire-found ∙ ap (commit M s τ) e
+
+    module _ (x : Action) (o : Outputs) (does : Effected (graphOf graph) (length cells / cellWidth) τ v w x o) where
+      fire-committed : fire M s τ ≡ firedOf (committedOf (length ledger / tokenWidth) (tokens used ledger) (cellsIn cells) i j x o)
       fire-committed =
           fire-found
           ∙ ap (commit M s τ) (sym (does .held))
-          ∙ commit-held (graphOf graph) (length ledger / tokenWidth) (length cells / cellWidth) (tokens used ledger) (cellsIn cells) τ i j v w (now .good .distinct) places e (does .counted)
+          ∙ commit-held (graphOf graph) (length ledger / tokenWidth) (length cells / cellWidth) (tokens used ledger) (cellsIn cells) τ i j v w (now .good .distinct) places x o (does .counted)
 
       good-after : (x : State Tag ℤ) → fire M s τ ≡ fired x → Good M x
       good-after x f = reached-good M (lawful graph passed (length ledger / tokenWidth) (length cells / cellWidth)) s (now .good) 1 (0 + outputs M s τ) x (s, 0, τ, (refl, refl), f, refl)
@@ -247,10 +248,10 @@ module _ (graph : List ℕ) (passed : checkGraph graph ≡ Passed) {tables links
           sameCells = c;
         }
 
-        pub stepped : (r : Fired) → CommittedTo r (committedOf (length ledger / tokenWidth) (tokens used ledger) (cellsIn cells) i j e) tables links′ flags′ ledger′ cells′ used ledger cells
+        pub stepped : (r : Fired) → CommittedTo r (committedOf (length ledger / tokenWidth) (tokens used ledger) (cellsIn cells) i j x o) tables links′ flags′ ledger′ cells′ used ledger cells
             → Stepped r (graphOf graph) τ tables links′ flags′ ledger′ cells′ used ledger cells
-        stepped r h = go r (committedOf (length ledger / tokenWidth) (tokens used ledger) (cellsIn cells) i j e) fire-committed
-            (grown (graphOf graph) (tokens used ledger) (now .arrived) i j (length ledger / tokenWidth) (cellsIn cells) e (does .arrives)) h
+        stepped r h = go r (committedOf (length ledger / tokenWidth) (tokens used ledger) (cellsIn cells) i j x o) fire-committed
+            (grown (graphOf graph) (tokens used ledger) (now .arrived) i j (length ledger / tokenWidth) (cellsIn cells) x o (does .arrives)) h
           where
             go : (q : Fired) (x : Committed) → fire M s τ ≡ firedOf x → Grown (graphOf graph) (length (tokens used ledger)) x
                 → CommittedTo q x tables links′ flags′ ledger′ cells′ used ledger cells → Stepped q (graphOf graph) τ tables links′ flags′ ledger′ cells′ used ledger cells
@@ -302,17 +303,26 @@ module _ (graph : List ℕ) {tables links flags ledger cells : List ℕ} {used :
         store = now .store;
       }
 
-  -- from matching to output
-  pub stepped-here : (t : Record.Token) → t ≡ tokenAt ledger place → (i j : ℕ) (v w : ℤ)
-      → matchedAt (arityIn (graphOf graph) (tokenAt ledger place .tag)) (tokens used ledger) (tokenAt ledger place .tag) ≡ Both i j v w
-      → (a b : ℤ) → a ≡ v → b ≡ w → (e : Effect) → Effected (graphOf graph) (length cells / cellWidth) (t .tag) a b e
-      → (links′ flags′ ledger′ cells′ : List ℕ) (r : Fired)
-      → CommittedTo r (committedOf (length ledger / tokenWidth) (tokens used ledger) (cellsIn cells) i j e) tables links′ flags′ ledger′ cells′ used ledger cells
-      → Stepped r (graphOf graph) (tokenAt ledger place .tag) tables links′ flags′ ledger′ cells′ used ledger cells
-  stepped-here t same i j v w matched a b p q e does links′ flags′ ledger′ cells′ r left =
-      let τ = tokenAt ledger place .tag in
-      let does′ : Effected (graphOf graph) (length cells / cellWidth) τ v w e =
-      subst (λ (y : ℤ). Effected (graphOf graph) (length cells / cellWidth) τ v y e) q
-      (subst (λ (x : ℤ). Effected (graphOf graph) (length cells / cellWidth) τ x b e) p
-      (subst (λ (u : Record.Token). Effected (graphOf graph) (length cells / cellWidth) (u .tag) a b e) same does)) in
-      stepped graph (ready .passed) now τ (arity-small (graphOf graph) τ) i j v w matched e does′ links′ flags′ ledger′ cells′ r left
+  -- the operands that matching found, and the token that the code read at the place
+  module _ (t : Record.Token) (same : t ≡ tokenAt ledger place) (i j : ℕ) (v w : ℤ)
+      (matched : matchedAt (arityIn (graphOf graph) (tokenAt ledger place .tag)) (tokens used ledger) (tokenAt ledger place .tag) ≡ Both i j v w) where
+    abbrev τ : Tag
+    τ = tokenAt ledger place .tag
+
+    -- the operation or the new tags are refused: nothing was written
+    pub stopped-here : {r : Refusal} → effectIn (graphOf graph) (length cells / cellWidth) (t .tag) v w ≡ refuse r → Stopped r (graphOf graph) τ tables links flags ledger cells used ledger cells
+    stopped-here e = record {
+      step = fire-refused graph (ready .passed) now τ (arity-small (graphOf graph) τ) i j v w matched (ap (λ (u : Record.Token). effectIn (graphOf graph) (length cells / cellWidth) (u .tag) v w) (sym same) ∙ e);
+      running = now;
+      sameLedger = refl;
+      sameCells = refl;
+    }
+
+    -- from matching to output
+    pub stepped-here : (x : Action) (o : Outputs) → Effected (graphOf graph) (length cells / cellWidth) (t .tag) v w x o
+        → (links′ flags′ ledger′ cells′ : List ℕ) (r : Fired)
+        → CommittedTo r (committedOf (length ledger / tokenWidth) (tokens used ledger) (cellsIn cells) i j x o) tables links′ flags′ ledger′ cells′ used ledger cells
+        → Stepped r (graphOf graph) τ tables links′ flags′ ledger′ cells′ used ledger cells
+    stepped-here x o does links′ flags′ ledger′ cells′ r left =
+        stepped graph (ready .passed) now τ (arity-small (graphOf graph) τ) i j v w matched x o
+        (subst (λ (u : Record.Token). Effected (graphOf graph) (length cells / cellWidth) (u .tag) v w x o) same does) links′ flags′ ledger′ cells′ r left

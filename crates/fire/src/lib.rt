@@ -1,8 +1,27 @@
 // A firing, in the order of Memo 205-1: matching, instruction fetch, operation, new tags, output.
+//
+// Where document 01 parts from the memo:
+// - Matching is asked for once an activity is picked. In the memo a token is matched when it arrives.
+//   Operands stay in the ledger as spent tokens, so that their tags are never used again.
+// - FETCH and STORE name their cell in the operation and reach it in the output of the same firing. In
+//   the memo they send a request, a token of another kind, to the processing element that has the cell.
+// - A FETCH that finds no value sends its tokens all the same: they wait in the ledger as deferred. The
+//   memo keeps such a request in a section of its own and makes the token when the value is there.
+// - STORE may send signals. The memo's I-STORE has no destination.
+// - New tags name a context by its call path. In the memo each invocation is assigned a color.
+// - A firing may be refused, and then writes nothing. The operation gives 10 and 12, the new tags give 13
+//   to 17, the output 11, then 8 and 9. No instruction has both a refusal of the operation and one of the
+//   new tags, and 11 is of STORE alone: so this is 01's order.
 use fire_commit::Fired;
+use fire_effect::operate;
+use fire_effect::operate::Operated;
+use fire_effect::tags;
+use fire_effect::tags::NewTags;
 use fire_operands::Matched;
 use fire_outputs::Places;
 use record::cell;
+use record::instruction;
+use record::operation;
 use record::token;
 use rules::answer::Refusal;
 ghost use Prim.Native.Nat.{_<_};
@@ -42,9 +61,32 @@ pub fn fire(
         // No enabled activity lacks an operand.
         return Fired::Refused(Refusal::SecondToken);
     };
-    // Instruction fetch, operation and new tags.
-    let effect = fire_effect::effect(graph, tables, cells.len() / cell::WIDTH, tag, left, right);
-    // Output.
     let operands = Places { first, second };
-    fire_commit::commit(tables, links, flags, ledger, cells, used, operands, effect)
+    // Instruction fetch.
+    let r = instruction::instruction_at(graph, tag.instruction as usize);
+    let o = operation::decode(r.code);
+    // Operation.
+    let operated = operate::operate(o, r.constant, cells.len() / cell::WIDTH, left, right);
+    let action = match operated {
+        Operated::Refuse(refusal) => return Fired::Refused(refusal),
+        Operated::Act(action) => action,
+    };
+    // New tags.
+    let made = tags::new_tags(graph, tables, o, tag, r, right);
+    let outputs = match made {
+        NewTags::Refuse(refusal) => return Fired::Refused(refusal),
+        NewTags::To(outputs) => outputs,
+    };
+    // Output.
+    fire_commit::commit(
+        tables,
+        links,
+        flags,
+        ledger,
+        cells,
+        used,
+        operands,
+        action,
+        outputs,
+    )
 }

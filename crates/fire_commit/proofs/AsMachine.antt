@@ -1,4 +1,4 @@
--- What comes of an effect by the definitions over records is what the machine's `commit` gives. Assumes nothing.
+-- What comes of an action and its outputs by the definitions over records is what the machine's `commit` gives. Assumes nothing.
 use Prim.Native.Nat.{ℕ, _≤_}
 use mathlib.Core.Path.{_≡_, refl, sym, ap, _∙_}
 use mathlib.Core.Bool.{cond}
@@ -21,10 +21,9 @@ use Rattle.rules.specs.declared.answer.Refusal.the-variants.{SecondWrite}
 use Rattle.rules.specs.InstructionSet.{arityIn, machineOf}
 use Rattle.rules.specs.Run.{contentHeld, tokenHeld}
 use Rattle.fire_effect.specs.declared.output.Outputs.{Outputs}
-use Rattle.fire_effect.specs.declared.operate.Effect.{Effect}
-use Rattle.fire_effect.specs.declared.operate.Effect.the-variants.{Refuse, Act}
+use Rattle.fire_effect.specs.declared.operate.Action.{Action}
 use Rattle.fire_effect.specs.declared.operate.Action.the-variants.{Send, Read, Write}
-use Rattle.fire_effect.specs.Effects.{keysOf, effectHeld, FewOutputs}
+use Rattle.fire_effect.specs.Effects.{keysOf, actionHeld}
 use Rattle.abstraction.specs.States.{cellHeld, stateHeld}
 use Rattle.fire_operands.specs.declared.Admitted.{Admitted}
 use Rattle.fire_operands.specs.declared.Admitted.the-variants.{Yes, No}
@@ -75,16 +74,15 @@ module _ (g : List Instruction) (capacity cells : ℕ) (ts : List Record.Token) 
   write-held Waiting f x e = e
   write-held (Present v) f x e = refl
 
-  pub commit-held : (tag : Tag) (i j : ℕ) (v w : ℤ) → Distinct M (map tokenHeld ts) → Places (arityIn g tag) ts tag i j v w → (e : Effect) → FewOutputs e
-      → commit M (stateHeld ts cs) tag (effectHeld e) ≡ firedOf (committedOf capacity ts cs i j e)
+  pub commit-held : (tag : Tag) (i j : ℕ) (v w : ℤ) → Distinct M (map tokenHeld ts) → Places (arityIn g tag) ts tag i j v w → (a : Action) (o : Outputs) → o .count ≤ 2
+      → commit M (stateHeld ts cs) tag (actionHeld a (keysOf o)) ≡ firedOf (committedOf capacity ts cs i j a o)
   unfolding commit committedOf
-  commit-held tag i j v w d p (Refuse r) h = refl
-  commit-held tag i j v w d p (Act (Send x) o) h = goes-in o h _ (spentAt i j ts) _ cs (live x) (Live x) (spent-held tag i j v w d p) refl refl
-  commit-held tag i j v w d p (Act (Read c) o) h =
+  commit-held tag i j v w d p (Send x) o h = goes-in o h _ (spentAt i j ts) _ cs (live x) (Live x) (spent-held tag i j v w d p) refl refl
+  commit-held tag i j v w d p (Read c) o h =
       goes-in o h _ (spentAt i j ts) _ (cellsFetched c cs) _ (contentFetched c (getD cs c Absent)) (spent-held tag i j v w d p)
       (ap (λ y. set (map cellHeld cs) c (cellRead y)) (cell-held cs c) ∙ ap (λ y. set (map cellHeld cs) c y) (fetched-cell (getD cs c Absent)) ∙ set-held cs c _)
       (ap (contentRead c) (cell-held cs c) ∙ fetched-content c (getD cs c Absent))
-  commit-held tag i j v w d p (Act (Write c x) o) h =
+  commit-held tag i j v w d p (Write c x) o h =
       let written = admit M (stateHeld ts cs) (map (changed (λ k y. fill c x (spendAt M tag k y))) (map tokenHeld ts)) (set (map cellHeld cs) c (present x)) (live (pos 0)) (keysOf o) in
       ap (λ y. ifPresent y (notFired SecondWrite) written) (cell-held cs c)
       ∙ write-held (getD cs c Absent) written _

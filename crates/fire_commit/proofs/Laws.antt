@@ -1,4 +1,4 @@
--- What the definition of an effect's outcome gives in each of its cases, and that the code's answer is that outcome. Assumes nothing.
+-- What the definition of an action's outcome gives in each of its cases, and that the code's answer is that outcome. Assumes nothing.
 use Prim.Native.Nat.{ℕ, zero, suc, _+_, _≤_}
 use mathlib.Core.Path.{_≡_, refl, ap}
 use mathlib.Core.Bool.{Bool, true, false, cond}
@@ -20,8 +20,6 @@ use Rattle.store_chains.specs.declared.Found.the-variants.{At, Nothing}
 use Rattle.store_chains.specs.Search.{firstFrom, Free}
 use Rattle.fire_effect.specs.declared.output.Key.{Key}
 use Rattle.fire_effect.specs.declared.output.Outputs.{Outputs}
-use Rattle.fire_effect.specs.declared.operate.Effect.{Effect}
-use Rattle.fire_effect.specs.declared.operate.Effect.the-variants.{Refuse, Act}
 use Rattle.fire_effect.specs.declared.operate.Action.{Action}
 use Rattle.fire_operands.specs.declared.Admitted.{Admitted}
 use Rattle.fire_operands.specs.declared.Admitted.the-variants.{Yes, No}
@@ -89,22 +87,18 @@ admitted-free capacity ts o e = none-taken ts (o .first) (o .second) (o .count) 
 -- ---- the outcome, by what is known of it
 
 module _ (capacity : ℕ) (ts : List Token) (cs : List Cell) (i j : ℕ) (a : Action) (o : Outputs) where
-  pub second-write : writesAgain a cs ≡ true → committedOf capacity ts cs i j (Act a o) ≡ refused SecondWrite
+  pub second-write : writesAgain a cs ≡ true → committedOf capacity ts cs i j a o ≡ refused SecondWrite
   unfolding committedOf
   second-write h = rw h
 
   module _ (once : writesAgain a cs ≡ false) where
-    pub act-refused : {r : Refusal} → admittedOf capacity ts o ≡ No r → committedOf capacity ts cs i j (Act a o) ≡ refused r
+    pub act-refused : {r : Refusal} → admittedOf capacity ts o ≡ No r → committedOf capacity ts cs i j a o ≡ refused r
     unfolding committedOf ifAdmitted
     act-refused e = rw (once, e)
 
-    pub act-done : admittedOf capacity ts o ≡ Yes → committedOf capacity ts cs i j (Act a o) ≡ done (wokenBy a (spentAt i j ts) ++ outputsOf (contentBy a cs) o) (cellsBy a cs)
+    pub act-done : admittedOf capacity ts o ≡ Yes → committedOf capacity ts cs i j a o ≡ done (wokenBy a (spentAt i j ts) ++ outputsOf (contentBy a cs) o) (cellsBy a cs)
     unfolding committedOf ifAdmitted
     act-done e = rw (once, e)
-
-pub effect-refused : (capacity : ℕ) (ts : List Token) (cs : List Cell) (i j : ℕ) {e : Effect} {r : Refusal} → e ≡ Refuse r → committedOf capacity ts cs i j e ≡ refused r
-unfolding committedOf
-effect-refused capacity ts cs i j p = rw p
 
 -- ---- the code's answer
 

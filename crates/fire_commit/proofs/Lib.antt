@@ -1,3 +1,3 @@
--- The proofs of what comes of an effect. Assumes nothing.
+-- The proofs of what comes of an action and its outputs. Assumes nothing.
 pub mod AsMachine
 pub mod Laws

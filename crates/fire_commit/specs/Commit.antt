@@ -1,4 +1,4 @@
--- What comes of an effect on a ledger's tokens and on the cells, as lists of their records. proofs/ joins this with the machine's `commit`.
+-- What comes of an action and its outputs on a ledger's tokens and on the cells, as lists of their records. proofs/ joins this with the machine's `commit`.
 -- Assumes nothing.
 use Prim.Native.Nat.{ℕ, _≤_}
 use mathlib.Core.Path.{_≡_}
@@ -7,8 +7,8 @@ use mathlib.Core.List.{List, _++_}
 use Rattle.record.specs.declared.token.Token.{Token}
 use Rattle.record.specs.declared.cell.Cell.{Cell}
 use Rattle.store.specs.Matching.{Matching}
-use Rattle.fire_effect.specs.declared.operate.Effect.{Effect}
-use Rattle.fire_effect.specs.declared.operate.Effect.the-variants.{Refuse, Act}
+use Rattle.fire_effect.specs.declared.output.Outputs.{Outputs}
+use Rattle.fire_effect.specs.declared.operate.Action.{Action}
 use Rattle.rules.specs.declared.answer.Refusal.{Refusal}
 use Rattle.rules.specs.declared.answer.Refusal.the-variants.{SecondWrite}
 use Rattle.fire_operands.specs.Operands.{admittedOf}
@@ -29,9 +29,8 @@ ifAdmitted Yes x = x
 ifAdmitted (No r) x = refused r
 
 -- i and j are the places of the operands. 11: "STORE to a present cell"; then 8 and 9
-unfoldable pub committedOf : (capacity : ℕ) → List Token → List Cell → (i j : ℕ) → Effect → Committed
-committedOf capacity ts cs i j (Refuse r) = refused r
-committedOf capacity ts cs i j (Act a o) =
+unfoldable pub committedOf : (capacity : ℕ) → List Token → List Cell → (i j : ℕ) → Action → Outputs → Committed
+committedOf capacity ts cs i j a o =
     cond (writesAgain a cs) (refused SecondWrite)
     (ifAdmitted (admittedOf capacity ts o) (done (wokenBy a (spentAt i j ts) ++ outputsOf (contentBy a cs) o) (cellsBy a cs)))
 
@@ -44,7 +43,6 @@ CommittedTo (Fires.Refused r) (done ts cs) tables links flags ledger′ cells′
 CommittedTo (Fires.Refused r) (refused q) tables links flags ledger′ cells′ used ledger cells =
     (r ≡ q) × (ledger′ ≡ ledger) × (cells′ ≡ cells) × Matching tables links flags ledger′ used
 
--- the outputs of an effect are few and at low ports, and its cell is one of the store
-abbrev pub Fitting : (cells : ℕ) → Effect → Type 0
-Fitting n (Refuse r) = Unit {0}
-Fitting n (Act a o) = (o .count ≤ 2) × LowPorts o × OnCells n a
+-- the outputs are few and at low ports, and the action's cell is one of the store
+abbrev pub Fitting : (cells : ℕ) → Action → Outputs → Type 0
+Fitting n a o = (o .count ≤ 2) × LowPorts o × OnCells n a

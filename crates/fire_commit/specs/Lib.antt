@@ -1,2 +1,2 @@
--- The definitions of what comes of an effect. Assumes nothing.
+-- The definitions of what comes of an action and its outputs. Assumes nothing.
 pub mod Commit

@@ -1,6 +1,5 @@
-// The half of a firing that looks at ledger and cells and not at the instruction.
+// Output: the part of a firing that looks at ledger and cells and not at the instruction.
 use fire_effect::operate::Action;
-use fire_effect::operate::Effect;
 use fire_effect::output::Outputs;
 use fire_operands::Admitted;
 use fire_outputs::Places;
@@ -18,8 +17,9 @@ pub enum Fired {
     Refused(Refusal),
 }
 
-// An action on ledger and cells. What refuses it is asked before anything is written: 11, then 8 and 9.
-fn act(
+// An action on ledger and cells, and its outputs. What refuses them is asked before anything is written:
+// 11, then 8 and 9. A refusal leaves both as they were.
+pub fn commit(
     tables: &[u16; 512],
     links: &mut [u16; 9216],
     flags: &mut [u64; 69],
@@ -30,8 +30,8 @@ fn act(
     action: Action,
     sent: Outputs,
 ) -> Fired
-    requires { ⌜ Fireable (now tables) (now links) (now flags) (now ledger) (now cells) used (operands .first) (operands .second) × Fitting (length (now cells) / cellWidth) (Effect.Act action sent) ⌝ }
-    ensures { λ r. ⌜ CommittedTo r (committedOf (length (now (ledger .entry)) / tokenWidth) (tokens used (now (ledger .entry))) (cellsIn (now (cells .entry))) (operands .first) (operands .second) (Effect.Act action sent)) (now (tables .entry)) (now (links .exit)) (now (flags .exit)) (now (ledger .exit)) (now (cells .exit)) used (now (ledger .entry)) (now (cells .entry)) ⌝ }
+    requires { ⌜ Fireable (now tables) (now links) (now flags) (now ledger) (now cells) used (operands .first) (operands .second) × Fitting (length (now cells) / cellWidth) action sent ⌝ }
+    ensures { λ r. ⌜ CommittedTo r (committedOf (length (now (ledger .entry)) / tokenWidth) (tokens used (now (ledger .entry))) (cellsIn (now (cells .entry))) (operands .first) (operands .second) action sent) (now (tables .entry)) (now (links .exit)) (now (flags .exit)) (now (ledger .exit)) (now (cells .exit)) used (now (ledger .entry)) (now (cells .entry)) ⌝ }
 {
     if fire_outputs::writes_again(cells, action) {
         return Fired::Refused(Refusal::SecondWrite);
@@ -50,35 +50,5 @@ fn act(
             action,
             sent,
         )),
-    }
-}
-
-// An effect on ledger and cells. A refusal leaves both as they were.
-pub fn commit(
-    tables: &[u16; 512],
-    links: &mut [u16; 9216],
-    flags: &mut [u64; 69],
-    ledger: &mut [u8],
-    cells: &mut [u8],
-    used: usize,
-    operands: Places,
-    effect: Effect,
-) -> Fired
-    requires { ⌜ Fireable (now tables) (now links) (now flags) (now ledger) (now cells) used (operands .first) (operands .second) × Fitting (length (now cells) / cellWidth) effect ⌝ }
-    ensures { λ r. ⌜ CommittedTo r (committedOf (length (now (ledger .entry)) / tokenWidth) (tokens used (now (ledger .entry))) (cellsIn (now (cells .entry))) (operands .first) (operands .second) effect) (now (tables .entry)) (now (links .exit)) (now (flags .exit)) (now (ledger .exit)) (now (cells .exit)) used (now (ledger .entry)) (now (cells .entry)) ⌝ }
-{
-    match effect {
-        Effect::Refuse(r) => Fired::Refused(r),
-        Effect::Act(action, sent) => act(
-            tables,
-            links,
-            flags,
-            ledger,
-            cells,
-            used,
-            operands,
-            action,
-            sent,
-        ),
     }
 }

@@ -2,3 +2,4 @@
 pub mod Does
 pub mod Passed
 pub mod Arrives
+pub mod Parted

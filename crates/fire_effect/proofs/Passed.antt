@@ -37,7 +37,7 @@ module _ (graph : List ℕ) (i : ℕ) (inside : i < length graph / graphWidth) w
   unfolding instructionAt
   in-bytes = getD-rows graphWidth Graph.decode (length graph / graphWidth) i graph (Graph.decode []) inside
 
-  pub ready : (tables : List ℕ) → checkGraph graph ≡ Passed → Returns (graphOf graph) tables → Ready graph tables (instructionIn graph i)
+  pub ready : (tables : List ℕ) → checkGraph graph ≡ Passed → Returns (graphOf graph) tables → Ready graph tables (operationOf (instructionIn graph i .code)) (instructionIn graph i)
   ready tables passed right =
       let good : Good (graphOf graph) i (instructionIn graph i) = rw in-bytes at (of-graph graph passed i (rw (records graph) inside)) in
       record { records = at-most graph passed; returns = right; ofEnter = enter-site good; ofLeave = leave-site good }

@@ -2,7 +2,6 @@
 use mathlib.Core.Path.{_≡_, sym, _∙_}
 use mir.Facts.{toZ-ofZ}
 use Rattle.fire_effect.specs.Effects.{namedOf}
-use Rattle.fire_effect.proofs.Does.{looked-up, refused, on-cell, on-no-cell}
 use borrow.Author.Needs.{needs}
 use Rattle.fire_effect.proofs.operate.fetch.Statement.{statement}
 use Rattle.fire_effect.proofs.operate.fetch.Tie as tie
@@ -16,6 +15,5 @@ fetch-spec = tie.close (tie.spec
     (λ c κs. search needs)
     (λ c. search needs)
     (λ c. search needs)
-    (λ c. rw (on-no-cell _ _ _ (sym (c .enum-told .given .1) ∙ gave (c .before .before))) (refused _))
-    (λ c κs. search needs)
-    (λ c. rw (on-cell _ _ _ (sym (c .before .before .c .given .1) ∙ gave (c .before .before .before .before))) (looked-up (c .under .ensures))))
+    (λ c. rw (sym (gave (c .before .before)) ∙ c .enum-told .given .1))
+    (λ c. rw (sym (gave (c .before .before .before)) ∙ c .before .c .given .1)))

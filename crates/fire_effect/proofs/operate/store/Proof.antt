@@ -2,7 +2,6 @@
 use mathlib.Core.Path.{_≡_, sym, _∙_}
 use mir.Facts.{toZ-ofZ}
 use Rattle.fire_effect.specs.Effects.{namedOf}
-use Rattle.fire_effect.proofs.Does.{written, refused, on-cell, on-no-cell}
 use borrow.Author.Needs.{needs}
 use Rattle.fire_effect.proofs.operate.store.Statement.{statement}
 use Rattle.fire_effect.proofs.operate.store.Tie as tie
@@ -16,8 +15,5 @@ store-spec = tie.close (tie.spec
     (λ c κs. search needs)
     (λ c. search needs)
     (λ c. search needs)
-    (λ c. rw (on-no-cell _ _ _ (sym (c .enum-told .given .1) ∙ gave (c .before .before))) (refused _))
-    (λ c κs. search needs)
-    (λ c.
-    let s = c .before .before .before .before .before in
-    rw (on-cell _ _ _ (sym (c .before .before .c .given .1) ∙ gave (c .before .before .before .before))) (written (toZ-ofZ (s .fits .b)) (c .under .ensures))))
+    (λ c. rw (sym (gave (c .before .before)) ∙ c .enum-told .given .1))
+    (λ c. rw (sym (gave (c .before .before .before)) ∙ c .before .c .given .1, toZ-ofZ (c .before .before .before .before .fits .b))))

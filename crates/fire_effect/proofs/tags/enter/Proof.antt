@@ -1,4 +1,4 @@
--- `fire_effect::operate::enter` meets its contract. Assumes nothing.
+-- `fire_effect::tags::enter` meets its contract. Assumes nothing.
 use mathlib.Core.Path.{_≡_, sym, _∙_}
 use mir.Facts.{toZ-ofZ}
 use mir.Syntax.{w32}
@@ -8,8 +8,8 @@ use Rattle.record.specs.Calls.{enterOf}
 use Rattle.rules.specs.InstructionSet.{sendEntered}
 use Rattle.fire_effect.proofs.Does.{refused}
 use borrow.Author.Needs.{needs}
-use Rattle.fire_effect.proofs.operate.enter.Statement.{statement}
-use Rattle.fire_effect.proofs.operate.enter.Tie as tie
+use Rattle.fire_effect.proofs.tags.enter.Statement.{statement}
+use Rattle.fire_effect.proofs.tags.enter.Tie as tie
 
 -- what Tag::enter gave, at the instruction's own constant
 gave : (c : tie.After-enter) → c .enter .result ≡ enterOf (c .before .before .before .before .args .tag) (natAbs (c .before .before .before .before .args .r .constant))
@@ -26,4 +26,4 @@ enter-spec = tie.close (tie.spec
     (λ c. search needs)
     (λ c. rw (sym (gave (c .before .before)) ∙ c .enum-told .given .1) (refused _))
     (λ c κs. search needs)
-    (λ c. rw (sym (gave (c .before .before .before .before)) ∙ c .before .before .inner .given .1) (rw (toZ-ofZ (c .before .before .before .before .before .before .before .before .fits .a)) at (c .send-to .ensures))))
+    (λ c. rw (sym (gave (c .before .before .before .before)) ∙ c .before .before .inner .given .1) (c .to-one .ensures)))

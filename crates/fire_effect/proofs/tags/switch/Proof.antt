@@ -1,6 +1,5 @@
--- `fire_effect::operate::switch` meets its contract. Assumes nothing.
+-- `fire_effect::tags::switch` meets its contract. Assumes nothing.
 use mathlib.Core.Path.{_≡_, ap}
-use mir.Facts.{toZ-ofZ}
 use mir.Facts.{sfits-lit}
 use mir.Syntax.{w32}
 use mir.Val.{ofZ}
@@ -9,8 +8,8 @@ use Rattle.arithmetic.proofs.Signed.{same-bits}
 use Rattle.arithmetic.proofs.Ranged.{eq-eqZ, ne-eqZ}
 use Rattle.rules.specs.InstructionSet.{sideOf}
 use borrow.Author.Needs.{needs}
-use Rattle.fire_effect.proofs.operate.switch.Statement.{statement}
-use Rattle.fire_effect.proofs.operate.switch.Tie as tie
+use Rattle.fire_effect.proofs.tags.switch.Statement.{statement}
+use Rattle.fire_effect.proofs.tags.switch.Tie as tie
 
 pub switch-spec : {M : Type 1} → statement M
 unfolding sideOf
@@ -20,7 +19,7 @@ switch-spec = tie.close (tie.spec
     (λ c.
     let s = c .before .before .before in
     let zero-control : s .args .control ≡ pos 0 = same-bits (s .fits .control) (sfits-lit tt) (c .before .before .if1 .taken) in
-    rw (eq-eqZ zero-control) (rw (toZ-ofZ (s .fits .a)) at (c .send-to .ensures)))
+    rw (eq-eqZ zero-control) (c .to-one .ensures))
     (λ c.
     let s = c .before .before .before in
-    rw (ne-eqZ (s .args .control) (pos 0) (λ e. c .before .before .if1 .left (ap (ofZ w32) e))) (rw (toZ-ofZ (s .fits .a)) at (c .send-to2 .ensures))))
+    rw (ne-eqZ (s .args .control) (pos 0) (λ e. c .before .before .if1 .left (ap (ofZ w32) e))) (c .to-one2 .ensures)))

@@ -1,11 +1,10 @@
--- `fire_effect::operate::next` meets its contract. Assumes nothing.
+-- `fire_effect::tags::next` meets its contract. Assumes nothing.
 use mathlib.Core.Path.{sym, _∙_}
-use mir.Facts.{toZ-ofZ}
 use Rattle.rules.specs.InstructionSet.{sendNext}
 use Rattle.fire_effect.proofs.Does.{refused}
 use borrow.Author.Needs.{needs}
-use Rattle.fire_effect.proofs.operate.next.Statement.{statement}
-use Rattle.fire_effect.proofs.operate.next.Tie as tie
+use Rattle.fire_effect.proofs.tags.next.Statement.{statement}
+use Rattle.fire_effect.proofs.tags.next.Tie as tie
 
 pub next-spec : {M : Type 1} → statement M
 unfolding sendNext
@@ -15,4 +14,4 @@ next-spec = tie.close (tie.spec
     (λ c. search needs)
     (λ c. rw (sym (c .before .before .next .ensures) ∙ c .enum-told .given .1) (refused _))
     (λ c κs. search needs)
-    (λ c. rw (sym (c .before .before .before .before .next .ensures) ∙ c .before .before .later .given .1) (rw (toZ-ofZ (c .before .before .before .before .before .fits .a)) at (c .send-all .ensures))))
+    (λ c. rw (sym (c .before .before .before .before .next .ensures) ∙ c .before .before .later .given .1) (c .to-all .ensures)))

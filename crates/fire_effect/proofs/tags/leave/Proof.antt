@@ -1,4 +1,4 @@
--- `fire_effect::operate::leave` meets its contract. Assumes nothing.
+-- `fire_effect::tags::leave` meets its contract. Assumes nothing.
 use mathlib.Core.Path.{sym, ap, _∙_}
 use mir.Facts.{toZ-ofZ}
 use native.Mathlib.Omega.{arith}
@@ -8,10 +8,10 @@ use mir.Val.{SFits}
 use denote.Ref.{now}
 use Rattle.record.specs.GraphRecords.{graphOf}
 use Rattle.rules.specs.InstructionSet.{sendLeft, returnOf}
-use Rattle.fire_effect.proofs.Does.{refused}
+use Rattle.fire_effect.proofs.Does.{refused, made-as}
 use borrow.Author.Needs.{needs}
-use Rattle.fire_effect.proofs.operate.leave.Statement.{statement}
-use Rattle.fire_effect.proofs.operate.leave.Tie as tie
+use Rattle.fire_effect.proofs.tags.leave.Statement.{statement}
+use Rattle.fire_effect.proofs.tags.leave.Tie as tie
 
 pub leave-spec : {M : Type 1} → statement M
 unfolding sendLeft
@@ -31,5 +31,5 @@ leave-spec = tie.close (tie.spec
     let fits : SFits w32 (s .args .r .constant) = record { sfits = c .before .before .before .before .before .before .before .struct-told .given .1 .1 .1 .1 .0 .1 } in
     let k = c .before .before .before .before .before .before .byte .ensures ∙ ap natAbs (toZ-ofZ fits) in
     let entry = s .pre .1 .0 site (omega (arith, c .before .before .known-told .given)) in
-    rw (sym (c .before .before .before .before .before .leave .ensures) ∙ c .before .before .before .site .given .1, ← k)
-    (rw (toZ-ofZ (s .fits .a)) at (c .returned .ensures (returnOf site (graphOf (now (s .args .graph)))) entry))))
+    rw (sym (c .before .before .before .before .before .leave .ensures) ∙ c .before .before .before .site .given .1)
+    (made-as (λ v. rw (← k)) (c .returned .ensures (returnOf site (graphOf (now (s .args .graph)))) entry))))
