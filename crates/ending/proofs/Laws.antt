@@ -1,16 +1,17 @@
 -- How a run ends that fires no more: what the tables say of the tokens is what the machine says of its state. Assumes nothing.
-use Prim.Native.Nat.{ℕ, suc, _<_}
-use mathlib.Core.Path.{_≡_, refl, sym, ap, _∙_}
+use Prim.Native.Nat.{ℕ, zero, suc, _+_, _*_, _<_, _≤_}
+use mathlib.Core.Path.{_≡_, refl, ap, _∙_}
 use mathlib.Core.Bool.{Bool, true, false, _&&_}
 use mathlib.Core.List.{List, [], _∷_, map}
 use native.Mathlib.Omega.{arith}
 use lib.ListN.{length, getD, drop}
-use lib.Seq.{drop-cons}
+use lib.Seq.{drop-cons, getD-drop}
+use Rattle.number.specs.Number.{byteAt, number32}
 use Rattle.record.specs.declared.tag.Tag.{Tag}
 use Rattle.record.specs.declared.token.Token.{Token}
 use Rattle.record.specs.declared.cell.Cell.{Cell}
 use Rattle.record.specs.declared.instruction.Instruction.{Instruction}
-use Rattle.record.specs.TokensAndTags.{tokens, tokenAt, decode}
+use Rattle.record.specs.TokensAndTags.{tokens, tokenAt, contentOf, decode}
 use Rattle.record.specs.Widths.{tokenWidth}
 use Rattle.buffer.proofs.Tables.{length-rows, getD-rows}
 use Rattle.machine.specs.Machine.{Machine, StateOf, Activity, budgetSpent, isProper, allProper, ending, enabled, Choice, runBy, end}
@@ -23,12 +24,9 @@ use Rattle.store_enabled.specs.Enabled.{arityOf, enabledPlaces}
 use Rattle.abstraction.specs.States.{noToken, stateHeld, OnPorts}
 use Rattle.abstraction.specs.Tables.{Arities}
 use Rattle.abstraction.proofs.Enabled.{held-enabled}
-use Rattle.ending.specs.Endings.{EndsAs, RestsAs}
+use Rattle.ending.specs.Endings.{properBy, EndsAs, RestsAs}
 
 -- ---- completed or hung
-
-abbrev properBy : (tables : List ℕ) → Token → Bool
-properBy tables t = isProper (arityOf tables (t .tag)) (contentHeld (t .content))
 
 abbrev pub allBy : (tables : List ℕ) → List Token → Bool
 allBy tables [] = true
@@ -47,21 +45,39 @@ pub ends-hung : (tables : List ℕ) (ts : List Token) → allBy tables ts ≡ fa
 unfolding ending
 ends-hung tables ts e g right capacity count cs = rw (held-proper g tables right capacity count ts, e)
 
--- a pass over the records: t is token i, and all are proper exactly if those from i on are
-module _ (tables ledger : List ℕ) (used i : ℕ) (t : Token) (here : t ≡ tokenAt ledger i) (within : i < used)
-    (before : allBy tables (tokens used ledger) ≡ allBy tables (drop i (tokens used ledger))) where
-  from-here : allBy tables (tokens used ledger) ≡ properBy tables t && allBy tables (drop (suc i) (tokens used ledger))
+-- a record whose state is 1 is a spent token's
+spent-content : (n bits state : ℕ) → state ≡ 1 → isProper n (contentHeld (contentOf bits state)) ≡ true
+unfolding contentOf
+spent-content n bits state e = rw e
+
+pub proper-spent : (tables ledger : List ℕ) (i : ℕ) → getD ledger (i * tokenWidth + 16) 0 ≡ 1 → properBy tables (tokenAt ledger i) ≡ true
+unfolding decode
+proper-spent tables ledger i e =
+    spent-content (arityOf tables (tokenAt ledger i .tag)) (number32 (drop (i * tokenWidth) ledger) 12) (byteAt (drop (i * tokenWidth) ledger) 16) (rw (getD-drop (i * tokenWidth) ledger 16 0) e)
+
+and-false : (a : Bool) → (a && false) ≡ false
+and-false true = refl
+and-false false = refl
+
+one-of-all : (tables : List ℕ) (k : ℕ) (ts : List Token) → allBy tables (drop k ts) ≡ false → allBy tables ts ≡ false
+one-of-all tables zero ts e = e
+one-of-all tables (suc k) [] e = e
+one-of-all tables (suc k) (t ∷ ts) e = rw (one-of-all tables k ts e) (and-false (properBy tables t))
+
+-- a pass over the records, the last first: record j comes after those from i on
+module _ (tables ledger : List ℕ) (used i j : ℕ) (next : suc j ≡ i) (within : i ≤ used) where
+  from-here : allBy tables (drop j (tokens used ledger)) ≡ properBy tables (tokenAt ledger j) && allBy tables (drop i (tokens used ledger))
   from-here =
-      let inside : i < length (tokens used ledger) = omega (arith, length-rows tokenWidth decode used ledger) in
-      before
-      ∙ ap (allBy tables) (drop-cons (tokens used ledger) i noToken inside)
-      ∙ ap (λ (u : Token). properBy tables u && allBy tables (drop (suc i) (tokens used ledger))) (getD-rows tokenWidth decode used i ledger noToken within ∙ sym here)
+      let inside : j < length (tokens used ledger) = omega (arith, length-rows tokenWidth decode used ledger) in
+      let here : getD (tokens used ledger) j noToken ≡ tokenAt ledger j = getD-rows tokenWidth decode used j ledger noToken (omega arith) in
+      ap (allBy tables) (drop-cons (tokens used ledger) j noToken inside)
+      ∙ λ k. properBy tables (here k) && allBy tables (drop (next k) (tokens used ledger))
 
-  pub pass-on : properBy tables t ≡ true → allBy tables (tokens used ledger) ≡ allBy tables (drop (suc i) (tokens used ledger))
-  pass-on e = from-here ∙ ap (λ (b : Bool). b && allBy tables (drop (suc i) (tokens used ledger))) e
+  pub pass-on : allBy tables (drop i (tokens used ledger)) ≡ true → properBy tables (tokenAt ledger j) ≡ true → allBy tables (drop j (tokens used ledger)) ≡ true
+  pass-on later e = from-here ∙ λ k. e k && later k
 
-  pub stop-here : properBy tables t ≡ false → allBy tables (tokens used ledger) ≡ false
-  stop-here e = from-here ∙ ap (λ (b : Bool). b && allBy tables (drop (suc i) (tokens used ledger))) e
+  pub stop-here : properBy tables (tokenAt ledger j) ≡ false → allBy tables (tokens used ledger) ≡ false
+  stop-here e = one-of-all tables j (tokens used ledger) (from-here ∙ ap (λ (b : Bool). b && allBy tables (drop i (tokens used ledger))) e)
 
 -- ---- no budget left
 

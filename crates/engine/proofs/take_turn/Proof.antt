@@ -1,5 +1,6 @@
 -- `engine::take_turn` meets its contract: the activity that the pick takes fires, joined by proofs/Turning. Assumes nothing.
 use mathlib.Core.Path.{refl}
+use native.Mathlib.Omega.{arith}
 use borrow.Author.Needs.{needs}
 use Rattle.store.proofs.Laws.{matching-counted, matching-room}
 use Rattle.rules.specs.Run.{picksOf}
@@ -13,7 +14,7 @@ take-turn-spec =
     tie.close
     (tie.spec
     (λ c κs. matching-counted (c .before .before .before .before .before .pre .1 .matching))
-    (λ c κs. matching-room (c .before .before .before .before .before .before .before .before .pre .1 .matching))
+    (λ c κs. omega (arith, matching-room (c .before .before .before .before .before .before .before .before .pre .1 .matching)))
     (λ c. search needs)
     (λ c.
     let n = c .before .before .before in
