@@ -133,9 +133,13 @@ impl Lent {
         self.ledger.fill(0xa5);
         self.cells.fill(0xa5);
         let answer = self.second();
-        let completed = engine::packed(engine::COMPLETED, answer.firings, answer.tokens, 0);
-        assert_eq!(answer.outcome, Outcome::Completed, "the work completes");
-        assert_eq!(packed, completed, "the engine answers otherwise");
+        let word = match answer.outcome {
+            Outcome::Completed => engine::COMPLETED,
+            Outcome::Hung => engine::HUNG,
+            outcome => panic!("the work ends with {outcome:?}"),
+        };
+        let due = engine::packed(word, answer.firings, answer.tokens, 0);
+        assert_eq!(packed, due, "the engine answers otherwise");
         assert!(
             ledger == self.ledger && cells == self.cells,
             "the engine leaves other bytes"

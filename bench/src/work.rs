@@ -242,17 +242,18 @@ mod tests {
         )
     }
 
+    /// The operands that wait for ever let their work hang.
     #[test]
-    fn every_work_completes_and_nearly_fills_its_ledger() {
+    fn every_work_comes_to_rest_and_nearly_fills_its_ledger() {
         for size in SIZES {
-            for work in [
-                vector_sum(size),
-                long_loop(size),
-                waiting(size),
-                recursion(size),
+            for (work, outcome) in [
+                (vector_sum(size), Outcome::Completed),
+                (long_loop(size), Outcome::Completed),
+                (waiting(size), Outcome::Hung),
+                (recursion(size), Outcome::Completed),
             ] {
                 let (answer, _) = counted(&work, size, 2048, 0);
-                assert_eq!(answer.outcome, Outcome::Completed);
+                assert_eq!(answer.outcome, outcome);
                 assert!(answer.tokens > 3 * size / 4, "{} of {size}", answer.tokens);
             }
             assert_eq!(counted(&vector_sum(size), size, 2048, 0).0.tokens, size);

@@ -7,7 +7,8 @@
 #include <stddef.h>
 #include <stdint.h>
 
-/* Runs a graph. The answer has 16 bits each, lowest first: the word (0 completed, 100 spent, 1 to 17 refused),
+/* Runs a graph. The answer has 16 bits each, lowest first: the word (0 completed, 101 hung, 100 spent, 1 to 17
+   refused),
    firings, tokens, place. */
 uint64_t ttda_run(const uint8_t *graph, size_t graph_len,
                   const uint8_t *inputs, size_t inputs_len,
@@ -21,7 +22,7 @@ uint64_t ttda_run(const uint8_t *graph, size_t graph_len,
 uint64_t ttda_list(const uint8_t *ledger, size_t ledger_len,
                    uint8_t *out, size_t out_len);
 
-/* What ttda_print answers where it writes nothing. A text has 12 bytes at least, so neither is a length. */
+/* What ttda_print answers where it writes nothing. A text has 11 bytes at least, so neither is a length. */
 #define TTDA_TOO_SMALL 0
 #define TTDA_NO_ANSWER 1
 

@@ -17,7 +17,7 @@ use Rattle.rules.specs.Answer.{Values, numberOf, wordOf, placeIn, valuesOf}
 use Rattle.rules.specs.declared.answer.Refusal.{Refusal}
 use Rattle.rules.specs.declared.answer.Refusal.the-variants.{GraphLength, UnknownOperation, FanOut, BadArc, BadSite, BadInput, BadStore, LedgerFull, SecondToken, NoSuchCell, SecondWrite, OutOfRange, Iteration, TooDeep, NoCaller, UnknownSite, NoReturn}
 use Rattle.rules.specs.declared.answer.Outcome.{Outcome}
-use Rattle.rules.specs.declared.answer.Outcome.the-variants.{Completed, Spent, Refused}
+use Rattle.rules.specs.declared.answer.Outcome.the-variants.{Completed, Hung, Spent, Refused}
 use Rattle.rules.specs.declared.answer.Answer.{Answer}
 use Rattle.rules.specs.Run.{result, answer}
 use Rattle.rules.proofs.Small.{answer-small}
@@ -57,6 +57,7 @@ refusal-back NoReturn place = refl
 outcome-back : (o : Outcome) → outcomeOf (wordOf o) (placeIn o) ≡ Ended o
 unfolding outcomeOf
 outcome-back Completed = refl
+outcome-back Hung = refl
 outcome-back Spent = refl
 outcome-back (Refused r place) = refusal-back r place
 
@@ -81,6 +82,7 @@ number-small NoReturn = omega arith
 
 word-small : (o : Outcome) → wordOf o < 65536
 word-small Completed = omega arith
+word-small Hung = omega arith
 word-small Spent = omega arith
 word-small (Refused r place) = number-small r
 
@@ -144,7 +146,7 @@ run-printed graph inputs picks budget ledgerBytes cellBytes listing cells out =
     let fits = run-fits graph inputs picks budget ledgerBytes cellBytes in
     (print-answer a fits listing cells out, print-after a fits listing cells out)
 
--- ---- 0 and 1 are no text's length: the shortest has 12 bytes
+-- ---- 0 and 1 are no text's length: the shortest has 11 bytes
 
 digits-least : (n : ℕ) → 1 ≤ length (decimal n)
 digits-least n = go (ltb n 10) refl
@@ -162,16 +164,17 @@ counts-least : (a b c : ℕ) → 6 ≤ length (line (decimal a ∷ decimal b ∷
 counts-least a b c =
     omega (arith, digits-least a, digits-least b, digits-least c, field-least (decimal a) (decimal b) (decimal c ∷ []), field-least (decimal b) (decimal c) [], length-append (decimal c) (10 ∷ []))
 
-fields-least : (o : Outcome) (a b c : ℕ) → 12 ≤ length (line (outcomeFields o ++ decimal a ∷ decimal b ∷ decimal c ∷ []))
+fields-least : (o : Outcome) (a b c : ℕ) → 11 ≤ length (line (outcomeFields o ++ decimal a ∷ decimal b ∷ decimal c ∷ []))
 fields-least Completed a b c = omega (arith, counts-least a b c)
+fields-least Hung a b c = omega (arith, counts-least a b c)
 fields-least Spent a b c = omega (arith, counts-least a b c)
 fields-least (Refused r place) a b c =
     omega (arith, counts-least a b c, field-least (decimal (numberOf r)) (decimal a) (decimal b ∷ decimal c ∷ []))
 
-append-least : (xs ys : List ℕ) → 12 ≤ length xs → 12 ≤ length (xs ++ ys)
+append-least : (xs ys : List ℕ) → 11 ≤ length xs → 11 ≤ length (xs ++ ys)
 append-least xs ys h = omega (arith, length-append xs ys)
 
-pub text-least : (a : Answer) (listing cells : List ℕ) → 12 ≤ length (printed a listing cells)
+pub text-least : (a : Answer) (listing cells : List ℕ) → 11 ≤ length (printed a listing cells)
 unfolding printed answerLine
 text-least a listing cells =
     append-least
@@ -235,12 +238,13 @@ refused NoRefusal w p o l e =
 
 named : (w p : ℕ) (o : Outcome) → outcomeOf w p ≡ Ended o → Of w p o
 unfolding outcomeOf
-named w p o e = go (eqb w 0) (eqb w 100) refl refl
+named w p o e = go (eqb w 0) (eqb w 100) (eqb w 101) refl refl refl
   where
-    go : (b c : Bool) → eqb w 0 ≡ b → eqb w 100 ≡ c → Of w p o
-    go true c t u = free Completed w p o (sym (eqb-true w 0 t)) refl (rw t at e)
-    go false true t u = free Spent w p o (sym (eqb-true w 100 u)) refl (rw (t, u) at e)
-    go false false t u = refused (refusalOf w) w p o refl (rw (t, u) at e)
+    go : (b c d : Bool) → eqb w 0 ≡ b → eqb w 100 ≡ c → eqb w 101 ≡ d → Of w p o
+    go true c d t u v = free Completed w p o (sym (eqb-true w 0 t)) refl (rw t at e)
+    go false true d t u v = free Spent w p o (sym (eqb-true w 100 u)) refl (rw (t, u) at e)
+    go false false true t u v = free Hung w p o (sym (eqb-true w 101 v)) refl (rw (t, u, v) at e)
+    go false false false t u v = refused (refusalOf w) w p o refl (rw (t, u, v) at e)
 
 -- a number in parts of 16 bits
 low : (n : ℕ) → n % 65536 + n / 65536 * 65536 ≡ n

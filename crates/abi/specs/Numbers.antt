@@ -7,7 +7,7 @@ use Rattle.rules.specs.Answer.{Values, numberOf}
 use Rattle.rules.specs.declared.answer.Refusal.{Refusal}
 use Rattle.rules.specs.declared.answer.Refusal.the-variants.{GraphLength, UnknownOperation, FanOut, BadArc, BadSite, BadInput, BadStore, LedgerFull, SecondToken, NoSuchCell, SecondWrite, OutOfRange, Iteration, TooDeep, NoCaller, UnknownSite, NoReturn}
 use Rattle.rules.specs.declared.answer.Outcome.{Outcome}
-use Rattle.rules.specs.declared.answer.Outcome.the-variants.{Completed, Spent, Refused}
+use Rattle.rules.specs.declared.answer.Outcome.the-variants.{Completed, Hung, Spent, Refused}
 use Rattle.text.specs.Text.{printed, printedOf, outAfter}
 use Rattle.text.specs.declared.Printed.{Printed}
 use Rattle.text.specs.declared.Printed.the-variants.{Done, TooSmall}
@@ -66,7 +66,8 @@ placed NoRefusal place = NoOutcome
 -- the outcome with a word and a place
 unfoldable pub outcomeOf : (word place : ℕ) → Named
 outcomeOf word place =
-    cond (eqb word 0) (unplaced Completed place) (cond (eqb word 100) (unplaced Spent place) (placed (refusalOf word) place))
+    cond (eqb word 0) (unplaced Completed place)
+    (cond (eqb word 100) (unplaced Spent place) (cond (eqb word 101) (unplaced Hung place) (placed (refusalOf word) place)))
 
 abbrev pub counted : Named → (firings tokens : ℕ) → Unpacked
 counted (Ended o) firings tokens = Answered (record { outcome = o; firings = firings; tokens = tokens })

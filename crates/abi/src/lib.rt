@@ -38,6 +38,7 @@ fn place_of(outcome: Outcome) -> usize
 {
     match outcome {
         Outcome::Completed => 0,
+        Outcome::Hung => 0,
         Outcome::Spent => 0,
         Outcome::Refused(_, place) => place,
     }
@@ -95,15 +96,16 @@ fn unplaced(outcome: Outcome, place: usize) -> Named
 fn outcome_of(word: u64, place: usize) -> Named
     ensures { λ r. ⌜ r ≡ outcomeOf word place ⌝ }
 {
-    if word == 0 {
-        unplaced(Outcome::Completed, place)
-    } else if word == 100 {
-        unplaced(Outcome::Spent, place)
-    } else {
-        let numbered = refusal_of(word);
-        match numbered {
-            Numbered::One(r) => Named::Ended(Outcome::Refused(r, place)),
-            Numbered::NoRefusal => Named::NoOutcome,
+    match word {
+        0 => unplaced(Outcome::Completed, place),
+        100 => unplaced(Outcome::Spent, place),
+        101 => unplaced(Outcome::Hung, place),
+        _ => {
+            let numbered = refusal_of(word);
+            match numbered {
+                Numbered::One(r) => Named::Ended(Outcome::Refused(r, place)),
+                Numbered::NoRefusal => Named::NoOutcome,
+            }
         }
     }
 }

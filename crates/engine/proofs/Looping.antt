@@ -1,6 +1,6 @@
 -- The loop of a run: what holds after so many firings, and that a turn, a refusal, nothing enabled and a spent budget end it as the machine's run ends.
 -- Assumes nothing.
-use Prim.Native.Nat.{ℕ, zero, suc, _+_, _-_, _*_, _/_, _≤_, _<_}
+use Prim.Native.Nat.{ℕ, suc, _+_, _-_, _*_, _/_, _≤_, _<_}
 use mathlib.Core.Path.{_≡_, refl, sym, ap, _∙_, subst}
 use mathlib.Core.List.{List, [], _∷_}
 use native.Mathlib.Omega.{arith}
@@ -11,10 +11,7 @@ use Rattle.record.specs.declared.tag.Tag.{Tag}
 use Rattle.record.specs.declared.instruction.Instruction.{Instruction}
 use Rattle.record.specs.TokensAndTags.{tokens}
 use Rattle.record.specs.Widths.{tokenWidth, cellWidth}
-use Rattle.store_enabled.specs.Enabled.{enabledPlaces}
-use Rattle.store_flags.specs.Flags.{places, flagsOf}
-use Rattle.machine.specs.Machine.{Machine, Outcome, completed, budgetSpent, End, laterPicks, byPicks, runBy, end}
-use Rattle.store.proofs.Laws.{matching-places}
+use Rattle.machine.specs.Machine.{Machine, Outcome, End, laterPicks, byPicks, runBy, end}
 use Rattle.load.specs.Loaded.{tailOf}
 use Rattle.load.proofs.Laws.{tail-drop}
 use Rattle.fire_outputs.proofs.Laws.{rest-on}
@@ -23,9 +20,12 @@ use Rattle.rules.specs.declared.answer.Outcome as AnswerOutcome
 use Rattle.rules.specs.InstructionSet.{machineOf}
 use Rattle.rules.specs.Run.{outcomeOf}
 use Rattle.abstraction.specs.Tables.{Arities}
+use Rattle.fire_outputs.specs.Outputs.{cellsIn}
+use Rattle.fire.proofs.Place.{on-ports}
 use Rattle.fire.specs.Running.{machineFor, stateIn, Running}
-use Rattle.engine.specs.Turns.{Advanced, Halted, EndedAt, endOf, restOutcome}
-use Rattle.engine.proofs.Turning.{ended, spent-here}
+use Rattle.ending.specs.Endings.{RestsAs}
+use Rattle.ending.proofs.Laws.{rests-there}
+use Rattle.engine.specs.Turns.{Advanced, Halted, EndedAt, endOf}
 use Rattle.engine.proofs.Ending.{left}
 
 -- after so many firings, from a ledger and cells as lent
@@ -114,21 +114,10 @@ module _ (g : List Instruction) (ledger₀ cells₀ : List ℕ) (start budget : 
         ends-as (a .outcome) o (a .told) (to-do (suc b) (omega arith) ∙ step) (a .running) (a .sameLedger) (a .sameCells)
 
     -- the budget is spent
-    pub finished : budget ≤ firings → Arities g tables → (w : AnswerOutcome.Outcome) → w ≡ restOutcome (length (places (flagsOf flags)))
+    pub finished : budget ≤ firings → Arities g tables → (w : AnswerOutcome.Outcome) → RestsAs w tables (tokens used ledger)
         → EndedAt (endOf g ledger₀ cells₀ start budget picks) (record { outcome = w; firings = firings; tokens = used }) ledger₀ cells₀ ledger cells
-    finished h right w e = go (length (places (flagsOf flags))) refl
-      where
-        same : length (places (flagsOf flags)) ≡ length (enabledPlaces tables (tokens used ledger))
-        same = ap length (matching-places (so .running .matching))
-
-        go : (n : ℕ) → length (places (flagsOf flags)) ≡ n → EndedAt (endOf g ledger₀ cells₀ start budget picks) (record { outcome = w; firings = firings; tokens = used }) ledger₀ cells₀ ledger cells
-        go zero z =
-            let s = stateIn ledger cells used in
-            let stop = as-lent (λ p q. runBy (machineOf g p q) (byPicks (machineOf g p q)) 0 (drop firings picks) firings s ≡ end (machineOf g p q) completed firings s)
-            (ended g tables right ledger cells used (so .running .arrived) 0 (drop firings picks) firings (sym same ∙ z)) in
-            ends-as completed w (sym (e ∙ ap restOutcome z)) (to-do 0 (omega arith) ∙ stop) (so .running) refl refl
-        go (suc n) z =
-            let s = stateIn ledger cells used in
-            let stop = as-lent (λ p q. runBy (machineOf g p q) (byPicks (machineOf g p q)) 0 (drop firings picks) firings s ≡ end (machineOf g p q) budgetSpent firings s)
-            (spent-here g tables right ledger cells used (so .running .arrived) (drop firings picks) firings (λ q. let y : suc n ≡ 0 = sym z ∙ same ∙ q in omega arith)) in
-            ends-as budgetSpent w (sym (e ∙ ap restOutcome z)) (to-do 0 (omega arith) ∙ stop) (so .running) refl refl
+    finished h right w said =
+        let s = stateIn ledger cells used in
+        let o = runBy M₀ (byPicks M₀) 0 (drop firings picks) firings s .outcome in
+        let told = said g right (on-ports g (tokens used ledger) (so .running .arrived)) (length ledger₀ / tokenWidth) (length cells₀ / cellWidth) (cellsIn cells) (byPicks M₀) (drop firings picks) firings in
+        ends-as o w (sym told) (to-do 0 (omega arith) ∙ rests-there M₀ (byPicks M₀) (drop firings picks) firings s) (so .running) refl refl

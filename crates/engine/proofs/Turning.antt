@@ -21,10 +21,11 @@ use Rattle.store.proofs.Laws.{matching-places, matching-enabled-below, matching
 use Rattle.load.specs.Loaded.{headOr0}
 use Rattle.load.proofs.Laws.{head-drop}
 use Rattle.store_enabled.specs.Enabled.{leads, enabledPlaces}
-use Rattle.machine.specs.Machine.{Machine, State, Activity, completed, budgetSpent, enabled, firstPick, laterPicks, pickOf, byPicks, runBy, end, fire, fired, notFired}
+use Rattle.machine.specs.Machine.{Machine, State, Activity, ending, enabled, firstPick, laterPicks, pickOf, byPicks, runBy, end, fire, fired, notFired}
 use Rattle.machine.specs.Machine as Machines
-use Rattle.machine.proofs.Runs.{runEmpty, runZero, runFired, runRefused}
+use Rattle.machine.proofs.Runs.{runFired, runRefused}
 use Rattle.rules.specs.declared.answer.Refusal.{Refusal}
+use Rattle.rules.specs.declared.answer.Outcome as AnswerOutcome
 use Rattle.rules.specs.declared.answer.Outcome.the-variants as Outcomes
 use Rattle.rules.specs.Run.{picksOf}
 use Rattle.abstraction.specs.States.{noToken}
@@ -33,6 +34,8 @@ use Rattle.abstraction.proofs.Enabled.{held-enabled}
 use Rattle.fire_outputs.specs.Outputs.{cellsIn}
 use Rattle.fire.proofs.Place.{on-ports}
 use Rattle.fire.specs.Running.{machineFor, stateIn, Arrived, Running, Went, Stopped, Prepared}
+use Rattle.ending.specs.Endings.{EndsAs}
+use Rattle.ending.proofs.Laws.{ended}
 use Rattle.engine.specs.Turns.{Advanced, Halted}
 
 -- ---- picks
@@ -54,22 +57,6 @@ module _ (g : List Instruction) (tables : List ℕ) (right : Arities g tables) (
 
   enabled-here : enabled M s ≡ map activity (enabledPlaces tables (tokens used ledger))
   enabled-here = held-enabled g (length ledger / tokenWidth) (length cells / cellWidth) tables (tokens used ledger) (cellsIn cells) noToken right (on-ports g (tokens used ledger) arrived)
-
-  -- nothing is enabled
-  pub ended : (b : ℕ) (picks : List ℕ) (f : ℕ) → length (enabledPlaces tables (tokens used ledger)) ≡ 0 → runBy M (byPicks M) b picks f s ≡ end M completed f s
-  ended b picks f e = runEmpty M (byPicks M) b picks f s (enabled-here ∙ go (enabledPlaces tables (tokens used ledger)) e)
-    where
-      go : (l : List ℕ) → length l ≡ 0 → map activity l ≡ []
-      go [] h = refl
-      go (p ∷ l) h = absurd (omega arith)
-
-  -- something is, and the budget is spent
-  pub spent-here : (picks : List ℕ) (f : ℕ) → (length (enabledPlaces tables (tokens used ledger)) ≡ 0 → ⊥) → runBy M (byPicks M) 0 picks f s ≡ end M budgetSpent f s
-  spent-here picks f n = go (enabledPlaces tables (tokens used ledger)) refl n
-    where
-      go : (l : List ℕ) → enabledPlaces tables (tokens used ledger) ≡ l → (length l ≡ 0 → ⊥) → runBy M (byPicks M) 0 picks f s ≡ end M budgetSpent f s
-      go [] e h = absurd (h refl)
-      go (p ∷ l) e h = runZero M (byPicks M) picks f s (activity p) (map activity l) (enabled-here ∙ ap (map activity) e)
 
   -- the activity that a pick takes, of as many as there are
   picked : (pick : ℕ) (p : ℕ) (l : List ℕ) → pickOf M pick (activity p) (map activity l) ≡ activity (getD (p ∷ l) (pick % length (p ∷ l)) 0)
@@ -117,15 +104,20 @@ module _ (graph picks : List ℕ) {tables links flags ledger cells : List ℕ} {
   count : (e : ℕ) → e ≡ length (places (flagsOf flags)) → e ≡ length (enabledPlaces tables (tokens used ledger))
   count e h = h ∙ ap length (matching-places (now .matching))
 
-  pub turn-none : (e : ℕ) → e ≡ length (places (flagsOf flags)) → e ≡ 0 → Halted Outcomes.Completed (graphOf graph) later-picks tables links flags ledger cells used ledger cells
-  turn-none e h z = record {
-    outcome = completed;
-    told = refl;
-    ends = λ b f. ended (graphOf graph) tables (ready .aritiesRight) ledger cells used (now .arrived) (suc b) later-picks f (sym (count e h) ∙ z);
-    running = now;
-    sameLedger = refl;
-    sameCells = refl;
-  }
+  -- nothing is enabled
+  pub turn-none : (e : ℕ) → e ≡ length (places (flagsOf flags)) → e ≡ 0 → (o : AnswerOutcome.Outcome) → EndsAs o tables (tokens used ledger)
+      → Halted o (graphOf graph) later-picks tables links flags ledger cells used ledger cells
+  turn-none e h z o said =
+      let M₁ = machineFor (graphOf graph) ledger cells in
+      record {
+        outcome = ending M₁ (stateIn ledger cells used);
+        told = sym (said (graphOf graph) (ready .aritiesRight) (length ledger / tokenWidth) (length cells / cellWidth) (cellsIn cells));
+        ends = λ b f. ended (graphOf graph) (length ledger / tokenWidth) (length cells / cellWidth) tables (tokens used ledger) (cellsIn cells) (ready .aritiesRight)
+            (on-ports (graphOf graph) (tokens used ledger) (now .arrived)) (byPicks M₁) (suc b) later-picks f (sym (count e h) ∙ z);
+        running = now;
+        sameLedger = refl;
+        sameCells = refl;
+      }
 
   module _ (e pick place : ℕ) (all : e ≡ length (places (flagsOf flags))) (some : e ≡ 0 → ⊥) (here : pick ≡ getD (picksOf picks) firings 0) (taken : place ≡ getD (places (flagsOf flags)) (pick % e) 0) where
     numbered : place ≡ getD (enabledPlaces tables (tokens used ledger)) (pick % e) 0

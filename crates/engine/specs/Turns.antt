@@ -1,5 +1,5 @@
 -- A run, a turn at a time, in the terms of the machine: what a turn leaves, and what a run leaves. Assumes nothing.
-use Prim.Native.Nat.{ℕ, zero, suc, _*_, _/_, _≤_}
+use Prim.Native.Nat.{ℕ, suc, _*_, _≤_}
 use mathlib.Core.Path.{_≡_}
 use mathlib.Core.List.{List, map}
 use lib.ListN.{length, drop}
@@ -13,7 +13,6 @@ use Rattle.record.specs.Widths.{tokenWidth}
 use Rattle.machine.specs.Machine.{Outcome, End, byPicks, runBy, run, end, laterPicks}
 use Rattle.rules.specs.declared.answer.Refusal.{Refusal}
 use Rattle.rules.specs.declared.answer.Outcome as AnswerOutcome
-use Rattle.rules.specs.declared.answer.Outcome.the-variants as Outcomes
 use Rattle.rules.specs.declared.answer.Answer.{Answer}
 use Rattle.rules.specs.Run.{tokenRecord, cellRecord, outcomeOf}
 use Rattle.fire.specs.Running.{machineFor, stateIn, Running}
@@ -55,8 +54,3 @@ pub record EndedAt (e : End Refusal Tag ℤ) (r : Answer) (ledger cells ledger�
 -- the end of a run from a state of so many tokens
 abbrev pub endOf : List Instruction → (ledger cells : List ℕ) → (used budget : ℕ) → (picks : List ℕ) → End Refusal Tag ℤ
 endOf g ledger cells used budget picks = run (machineFor g ledger cells) budget picks (stateIn ledger cells used)
-
--- "Completed is tried first": the outcome at a spent budget, where so many activities are enabled
-abbrev pub restOutcome : (enabled : ℕ) → AnswerOutcome.Outcome
-restOutcome zero = Outcomes.Completed
-restOutcome (suc n) = Outcomes.Spent

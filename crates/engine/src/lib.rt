@@ -9,14 +9,13 @@ ghost use mathlib.Core.Path.{_≡_};
 ghost use lib.ListN.{length, drop};
 ghost use Rattle.record.specs.GraphRecords.{graphOf};
 ghost use Rattle.record.specs.Widths.{cellWidth};
-ghost use Rattle.store_flags.specs.Flags.{Counted, places, flagsOf};
 ghost use Rattle.machine.specs.Machine.{run as Machine·run};
 ghost use Rattle.rules.specs.declared.answer.Checked.the-variants.{Passed};
 ghost use Rattle.rules.specs.Answer.{valuesChecked};
 ghost use Rattle.rules.specs.Check.{checkGraph, check};
 ghost use Rattle.rules.specs.Run.{picksOf, firstState, result, Ran};
 ghost use Rattle.fire.specs.Running.{machineFor, Prepared, Running};
-ghost use Rattle.engine.specs.Turns.{Turned, EndedAt, restOutcome, endOf};
+ghost use Rattle.engine.specs.Turns.{Turned, EndedAt, endOf};
 
 // What a turn of a run comes to: an activity fired and left so many tokens, or the run is at its end.
 pub enum Turn {
@@ -41,7 +40,7 @@ fn take_turn(
 {
     let e = store::enabled_count(flags);
     if e == 0 {
-        return Turn::Ended(Outcome::Completed);
+        return Turn::Ended(ending::ending(tables, ledger, used));
     }
     let number = load::pick_at(picks, firings) % e;
     let place = store::enabled_at(flags, number);
@@ -49,18 +48,6 @@ fn take_turn(
     match fired {
         Fired::Done(n) => Turn::Fired(n),
         Fired::Refused(r) => Turn::Ended(Outcome::Refused(r, place)),
-    }
-}
-
-// How a run ends whose budget is spent: completed is tried first.
-fn rest(flags: &[u64; 69]) -> Outcome
-    requires { ⌜ Counted (now flags) ⌝ }
-    ensures { λ r. ⌜ r ≡ restOutcome (length (places (flagsOf (now (flags .entry))))) ⌝ }
-{
-    if store::enabled_count(flags) == 0 {
-        Outcome::Completed
-    } else {
-        Outcome::Spent
     }
 }
 
@@ -108,7 +95,7 @@ fn proceed(
         }
     }
     Answer {
-        outcome: rest(flags),
+        outcome: ending::rest(tables, flags, ledger, used),
         firings,
         tokens: used,
     }

@@ -33,7 +33,7 @@ use Rattle.rules.specs.Fits.{CellCount}
 use Rattle.rules.proofs.Fits.{result-fits}
 use Rattle.listing.specs.Listing.{records, answer}
 use Rattle.listing.specs.Sorted.{Pairwise}
-use Rattle.listing.specs.Demand3.{Lent, Left, RanOn, NotForOthers, Completed, Spent, Refused, used, Alike, Agree, Demand3}
+use Rattle.listing.specs.Demand3.{Lent, Left, RanOn, NotForOthers, Completed, Hung, Quiescent, Spent, Refused, used, Alike, Agree, Demand3}
 use Rattle.listing.proofs.Lists.{all-of}
 use Rattle.listing.proofs.Laws.{records-joined}
 use Rattle.listing.proofs.AnyTwoOrders.{places-differ, records-differ, used-records, length-tokens, list-orders}
@@ -42,27 +42,44 @@ use Rattle.listing.proofs.AnyTwoOrders.{places-differ, records-differ, 
 
 pub record SameEnd (x : Result) (o : Outcome) : Type 0 where
   pub completes : Rules.Completed x ↔ Completed o
+  pub hangs : Rules.Hung x ↔ Hung o
+  pub rests : Quiescent o → Rules.Quiescent x
   pub refuses : Rules.Refused x ↔ Refused o
   pub spends : Spent o → Rules.Spent x
 
 pub same-end : (x : Result) → SameEnd x (Run.answer x .outcome)
 unfolding Run.answer
-same-end (refusedAtOnce r p) = record { completes = (λ h. h, λ h. h); refuses = (λ h. h, λ h. h); spends = λ h. h }
+same-end (refusedAtOnce r p) = record { completes = (λ h. h, λ h. h); hangs = (λ h. h, λ h. h); rests = λ h. h; refuses = (λ h. h, λ h. h); spends = λ h. h }
 same-end (ranTo e) = go (e .outcome)
   where
     go : (o : Machine.Outcome Refusal) → SameEnd (ranTo (record { outcome = o; firings = e .firings; state = e .state })) (outcomeOf o)
-    go Machine.completed = record { completes = (λ h. h, λ h. h); refuses = (λ h. h, λ h. h); spends = λ h. h }
-    go Machine.budgetSpent = record { completes = (λ h. h, λ h. h); refuses = (λ h. h, λ h. h); spends = λ h. h }
-    go (Machine.refused r p) = record { completes = (λ h. h, λ h. h); refuses = (λ h. h, λ h. h); spends = λ h. h }
+    go Machine.completed = record { completes = (λ h. h, λ h. h); hangs = (λ h. h, λ h. h); rests = λ h. h; refuses = (λ h. h, λ h. h); spends = λ h. h }
+    go Machine.hung = record { completes = (λ h. h, λ h. h); hangs = (λ h. h, λ h. h); rests = λ h. h; refuses = (λ h. h, λ h. h); spends = λ h. h }
+    go Machine.budgetSpent = record { completes = (λ h. h, λ h. h); hangs = (λ h. h, λ h. h); rests = λ h. h; refuses = (λ h. h, λ h. h); spends = λ h. h }
+    go (Machine.refused r p) = record { completes = (λ h. h, λ h. h); hangs = (λ h. h, λ h. h); rests = λ h. h; refuses = (λ h. h, λ h. h); spends = λ h. h }
 
 is-completed : (o : Outcome) → Completed o → o ≡ Outcomes.Completed
 is-completed Outcomes.Completed h = refl
+is-completed Outcomes.Hung h = absurd h
 is-completed Outcomes.Spent h = absurd h
 is-completed (Outcomes.Refused r place) h = absurd h
 
-completed-begun : (x : Result) → Rules.Completed x → Begun x
-completed-begun (refusedAtOnce r p) h = h
-completed-begun (ranTo e) h = tt
+is-hung : (o : Outcome) → Hung o → o ≡ Outcomes.Hung
+is-hung Outcomes.Completed h = absurd h
+is-hung Outcomes.Hung h = refl
+is-hung Outcomes.Spent h = absurd h
+is-hung (Outcomes.Refused r place) h = absurd h
+
+-- two outcomes are equal if one is completed or hung, and the other alike
+same-outcome : (o p : Outcome) → Quiescent o → (Completed o → Completed p) → (Hung o → Hung p) → o ≡ p
+same-outcome Outcomes.Completed p q c h = sym (is-completed p (c tt))
+same-outcome Outcomes.Hung p q c h = sym (is-hung p (h tt))
+same-outcome Outcomes.Spent p q c h = absurd q
+same-outcome (Outcomes.Refused r place) p q c h = absurd q
+
+quiescent-begun : (x : Result) → Rules.Quiescent x → Begun x
+quiescent-begun (refusedAtOnce r p) h = h
+quiescent-begun (ranTo e) h = tt
 
 -- ---- what a run leaves, in bytes
 
@@ -80,7 +97,7 @@ ran-cells e lent whole count =
     let all : length lent ≤ length written = omega arith in
     ap (λ (l : List ℕ). written ++ l) (drop-of-length-le lent all) ∙ append-nil written
 
-cell-bytes : (x : Result) → Rules.Completed x → (lent : List ℕ) → length lent % cellWidth ≡ 0 → CellCount x (length lent / cellWidth) → cellsAfter x lent ≡ joined Cells.encode (cellsOf x)
+cell-bytes : (x : Result) → Rules.Quiescent x → (lent : List ℕ) → length lent % cellWidth ≡ 0 → CellCount x (length lent / cellWidth) → cellsAfter x lent ≡ joined Cells.encode (cellsOf x)
 cell-bytes (refusedAtOnce r p) h lent whole count = absurd h
 cell-bytes (ranTo e) h lent whole count = ran-cells e lent whole count
 
@@ -114,19 +131,32 @@ module _ (graph inputs : List ℕ) (graphBytes : Bytes graph) (inputBytes : Byte
   used-of : (k : Lent) (z : Left) → RanOn graph inputs k z → used z ≡ joined encode (tokensOf (resultOf k))
   used-of k z ran = rw (ran .answered, ran .ledgerLeft) (used-bytes (resultOf k) (k .ledger))
 
-  -- a run that completes passed the check of its stores
-  stores-of : (k : Lent) → Rules.Completed (resultOf k) → Whole (length inputs) (length (k .picks)) (length (k .ledger)) (length (k .cells))
-  stores-of k c = stores-whole (length inputs) (length (k .picks)) (length (k .ledger)) (length (k .cells)) (begun-stores graph inputs (k .picks) 2048 (length (k .ledger)) (length (k .cells)) (completed-begun (resultOf k) c))
+  -- a run that completes or hangs passed the check of its stores
+  stores-of : (k : Lent) → Rules.Quiescent (resultOf k) → Whole (length inputs) (length (k .picks)) (length (k .ledger)) (length (k .cells))
+  stores-of k c = stores-whole (length inputs) (length (k .picks)) (length (k .ledger)) (length (k .cells)) (begun-stores graph inputs (k .picks) 2048 (length (k .ledger)) (length (k .cells)) (quiescent-begun (resultOf k) c))
 
-  cells-of : (k : Lent) (z : Left) → RanOn graph inputs k z → Rules.Completed (resultOf k) → z .cells ≡ joined Cells.encode (cellsOf (resultOf k))
+  cells-of : (k : Lent) (z : Left) → RanOn graph inputs k z → Rules.Quiescent (resultOf k) → z .cells ≡ joined Cells.encode (cellsOf (resultOf k))
   cells-of k z ran c =
       let fits = result-fits graph inputs (k .picks) 2048 (length (k .ledger)) (length (k .cells)) graphBytes inputBytes in
       ran .cellsLeft ∙ cell-bytes (resultOf k) c (k .cells) (whole-bytes cellWidth mostCells (length (k .cells)) (stores-of k c .wholeCells) .0) (fits .cellCount)
 
-  alike : Completed (x .answer .outcome) → Alike x y
+  completing : Completed (x .answer .outcome) ↔ Completed (y .answer .outcome)
+  completing =
+      let ex = ended l x ranX in
+      let ey = ended m y ranY in
+      (λ h. ey .completes .0 (agreed .completes .0 (ex .completes .1 h)), λ h. ex .completes .0 (agreed .completes .1 (ey .completes .1 h)))
+
+  hanging : Hung (x .answer .outcome) ↔ Hung (y .answer .outcome)
+  hanging =
+      let ex = ended l x ranX in
+      let ey = ended m y ranY in
+      (λ h. ey .hangs .0 (agreed .hangs .0 (ex .hangs .1 h)), λ h. ex .hangs .0 (agreed .hangs .1 (ey .hangs .1 h)))
+
+  alike : Quiescent (x .answer .outcome) → Alike x y
   alike done =
-      let cx = ended l x ranX .completes .1 done in
-      let cy = agreed .completes .0 cx in
+      let outcomes = same-outcome (x .answer .outcome) (y .answer .outcome) done (completing .0) (hanging .0) in
+      let cx = ended l x ranX .rests done in
+      let cy = ended m y ranY .rests (subst Quiescent outcomes done) in
       let same = agreed .alike cx in
       let ts = tokensOf (resultOf l) in
       let us = tokensOf (resultOf m) in
@@ -134,7 +164,6 @@ module _ (graph inputs : List ℕ) (graphBytes : Bytes graph) (inputBytes : Byte
       let uy = used-of m y ranY in
       let fits = result-fits graph inputs (l .picks) 2048 (length (l .ledger)) (length (l .cells)) graphBytes inputBytes in
       let few = whole-bytes tokenWidth mostTokens (length (l .ledger)) (stores-of l cx .wholeLedger) .1 in
-      let outcomes : x .answer .outcome ≡ y .answer .outcome = is-completed (x .answer .outcome) done ∙ sym (is-completed (y .answer .outcome) (ended m y ranY .completes .0 cy)) in
       let firings : x .answer .firings ≡ y .answer .firings = rw (ranX .answered, ranY .answered) (same .firings) in
       let tokens : x .answer .tokens ≡ y .answer .tokens = rw (ranX .answered, ranY .answered) (same .tokens) in
       let apart = places-differ ts (once-apart ts (same .eachOnce)) in
@@ -154,7 +183,8 @@ module _ (graph inputs : List ℕ) (graphBytes : Bytes graph) (inputBytes : Byte
       let ex = ended l x ranX in
       let ey = ended m y ranY in
       record {
-        completes = (λ h. ey .completes .0 (agreed .completes .0 (ex .completes .1 h)), λ h. ex .completes .0 (agreed .completes .1 (ey .completes .1 h)));
+        completes = completing;
+        hangs = hanging;
         alike = alike;
         refused = (λ h. ey .refuses .0 (agreed .refused .0 (ex .refuses .1 h)), λ h. ex .refuses .0 (agreed .refused .1 (ey .refuses .1 h)));
         neverSpent = λ h. agreed .neverSpent (ex .spends h);

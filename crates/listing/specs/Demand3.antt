@@ -44,16 +44,32 @@ NotForOthers graph inputs l = NotForOtherBuffers graph inputs (l .picks) (length
 
 abbrev pub Completed : Outcome → Type 0
 Completed Outcomes.Completed = Unit {0}
+Completed Outcomes.Hung = ⊥
 Completed Outcomes.Spent = ⊥
 Completed (Outcomes.Refused r place) = ⊥
 
+abbrev pub Hung : Outcome → Type 0
+Hung Outcomes.Completed = ⊥
+Hung Outcomes.Hung = Unit {0}
+Hung Outcomes.Spent = ⊥
+Hung (Outcomes.Refused r place) = ⊥
+
+-- completed or hung
+abbrev pub Quiescent : Outcome → Type 0
+Quiescent Outcomes.Completed = Unit {0}
+Quiescent Outcomes.Hung = Unit {0}
+Quiescent Outcomes.Spent = ⊥
+Quiescent (Outcomes.Refused r place) = ⊥
+
 abbrev pub Spent : Outcome → Type 0
 Spent Outcomes.Completed = ⊥
+Spent Outcomes.Hung = ⊥
 Spent Outcomes.Spent = Unit {0}
 Spent (Outcomes.Refused r place) = ⊥
 
 abbrev pub Refused : Outcome → Type 0
 Refused Outcomes.Completed = ⊥
+Refused Outcomes.Hung = ⊥
 Refused Outcomes.Spent = ⊥
 Refused (Outcomes.Refused r place) = Unit {0}
 
@@ -63,9 +79,9 @@ used x = take (x .answer .tokens * tokenWidth) (x .ledger)
 
 -- ---- the claim
 
--- of two runs that complete
+-- of two runs that complete or hang. R-2: "completed or hung alike in all, with everything else equal"
 pub record Alike (x y : Left) : Type 0 where
-  -- 01: "If one run completes with f firings and t tokens, so does the other."
+  -- 01: "If one run completes with f firings and t tokens, so does the other.", and if one hangs, so does the other
   pub answers : x .answer ≡ y .answer
   -- 01: "All cell bytes are equal."
   pub cells : x .cells ≡ y .cells
@@ -80,7 +96,8 @@ pub record Alike (x y : Left) : Type 0 where
 pub record Agree (x y : Left) : Type 0 where
   -- the demand: "one run completes exactly when the other does"
   pub completes : Completed (x .answer .outcome) ↔ Completed (y .answer .outcome)
-  pub alike : Completed (x .answer .outcome) → Alike x y
+  pub hangs : Hung (x .answer .outcome) ↔ Hung (y .answer .outcome)
+  pub alike : Quiescent (x .answer .outcome) → Alike x y
   -- 01: "If one run is refused, so is the other"
   pub refused : Refused (x .answer .outcome) ↔ Refused (y .answer .outcome)
   -- a budget of 2,048 is never spent

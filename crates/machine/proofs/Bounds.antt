@@ -10,7 +10,7 @@ use native.Mathlib.Omega.{arith}
 use lib.ListN.{length, set, length-append, length-map}
 use borrow.Author.Tests.{ltb-false}
 use Rattle.machine.specs.Machine.{Key, Content, live, Cell, absent, waiting, present, refuse, send, read, write, Machine, fired, notFired}
-use Rattle.machine.specs.Machine.{Outcome, completed, budgetSpent, refused, onOption, fill, cellAt, contentRead, ifPresent, changed, output, Operands}
+use Rattle.machine.specs.Machine.{Outcome, completed, hung, budgetSpent, refused, onOption, fill, cellAt, contentRead, ifPresent, changed, output, Operands}
 use Rattle.machine.specs.Machine.{Ledger, StateOf, EffectOf, FiredOf, EndOf, look, operands, spendAt, anyTaken, exceeds, admit, commit, fire, Choice, byPicks, runBy, run}
 use Rattle.machine.specs.Orders.{Lawful, Good, LawfulChoice, Says}
 use Rattle.machine.specs.Sequences.{Fires, logOf}
@@ -68,6 +68,7 @@ module _ (M : Machine) where
   -- "the place is the activity's": "the ledger position of its earliest operand"
   abbrev pub PlaceWithin : Outcome (M .Refusal) → Ledger M → Type 0
   PlaceWithin completed ts = Unit {0}
+  PlaceWithin hung ts = Unit {0}
   PlaceWithin budgetSpent ts = Unit {0}
   PlaceWithin (refused r place) ts = place < length ts
 
@@ -84,6 +85,7 @@ module _ (M : Machine) where
 
   place-within : (o : Outcome (M .Refusal)) (b n : ℕ) (x : StateOf M) → Says M o b n x → PlaceWithin o (x .tokens)
   place-within completed b n x h = tt
+  place-within hung b n x h = tt
   place-within budgetSpent b n x h = tt
   place-within (refused r p) b n x (l, a, m, q, e) = subst (λ (k : ℕ). k < length (x .tokens)) q (enabledPlace M x a m)
 

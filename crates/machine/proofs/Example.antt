@@ -1,12 +1,12 @@
--- A small program under two orders, computed: the runs end alike, and their ledgers are different lists; and how the
--- theorems are cited for it. Assumes nothing.
+-- A small program under two orders, computed: the runs end alike, and their ledgers are different lists; a run that hangs;
+-- and how the theorems are cited for it. Assumes nothing.
 use mathlib.Core.Path.{_≡_, refl}
 use mathlib.Core.List.{[], _∷_}
 use Prim.Native.Nat.{ℕ, zero, suc, _+_}
 use native.Mathlib.Decide.{ℕ-discrete}
 use native.Mathlib.Omega.{arith}
-use Rattle.machine.specs.Machine.{Key, Token, Effect, refuse, send, read, write, Machine, State, live, spent, absent, present}
-use Rattle.machine.specs.Machine.{completed, run, machine}
+use Rattle.machine.specs.Machine.{Key, Token, Effect, refuse, send, read, write, Machine, State, live, spent, deferred, absent, waiting, present}
+use Rattle.machine.specs.Machine.{completed, hung, run, machine}
 use Rattle.machine.specs.Orders.{CellsBelow, ReadsForSome, Lawful, Start, Same, Invariants}
 use Rattle.machine.proofs.Orders.{startGood, orders}
 use Rattle.machine.proofs.Reached.{reached-invariants, reached-picks}
@@ -67,6 +67,16 @@ second : run small 65535 (1 ∷ []) start ≡ record {
 }
 unfolding machine
 second = refl
+
+-- ---- R-2: a read that nobody answers hangs
+
+unanswered : run small 65535 [] (record { tokens = token 0 0 5 ∷ []; cells = absent ∷ [] }) ≡ record {
+  outcome = hung;
+  firings = 1;
+  state = record { tokens = used 0 0 5 ∷ record { key = key 2 0; content = deferred 0 } ∷ []; cells = waiting ∷ [] };
+}
+unfolding machine
+unanswered = refl
 
 -- ---- the theorems' hypotheses hold here
 

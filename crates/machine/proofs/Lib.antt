@@ -1,4 +1,4 @@
--- The theorems (Enabled, Sequences, Runs, Orders, Reached, Kept, Refused, Bounds), what they are proved from (Lists, Swap, View, Store, Tags, Perm), and a
+-- The theorems (Enabled, Sequences, Ending, Runs, Orders, Reached, Kept, Refused, Bounds), what they are proved from (Lists, Swap, View, Store, Tags, Perm), and a
 -- computed example. Assumes nothing.
 pub mod Lists
 pub mod Swap
@@ -8,6 +8,7 @@ pub mod Tags
 pub mod Perm
 pub mod Enabled
 pub mod Sequences
+pub mod Ending
 pub mod Runs
 pub mod Orders
 pub mod Reached

@@ -1,17 +1,18 @@
--- Any two orders of firing end alike (`ordersBy`, and for lists of picks `orders`, `neverSpent`, `completes`, `refuses`).
+-- Any two orders of firing end alike (`ordersBy`, and for lists of picks `orders`, `neverSpent`, `completes`, `hangs`, `refuses`).
 -- Assumes nothing. Each theorem takes the machine, then that its instruction set is lawful, and of the state that it is
 -- well-formed; `startGood` gives this of inputs.
-use mathlib.Core.Path.{_≡_, refl, ap, _∙_}
+use mathlib.Core.Path.{_≡_, refl, ap, subst, _∙_}
 use mathlib.Core.List.{List, [], _∷_, List·Memᴰ, List·Memᴰ·head, List·Memᴰ·tail, List·Memᴰ·cases-cons}
 use mathlib.Core.Logic.{_⊎_, inl, inr, _↔_}
 use Prim.Native.Nat.{ℕ, zero, suc, _≤_}
 use native.Mathlib.Omega.{arith}
 use lib.ListN.{length, getD, length-replicate}
-use Rattle.machine.specs.Machine.{absent, Machine, Outcome, completed, budgetSpent, refused, numberOf}
+use Rattle.machine.specs.Machine.{absent, Machine, Outcome, completed, hung, budgetSpent, refused, numberOf}
 use Rattle.machine.specs.Machine.{StateOf, pickOf, Choice, byPicks, runBy, run}
-use Rattle.machine.specs.Orders.{Lawful, Good, Start, LawfulChoice, Completed, BudgetSpent, Refused, Alike, Same, AnyTwoOrders, NeverSpent, AllRefused, Says}
-use Rattle.machine.specs.Sequences.{Fires, NothingEnabled, logOf}
+use Rattle.machine.specs.Orders.{Lawful, Good, Start, LawfulChoice, Completed, Hung, Quiescent, BudgetSpent, Refused, Alike, Same, AnyTwoOrders, NeverSpent, AllRefused, Says}
+use Rattle.machine.specs.Sequences.{Fires, logOf}
 use Rattle.machine.proofs.Sequences.{shorter}
+use Rattle.machine.proofs.Ending.{rested}
 use Rattle.machine.proofs.Runs.{ran, oneTellsAll}
 
 getDMem : {A : Type 0} (l : List A) (i : ℕ) (d : A) → List·Memᴰ (getD l i d) (d ∷ l)
@@ -37,32 +38,36 @@ module _ (M : Machine) where
 
   -- ---- the theorems, for any two lawful choices
 
-  -- a run that completes leaves nothing enabled
-  completedRest : (b n : ℕ) (x : StateOf M) (o : Outcome (M .Refusal)) → Says M o b n x → Completed o → NothingEnabled M x
-  completedRest b n x completed h c = h
-  completedRest b n x budgetSpent h c = absurd c
-  completedRest b n x (refused r p) h c = absurd c
+  -- one that completes and one that hangs are told apart by the outcome
+  kinds : (o q : Outcome (M .Refusal)) → (Quiescent o → o ≡ q) → (Completed o → Completed q) × (Hung o → Hung q)
+  kinds completed q k = (λ c. subst Completed (k tt) c, λ c. absurd c)
+  kinds hung q k = (λ c. absurd c, λ c. subst Hung (k tt) c)
+  kinds budgetSpent q k = (λ c. absurd c, λ c. absurd c)
+  kinds (refused r p) q k = (λ c. absurd c, λ c. absurd c)
 
-  refusedToo : (o q : Outcome (M .Refusal)) → (Completed q → Completed o) → ¬ (BudgetSpent q) → Refused o → Refused q
-  refusedToo completed q h e c = absurd c
-  refusedToo budgetSpent q h e c = absurd c
-  refusedToo (refused r p) completed h e c = h tt
-  refusedToo (refused r p) budgetSpent h e c = absurd (e tt)
-  refusedToo (refused r p) (refused r′ p′) h e c = tt
+  refusedToo : (o q : Outcome (M .Refusal)) → (Completed q → Completed o) → (Hung q → Hung o) → ¬ (BudgetSpent q) → Refused o → Refused q
+  refusedToo completed q h k e c = absurd c
+  refusedToo hung q h k e c = absurd c
+  refusedToo budgetSpent q h k e c = absurd c
+  refusedToo (refused r p) completed h k e c = h tt
+  refusedToo (refused r p) hung h k e c = k tt
+  refusedToo (refused r p) budgetSpent h k e c = absurd (e tt)
+  refusedToo (refused r p) (refused r′ p′) h k e c = tt
 
   module _ (law : Lawful M) where
-    -- if one completes, so does the other, and they are alike
-    told : (c d : Choice M) → LawfulChoice M c → LawfulChoice M d → (s : StateOf M) → Good M s → (b : ℕ) (ps qs : List ℕ) (f : ℕ) → Completed (runBy M c b ps f s .outcome)
-        → Completed (runBy M d b qs f s .outcome) × Alike (runBy M c b ps f s) (runBy M d b qs f s)
+    -- if one completes or hangs, the other does too, and they are alike
+    told : (c d : Choice M) → LawfulChoice M c → LawfulChoice M d → (s : StateOf M) → Good M s → (b : ℕ) (ps qs : List ℕ) (f : ℕ) → Quiescent (runBy M c b ps f s .outcome)
+        → Alike (runBy M c b ps f s) (runBy M d b qs f s)
     told c d lc ld s g b ps qs f h =
         let r = ran M c lc b ps f s in
-        oneTellsAll M law s g f (logOf M c b ps s) (runBy M c b ps f s) (r .logged) (completedRest b _ _ (runBy M c b ps f s .outcome) (r .says) h) d ld b (r .within) qs
+        let (rest, said) = rested M (runBy M c b ps f s .outcome) b (length (logOf M c b ps s)) (runBy M c b ps f s .state) h (r .says) in
+        oneTellsAll M law s g f (logOf M c b ps s) (runBy M c b ps f s) (r .logged) rest said d ld b (r .within) qs
 
     pub ordersBy : AnyTwoOrders M
-    ordersBy c d lc ld s g b ps qs f = record {
-      completes = (λ h. told c d lc ld s g b ps qs f h .0, λ h. told d c ld lc s g b qs ps f h .0);
-      alike = λ h. told c d lc ld s g b ps qs f h .1;
-    }
+    ordersBy c d lc ld s g b ps qs f =
+        let to = kinds (runBy M c b ps f s .outcome) (runBy M d b qs f s .outcome) (λ h. told c d lc ld s g b ps qs f h .outcome) in
+        let fro = kinds (runBy M d b qs f s .outcome) (runBy M c b ps f s .outcome) (λ h. told d c ld lc s g b qs ps f h .outcome) in
+        record { completes = (to .0, fro .0); hangs = (to .1, fro .1); alike = told c d lc ld s g b ps qs f }
 
     pub neverSpentBy : NeverSpent M
     neverSpentBy c lc s g b ps f h =
@@ -71,14 +76,16 @@ module _ (M : Machine) where
       where
         go : (τs : List (M .Tag)) (x : StateOf M) (o : Outcome (M .Refusal)) → Fires M s τs x → Says M o b (length τs) x → ¬ (BudgetSpent o)
         go τs x completed p t i = i
+        go τs x hung p t i = i
         go τs x budgetSpent p (n, a, m) i = let z = shorter M law s g τs x p a m in omega arith
         go τs x (refused r q) p t i = i
 
     pub refusesBy : AllRefused M
-    refusesBy c d lc ld s g b ps qs f h = (
-      refusedToo (runBy M c b ps f s .outcome) (runBy M d b qs f s .outcome) (ordersBy c d lc ld s g b ps qs f .completes .1) (neverSpentBy d ld s g b qs f h),
-      refusedToo (runBy M d b qs f s .outcome) (runBy M c b ps f s .outcome) (ordersBy c d lc ld s g b ps qs f .completes .0) (neverSpentBy c lc s g b ps f h),
-    )
+    refusesBy c d lc ld s g b ps qs f h =
+        let z = ordersBy c d lc ld s g b ps qs f in
+        let o = runBy M c b ps f s .outcome in
+        let q = runBy M d b qs f s .outcome in
+        (refusedToo o q (z .completes .1) (z .hangs .1) (neverSpentBy d ld s g b qs f h), refusedToo q o (z .completes .0) (z .hangs .0) (neverSpentBy c lc s g b ps f h))
 
     -- ---- and for any two lists of picks
 
@@ -90,6 +97,9 @@ module _ (M : Machine) where
 
     pub completes : (s : StateOf M) → Good M s → (budget : ℕ) (picks picks′ : List ℕ) → Completed (run M budget picks s .outcome) ↔ Completed (run M budget picks′ s .outcome)
     completes s g b ps qs = orders s g b ps qs .completes
+
+    pub hangs : (s : StateOf M) → Good M s → (budget : ℕ) (picks picks′ : List ℕ) → Hung (run M budget picks s .outcome) ↔ Hung (run M budget picks′ s .outcome)
+    hangs s g b ps qs = orders s g b ps qs .hangs
 
     pub refuses : (s : StateOf M) → Good M s → (budget : ℕ) (picks picks′ : List ℕ) → M .capacity ≤ budget → Refused (run M budget picks s .outcome) ↔ Refused (run M budget picks′ s .outcome)
     refuses s g b ps qs h = refusesBy (byPicks M) (byPicks M) byPicksLawful byPicksLawful s g b ps qs 0 h

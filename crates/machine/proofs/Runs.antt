@@ -6,17 +6,18 @@ use mathlib.Core.List.{List, [], _∷_, List·Memᴰ, List·Memᴰ·head}
 use Prim.Native.Nat.{ℕ, zero, suc, _≤_, _<_}
 use native.Mathlib.Omega.{arith}
 use lib.ListN.{length}
-use Rattle.machine.specs.Machine.{Machine, Activity, fired, notFired, Outcome, completed, budgetSpent, refused, firstPick, laterPicks}
-use Rattle.machine.specs.Machine.{StateOf, FiredOf, EndOf, enabled, fire, Choice, end, runBy}
-use Rattle.machine.specs.Orders.{Lawful, Good, Completed, Says}
+use Rattle.machine.specs.Machine.{Machine, Activity, fired, notFired, Outcome, completed, hung, budgetSpent, refused, firstPick, laterPicks}
+use Rattle.machine.specs.Machine.{StateOf, FiredOf, EndOf, enabled, fire, Choice, end, ending, runBy}
+use Rattle.machine.specs.Orders.{Lawful, Good, Says}
 use Rattle.machine.specs.Sequences.{NothingEnabled, logOf, Logged, Ran, RunsLogged, EveryOrder, OneTellsAll}
 use Rattle.machine.proofs.Lists.{perm-length}
 use Rattle.machine.proofs.Sequences.{neverFired, sequences, noneRefused}
+use Rattle.machine.proofs.Ending.{ending-says, rested, ending-perm}
 
 module _ (M : Machine) where
   -- ---- a run, a firing at a time
 
-  pub runEmpty : (c : Choice M) (b : ℕ) (ps : List ℕ) (n : ℕ) (s : StateOf M) → enabled M s ≡ [] → runBy M c b ps n s ≡ end M completed n s
+  pub runEmpty : (c : Choice M) (b : ℕ) (ps : List ℕ) (n : ℕ) (s : StateOf M) → enabled M s ≡ [] → runBy M c b ps n s ≡ end M (ending M s) n s
   unfolding runBy
   runEmpty c zero ps n s e = rw e
   runEmpty c (suc b) ps n s e = rw e
@@ -38,7 +39,7 @@ module _ (M : Machine) where
   -- what holds of a run that does no firing, and of a run if it holds of what follows its first firing, holds of every run. A claim is about the budget, the
   -- picks, the firings before, the state and the end
   pub record Along (c : Choice M) (P : ℕ → List ℕ → ℕ → StateOf M → EndOf M → Type 0) : Type 0 where
-    pub rests : (b : ℕ) (ps : List ℕ) (n : ℕ) (s : StateOf M) → enabled M s ≡ [] → P b ps n s (end M completed n s)
+    pub rests : (b : ℕ) (ps : List ℕ) (n : ℕ) (s : StateOf M) → enabled M s ≡ [] → P b ps n s (end M (ending M s) n s)
     pub stops : (ps : List ℕ) (n : ℕ) (s : StateOf M) (a : Activity (M .Tag)) (more : List (Activity (M .Tag))) → enabled M s ≡ a ∷ more → P 0 ps n s (end M budgetSpent n s)
     pub refuses : (b : ℕ) (ps : List ℕ) (n : ℕ) (s : StateOf M) (a : Activity (M .Tag)) (more : List (Activity (M .Tag))) (r : M .Refusal) → enabled M s ≡ a ∷ more
         → fire M s (c s (firstPick ps) a more .tag) ≡ notFired r → P (suc b) ps n s (end M (refused r (c s (firstPick ps) a more .place)) n s)
@@ -88,6 +89,7 @@ module _ (M : Machine) where
 
   saysLater : (o : Outcome (M .Refusal)) (b n : ℕ) (x : StateOf M) → Says M o b n x → Says M o (suc b) (suc n) x
   saysLater completed b n x h = h
+  saysLater hung b n x h = h
   saysLater budgetSpent b n x (e, a, m) = (ap suc e, a, m)
   saysLater (refused r p) b n x (l, a, m, q, e) = (omega arith, a, m, q, e)
 
@@ -100,7 +102,7 @@ module _ (M : Machine) where
 
   pub ran : RunsLogged M
   ran c ok = along c (λ b ps f s e. Ran M s b f (logOf M c b ps s) e) (record {
-    rests = λ b ps f s e. rw (logEmpty c b ps s e) (stopsAt s b f completed e);
+    rests = λ b ps f s e. rw (logEmpty c b ps s e) (stopsAt s b f (ending M s) (ending-says M s b 0 e));
     stops = λ ps f s a more e. rw (logZero c ps s) (stopsAt s 0 f budgetSpent (refl, a, rw e (List·Memᴰ·head refl)));
     refuses = λ b ps f s a more r e h. rw (logRefused c b ps s a more r e h)
         (stopsAt s (suc b) f (refused r (c s (firstPick ps) a more .place)) (omega arith, c s (firstPick ps) a more, rw e (ok s (firstPick ps) a more), refl, h));
@@ -109,16 +111,17 @@ module _ (M : Machine) where
 
   -- ---- every order
 
-  module _ (law : Lawful M) (s : StateOf M) (good : Good M s) (f : ℕ) (τs : List (M .Tag)) (e : EndOf M) (log : Logged M s f τs e) (rested : NothingEnabled M (e .state)) where
+  module _ (law : Lawful M) (s : StateOf M) (good : Good M s) (f : ℕ) (τs : List (M .Tag)) (e : EndOf M) (log : Logged M s f τs e) (rest : NothingEnabled M (e .state)) (said : e .outcome ≡ ending M (e .state)) where
     -- a run with the budget for it ends with nothing enabled
-    comesToRest : (b : ℕ) (υs : List (M .Tag)) (o : Outcome (M .Refusal)) (n : ℕ) (x : StateOf M) → length τs ≤ b → Ran M s b f υs (end M o n x) → NothingEnabled M x × Completed o
+    comesToRest : (b : ℕ) (υs : List (M .Tag)) (o : Outcome (M .Refusal)) (n : ℕ) (x : StateOf M) → length τs ≤ b → Ran M s b f υs (end M o n x) → NothingEnabled M x × (o ≡ ending M x)
     comesToRest b υs o n x l h = go o (h .says)
       where
         none : (a : Activity (M .Tag)) → List·Memᴰ a (enabled M x) → (length υs < length τs) × (z : StateOf M) × (fire M x (a .tag) ≡ fired z)
-        none = noneRefused M law s good τs υs (e .state) x (log .fires) rested (h .logged .fires)
+        none = noneRefused M law s good τs υs (e .state) x (log .fires) rest (h .logged .fires)
 
-        go : (o : Outcome (M .Refusal)) → Says M o b (length υs) x → NothingEnabled M x × Completed o
-        go completed p = (p, tt)
+        go : (o : Outcome (M .Refusal)) → Says M o b (length υs) x → NothingEnabled M x × (o ≡ ending M x)
+        go completed p = rested M completed b (length υs) x tt p
+        go hung p = rested M hung b (length υs) x tt p
         go budgetSpent (p, a, m) = let i = none a m .0 in absurd (omega arith)
         go (refused r q) (k, a, m, p, t) = let (i, z, j) = none a m in neverFired M r z (sym t ∙ j)
 
@@ -127,8 +130,14 @@ module _ (M : Machine) where
         let h = ran c ok b ps f s in
         let g = runBy M c b ps f s in
         let (p, q) = comesToRest b (logOf M c b ps s) (g .outcome) (g .firings) (g .state) l h in
-        let a = sequences M law s good τs (logOf M c b ps s) (e .state) (g .state) (log .fires) rested (h .logged .fires) p in
-        (q, record { firings = omega (arith, log .firings, h .logged .firings, perm-length (a .same)); count = a .alike .count; cells = a .alike .cells; tokens = a .alike .tokens })
+        let a = sequences M law s good τs (logOf M c b ps s) (e .state) (g .state) (log .fires) rest (h .logged .fires) p in
+        record {
+          outcome = said ∙ ending-perm M (e .state) (g .state) (a .alike .tokens) ∙ sym q;
+          firings = omega (arith, log .firings, h .logged .firings, perm-length (a .same));
+          count = a .alike .count;
+          cells = a .alike .cells;
+          tokens = a .alike .tokens;
+        }
 
   pub oneTellsAll : Lawful M → OneTellsAll M
-  oneTellsAll law s good f τs e log rested = everyOrder law s good f τs e log rested
+  oneTellsAll law s good f τs e log rest said = everyOrder law s good f τs e log rest said

@@ -78,7 +78,7 @@ pub data Fired (R T W : Type 0) : Type 0 where
   notFired : R → Fired R T W
 
 pub data Outcome (R : Type 0) : Type 0 where
-  completed budgetSpent : Outcome R
+  completed hung budgetSpent : Outcome R
   refused : R → (place : ℕ) → Outcome R
 
 -- how a run ends, after how many firings, and what it leaves
@@ -124,6 +124,12 @@ abbrev pub isLive : {W : Type 0} → Content W → Bool
 isLive (live v) = true
 isLive (spent v) = false
 isLive (deferred c) = false
+
+-- a token that a completed run may leave, by its tag's arity: a spent one, or a live result
+abbrev pub isProper : {W : Type 0} → (arity : ℕ) → Content W → Bool
+isProper arity (live v) = eqb arity 0
+isProper arity (spent v) = true
+isProper arity (deferred c) = false
 
 -- there is a token, of whatever state
 abbrev pub isThere : {W : Type 0} → Option (Content W) → Bool
@@ -339,12 +345,20 @@ module _ (M : Machine) where
   after f s a (fired x) next = next x
   after f s a (notFired r) next = end (refused r (a .place)) f s
 
-  -- f firings were done before. "Completed: no activity is enabled. Spent: the budget's firings are done and one is still
-  -- enabled. Completed is tried first."
+  abbrev pub allProper : Ledger → Bool
+  allProper [] = true
+  allProper (t ∷ ts) = isProper (M .arity (t .key .tag)) (t .content) && allProper ts
+
+  -- the outcome where nothing is enabled. R-2: "completed only if every live token is at an OUT and none is deferred. Otherwise the
+  -- answer is hung"
+  unfoldable pub ending : StateOf → Outcome (M .Refusal)
+  ending s = cond (allProper (s .tokens)) completed hung
+
+  -- f firings were done before. "Spent: the budget's firings are done and one is still enabled. Completed is tried first", and hung
   unfoldable pub runBy : Choice → (budget : ℕ) → (picks : List ℕ) → (f : ℕ) → StateOf → EndOf
-  runBy choose zero picks f s = onList (enabled s) (end completed f s) (λ a more. end budgetSpent f s)
+  runBy choose zero picks f s = onList (enabled s) (end (ending s) f s) (λ a more. end budgetSpent f s)
   runBy choose (suc budget) picks f s =
-      onList (enabled s) (end completed f s) (λ a more.
+      onList (enabled s) (end (ending s) f s) (λ a more.
       let b = choose s (firstPick picks) a more in
       after f s b (fire s (b .tag)) (λ x. runBy choose budget (laterPicks picks) (suc f) x))
 
@@ -353,5 +367,5 @@ module _ (M : Machine) where
 
 -- a computed proof with the line `unfolding machine` computes with all of this
 unfoldable pub machine : Unit {0}
-unfolding decideBoth sameKeyBy ℕ-discrete enabled admit commit fire runBy
+unfolding decideBoth sameKeyBy ℕ-discrete enabled admit commit fire ending runBy
 machine = tt

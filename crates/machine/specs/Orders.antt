@@ -8,7 +8,7 @@ use mathlib.Core.Bool.{true}
 use Prim.Native.Nat.{ℕ, zero, suc, _+_, _≤_, _<_}
 use lib.ListN.{length, replicate}
 use Rattle.machine.specs.Machine.{Key, Content, live, spent, deferred, absent, waiting, Effect, refuse, send, read, write, Machine, Activity, fired, notFired}
-use Rattle.machine.specs.Machine.{Outcome, completed, budgetSpent, refused, End, onOption, cellAt, Ledger, StateOf, EndOf, Choice}
+use Rattle.machine.specs.Machine.{Outcome, completed, hung, budgetSpent, refused, End, onOption, cellAt, Ledger, StateOf, EndOf, Choice}
 use Rattle.machine.specs.Machine.{at, find, look, allLive, operands, placeOf, enabled, fire, runBy}
 
 -- ---- what is assumed of a machine and of the state from which it runs
@@ -84,30 +84,49 @@ module _ (M : Machine) where
 
 abbrev pub Completed : {R : Type 0} → Outcome R → Type 0
 Completed completed = Unit {0}
+Completed hung = ⊥
 Completed budgetSpent = ⊥
 Completed (refused r place) = ⊥
 
+abbrev pub Hung : {R : Type 0} → Outcome R → Type 0
+Hung completed = ⊥
+Hung hung = Unit {0}
+Hung budgetSpent = ⊥
+Hung (refused r place) = ⊥
+
+-- completed or hung: nothing is enabled
+abbrev pub Quiescent : {R : Type 0} → Outcome R → Type 0
+Quiescent completed = Unit {0}
+Quiescent hung = Unit {0}
+Quiescent budgetSpent = ⊥
+Quiescent (refused r place) = ⊥
+
 abbrev pub BudgetSpent : {R : Type 0} → Outcome R → Type 0
 BudgetSpent completed = ⊥
+BudgetSpent hung = ⊥
 BudgetSpent budgetSpent = Unit {0}
 BudgetSpent (refused r place) = ⊥
 
 abbrev pub Refused : {R : Type 0} → Outcome R → Type 0
 Refused completed = ⊥
+Refused hung = ⊥
 Refused budgetSpent = ⊥
 Refused (refused r place) = Unit {0}
 
--- as many firings, as many tokens, the same cells, and the same tokens in whatever order they came
+-- completed or hung alike, as many firings, as many tokens, the same cells, and the same tokens in whatever order they came
 pub record Alike {R T W : Type 0} (x y : End R T W) : Type 0 where
+  pub outcome : x .outcome ≡ y .outcome
   pub firings : x .firings ≡ y .firings
   pub count : length (x .state .tokens) ≡ length (y .state .tokens)
   pub cells : x .state .cells ≡ y .state .cells
   pub tokens : List·Permᴰ (x .state .tokens) (y .state .tokens)
 
--- one completes exactly when the other does, and then they are alike
+-- one completes exactly when the other does, one hangs exactly when the other does, and then they are alike. R-2: "completed or
+-- hung alike in all, with everything else equal"
 pub record Same {R T W : Type 0} (x y : End R T W) : Type 0 where
   pub completes : Completed (x .outcome) ↔ Completed (y .outcome)
-  pub alike : Completed (x .outcome) → Alike x y
+  pub hangs : Hung (x .outcome) ↔ Hung (y .outcome)
+  pub alike : Quiescent (x .outcome) → Alike x y
 
 module _ (M : Machine) where
   -- from any well-formed state, for any two lawful choices, any two lists of picks, any budget; f firings were done before
@@ -166,10 +185,21 @@ module _ (M : Machine) where
 
   -- ---- how a run ends
 
-  -- by its outcome: "Completed: no activity is enabled. Spent: the budget's firings are done and one is still enabled." Refused: an
-  -- enabled activity is refused in the state that is left, and the place is its place
+  -- "every live token is at an OUT and none is deferred"
+  abbrev pub Proper : (arity : ℕ) → Content (M .Value) → Type 0
+  Proper arity (live v) = arity ≡ 0
+  Proper arity (spent v) = Unit {0}
+  Proper arity (deferred c) = ⊥
+
+  abbrev pub AllProper : Ledger M → Type 0
+  AllProper [] = Unit {0}
+  AllProper (t ∷ ts) = Proper (M .arity (t .key .tag)) (t .content) × AllProper ts
+
+  -- by its outcome: completed or hung, no activity is enabled, and all tokens are proper or not all are. "Spent: the budget's firings
+  -- are done and one is still enabled." Refused: an enabled activity is refused in the state that is left, and the place is its place
   abbrev pub Says : Outcome (M .Refusal) → (budget n : ℕ) → StateOf M → Type 0
-  Says completed budget n x = enabled M x ≡ []
+  Says completed budget n x = (enabled M x ≡ []) × AllProper (x .tokens)
+  Says hung budget n x = (enabled M x ≡ []) × ¬ (AllProper (x .tokens))
   Says budgetSpent budget n x = (n ≡ budget) × (a : Activity (M .Tag)) × List·Memᴰ a (enabled M x)
   Says (refused r place) budget n x = (n < budget) × (a : Activity (M .Tag)) × List·Memᴰ a (enabled M x) × (a .place ≡ place) × (fire M x (a .tag) ≡ notFired r)
 

@@ -7,8 +7,8 @@ use Prim.Native.Nat.{ℕ, zero, suc, _+_, _≤_, _<_}
 use lib.Dec.{eqb}
 use lib.ListN.{length}
 use Rattle.machine.specs.Machine.{Content, live, spent, deferred, Token, State, Machine, Activity, Fired, fired, notFired, onList, firstPick, laterPicks}
-use Rattle.machine.specs.Machine.{Ledger, StateOf, EndOf, enabled, fire, Choice, runBy}
-use Rattle.machine.specs.Orders.{Good, LawfulChoice, Completed, Alike, Says}
+use Rattle.machine.specs.Machine.{Ledger, StateOf, EndOf, enabled, fire, Choice, ending, runBy}
+use Rattle.machine.specs.Orders.{Good, LawfulChoice, Alike, Says}
 
 -- each once: nothing stands in the list twice
 abbrev pub Once : {A : Type 0} → List A → Type 0
@@ -112,9 +112,9 @@ module _ (M : Machine) where
   -- e is how every run ends that has the budget for it, with whatever choice and picks
   abbrev pub EveryOrder : StateOf M → (f enough : ℕ) → EndOf M → Type 0
   EveryOrder s f enough e = (c : Choice M) → LawfulChoice M c → (budget : ℕ) → enough ≤ budget → (picks : List ℕ)
-      → Completed (runBy M c budget picks f s .outcome) × Alike e (runBy M c budget picks f s)
+      → Alike e (runBy M c budget picks f s)
 
-  -- so one sequence to an end, of whatever kind, tells how every order ends
+  -- so one sequence to an end, of whatever kind, tells how every order ends: completed or hung, as its state says
   abbrev pub OneTellsAll : Type 0
   OneTellsAll = (s : StateOf M) → Good M s → (f : ℕ) (τs : List (M .Tag)) (e : EndOf M) → Logged s f τs e → NothingEnabled (e .state)
-      → EveryOrder s f (length τs) e
+      → e .outcome ≡ ending M (e .state) → EveryOrder s f (length τs) e

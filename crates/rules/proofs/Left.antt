@@ -86,6 +86,7 @@ refused-firing graph inputs picks budget ledger cells passed r place refusing =
   where
     is-refused : (o : Machine.Outcome Refusal) (q : Refusal) (p : ℕ) → outcomeOf o ≡ Outcomes.Refused q p → o ≡ refused q p
     is-refused Machine.completed q p h = let z : _≡_ {A = ℕ} 0 1 = cc in absurd (omega arith)
+    is-refused Machine.hung q p h = let z : _≡_ {A = ℕ} 0 1 = cc in absurd (omega arith)
     is-refused Machine.budgetSpent q p h = let z : _≡_ {A = ℕ} 0 1 = cc in absurd (omega arith)
     is-refused (refused t n) q p h = cc
 

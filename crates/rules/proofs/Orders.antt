@@ -85,6 +85,7 @@ module _ (graph inputs : List ℕ) (capacity cells : ℕ) (few : capacity ≤ 20
       let same = orders M lawful s first 2048 picks picks′ in
       record {
         completes = same .completes;
+        hangs = same .hangs;
         alike = λ c.
             let z = same .alike c in
             record {
@@ -110,7 +111,7 @@ module _ (graph inputs picks picks′ : List ℕ) (ledger cells : ℕ) (a : Allo
   unfolding result unlessFailed check
   unfolded (Failed r p) e =
       let e′ = sym same-check ∙ e in
-      rw (e, e′) (record { completes = (λ h. h, λ h. h); alike = λ h. absurd h; refused = (λ h. h, λ h. h); neverSpent = λ h. h })
+      rw (e, e′) (record { completes = (λ h. h, λ h. h); hangs = (λ h. h, λ h. h); alike = λ h. absurd h; refused = (λ h. h, λ h. h); neverSpent = λ h. h })
   unfolded Passed e =
       let e′ = sym same-check ∙ e in
       let few = whole-bytes tokenWidth mostTokens ledger (a .allowedLedger) .1 in
@@ -128,7 +129,7 @@ allowed-orders graph inputs picks picks′ ledger ledger′ cells cells′ a b c
 
 -- two runs that are refused before any firing
 both-refused : {x y : Result} (q r : Refusal) (m n : ℕ) → x ≡ refusedAtOnce q m → y ≡ refusedAtOnce r n → Agree x y
-both-refused q r m n e f = rw (e, f) (record { completes = (λ h. h, λ h. h); alike = λ h. absurd h; refused = (λ h. h, λ h. h); neverSpent = λ h. h })
+both-refused q r m n e f = rw (e, f) (record { completes = (λ h. h, λ h. h); hangs = (λ h. h, λ h. h); alike = λ h. absurd h; refused = (λ h. h, λ h. h); neverSpent = λ h. h })
 
 -- a graph that fails its check is refused whatever else is lent, and so are inputs that are not whole records
 graph-refused : (graph inputs picks : List ℕ) (ledger cells : ℕ) (r : Refusal) (p : ℕ) → checkGraph graph ≡ Failed r p → result graph inputs picks 2048 ledger cells ≡ refusedAtOnce r p

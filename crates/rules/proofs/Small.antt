@@ -18,7 +18,7 @@ use Rattle.record.specs.GraphRecords as Graph
 use Rattle.record.specs.TokensAndTags.{mostTokens, capacityOf}
 use Rattle.record.specs.TokensAndTags as Tokens
 use Rattle.record.specs.Widths.{tokenWidth, cellWidth, graphWidth, pickWidth}
-use Rattle.machine.specs.Machine.{Machine, State, completed, budgetSpent, refused, Ledger, run}
+use Rattle.machine.specs.Machine.{Machine, State, completed, hung, budgetSpent, refused, Ledger, run}
 use Rattle.machine.specs.Machine as Machine
 use Rattle.machine.proofs.Bounds.{PlaceWithin, picks-bounded, picks-firings}
 use Rattle.rules.specs.declared.answer.Refusal.{Refusal}
@@ -108,6 +108,7 @@ module _ (graph inputs : List ℕ) (capacity cells : ℕ) (few : capacity ≤ mo
 
   place-small : (o : Machine.Outcome Refusal) (ts : Ledger M) → PlaceWithin M o ts → length ts ≤ capacity → placeIn (outcomeOf o) < mostTokens
   place-small completed ts h room = omega arith
+  place-small hung ts h room = omega arith
   place-small budgetSpent ts h room = omega arith
   place-small (refused r p) ts h room = omega arith
 

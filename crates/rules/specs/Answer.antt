@@ -3,7 +3,7 @@ use Prim.Native.Nat.{ℕ}
 use Rattle.rules.specs.declared.answer.Refusal.{Refusal}
 use Rattle.rules.specs.declared.answer.Refusal.the-variants.{GraphLength, UnknownOperation, FanOut, BadArc, BadSite, BadInput, BadStore, LedgerFull, SecondToken, NoSuchCell, SecondWrite, OutOfRange, Iteration, TooDeep, NoCaller, UnknownSite, NoReturn}
 use Rattle.rules.specs.declared.answer.Outcome.{Outcome}
-use Rattle.rules.specs.declared.answer.Outcome.the-variants.{Completed, Spent, Refused}
+use Rattle.rules.specs.declared.answer.Outcome.the-variants.{Completed, Hung, Spent, Refused}
 use Rattle.rules.specs.declared.answer.Answer.{Answer}
 use Rattle.rules.specs.declared.answer.Checked.{Checked}
 use Rattle.rules.specs.declared.answer.Checked.the-variants.{Passed, Failed}
@@ -28,15 +28,17 @@ numberOf NoCaller = 15
 numberOf UnknownSite = 16
 numberOf NoReturn = 17
 
--- "An answer is completed, spent or refused with its number": one number for the three, 0 for completed and 100 for spent
+-- "An answer is completed, spent or refused with its number", or hung: one number for the four, 0 for completed, 100 for spent and 101 for hung
 abbrev pub wordOf : Outcome → ℕ
 wordOf Completed = 0
+wordOf Hung = 101
 wordOf Spent = 100
 wordOf (Refused r place) = numberOf r
 
 -- "The place is 0 unless refused."
 abbrev pub placeIn : Outcome → ℕ
 placeIn Completed = 0
+placeIn Hung = 0
 placeIn Spent = 0
 placeIn (Refused r place) = place
 

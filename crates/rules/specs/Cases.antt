@@ -51,6 +51,9 @@ completed = 0
 abbrev pub spentWord : ℕ
 spentWord = 100
 
+abbrev pub hung : ℕ
+hung = 101
+
 -- ---- a case
 
 -- a cell that is not absent, with its number
@@ -180,12 +183,16 @@ countedOnce =
     (root 0 0 (spent (pos 7)) ∷ root 0 1 (spent (pos 8)) ∷ root 1 0 (spent (pos 9)) ∷ root 3 0 (live (pos 9)) ∷ root 2 0 (live (pos 15)) ∷ [])
     []
 
--- a read that nobody answers: the output is deferred and the cell waits
+-- R-2: a read that nobody answers hangs: the output is deferred and the cell waits
 abbrev pub nobodyWrites : Case
 nobodyWrites =
-    running (to1 10 (pos 0) 0 1 ++ to0 3 (pos 0)) (input 0 0 (pos 5)) [] 2048 2048 8 (values completed 1 2 0)
+    running (to1 10 (pos 0) 0 1 ++ to0 3 (pos 0)) (input 0 0 (pos 5)) [] 2048 2048 8 (values hung 1 2 0)
     (root 0 0 (spent (pos 5)) ∷ root 1 0 (deferred 5) ∷ [])
     (cell 5 waiting ∷ [])
+
+-- R-2: ADD waits for its other operand, and the budget is not looked at
+abbrev pub oneOperand : Case
+oneOperand = running (binary 16) (input 0 0 (pos 7)) [] 0 2048 8 (values hung 0 1 0) (root 0 0 (live (pos 7)) ∷ []) []
 
 -- 0 is SWITCH to 1 or 2, both OUT
 abbrev pub switched : (control : ℤ) → (instruction : ℕ) → Case
@@ -358,6 +365,7 @@ distinguishing =
     ∷ running (to1 35 (pos 2) 0 1 ++ to0 3 (pos 0)) (input 0 0 (negsuc 6)) [] 2048 2048 8 (values completed 1 2 0) (root 0 0 (spent (negsuc 6)) ∷ root 1 0 (live (negsuc 2)) ∷ []) []
     ∷ refuses 19 (pos 7) (pos 0) 12
     ∷ nobodyWrites
+    ∷ oneOperand
     ∷ twoReads
     ∷ copied
     ∷ fullBeforeSecond

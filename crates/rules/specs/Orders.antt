@@ -11,7 +11,6 @@ use Rattle.record.specs.declared.cell.Cell.{Cell}
 use Rattle.buffer.specs.Rows.{whole, All}
 use Rattle.record.specs.TokensAndTags.{mostTokens, capacityOf}
 use Rattle.record.specs.Widths.{tokenWidth, cellWidth, pickWidth}
-use Rattle.machine.specs.Machine.{End}
 use Rattle.machine.specs.Orders as Ends
 use Rattle.rules.specs.declared.answer.Checked.the-variants.{Passed}
 use Rattle.rules.specs.Check.{checkGraph, mostCells}
@@ -22,6 +21,15 @@ use Rattle.rules.specs.Run.{tokenRecord, cellRecord, Result, refusedAtOn
 abbrev pub Completed : Result → Type 0
 Completed (refusedAtOnce r p) = ⊥
 Completed (ranTo e) = Ends.Completed (e .outcome)
+
+abbrev pub Hung : Result → Type 0
+Hung (refusedAtOnce r p) = ⊥
+Hung (ranTo e) = Ends.Hung (e .outcome)
+
+-- completed or hung: nothing is enabled
+abbrev pub Quiescent : Result → Type 0
+Quiescent (refusedAtOnce r p) = ⊥
+Quiescent (ranTo e) = Ends.Quiescent (e .outcome)
 
 abbrev pub Spent : Result → Type 0
 Spent (refusedAtOnce r p) = ⊥
@@ -47,7 +55,7 @@ EachOnce (t ∷ ts) = All (λ u. t .tag ≡ u .tag → t .port ≡ u .port → �
 
 -- ---- the claim
 
--- of two runs that complete
+-- of two runs that complete or hang
 pub record Alike (x y : Result) : Type 0 where
   -- "the numbers of firings and of tokens are the same"
   pub firings : answer x .firings ≡ answer y .firings
@@ -59,9 +67,10 @@ pub record Alike (x y : Result) : Type 0 where
   pub eachOnce : EachOnce (tokensOf x)
 
 pub record Agree (x y : Result) : Type 0 where
-  -- "one run completes exactly when the other does"
+  -- "one run completes exactly when the other does"; R-2: "completed or hung alike in all, with everything else equal"
   pub completes : Completed x ↔ Completed y
-  pub alike : Completed x → Alike x y
+  pub hangs : Hung x ↔ Hung y
+  pub alike : Quiescent x → Alike x y
   -- "If one order is refused, every order is"
   pub refused : Refused x ↔ Refused y
   -- a budget of 2,048 is never spent

@@ -17,7 +17,7 @@ use Rattle.record.specs.TokensAndTags.{capacityOf, ledgerOf}
 use Rattle.record.specs.TokensAndTags as Tokens
 use Rattle.record.specs.Cells as Cells
 use Rattle.record.specs.Widths.{tokenWidth, cellWidth, pickWidth}
-use Rattle.machine.specs.Machine.{Content, live, spent, deferred, Token, Cell, absent, waiting, present, State, Outcome, completed, budgetSpent, refused, End, run}
+use Rattle.machine.specs.Machine.{Content, live, spent, deferred, Token, Cell, absent, waiting, present, State, Outcome, completed, hung, budgetSpent, refused, End, run}
 use Rattle.rules.specs.declared.answer.Refusal.{Refusal}
 use Rattle.rules.specs.declared.answer.Outcome as AnswerOutcome
 use Rattle.rules.specs.declared.answer.Outcome.the-variants as Outcomes
@@ -80,6 +80,7 @@ result graph inputs picks budget ledger cells =
 
 abbrev pub outcomeOf : Outcome Refusal → AnswerOutcome.Outcome
 outcomeOf completed = Outcomes.Completed
+outcomeOf hung = Outcomes.Hung
 outcomeOf budgetSpent = Outcomes.Spent
 outcomeOf (refused r place) = Outcomes.Refused r place
 

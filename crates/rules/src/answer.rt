@@ -26,6 +26,7 @@ pub enum Refusal {
 // A refusal comes with its place.
 pub enum Outcome {
     Completed,
+    Hung,
     Spent,
     Refused(Refusal, usize),
 }
@@ -73,6 +74,7 @@ pub fn word(outcome: Outcome) -> u8
 {
     match outcome {
         Outcome::Completed => 0,
+        Outcome::Hung => 101,
         Outcome::Spent => 100,
         Outcome::Refused(r, _) => number(r),
     }

@@ -11,7 +11,7 @@ use Rattle.record.specs.Cells as Cells
 use Rattle.record.specs.Cells.{cellBytes, cellOf}
 use Rattle.rules.specs.declared.answer.Refusal.the-variants.{LedgerFull, NoReturn}
 use Rattle.rules.specs.declared.answer.Outcome.{Outcome}
-use Rattle.rules.specs.declared.answer.Outcome.the-variants.{Completed, Spent, Refused}
+use Rattle.rules.specs.declared.answer.Outcome.the-variants.{Completed, Hung, Spent, Refused}
 use Rattle.rules.specs.declared.answer.Answer.{Answer}
 use Rattle.text.specs.declared.Printed.the-variants.{Done, TooSmall}
 use Rattle.text.specs.Words.{bytes}
@@ -43,6 +43,11 @@ answer outcome firings tokens = record { outcome = outcome; firings = firings; t
 pub completed-line : answerLine (answer Completed 0 0) ≡ bytes "completed 0 0 0\n"
 unfolding decimal answerLine
 completed-line = refl
+
+-- R-2: a read of a cell that nobody writes
+pub hung-line : answerLine (answer Hung 1 2) ≡ bytes "hung 1 2 0\n"
+unfolding decimal answerLine
+hung-line = refl
 
 pub spent-line : answerLine (answer Spent 2048 2049) ≡ bytes "spent 2048 2049 0\n"
 unfolding decimal answerLine

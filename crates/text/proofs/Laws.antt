@@ -11,7 +11,7 @@ use Rattle.rules.specs.Answer.{Values, numberOf, wordOf, valuesOf}
 use Rattle.rules.specs.declared.answer.Refusal.{Refusal}
 use Rattle.rules.specs.declared.answer.Refusal.the-variants.{GraphLength, UnknownOperation, FanOut, BadArc, BadSite, BadInput, BadStore, LedgerFull, SecondToken, NoSuchCell, SecondWrite, OutOfRange, Iteration, TooDeep, NoCaller, UnknownSite, NoReturn}
 use Rattle.rules.specs.declared.answer.Outcome.{Outcome}
-use Rattle.rules.specs.declared.answer.Outcome.the-variants.{Completed, Spent, Refused}
+use Rattle.rules.specs.declared.answer.Outcome.the-variants.{Completed, Hung, Spent, Refused}
 use Rattle.rules.specs.declared.answer.Answer.{Answer}
 use Rattle.text.specs.Words.{bytes}
 use Rattle.text.specs.Same.{SameText}
@@ -21,9 +21,9 @@ use Rattle.text.proofs.Decimals.{decimal-digit, decimal-more}
 
 -- ---- equal values print equal bytes
 
--- the fields of an outcome by its number, 0 for completed and 100 for spent
+-- the fields of an outcome by its number, 0 for completed, 101 for hung and 100 for spent
 abbrev wordFields : ℕ → List (List ℕ)
-wordFields w = cond (eqb w 0) (bytes "completed" ∷ []) (cond (eqb w 100) (bytes "spent" ∷ []) (bytes "refused" ∷ decimal w ∷ []))
+wordFields w = cond (eqb w 0) (bytes "completed" ∷ []) (cond (eqb w 101) (bytes "hung" ∷ []) (cond (eqb w 100) (bytes "spent" ∷ []) (bytes "refused" ∷ decimal w ∷ [])))
 
 refusal-fields : (r : Refusal) → bytes "refused" ∷ decimal (numberOf r) ∷ [] ≡ wordFields (numberOf r)
 refusal-fields GraphLength = refl
@@ -46,6 +46,7 @@ refusal-fields NoReturn = refl
 
 fields-by-word : (o : Outcome) → outcomeFields o ≡ wordFields (wordOf o)
 fields-by-word Completed = refl
+fields-by-word Hung = refl
 fields-by-word Spent = refl
 fields-by-word (Refused r place) = refusal-fields r
 

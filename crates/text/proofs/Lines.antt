@@ -9,7 +9,7 @@ use lib.Seq.{take-suc-set, take-set-le, drop-set-lt, set-split, take-at, drop-at
 use Rattle.buffer.specs.Rows.{written}
 use Rattle.rules.specs.Answer.{numberOf}
 use Rattle.rules.specs.declared.answer.Outcome.{Outcome}
-use Rattle.rules.specs.declared.answer.Outcome.the-variants.{Completed, Spent, Refused}
+use Rattle.rules.specs.declared.answer.Outcome.the-variants.{Completed, Hung, Spent, Refused}
 use Rattle.text.specs.Words.{bytes}
 use Rattle.text.specs.Text.{digit, decimal, line, outcomeFields}
 use Rattle.text.specs.Lines.{RoomFor, Added, lastDigits, spaced}
@@ -127,5 +127,6 @@ module _ (g : List ℕ) (fs : List (List ℕ)) where
 -- the fields of an outcome stand before those that follow
 pub outcome-first : (o : Outcome) (f : List ℕ) (fs : List (List ℕ)) → spaced (outcomeFields o) ++ line (f ∷ fs) ≡ line (outcomeFields o ++ f ∷ fs)
 outcome-first Completed f fs = refl
+outcome-first Hung f fs = refl
 outcome-first Spent f fs = refl
 outcome-first (Refused r place) f fs = ap (λ (l : List ℕ). bytes "refused" ++ 32 ∷ l) (append-assoc (decimal (numberOf r)) (32 ∷ []) (line (f ∷ fs)))

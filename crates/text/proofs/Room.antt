@@ -86,12 +86,15 @@ number-short NoReturn = omega arith
 -- of an outcome at most, with 20 digits to firings and tokens each and two to a refusal
 abbrev pub mostFirst : Outcome → ℕ
 mostFirst Outcomes.Completed = 54
+mostFirst Outcomes.Hung = 49
 mostFirst Outcomes.Spent = 50
 mostFirst (Outcomes.Refused r place) = 54 + length (decimal place)
 
 by-outcome : (o : Outcome) (f t : ℕ) → f < 2 ^ 64 → t < 2 ^ 64 → length (line (outcomeFields o ++ decimal f ∷ decimal t ∷ decimal (placeIn o) ∷ [])) ≤ mostFirst o
 by-outcome Outcomes.Completed f t hf ht =
     line-within (bytes "completed") (decimal f ∷ decimal t ∷ decimal 0 ∷ []) 9 (20 ∷ 20 ∷ 1 ∷ []) (omega arith) (short f hf, (short t ht, (at-most 0 0 (omega arith), tt)))
+by-outcome Outcomes.Hung f t hf ht =
+    line-within (bytes "hung") (decimal f ∷ decimal t ∷ decimal 0 ∷ []) 4 (20 ∷ 20 ∷ 1 ∷ []) (omega arith) (short f hf, (short t ht, (at-most 0 0 (omega arith), tt)))
 by-outcome Outcomes.Spent f t hf ht =
     line-within (bytes "spent") (decimal f ∷ decimal t ∷ decimal 0 ∷ []) 5 (20 ∷ 20 ∷ 1 ∷ []) (omega arith) (short f hf, (short t ht, (at-most 0 0 (omega arith), tt)))
 by-outcome (Outcomes.Refused r place) f t hf ht =
@@ -104,6 +107,7 @@ first-short a f t = by-outcome (a .outcome) (a .firings) (a .tokens) f t
 
 most-first : (o : Outcome) → placeIn o < 2 ^ 64 → mostFirst o ≤ 74
 most-first Outcomes.Completed h = omega arith
+most-first Outcomes.Hung h = omega arith
 most-first Outcomes.Spent h = omega arith
 most-first (Outcomes.Refused r place) h = omega (arith, short place h)
 

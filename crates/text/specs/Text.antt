@@ -52,10 +52,11 @@ line [] = 10 ∷ []
 line (f ∷ []) = f ++ 10 ∷ []
 line (f ∷ g ∷ fs) = f ++ 32 ∷ line (g ∷ fs)
 
--- ---- "First line: `completed`, `spent` or `refused` and number; firings; tokens; place."
+-- ---- "First line: `completed`, `spent` or `refused` and number; firings; tokens; place." 02, R-2: "the first line prints `hung`"
 
 abbrev pub outcomeFields : Outcome → List (List ℕ)
 outcomeFields Outcomes.Completed = bytes "completed" ∷ []
+outcomeFields Outcomes.Hung = bytes "hung" ∷ []
 outcomeFields Outcomes.Spent = bytes "spent" ∷ []
 outcomeFields (Outcomes.Refused r place) = bytes "refused" ∷ decimal (numberOf r) ∷ []
 

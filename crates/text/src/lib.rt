@@ -66,6 +66,7 @@ fn most_first(answer: Answer) -> usize
     let outcome = answer.outcome;
     match outcome {
         Outcome::Completed => 54,
+        Outcome::Hung => 49,
         Outcome::Spent => 50,
         Outcome::Refused(_, place) => { if place < 10 { 55 } else { ANSWER } }
     }

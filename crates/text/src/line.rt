@@ -177,6 +177,7 @@ fn put_outcome(out: &mut [u8], at: usize, outcome: Outcome) -> usize
 {
     match outcome {
         Outcome::Completed => put_word(out, at, b"completed", b' '),
+        Outcome::Hung => put_word(out, at, b"hung", b' '),
         Outcome::Spent => put_word(out, at, b"spent", b' '),
         Outcome::Refused(r, _) => {
             let word = put_word(out, at, b"refused", b' ');
@@ -191,6 +192,7 @@ fn place_in(outcome: Outcome) -> usize
 {
     match outcome {
         Outcome::Completed => 0,
+        Outcome::Hung => 0,
         Outcome::Spent => 0,
         Outcome::Refused(_, place) => place,
     }

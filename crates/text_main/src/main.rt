@@ -133,6 +133,7 @@ fn main() {
     show_example(68);
     show_example(0);
     show_ends(Outcome::Spent, 512);
+    show_ends(Outcome::Hung, 512);
     show_ends(
         Outcome::Refused(Refusal::NoReturn, 18446744073709551615),
         512,

@@ -1,6 +1,7 @@
 //! The wrong emulators of 01, and the cases that tell each from a right one: the
 //! seven that have to be excluded ("How closely a promise holds") and the five
-//! plausible errors. tests/apart.rs runs each over all cases.
+//! plausible errors; then those of the requests of 02. tests/apart.rs runs each over
+//! all cases.
 
 /// A wrong emulator.
 #[derive(Clone, Copy, Debug, PartialEq, Eq)]
@@ -31,10 +32,18 @@ pub enum Wrong {
     RoundsDown,
     /// Lets a refused firing spend its operands.
     RefusedSpends,
+    /// answers completed where a run hangs.
+    HungAsCompleted,
+    /// takes a deferred token for proper in a completed run.
+    DeferredIsProper,
+    /// takes an operand that waits for proper in a completed run.
+    OperandIsProper,
+    /// asks for the budget before it asks whether anything is enabled.
+    SpentBeforeHung,
 }
 
 /// Each wrong emulator with the cases by which it is known.
-pub const APART: [(Wrong, &[&str]); 13] = [
+pub const APART: [(Wrong, &[&str]); 17] = [
     (
         Wrong::IgnoresPicks,
         &[
@@ -104,6 +113,34 @@ pub const APART: [(Wrong, &[&str]); 13] = [
             "01 * capacity 2",
             "01 * COPY with both destinations alike",
             "01 * two STOREs to one cell",
+        ],
+    ),
+    (
+        Wrong::HungAsCompleted,
+        &[
+            "hung: FETCH of cell 5 to OUT, nobody stores",
+            "hung: ADD with one operand",
+        ],
+    ),
+    (
+        Wrong::DeferredIsProper,
+        &[
+            "hung: FETCH of cell 5 to OUT, nobody stores",
+            "hung: one read is woken and another waits",
+        ],
+    ),
+    (
+        Wrong::OperandIsProper,
+        &[
+            "hung: ADD with one operand",
+            "hung: two operands of ADD under two iterations",
+        ],
+    ),
+    (
+        Wrong::SpentBeforeHung,
+        &[
+            "hung: ADD with one operand, budget 0",
+            "hung: the budget is just used up",
         ],
     ),
 ];

@@ -1,6 +1,6 @@
-//! The cases of document 01 for the engine, as a description that is read by
-//! people: each has a name, what is lent to the run, and the answer that 01
-//! gives. From it are made the input of the program `engine_main` and what the
+//! The cases of documents 01 and 02 for the engine, as a description that is read by
+//! people: each has a name, what is lent to the run, and the answer that they
+//! give. From it are made the input of the program `engine_main` and what the
 //! program has to print. The second emulator makes the latter; the engine has no
 //! part in it.
 //!
@@ -9,9 +9,11 @@
 //! - `refusals`: every refusal that can be reached, with its places;
 //! - `orders`: two faults at once, in 01's order of refusals;
 //! - `limits`: budgets, capacities, cells, picks, and what buffers held before;
-//! - `apart`: which cases tell the wrong emulators of 01 from a right one.
+//! - `hung`: runs with nothing enabled that are not completed (02, R-2);
+//! - `apart`: which cases tell the wrong emulators of 01 and 02 from a right one.
 
 pub mod apart;
+mod hung;
 pub mod lent;
 mod limits;
 mod orders;
@@ -43,6 +45,7 @@ pub fn all() -> Vec<Case> {
     cases.extend(refusals::cases());
     cases.extend(orders::cases());
     cases.extend(limits::cases());
+    cases.extend(hung::cases());
     cases
 }
 

@@ -69,11 +69,6 @@ fn budgets() -> Vec<Case> {
             "completed 0 0 0",
         ),
         case(
-            "budget 0 and one operand of two",
-            sum().input_bytes(20).budget(0),
-            "completed 0 1 0",
-        ),
-        case(
             "budget 0 does not try a firing that would be refused",
             divide().budget(0),
             "spent 0 1 0",
@@ -380,7 +375,7 @@ fn beforehand() -> Vec<Case> {
         case(
             "beforehand: a present cell is absent to a FETCH",
             read().cells_of(&held),
-            "completed 1 2 0",
+            "hung 1 2 0",
         ),
         case(
             "beforehand: a present cell is absent to a STORE",

@@ -11,7 +11,7 @@ fn main() {
     for case in &cases {
         let answer = cases::line_of(&cases::run(&case.lent).answer);
         if answer != case.says {
-            println!("{}: {answer}, and 01 says {}", case.name, case.says);
+            println!("{}: {answer}, due {}", case.name, case.says);
             wrong += 1;
         }
     }

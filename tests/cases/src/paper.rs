@@ -169,7 +169,7 @@ fn numbers() -> Vec<Case> {
         case(
             "01 one operand of two does not fire",
             lend(&[op(ADD, &[(1, 0)]), op(OUT, &[])], &[token(0, 1, 4)]),
-            "completed 0 1 0",
+            "hung 0 1 0",
         ),
     ]
 }
@@ -252,7 +252,7 @@ fn codes() -> Vec<Case> {
         case(
             "code 10 FETCH to two",
             lend(&[op(FETCH, &two), out, out], &[token(0, 0, 1)]),
-            "completed 1 3 0",
+            "hung 1 3 0",
         ),
         case(
             "code 11 STORE to none",
@@ -453,7 +453,7 @@ fn cells() -> Vec<Case> {
         case(
             "cells: a deferred read without a STORE stays deferred",
             lend(&[op(FETCH, &[(1, 0)]), op(SINK, &[])], &[token(0, 0, 1)]),
-            "completed 1 2 0",
+            "hung 1 2 0",
         ),
         case(
             "cells: FETCH reaches only its own cell",
@@ -461,7 +461,7 @@ fn cells() -> Vec<Case> {
                 &[op(FETCH, &[(2, 0)]), op(STORE, &[]), out],
                 &[token(0, 0, 0), token(1, 0, 1), token(1, 1, 9)],
             ),
-            "completed 2 4 0",
+            "hung 2 4 0",
         ),
     ]
 }

@@ -331,7 +331,7 @@ fn bad_store() -> Vec<Case> {
     cases.push(case(
         "7 not: 2048 picks",
         lent().pick_bytes(2048 * 2),
-        "completed 1 3 0",
+        "hung 1 3 0",
     ));
     cases
 }

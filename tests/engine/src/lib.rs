@@ -6,6 +6,8 @@
 pub const COMPLETED: u64 = 0;
 /// The word of a run whose budget is spent.
 pub const SPENT: u64 = 100;
+/// The word of a run that hangs: nothing is enabled, and it is not completed.
+pub const HUNG: u64 = 101;
 /// What `print` answers when the text does not fit.
 pub const TOO_SMALL: u64 = 0;
 /// What `print` answers to a number that is no packed answer.

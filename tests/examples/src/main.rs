@@ -148,12 +148,12 @@ fn engine_run(files: &Files, picks: &[u8]) -> Left {
     }
 }
 
-/// A completed run is the same in every order; a refused one is refused in every
-/// order.
+/// A run that completes or hangs is the same in every order; a refused one is
+/// refused in every order.
 fn agree(first: &Left, other: &Left) -> Result<(), String> {
     let word = |left: &Left| engine::unpacked(left.answer).0;
     match (word(first), word(other)) {
-        (engine::COMPLETED, engine::COMPLETED) => (first == other)
+        (engine::COMPLETED, engine::COMPLETED) | (engine::HUNG, engine::HUNG) => (first == other)
             .then_some(())
             .ok_or("another listing, other cells or counts".to_string()),
         (1..=17, 1..=17) => Ok(()),
@@ -213,6 +213,7 @@ fn second_run(files: &Files) -> Second {
     second::list(used, &mut listing);
     let word = match answer.outcome {
         Outcome::Completed => engine::COMPLETED,
+        Outcome::Hung => engine::HUNG,
         Outcome::Spent => engine::SPENT,
         Outcome::Refused(refusal) => u64::from(refusal.number),
     };

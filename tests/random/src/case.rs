@@ -84,6 +84,7 @@ impl Guarded {
 pub fn packed(answer: &Answer) -> u64 {
     let word = match answer.outcome {
         Outcome::Completed => engine::COMPLETED,
+        Outcome::Hung => engine::HUNG,
         Outcome::Spent => engine::SPENT,
         Outcome::Refused(refusal) => u64::from(refusal.number),
     };
@@ -96,6 +97,7 @@ fn answer_of(number: u64) -> Option<Answer> {
     let (word, firings, tokens, place) = engine::unpacked(number);
     let outcome = match (word, place) {
         (engine::COMPLETED, 0) => Outcome::Completed,
+        (engine::HUNG, 0) => Outcome::Hung,
         (engine::SPENT, 0) => Outcome::Spent,
         (1..=17, _) => Outcome::Refused(Refusal {
             number: word as u8,
@@ -209,7 +211,7 @@ fn compare_printing(left: &Left, prng: &mut Prng) -> Result<(), String> {
     };
     compare_text(packed(&left.answer), &left.listing, &cells, prng)?;
     if prng.one_in(4) {
-        let word = [prng.below(20), prng.below(65_536), 100][prng.below(3)] as u64;
+        let word = [prng.below(24), prng.below(65_536), 98 + prng.below(6)][prng.below(3)] as u64;
         let place = if prng.one_in(2) { 0 } else { prng.word() >> 48 };
         let counts = prng.word() >> 16 & 0xffff_ffff;
         let number = word | counts << 16 | place << 48;

@@ -127,6 +127,7 @@ impl Harness {
                 }
                 Some(first) => {
                     self.agreements += 1;
+                    self.tally.count_pair(&case, first, &left);
                     if let Err(reason) = orders::agree(first, &left) {
                         self.fail(&case, &reason);
                     }

@@ -30,32 +30,36 @@ pub fn pick_lists(case: &Case, prng: &mut Prng) -> Vec<Vec<u8>> {
 }
 
 /// Demand 3 over two runs of one graph and inputs with budget 2,048, and equal
-/// capacity and number of cells.
+/// capacity and number of cells: they complete or hang alike, with everything else
+/// equal (02, R-2), or both are refused.
 pub fn agree(one: &Left, other: &Left) -> Result<(), String> {
     match (&one.answer.outcome, &other.answer.outcome) {
         (Outcome::Refused(_), Outcome::Refused(_)) => Ok(()),
-        (Outcome::Completed, Outcome::Completed) => agree_completed(one, other),
+        (Outcome::Completed, Outcome::Completed) | (Outcome::Hung, Outcome::Hung) => {
+            agree_at_rest(one, other)
+        }
         _ => Err(format!(
             "{} in one order, {} in another",
-            word(one),
-            word(other)
+            line(one),
+            line(other)
         )),
     }
 }
 
-fn agree_completed(one: &Left, other: &Left) -> Result<(), String> {
+fn agree_at_rest(one: &Left, other: &Left) -> Result<(), String> {
+    let differ = |what: &str| Err(format!("two orders end with other {what}"));
     let counts = |answer: &Answer| (answer.firings, answer.tokens);
     if counts(&one.answer) != counts(&other.answer) {
-        return Err("two orders complete with other counts".to_string());
+        return differ("counts");
     }
     if one.cells != other.cells {
-        return Err("two orders complete with other cells".to_string());
+        return differ("cells");
     }
     if sorted_records(one) != sorted_records(other) {
-        return Err("two orders complete with other tokens".to_string());
+        return differ("tokens");
     }
     if one.listing != other.listing {
-        return Err("two orders complete with other listings".to_string());
+        return differ("listings");
     }
     Ok(())
 }
@@ -68,10 +72,8 @@ fn sorted_records(left: &Left) -> Vec<&[u8]> {
     records
 }
 
-fn word(left: &Left) -> String {
-    match left.answer.outcome {
-        Outcome::Completed => "completed".to_string(),
-        Outcome::Spent => "spent".to_string(),
-        Outcome::Refused(refusal) => format!("refused {}", refusal.number),
-    }
+/// The first line that is printed of a run.
+fn line(left: &Left) -> String {
+    let text = second::print(&left.answer, &[], &[]);
+    String::from_utf8_lossy(&text).trim_end().to_string()
 }

@@ -1,5 +1,6 @@
 //! How often each answer, refusal and operation came up.
 
+use layout::OUT;
 use second::Outcome;
 
 use crate::case::{Case, Left};
@@ -54,13 +55,23 @@ const WORDS: [&str; 17] = [
     "no return",
 ];
 
+/// Token states in a record (01, "Tokens and tags").
+const LIVE: u8 = 0;
+const SPENT: u8 = 1;
+const DEFERRED: u8 = 2;
+
 pub struct Tally {
     completed: u64,
+    hung: u64,
     spent: u64,
     refused: u64,
     refusals: [u64; 18],
     refused_inputs: [u64; 18],
     fired: [u64; 256],
+    /// Pairs of orders that hang with ledgers that differ: with an operand that waits
+    /// for its partner, and with a deferred token.
+    hung_waiting: u64,
+    hung_deferred: u64,
     /// Tokens that came to an OUT; it never fires.
     results: u64,
     deferred: u64,
@@ -72,11 +83,14 @@ impl Tally {
     pub fn new() -> Tally {
         Tally {
             completed: 0,
+            hung: 0,
             spent: 0,
             refused: 0,
             refusals: [0; 18],
             refused_inputs: [0; 18],
             fired: [0; 256],
+            hung_waiting: 0,
+            hung_deferred: 0,
             results: 0,
             deferred: 0,
             deepest: 0,
@@ -87,6 +101,7 @@ impl Tally {
     pub fn count(&mut self, case: &Case, left: &Left) {
         match left.answer.outcome {
             Outcome::Completed => self.completed += 1,
+            Outcome::Hung => self.hung += 1,
             Outcome::Spent => self.spent += 1,
             Outcome::Refused(refusal) => {
                 self.refused += 1;
@@ -102,16 +117,28 @@ impl Tally {
         }
     }
 
+    /// Counts two orders of one graph that hang, if their tokens came in another
+    /// order.
+    pub fn count_pair(&mut self, case: &Case, one: &Left, other: &Left) {
+        if one.answer.outcome != Outcome::Hung || one.used() == other.used() {
+            return;
+        }
+        let records = || one.used().chunks_exact(20);
+        let waiting = records().any(|record| record[16] == LIVE && code_at(case, record) != OUT);
+        let deferred = records().any(|record| record[16] == DEFERRED);
+        self.hung_waiting += u64::from(waiting);
+        self.hung_deferred += u64::from(deferred);
+    }
+
     /// A firing spends exactly one token on port 0.
     fn count_token(&mut self, case: &Case, record: &[u8]) {
-        let instruction = usize::from(u16::from_le_bytes([record[10], record[11]]));
-        let code = case.graph[16 * instruction];
+        let code = code_at(case, record);
         match record[16] {
-            1 if record[9] == 0 => self.fired[usize::from(code)] += 1,
-            2 => self.deferred += 1,
+            SPENT if record[9] == 0 => self.fired[usize::from(code)] += 1,
+            DEFERRED => self.deferred += 1,
             _ => {}
         }
-        if code == 3 {
+        if code == OUT {
             self.results += 1;
         }
         let levels = (0..4).filter(|level| record[2 * level + 1] != 0).count() as u64;
@@ -123,8 +150,12 @@ impl Tally {
         let mut lines = Lines { missing: 0 };
         println!("answers:");
         lines.count("completed", self.completed);
+        lines.count("hung", self.hung);
         lines.count("spent", self.spent);
         lines.count("refused", self.refused);
+        println!("pairs of orders that hang:");
+        lines.count("operands waiting", self.hung_waiting);
+        lines.count("tokens deferred", self.hung_deferred);
         println!("refusals:");
         for (word, number) in WORDS.iter().zip(1..) {
             let (name, count) = (format!("{number} {word}"), self.refusals[number]);
@@ -142,7 +173,7 @@ impl Tally {
         println!("operations fired:");
         for (code, name) in NAMES {
             match code {
-                3 => lines.count("3 OUT (tokens received)", self.results),
+                OUT => lines.count("3 OUT (tokens received)", self.results),
                 _ => lines.count(&format!("{code} {name}"), self.fired[usize::from(code)]),
             }
         }
@@ -152,6 +183,12 @@ impl Tally {
         lines.count("most tokens of a run", self.largest as u64);
         lines.missing
     }
+}
+
+/// The operation code of a token's instruction.
+fn code_at(case: &Case, record: &[u8]) -> u8 {
+    let instruction = usize::from(u16::from_le_bytes([record[10], record[11]]));
+    case.graph[16 * instruction]
 }
 
 /// The printed lines, and how many of them are 0.

@@ -47,6 +47,8 @@ pub struct Refusal {
 #[derive(Clone, Copy, Debug, PartialEq, Eq)]
 pub enum Outcome {
     Completed,
+    /// Nothing is enabled, and a token waits for a cell or for its partner (02, R-2).
+    Hung,
     Spent,
     Refused(Refusal),
 }
@@ -64,7 +66,7 @@ impl Answer {
     pub fn place(&self) -> usize {
         match self.outcome {
             Outcome::Refused(refusal) => refusal.place,
-            Outcome::Completed | Outcome::Spent => 0,
+            Outcome::Completed | Outcome::Hung | Outcome::Spent => 0,
         }
     }
 
@@ -72,7 +74,7 @@ impl Answer {
     pub fn refusal(&self) -> Option<u8> {
         match self.outcome {
             Outcome::Refused(refusal) => Some(refusal.number),
-            Outcome::Completed | Outcome::Spent => None,
+            Outcome::Completed | Outcome::Hung | Outcome::Spent => None,
         }
     }
 

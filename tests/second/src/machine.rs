@@ -70,9 +70,10 @@ impl<'a> Machine<'a> {
         let mut firings = 0;
         let outcome = loop {
             let enabled = self.enabled.len();
-            // Completed is tried first, then spent (01, "The answer and the refusals").
+            // Completed and hung are tried first, then spent (01, "The answer and the
+            // refusals"; 02, R-2).
             if enabled == 0 {
-                break Outcome::Completed;
+                break self.rest();
             }
             if firings == budget {
                 break Outcome::Spent;
@@ -89,6 +90,30 @@ impl<'a> Machine<'a> {
             firings,
             tokens: self.tokens.len(),
         }
+    }
+
+    /// How a run with nothing enabled ends: completed only if every live token is a
+    /// result and none is deferred (02, R-2).
+    fn rest(&self) -> Outcome {
+        let proper = |token: &Token| match token.state {
+            State::Live => self.is_result(token),
+            State::Spent => true,
+            State::Deferred => false,
+        };
+        if self.tokens.iter().all(proper) {
+            Outcome::Completed
+        } else {
+            Outcome::Hung
+        }
+    }
+
+    fn instruction_of(&self, token: &Token) -> &'a Instruction {
+        &self.graph.instructions[usize::from(token.instruction)]
+    }
+
+    /// A token at an OUT is a result, under any tag.
+    fn is_result(&self, token: &Token) -> bool {
+        self.instruction_of(token).operation == Operation::Out
     }
 
     /// Writes tokens and cells to the lent buffers; the ledger's bytes past the
@@ -129,7 +154,7 @@ impl<'a> Machine<'a> {
     /// The enabled activity at a place.
     fn activity(&self, place: usize) -> Activity {
         let token = &self.tokens[place];
-        let instruction = self.graph.instructions[usize::from(token.instruction)];
+        let instruction = *self.instruction_of(token);
         let partner = (instruction.operands == 2).then(|| self.matching[&partner_key(token)]);
         let (left, right) = match partner {
             Some(partner) if token.port == 1 => (partner, Some(place)),
@@ -285,11 +310,10 @@ impl<'a> Machine<'a> {
     /// when it needs one, is live too. The place is that of the earliest operand.
     fn enable(&mut self, position: usize) {
         let token = &self.tokens[position];
-        let instruction = &self.graph.instructions[usize::from(token.instruction)];
-        if instruction.operation == Operation::Out {
+        if self.is_result(token) {
             return;
         }
-        if instruction.operands == 1 {
+        if self.instruction_of(token).operands == 1 {
             self.enabled.insert(position);
         } else if let Some(&partner) = self.matching.get(&partner_key(token)) {
             if self.tokens[partner].state == State::Live {

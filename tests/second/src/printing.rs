@@ -20,6 +20,7 @@ fn print_lines(
 ) -> std::io::Result<()> {
     match answer.outcome {
         Outcome::Completed => write!(lines, "completed")?,
+        Outcome::Hung => write!(lines, "hung")?,
         Outcome::Spent => write!(lines, "spent")?,
         Outcome::Refused(refusal) => write!(lines, "refused {}", refusal.number)?,
     }

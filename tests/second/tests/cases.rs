@@ -97,6 +97,17 @@ fn two_stores_to_one_cell() {
     assert_eq!(left.cell(3), [20, 0, 0, 0, 2, 0, 0, 0]);
 }
 
+#[test]
+fn a_run_hangs_while_a_token_waits() {
+    let records = [instruction(FETCH, &[(1, 0)], 0), instruction(OUT, &[], 0)];
+    let left = lend(&records, &[input(0, 0, 5)]).run();
+    let lines = "hung 1 2 0\n0 0 0 0 5 spent\n0 0 1 0 5 deferred\ncell 5 waiting 0\n";
+    assert_eq!(left.text(), lines);
+    let alone = lend(&sum_graph(), &[input(0, 1, 4)]);
+    assert_eq!(alone.answer(), hung(0, 1));
+    assert_eq!(alone.budget(0).answer(), hung(0, 1));
+}
+
 /// The result of a two-operand code, or the refusal's number; the code with the
 /// constant on the right has to agree.
 fn arithmetic(code: u8, left: i32, right: i32) -> Result<i32, u8> {

@@ -212,8 +212,8 @@ fn bad_store() {
     }
     let mut most = lent.clone().picks(&[0; 2048]);
     most.budget = 1;
-    assert_eq!(most.answer(), completed(1, 3));
-    assert_eq!(lent.cells(0).budget(1).answer(), completed(1, 3));
+    assert_eq!(most.answer(), hung(1, 3));
+    assert_eq!(lent.cells(0).budget(1).answer(), hung(1, 3));
 }
 
 #[test]
@@ -303,7 +303,7 @@ fn no_such_cell_and_second_write() {
         );
     }
     let lent = lend(&records, &[input(0, 0, 1023)]);
-    assert_eq!(lent.answer(), completed(1, 2));
+    assert_eq!(lent.answer(), hung(1, 2));
     assert_eq!(
         lent.run().text().lines().last(),
         Some("cell 1023 waiting 0")
@@ -477,10 +477,7 @@ fn a_full_ledger_of_2048_inputs() {
     for number in 0..256 {
         tokens.push(input(number, 1, 0));
     }
-    assert_eq!(
-        lend(&records, &tokens).capacity(256).answer(),
-        completed(0, 256)
-    );
+    assert_eq!(lend(&records, &tokens).capacity(256).answer(), hung(0, 256));
     let mut lent = lend(&records, &tokens);
     lent.inputs.resize(20 * 2048, 0);
     // 2,048 records are allowed; the rest of them are alike, at instruction 0, port 0.

@@ -12,13 +12,17 @@ outcome-of-spec = tie.close (tie.spec
     (λ c κs. search needs)
     (λ c κs. search needs)
     (λ c κs. search needs)
+    (λ c κs. search needs)
     (λ c. search needs)
     (λ c. search needs)
-    (λ c. rw (eq-eqb _ _ (c .before .if1 .taken)) (c .unplaced .ensures))
-    (λ c. rw (ne-eqb _ _ (c .before .before .if1 .left), eq-eqb _ _ (c .before .if2 .taken)) (c .unplaced2 .ensures))
+    (λ c. rw (c .before .match .keys1) (c .unplaced .ensures))
+    (λ c. rw (c .before .match .keys2) (c .unplaced2 .ensures))
+    (λ c. rw (c .before .match .keys3) (c .unplaced3 .ensures))
     (λ c.
     let d = c .before .before .before in
-    rw (ne-eqb _ _ (d .before .before .if1 .left), ne-eqb _ _ (d .before .if2 .left), sym (d .refusal-of .ensures) ∙ c .before .numbered .given .1))
+    let n = d .before .match .rest in
+    rw (ne-eqb _ _ (n .0 .0 .1), ne-eqb _ _ (n .0 .1), ne-eqb _ _ (n .1), sym (d .refusal-of .ensures) ∙ c .before .numbered .given .1))
     (λ c.
     let d = c .before .before in
-    rw (ne-eqb _ _ (d .before .before .if1 .left), ne-eqb _ _ (d .before .if2 .left), sym (d .refusal-of .ensures) ∙ c .enum-told .given .1)))
+    let n = d .before .match .rest in
+    rw (ne-eqb _ _ (n .0 .0 .1), ne-eqb _ _ (n .0 .1), ne-eqb _ _ (n .1), sym (d .refusal-of .ensures) ∙ c .enum-told .given .1)))

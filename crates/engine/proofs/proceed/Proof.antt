@@ -4,7 +4,7 @@ use Prim.Native.Nat.{_-_}
 use native.Mathlib.Omega.{arith}
 use borrow.Author.Needs.{needs}
 use Rattle.record.specs.GraphRecords.{graphOf}
-use Rattle.store.proofs.Laws.{matching-counted}
+use Rattle.store.proofs.Laws.{matching-counted, matching-places, matching-room}
 use Rattle.rules.specs.Run.{picksOf}
 use Rattle.engine.proofs.Looping.{SoFar, begun, advanced, halted, finished}
 use Rattle.engine.proofs.proceed.Statement.{statement}
@@ -34,7 +34,7 @@ proceed-spec =
     (λ c. search needs)
     (λ c. search needs)
     (λ c. halted _ _ _ _ _ _ (c .before .before .before .before .before .before .before .before .before .before .before .before .before .loop .inv) (c .before .before .before .before .before .before .before .before .before .before .before .before .loop-test .taken) _ _ _ _ _ (rw (c .before .turned2 .given .1) at (c .before .before .before .before .before .before .before .take-turn .ensures)))
-    (λ c κs. matching-counted (c .before .before .loop .inv .running .matching))
+    (λ c κs. let m = c .before .before .before .loop .inv .running .matching in (matching-counted m, matching-places m, matching-room m))
     (λ c. search needs)
     (λ c. search needs)
-    (λ c. finished _ _ _ _ _ _ (c .before .before .before .loop .inv) (c .before .before .loop-test .left) (c .before .before .before .before .before .before .before .before .pre .0 .aritiesRight) _ (c .rest .ensures)))
+    (λ c. finished _ _ _ _ _ _ (c .before .before .before .before .loop .inv) (c .before .before .before .loop-test .left) (c .before .before .before .before .before .before .before .before .before .pre .0 .aritiesRight) _ (c .rest .ensures)))

@@ -1,7 +1,8 @@
 -- `engine::take_turn` meets its contract: the activity that the pick takes fires, joined by proofs/Turning. Assumes nothing.
 use mathlib.Core.Path.{refl}
+use native.Mathlib.Omega.{arith}
 use borrow.Author.Needs.{needs}
-use Rattle.store.proofs.Laws.{matching-counted}
+use Rattle.store.proofs.Laws.{matching-counted, matching-room}
 use Rattle.rules.specs.Run.{picksOf}
 use Rattle.engine.proofs.Turning.{turn-none, below, place-enabled, turn-done, turn-refused}
 use Rattle.engine.proofs.take_turn.Statement.{statement}
@@ -13,9 +14,12 @@ take-turn-spec =
     tie.close
     (tie.spec
     (λ c κs. matching-counted (c .before .before .before .before .before .pre .1 .matching))
+    (λ c κs. omega (arith, matching-room (c .before .before .before .before .before .before .before .before .pre .1 .matching)))
+    (λ c. search needs)
     (λ c.
-    let s = c .before .before .before .before .before .before .before in
-    turn-none _ (s .args .picks .now) (s .pre .0) (s .pre .1) (s .args .firings) _ (c .before .enabled-count .ensures) (c .if1 .taken))
+    let n = c .before .before .before in
+    let s = n .before .before .before .before .before .before in
+    turn-none _ (s .args .picks .now) (s .pre .0) (s .pre .1) (s .args .firings) _ (n .enabled-count .ensures) (c .before .before .if1 .taken) _ (c .ending .ensures))
     (λ c κs. search needs)
     (λ c. search needs)
     (λ c κs.

@@ -15,8 +15,10 @@ most-first-spec =
     (λ c. search needs)
     (λ c. search needs)
     (λ c. search needs)
+    (λ c. search needs)
     (λ c. (omega (arith, first-short (c .before .before .args .answer) (search needs) (search needs), ap mostFirst (c .enum-told .given .1)), omega arith))
     (λ c. (omega (arith, first-short (c .before .before .args .answer) (search needs) (search needs), ap mostFirst (c .enum-told2 .given .1)), omega arith))
+    (λ c. (omega (arith, first-short (c .before .before .args .answer) (search needs) (search needs), ap mostFirst (c .enum-told3 .given .1)), omega arith))
     (λ c.
     let g = c .before .before .outcome .given in
     let d = ap length (decimal-digit (g .0 .1 .0) (c .if1 .taken)) in

@@ -107,8 +107,11 @@ impl Machine<'_> {
         let mut firings = 0;
         let outcome = loop {
             let enabled = self.enabled();
+            if self.wrong == Some(Wrong::SpentBeforeHung) && firings == budget {
+                break Outcome::Spent;
+            }
             if enabled.is_empty() {
-                break Outcome::Completed;
+                break self.rest();
             }
             if firings == budget {
                 break Outcome::Spent;
@@ -127,6 +130,21 @@ impl Machine<'_> {
             outcome,
             firings,
             tokens: self.tokens.len(),
+        }
+    }
+
+    /// How a run with nothing enabled ends.
+    fn rest(&self) -> Outcome {
+        let improper = |t: &Arrived| match t.state {
+            State::Live => self.code(t) != OUT && self.wrong != Some(Wrong::OperandIsProper),
+            State::Spent => false,
+            State::Deferred => self.wrong != Some(Wrong::DeferredIsProper),
+        };
+        let hung = self.tokens.iter().any(improper);
+        if hung && self.wrong != Some(Wrong::HungAsCompleted) {
+            Outcome::Hung
+        } else {
+            Outcome::Completed
         }
     }
 

@@ -28,6 +28,14 @@ pub fn completed(firings: usize, tokens: usize) -> Answer {
     }
 }
 
+pub fn hung(firings: usize, tokens: usize) -> Answer {
+    Answer {
+        outcome: Outcome::Hung,
+        firings,
+        tokens,
+    }
+}
+
 pub fn spent(firings: usize, tokens: usize) -> Answer {
     Answer {
         outcome: Outcome::Spent,

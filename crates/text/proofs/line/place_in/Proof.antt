@@ -14,4 +14,6 @@ place-in-spec =
     (λ c. search needs)
     (λ c. search needs)
     (λ c. search needs)
+    (λ c. search needs)
+    (λ c. search needs)
     (λ c. sym (ap placeIn (c .before .outcome .given .1))))

@@ -1,0 +1,2 @@
+-- The laws of how a run ends. Assumes nothing.
+pub mod Laws

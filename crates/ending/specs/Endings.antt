@@ -1,0 +1,30 @@
+-- How a run ends that fires no more: the machine's words for it, said of token records and of every graph whose tables these are. Assumes nothing.
+use Prim.Native.Nat.{ℕ}
+use mathlib.Core.Path.{_≡_}
+use mathlib.Core.Bool.{Bool}
+use mathlib.Core.List.{List}
+use Rattle.record.specs.declared.token.Token.{Token}
+use Rattle.record.specs.declared.cell.Cell.{Cell}
+use Rattle.record.specs.declared.instruction.Instruction.{Instruction}
+use Rattle.machine.specs.Machine.{isProper, Choice, ending, runBy}
+use Rattle.rules.specs.declared.answer.Outcome.{Outcome}
+use Rattle.rules.specs.InstructionSet.{machineOf}
+use Rattle.rules.specs.Run.{contentHeld, outcomeOf}
+use Rattle.store_enabled.specs.Enabled.{arityOf}
+use Rattle.abstraction.specs.States.{stateHeld, OnPorts}
+use Rattle.abstraction.specs.Tables.{Arities}
+
+-- a token that a completed run may leave, by the tables of a graph
+abbrev pub properBy : (tables : List ℕ) → Token → Bool
+properBy tables t = isProper (arityOf tables (t .tag)) (contentHeld (t .content))
+
+-- the outcome where nothing is enabled
+abbrev pub EndsAs : Outcome → (tables : List ℕ) → List Token → Type 0
+EndsAs o tables ts = (g : List Instruction) → Arities g tables → (capacity count : ℕ) (cs : List Cell)
+    → o ≡ outcomeOf (ending (machineOf g capacity count) (stateHeld ts cs))
+
+-- the outcome of a run that has no budget left, whatever picks and firings came before
+abbrev pub RestsAs : Outcome → (tables : List ℕ) → List Token → Type 0
+RestsAs o tables ts = (g : List Instruction) → Arities g tables → OnPorts g ts → (capacity count : ℕ) (cs : List Cell)
+    (choose : Choice (machineOf g capacity count)) (picks : List ℕ) (f : ℕ)
+    → o ≡ outcomeOf (runBy (machineOf g capacity count) choose 0 picks f (stateHeld ts cs) .outcome)

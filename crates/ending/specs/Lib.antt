@@ -1,0 +1,2 @@
+-- The definitions of how a run ends. Assumes nothing.
+pub mod Endings
