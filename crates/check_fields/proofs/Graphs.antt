@@ -4,18 +4,18 @@ use native.Mathlib.Omega.{arith}
 use native.Mathlib.Nat.{add-zero}
 use mathlib.Core.Path.{_≡_, refl, ap, _∙_}
 use mathlib.Core.List.{List, [], _∷_}
-use mathlib.Core.Bool.{cond}
+use mathlib.Core.Bool.{_&&_, _||_, cond}
 use lib.Dec.{eqb}
 use lib.ListN.{length, getD, List·getD-eq-default}
 use lib.Seq.{getD-drop}
+use Rattle.record.specs.declared.tag.Tag.{Tag}
 use Rattle.record.specs.declared.instruction.Destination.{Destination}
 use Rattle.record.specs.declared.instruction.Instruction.{Instruction}
 use Rattle.record.specs.GraphRecords.{decode, graphOf, instructionIn, inUse, rowOf, operandsOf}
 use Rattle.buffer.proofs.Tables.{length-rows, getD-rows}
-use Rattle.record.specs.TokensAndTags.{rootOf}
 use Rattle.record.specs.Widths.{graphWidth}
 use Rattle.rules.specs.Check.{instructionAt, operandsAt}
-use Rattle.rules.specs.InstructionSet.{arityIn}
+use Rattle.rules.specs.InstructionSet.{isResult, arityIn}
 
 pub length-graph : (l : List ℕ) → length (graphOf l) ≡ length l / graphWidth
 length-graph l = length-rows graphWidth decode (length l / graphWidth) l
@@ -61,14 +61,17 @@ pub one-up : (n : ℕ) → (n ≡ 0 → ⊥) → 1 ≤ n
 one-up n h = omega arith
 
 -- what an activity waits for, by its instruction's code
-module _ (l : List ℕ) (i : ℕ) where
-  pub arity-in : i < length l / graphWidth → arityIn (graphOf l) (rootOf i) ≡ cond (eqb (getD l (i * graphWidth) 0) 3) 0 (operandsOf (getD l (i * graphWidth) 0))
-  unfolding arityIn
-  arity-in h = ap (λ (c : ℕ). cond (eqb c 3) 0 (operandsOf c)) (code-at l i h)
+abbrev pub arityBy : (code : ℕ) → Tag → ℕ
+arityBy c τ = cond (eqb c 3 || eqb c 9 && eqb (τ .path) 0) 0 (operandsOf c)
 
-  pub arity-past : length l / graphWidth ≤ i → arityIn (graphOf l) (rootOf i) ≡ 0
-  unfolding arityIn rowOf
-  arity-past h = ap (λ (c : ℕ). cond (eqb c 3) 0 (operandsOf c)) (code-past l i h)
+module _ (l : List ℕ) (τ : Tag) where
+  pub arity-in : τ .instruction < length l / graphWidth → arityIn (graphOf l) τ ≡ arityBy (getD l (τ .instruction * graphWidth) 0) τ
+  unfolding arityIn isResult
+  arity-in h = ap (λ (c : ℕ). arityBy c τ) (code-at l (τ .instruction) h)
+
+  pub arity-past : length l / graphWidth ≤ τ .instruction → arityIn (graphOf l) τ ≡ 0
+  unfolding arityIn isResult rowOf
+  arity-past h = ap (λ (c : ℕ). arityBy c τ) (code-past l (τ .instruction) h)
 
 -- an instruction past any graph has no operands
 pub past : (g : List Instruction) (i : ℕ) → length g ≤ i → operandsAt g i ≡ 0

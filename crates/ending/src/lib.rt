@@ -19,7 +19,7 @@ fn proper(tables: &[u16; 512], t: Token) -> bool
     let tag = t.tag;
     let content = t.content;
     match content {
-        Content::Live(_) => store_enabled::arity(tables, tag.instruction) == 0,
+        Content::Live(_) => store_enabled::arity(tables, tag) == 0,
         Content::Spent(_) => true,
         Content::Deferred(_) => false,
     }

@@ -23,12 +23,12 @@ use Rattle.store_chains.specs.declared.Found.{Found}
 use Rattle.store_chains.specs.declared.Found.the-variants.{At, Nothing}
 use Rattle.store_chains.specs.Search.{firstFrom}
 use Rattle.store_chains.proofs.Index.{and-left}
-use Rattle.store_enabled.specs.Enabled.{isLive, isEnabled, placeOf, leads}
+use Rattle.store_enabled.specs.Enabled.{isLive, arityOf, isEnabled, placeOf, leads}
 use Rattle.store_enabled.specs.Store.{lower, Operands}
 use Rattle.store_enabled.proofs.Places.{first-place, lower-first, lower-second}
 use Rattle.store_enabled.proofs.Store.{all-at}
 use Rattle.rules.specs.Check.{instructionAt, operandsAt}
-use Rattle.rules.specs.InstructionSet.{arityIn}
+use Rattle.rules.specs.InstructionSet.{isResult, arityIn}
 use Rattle.abstraction.specs.States.{noToken, OnPorts}
 use Rattle.abstraction.proofs.Keys.{search-at, stands-tag, stands-port}
 use Rattle.fire_operands.specs.Operands.{Earliest}
@@ -37,7 +37,7 @@ use Rattle.fire.specs.Running.{Arrived, Running, Prepared}
 
 on-port : (g : List Instruction) (t : Token) → t .port < operandsAt g (t .tag .instruction) → 0 < arityIn g (t .tag) → t .port < arityIn g (t .tag)
 unfolding arityIn operandsAt
-on-port g t h k = go (eqb (instructionAt g (t .tag .instruction) .code) 3) k
+on-port g t h k = go (isResult (instructionAt g (t .tag .instruction)) (t .tag)) k
   where
     go : (b : Bool) → 0 < cond b 0 (operandsOf (instructionAt g (t .tag .instruction) .code)) → t .port < cond b 0 (operandsOf (instructionAt g (t .tag .instruction) .code))
     go true l = absurd (omega arith)
@@ -50,7 +50,7 @@ on-ports g (t ∷ ts) a = (on-port g t (a .0), on-ports g ts (a .1))
 module _ {graph tables links flags ledger cells : List ℕ} {used : ℕ} (ready : Prepared graph tables)
     (now : Running (graphOf graph) tables links flags ledger cells used) (place : ℕ) (within : place < used)
     (first : leads tables (tokens used ledger) place (tokenAt ledger place) ≡ true) where
-  pub earliest-here : (t : Token) (a : ℕ) → t ≡ tokenAt ledger place → a ≡ getD tables (t .tag .instruction + 256) 0 → Earliest a (tokens used ledger) (t .tag) place
+  pub earliest-here : (t : Token) (a : ℕ) → t ≡ tokenAt ledger place → a ≡ arityOf tables (t .tag) → Earliest a (tokens used ledger) (t .tag) place
   earliest-here t a e f =
       let ts = tokens used ledger in
       let there : getD ts place noToken ≡ t = getD-rows tokenWidth decode used place ledger noToken within ∙ sym e in

@@ -39,6 +39,7 @@ use Rattle.fire_effect.specs.Effects.{keyHeld, keysHeld, keysOf, actionHeld, Ar
 use Rattle.fire_effect.proofs.Arrives.{arrives-port, arrives-inside}
 use Rattle.fire_effect.proofs.Does.{records}
 use Rattle.abstraction.proofs.Arities.{arity-small}
+use Rattle.store_enabled.specs.Enabled.{arityOf}
 use Rattle.abstraction.specs.States.{noToken, stateHeld}
 use Rattle.fire_operands.specs.declared.Admitted.{Admitted}
 use Rattle.fire_operands.specs.declared.Admitted.the-variants.{Yes, No}
@@ -282,7 +283,7 @@ module _ (graph : List ℕ) {tables links flags ledger cells : List ℕ} {used :
       omega (arith, arrives-inside (graphOf graph) (record { tag = t .tag; port = t .port }) arrives, records graph)
 
   -- what matching found for it
-  pub matched-here : (t : Record.Token) (a : ℕ) (m : Matched) → t ≡ tokenAt ledger place → a ≡ getD tables (t .tag .instruction + 256) 0 → m ≡ matchedAt a (tokens used ledger) (t .tag)
+  pub matched-here : (t : Record.Token) (a : ℕ) (m : Matched) → t ≡ tokenAt ledger place → a ≡ arityOf tables (t .tag) → m ≡ matchedAt a (tokens used ledger) (t .tag)
       → matchedAt (arityIn (graphOf graph) (tokenAt ledger place .tag)) (tokens used ledger) (tokenAt ledger place .tag) ≡ m
   matched-here t a m e f q =
       sym

@@ -49,7 +49,7 @@ pub fn fire(
     // Matching.
     let t = token::token_at(ledger, place);
     let tag = t.tag;
-    let arity = store_enabled::arity(tables, tag.instruction);
+    let arity = store_enabled::arity(tables, tag);
     let matched = fire_operands::operands_of(links, ledger, used, tag, arity, place);
     let Matched::Both {
         first,

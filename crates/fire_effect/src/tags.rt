@@ -117,7 +117,7 @@ fn returned(graph: &[u8], entry: u16, k: u8, caller: Tag) -> NewTags
     }
 }
 
-// LEAVE. 15: "LEAVE at path 0".
+// LEAVE. At path 0 it never fires.
 fn leave(graph: &[u8], tables: &[u16; 512], tag: Tag, r: Instruction) -> NewTags
     requires { ⌜ length (now graph) / graphWidth ≤ 256 ⌝ }
     requires { ⌜ Returns (graphOf (now graph)) (now tables) ⌝ }
@@ -126,7 +126,7 @@ fn leave(graph: &[u8], tables: &[u16; 512], tag: Tag, r: Instruction) -> NewTags
 {
     let k = byte(r.constant);
     let Left::To { site, tag: caller } = tag.leave() else {
-        return NewTags::Refuse(Refusal::NoCaller);
+        return to_none(tag);
     };
     let entry = tables[site as usize];
     returned(graph, entry, k, caller)

@@ -1,8 +1,8 @@
 -- The two tables of a graph, entry by entry. Assumes nothing.
-use Prim.Native.Nat.{ℕ, zero, suc, _+_, _/_, _≤_, _<_}
+use Prim.Native.Nat.{ℕ, zero, suc, _+_, _*_, _/_, _≤_, _<_}
 use native.Mathlib.Omega.{arith}
 use native.Mathlib.Decide.{decLe}
-use mathlib.Core.Path.{_≡_, refl, sym, _∙_}
+use mathlib.Core.Path.{_≡_, refl, sym, ap, _∙_}
 use mathlib.Core.Bool.{Bool, true, false, cond}
 use mathlib.Core.Option.{some}
 use mathlib.Core.List.{List, [], _∷_}
@@ -10,28 +10,47 @@ use lib.ListN.{length, getD, set, replicate, getD-replicate}
 use lib.Seq.{getD-set-same, getD-set-other}
 use lib.IntN.{pos}
 use lib.Dec.{eqb}
-use borrow.Author.Tests.{eqb-true, eqb-false}
+use borrow.Author.Tests.{eqb-true, eqb-false, ne-eqb}
+use Rattle.record.specs.declared.tag.Tag.{Tag}
 use Rattle.record.specs.declared.instruction.Instruction.{Instruction}
-use Rattle.record.specs.TokensAndTags.{rootOf}
-use Rattle.record.specs.GraphRecords.{graphOf, instructionIn}
+use Rattle.record.specs.GraphRecords.{graphOf, instructionIn, operandsOf}
 use Rattle.record.specs.Widths.{graphWidth}
 use Rattle.rules.specs.declared.answer.Checked.the-variants.{Passed}
 use Rattle.rules.specs.Check.{checkGraph, instructionAt, entersSite}
 use Rattle.rules.specs.InstructionSet.{arityIn, returnOf}
+use Rattle.rules.proofs.PassedGraph.{two-operands}
+use Rattle.store_enabled.specs.Enabled.{waitedFor, arityOf}
 use Rattle.check_fields.specs.Sites.{atSite}
 use Rattle.check_fields.proofs.Sites.{at-site}
-use Rattle.check_fields.proofs.Graphs.{length-graph, at-graph, arity-past}
+use Rattle.check_fields.proofs.Graphs.{length-graph, at-graph, arityBy, arity-in, arity-past}
 use Rattle.checks.proofs.Passed.{GoodRecord, passed-length, passed-at, enter-return}
 use Rattle.abstraction.specs.Tables.{Arities, Returns, entryOf}
 
--- one entry of the second half more
-pub entry-next : (f : ℕ → ℕ) (t : List ℕ) (i v : ℕ) → i + 256 < length t → ((k : ℕ) → k < i → getD t (k + 256) 0 ≡ f k) → v ≡ f i
-    → (k : ℕ) → k < i + 1 → getD (set t (i + 256) v) (k + 256) 0 ≡ f k
-entry-next f t i v h before e k l = go (eqb k i) refl
+-- ---- operand counts
+
+-- an operand count is an entry by itself
+pub count-entry : (c : ℕ) (τ : Tag) → (c ≡ 3 → ⊥) → (c ≡ 9 → ⊥) → waitedFor (operandsOf c) τ ≡ arityBy c τ
+unfolding waitedFor
+count-entry c τ n m = rw (ne-eqb c 3 n, ne-eqb c 9 m, ne-eqb (operandsOf c) 3 (λ e. omega (arith, two-operands c)))
+
+-- the entry v of the instruction at i, by its code
+pub entry-in : (l : List ℕ) (i v : ℕ) → i < length l / graphWidth → ((τ : Tag) → waitedFor v τ ≡ arityBy (getD l (i * graphWidth) 0) τ)
+    → (τ : Tag) → τ .instruction ≡ i → waitedFor v τ ≡ arityIn (graphOf l) τ
+entry-in l i v h by τ e = by τ ∙ sym (arity-in l τ (omega arith) ∙ ap (λ (k : ℕ). arityBy (getD l (k * graphWidth) 0) τ) e)
+
+-- one entry more
+pub entry-next : (g : List Instruction) (t : List ℕ) (i v : ℕ) → i + 256 < length t → ((τ : Tag) → τ .instruction < i → arityOf t τ ≡ arityIn g τ)
+    → ((τ : Tag) → τ .instruction ≡ i → waitedFor v τ ≡ arityIn g τ) → (τ : Tag) → τ .instruction < i + 1 → arityOf (set t (i + 256) v) τ ≡ arityIn g τ
+entry-next g t i v h before here τ l = go (eqb (τ .instruction) i) refl
   where
-    go : (b : Bool) → eqb k i ≡ b → getD (set t (i + 256) v) (k + 256) 0 ≡ f k
-    go true p = rw (eqb-true k i p) (getD-set-same t (i + 256) v 0 h ∙ e)
-    go false p = let n = eqb-false k i p in getD-set-other t (i + 256) (k + 256) v 0 (λ q. n (omega arith)) ∙ before k (omega arith)
+    go : (b : Bool) → eqb (τ .instruction) i ≡ b → arityOf (set t (i + 256) v) τ ≡ arityIn g τ
+    go true p =
+        let e = eqb-true (τ .instruction) i p in
+        let put : getD (set t (i + 256) v) (τ .instruction + 256) 0 ≡ v = rw e (getD-set-same t (i + 256) v 0 h) in
+        ap (λ (n : ℕ). waitedFor n τ) put ∙ here τ e
+    go false p =
+        let n = eqb-false (τ .instruction) i p in
+        rw (getD-set-other t (i + 256) (τ .instruction + 256) v 0 (λ q. n (omega arith))) (before τ (omega arith))
 
 past-end : (l : List ℕ) (k : ℕ) → length l ≤ k → getD l k 0 ≡ 0
 past-end [] k h = refl
@@ -40,13 +59,17 @@ past-end (x ∷ l) (suc k) h = past-end l k (omega arith)
 
 -- an instruction past the table is past the graph too
 pub all-arities : (graph tables : List ℕ) → checkGraph graph ≡ Passed → length tables ≡ 512
-    → ((k : ℕ) → k < 256 → getD tables (k + 256) 0 ≡ arityIn (graphOf graph) (rootOf k)) → Arities (graphOf graph) tables
-unfolding arityIn
-all-arities graph tables passed size right tag = go (decLe (suc (tag .instruction)) 256)
+    → ((τ : Tag) → τ .instruction < 256 → arityOf tables τ ≡ arityIn (graphOf graph) τ) → Arities (graphOf graph) tables
+unfolding waitedFor
+all-arities graph tables passed size right τ = go (decLe (suc (τ .instruction)) 256)
   where
-    go : Dec (suc (tag .instruction) ≤ 256) → getD tables (tag .instruction + 256) 0 ≡ arityIn (graphOf graph) tag
-    go (yes h) = right (tag .instruction) h
-    go (no n) = past-end tables (tag .instruction + 256) (omega arith) ∙ sym (arity-past graph (tag .instruction) (omega (arith, passed-length graph passed .1, passed-length graph passed .2)))
+    go : Dec (suc (τ .instruction) ≤ 256) → arityOf tables τ ≡ arityIn (graphOf graph) τ
+    go (yes h) = right τ h
+    go (no n) =
+        let none = arity-past graph τ (omega (arith, passed-length graph passed .1, passed-length graph passed .2)) in
+        rw (past-end tables (τ .instruction + 256) (omega arith)) (sym none)
+
+-- ---- returns
 
 pub no-returns : Returns [] (replicate 512 0)
 unfolding returnOf

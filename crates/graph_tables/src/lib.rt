@@ -1,5 +1,5 @@
-// Two tables of a graph in one array, by which a run need not look through it: returns by site in the first half, operand
-// counts by instruction in the second.
+// Two tables of a graph in one array, by which a run need not look through it: returns by site in the first half, entries for
+// operand counts by instruction in the second.
 use check_fields::constant;
 use record::instruction;
 use record::instruction::Instruction;
@@ -9,30 +9,31 @@ ghost use Prim.Native.Nat.{_<_};
 ghost use lib.ListN.{length};
 ghost use mathlib.Core.Option.{some};
 ghost use Rattle.record.specs.GraphRecords.{graphOf};
-ghost use Rattle.record.specs.TokensAndTags.{rootOf};
+ghost use Rattle.record.specs.declared.tag.Tag.{Tag};
 ghost use Rattle.rules.specs.InstructionSet.{arityIn};
+ghost use Rattle.store_enabled.specs.Enabled.{waitedFor};
 ghost use Rattle.check_fields.specs.Sites.{atSite};
 ghost use Rattle.rules.specs.declared.answer.Checked.the-variants.{Passed};
 ghost use Rattle.rules.specs.Check.{checkGraph};
 ghost use Rattle.abstraction.specs.Tables.{Arities, Returns, entryOf};
 
-// How many operands an activity of instruction i waits for.
-fn arity_at(graph: &[u8], i: usize) -> u16
-    ensures { λ r. ⌜ r ≡ arityIn (graphOf (now (graph .entry))) (rootOf i) ⌝ }
+// The entry of instruction i, which says for each of its activities how many operands that waits for.
+fn entry_at(graph: &[u8], i: usize) -> u16
+    ensures { λ r. ⌜ ((tag : Tag) → tag .instruction ≡ i → waitedFor r tag ≡ arityIn (graphOf (now (graph .entry))) tag) ⌝ }
 {
     if i < graph.len() / instruction::WIDTH {
         let code = graph[i * instruction::WIDTH];
-        if code == 3 {
-            0
-        } else {
-            operation::operands(code) as u16
+        match code {
+            3 => 0,
+            9 => store_enabled::LEAVE_ENTRY,
+            _ => operation::operands(code) as u16,
         }
     } else {
         0
     }
 }
 
-// The operand counts, behind the returns.
+// The entries for operand counts, behind the returns.
 fn arities(graph: &[u8], out: &mut [u16; 512])
     requires { ⌜ (checkGraph (now graph) ≡ Passed) × (length (now out) ≡ 512) ⌝ }
     ensures { λ _. ⌜ Arities (graphOf (now (graph .entry))) (now (out .exit)) ⌝ }
@@ -40,7 +41,7 @@ fn arities(graph: &[u8], out: &mut [u16; 512])
 {
     let mut i = 0;
     while i < 256 {
-        out[i + 256] = arity_at(graph, i);
+        out[i + 256] = entry_at(graph, i);
         i += 1;
     }
 }

@@ -139,7 +139,7 @@ module _ (g : List Instruction) (few : length g ≤ 256) (capacity cells : ℕ) 
   leave-fits τ p r v h = go (eqb (τ .path) 0)
     where
       go : (b : Bool) → EffectFits (sendLeft g (cond b NoCaller (To (τ .path / 256 % 256) (record { path = τ .path / 65536; iteration = τ .path % 256; instruction = τ .instruction }))) r v)
-      go true = tt
+      go true = (h, tt)
       go false = returned-fits (returnOf (τ .path / 256 % 256) g) (natAbs (r .constant)) _ (omega (arith, p .0), omega arith) v h
 
   cell-fits : (a : ℤ) (f : ℕ → EffectHere) → ((c : ℕ) → c < cells → EffectFits (f c)) → EffectFits (onCell cells a f)

@@ -222,6 +222,28 @@ nestedCalls =
     ∷ [])
     []
 
+-- R-5, a procedure by itself: 0 is COPY to 1, which is LEAVE, at path 0 a result
+abbrev pub procedureAlone : Case
+procedureAlone =
+    running (to1 1 (pos 0) 0 1 ++ to0 9 (pos 200)) (input 0 0 (pos 7)) [] 2048 2048 8 (values completed 1 2 0)
+    (root 0 0 (spent (pos 7)) ∷ root 1 0 (live (pos 7)) ∷ [])
+    []
+
+-- 0 is FETCH to 1, which is LEAVE: a result that is deferred is none yet
+abbrev pub resultDeferred : Case
+resultDeferred =
+    running (to1 10 (pos 0) 0 1 ++ to0 9 (pos 0)) (input 0 0 (pos 5)) [] 2048 2048 8 (values hung 1 2 0)
+    (root 0 0 (spent (pos 5)) ∷ root 1 0 (deferred 5) ∷ [])
+    (cell 5 waiting ∷ [])
+
+-- 0 and 1 are LEAVE, 2 is COPY to 3, which is OUT. One activity is enabled, and every pick takes it
+abbrev pub countedWithout : Case
+countedWithout =
+    running (to0 9 (pos 0) ++ to0 9 (pos 0) ++ to1 1 (pos 0) 0 3 ++ to0 3 (pos 0)) (input 0 0 (pos 7) ++ input 1 0 (pos 8) ++ input 2 0 (pos 9)) (bytes16 1) 2048 2048 8
+    (values completed 1 4 0)
+    (root 0 0 (live (pos 7)) ∷ root 1 0 (live (pos 8)) ∷ root 2 0 (spent (pos 9)) ∷ root 3 0 (live (pos 9)) ∷ [])
+    []
+
 -- 0 enters site 1 at 0: four levels, and the fifth is refused
 abbrev pub callsItself : Case
 callsItself =
@@ -345,10 +367,6 @@ badLent inputs picks capacity cells number place = refusedFirst (to1 1 (pos 0) 0
 abbrev pub lostInput : List ℕ
 lostInput = Tokens.encode (tokenRecord (token 256 0 0 0 (live (pos 7))))
 
--- LEAVE at path 0
-abbrev pub leavesRoot : Case
-leavesRoot = running (to0 9 (pos 0)) (input 0 0 (pos 7)) [] 2048 2048 8 (values 15 0 1 0) (root 0 0 (live (pos 7)) ∷ []) []
-
 -- 0 enters site 1 at 1, which leaves with a constant of 1: the return instruction 2 plus 1 is past the graph
 abbrev pub returnsPast : Case
 returnsPast =
@@ -374,6 +392,9 @@ distinguishing =
     ∷ switched (negsuc 0) 1
     ∷ signalled
     ∷ nestedCalls
+    ∷ procedureAlone
+    ∷ resultDeferred
+    ∷ countedWithout
     ∷ callsItself
     ∷ loop
     ∷ bothRefused [] 12 0
@@ -408,9 +429,8 @@ distinguishing =
     -- 7 before 6 before 8
     ∷ badLent lostInput [] 2049 8 7 0
     ∷ badLent (input 0 0 (pos 7) ++ lostInput) [] 0 8 6 1
-    -- 13, 15, 17
+    -- 13, 17
     ∷ firing (to1 7 (pos 0) 0 1 ++ to0 3 (pos 0)) 8 (record { path = 0; iteration = 255; instruction = 0 }) (pos 7) (pos 0) (refuse Refusals.Iteration)
-    ∷ leavesRoot
     ∷ returnsPast
     ∷ []
 

@@ -9,9 +9,9 @@ use Rattle.record.specs.Cells as Cells
 use Rattle.arithmetic.specs.Arithmetic.{ranged, divided, computeOf}
 use Rattle.machine.specs.Machine.{machine}
 use Rattle.rules.specs.Check.{instructionAt, operandsAt, fanOutAllowed, isZero, unusedAreZero, goodArc, within, entersSite, otherReturn, goodSite, checkRecord, checkGraph, checkStores, goodInput, secondInput, checkInputs, check}
-use Rattle.rules.specs.InstructionSet.{sendComputed, sideOf, sendNext, sendEntered, returnOf, sendReturned, sendLeft, onCell, effectOf, effectIn, arityIn, decideTag}
+use Rattle.rules.specs.InstructionSet.{sendComputed, sideOf, sendNext, sendEntered, returnOf, sendReturned, sendLeft, onCell, effectOf, effectIn, isResult, arityIn, decideTag}
 use Rattle.rules.specs.Run.{firstState, picksOf, unlessFailed, result, answer, ledgerAfter, cellsAfter}
 
 unfoldable pub rules : Unit {0}
-unfolding signedOf bitsOf rowOf usesConstant Graph.decode Graph.encode contentOf isInput sameTag standsAt Tokens.decode Tokens.encode nextOf enterOf leaveOf Cells.cellOf Cells.decode Cells.encode ranged divided computeOf machine instructionAt operandsAt fanOutAllowed isZero unusedAreZero goodArc within entersSite otherReturn goodSite checkRecord checkGraph checkStores goodInput secondInput checkInputs check sendComputed sideOf sendNext sendEntered returnOf sendReturned sendLeft onCell effectOf effectIn arityIn decideTag firstState picksOf unlessFailed result answer ledgerAfter cellsAfter
+unfolding signedOf bitsOf rowOf usesConstant Graph.decode Graph.encode contentOf isInput sameTag standsAt Tokens.decode Tokens.encode nextOf enterOf leaveOf Cells.cellOf Cells.decode Cells.encode ranged divided computeOf machine instructionAt operandsAt fanOutAllowed isZero unusedAreZero goodArc within entersSite otherReturn goodSite checkRecord checkGraph checkStores goodInput secondInput checkInputs check sendComputed sideOf sendNext sendEntered returnOf sendReturned sendLeft onCell effectOf effectIn isResult arityIn decideTag firstState picksOf unlessFailed result answer ledgerAfter cellsAfter
 rules = tt

@@ -1,9 +1,9 @@
 -- 01, "Firing": the operations as an instance of the machine. An effect goes by the tag and the operands alone: it does not look at ledger or cells.
--- Refusals 10 and 12 to 17 are here. Assumes nothing.
-use Prim.Native.Nat.{ℕ, zero, suc, _+_}
+-- Refusals 10, 12 to 14, 16 and 17 are here. Assumes nothing.
+use Prim.Native.Nat.{ℕ, _+_}
 use native.Mathlib.Decide.{ℕ-discrete}
 use mathlib.Core.Path.{_≡_, ap}
-use mathlib.Core.Bool.{Bool, true, false, cond}
+use mathlib.Core.Bool.{Bool, _&&_, _||_, cond}
 use mathlib.Core.Option.{Option, none, some}
 use mathlib.Core.List.{List, [], _∷_, map}
 use lib.ListN.{length}
@@ -74,10 +74,10 @@ unfoldable pub sendReturned : List Instruction → Option ℕ → (constant : �
 sendReturned g none k τ v = refuse Refusals.UnknownSite
 sendReturned g (some i) k τ v = cond (ltb (i + k) (length g)) (send v (record { tag = toOf τ (i + k); port = 0 } ∷ [])) (refuse Refusals.NoReturn)
 
--- 15: "LEAVE at path 0"
+-- at path 0 LEAVE never fires
 unfoldable pub sendLeft : List Instruction → Left → Instruction → ℤ → EffectHere
 sendLeft g (To site τ) r v = sendReturned g (returnOf site g) (natAbs (r .constant)) τ v
-sendLeft g NoCaller r v = refuse Refusals.NoCaller
+sendLeft g NoCaller r v = send v []
 
 -- 10: "cell number outside 0 to count minus 1"
 unfoldable pub onCell : (cells : ℕ) → ℤ → (ℕ → EffectHere) → EffectHere
@@ -108,9 +108,13 @@ effectIn g cells τ a b =
 
 -- ---- the machine of a graph
 
--- "OUT, a result; never fires" (code 3): it waits for no operand
+-- "OUT, a result; never fires" (code 3). R-5: "A token at a LEAVE under path 0 now counts as a result like one at an OUT" (code 9)
+unfoldable pub isResult : Instruction → Tag → Bool
+isResult r τ = eqb (r .code) 3 || eqb (r .code) 9 && eqb (τ .path) 0
+
+-- a result waits for no operand
 unfoldable pub arityIn : List Instruction → Tag → ℕ
-arityIn g τ = let r = instructionAt g (τ .instruction) in cond (eqb (r .code) 3) 0 (operandsOf (r .code))
+arityIn g τ = let r = instructionAt g (τ .instruction) in cond (isResult r τ) 0 (operandsOf (r .code))
 
 -- tags are equal if instruction, iteration and path are; the instruction, which differs most often, is compared first
 unfoldable pub decideTag : Discrete Tag

@@ -28,9 +28,17 @@ liveAt (t ∷ ts) tag port = cond (standsAt tag port t) (isLive (t .content)) (l
 unfoldable pub allLive : (n : ℕ) → List Token → Tag → Bool
 allLive n ts tag = cond (eqb n 1) (liveAt ts tag 0) (cond (eqb n 2) (liveAt ts tag 0 && liveAt ts tag 1) false)
 
--- how many operands the activities of a tag wait for, by the tables of a graph: their second half has an entry for each instruction
+-- how many operands the activity of a tag waits for, by the entry of its instruction: the entry itself, but for that of LEAVE, which waits for one
+-- operand. R-5: "A token at a LEAVE under path 0 now counts as a result": there it waits for none
+abbrev pub leaveEntry : ℕ
+leaveEntry = 3
+
+unfoldable pub waitedFor : (entry : ℕ) → Tag → ℕ
+waitedFor entry tag = cond (eqb entry leaveEntry) (cond (eqb (tag .path) 0) 0 1) entry
+
+-- the entries stand in the second half of a graph's tables
 abbrev pub arityOf : (tables : List ℕ) → Tag → ℕ
-arityOf tables tag = getD tables (tag .instruction + 256) 0
+arityOf tables tag = waitedFor (getD tables (tag .instruction + 256) 0) tag
 
 abbrev pub isEnabled : (tables : List ℕ) → List Token → Tag → Bool
 isEnabled tables ts tag = allLive (arityOf tables tag) ts tag

@@ -8,7 +8,7 @@ ghost use mathlib.Core.Path.{_≡_};
 ghost use mathlib.Core.Bool.{true};
 ghost use mathlib.Core.List.{List, [], _∷_, _++_};
 ghost use Prim.Native.Nat.{ℕ, _+_, _/_, _<_};
-ghost use lib.ListN.{length, getD, set};
+ghost use lib.ListN.{length, set};
 ghost use Rattle.buffer.specs.Rows.{putRow};
 ghost use Rattle.record.specs.TokensAndTags.{encode, tokens, tokenAt, standsAt};
 ghost use Rattle.record.specs.Widths.{tokenWidth};
@@ -16,7 +16,7 @@ ghost use Rattle.store_flags.specs.Flags.{flagsOf, Counted};
 ghost use Rattle.store_chains.specs.Search.{firstFrom, Within, Free};
 ghost use Rattle.store_chains.specs.Deferred.{LowCell, Waiting};
 ghost use Rattle.store_chains.specs.declared.Found.the-variants.{At};
-ghost use Rattle.store_enabled.specs.Enabled.{isLive, allLive, placeOf};
+ghost use Rattle.store_enabled.specs.Enabled.{isLive, allLive, waitedFor, arityOf, placeOf};
 ghost use Rattle.store_enabled.specs.Store.{Known, Stored, raisedIf, placeOr, lower, liveFound, readyOf, readyWith, Operands, statesSpent, tokensSpent};
 
 fn place_or(f: Found, other: usize) -> usize
@@ -96,12 +96,30 @@ fn settle(
     }
 }
 
-// How many operands the activities of an instruction wait for. The counts stand in the second half of a graph's tables.
-pub fn arity(tables: &[u16], instruction: u16) -> u16
-    ensures { λ r. ⌜ r ≡ getD (now (tables .entry)) (instruction + 256) 0 ⌝ }
+// LEAVE's entry in the tables of a graph; any other entry is an operand count.
+pub const LEAVE_ENTRY: u16 = 3;
+
+// How many operands the activity of a tag waits for, by the entry of its instruction. R-5: a token at a LEAVE under path 0 is
+// a result.
+fn waited_for(entry: u16, tag: Tag) -> u16
+    ensures { λ r. ⌜ r ≡ waitedFor entry tag ⌝ }
 {
-    let i = (instruction as usize) + 256;
-    if i < tables.len() { tables[i] } else { 0 }
+    if entry != LEAVE_ENTRY {
+        return entry;
+    }
+    if tag.path == 0 { 0 } else { 1 }
+}
+
+// The same by the tables of a graph, whose second half has the entries.
+pub fn arity(tables: &[u16], tag: Tag) -> u16
+    ensures { λ r. ⌜ r ≡ arityOf (now (tables .entry)) tag ⌝ }
+{
+    let i = (tag.instruction as usize) + 256;
+    if i < tables.len() {
+        waited_for(tables[i], tag)
+    } else {
+        0
+    }
 }
 
 // Adds t after the used records, where none stands on its port of its tag. A flag that was raised stays.
@@ -122,7 +140,7 @@ pub fn append(
     let tag = t.tag;
     token::put_token(ledger, used, t);
     store_chains::enter(links, used, t);
-    let operands = arity(tables, tag.instruction);
+    let operands = arity(tables, tag);
     settle(flags, links, ledger, used + 1, used, tag, t.port, operands);
 }
 
@@ -143,7 +161,7 @@ pub fn change(
 {
     let tag = t.tag;
     token::put_token(ledger, i, t);
-    let operands = arity(tables, tag.instruction);
+    let operands = arity(tables, tag);
     settle(flags, links, ledger, used, i, tag, t.port, operands);
 }
 

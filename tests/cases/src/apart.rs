@@ -40,10 +40,16 @@ pub enum Wrong {
     OperandIsProper,
     /// asks for the budget before it asks whether anything is enabled.
     SpentBeforeHung,
+    /// takes a token at a LEAVE for a result in every path.
+    LeaveIsResult,
+    /// enables a LEAVE under path 0.
+    RootLeaveEnabled,
+    /// takes a token at a LEAVE under path 0 for no result.
+    RootLeaveNotProper,
 }
 
 /// Each wrong emulator with the cases by which it is known.
-pub const APART: [(Wrong, &[&str]); 17] = [
+pub const APART: [(Wrong, &[&str]); 20] = [
     (
         Wrong::IgnoresPicks,
         &[
@@ -141,6 +147,24 @@ pub const APART: [(Wrong, &[&str]); 17] = [
         &[
             "hung: ADD with one operand, budget 0",
             "hung: the budget is just used up",
+        ],
+    ),
+    (
+        Wrong::LeaveIsResult,
+        &["procedure: called, it leaves to its caller"],
+    ),
+    (
+        Wrong::RootLeaveEnabled,
+        &[
+            "procedure: ADD 1 to LEAVE at the root",
+            "procedure: picks count without a LEAVE at the root",
+        ],
+    ),
+    (
+        Wrong::RootLeaveNotProper,
+        &[
+            "procedure: ADD 1 to LEAVE at the root",
+            "procedure: an input at a LEAVE",
         ],
     ),
 ];

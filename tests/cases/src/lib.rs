@@ -10,6 +10,7 @@
 //! - `orders`: two faults at once, in 01's order of refusals;
 //! - `limits`: budgets, capacities, cells, picks, and what buffers held before;
 //! - `hung`: runs with nothing enabled that are not completed (02, R-2);
+//! - `procedures`: a LEAVE under path 0 is a result (02, R-5);
 //! - `apart`: which cases tell the wrong emulators of 01 and 02 from a right one.
 
 pub mod apart;
@@ -18,6 +19,7 @@ pub mod lent;
 mod limits;
 mod orders;
 mod paper;
+mod procedures;
 mod refusals;
 
 use lent::{Lent, Part, TOKEN_RECORD};
@@ -46,6 +48,7 @@ pub fn all() -> Vec<Case> {
     cases.extend(orders::cases());
     cases.extend(limits::cases());
     cases.extend(hung::cases());
+    cases.extend(procedures::cases());
     cases
 }
 

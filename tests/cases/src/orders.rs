@@ -2,12 +2,11 @@
 //! turn for 6; then 8; then 9 by input in turn. In a firing: 10 to 17 in rising
 //! order, then 8, then 9.
 //!
-//! In a firing these pairs can meet: each of 10, 11, 12, 13, 14, 15 and 17 with 8;
+//! In a firing these pairs can meet: each of 10, 11, 12, 13, 14 and 17 with 8;
 //! 10, 11 and 12 with 9; and 8 with 9. No others can: 10 speaks of a cell that is
-//! not there and 11 of one that is present; 11, 12, 13, 14 and the group 15 to 17
+//! not there and 11 of one that is present; 11, 12, 13, 14 and the group 16 to 17
 //! belong to different operations; and where one of 13 to 17 is given, there is no
-//! output whose tag could be taken. 15 comes before 17 also where the constant
-//! alone is past the graph.
+//! output whose tag could be taken.
 
 use crate::lent::*;
 use crate::paper::{turning, two_stores};
@@ -240,12 +239,6 @@ fn firings() -> Vec<Case> {
     };
     let deep =
         |records| lend(&[with(ENTER, 1, &[(0, 0), (0, 0)])], &[token(0, 0, 1)]).capacity(records);
-    let leave = |constant| {
-        lend(
-            &[with(LEAVE, constant, &[]), op(OUT, &[])],
-            &[token(0, 0, 1)],
-        )
-    };
     let past = |records| {
         let graph = [
             with(ENTER, 1, &[(1, 0), (2, 0)]),
@@ -305,12 +298,6 @@ fn firings() -> Vec<Case> {
         ),
         case("order: 14 before 8", deep(5), "refused 14 4 5 4"),
         case("order: 8 at three levels", deep(4), "refused 8 3 4 3"),
-        case("order: 15 before 17", leave(255), "refused 15 0 1 0"),
-        case(
-            "order: 15 before 17 and 8",
-            leave(2).capacity(1),
-            "refused 15 0 1 0",
-        ),
         case("order: 17 before 8", past(2), "refused 17 1 2 1"),
         case(
             "order: 8 before 9 at COPY",

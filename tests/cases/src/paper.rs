@@ -361,9 +361,9 @@ fn calls() -> Vec<Case> {
             "spent 3 4 0",
         ),
         case(
-            "calls: the outer LEAVE returns to iteration 0 of the root, where no caller is",
+            "calls: the outer LEAVE returns to a LEAVE at iteration 0 of the root, a result",
             lend(&nested, &[token(0, 0, 5)]).capacity(8),
-            "refused 15 5 6 5",
+            "completed 5 6 0",
         ),
         case(
             "calls: two arguments and two results of one site",

@@ -541,7 +541,7 @@ fn cell_refusals() -> Vec<Case> {
     cases
 }
 
-/// Refusals 13, 14, 15 and 17.
+/// Refusals 13, 14 and 17.
 fn tag_refusals() -> Vec<Case> {
     let deep = [with(ENTER, 255, &[(0, 0), (1, 0)]), op(LEAVE, &[])];
     let past = |constant| {
@@ -553,8 +553,6 @@ fn tag_refusals() -> Vec<Case> {
         ];
         lend(&graph, &[token(0, 0, 1)])
     };
-    let sinks = [op(SINK, &[]), op(LEAVE, &[])];
-    let outside = lend(&sinks, &[token(0, 0, 1), token(1, 0, 2)]);
     vec![
         case(
             "13 NEXT at iteration 255",
@@ -570,12 +568,6 @@ fn tag_refusals() -> Vec<Case> {
             "14 not: four levels",
             lend(&deep, &[token(0, 0, 1)]).budget(4),
             "spent 4 5 0",
-        ),
-        case("15 LEAVE at path 0", outside.clone(), "refused 15 1 2 1"),
-        case(
-            "15 LEAVE at path 0, first pick 1",
-            outside.picks(&[1]),
-            "refused 15 0 2 1",
         ),
         case(
             "17 return 2 plus 2 of 4 instructions",

@@ -41,6 +41,11 @@ extern "C" {
     ) -> u64;
 }
 
+/// Whether a word is the number of a refusal. Number 15 has left the table.
+pub fn is_refusal(word: u64) -> bool {
+    matches!(word, 1..=14 | 16..=17)
+}
+
 /// The packed answer of a word with its firings, tokens and place.
 pub fn packed(word: u64, firings: usize, tokens: usize, place: usize) -> u64 {
     word + ((firings as u64) << 16) + ((tokens as u64) << 32) + ((place as u64) << 48)

@@ -156,7 +156,7 @@ fn agree(first: &Left, other: &Left) -> Result<(), String> {
         (engine::COMPLETED, engine::COMPLETED) | (engine::HUNG, engine::HUNG) => (first == other)
             .then_some(())
             .ok_or("another listing, other cells or counts".to_string()),
-        (1..=17, 1..=17) => Ok(()),
+        (one, two) if engine::is_refusal(one) && engine::is_refusal(two) => Ok(()),
         (one, two) => Err(format!("answer word {two} instead of {one}")),
     }
 }

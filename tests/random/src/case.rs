@@ -99,7 +99,7 @@ fn answer_of(number: u64) -> Option<Answer> {
         (engine::COMPLETED, 0) => Outcome::Completed,
         (engine::HUNG, 0) => Outcome::Hung,
         (engine::SPENT, 0) => Outcome::Spent,
-        (1..=17, _) => Outcome::Refused(Refusal {
+        (word, _) if engine::is_refusal(word) => Outcome::Refused(Refusal {
             number: word as u8,
             place: place as usize,
         }),

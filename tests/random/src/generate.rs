@@ -105,6 +105,19 @@ impl<'a> Generator<'a> {
         for source in std::mem::take(&mut self.pool) {
             self.end(source);
         }
+        if !self.functions.is_empty() && self.prng.one_in(4) {
+            let number = self.prng.below(self.functions.len());
+            for entry in self.functions[number].entries.clone() {
+                self.run_by_itself(entry);
+            }
+        }
+    }
+
+    /// An argument of a function comes as an input, so that its results come to a
+    /// LEAVE of the root.
+    fn run_by_itself(&mut self, entry: u16) {
+        let argument = self.prng.between(0, 4);
+        self.draft.inputs.push((entry, 0, argument));
     }
 
     /// The sources of the pool from the given number on are those of the current
@@ -176,10 +189,16 @@ impl<'a> Generator<'a> {
         }
     }
 
-    /// Ends a source at OUT or SINK.
+    /// Ends a source at OUT or SINK, or at the root now and then at LEAVE, which is a
+    /// result there.
     fn end(&mut self, source: Source) {
-        let code = if self.prng.one_in(4) { SINK } else { OUT };
-        let end = self.draft.add(code, 0, 0);
+        let root = source.context.call == ROOT.call;
+        let (code, constant) = match self.prng.below(8) {
+            0 | 1 => (SINK, 0),
+            2 if root => (LEAVE, self.prng.between(0, 255)),
+            _ => (OUT, 0),
+        };
+        let end = self.draft.add(code, 0, constant);
         self.connect(source, end, 0);
     }
 
@@ -539,15 +558,23 @@ impl<'a> Generator<'a> {
         let origins = [bottom.origins, result.origins].concat();
         let leave = self.draft.add(LEAVE, 0, 0);
         self.connect(Source { origins, context }, leave, 0);
+        if self.prng.one_in(4) {
+            self.run_by_itself(entry);
+        }
         let source = self.take(base);
-        let depth = if self.prng.one_in(8) {
-            4
-        } else {
-            self.prng.between(0, 3)
-        };
+        let depth = self.depth();
         let argument = self.one(CONST, depth, vec![source]);
         let results = self.call_function(&function, vec![argument]);
         self.pool.extend(results);
+    }
+
+    /// A depth for a recursion, now and then one too deep.
+    fn depth(&mut self) -> i32 {
+        if self.prng.one_in(8) {
+            4
+        } else {
+            self.prng.between(0, 3)
+        }
     }
 
     /// A loop with an index and a sum, both circulating through NEXT.

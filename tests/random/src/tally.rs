@@ -1,6 +1,6 @@
 //! How often each answer, refusal and operation came up.
 
-use layout::OUT;
+use layout::{LEAVE, OUT};
 use second::Outcome;
 
 use crate::case::{Case, Left};
@@ -35,24 +35,23 @@ const NAMES: [(u8, &str); 27] = [
     (39, "EQ constant"),
 ];
 
-const WORDS: [&str; 17] = [
-    "graph length",
-    "unknown operation",
-    "fan-out",
-    "bad arc",
-    "bad site",
-    "bad input",
-    "bad store",
-    "ledger full",
-    "second token",
-    "no such cell",
-    "second write",
-    "out of range",
-    "iteration",
-    "too deep",
-    "no caller",
-    "unknown site",
-    "no return",
+const REFUSALS: [(usize, &str); 16] = [
+    (1, "graph length"),
+    (2, "unknown operation"),
+    (3, "fan-out"),
+    (4, "bad arc"),
+    (5, "bad site"),
+    (6, "bad input"),
+    (7, "bad store"),
+    (8, "ledger full"),
+    (9, "second token"),
+    (10, "no such cell"),
+    (11, "second write"),
+    (12, "out of range"),
+    (13, "iteration"),
+    (14, "too deep"),
+    (16, "unknown site"),
+    (17, "no return"),
 ];
 
 /// Token states in a record (01, "Tokens and tags").
@@ -74,6 +73,10 @@ pub struct Tally {
     hung_deferred: u64,
     /// Tokens that came to an OUT; it never fires.
     results: u64,
+    /// Tokens at a LEAVE under path 0, which does not fire either: those that are
+    /// results, and those still deferred.
+    root_leaves: u64,
+    root_leaves_deferred: u64,
     deferred: u64,
     deepest: u64,
     largest: usize,
@@ -92,6 +95,8 @@ impl Tally {
             hung_waiting: 0,
             hung_deferred: 0,
             results: 0,
+            root_leaves: 0,
+            root_leaves_deferred: 0,
             deferred: 0,
             deepest: 0,
             largest: 0,
@@ -124,7 +129,7 @@ impl Tally {
             return;
         }
         let records = || one.used().chunks_exact(20);
-        let waiting = records().any(|record| record[16] == LIVE && code_at(case, record) != OUT);
+        let waiting = records().any(|record| record[16] == LIVE && !is_result(case, record));
         let deferred = records().any(|record| record[16] == DEFERRED);
         self.hung_waiting += u64::from(waiting);
         self.hung_deferred += u64::from(deferred);
@@ -140,6 +145,9 @@ impl Tally {
         }
         if code == OUT {
             self.results += 1;
+        } else if is_result(case, record) {
+            self.root_leaves += u64::from(record[16] == LIVE);
+            self.root_leaves_deferred += u64::from(record[16] == DEFERRED);
         }
         let levels = (0..4).filter(|level| record[2 * level + 1] != 0).count() as u64;
         self.deepest = self.deepest.max(levels);
@@ -157,7 +165,7 @@ impl Tally {
         lines.count("operands waiting", self.hung_waiting);
         lines.count("tokens deferred", self.hung_deferred);
         println!("refusals:");
-        for (word, number) in WORDS.iter().zip(1..) {
+        for (number, word) in REFUSALS {
             let (name, count) = (format!("{number} {word}"), self.refusals[number]);
             match number {
                 16 => println!("  {name:<28}{count:>10}  (cannot be reached)"),
@@ -178,6 +186,8 @@ impl Tally {
             }
         }
         println!("further:");
+        lines.count("results at a LEAVE", self.root_leaves);
+        lines.count("deferred at such a LEAVE", self.root_leaves_deferred);
         lines.count("tokens left deferred", self.deferred);
         lines.count("most levels of a path", self.deepest);
         lines.count("most tokens of a run", self.largest as u64);
@@ -189,6 +199,16 @@ impl Tally {
 fn code_at(case: &Case, record: &[u8]) -> u8 {
     let instruction = usize::from(u16::from_le_bytes([record[10], record[11]]));
     case.graph[16 * instruction]
+}
+
+/// Whether a token, once it is live, is a result: at an OUT, or at a LEAVE under
+/// path 0.
+fn is_result(case: &Case, record: &[u8]) -> bool {
+    match code_at(case, record) {
+        OUT => true,
+        LEAVE => record[..8] == [0; 8],
+        _ => false,
+    }
 }
 
 /// The printed lines, and how many of them are 0.

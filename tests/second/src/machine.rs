@@ -111,9 +111,14 @@ impl<'a> Machine<'a> {
         &self.graph.instructions[usize::from(token.instruction)]
     }
 
-    /// A token at an OUT is a result, under any tag.
+    /// A token at an OUT is a result, under any tag, and so is one at a LEAVE under
+    /// path 0, where no caller is (02, R-5). Neither is ever enabled.
     fn is_result(&self, token: &Token) -> bool {
-        self.instruction_of(token).operation == Operation::Out
+        match self.instruction_of(token).operation {
+            Operation::Out => true,
+            Operation::Leave => token.path == 0,
+            _ => false,
+        }
     }
 
     /// Writes tokens and cells to the lent buffers; the ledger's bytes past the
@@ -200,11 +205,8 @@ impl<'a> Machine<'a> {
         }
     }
 
-    /// LEAVE: 15 at path 0, 16 for a site without ENTER, 17 past the graph.
+    /// LEAVE in an entered path: 16 for a site without ENTER, 17 past the graph.
     fn leave(&self, activity: &Activity) -> Result<Effect, u8> {
-        if activity.path == 0 {
-            return Err(15);
-        }
         let site = (activity.path >> 8) as u8;
         let back = *self.graph.returns.get(&site).ok_or(16)?;
         let target = i64::from(back) + i64::from(activity.instruction.constant);

@@ -108,6 +108,19 @@ fn a_run_hangs_while_a_token_waits() {
     assert_eq!(alone.budget(0).answer(), hung(0, 1));
 }
 
+#[test]
+fn a_leave_at_the_root_is_a_result() {
+    let records = [
+        instruction(ADD + WITH_CONSTANT, &[(1, 0)], 1),
+        instruction(LEAVE, &[], 255),
+        instruction(FETCH, &[(1, 0)], 0),
+    ];
+    let left = lend(&records, &[input(0, 0, 4)]).run();
+    assert_eq!(left.answer, completed(1, 2));
+    assert_eq!(left.record(1), token(0, 0, 1, 0, 5, 0));
+    assert_eq!(lend(&records, &[input(2, 0, 7)]).answer(), hung(1, 2));
+}
+
 /// The result of a two-operand code, or the refusal's number; the code with the
 /// constant on the right has to agree.
 fn arithmetic(code: u8, left: i32, right: i32) -> Result<i32, u8> {

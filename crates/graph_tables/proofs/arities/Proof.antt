@@ -5,26 +5,26 @@ use mathlib.Core.Path.{_≡_, refl, _∙_}
 use lib.ListN.{length, getD, length-set}
 use lib.Seq.{getD-set-other}
 use borrow.Author.Needs.{needs}
-use Rattle.record.specs.TokensAndTags.{rootOf}
+use Rattle.record.specs.declared.tag.Tag.{Tag}
 use Rattle.record.specs.GraphRecords.{graphOf}
 use Rattle.rules.specs.InstructionSet.{arityIn}
+use Rattle.store_enabled.specs.Enabled.{arityOf}
 use Rattle.graph_tables.proofs.Entries.{entry-next, all-arities}
 use Rattle.graph_tables.proofs.arities.Statement.{statement}
 use Rattle.graph_tables.proofs.arities.Tie as tie
 
 abbrev Inv-loop : tie.InvT-loop
 Inv-loop graph out₀ i₀ out i =
-    (i ≤ 256) × (length out ≡ 512) × ((k : ℕ) → k < i → getD out (k + 256) 0 ≡ arityIn (graphOf graph) (rootOf k)) × ((k : ℕ) → k < 256 → getD out k 0 ≡ getD out₀ k 0)
+    (i ≤ 256) × (length out ≡ 512) × ((τ : Tag) → τ .instruction < i → arityOf out τ ≡ arityIn (graphOf graph) τ) × ((k : ℕ) → k < 256 → getD out k 0 ≡ getD out₀ k 0)
 
 abbrev μ-loop : tie.MeasureT-loop
 μ-loop graph out₀ i₀ out i = 256 - i
 
 pub arities-spec : {M : Type 1} → statement M
-unfolding arityIn
 arities-spec = tie.close (tie.spec
     Inv-loop
     μ-loop
-    (λ c. (omega arith, c .before .pre .1, (λ k h. absurd (omega arith)), λ k h. refl))
+    (λ c. (omega arith, c .before .pre .1, (λ τ h. absurd (omega arith)), λ k h. refl))
     (λ c κs. search needs)
     (λ c. omega arith)
     (λ c. omega arith)
@@ -33,13 +33,13 @@ arities-spec = tie.close (tie.spec
     (λ c. omega arith)
     (λ c.
     let l = c .before .before .loop in
-    let v = c .arity-at .result in (
+    let v = c .entry-at .result in (
       omega arith,
       length-set (l .out) (l .i + 256) v ∙ l .inv .1,
-      entry-next (λ k. arityIn (graphOf (c .before .before .before .before .args .graph .now)) (rootOf k)) (l .out) (l .i) v (omega arith) (l .inv .2) (c .arity-at .ensures),
+      entry-next (graphOf (c .before .before .before .before .args .graph .now)) (l .out) (l .i) v (omega arith) (l .inv .2) (c .entry-at .ensures),
       λ k h. getD-set-other (l .out) (l .i + 256) k v 0 (λ e. omega arith) ∙ l .inv .3 k h,
     ))
     (λ c.
     let l = c .before .loop in
     let s = c .before .before .before in
-    (all-arities (s .args .graph .now) (l .out) (s .pre .0) (l .inv .1) (λ k h. l .inv .2 k (omega arith)), λ r site h. l .inv .3 site h ∙ r site h)))
+    (all-arities (s .args .graph .now) (l .out) (s .pre .0) (l .inv .1) (λ τ h. l .inv .2 τ (omega arith)), λ r site h. l .inv .3 site h ∙ r site h)))

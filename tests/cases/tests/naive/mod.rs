@@ -136,7 +136,11 @@ impl Machine<'_> {
     /// How a run with nothing enabled ends.
     fn rest(&self) -> Outcome {
         let improper = |t: &Arrived| match t.state {
-            State::Live => self.code(t) != OUT && self.wrong != Some(Wrong::OperandIsProper),
+            State::Live => {
+                let counts = t.path == 0 && self.wrong == Some(Wrong::RootLeaveNotProper);
+                !self.is_result(t) && self.wrong != Some(Wrong::OperandIsProper)
+                    || counts && self.code(t) == LEAVE
+            }
             State::Spent => false,
             State::Deferred => self.wrong != Some(Wrong::DeferredIsProper),
         };
@@ -145,6 +149,15 @@ impl Machine<'_> {
             Outcome::Hung
         } else {
             Outcome::Completed
+        }
+    }
+
+    /// A token at an OUT, or at a LEAVE under path 0.
+    fn is_result(&self, arrived: &Arrived) -> bool {
+        match self.code(arrived) {
+            OUT => true,
+            LEAVE => arrived.path == 0 || self.wrong == Some(Wrong::LeaveIsResult),
+            _ => false,
         }
     }
 
@@ -169,7 +182,8 @@ impl Machine<'_> {
         let mut places = Vec::new();
         for (position, arrived) in self.tokens.iter().enumerate() {
             let code = self.code(arrived);
-            if arrived.state != State::Live || code == OUT {
+            let fires = code == LEAVE && self.wrong == Some(Wrong::RootLeaveEnabled);
+            if arrived.state != State::Live || self.is_result(arrived) && !fires {
                 continue;
             }
             if second::operand_count(code) == 1 {
@@ -267,9 +281,6 @@ impl Machine<'_> {
     }
 
     fn leave(&mut self, left: Arrived, constant: i32) -> Result<(), u8> {
-        if left.path == 0 {
-            return Err(15);
-        }
         let site = (left.path >> 8) as u8;
         let enters = |r: &&[u8]| r[0] == ENTER && r[8] == site;
         let enter = self.graph.chunks(GRAPH_RECORD).find(enters).ok_or(16)?;

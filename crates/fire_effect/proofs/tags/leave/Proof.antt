@@ -8,7 +8,7 @@ use mir.Val.{SFits}
 use denote.Ref.{now}
 use Rattle.record.specs.GraphRecords.{graphOf}
 use Rattle.rules.specs.InstructionSet.{sendLeft, returnOf}
-use Rattle.fire_effect.proofs.Does.{refused, made-as}
+use Rattle.fire_effect.proofs.Does.{made-as}
 use borrow.Author.Needs.{needs}
 use Rattle.fire_effect.proofs.tags.leave.Statement.{statement}
 use Rattle.fire_effect.proofs.tags.leave.Tie as tie
@@ -20,7 +20,8 @@ leave-spec = tie.close (tie.spec
     (λ c κs. search needs)
     (λ c. search needs)
     (λ c. search needs)
-    (λ c. rw (sym (c .before .before .leave .ensures) ∙ c .enum-told .given .1) (refused _))
+    (λ c κs. search needs)
+    (λ c. rw (sym (c .before .before .before .leave .ensures) ∙ c .before .enum-told .given .1) (c .to-none .ensures))
     (λ c. search needs)
     (λ c. search needs)
     (λ c. search needs)
