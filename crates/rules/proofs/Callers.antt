@@ -1,5 +1,5 @@
--- 02, R-6, proved (`callers-known`): of every token of every state that a run from inputs reaches, the site of each level of the path has an ENTER, and what
--- LEAVE finds there is the return of every ENTER of the site. Assumes nothing.
+-- 02, R-6, proved: where the site of each level of every path has an ENTER, a firing keeps that (`callers-kept`), and what LEAVE finds there is the return of
+-- every ENTER of the site (`caller-found`); so it is of every state that a run from inputs reaches (`callers-known`). Assumes nothing.
 use Prim.Native.Nat.{ℕ, zero, suc, _-_, _^_, _<_, _≤_}
 use mathlib.Core.Path.{_≡_, refl, sym, _∙_, subst}
 use mathlib.Core.Bool.{Bool, true, false, cond}
@@ -23,12 +23,12 @@ use Rattle.record.specs.GraphRecords.{operationOf, destinations, graphOf}
 use Rattle.record.specs.GraphRecords as Graph
 use Rattle.record.proofs.Calls.{at-least, entered-path, left-path}
 use Rattle.arithmetic.proofs.Ranged.{eq-eqZ, eqZ-true}
-use Rattle.machine.specs.Machine.{Key, Token, Machine}
-use Rattle.machine.proofs.Kept.{Each, each-map, OfToken, Keeps, reached-keeps}
+use Rattle.machine.specs.Machine.{Key, Content, live, spent, deferred, Token, Cell, absent, waiting, present, State, Machine, fire, fired}
+use Rattle.machine.proofs.Kept.{Each, each-map, OfContent, OfCell, OfToken, OfState, Keeps, fired-keeps, reached-keeps}
 use Rattle.rules.specs.declared.answer.Checked.the-variants.{Passed}
 use Rattle.rules.specs.Check.{any, instructionAt, within, entersSite, otherReturn, checkGraph}
 use Rattle.rules.specs.InstructionSet.{keyUnder, returnOf, machineOf}
-use Rattle.rules.specs.Callers.{HasEnter, CallIn, PathIn, ReturnsTo, CallerIn, TokenIn, CallersKnown}
+use Rattle.rules.specs.Callers.{HasEnter, CallIn, PathIn, ReturnsTo, CallerIn, TokenIn, CallersKept, CallerFound, CallersKnown}
 use Rattle.rules.proofs.Passed.{both, getD-past}
 use Rattle.rules.proofs.PassedGraph.{past-operation, of-graph, enter-code, enter-named}
 use Rattle.rules.proofs.Lists.{neither, any-at, each-all}
@@ -192,11 +192,40 @@ module _ (graph : List ℕ) (passed : checkGraph graph ≡ Passed) where
 
     known : (ts : List (Token Tag ℤ)) → Each (OfToken M Called Any Any) ts → All (TokenIn g) ts
     known [] h = tt
-    known (t ∷ ts) h = (record { path = h .0 .0 .0; caller = caller (leaveOf (t .key .tag)) refl }, known ts (h .1))
-      where
-        caller : (l : Left) → leaveOf (t .key .tag) ≡ l → CallerIn g l
-        caller NoCaller e = tt
-        caller (To site to) e = (found g (t .key .tag) site to (h .0 .0 .0) e .enter, returns site)
+    known (t ∷ ts) h = (record { path = h .0 .0 .0; iteration = h .0 .0 .1 }, known ts (h .1))
+
+    -- whatever the contents and the cells are
+    any-content : (x : Content ℤ) → OfContent M Called Any Any x
+    any-content (live v) = tt
+    any-content (spent v) = tt
+    any-content (deferred c) = tt
+
+    any-cell : (x : Cell ℤ) → OfCell M Called Any Any x
+    any-cell absent = tt
+    any-cell waiting = tt
+    any-cell (present v) = tt
+
+    called : (ts : List (Token Tag ℤ)) → All (TokenIn g) ts → Each (OfToken M Called Any Any) ts
+    called [] h = tt
+    called (t ∷ ts) h = (((h .0 .path, h .0 .iteration), any-content (t .content)), called ts (h .1))
+
+    kept : (s x : State Tag ℤ) (τ : Tag) → All (TokenIn g) (s .tokens) → fire M s τ ≡ fired x → All (TokenIn g) (x .tokens)
+    kept s x τ h e =
+        let all : OfState M Called Any Any s = record { tokens = called (s .tokens) h; cells = each-all (OfCell M Called Any Any) any-cell (s .cells) } in
+        known (x .tokens) (fired-keeps M Called Any Any keeps s τ x all e .tokens)
+
+  found-known : (t : Token Tag ℤ) → TokenIn g t → CallerIn g (leaveOf (t .key .tag))
+  found-known t h = go (leaveOf (t .key .tag)) refl
+    where
+      go : (l : Left) → leaveOf (t .key .tag) ≡ l → CallerIn g l
+      go NoCaller e = tt
+      go (To site to) e = (found g (t .key .tag) site to (h .path) e .enter, returns site)
+
+pub callers-kept : CallersKept
+callers-kept graph capacity cells passed s x τ h e = kept graph passed capacity cells s x τ h e
+
+pub caller-found : CallerFound
+caller-found graph passed t h = found-known graph passed t h
 
 pub callers-known : CallersKnown
 callers-known graph inputs capacity cells passed accepted f o x r =

@@ -1,6 +1,6 @@
 -- 02, R-6, "LEAVE and its caller": "paths are made only by ENTER, from sites that the check has passed. Prove of every reachable state that the site has its
--- ENTER". The statement; it is proved in proofs/Callers. Assumes nothing.
-use Prim.Native.Nat.{ℕ, _≤_}
+-- ENTER". The statements; they are proved in proofs/Callers. Assumes nothing.
+use Prim.Native.Nat.{ℕ, _≤_, _<_}
 use mathlib.Core.Path.{_≡_}
 use mathlib.Core.Bool.{true}
 use mathlib.Core.List.{List}
@@ -13,7 +13,7 @@ use Rattle.record.specs.declared.instruction.Instruction.{Instruction}
 use Rattle.buffer.specs.Rows.{All}
 use Rattle.record.specs.Calls.{mostLevels, leaveOf, Call, CallFits, pathOf}
 use Rattle.record.specs.GraphRecords.{graphOf}
-use Rattle.machine.specs.Machine.{Token, State}
+use Rattle.machine.specs.Machine.{Token, State, fire, fired}
 use Rattle.machine.specs.Orders.{Reached}
 use Rattle.rules.specs.declared.answer.Checked.the-variants.{Passed}
 use Rattle.rules.specs.Check.{any, instructionAt, entersSite, checkGraph, checkInputs}
@@ -48,13 +48,23 @@ abbrev pub CallerIn : List Instruction → Left → Type 0
 CallerIn g (To site caller) = HasEnter g site × ReturnsTo g site (returnOf site g)
 CallerIn g NoCaller = Unit {0}
 
--- ---- the claim
+-- ---- the claims
 
+-- a token whose path is of calls; its iteration is a byte, as that of a call has to be that ENTER makes in it
 pub record TokenIn (g : List Instruction) (t : Token Tag ℤ) : Type 0 where
   pub path : PathIn g (t .key .tag .path)
-  pub caller : CallerIn g (leaveOf (t .key .tag))
+  pub iteration : t .key .tag .iteration < 256
 
--- of every token of every state that a run from inputs reaches
+-- a firing keeps it of all tokens, from any state that has it
+abbrev pub CallersKept : Type 0
+CallersKept = (graph : List ℕ) (capacity cells : ℕ) → checkGraph graph ≡ Passed → (s x : State Tag ℤ) (τ : Tag)
+    → All (TokenIn (graphOf graph)) (s .tokens) → fire (machineOf (graphOf graph) capacity cells) s τ ≡ fired x → All (TokenIn (graphOf graph)) (x .tokens)
+
+-- and what LEAVE finds for such a token has its ENTER
+abbrev pub CallerFound : Type 0
+CallerFound = (graph : List ℕ) → checkGraph graph ≡ Passed → (t : Token Tag ℤ) → TokenIn (graphOf graph) t → CallerIn (graphOf graph) (leaveOf (t .key .tag))
+
+-- so it holds of every token of every state that a run from inputs reaches
 abbrev pub CallersKnown : Type 0
 CallersKnown = (graph inputs : List ℕ) (capacity cells : ℕ) → checkGraph graph ≡ Passed → checkInputs (graphOf graph) capacity inputs ≡ Passed
     → (firings sent : ℕ) (x : State Tag ℤ) → Reached (machineOf (graphOf graph) capacity cells) (firstState inputs cells) firings sent x
