@@ -7,8 +7,8 @@
 #include <stddef.h>
 #include <stdint.h>
 
-/* Runs a graph. The answer has 16 bits each, lowest first: the word (0 completed, 101 hung, 100 spent, 1 to 14,
-   16 and 17 refused), firings, tokens, place. */
+/* Runs a graph. The answer has 16 bits each, lowest first: the word (0 completed, 101 hung, 100 spent, 1 to 14
+   and 17 refused), firings, tokens, place. */
 uint64_t ttda_run(const uint8_t *graph, size_t graph_len,
                   const uint8_t *inputs, size_t inputs_len,
                   const uint8_t *picks, size_t picks_len,

@@ -15,7 +15,7 @@ use Rattle.record.specs.Cells as Cells
 use Rattle.record.specs.Widths.{tokenWidth, cellWidth}
 use Rattle.rules.specs.Answer.{Values, numberOf, wordOf, placeIn, valuesOf}
 use Rattle.rules.specs.declared.answer.Refusal.{Refusal}
-use Rattle.rules.specs.declared.answer.Refusal.the-variants.{GraphLength, UnknownOperation, FanOut, BadArc, BadSite, BadInput, BadStore, LedgerFull, SecondToken, NoSuchCell, SecondWrite, OutOfRange, Iteration, TooDeep, UnknownSite, NoReturn}
+use Rattle.rules.specs.declared.answer.Refusal.the-variants.{GraphLength, UnknownOperation, FanOut, BadArc, BadSite, BadInput, BadStore, LedgerFull, SecondToken, NoSuchCell, SecondWrite, OutOfRange, Iteration, TooDeep, NoReturn}
 use Rattle.rules.specs.declared.answer.Outcome.{Outcome}
 use Rattle.rules.specs.declared.answer.Outcome.the-variants.{Completed, Hung, Spent, Refused}
 use Rattle.rules.specs.declared.answer.Answer.{Answer}
@@ -50,7 +50,6 @@ refusal-back SecondWrite place = refl
 refusal-back OutOfRange place = refl
 refusal-back Iteration place = refl
 refusal-back TooDeep place = refl
-refusal-back UnknownSite place = refl
 refusal-back NoReturn place = refl
 
 outcome-back : (o : Outcome) → outcomeOf (wordOf o) (placeIn o) ≡ Ended o
@@ -75,7 +74,6 @@ number-small SecondWrite = omega arith
 number-small OutOfRange = omega arith
 number-small Iteration = omega arith
 number-small TooDeep = omega arith
-number-small UnknownSite = omega arith
 number-small NoReturn = omega arith
 
 word-small : (o : Outcome) → wordOf o < 65536

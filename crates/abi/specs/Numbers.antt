@@ -5,7 +5,7 @@ use mathlib.Core.List.{List, [], _∷_}
 use lib.Dec.{eqb}
 use Rattle.rules.specs.Answer.{Values, numberOf}
 use Rattle.rules.specs.declared.answer.Refusal.{Refusal}
-use Rattle.rules.specs.declared.answer.Refusal.the-variants.{GraphLength, UnknownOperation, FanOut, BadArc, BadSite, BadInput, BadStore, LedgerFull, SecondToken, NoSuchCell, SecondWrite, OutOfRange, Iteration, TooDeep, UnknownSite, NoReturn}
+use Rattle.rules.specs.declared.answer.Refusal.the-variants.{GraphLength, UnknownOperation, FanOut, BadArc, BadSite, BadInput, BadStore, LedgerFull, SecondToken, NoSuchCell, SecondWrite, OutOfRange, Iteration, TooDeep, NoReturn}
 use Rattle.rules.specs.declared.answer.Outcome.{Outcome}
 use Rattle.rules.specs.declared.answer.Outcome.the-variants.{Completed, Hung, Spent, Refused}
 use Rattle.text.specs.Text.{printed, printedOf, outAfter}
@@ -25,7 +25,7 @@ packed v = v .word + v .firings % 65536 * 65536 + v .tokens % 65536 * 4294967296
 
 -- ---- the way back
 
--- all of them, in the order of 01's table without 15, which R-5 took out
+-- all of them, in the order of 01's table without 15 and 16, which R-5 and R-6 took out
 abbrev pub refusals : List Refusal
 refusals =
     GraphLength
@@ -42,7 +42,6 @@ refusals =
     ∷ OutOfRange
     ∷ Iteration
     ∷ TooDeep
-    ∷ UnknownSite
     ∷ NoReturn
     ∷ []
 

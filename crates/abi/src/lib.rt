@@ -74,7 +74,6 @@ fn refusal_of(word: u64) -> Numbered
         12 => Numbered::One(Refusal::OutOfRange),
         13 => Numbered::One(Refusal::Iteration),
         14 => Numbered::One(Refusal::TooDeep),
-        16 => Numbered::One(Refusal::UnknownSite),
         17 => Numbered::One(Refusal::NoReturn),
         _ => Numbered::NoRefusal,
     }

@@ -1,8 +1,7 @@
 -- What the two tables of a graph say, in one array: the return instruction of each site in the first half, operand counts by
 -- instruction in the second. Assumes nothing.
-use Prim.Native.Nat.{ℕ, suc, _<_}
+use Prim.Native.Nat.{ℕ, _<_}
 use mathlib.Core.Path.{_≡_}
-use mathlib.Core.Option.{Option, none, some}
 use mathlib.Core.List.{List}
 use lib.ListN.{getD}
 use Rattle.record.specs.declared.tag.Tag.{Tag}
@@ -14,10 +13,6 @@ use Rattle.rules.specs.InstructionSet.{arityIn, returnOf}
 abbrev pub Arities : List Instruction → (tables : List ℕ) → Type 0
 Arities g tables = (tag : Tag) → arityOf tables tag ≡ arityIn g tag
 
--- the entry of a site: 0 if it has no return instruction, else one more than it
-abbrev pub entryOf : Option ℕ → ℕ
-entryOf none = 0
-entryOf (some i) = suc i
-
+-- the return instruction of each site
 abbrev pub Returns : List Instruction → (tables : List ℕ) → Type 0
-Returns g tables = (site : ℕ) → site < 256 → getD tables site 0 ≡ entryOf (returnOf site g)
+Returns g tables = (site : ℕ) → site < 256 → getD tables site 0 ≡ returnOf site g

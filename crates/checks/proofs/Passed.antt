@@ -1,18 +1,17 @@
 -- What a graph and what inputs have that passed their checks. Assumes nothing.
-use Prim.Native.Nat.{ℕ, suc, _+_, _*_, _/_, _%_, _≤_, _<_}
+use Prim.Native.Nat.{ℕ, _+_, _*_, _/_, _%_, _≤_, _<_}
 use native.Mathlib.Omega.{arith}
 use native.Mathlib.Nat.{zero-add}
 use mathlib.Core.Path.{_≡_, refl, sym, _∙_}
-use mathlib.Core.Bool.{Bool, true, false, not, _&&_, cond}
-use mathlib.Core.Option.{some}
-use mathlib.Core.List.{List, [], _∷_}
+use mathlib.Core.Bool.{Bool, true, false, not, _&&_}
+use mathlib.Core.List.{List, []}
 use lib.ListN.{length, getD, take, drop}
 use lib.Dec.{eqb, leb, ltb}
 use lib.IntN.{pos, natAbs}
-use borrow.Author.Tests.{eqb-true, leb-true, ltb-true, ltb-false, lt-ltb, not-true}
+use borrow.Author.Tests.{eqb-true, leb-true, ltb-true, ltb-false, not-true}
 use Rattle.record.specs.declared.instruction.Destination.{Destination}
 use Rattle.record.specs.declared.instruction.Instruction.{Instruction}
-use Rattle.record.specs.GraphRecords.{decode, isGraphLength, graphOf, destinations, inUse, rowOf, operandsOf}
+use Rattle.record.specs.GraphRecords.{decode, isGraphLength, graphOf, destinations, operandsOf}
 use Rattle.number.specs.Number.{byteAt, number16, number32, number64}
 use Rattle.buffer.specs.Rows.{whole, allRows}
 use Rattle.record.specs.TokensAndTags.{isInput}
@@ -21,8 +20,7 @@ use Rattle.record.specs.TokensAndTags as Tokens
 use Rattle.record.specs.Widths.{tokenWidth, cellWidth, graphWidth, pickWidth}
 use Rattle.rules.specs.declared.answer.Refusal.the-variants.{GraphLength, BadInput, SecondToken}
 use Rattle.rules.specs.declared.answer.Checked.the-variants.{Passed}
-use Rattle.rules.specs.Check.{demand, all, instructionAt, operandsAt, fanOutAllowed, unusedAreZero, goodArc, within, entersSite, goodSite, checkRecord, checkGraph, checkStores, goodInput, secondInput, checkInputs, check}
-use Rattle.rules.specs.InstructionSet.{returnOf}
+use Rattle.rules.specs.Check.{demand, all, instructionAt, operandsAt, fanOutAllowed, unusedAreZero, goodArc, within, goodSite, checkRecord, checkGraph, checkStores, goodInput, secondInput, checkInputs, check}
 use Rattle.check_inputs.specs.Inputs.{tokensOf}
 use Rattle.check_fields.proofs.Turns.{and-true-left, and-true-right, both-passed, demanded, each-passed, all-at}
 use Rattle.check_fields.proofs.Constants.{within-is}
@@ -93,17 +91,6 @@ pub leave-constant : (g : List Instruction) (i : ℕ) (r : Instruction) → Good
     → (r .constant ≡ pos (natAbs (r .constant))) × (0 ≤ natAbs (r .constant)) × (natAbs (r .constant) ≤ 255)
 unfolding goodSite
 leave-constant g i r good e = within-is 0 255 (r .constant) (rw e at (good .site))
-
--- the return of an ENTER is in the graph
-pub enter-return : (g : List Instruction) (i : ℕ) (r : Instruction) → GoodRecord g i r → r .code ≡ 8 → r .second .instruction < length g
-unfolding fanOutAllowed rowOf
-enter-return g i r good e =
-    let f = and-true-left (fanOutAllowed r) _ (good .fields) in
-    let a = leb-true 2 (r .fanout) (rw e at (and-true-left (leb (rowOf (r .code) .leastFanOut) (r .fanout)) _ f)) in
-    let b = leb-true (r .fanout) 2 (rw e at (and-true-right (leb (rowOf (r .code) .leastFanOut) (r .fanout)) _ f)) in
-    let n : r .fanout ≡ 2 = omega arith in
-    let arcs : all (goodArc g) (inUse 2 (r .first) (r .second)) ≡ true = rw n at (good .arcs) in
-    good-arc g (r .second) (all-at (goodArc g) (inUse 2 (r .first) (r .second)) arcs 1 (omega arith) (r .second)) .0
 
 -- ---- the stores, by their lengths in bytes
 

@@ -3,7 +3,6 @@
 use Prim.Native.Nat.{ℕ, suc, _+_, _≤_, _<_}
 use mathlib.Core.Path.{_≡_, refl}
 use mathlib.Core.Bool.{Bool, true, false, cond}
-use mathlib.Core.Option.{Option, none, some}
 use mathlib.Core.List.{List, [], _∷_, map}
 use native.Mathlib.Omega.{arith}
 use native.Mathlib.Decide.{decLe}
@@ -115,10 +114,9 @@ module _ (g : List Instruction) (cells : ℕ) where
   entered-fine (In τ) r v h = (tt, (h τ, tt))
   entered-fine TooDeep r v h = (tt, tt)
 
-  returned-fine : ((i : ℕ) → i < length g → 0 < operandsAt g i) → (x : Option ℕ) (k : ℕ) (τ : Tag) (v : ℤ) → Fine (sendReturned g x k τ v)
+  returned-fine : ((i : ℕ) → i < length g → 0 < operandsAt g i) → (i k : ℕ) (τ : Tag) (v : ℤ) → Fine (sendReturned g i k τ v)
   unfolding sendReturned
-  returned-fine h none k τ v = (tt, tt)
-  returned-fine h (some i) k τ v = go (ltb (i + k) (length g)) refl
+  returned-fine h i k τ v = go (ltb (i + k) (length g)) refl
     where
       go : (t : Bool) → ltb (i + k) (length g) ≡ t → Fine (cond t (send v (record { tag = toOf τ (i + k); port = 0 } ∷ [])) (refuse Refusals.NoReturn))
       go true e = (tt, (h (i + k) (ltb-true _ _ e), tt))

@@ -1,8 +1,7 @@
 -- The promises of operation and new tags, case by case: what is sent, what is refused, the cell that an operand names, a return. Assumes nothing.
-use Prim.Native.Nat.{ℕ, zero, suc, _+_, _-_, _/_, _≤_, _<_}
+use Prim.Native.Nat.{ℕ, zero, suc, _+_, _/_, _≤_, _<_}
 use mathlib.Core.Path.{_≡_, refl, sym, ap, _∙_}
 use mathlib.Core.Bool.{Bool, true, false, _&&_}
-use mathlib.Core.Option.{Option, none, some}
 use mathlib.Core.List.{List, [], _∷_}
 use native.Mathlib.Omega.{arith}
 use borrow.Author.Tests.{leb-true, lt-ltb, le-ltb}
@@ -30,7 +29,6 @@ use Rattle.fire_effect.specs.declared.tags.NewTags.{NewTags}
 use Rattle.fire_effect.specs.declared.tags.NewTags.the-variants as Tags
 use Rattle.fire_effect.specs.declared.operate.Named.the-variants.{Cell, NoSuchCell}
 use Rattle.fire_effect.specs.Effects.{keyHeld, keysHeld, keysOf, Sends, Makes, namedOf}
-use Rattle.abstraction.specs.Tables.{entryOf}
 
 abbrev pub Clash : Type 0
 Clash = _≡_ {A = ℕ} 0 1
@@ -94,24 +92,17 @@ module _ (cells : ℕ) {a : ℤ} {n : ℕ} (e : a ≡ pos n) where
   pub past-cells : cells ≤ n → NoSuchCell ≡ namedOf cells a
   past-cells h = rw (e, le-ltb n cells h)
 
--- ---- a return, by the entry of its site
+-- ---- a return
 
 -- as many as the whole records of the bytes
 pub records : (l : List ℕ) → length (graphOf l) ≡ length l / graphWidth
 records l = length-rows graphWidth decode (length l / graphWidth) l
 
-module _ (l : List ℕ) (k : ℕ) (τ : Tag) {n : ℕ} where
-  pub no-site : (x : Option ℕ) → n ≡ entryOf x → n ≡ 0 → (v : ℤ) → sendReturned (graphOf l) x k τ v ≡ refuse Refusals.UnknownSite
+module _ (l : List ℕ) (i k : ℕ) (τ : Tag) where
+  pub to-site : i + k < length l / graphWidth → (v : ℤ) → sendReturned (graphOf l) i k τ v ≡ send v (record { tag = toOf τ (i + k); port = 0 } ∷ [])
   unfolding sendReturned
-  no-site none e z v = refl
-  no-site (some i) e z v = absurd (omega arith)
+  to-site h v = rw (records l, lt-ltb _ _ h)
 
-  pub to-site : (x : Option ℕ) → n ≡ entryOf x → (n ≡ 0 → ⊥) → n - 1 + k < length l / graphWidth → (v : ℤ) → sendReturned (graphOf l) x k τ v ≡ send v (record { tag = toOf τ (n - 1 + k); port = 0 } ∷ [])
+  pub past-graph : length l / graphWidth ≤ i + k → (v : ℤ) → sendReturned (graphOf l) i k τ v ≡ refuse Refusals.NoReturn
   unfolding sendReturned
-  to-site none e z h v = absurd (z e)
-  to-site (some i) e z h v = let s : n - 1 ≡ i = omega arith in rw (← s, records l, lt-ltb _ _ h)
-
-  pub past-graph : (x : Option ℕ) → n ≡ entryOf x → (n ≡ 0 → ⊥) → length l / graphWidth ≤ n - 1 + k → (v : ℤ) → sendReturned (graphOf l) x k τ v ≡ refuse Refusals.NoReturn
-  unfolding sendReturned
-  past-graph none e z h v = absurd (z e)
-  past-graph (some i) e z h v = let s : n - 1 ≡ i = omega arith in rw (← s, records l, le-ltb _ _ h)
+  past-graph h v = rw (records l, le-ltb _ _ h)

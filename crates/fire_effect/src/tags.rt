@@ -10,10 +10,9 @@ use record::tag::Left;
 use record::tag::Next;
 use record::tag::Tag;
 use rules::answer::Refusal;
-ghost use Prim.Native.Nat.{ℕ, _/_, _≤_};
+ghost use Prim.Native.Nat.{_/_, _≤_};
 ghost use mathlib.Core.Path.{_≡_};
 ghost use mathlib.Core.Bool.{true};
-ghost use mathlib.Core.Option.{Option};
 ghost use mathlib.Core.List.{[], _∷_};
 ghost use lib.ListN.{length};
 ghost use lib.IntN.{natAbs};
@@ -23,7 +22,7 @@ ghost use Rattle.record.specs.Widths.{graphWidth};
 ghost use Rattle.rules.specs.Check.{within};
 ghost use Rattle.rules.specs.InstructionSet.{keyUnder, allUnder, sideOf, sendNext, sendEntered, sendReturned, sendLeft};
 ghost use Rattle.machine.specs.Machine as Machine;
-ghost use Rattle.abstraction.specs.Tables.{Returns, entryOf};
+ghost use Rattle.abstraction.specs.Tables.{Returns};
 ghost use Rattle.fire_effect.specs.Effects.{Makes, newTagsOf, Ready};
 
 pub enum NewTags {
@@ -96,16 +95,13 @@ fn enter(tag: Tag, r: Instruction) -> NewTags
     to_one(inner, body)
 }
 
-// LEAVE once the caller's tag is known: `entry` is the site's in the table of returns, and k the
-// constant. 16: "no ENTER has the path's site". 17: "return instruction plus constant past the graph".
-fn returned(graph: &[u8], entry: u16, k: u8, caller: Tag) -> NewTags
+// LEAVE once the caller's tag is known: `back` is the site's return instruction, and k the constant.
+// 17: "return instruction plus constant past the graph".
+fn returned(graph: &[u8], back: u16, k: u8, caller: Tag) -> NewTags
     requires { ⌜ length (now graph) / graphWidth ≤ 256 ⌝ }
-    ensures { λ m. ⌜ ((x : Option ℕ) → entry ≡ entryOf x → Makes m (sendReturned (graphOf (now (graph .entry))) x k caller)) ⌝ }
+    ensures { λ m. ⌜ Makes m (sendReturned (graphOf (now (graph .entry))) back k caller) ⌝ }
 {
-    if entry == 0 {
-        return NewTags::Refuse(Refusal::UnknownSite);
-    }
-    let to = (entry as usize) - 1 + (k as usize);
+    let to = (back as usize) + (k as usize);
     if to < graph.len() / instruction::WIDTH {
         let d = Destination {
             instruction: to as u16,
@@ -128,8 +124,8 @@ fn leave(graph: &[u8], tables: &[u16; 512], tag: Tag, r: Instruction) -> NewTags
     let Left::To { site, tag: caller } = tag.leave() else {
         return to_none(tag);
     };
-    let entry = tables[site as usize];
-    returned(graph, entry, k, caller)
+    let back = tables[site as usize];
+    returned(graph, back, k, caller)
 }
 
 // Where an operation's tokens go: r is the instruction of the tag, and b the operand on port 1.

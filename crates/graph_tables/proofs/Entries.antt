@@ -4,7 +4,6 @@ use native.Mathlib.Omega.{arith}
 use native.Mathlib.Decide.{decLe}
 use mathlib.Core.Path.{_≡_, refl, sym, ap, _∙_}
 use mathlib.Core.Bool.{Bool, true, false, cond}
-use mathlib.Core.Option.{some}
 use mathlib.Core.List.{List, [], _∷_}
 use lib.ListN.{length, getD, set, replicate, getD-replicate}
 use lib.Seq.{getD-set-same, getD-set-other}
@@ -13,18 +12,18 @@ use lib.Dec.{eqb}
 use borrow.Author.Tests.{eqb-true, eqb-false, ne-eqb}
 use Rattle.record.specs.declared.tag.Tag.{Tag}
 use Rattle.record.specs.declared.instruction.Instruction.{Instruction}
-use Rattle.record.specs.GraphRecords.{graphOf, instructionIn, operandsOf}
+use Rattle.record.specs.GraphRecords.{graphOf, operandsOf}
 use Rattle.record.specs.Widths.{graphWidth}
 use Rattle.rules.specs.declared.answer.Checked.the-variants.{Passed}
-use Rattle.rules.specs.Check.{checkGraph, instructionAt, entersSite}
+use Rattle.rules.specs.Check.{checkGraph, entersSite}
 use Rattle.rules.specs.InstructionSet.{arityIn, returnOf}
 use Rattle.rules.proofs.PassedGraph.{two-operands}
 use Rattle.store_enabled.specs.Enabled.{waitedFor, arityOf}
 use Rattle.check_fields.specs.Sites.{atSite}
 use Rattle.check_fields.proofs.Sites.{at-site}
-use Rattle.check_fields.proofs.Graphs.{length-graph, at-graph, arityBy, arity-in, arity-past}
-use Rattle.checks.proofs.Passed.{GoodRecord, passed-length, passed-at, enter-return}
-use Rattle.abstraction.specs.Tables.{Arities, Returns, entryOf}
+use Rattle.check_fields.proofs.Graphs.{arityBy, arity-in, arity-past}
+use Rattle.checks.proofs.Passed.{passed-length}
+use Rattle.abstraction.specs.Tables.{Arities, Returns}
 
 -- ---- operand counts
 
@@ -75,19 +74,12 @@ pub no-returns : Returns [] (replicate 512 0)
 unfolding returnOf
 no-returns site h = getD-replicate 512 site 0 0 (omega arith)
 
--- the return of an ENTER in a graph that passed is one of 256 instructions
-pub return-small : (graph : List ℕ) → checkGraph graph ≡ Passed → (i : ℕ) → i < length graph / graphWidth → (r : Instruction) → r ≡ instructionIn graph i → r .code ≡ 8 → r .second .instruction < 256
-return-small graph passed i h r e c =
-    let here : r ≡ instructionAt (graphOf graph) i = e ∙ sym (at-graph graph i h) in
-    let good : GoodRecord (graphOf graph) i r = rw here (passed-at graph passed i (omega (arith, length-graph graph))) in
-    omega (arith, enter-return (graphOf graph) i r good c, passed-length graph passed .1)
-
 -- one record more, before the others
 pub note-returns : (rs : List Instruction) (t : List ℕ) (r : Instruction) → Returns rs t → 256 ≤ length t
-    → Returns (r ∷ rs) (atSite t r (entryOf (some (r .second .instruction))))
+    → Returns (r ∷ rs) (atSite t r (r .second .instruction))
 unfolding returnOf
-note-returns rs t r s n site h = at-site t r (entryOf (some (r .second .instruction))) site n h ∙ go (entersSite (pos site) r)
+note-returns rs t r s n site h = at-site t r (r .second .instruction) site n h ∙ go (entersSite (pos site) r)
   where
-    go : (b : Bool) → cond b (entryOf (some (r .second .instruction))) (getD t site 0) ≡ entryOf (cond b (some (r .second .instruction)) (returnOf site rs))
+    go : (b : Bool) → cond b (r .second .instruction) (getD t site 0) ≡ cond b (r .second .instruction) (returnOf site rs)
     go true = refl
     go false = s site h

@@ -5,9 +5,7 @@ use record::instruction;
 use record::instruction::Instruction;
 use record::operation;
 ghost use mathlib.Core.Path.{_≡_};
-ghost use Prim.Native.Nat.{_<_};
 ghost use lib.ListN.{length};
-ghost use mathlib.Core.Option.{some};
 ghost use Rattle.record.specs.GraphRecords.{graphOf};
 ghost use Rattle.record.specs.declared.tag.Tag.{Tag};
 ghost use Rattle.rules.specs.InstructionSet.{arityIn};
@@ -15,7 +13,7 @@ ghost use Rattle.store_enabled.specs.Enabled.{waitedFor};
 ghost use Rattle.check_fields.specs.Sites.{atSite};
 ghost use Rattle.rules.specs.declared.answer.Checked.the-variants.{Passed};
 ghost use Rattle.rules.specs.Check.{checkGraph};
-ghost use Rattle.abstraction.specs.Tables.{Arities, Returns, entryOf};
+ghost use Rattle.abstraction.specs.Tables.{Arities, Returns};
 
 // The entry of instruction i, which says for each of its activities how many operands that waits for.
 fn entry_at(graph: &[u8], i: usize) -> u16
@@ -48,8 +46,7 @@ fn arities(graph: &[u8], out: &mut [u16; 512])
 
 // Puts the return of an ENTER into the table.
 fn note(out: &mut [u16; 512], r: Instruction)
-    requires { ⌜ (r .code ≡ 8 → r .second .instruction < 256) ⌝ }
-    ensures { λ _. ⌜ now (out .exit) ≡ atSite (now (out .entry)) r (entryOf (some (r .second .instruction))) ⌝ }
+    ensures { λ _. ⌜ now (out .exit) ≡ atSite (now (out .entry)) r (r .second .instruction) ⌝ }
 {
     let back = r.second;
     if r.code != 8 {
@@ -57,13 +54,12 @@ fn note(out: &mut [u16; 512], r: Instruction)
     }
     let site = constant::small(r.constant);
     if site < 256 {
-        out[site] = back.instruction + 1;
+        out[site] = back.instruction;
     }
 }
 
 // The returns. The records are gone through from the last to the first, since the first ENTER of a site counts.
 fn returns(graph: &[u8], out: &mut [u16; 512])
-    requires { ⌜ checkGraph (now graph) ≡ Passed ⌝ }
     ensures { λ _. ⌜ Returns (graphOf (now (graph .entry))) (now (out .exit)) × (length (now (out .exit)) ≡ 512) ⌝ }
 {
     *out = [0u16; 512];

@@ -1,5 +1,5 @@
--- What an instruction set keeps of keys and values, a run keeps in every token and every cell. Over any property of keys and any of values.
--- Assumes nothing; takes a machine whose effects keep the two (`Keeps`).
+-- What an instruction set keeps of keys, of values and of the cells that it reads, a run keeps in every token and every cell. Over any property of each.
+-- Assumes nothing; takes a machine whose effects keep the three (`Keeps`).
 use mathlib.Core.Path.{_≡_, refl, sym, subst}
 use mathlib.Core.List.{List, [], _∷_, _++_, map}
 use mathlib.Core.Option.{Option, none, some}
@@ -11,8 +11,9 @@ use Rattle.machine.specs.Machine.{Key, Content, live, spent, deferred, T
 use Rattle.machine.specs.Machine.{when, onOption, liveValue, spend, fill, cellAt, cellRead, contentRead, ifPresent, changed, output, Operands, twoValues}
 use Rattle.machine.specs.Machine.{Ledger, StateOf, EffectOf, FiredOf, sameKey, at, find, look, operandOf, liveAt, allLive, operands, spendAt, anyTaken, exceeds, admit, commit, fire, run}
 use Rattle.machine.specs.Orders.{Reached}
-use Rattle.machine.proofs.View.{noneSome}
+use Rattle.machine.proofs.View.{noneSome, operandAt, operandLive, operandsAll}
 use Rattle.machine.proofs.Sequences.{firedSame, neverFired}
+use Rattle.machine.proofs.Reached.{reached-picks}
 use Rattle.machine.proofs.Reached.{reached-picks}
 
 -- ---- lists
@@ -42,11 +43,11 @@ each-map P Q f h (x ∷ xs) k = (h x (k .0), each-map P Q f h xs (k .1))
 
 -- ---- what is kept
 
-module _ (M : Machine) (OfKey : Key (M .Tag) → Type 0) (OfValue : M .Value → Type 0) where
+module _ (M : Machine) (OfKey : Key (M .Tag) → Type 0) (OfValue : M .Value → Type 0) (OfRead : (cell : ℕ) → Type 0) where
   abbrev pub OfContent : Content (M .Value) → Type 0
   OfContent (live v) = OfValue v
   OfContent (spent v) = OfValue v
-  OfContent (deferred c) = c < M .cellCount
+  OfContent (deferred c) = OfRead c
 
   abbrev pub OfCell : Cell (M .Value) → Type 0
   OfCell absent = Unit {0}
@@ -63,12 +64,16 @@ module _ (M : Machine) (OfKey : Key (M .Tag) → Type 0) (OfValue : M .Value →
   abbrev pub OfEffect : EffectOf M → Type 0
   OfEffect (refuse r) = Unit {0}
   OfEffect (send v keys) = OfValue v × Each OfKey keys
-  OfEffect (read c keys) = (c < M .cellCount) × Each OfKey keys
+  OfEffect (read c keys) = OfRead c × Each OfKey keys
   OfEffect (write c v keys) = OfValue v × Each OfKey keys
+
+  -- an activity waits for one operand at least, and the keys of all have the property
+  abbrev pub OfOperands : M .Tag → Type 0
+  OfOperands τ = (0 < M .arity τ) × ((p : ℕ) → p < M .arity τ → OfKey (at M τ p))
 
   -- of an activity whose operands have the properties the effect has them, and the signal has
   pub record Keeps : Type 0 where
-    pub effect : (τ : M .Tag) (v w : M .Value) → OfKey (at M τ 0) → OfValue v → OfValue w → OfEffect (M .effect τ v w)
+    pub effect : (τ : M .Tag) (v w : M .Value) → OfOperands τ → OfValue v → OfValue w → OfEffect (M .effect τ v w)
     pub signal : OfValue (M .signal)
 
   -- ---- the operands
@@ -76,7 +81,7 @@ module _ (M : Machine) (OfKey : Key (M .Tag) → Type 0) (OfValue : M .Value →
   someSame : {A : Type 0} (x y : A) → some x ≡ some y → x ≡ y
   someSame x y e = cc
 
-  found : (k : Key (M .Tag)) (ts : Ledger M) (x : Content (M .Value)) → Each OfToken ts → find M k ts ≡ some x → OfKey k × OfContent x
+  pub found : (k : Key (M .Tag)) (ts : Ledger M) (x : Content (M .Value)) → Each OfToken ts → find M k ts ≡ some x → OfKey k × OfContent x
   found k [] x h e = noneSome e
   found k (t ∷ ts) x h e = go (sameKey M k (t .key)) (λ f. found k ts x (h .1) f) e
     where
@@ -90,26 +95,31 @@ module _ (M : Machine) (OfKey : Key (M .Tag) → Type 0) (OfValue : M .Value →
   isLiveValue (some (spent w)) v e = noneSome e
   isLiveValue (some (deferred c)) v e = noneSome e
 
-  operandFound : (s : StateOf M) (τ : M .Tag) (p : ℕ) (v : M .Value) → Each OfToken (s .tokens) → liveAt M (look M s) τ p ≡ some v → OfKey (at M τ p) × OfValue v
-  operandFound s τ p v h e = found (at M τ p) (s .tokens) (live v) h (isLiveValue (look M s (at M τ p)) v e)
+  valueFound : (s : StateOf M) (τ : M .Tag) (p : ℕ) (v : M .Value) → Each OfToken (s .tokens) → liveAt M (look M s) τ p ≡ some v → OfValue v
+  valueFound s τ p v h e = found (at M τ p) (s .tokens) (live v) h (isLiveValue (look M s (at M τ p)) v e) .1
 
   -- what the two operands are made of
-  bothFound : {A : Type 0} (n : ℕ) (x y : Option (M .Value)) (o : Operands (M .Value)) → twoValues n x y ≡ some o
-      → ((v : M .Value) → x ≡ some v → A × OfValue v) → ((v : M .Value) → y ≡ some v → OfValue v) → A × OfValue (o .left) × OfValue (o .right)
+  bothFound : (n : ℕ) (x y : Option (M .Value)) (o : Operands (M .Value)) → twoValues n x y ≡ some o
+      → ((v : M .Value) → x ≡ some v → OfValue v) → ((v : M .Value) → y ≡ some v → OfValue v) → OfValue (o .left) × OfValue (o .right)
   bothFound zero x y o e f g = noneSome e
   bothFound (suc zero) none y o e f g = noneSome e
-  bothFound {A} (suc zero) (some v) y o e f g = subst (λ (q : Operands (M .Value)). A × OfValue (q .left) × OfValue (q .right)) (someSame _ _ e) (f v refl .0, f v refl .1, f v refl .1)
+  bothFound (suc zero) (some v) y o e f g = subst (λ (q : Operands (M .Value)). OfValue (q .left) × OfValue (q .right)) (someSame _ _ e) (f v refl, f v refl)
   bothFound (suc (suc n)) none y o e f g = noneSome e
   bothFound (suc (suc n)) (some v) none o e f g = noneSome e
-  bothFound {A} (suc (suc n)) (some v) (some w) o e f g = subst (λ (q : Operands (M .Value)). A × OfValue (q .left) × OfValue (q .right)) (someSame _ _ e) (f v refl .0, f v refl .1, g w refl)
+  bothFound (suc (suc n)) (some v) (some w) o e f g = subst (λ (q : Operands (M .Value)). OfValue (q .left) × OfValue (q .right)) (someSame _ _ e) (f v refl, g w refl)
 
-  operandsFound : (s : StateOf M) (τ : M .Tag) (o : Operands (M .Value)) → Each OfToken (s .tokens) → operands M (look M s) τ ≡ some o
-      → OfKey (at M τ 0) × OfValue (o .left) × OfValue (o .right)
-  operandsFound s τ o h e = go (allLive M (look M s) τ) e
+  valuesFound : (s : StateOf M) (τ : M .Tag) (o : Operands (M .Value)) → Each OfToken (s .tokens) → operands M (look M s) τ ≡ some o → OfValue (o .left) × OfValue (o .right)
+  valuesFound s τ o h e = go (allLive M (look M s) τ) e
     where
-      go : (b : Bool) → cond b (twoValues (M .arity τ) (liveAt M (look M s) τ 0) (liveAt M (look M s) τ 1)) none ≡ some o → OfKey (at M τ 0) × OfValue (o .left) × OfValue (o .right)
+      go : (b : Bool) → cond b (twoValues (M .arity τ) (liveAt M (look M s) τ 0) (liveAt M (look M s) τ 1)) none ≡ some o → OfValue (o .left) × OfValue (o .right)
       go false f = noneSome f
-      go true f = bothFound (M .arity τ) _ _ o f (λ v g. operandFound s τ 0 v h g) (λ v g. operandFound s τ 1 v h g .1)
+      go true f = bothFound (M .arity τ) _ _ o f (λ v g. valueFound s τ 0 v h g) (λ v g. valueFound s τ 1 v h g)
+
+  keysFound : (s : StateOf M) (τ : M .Tag) (o : Operands (M .Value)) → Each OfToken (s .tokens) → operands M (look M s) τ ≡ some o → OfOperands τ
+  keysFound s τ o h e = (
+    operandsAll M (look M s) τ o e .0,
+    λ p l. let (v, f) = operandLive M (look M s) τ o (at M τ p) e (operandAt M τ p l) in found (at M τ p) (s .tokens) (live v) h f .0,
+  )
 
   -- ---- a firing
 
@@ -133,7 +143,7 @@ module _ (M : Machine) (OfKey : Key (M .Tag) → Type 0) (OfValue : M .Value →
   readCell waiting h = tt
   readCell (present v) h = h
 
-  readContent : (c : ℕ) (x : Cell (M .Value)) → c < M .cellCount → OfCell x → OfContent (contentRead c x)
+  readContent : (c : ℕ) (x : Cell (M .Value)) → OfRead c → OfCell x → OfContent (contentRead c x)
   readContent c absent k h = k
   readContent c waiting k h = k
   readContent c (present v) k h = h
@@ -185,8 +195,8 @@ module _ (M : Machine) (OfKey : Key (M .Tag) → Type 0) (OfValue : M .Value →
             → _≡_ {A = FiredOf M} (onOption q (notFired (M .secondToken)) (λ p. commit M s τ (M .effect τ (p .left) (p .right)))) (fired x) → OfState x
         go none f g = neverFired M _ x g
         go (some o) f g =
-            let (k, v, w) = operandsFound s τ o (h .tokens) f in
-            committed s τ (M .effect τ (o .left) (o .right)) x (keeps .signal) h (keeps .effect τ (o .left) (o .right) k v w) g
+            let (v, w) = valuesFound s τ o (h .tokens) f in
+            committed s τ (M .effect τ (o .left) (o .right)) x (keeps .signal) h (keeps .effect τ (o .left) (o .right) (keysFound s τ o (h .tokens) f) v w) g
 
     pub reached-keeps : (s : StateOf M) → OfState s → (f o : ℕ) (x : StateOf M) → Reached M s f o x → OfState x
     reached-keeps s h zero o x (e, q) = subst OfState (sym q) h

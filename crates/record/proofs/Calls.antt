@@ -80,6 +80,13 @@ too-deep k site (c ∷ cs) f e h =
 pub entered-path : (k : Tag) (site : ℕ) (cs : List Call) → k .path ≡ pathOf cs → entered k site .path ≡ pathOf (record { site = site; iteration = k .iteration } ∷ cs)
 entered-path k site cs e = ap (λ (n : ℕ). n * 65536 + site * 256 + k .iteration) e
 
+-- and LEAVE gives back the newest of them, with the path of the others
+pub left-path : (k : Tag) (c : Call) (cs : List Call) → CallFits c → k .path ≡ pathOf (c ∷ cs)
+    → leaveOf k ≡ To (c .site) (record { path = pathOf cs; iteration = c .iteration; instruction = k .instruction })
+unfolding leaveOf
+left-path k c cs f e =
+    rw e (leave-entered (record { path = pathOf cs; iteration = c .iteration; instruction = k .instruction }) (c .site) (f .iteration) (f .some) (f .site))
+
 -- ---- the statement
 
 pub calls : CallLaws

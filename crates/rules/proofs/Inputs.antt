@@ -1,31 +1,35 @@
--- Inputs that passed the check are a start: their keys are pairwise different, they fit the ledger, and each is live. Assumes nothing.
+-- Inputs that passed the check are a start: their keys are pairwise different, they fit the ledger, and each is live (`start`). Their tags are at the root, so
+-- that what holds of such keys holds of the first state (`start-keys`). Assumes nothing.
 use Prim.Native.Nat.{ℕ, zero, suc, _+_, _/_, _<_}
 use mathlib.Core.Path.{_≡_, refl, sym, ap, _∙_, subst}
-use mathlib.Core.Bool.{Bool, true, false, not, _||_}
+use mathlib.Core.Bool.{true, false, not}
 use mathlib.Core.List.{List, [], _∷_, map}
 use mathlib.Core.Option.{none, some}
 use native.Mathlib.Omega.{arith}
 use native.Mathlib.Nat.{zero-add}
-use lib.ListN.{length, getD, take, drop, length-map}
+use lib.ListN.{length, getD, take, drop, replicate, length-map}
 use lib.Dec.{eqb, leb, ltb}
+use lib.IntN.{ℤ}
 use borrow.Author.Tests.{leb-true, eqb-true, eq-eqb, not-true}
 use Rattle.record.specs.declared.tag.Tag.{Tag}
 use Rattle.record.specs.declared.token.Token.{Token}
 use Rattle.record.specs.declared.instruction.Instruction.{Instruction}
 use Rattle.number.specs.Number.{byteAt, number16, number32, number64, signedOf}
 use Rattle.buffer.specs.Rows.{rows, allRows}
-use Rattle.record.specs.TokensAndTags.{isInput, standsAt, sameTag, contentOf}
+use Rattle.record.specs.TokensAndTags.{isInput, standsAt, sameTag, contentOf, rootOf}
 use Rattle.record.specs.TokensAndTags as Tokens
 use Rattle.record.specs.Widths.{tokenWidth}
-use Rattle.machine.specs.Machine.{Key, Machine, find, sameKey}
+use Rattle.machine.specs.Machine.{Key, live, absent, Machine, find, sameKey}
 use Rattle.machine.specs.Orders.{Live, Distinct, AllLive, Start}
 use Rattle.machine.proofs.View.{when-no, falseTrue}
+use Rattle.machine.proofs.Kept.{Each, each-map, OfContent, OfCell, OfToken, OfState}
 use Rattle.rules.specs.declared.answer.Refusal.the-variants as Refusals
 use Rattle.rules.specs.declared.answer.Checked.the-variants.{Passed}
 use Rattle.rules.specs.Check.{demand, _andThen_, any, inTurn, goodInput, secondInput, checkInputs, operandsAt}
 use Rattle.rules.specs.InstructionSet.{machineOf}
 use Rattle.rules.specs.Run.{contentHeld, tokenHeld, firstState}
 use Rattle.rules.proofs.Passed.{both, demand-passed, andThen-passed, turn-passed}
+use Rattle.rules.proofs.Lists.{neither, each-both, any-own}
 
 -- ---- each is live
 
@@ -36,6 +40,35 @@ input-live l e =
     let zeros : number32 l 16 ≡ 0 = eqb-true (number32 l 16) 0 (both (eqb (byteAt l 8) 0) (eqb (number32 l 16) 0) rest .1) in
     let state : byteAt l 16 ≡ 0 = omega arith in
     (signedOf (number32 l 12), rw state)
+
+-- what each good input has, all have
+inputs-each : (g : List Instruction) (P : Token → Type 0) → ((l : List ℕ) → goodInput g l ≡ true → P (Tokens.decode l))
+    → (n i : ℕ) (l : List ℕ) → inTurn (λ k good. demand good Refusals.BadInput k) i (rows tokenWidth (goodInput g) n l) ≡ Passed → Each P (rows tokenWidth Tokens.decode n l)
+inputs-each g P h zero i l e = tt
+inputs-each g P h (suc n) i l e =
+    let parts = andThen-passed (demand (goodInput g l) Refusals.BadInput i) _ e in
+    (h l (demand-passed (goodInput g l) Refusals.BadInput i (parts .0)), inputs-each g P h n (suc i) (drop tokenWidth l) (parts .1))
+
+-- "Input tokens carry the root path and iteration"
+input-root : (g : List Instruction) (l : List ℕ) → goodInput g l ≡ true → Tokens.decode l .tag ≡ rootOf (Tokens.decode l .tag .instruction)
+unfolding goodInput isInput Tokens.decode
+input-root g l e =
+    let good = both (isInput l) (ltb (byteAt l 9) (operandsAt g (number16 l 10))) e .0 in
+    let parts = both (eqb (number64 l 0) 0) _ good in
+    let path = eqb-true (number64 l 0) 0 (parts .0) in
+    let iteration = eqb-true (byteAt l 8) 0 (both (eqb (byteAt l 8) 0) _ (parts .1) .0) in
+    λ j. record { path = path j; iteration = iteration j; instruction = number16 l 10 }
+
+-- of one key
+stands-there : (t u : Token) → tokenHeld t .key ≡ tokenHeld u .key → standsAt (u .tag) (u .port) t ≡ true
+unfolding standsAt sameTag
+stands-there t u e =
+    rw (
+      eq-eqb (t .port) (u .port) (ap (λ (k : Key Tag). k .port) e),
+      eq-eqb (t .tag .path) (u .tag .path) (ap (λ (k : Key Tag). k .tag .path) e),
+      eq-eqb (t .tag .iteration) (u .tag .iteration) (ap (λ (k : Key Tag). k .tag .iteration) e),
+      eq-eqb (t .tag .instruction) (u .tag .instruction) (ap (λ (k : Key Tag). k .tag .instruction) e),
+    )
 
 module _ (g : List Instruction) (capacity cells : ℕ) where
   abbrev M : Machine
@@ -49,21 +82,34 @@ module _ (g : List Instruction) (capacity cells : ℕ) where
       let good = demand-passed (goodInput g l) Refusals.BadInput i (parts .0) in
       (input-live l (both (isInput l) (ltb (byteAt l 9) (operandsAt g (number16 l 10))) good .0), inputs-live n (suc i) (drop tokenWidth l) (parts .1))
 
+  pub absent-of : (P : Key Tag → Type 0) (Q : ℤ → Type 0) (R : ℕ → Type 0) (n : ℕ) → Each (OfCell M P Q R) (replicate n absent)
+  absent-of P Q R zero = tt
+  absent-of P Q R (suc n) = (tt, absent-of P Q R n)
+
+  -- what holds of every key at the root where an input stands, holds of the first state
+  pub start-keys : (P : Key Tag → Type 0) (R : ℕ → Type 0) (inputs : List ℕ)
+      → ((t : Token) → t .tag ≡ rootOf (t .tag .instruction) → any (standsAt (t .tag) (t .port)) (allRows tokenWidth Tokens.decode inputs) ≡ true → P (tokenHeld t .key))
+      → checkInputs g capacity inputs ≡ Passed → OfState M P (λ v. Unit {0}) R (firstState inputs cells)
+  unfolding checkInputs firstState goodInput
+  start-keys P R inputs h e = record {
+    tokens = each-map (λ t. Input t × (any (standsAt (t .tag) (t .port)) ts ≡ true)) (OfToken M P (λ v. Unit {0}) R) tokenHeld (λ t ((root, content), own). (h t root own, content)) ts
+        (each-both Input (λ t. any (standsAt (t .tag) (t .port)) ts ≡ true) ts (inputs-each g Input input (length inputs / tokenWidth) 0 inputs (andThen-passed _ _ e .0)) (any-own (λ t u. standsAt (t .tag) (t .port) u) (λ t. stands-there t t refl) ts));
+    cells = absent-of P (λ v. Unit {0}) R cells;
+  }
+    where
+      ts : List Token
+      ts = allRows tokenWidth Tokens.decode inputs
+
+      Input : Token → Type 0
+      Input t = (t .tag ≡ rootOf (t .tag .instruction)) × OfContent M P (λ v. Unit {0}) R (contentHeld (t .content))
+
+      input : (l : List ℕ) → goodInput g l ≡ true → Input (Tokens.decode l)
+      input l k =
+          let (v, f) = input-live l (both (isInput l) _ k .0) in
+          let z : contentHeld (Tokens.decode l .content) ≡ live v = cc in
+          (input-root g l k, rw z tt)
+
   -- ---- their keys are different
-
-  either : (a b : Bool) → (a || b) ≡ false → (a ≡ false) × (b ≡ false)
-  either true b e = (e, cc)
-  either false b e = (refl, e)
-
-  stands-there : (t u : Token) → tokenHeld t .key ≡ tokenHeld u .key → standsAt (u .tag) (u .port) t ≡ true
-  unfolding standsAt sameTag
-  stands-there t u e =
-      rw (
-        eq-eqb (t .port) (u .port) (ap (λ (k : Key Tag). k .port) e),
-        eq-eqb (t .tag .path) (u .tag .path) (ap (λ (k : Key Tag). k .tag .path) e),
-        eq-eqb (t .tag .iteration) (u .tag .iteration) (ap (λ (k : Key Tag). k .tag .iteration) e),
-        eq-eqb (t .tag .instruction) (u .tag .instruction) (ap (λ (k : Key Tag). k .tag .instruction) e),
-      )
 
   -- none of the earlier stands where u does
   abbrev Alone : List Token → Token → Type 0
@@ -78,8 +124,8 @@ module _ (g : List Instruction) (capacity cells : ℕ) where
   all-different : (d : Token) (ts : List Token) → ((k : ℕ) → k < length ts → Alone (take k ts) (getD ts k d)) → Distinct M (map tokenHeld ts)
   all-different d [] h = tt
   all-different d (t ∷ ts) h = (
-    not-found d t ts (λ k l. either (standsAt (getD ts k d .tag) (getD ts k d .port) t) _ (h (suc k) (omega arith)) .0),
-    all-different d ts (λ k l. either (standsAt (getD ts k d .tag) (getD ts k d .port) t) _ (h (suc k) (omega arith)) .1),
+    not-found d t ts (λ k l. neither (standsAt (getD ts k d .tag) (getD ts k d .port) t) _ (h (suc k) (omega arith)) .0),
+    all-different d ts (λ k l. neither (standsAt (getD ts k d .tag) (getD ts k d .port) t) _ (h (suc k) (omega arith)) .1),
   )
 
   -- ---- a start

@@ -4,7 +4,6 @@ use Prim.Native.Nat.{ℕ, zero, suc, _+_, _<_, _≤_}
 use mathlib.Core.Path.{_≡_, refl, sym, ap, _∙_, subst}
 use mathlib.Core.Bool.{Bool, true, false, _&&_, cond}
 use mathlib.Core.List.{List, [], _∷_}
-use mathlib.Core.Option.{Option, none, some}
 use native.Mathlib.Omega.{arith}
 use native.Mathlib.Nat.{zero-add}
 use native.Mathlib.Decide.{decLe}
@@ -106,10 +105,9 @@ cond-plain : (b : Bool) (x y : EffectHere) → Plain x → Plain y → Plain (co
 cond-plain true x y p q = p
 cond-plain false x y p q = q
 
-returned-plain : (g : List Instruction) (o : Option ℕ) (k : ℕ) (τ : Tag) (v : ℤ) → Plain (sendReturned g o k τ v)
+returned-plain : (g : List Instruction) (i k : ℕ) (τ : Tag) (v : ℤ) → Plain (sendReturned g i k τ v)
 unfolding sendReturned
-returned-plain g none k τ v = tt
-returned-plain g (some i) k τ v = cond-plain (ltb (i + k) (length g)) (send v _) (refuse Refusals.NoReturn) tt tt
+returned-plain g i k τ v = cond-plain (ltb (i + k) (length g)) (send v _) (refuse Refusals.NoReturn) tt tt
 
 left-plain : (g : List Instruction) (l : Left) (r : Instruction) (v : ℤ) → Plain (sendLeft g l r v)
 unfolding sendLeft

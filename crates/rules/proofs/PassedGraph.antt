@@ -1,24 +1,24 @@
 -- What holds of a graph that passed its check, record by record; and what the table of operations says of the operations that need it. Assumes nothing.
 use Prim.Native.Nat.{ℕ, _/_, _%_, _≤_, _<_}
 use mathlib.Core.Path.{_≡_, refl}
-use mathlib.Core.Bool.{Bool, true, false, not, cond, _&&_}
+use mathlib.Core.Bool.{Bool, true, false, cond, _&&_}
 use mathlib.Core.List.{List, [], _∷_}
 use native.Mathlib.Omega.{arith}
 use native.Mathlib.Nat.{zero-add}
-use borrow.Author.Tests.{leb-true, le-leb, eqb-true}
+use borrow.Author.Tests.{leb-true, le-leb, eqb-true, not-true}
 use lib.ListN.{length, take}
 use lib.Dec.{eqb, leb}
 use lib.IntN.{ℤ, pos, negsuc}
 use Rattle.record.specs.declared.instruction.Instruction.{Instruction}
 use Rattle.record.specs.declared.operation.Operation.{Operation}
 use Rattle.record.specs.declared.operation.Operation.the-variants.{Copy, Sink, Out, Const, Switch, Gate, Next, Enter, Leave, Fetch, Store, OnTwo, OnConstant, Unknown}
-use Rattle.record.specs.GraphRecords.{Row, table, lookup, rowOf, operationOf, operandsOf, graphOf, isGraphLength, destinations}
+use Rattle.record.specs.GraphRecords.{Row, noRow, table, lookup, rowOf, operationOf, operandsOf, graphOf, isGraphLength, destinations}
 use Rattle.record.specs.GraphRecords as Graph
 use Rattle.record.specs.Widths.{graphWidth}
 use Rattle.rules.specs.declared.answer.Refusal.the-variants.{GraphLength, UnknownOperation, FanOut, BadArc, BadSite}
 use Rattle.rules.specs.declared.answer.Checked.the-variants.{Passed}
 use Rattle.rules.specs.Check.{demand, all, any, otherReturn, inTurn, instructionAt, fanOutAllowed, unusedAreZero, goodArc, within, goodSite, checkRecord, checkGraph}
-use Rattle.rules.proofs.Passed.{both, demand-passed, andThen-passed, turn-passed}
+use Rattle.rules.proofs.Passed.{both, demand-passed, andThen-passed, turn-passed, getD-past}
 
 -- ---- the records
 
@@ -41,6 +41,11 @@ of-record g i r e =
       arcs = demand-passed _ BadArc i (s .0);
       site = demand-passed _ BadSite i (s .1);
     }
+
+-- past the graph stands an unknown operation
+pub past-operation : (g : List Instruction) (i : ℕ) → length g ≤ i → operationOf (instructionAt g i .code) ≡ Unknown
+unfolding instructionAt Graph.decode rowOf
+past-operation g i h = rw (getD-past g i (Graph.decode []) h)
 
 module _ (graph : List ℕ) (passed : checkGraph graph ≡ Passed) where
   parts : (isGraphLength (length graph) ≡ true) × (inTurn (checkRecord (graphOf graph)) 0 (graphOf graph) ≡ Passed)
@@ -78,17 +83,18 @@ Said Unknown n k = true
 abbrev says : ℕ → Row → Bool
 says n r = Said (r .operation) n (r .leastFanOut) && leb (r .operands) 2
 
-rows-say : (rs : List Row) (n : ℕ) → all (λ r. says (r .code) r) rs ≡ true → says n (lookup rs n) ≡ true
-rows-say [] n e = refl
-rows-say (r ∷ rs) n e = let p = both (says (r .code) r) _ e in go (eqb n (r .code)) refl (p .0) (rows-say rs n (p .1))
+-- what each row has, and what stands for no row, every code has
+by-rows : (test : ℕ → Row → Bool) (n : ℕ) → test n (noRow n) ≡ true → (rs : List Row) → all (λ r. test (r .code) r) rs ≡ true → test n (lookup rs n) ≡ true
+by-rows test n other [] e = other
+by-rows test n other (r ∷ rs) e = let p = both (test (r .code) r) _ e in go (eqb n (r .code)) refl (p .0) (by-rows test n other rs (p .1))
   where
-    go : (t : Bool) → eqb n (r .code) ≡ t → says (r .code) r ≡ true → says n (lookup rs n) ≡ true → says n (cond t r (lookup rs n)) ≡ true
+    go : (t : Bool) → eqb n (r .code) ≡ t → test (r .code) r ≡ true → test n (lookup rs n) ≡ true → test n (cond t r (lookup rs n)) ≡ true
     go true q here later = rw (eqb-true n (r .code) q) here
     go false q here later = later
 
 said : (n : ℕ) → Said (operationOf n) n (rowOf n .leastFanOut) && leb (operandsOf n) 2 ≡ true
 unfolding rowOf
-said n = rows-say table n refl
+said n = by-rows says n refl table refl
 
 pub two-operands : (n : ℕ) → operandsOf n ≤ 2
 two-operands n = leb-true _ _ (both (Said (operationOf n) n (rowOf n .leastFanOut)) _ (said n) .1)
@@ -108,11 +114,18 @@ module _ {g : List Instruction} {i : ℕ} {r : Instruction} (good : Good g i r) 
   unfolding fanOutAllowed
   least-fan-out = leb-true _ _ (both _ (leb (r .fanout) _) (good .fanOut) .0)
 
-  pub enter-site : operationOf (r .code) ≡ Enter → within 0 255 (r .constant) ≡ true
+  pub enter-code : operationOf (r .code) ≡ Enter → eqb (r .code) 8 ≡ true
+  enter-code e = both (eqb (r .code) 8) (leb 2 (rowOf (r .code) .leastFanOut)) (said-of e) .0
+
+  -- of an ENTER, by its code: its site, and that no earlier ENTER of the site has another return
+  pub enter-named : eqb (r .code) 8 ≡ true → (within 1 255 (r .constant) ≡ true) × (any (otherReturn r) (take i g) ≡ false)
   unfolding goodSite
-  enter-site e =
-      let c = both (eqb (r .code) 8) (leb 2 (rowOf (r .code) .leastFanOut)) (said-of e) .0 in
-      wider (r .constant) (both _ (eqb (r .second .port) 0 && not (any (otherReturn r) (take i g))) (rw c at (good .site)) .0)
+  enter-named c =
+      let p = both (within 1 255 (r .constant)) _ (rw c at (good .site)) in
+      (p .0, not-true _ (both (eqb (r .second .port) 0) _ (p .1) .1))
+
+  pub enter-site : operationOf (r .code) ≡ Enter → within 0 255 (r .constant) ≡ true
+  enter-site e = wider (r .constant) (enter-named (enter-code e) .0)
 
   pub leave-site : operationOf (r .code) ≡ Leave → within 0 255 (r .constant) ≡ true
   unfolding goodSite

@@ -1,10 +1,9 @@
 -- 01, "Firing": the operations as an instance of the machine. An effect goes by the tag and the operands alone: it does not look at ledger or cells.
--- Refusals 10, 12 to 14, 16 and 17 are here. Assumes nothing.
+-- Refusals 10, 12 to 14 and 17 are here. Assumes nothing.
 use Prim.Native.Nat.{ℕ, _+_}
 use native.Mathlib.Decide.{ℕ-discrete}
 use mathlib.Core.Path.{_≡_, ap}
 use mathlib.Core.Bool.{Bool, _&&_, _||_, cond}
-use mathlib.Core.Option.{Option, none, some}
 use mathlib.Core.List.{List, [], _∷_, map}
 use lib.ListN.{length}
 use lib.IntN.{ℤ, pos, negsuc, natAbs}
@@ -63,16 +62,16 @@ unfoldable pub sendEntered : Entered → Instruction → ℤ → EffectHere
 sendEntered (In τ) r v = send v (keyUnder τ (r .first) ∷ [])
 sendEntered TooDeep r v = refuse Refusals.TooDeep
 
--- ENTER: "Destination 2, port 0, is the site's return instruction": that of the first ENTER of the site, and so of all
-unfoldable pub returnOf : (site : ℕ) → List Instruction → Option ℕ
-returnOf site [] = none
-returnOf site (r ∷ rs) = cond (entersSite (pos site) r) (some (r .second .instruction)) (returnOf site rs)
+-- ENTER: "Destination 2, port 0, is the site's return instruction": that of the first ENTER of the site, and so of all. Instruction 0 stands for a site that
+-- no ENTER has: no path of a run names one (Callers)
+unfoldable pub returnOf : (site : ℕ) → List Instruction → ℕ
+returnOf site [] = 0
+returnOf site (r ∷ rs) = cond (entersSite (pos site) r) (r .second .instruction) (returnOf site rs)
 
 -- LEAVE "sends its value, under that parent and iteration, to port 0 of return instruction plus its constant".
--- 16: "no ENTER has the path's site". 17: "return instruction plus constant past the graph"
-unfoldable pub sendReturned : List Instruction → Option ℕ → (constant : ℕ) → Tag → ℤ → EffectHere
-sendReturned g none k τ v = refuse Refusals.UnknownSite
-sendReturned g (some i) k τ v = cond (ltb (i + k) (length g)) (send v (record { tag = toOf τ (i + k); port = 0 } ∷ [])) (refuse Refusals.NoReturn)
+-- 17: "return instruction plus constant past the graph"
+unfoldable pub sendReturned : List Instruction → (instruction constant : ℕ) → Tag → ℤ → EffectHere
+sendReturned g i k τ v = cond (ltb (i + k) (length g)) (send v (record { tag = toOf τ (i + k); port = 0 } ∷ [])) (refuse Refusals.NoReturn)
 
 -- at path 0 LEAVE never fires
 unfoldable pub sendLeft : List Instruction → Left → Instruction → ℤ → EffectHere

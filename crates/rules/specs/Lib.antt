@@ -11,3 +11,4 @@ pub mod Small
 pub mod Fits
 pub mod Demand1
 pub mod Demand2
+pub mod Callers

@@ -2,7 +2,7 @@
 ghost use mathlib.Core.Path.{_≡_};
 ghost use Rattle.rules.specs.Answer.{numberOf, wordOf};
 
-// The words of 01's table of refusals in this order, 1 to 17 without 15, which R-5 took out.
+// The words of 01's table of refusals in this order, 1 to 17 without 15 and 16, which R-5 and R-6 took out.
 pub enum Refusal {
     GraphLength,
     UnknownOperation,
@@ -18,7 +18,6 @@ pub enum Refusal {
     OutOfRange,
     Iteration,
     TooDeep,
-    UnknownSite,
     NoReturn,
 }
 
@@ -61,7 +60,6 @@ pub fn number(r: Refusal) -> u8
         Refusal::OutOfRange => 12,
         Refusal::Iteration => 13,
         Refusal::TooDeep => 14,
-        Refusal::UnknownSite => 16,
         Refusal::NoReturn => 17,
     }
 }

@@ -46,10 +46,12 @@ pub enum Wrong {
     RootLeaveEnabled,
     /// takes a token at a LEAVE under path 0 for no result.
     RootLeaveNotProper,
+    /// LEAVE takes the site of the level above its own.
+    OuterSite,
 }
 
 /// Each wrong emulator with the cases by which it is known.
-pub const APART: [(Wrong, &[&str]); 20] = [
+pub const APART: [(Wrong, &[&str]); 21] = [
     (
         Wrong::IgnoresPicks,
         &[
@@ -165,6 +167,13 @@ pub const APART: [(Wrong, &[&str]); 20] = [
         &[
             "procedure: ADD 1 to LEAVE at the root",
             "procedure: an input at a LEAVE",
+        ],
+    ),
+    (
+        Wrong::OuterSite,
+        &[
+            "sites: four levels, and each LEAVE returns by its own site",
+            "sites: one procedure called from two sites of another",
         ],
     ),
 ];

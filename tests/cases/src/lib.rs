@@ -6,11 +6,12 @@
 //!
 //! - `paper`: the cases and the examples with numbers of 01 itself, and every
 //!   code of its table;
-//! - `refusals`: every refusal that can be reached, with its places;
+//! - `refusals`: every refusal, with its places;
 //! - `orders`: two faults at once, in 01's order of refusals;
 //! - `limits`: budgets, capacities, cells, picks, and what buffers held before;
 //! - `hung`: runs with nothing enabled that are not completed (02, R-2);
 //! - `procedures`: a LEAVE under path 0 is a result (02, R-5);
+//! - `sites`: every LEAVE in an entered path has its caller (02, R-6);
 //! - `apart`: which cases tell the wrong emulators of 01 and 02 from a right one.
 
 pub mod apart;
@@ -21,6 +22,7 @@ mod orders;
 mod paper;
 mod procedures;
 mod refusals;
+mod sites;
 
 use lent::{Lent, Part, TOKEN_RECORD};
 use second::Answer;
@@ -49,6 +51,7 @@ pub fn all() -> Vec<Case> {
     cases.extend(limits::cases());
     cases.extend(hung::cases());
     cases.extend(procedures::cases());
+    cases.extend(sites::cases());
     cases
 }
 

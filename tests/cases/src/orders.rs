@@ -4,9 +4,9 @@
 //!
 //! In a firing these pairs can meet: each of 10, 11, 12, 13, 14 and 17 with 8;
 //! 10, 11 and 12 with 9; and 8 with 9. No others can: 10 speaks of a cell that is
-//! not there and 11 of one that is present; 11, 12, 13, 14 and the group 16 to 17
-//! belong to different operations; and where one of 13 to 17 is given, there is no
-//! output whose tag could be taken.
+//! not there and 11 of one that is present; 11, 12, 13, 14 and 17 belong to
+//! different operations; and where one of 13 to 17 is given, there is no output
+//! whose tag could be taken.
 
 use crate::lent::*;
 use crate::paper::{turning, two_stores};

@@ -1,8 +1,4 @@
-//! Every refusal that can be reached, each at several places where places differ.
-//!
-//! Refusal 16 has no case: a path is made by ENTER alone, from the site of an
-//! ENTER of the graph, and inputs have path 0, so that every site of a path has
-//! its ENTER.
+//! Every refusal, each at several places where places differ.
 
 use crate::lent::*;
 use crate::paper::{turning, two_stores};

@@ -41,9 +41,9 @@ extern "C" {
     ) -> u64;
 }
 
-/// Whether a word is the number of a refusal. Number 15 has left the table.
+/// Whether a word is the number of a refusal. Numbers 15 and 16 have left the table.
 pub fn is_refusal(word: u64) -> bool {
-    matches!(word, 1..=14 | 16..=17)
+    matches!(word, 1..=14 | 17)
 }
 
 /// The packed answer of a word with its firings, tokens and place.

@@ -35,7 +35,7 @@ const NAMES: [(u8, &str); 27] = [
     (39, "EQ constant"),
 ];
 
-const REFUSALS: [(usize, &str); 16] = [
+const REFUSALS: [(usize, &str); 15] = [
     (1, "graph length"),
     (2, "unknown operation"),
     (3, "fan-out"),
@@ -50,7 +50,6 @@ const REFUSALS: [(usize, &str); 16] = [
     (12, "out of range"),
     (13, "iteration"),
     (14, "too deep"),
-    (16, "unknown site"),
     (17, "no return"),
 ];
 
@@ -166,11 +165,7 @@ impl Tally {
         lines.count("tokens deferred", self.hung_deferred);
         println!("refusals:");
         for (number, word) in REFUSALS {
-            let (name, count) = (format!("{number} {word}"), self.refusals[number]);
-            match number {
-                16 => println!("  {name:<28}{count:>10}  (cannot be reached)"),
-                _ => lines.count(&name, count),
-            }
+            lines.count(&format!("{number} {word}"), self.refusals[number]);
         }
         for number in [8, 9] {
             lines.count(

@@ -205,10 +205,12 @@ impl<'a> Machine<'a> {
         }
     }
 
-    /// LEAVE in an entered path: 16 for a site without ENTER, 17 past the graph.
+    /// LEAVE in an entered path: 17 past the graph. A path is made by ENTER alone,
+    /// from a site that the check has passed, so that the site has its return (02,
+    ///
     fn leave(&self, activity: &Activity) -> Result<Effect, u8> {
         let site = (activity.path >> 8) as u8;
-        let back = *self.graph.returns.get(&site).ok_or(16)?;
+        let back = self.graph.returns[&site];
         let target = i64::from(back) + i64::from(activity.instruction.constant);
         if target >= self.graph.instructions.len() as i64 {
             return Err(17);

@@ -1,7 +1,5 @@
 -- `graph_tables::note` meets its contract. Assumes nothing.
 use borrow.Author.Tests.{eq-eqb, ne-eqb, lt-ltb, le-ltb}
-use native.Mathlib.Numerals.{add-one}
-use native.Mathlib.Omega.{arith}
 use borrow.Author.Needs.{needs}
 use mir.Facts.{toZ-ofZ}
 use mir.Val.{SFits}
@@ -15,16 +13,13 @@ unfolding atSite
 note-spec = tie.close (tie.spec
     (λ c. rw (ne-eqb _ _ (c .if1 .taken)))
     (λ c κs. search needs)
-    (λ c.
-    let s = c .before .before .before .before .before .before .before in
-    omega (arith, s .pre (c .before .before .before .before .if1 .left)))
     (λ c. search needs)
     (λ c. search needs)
     (λ c.
-    let s = c .before .before .before .before .before .before .before in
-    let fits : SFits w32 (s .args .r .constant) = record { sfits = c .before .before .before .struct-told .given .1 .1 .1 .1 .0 .1 } in
-    let e = rw (toZ-ofZ fits) at (c .before .before .small .ensures) in
-    rw (eq-eqb _ _ (c .before .before .before .before .if1 .left), ← e, lt-ltb _ _ (c .before .if2 .taken), add-one _))
+    let s = c .before .before .before .before .before .before in
+    let fits : SFits w32 (s .args .r .constant) = record { sfits = c .before .before .struct-told .given .1 .1 .1 .1 .0 .1 } in
+    let e = rw (toZ-ofZ fits) at (c .before .small .ensures) in
+    rw (eq-eqb _ _ (c .before .before .before .if1 .left), ← e, lt-ltb _ _ (c .if2 .taken)))
     (λ c.
     let fits : SFits w32 (c .before .before .before .before .before .before .args .r .constant) = record { sfits = c .before .before .struct-told .given .1 .1 .1 .1 .0 .1 } in
     let e = rw (toZ-ofZ fits) at (c .before .small .ensures) in

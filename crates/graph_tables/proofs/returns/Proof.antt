@@ -9,7 +9,7 @@ use borrow.Author.Needs.{needs}
 use Rattle.record.specs.GraphRecords.{graphOf}
 use Rattle.record.specs.Widths.{graphWidth}
 use Rattle.abstraction.specs.Tables.{Returns}
-use Rattle.graph_tables.proofs.Entries.{no-returns, note-returns, return-small}
+use Rattle.graph_tables.proofs.Entries.{no-returns, note-returns}
 use Rattle.check_fields.proofs.Sites.{length-at-site}
 use Rattle.check_fields.proofs.Graphs.{length-graph, in-graph}
 use Rattle.graph_tables.proofs.returns.Statement.{statement}
@@ -30,10 +30,7 @@ returns-spec = tie.close (tie.spec
     (omega arith, refl, rw (drop-of-length-le (graphOf g) {i = length g / graphWidth} (omega (arith, length-graph g))) no-returns))
     (λ c. omega arith)
     (λ c κs. omega arith)
-    (λ c κs.
-    let l = c .before .before .before .loop in
-    let s = c .before .before .before .before .before .before in
-    return-small (s .args .graph .now) (s .pre) (l .i - 1) (omega arith) _ (c .instruction-at .ensures))
+    (λ c κs. search needs)
     (λ c. omega arith)
     (λ c.
     let l = c .before .before .before .before .loop in

@@ -281,9 +281,11 @@ impl Machine<'_> {
     }
 
     fn leave(&mut self, left: Arrived, constant: i32) -> Result<(), u8> {
-        let site = (left.path >> 8) as u8;
+        let (site, outer) = ((left.path >> 8) as u8, (left.path >> 24) as u8);
+        let outer_taken = self.wrong == Some(Wrong::OuterSite) && outer != 0;
+        let site = if outer_taken { outer } else { site };
         let enters = |r: &&[u8]| r[0] == ENTER && r[8] == site;
-        let enter = self.graph.chunks(GRAPH_RECORD).find(enters).ok_or(16)?;
+        let enter = self.graph.chunks(GRAPH_RECORD).find(enters).ok_or(17)?;
         let target = usize::from(u16::from_le_bytes([enter[6], enter[7]])) + constant as usize;
         if target >= self.graph.len() / GRAPH_RECORD {
             return Err(17);

@@ -5,9 +5,7 @@ use native.Mathlib.Omega.{arith}
 use lib.IntN.{natAbs}
 use mir.Syntax.{w32}
 use mir.Val.{SFits}
-use denote.Ref.{now}
-use Rattle.record.specs.GraphRecords.{graphOf}
-use Rattle.rules.specs.InstructionSet.{sendLeft, returnOf}
+use Rattle.rules.specs.InstructionSet.{sendLeft}
 use Rattle.fire_effect.proofs.Does.{made-as}
 use borrow.Author.Needs.{needs}
 use Rattle.fire_effect.proofs.tags.leave.Statement.{statement}
@@ -31,6 +29,6 @@ leave-spec = tie.close (tie.spec
     let site = c .before .before .before .site .given .0 .0 in
     let fits : SFits w32 (s .args .r .constant) = record { sfits = c .before .before .before .before .before .before .before .struct-told .given .1 .1 .1 .1 .0 .1 } in
     let k = c .before .before .before .before .before .before .byte .ensures ∙ ap natAbs (toZ-ofZ fits) in
-    let entry = s .pre .1 .0 site (omega (arith, c .before .before .known-told .given)) in
+    let back = s .pre .1 .0 site (omega (arith, c .before .before .known-told .given)) in
     rw (sym (c .before .before .before .before .before .leave .ensures) ∙ c .before .before .before .site .given .1)
-    (made-as (λ v. rw (← k)) (c .returned .ensures (returnOf site (graphOf (now (s .args .graph)))) entry))))
+    (made-as (λ v. rw (← k, ← back)) (c .returned .ensures))))
