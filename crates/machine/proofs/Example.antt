@@ -1,13 +1,14 @@
--- A small program under two orders, computed: the runs end alike, and their ledgers are different lists; a run that hangs;
--- and how the theorems are cited for it. Assumes nothing.
+-- A small program under two orders, computed: the runs end alike, and their ledgers are different lists; a run that hangs; its
+-- ideal steps; and how the theorems are cited for it. Assumes nothing.
 use mathlib.Core.Path.{_≡_, refl}
 use mathlib.Core.List.{[], _∷_}
 use Prim.Native.Nat.{ℕ, zero, suc, _+_}
 use native.Mathlib.Decide.{ℕ-discrete}
 use native.Mathlib.Omega.{arith}
 use Rattle.machine.specs.Machine.{Key, Token, Effect, refuse, send, read, write, Machine, State, live, spent, deferred, absent, waiting, present}
-use Rattle.machine.specs.Machine.{completed, hung, run, machine}
+use Rattle.machine.specs.Machine.{completed, hung, refused, run, machine}
 use Rattle.machine.specs.Orders.{CellsBelow, ReadsForSome, Lawful, Start, Same, Invariants}
+use Rattle.machine.specs.Steps.{profile}
 use Rattle.machine.proofs.Orders.{startGood, orders}
 use Rattle.machine.proofs.Reached.{reached-invariants, reached-picks}
 
@@ -77,6 +78,21 @@ unanswered : run small 65535 [] (record { tokens = token 0 0 5 ∷ []; cells = a
 }
 unfolding machine
 unanswered = refl
+
+-- ---- R-1: 0 and 1 fire in the first step, 2 in the second
+
+steps : profile small 18 8 0 start ≡ record { records = record { firings = 2; unspent = 2 } ∷ record { firings = 1; unspent = 1 } ∷ []; ended = run small 65535 [] start }
+unfolding machine profile
+steps = refl
+
+-- a token that is deferred is counted
+deferredStep : profile small 18 8 0 (record { tokens = token 0 0 5 ∷ []; cells = absent ∷ [] }) .records ≡ record { firings = 1; unspent = 1 } ∷ []
+unfolding machine profile
+deferredStep = refl
+
+noRecord : profile small 18 1 0 start .ended .outcome ≡ refused 18 0
+unfolding machine profile
+noRecord = refl
 
 -- ---- the theorems' hypotheses hold here
 

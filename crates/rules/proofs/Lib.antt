@@ -11,5 +11,6 @@ pub mod Invariants
 pub mod Callers
 pub mod Fits
 pub mod Orders
+pub mod Profile
 pub mod Left
 pub mod Small

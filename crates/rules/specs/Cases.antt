@@ -9,12 +9,14 @@ use Rattle.number.specs.Number.{bitsOf, bytes16, bytes32}
 use Rattle.record.specs.GraphRecords.{graphOf}
 use Rattle.record.specs.TokensAndTags as Tokens
 use Rattle.record.specs.Widths.{tokenWidth, cellWidth}
+use Rattle.machine.specs.Steps.{StepRecord}
 use Rattle.machine.specs.Machine.{Key, Content, live, spent, deferred, Token, Cell, absent, waiting, present, Effect, send, refuse}
 use Rattle.rules.specs.declared.answer.Refusal.{Refusal}
 use Rattle.rules.specs.declared.answer.Refusal.the-variants as Refusals
 use Rattle.rules.specs.Answer.{Values, valuesOf}
 use Rattle.rules.specs.InstructionSet.{effectIn}
 use Rattle.rules.specs.Run.{tokenRecord, Result, refusedAtOnce, ranTo, result, answer}
+use Rattle.rules.specs.Profile.{ProfileResult, profiled}
 
 -- ---- how the rows are written
 
@@ -63,11 +65,14 @@ pub data Numbered : Type 0 where
 pub data Case : Type 0 where
   -- a run: what is lent; the answer, the tokens of the ledger in order of arrival, the cells that are not absent
   running : (graph inputs picks : List ℕ) → (budget capacity cells : ℕ) → Values → List (Token Tag ℤ) → List Numbered → Case
+  -- a profile of so many bytes: what is lent; the answer, its records, the tokens
+  profiling : (graph inputs : List ℕ) → (capacity cells lent : ℕ) → Values → List StepRecord → List (Token Tag ℤ) → Case
   -- a firing at a tag: what is given; the effect
   firing : (graph : List ℕ) → (cells : ℕ) → Tag → (a b : ℤ) → Effect Refusal Tag ℤ → Case
 
 pub data Seen : Type 0 where
   ran : Values → List (Token Tag ℤ) → List Numbered → Seen
+  plotted : Values → List StepRecord → List (Token Tag ℤ) → Seen
   did : Effect Refusal Tag ℤ → Seen
 
 unfoldable pub written : ℕ → List (Cell ℤ) → List Numbered
@@ -80,14 +85,23 @@ unfoldable pub seenIn : Result → Seen
 seenIn (refusedAtOnce r p) = ran (valuesOf (answer (refusedAtOnce r p))) [] []
 seenIn (ranTo e) = ran (valuesOf (answer (ranTo e))) (e .state .tokens) (written 0 (e .state .cells))
 
+unfoldable pub seenSteps : ProfileResult → Seen
+seenSteps x = plotted (valuesOf (answer (x .result))) (x .records) (held (x .result))
+  where
+    held : Result → List (Token Tag ℤ)
+    held (refusedAtOnce r p) = []
+    held (ranTo e) = e .state .tokens
+
 -- by the rules
 unfoldable pub seen : Case → Seen
 seen (running graph inputs picks budget capacity cells a ts cs) = seenIn (result graph inputs picks budget (tokenWidth * capacity) (cellWidth * cells))
+seen (profiling graph inputs capacity cells lent a rs ts) = seenSteps (profiled graph inputs (tokenWidth * capacity) (cellWidth * cells) lent)
 seen (firing graph cells τ a b e) = did (effectIn (graphOf graph) cells τ a b)
 
 -- by the table
 unfoldable pub expected : Case → Seen
 expected (running graph inputs picks budget capacity cells a ts cs) = ran a ts cs
+expected (profiling graph inputs capacity cells lent a rs ts) = plotted a rs ts
 expected (firing graph cells τ a b e) = did e
 
 -- ---- the starred cases
@@ -434,5 +448,34 @@ distinguishing =
     ∷ returnsPast
     ∷ []
 
+-- ---- R-1
+
+abbrev pub step : (firings unspent : ℕ) → StepRecord
+step f u = record { firings = f; unspent = u }
+
+-- ADD of 7 and -9, with a profile of so many bytes
+abbrev pub added : (lent : ℕ) → Values → List StepRecord → List (Token Tag ℤ) → Case
+added lent a rs ts = profiling (binary 16) (operands (pos 7) (negsuc 8)) 2048 8 lent a rs ts
+
+-- 0 is COPY to 2, which is OUT, 1 is COPY to 3, which is DIV by 0 to 2. The second step is refused
+abbrev pub refusedStep : (lent : ℕ) → Values → Case
+refusedStep lent a =
+    profiling (to1 1 (pos 0) 0 2 ++ to1 1 (pos 0) 0 3 ++ to0 3 (pos 0) ++ to1 35 (pos 0) 0 2) (input 0 0 (pos 7) ++ input 1 0 (pos 8)) 2048 8 lent a (step 2 2 ∷ [])
+    (root 0 0 (spent (pos 7)) ∷ root 1 0 (spent (pos 8)) ∷ root 2 0 (live (pos 7)) ∷ root 3 0 (live (pos 8)) ∷ [])
+
+abbrev pub profiles : List Case
+profiles =
+    added 4 (values completed 1 3 0) (step 1 1 ∷ []) (root 0 0 (spent (pos 7)) ∷ root 0 1 (spent (negsuc 8)) ∷ root 1 0 (live (negsuc 1)) ∷ [])
+    -- an empty profile: with nothing fired the inputs are in the ledger
+    ∷ added 0 (values 18 0 2 0) [] (root 0 0 (live (pos 7)) ∷ root 0 1 (live (negsuc 8)) ∷ [])
+    -- one with nothing to do is not full
+    ∷ profiling (to0 3 (pos 0)) (input 0 0 (pos 7)) 2048 8 0 (values completed 0 1 0) [] (root 0 0 (live (pos 7)) ∷ [])
+    -- 3 bytes are no whole record
+    ∷ added 3 (values 7 0 0 0) [] []
+    ∷ refusedStep 8 (values 12 2 4 3)
+    -- 18 comes before the step
+    ∷ refusedStep 4 (values 18 2 4 0)
+    ∷ []
+
 abbrev pub cases : List Case
-cases = starred ++ distinguishing
+cases = starred ++ distinguishing ++ profiles

@@ -12,3 +12,4 @@ pub mod Fits
 pub mod Demand1
 pub mod Demand2
 pub mod Callers
+pub mod Profile
