@@ -5,6 +5,7 @@ pub mod Swap
 pub mod View
 pub mod Store
 pub mod Tags
+pub mod Unspent
 pub mod Perm
 pub mod Enabled
 pub mod Sequences

@@ -4,7 +4,7 @@
 use mathlib.Core.Path.{_≡_, refl, sym, ap, subst, _∙_}
 use mathlib.Core.List.{List, [], _∷_, _++_, List·Memᴰ, List·Memᴰ·not-nil, List·Permᴰ, List·Permᴰ·trans, Permᴰ·refl, Permᴰ·middle, Permᴰ·append-left}
 use mathlib.Core.Option.{Option, none, some}
-use Prim.Native.Nat.{ℕ, _+_, _≤_, _<_}
+use Prim.Native.Nat.{ℕ, _+_, _-_, _≤_, _<_}
 use native.Mathlib.Omega.{arith}
 use lib.ListN.{length, length-append}
 use lib.Seq.{ext-getD}
@@ -17,6 +17,8 @@ use Rattle.machine.proofs.Swap.{Final, Run, goesOn, unique}
 use Rattle.machine.proofs.View.{noneSome, View, DeltaOf, deltaOf, Allowed, Ready, Step, operandLive, operandZero, laws}
 use Rattle.machine.proofs.Store.{view, After, placed, Answer, commitResult}
 use Rattle.machine.proofs.Tags.{tagsLength, tagsLive, tagsOnce, tagsAfter}
+use Rattle.machine.proofs.Unspent.{unspentAfter}
+use Rattle.machine.specs.Steps.{unspentIn}
 use Rattle.machine.proofs.Perm.{permOf}
 use Rattle.machine.proofs.Enabled.{enabledReady, readyEnabled, enabledIn, enabledPlace}
 
@@ -54,6 +56,9 @@ module _ (M : Machine) where
     pub good : Good M x
     -- it spends its operands
     pub tags : List·Permᴰ (spentTags M (x .tokens)) (τ ∷ spentTags M (s .tokens))
+    -- and adds its outputs
+    pub grown : length (s .tokens) ≤ length (x .tokens)
+    pub unspent : unspentIn M (x .tokens) + M .arity τ ≡ unspentIn M (s .tokens) + (length (x .tokens) - length (s .tokens))
     -- an activity with an operand in the ledger keeps its place
     pub places : (σ : M .Tag) → placeOf M σ (s .tokens) < length (s .tokens) → placeOf M σ (x .tokens) ≡ placeOf M σ (s .tokens)
 
@@ -108,6 +113,10 @@ module _ (M : Machine) where
           step = record { ops = p; given = e; delta = d; known = f; allowed = a .allowed; result = a .seen };
           good = goodAfter d x a;
           tags = tagsAfter M s τ d x p (g .distinct) e a;
+          grown = let q : length (s .tokens) + length (d .keys) ≡ length (x .tokens) = ap (λ v. v .used) (a .seen) in omega arith;
+          unspent =
+              let q : length (s .tokens) + length (d .keys) ≡ length (x .tokens) = ap (λ v. v .used) (a .seen) in
+              omega (arith, unspentAfter M s τ d x p (g .distinct) e a);
           places = placed M s τ d x a;
         }
 

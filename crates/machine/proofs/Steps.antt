@@ -11,7 +11,7 @@ use Rattle.machine.specs.Machine.{Machine, Activity, fired, notFired, Ou
 use Rattle.machine.specs.Machine.{StateOf, FiredOf, placeOf, enabled, fire, end, ending}
 use Rattle.machine.specs.Orders.{Lawful, Good, InOrder, Refused}
 use Rattle.machine.specs.Sequences.{Once, Fires, NothingEnabled}
-use Rattle.machine.specs.Steps.{StepRecord, firingsIn, EachFires, ProfileOf, unspentIn, tagsOf, endsHere, afterStep, inTurn, StillEnabled}
+use Rattle.machine.specs.Steps.{UnspentAfter, StepRecord, firingsIn, EachFires, ProfileOf, unspentIn, tagsOf, endsHere, afterStep, inTurn, StillEnabled}
 use Rattle.machine.specs.Steps.{profile, ProfileStopped, noneLeft, full, oneRefused, Profiled, EveryProfile, StepsWithin, Unrefused, ProfileEnds, StepsEndToo}
 use Rattle.machine.proofs.Enabled.{enabledIn, enabledOnce}
 use Rattle.machine.proofs.Sequences.{neverFired, joined, firing, staysEnabled, firesGood, noLonger, noneRefused}
@@ -100,6 +100,9 @@ module _ (M : Machine) where
     stillWaiting : (before l : List (Activity (M .Tag))) (s x : StateOf M) → Good M s → Waiting (before ++ l) s → Fires M s (tagsOf M before) x → Waiting l x
     stillWaiting [] l s x g w p = subst (Waiting l) p w
     stillWaiting (a ∷ before) l s x g w (y, e, p) = stillWaiting before l y x (firing M law s y (a .tag) g e .good) (waitsOn a (before ++ l) s y g w e) p
+
+    pub unspentFired : UnspentAfter M
+    unspentFired s g τ x e = let f = firing M law s x τ g e in (f .grown, f .unspent)
 
     pub stillEnabled : StillEnabled M
     stillEnabled s g before a more x e p = stillWaiting before (a ∷ more) s x g (subst (λ l. Waiting l s) e (atStart s)) p .enabledNow a (List·Memᴰ·head refl)

@@ -3,7 +3,7 @@
 -- Assumes nothing.
 use mathlib.Core.Path.{_≡_}
 use mathlib.Core.List.{List, [], _∷_, _++_, map, List·Memᴰ}
-use Prim.Native.Nat.{ℕ, zero, suc, _+_, _≤_, _<_}
+use Prim.Native.Nat.{ℕ, zero, suc, _+_, _-_, _≤_, _<_}
 use lib.ListN.{length}
 use Rattle.machine.specs.Machine.{Content, live, spent, deferred, Machine, Activity, End, fired, notFired, Outcome, refused, onList}
 use Rattle.machine.specs.Machine.{Ledger, StateOf, FiredOf, EndOf, enabled, fire, end, ending}
@@ -42,6 +42,11 @@ module _ (M : Machine) where
   abbrev pub unspentIn : Ledger M → ℕ
   unspentIn [] = 0
   unspentIn (t ∷ ts) = isUnspent (t .content) + unspentIn ts
+
+  -- a firing has as many live and deferred tokens less as its tag has operands, and as many more as it sends
+  abbrev pub UnspentAfter : Type 0
+  UnspentAfter = (s : StateOf M) → Good M s → (τ : M .Tag) (x : StateOf M) → fire M s τ ≡ fired x
+      → (length (s .tokens) ≤ length (x .tokens)) × (unspentIn (x .tokens) + M .arity τ ≡ unspentIn (s .tokens) + (length (x .tokens) - length (s .tokens)))
 
   abbrev pub tagsOf : List (Activity (M .Tag)) → List (M .Tag)
   tagsOf = map (λ a. a .tag)
