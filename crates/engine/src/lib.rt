@@ -15,7 +15,8 @@ ghost use Rattle.rules.specs.Answer.{valuesChecked};
 ghost use Rattle.rules.specs.Check.{checkGraph, check};
 ghost use Rattle.rules.specs.Run.{picksOf, firstState, result, Ran};
 ghost use Rattle.fire.specs.Running.{machineFor, Prepared, Running};
-ghost use Rattle.engine.specs.Turns.{Turned, EndedAt, endOf};
+ghost use Rattle.start.specs.Ended.{EndedAt};
+ghost use Rattle.engine.specs.Turns.{Turned, endOf};
 
 // What a turn of a run comes to: an activity fired and left so many tokens, or the run is at its end.
 pub enum Turn {
@@ -117,9 +118,15 @@ fn accepted(
     let mut tables = [0u16; 512];
     let mut links = [0u16; 9216];
     let mut flags = [0u64; 69];
-    graph_tables::make(graph, &mut tables);
-    load::clear(cells);
-    let used = load::inputs(&tables, &mut links, &mut flags, ledger, inputs);
+    let used = start::begin(
+        graph,
+        inputs,
+        &mut tables,
+        &mut links,
+        &mut flags,
+        ledger,
+        cells,
+    );
     proceed(
         graph,
         &tables,
