@@ -143,9 +143,14 @@ module _ (M : Machine) where
   pub unspentAfter : (s : StateOf M) (τ : M .Tag) (d : DeltaOf M) (x : StateOf M) (p : Operands (M .Value)) → Distinct M (s .tokens) → operands M (look M s) τ ≡ some p → After M s τ d x
       → unspentIn M (x .tokens) + M .arity τ ≡ unspentIn M (s .tokens) + length (d .keys)
   unspentAfter s τ d x p ds e a =
-      omega (arith, ap (unspentIn M) (a .listed), unspentAppend (map (changed (change M τ d)) (s .tokens)) (map (output (a .sent)) (d .keys)),
-      unspentOutputs (a .sent) (rw (a .sentFrom) (unspentSource (cellAfter d (cellAt (s .cells))) (d .source))) (d .keys),
-      spentAll τ d (s .tokens) ds lives, countAll τ (s .tokens) ds (M .arity τ) there)
+      omega (
+        arith,
+        ap (unspentIn M) (a .listed),
+        unspentAppend (map (changed (change M τ d)) (s .tokens)) (map (output (a .sent)) (d .keys)),
+        unspentOutputs (a .sent) (rw (a .sentFrom) (unspentSource (cellAfter d (cellAt (s .cells))) (d .source))) (d .keys),
+        spentAll τ d (s .tokens) ds lives,
+        countAll τ (s .tokens) ds (M .arity τ) there,
+      )
     where
       some-same : {A : Type 0} {y z : A} → some y ≡ some z → y ≡ z
       some-same h = cc
