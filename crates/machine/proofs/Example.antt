@@ -1,14 +1,17 @@
 -- A small program under two orders, computed: the runs end alike, and their ledgers are different lists; a run that hangs; its
--- ideal steps; and how the theorems are cited for it. Assumes nothing.
+-- ideal steps, logs and replays; and how the theorems are cited for it. Assumes nothing.
 use mathlib.Core.Path.{_≡_, refl}
 use mathlib.Core.List.{[], _∷_}
+use mathlib.Core.Option.{none, some}
 use Prim.Native.Nat.{ℕ, zero, suc, _+_}
 use native.Mathlib.Decide.{ℕ-discrete}
 use native.Mathlib.Omega.{arith}
 use Rattle.machine.specs.Machine.{Key, Token, Effect, refuse, send, read, write, Machine, State, live, spent, deferred, absent, waiting, present}
-use Rattle.machine.specs.Machine.{completed, hung, refused, run, machine}
+use Rattle.machine.specs.Machine.{completed, hung, budgetSpent, refused, byPicks, run, machine}
 use Rattle.machine.specs.Orders.{CellsBelow, ReadsForSome, Lawful, Start, Same, Invariants}
+use Rattle.machine.specs.Sequences.{logOf}
 use Rattle.machine.specs.Steps.{profile}
+use Rattle.machine.specs.Replay.{replay}
 use Rattle.machine.proofs.Orders.{startGood, orders}
 use Rattle.machine.proofs.Reached.{reached-invariants, reached-picks}
 
@@ -93,6 +96,29 @@ deferredStep = refl
 noRecord : profile small 18 1 0 start .ended .outcome ≡ refused 18 0
 unfolding machine profile
 noRecord = refl
+
+-- ---- R-7: logs and their replay
+
+logs : (logOf small (byPicks small) 65535 [] start ≡ 0 ∷ 1 ∷ 2 ∷ []) × (logOf small (byPicks small) 65535 (1 ∷ []) start ≡ 1 ∷ 0 ∷ 2 ∷ [])
+unfolding machine logOf
+logs = (refl, refl)
+
+again : replay small 20 (some 1 ∷ some 0 ∷ some 2 ∷ []) 0 start ≡ run small 65535 (1 ∷ []) start
+unfolding machine replay
+again = refl
+
+-- 2 has no operands yet, a log may end early, and a record may name nothing
+notEnabled : replay small 20 (some 0 ∷ some 2 ∷ []) 0 start .outcome ≡ refused 20 1
+unfolding machine replay
+notEnabled = refl
+
+early : replay small 20 (some 0 ∷ []) 0 start .outcome ≡ budgetSpent
+unfolding machine replay
+early = refl
+
+unread : replay small 20 (none ∷ some 0 ∷ []) 0 start ≡ record { outcome = refused 20 0; firings = 0; state = start }
+unfolding machine replay
+unread = refl
 
 -- ---- the theorems' hypotheses hold here
 

@@ -187,7 +187,7 @@ module _ (graph : List ℕ) (bytes : Bytes graph) (passed : checkGraph graph ≡
 
 -- ---- whole runs
 
-run-fits : (graph : List ℕ) → Bytes graph → checkGraph graph ≡ Passed → (capacity cells : ℕ) → cells ≤ mostCells → (inputs : List ℕ) → Bytes inputs
+pub run-fits : (graph : List ℕ) → Bytes graph → checkGraph graph ≡ Passed → (capacity cells : ℕ) → cells ≤ mostCells → (inputs : List ℕ) → Bytes inputs
     → Start (machineOf (graphOf graph) capacity cells) (firstState inputs cells) → (budget : ℕ) (picks : List ℕ)
     → AllFit (ranTo (run (machineOf (graphOf graph) capacity cells) budget picks (firstState inputs cells))) capacity cells
 run-fits graph graphBytes passed capacity cells few inputs inputBytes begun budget picks =

@@ -12,5 +12,7 @@ pub mod Callers
 pub mod Fits
 pub mod Orders
 pub mod Profile
+pub mod Log
+pub mod Replay
 pub mod Left
 pub mod Small

@@ -17,6 +17,7 @@ use Rattle.rules.specs.Answer.{Values, valuesOf}
 use Rattle.rules.specs.InstructionSet.{effectIn}
 use Rattle.rules.specs.Run.{tokenRecord, Result, refusedAtOnce, ranTo, result, answer}
 use Rattle.rules.specs.Profile.{ProfileResult, profiled}
+use Rattle.rules.specs.Log.{LogResult, logged, logAfter, replayed}
 
 -- ---- how the rows are written
 
@@ -67,12 +68,18 @@ pub data Case : Type 0 where
   running : (graph inputs picks : List ℕ) → (budget capacity cells : ℕ) → Values → List (Token Tag ℤ) → List Numbered → Case
   -- a profile of so many bytes: what is lent; the answer, its records, the tokens
   profiling : (graph inputs : List ℕ) → (capacity cells lent : ℕ) → Values → List StepRecord → List (Token Tag ℤ) → Case
+  -- a run with a log of so many bytes: what is lent; the answer, the log's bytes
+  logging : (graph inputs picks : List ℕ) → (budget lent : ℕ) → Values → List ℕ → Case
+  -- a replay: what is lent; the answer
+  replaying : (graph inputs log : List ℕ) → Values → Case
   -- a firing at a tag: what is given; the effect
   firing : (graph : List ℕ) → (cells : ℕ) → Tag → (a b : ℤ) → Effect Refusal Tag ℤ → Case
 
 pub data Seen : Type 0 where
   ran : Values → List (Token Tag ℤ) → List Numbered → Seen
   plotted : Values → List StepRecord → List (Token Tag ℤ) → Seen
+  wrote : Values → List ℕ → Seen
+  again : Values → Seen
   did : Effect Refusal Tag ℤ → Seen
 
 unfoldable pub written : ℕ → List (Cell ℤ) → List Numbered
@@ -92,16 +99,23 @@ seenSteps x = plotted (valuesOf (answer (x .result))) (x .records) (held (x .res
     held (refusedAtOnce r p) = []
     held (ranTo e) = e .state .tokens
 
+unfoldable pub seenLog : LogResult → Seen
+seenLog x = wrote (valuesOf (answer (x .result))) (logAfter x [])
+
 -- by the rules
 unfoldable pub seen : Case → Seen
 seen (running graph inputs picks budget capacity cells a ts cs) = seenIn (result graph inputs picks budget (tokenWidth * capacity) (cellWidth * cells))
 seen (profiling graph inputs capacity cells lent a rs ts) = seenSteps (profiled graph inputs (tokenWidth * capacity) (cellWidth * cells) lent)
+seen (logging graph inputs picks budget lent a l) = seenLog (logged graph inputs picks budget 40960 64 lent)
+seen (replaying graph inputs log a) = again (valuesOf (answer (replayed graph inputs log 40960 64)))
 seen (firing graph cells τ a b e) = did (effectIn (graphOf graph) cells τ a b)
 
 -- by the table
 unfoldable pub expected : Case → Seen
 expected (running graph inputs picks budget capacity cells a ts cs) = ran a ts cs
 expected (profiling graph inputs capacity cells lent a rs ts) = plotted a rs ts
+expected (logging graph inputs picks budget lent a l) = wrote a l
+expected (replaying graph inputs log a) = again a
 expected (firing graph cells τ a b e) = did e
 
 -- ---- the starred cases
@@ -477,5 +491,42 @@ profiles =
     ∷ refusedStep 4 (values 18 2 4 0)
     ∷ []
 
+-- ---- R-7
+
+-- the log of ADD at the root: its bytes are all zero, and so are those of a record of no firing
+abbrev pub addLog : List ℕ
+addLog = replicate 12 0
+
+abbrev pub replaysAdd : (log : List ℕ) → Values → Case
+replaysAdd log a = replaying (binary 16) (operands (pos 7) (negsuc 8)) log a
+
+-- 0 and 1 are COPY to 2 and to 3, both OUT. Instruction 1 fires first
+abbrev pub twoCopies : List ℕ
+twoCopies = to1 1 (pos 0) 0 2 ++ to1 1 (pos 0) 0 3 ++ to0 3 (pos 0) ++ to0 3 (pos 0)
+
+abbrev pub secondFirst : List ℕ
+secondFirst = replicate 10 0 ++ bytes16 1
+
+abbrev pub logs : List Case
+logs =
+    logging (binary 16) (operands (pos 7) (negsuc 8)) [] 2 24 (values completed 1 3 0) addLog
+    -- one record is fewer than the budget; 2,048 are enough for every budget; 25 bytes are not whole
+    ∷ logging (binary 16) (operands (pos 7) (negsuc 8)) [] 2 12 (values 7 0 0 0) []
+    ∷ logging (binary 16) (operands (pos 7) (negsuc 8)) [] 65535 24576 (values completed 1 3 0) addLog
+    ∷ logging (binary 16) (operands (pos 7) (negsuc 8)) [] 2 25 (values 7 0 0 0) []
+    ∷ logging twoCopies (input 0 0 (pos 7) ++ input 1 0 (pos 8)) (bytes16 1) 1 12 (values spentWord 1 3 0) secondFirst
+    ∷ replaysAdd addLog (values completed 1 3 0)
+    ∷ replaysAdd [] (values spentWord 0 2 0)
+    -- an activity fires once; byte 9 is not zero; OUT never fires; 5 bytes are not whole
+    ∷ replaysAdd (addLog ++ addLog) (values 20 1 3 1)
+    ∷ replaysAdd (replicate 9 0 ++ 1 ∷ 0 ∷ 0 ∷ []) (values 20 0 2 0)
+    ∷ replaysAdd secondFirst (values 20 0 2 0)
+    ∷ replaysAdd (addLog ++ replicate 5 0) (values 20 1 3 1)
+    ∷ replaysAdd (replicate 5 0) (values 20 0 2 0)
+    -- the log of a run is its first records: as many as it has firings
+    ∷ replaying twoCopies (input 0 0 (pos 7) ++ input 1 0 (pos 8)) secondFirst (values spentWord 1 3 0)
+    ∷ replaying twoCopies (input 0 0 (pos 7) ++ input 1 0 (pos 8)) (secondFirst ++ replicate 24 0) (values 20 2 4 2)
+    ∷ []
+
 abbrev pub cases : List Case
-cases = starred ++ distinguishing ++ profiles
+cases = starred ++ distinguishing ++ profiles ++ logs

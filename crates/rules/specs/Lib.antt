@@ -13,3 +13,4 @@ pub mod Demand1
 pub mod Demand2
 pub mod Callers
 pub mod Profile
+pub mod Log

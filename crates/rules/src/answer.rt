@@ -20,6 +20,7 @@ pub enum Refusal {
     TooDeep,
     NoReturn,
     ProfileFull,
+    NotEnabled,
 }
 
 // A refusal comes with its place.
@@ -69,6 +70,7 @@ pub fn number(r: Refusal) -> u8
         Refusal::TooDeep => 14,
         Refusal::NoReturn => 17,
         Refusal::ProfileFull => 18,
+        Refusal::NotEnabled => 20,
     }
 }
 
