@@ -14,5 +14,9 @@ pub mod Orders
 pub mod Profile
 pub mod Log
 pub mod Replay
+pub mod Below
+pub mod Rounds
+pub mod LoopFree
+pub mod Needs
 pub mod Left
 pub mod Small

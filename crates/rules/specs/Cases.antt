@@ -13,11 +13,15 @@ use Rattle.machine.specs.Steps.{StepRecord}
 use Rattle.machine.specs.Machine.{Key, Content, live, spent, deferred, Token, Cell, absent, waiting, present, Effect, send, refuse}
 use Rattle.rules.specs.declared.answer.Refusal.{Refusal}
 use Rattle.rules.specs.declared.answer.Refusal.the-variants as Refusals
+use Rattle.rules.specs.declared.answer.Refusal.the-variants.{BadInput, BadStore, NotLoopFree}
+use Rattle.rules.specs.declared.answer.Needs.{Needs}
+use Rattle.rules.specs.declared.answer.Needs.the-variants.{AtMost, Refused}
 use Rattle.rules.specs.Answer.{Values, valuesOf}
 use Rattle.rules.specs.InstructionSet.{effectIn}
 use Rattle.rules.specs.Run.{tokenRecord, Result, refusedAtOnce, ranTo, result, answer}
 use Rattle.rules.specs.Profile.{ProfileResult, profiled}
 use Rattle.rules.specs.Log.{LogResult, logged, logAfter, replayed}
+use Rattle.rules.specs.Needs.{needs}
 
 -- ---- how the rows are written
 
@@ -72,6 +76,8 @@ pub data Case : Type 0 where
   logging : (graph inputs picks : List ℕ) → (budget lent : ℕ) → Values → List ℕ → Case
   -- a replay: what is lent; the answer
   replaying : (graph inputs log : List ℕ) → Values → Case
+  -- a graph and its inputs: what it will need, before it runs
+  needing : (graph inputs : List ℕ) → Needs → Case
   -- a firing at a tag: what is given; the effect
   firing : (graph : List ℕ) → (cells : ℕ) → Tag → (a b : ℤ) → Effect Refusal Tag ℤ → Case
 
@@ -80,6 +86,7 @@ pub data Seen : Type 0 where
   plotted : Values → List StepRecord → List (Token Tag ℤ) → Seen
   wrote : Values → List ℕ → Seen
   again : Values → Seen
+  needed : Needs → Seen
   did : Effect Refusal Tag ℤ → Seen
 
 unfoldable pub written : ℕ → List (Cell ℤ) → List Numbered
@@ -108,6 +115,7 @@ seen (running graph inputs picks budget capacity cells a ts cs) = seenIn (result
 seen (profiling graph inputs capacity cells lent a rs ts) = seenSteps (profiled graph inputs (tokenWidth * capacity) (cellWidth * cells) lent)
 seen (logging graph inputs picks budget lent a l) = seenLog (logged graph inputs picks budget 40960 64 lent)
 seen (replaying graph inputs log a) = again (valuesOf (answer (replayed graph inputs log 40960 64)))
+seen (needing graph inputs n) = needed (needs graph inputs)
 seen (firing graph cells τ a b e) = did (effectIn (graphOf graph) cells τ a b)
 
 -- by the table
@@ -116,6 +124,7 @@ expected (running graph inputs picks budget capacity cells a ts cs) = ran a ts c
 expected (profiling graph inputs capacity cells lent a rs ts) = plotted a rs ts
 expected (logging graph inputs picks budget lent a l) = wrote a l
 expected (replaying graph inputs log a) = again a
+expected (needing graph inputs n) = needed n
 expected (firing graph cells τ a b e) = did e
 
 -- ---- the starred cases
@@ -528,5 +537,50 @@ logs =
     ∷ replaying twoCopies (input 0 0 (pos 7) ++ input 1 0 (pos 8)) (secondFirst ++ replicate 24 0) (values 20 2 4 2)
     ∷ []
 
+-- ---- R-3, what graphs will need: firings and tokens
+
+-- each side of a SWITCH goes to a COPY and then to an OUT
+abbrev pub twoSides : List ℕ
+twoSides = to2 5 (pos 0) 0 1 0 2 ++ to1 1 (pos 0) 0 3 ++ to1 1 (pos 0) 0 4 ++ to0 3 (pos 0) ++ to0 3 (pos 0)
+
+-- two elements of a vector sum: of each, COPY of the index to a FETCH and to the STORE, a FETCH of the other vector, ADD; the second STORE signals to an OUT
+abbrev pub vectorSum : List ℕ
+vectorSum =
+    to2 1 (pos 0) 0 1 0 4
+    ++ to1 10 (pos 0) 0 3
+    ++ to1 10 (pos 0) 1 3
+    ++ to1 16 (pos 0) 1 4
+    ++ to0 11 (pos 0)
+    ++ to2 1 (pos 0) 0 6 0 9
+    ++ to1 10 (pos 0) 0 8
+    ++ to1 10 (pos 0) 1 8
+    ++ to1 16 (pos 0) 1 9
+    ++ to1 11 (pos 0) 0 10
+    ++ to0 3 (pos 0)
+
+abbrev pub sized : List Case
+sized =
+    -- the printed example; without its second input
+    needing (binary 16) (operands (pos 7) (negsuc 8)) (AtMost 1 3)
+    ∷ needing (binary 16) (input 0 0 (pos 7)) (AtMost 0 1)
+    -- a SWITCH reaches both sides and counts one output: a run fires one COPY less
+    ∷ needing twoSides (operands (pos 7) (pos 0)) (AtMost 3 5)
+    ∷ running twoSides (operands (pos 7) (pos 0)) [] 2048 2048 8 (values completed 2 4 0)
+    (root 0 0 (spent (pos 7)) ∷ root 0 1 (spent (pos 0)) ∷ root 2 0 (spent (pos 7)) ∷ root 4 0 (live (pos 7)) ∷ [])
+    []
+    ∷ needing vectorSum (input 0 0 (pos 0) ++ input 2 0 (pos 2) ++ input 5 0 (pos 1) ++ input 7 0 (pos 3)) (AtMost 10 15)
+    -- the second element is not reached without its index
+    ∷ needing vectorSum (input 0 0 (pos 0) ++ input 2 0 (pos 2) ++ input 7 0 (pos 3)) (AtMost 6 9)
+    -- ADD that waits for its own output; two COPYs in a circle, of which every run is refused by 9
+    ∷ needing (to2 16 (pos 0) 1 0 0 1 ++ to0 3 (pos 0)) (input 0 0 (pos 7)) (AtMost 0 1)
+    ∷ needing (to1 1 (pos 0) 0 1 ++ to1 1 (pos 0) 0 0) (input 0 0 (pos 7)) (AtMost 2 3)
+    -- 9 is not tested
+    ∷ needing (to1 1 (pos 0) 0 1 ++ to0 3 (pos 0)) (input 0 0 (pos 7) ++ input 0 0 (pos 8)) (AtMost 1 3)
+    -- 19 at the first NEXT, ENTER or LEAVE, reached or not; 6 and 7 come before it
+    ∷ needing (to1 1 (pos 0) 0 1 ++ to1 7 (pos 0) 0 2 ++ to0 9 (pos 0)) [] (Refused NotLoopFree 1)
+    ∷ needing (to1 7 (pos 0) 0 1 ++ to0 3 (pos 0)) (input 0 0 (pos 7) ++ input 0 1 (pos 7)) (Refused BadInput 1)
+    ∷ needing (to1 7 (pos 0) 0 1 ++ to0 3 (pos 0)) (0 ∷ []) (Refused BadStore 0)
+    ∷ []
+
 abbrev pub cases : List Case
-cases = starred ++ distinguishing ++ profiles ++ logs
+cases = starred ++ distinguishing ++ profiles ++ logs ++ sized

@@ -14,3 +14,4 @@ pub mod Demand2
 pub mod Callers
 pub mod Profile
 pub mod Log
+pub mod Needs

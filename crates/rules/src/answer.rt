@@ -20,6 +20,7 @@ pub enum Refusal {
     TooDeep,
     NoReturn,
     ProfileFull,
+    NotLoopFree,
     NotEnabled,
 }
 
@@ -49,6 +50,12 @@ pub enum Checked {
     Failed(Refusal, usize),
 }
 
+// What a graph will need, before it runs: so many firings and so many tokens at most.
+pub enum Needs {
+    AtMost { firings: usize, tokens: usize },
+    Refused(Refusal, usize),
+}
+
 // The papers' number of a refusal.
 pub fn number(r: Refusal) -> u8
     ensures { λ n. ⌜ n ≡ numberOf r ⌝ }
@@ -70,6 +77,7 @@ pub fn number(r: Refusal) -> u8
         Refusal::TooDeep => 14,
         Refusal::NoReturn => 17,
         Refusal::ProfileFull => 18,
+        Refusal::NotLoopFree => 19,
         Refusal::NotEnabled => 20,
     }
 }
