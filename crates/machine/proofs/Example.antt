@@ -1,5 +1,5 @@
 -- A small program under two orders, computed: the runs end alike, and their ledgers are different lists; a run that hangs; its
--- ideal steps, logs and replays; and how the theorems are cited for it. Assumes nothing.
+-- ideal steps, logs and replays, a smaller ledger; and how the theorems are cited for it. Assumes nothing.
 use mathlib.Core.Path.{_≡_, refl}
 use mathlib.Core.List.{[], _∷_}
 use mathlib.Core.Option.{none, some}
@@ -12,6 +12,7 @@ use Rattle.machine.specs.Orders.{CellsBelow, ReadsForSome, Lawful, Start
 use Rattle.machine.specs.Sequences.{logOf}
 use Rattle.machine.specs.Steps.{profile}
 use Rattle.machine.specs.Replay.{replay}
+use Rattle.machine.specs.Capacity.{withCapacity}
 use Rattle.machine.proofs.Orders.{startGood, orders}
 use Rattle.machine.proofs.Reached.{reached-invariants, reached-picks}
 
@@ -119,6 +120,16 @@ early = refl
 unread : replay small 20 (none ∷ some 0 ∷ []) 0 start ≡ record { outcome = refused 20 0; firings = 0; state = start }
 unfolding machine replay
 unread = refl
+
+-- ---- R-12: the run has 5 tokens, and a ledger of 4 is too small
+
+fits : run (withCapacity small 5) 65535 [] start ≡ run small 65535 [] start
+unfolding machine
+fits = refl
+
+overflows : run (withCapacity small 4) 65535 [] start .outcome ≡ refused 8 2
+unfolding machine
+overflows = refl
 
 -- ---- the theorems' hypotheses hold here
 

@@ -1,4 +1,4 @@
--- The theorems (Enabled, Sequences, Ending, Runs, Orders, Reached, Fired, Steps, Replay, Kept, Refused, Bounds), what they are proved from (Lists, Swap, View, Store, Tags, Perm), and a
+-- The theorems (Enabled, Sequences, Ending, Runs, Orders, Reached, Fired, Steps, Replay, Capacity, Kept, Refused, Bounds), what they are proved from (Lists, Swap, View, Store, Tags, Perm), and a
 -- computed example. Assumes nothing.
 pub mod Lists
 pub mod Swap
@@ -17,6 +17,7 @@ pub mod Kept
 pub mod Fired
 pub mod Steps
 pub mod Replay
+pub mod Capacity
 pub mod Refused
 pub mod Parts
 pub mod Bounds

@@ -1,7 +1,8 @@
 -- The definitions that a reader must believe: the machine, what is stated of its orders and of its firing sequences, the runs by
--- ideal steps, and the replay of a log. Assumes nothing.
+-- ideal steps, the replay of a log, and another capacity. Assumes nothing.
 pub mod Machine
 pub mod Orders
 pub mod Sequences
 pub mod Steps
 pub mod Replay
+pub mod Capacity

@@ -31,6 +31,10 @@ use Rattle.rules.specs.Run.{contentHeld, tokenHeld, firstState}
 use Rattle.rules.proofs.Passed.{both, demand-passed, andThen-passed, turn-passed}
 use Rattle.rules.proofs.Lists.{neither, each-both, any-own}
 
+pub tokens-first : (inputs : List ℕ) (cells : ℕ) → length (firstState inputs cells .tokens) ≡ length (allRows tokenWidth Tokens.decode inputs)
+unfolding firstState
+tokens-first inputs cells = length-map (allRows tokenWidth Tokens.decode inputs) tokenHeld
+
 -- ---- each is live
 
 input-live : (l : List ℕ) → isInput l ≡ true → Live (some (contentHeld (Tokens.decode l .content)))

@@ -18,5 +18,6 @@ pub mod Below
 pub mod Rounds
 pub mod LoopFree
 pub mod Needs
+pub mod Capacity
 pub mod Left
 pub mod Small

@@ -10,7 +10,7 @@ use mathlib.Core.Option.{some}
 use native.Mathlib.Omega.{arith}
 use native.Mathlib.Decide.{decLe}
 use borrow.Author.Tests.{eqb-true, eq-eqb, leb-true}
-use lib.ListN.{length, length-map}
+use lib.ListN.{length}
 use lib.Dec.{eqb}
 use lib.IntN.{ℤ}
 use Rattle.record.specs.declared.tag.Tag.{Tag}
@@ -45,7 +45,7 @@ use Rattle.rules.specs.Needs.{anyBelow, sumBelow, sendsTo, portReached, 
 use Rattle.rules.proofs.Passed.{both, demand-passed, andThen-passed, turn-passed}
 use Rattle.rules.proofs.PassedGraph.{Good, past-operands, of-graph, coded, said-of, least-fan-out}
 use Rattle.rules.proofs.Lawful.{lawful}
-use Rattle.rules.proofs.Inputs.{start-keys, start}
+use Rattle.rules.proofs.Inputs.{tokens-first, start-keys, start}
 use Rattle.rules.proofs.Accepted.{accepted, by-check}
 use Rattle.rules.proofs.Lists.{neither, either, or-left, or-right, any-own}
 use Rattle.rules.proofs.Effects.{Asked, keeps-asked}
@@ -487,10 +487,6 @@ taken graph inputs firings tokens e = go (checkNeeds graph inputs) refl e
         let a = andThen-passed (checkGraph graph) _ h in
         let b = andThen-passed (checkStores (length inputs) 0 0 0) _ (a .1) in
         record { passed = a .0; free = andThen-passed (inTurn (λ i good. demand good Refusals.BadInput i) 0 (allRows tokenWidth (goodInput (graphOf graph)) inputs)) _ (b .1) .1; isFirings = cc; isTokens = cc }
-
-tokens-first : (inputs : List ℕ) (cells : ℕ) → length (firstState inputs cells .tokens) ≡ length (inputsOf inputs)
-unfolding firstState
-tokens-first inputs cells = length-map (inputsOf inputs) tokenHeld
 
 pub no-state-exceeds : NoStateExceeds
 no-state-exceeds graph inputs capacity cells firings tokens e accepted f o x r =

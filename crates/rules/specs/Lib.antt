@@ -15,3 +15,4 @@ pub mod Callers
 pub mod Profile
 pub mod Log
 pub mod Needs
+pub mod Capacity
