@@ -1,5 +1,5 @@
--- The theorems (Enabled, Sequences, Ending, Runs, Orders, Reached, Fired, Steps, Replay, Capacity, Kept, Refused, Bounds), what they are proved from (Lists, Swap, View, Store, Tags, Perm), and a
--- computed example. Assumes nothing.
+-- The theorems (Enabled, Sequences, Ending, Runs, Orders, Reached, Fired, Steps, Replay, Capacity, Agreement, Kept, Refused, Bounds),
+-- what they are proved from (Lists, Swap, View, Store, Tags, Perm), and a computed example. Assumes nothing.
 pub mod Lists
 pub mod Swap
 pub mod View
@@ -18,6 +18,7 @@ pub mod Fired
 pub mod Steps
 pub mod Replay
 pub mod Capacity
+pub mod Agreement
 pub mod Refused
 pub mod Parts
 pub mod Bounds

@@ -9,6 +9,7 @@ pub mod Inputs
 pub mod Accepted
 pub mod Invariants
 pub mod Callers
+pub mod RootLeave
 pub mod Fits
 pub mod Orders
 pub mod Profile

@@ -12,6 +12,7 @@ pub mod Fits
 pub mod Demand1
 pub mod Demand2
 pub mod Callers
+pub mod RootLeave
 pub mod Profile
 pub mod Log
 pub mod Needs
