@@ -25,6 +25,7 @@ use Rattle.machine.proofs.Lists.{perm-member}
 use Rattle.machine.proofs.Sequences.{ledgerTells}
 use Rattle.machine.proofs.Runs.{ran}
 use Rattle.machine.proofs.Orders.{byPicksLawful}
+use Rattle.machine.proofs.Reached.{sequenceReaches}
 use Rattle.machine.proofs.Replay.{runReplays}
 use Rattle.rules.specs.declared.answer.Refusal.{Refusal}
 use Rattle.rules.specs.declared.answer.Refusal.the-variants.{BadStore, NotEnabled}
@@ -35,7 +36,7 @@ use Rattle.rules.specs.InstructionSet.{machineOf}
 use Rattle.rules.specs.Run.{tokenRecord, firstState, picksOf, ranTo, unlessFailed, answer, ledgerAfter, cellsAfter}
 use Rattle.rules.specs.Log.{encode, namesIn, checkLogStores, checkLogged, LogResult, logUnlessFailed, logged, logAfter, replayed, NotBy7, Again, LogReplays}
 use Rattle.rules.proofs.Accepted.{whole-bytes, Accepted, law, begins, good}
-use Rattle.rules.proofs.Fits.{run-fits}
+use Rattle.rules.proofs.Fits.{ended-fits}
 use Rattle.rules.proofs.Log.{TagFits, length-record, names-back, log-stores, log-passed}
 
 -- ---- the check of a replay, by that of the run
@@ -132,7 +133,8 @@ module _ (graph inputs : List ℕ) (capacity cells : ℕ) (a : Accepted graph in
   tags-fit : All TagFits τs
   tags-fit =
       let told = ledgerTells (M graph capacity cells) (law graph inputs capacity cells a) s (good graph inputs capacity cells a) τs (e .state) (ranHere .logged .fires) in
-      let fits = run-fits graph graphBytes (a .graphPassed) capacity cells few inputs inputBytes (begins graph inputs capacity cells a) budget picks .tokens in
+      let (o, r) = sequenceReaches (M graph capacity cells) τs s (e .state) (ranHere .logged .fires) in
+      let fits = ended-fits graph graphBytes (a .graphPassed) capacity cells few inputs inputBytes (begins graph inputs capacity cells a) e (length τs) o r .tokens in
       members-all TagFits τs (λ τ m. spent-fits graph capacity cells (e .state .tokens) fits τ (perm-member (Permᴰ·symm told) (Memᴰ·append-left (spentTags (M graph capacity cells) (s .tokens)) m)))
 
   -- the first records are the log

@@ -1,4 +1,4 @@
--- The definitions of 01's rules. Assumes nothing.
+-- The definitions of 01's rules and of 02's requests. Assumes nothing.
 pub mod Answer
 pub mod Check
 pub mod InstructionSet
