@@ -8,6 +8,7 @@ pub mod Effects
 pub mod Inputs
 pub mod Accepted
 pub mod Invariants
+pub mod Proper
 pub mod Callers
 pub mod RootLeave
 pub mod Fits

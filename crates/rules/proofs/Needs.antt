@@ -20,7 +20,7 @@ use Rattle.record.specs.declared.instruction.Instruction.{Instruction}
 use Rattle.record.specs.declared.operation.Operation.the-variants.{Fetch}
 use Rattle.buffer.specs.Rows.{allRows}
 use Rattle.record.specs.TokensAndTags.{rootOf, sameTag, standsAt, capacityOf}
-use Rattle.record.specs.GraphRecords.{inUse, destinations, operationOf, operandsOf, rowOf, graphOf}
+use Rattle.record.specs.GraphRecords.{destinations, operationOf, operandsOf, rowOf, graphOf}
 use Rattle.record.specs.GraphRecords as Graph
 use Rattle.record.specs.Widths.{tokenWidth, cellWidth}
 use Rattle.machine.specs.Machine.{Key, Content, spent, deferred, Machine, State, End, isThere, when, at, find, look, among, sameKey, enabled, run}
@@ -48,7 +48,7 @@ use Rattle.rules.proofs.Lawful.{lawful}
 use Rattle.rules.proofs.Inputs.{tokens-first, start-keys, start}
 use Rattle.rules.proofs.Accepted.{accepted, by-check}
 use Rattle.rules.proofs.Lists.{neither, either, or-left, or-right, any-own}
-use Rattle.rules.proofs.Effects.{Asked, keeps-asked}
+use Rattle.rules.proofs.Effects.{both-sides, Asked, keeps-asked}
 use Rattle.rules.proofs.Below.{any-below, one-below, each-below, all-below, sum-least, sum-same, sum-none, sum-more}
 use Rattle.rules.proofs.Rounds.{all-more, reached-least, reached-inside}
 use Rattle.rules.proofs.LoopFree.{no-loop, no-destinations, keys-sent, not-switch, outputs-counted}
@@ -206,11 +206,6 @@ module _ (graph inputs : List ℕ) (capacity cells : ℕ) (passed : checkGraph g
       ))
       (destinations r) (sends-own r)
 
-  both-sides : (Q : Key Tag → Type 0) (τ : Tag) (n : ℕ) (d e : Destination) → 2 ≤ n → Each Q (map (keyUnder τ) (inUse n d e)) → Q (keyUnder τ d) × Q (keyUnder τ e)
-  both-sides Q τ zero d e l h = absurd (omega arith)
-  both-sides Q τ (suc zero) d e l h = absurd (omega arith)
-  both-sides Q τ (suc (suc n)) d e l h = (h .0, h .1 .0)
-
   -- R: what is read, if a FETCH is reached
   module _ (R : ℕ → Type 0) (reads : (i : ℕ) → S i ≡ true → operationOf (instructionAt g i .code) ≡ Fetch → (c : ℕ) → R c) where
     abbrev Any : ℤ → Type 0
@@ -246,8 +241,8 @@ module _ (graph inputs : List ℕ) (capacity cells : ℕ) (passed : checkGraph g
     unfolding portReached
     first = start-keys g capacity cells P R inputs here accepted
       where
-        here : (t : Token) → t .tag ≡ rootOf (t .tag .instruction) → any (standsAt (t .tag) (t .port)) ts ≡ true → P (tokenHeld t .key)
-        here t e h = (e, or-left _ _ (subst (λ (x : Tag). any (standsAt x (t .port)) ts ≡ true) e h))
+        here : (t : Token) → t .tag ≡ rootOf (t .tag .instruction) → t .port < operandsAt g (t .tag .instruction) → any (standsAt (t .tag) (t .port)) ts ≡ true → P (tokenHeld t .key)
+        here t e l h = (e, or-left _ _ (subst (λ (x : Tag). any (standsAt x (t .port)) ts ≡ true) e h))
 
     kept : (f o : ℕ) (x : State Tag ℤ) → Reached M s f o x → OfState M P Any R x
     kept f o x r = reached-keeps M P Any R keeps s first f o x r

@@ -11,6 +11,7 @@ pub mod Small
 pub mod Fits
 pub mod Demand1
 pub mod Demand2
+pub mod Proper
 pub mod Callers
 pub mod RootLeave
 pub mod Profile
