@@ -1,0 +1,3 @@
+-- The laws of the bounds. Assumes nothing.
+pub mod Ports
+pub mod Rounds
