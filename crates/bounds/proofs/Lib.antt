@@ -1,3 +1,4 @@
 -- The laws of the bounds. Assumes nothing.
 pub mod Ports
 pub mod Rounds
+pub mod Runs

@@ -5,7 +5,7 @@ use native.Mathlib.Decide.{ℕ-discrete}
 use mathlib.Core.Path.{_≡_, refl, sym, _∙_}
 use mathlib.Core.Bool.{Bool, true, false, _&&_, _||_}
 use mathlib.Core.List.{List, [], _∷_}
-use lib.ListN.{length, getD, set, take, drop, replicate, length-set, length-replicate, getD-replicate}
+use lib.ListN.{length, getD, set, drop, replicate, length-set, length-replicate, getD-replicate}
 use lib.Seq.{getD-set-same, getD-set-other}
 use lib.Dec.{eqb}
 use borrow.Author.Tests.{eqb-true, eq-eqb}
@@ -20,7 +20,6 @@ use Rattle.record.specs.Widths.{tokenWidth}
 use Rattle.rules.specs.declared.answer.Refusal.the-variants.{BadInput}
 use Rattle.rules.specs.declared.answer.Checked.the-variants.{Passed}
 use Rattle.rules.specs.Check.{demand, any, all, inTurn, goodArc, goodInput, operandsAt, instructionAt, checkGraph}
-use Rattle.rules.specs.Needs.{sendsTo}
 use Rattle.rules.proofs.Lists.{or-right}
 use Rattle.rules.proofs.PassedGraph.{two-operands}
 use Rattle.check_fields.proofs.Turns.{or-false, and-true-left, and-true-right, demanded, each-passed}

@@ -1,10 +1,10 @@
 -- Laws of rounds that add to one table of instructions in turn: what it has is reached (`Kept`), n rounds have at least what n rounds of the definition reach
 -- (`again`), and a round that adds none has found all (`no-more`). Assumes nothing.
-use Prim.Native.Nat.{ℕ, zero, suc, _+_, _≤_, _<_}
+use Prim.Native.Nat.{ℕ, zero, suc, _+_, _<_}
 use native.Mathlib.Omega.{arith}
-use native.Mathlib.Decide.{ℕ-discrete, decLe}
+use native.Mathlib.Decide.{ℕ-discrete}
 use native.Mathlib.Numerals.{add-one}
-use mathlib.Core.Path.{_≡_, refl, sym, ap, _∙_}
+use mathlib.Core.Path.{_≡_, refl, sym, _∙_}
 use mathlib.Core.Bool.{Bool, true, false, _&&_, _||_}
 use mathlib.Core.List.{List}
 use lib.ListN.{length, getD, set, replicate, length-set, length-replicate}
@@ -20,7 +20,7 @@ use Rattle.rules.proofs.PassedGraph.{two-operands}
 use Rattle.rules.proofs.Below.{sum-same}
 use Rattle.rules.proofs.Rounds.{Within, all-more, after, round, inside, reached-least}
 use Rattle.check_fields.proofs.Turns.{or-false}
-use Rattle.bounds.specs.Reach.{Inside, entryOf, Ports, marked, given, flag, sumOver, Kept, Round}
+use Rattle.bounds.specs.Reach.{entryOf, Ports, marked, given, flag, sumOver, Kept, Round}
 use Rattle.bounds.proofs.Ports.{InsideAll, alike, mark-all, or-assoc}
 
 -- ---- tests

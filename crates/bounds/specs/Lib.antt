@@ -1,2 +1,3 @@
--- What the bounds of 02, R-3 are worked out with. Assumes nothing.
+-- What the bounds of 02, R-3 are worked out with, and what they say of runs. Assumes nothing.
 pub mod Reach
+pub mod Runs

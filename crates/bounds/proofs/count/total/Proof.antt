@@ -1,11 +1,11 @@
 -- `bounds::count::total` meets its contract. The invariant: the sums over the first i instructions. Assumes nothing.
-use Prim.Native.Nat.{ℕ, _≤_, _<_, _-_, _/_, _*_, _+_}
+use Prim.Native.Nat.{ℕ, _≤_, _-_, _/_, _*_, _+_}
 use native.Mathlib.Omega.{arith}
 use native.Mathlib.Numerals.{add-one}
-use mathlib.Core.Bool.{Bool, true, false, cond}
+use mathlib.Core.Bool.{Bool, cond}
 use mathlib.Core.List.{List}
 use mathlib.Core.Logic.{⊎-elim}
-use mathlib.Core.Path.{_≡_, refl, sym, ap, _∙_}
+use mathlib.Core.Path.{_≡_, refl, sym, _∙_}
 use lib.ListN.{length}
 use Rattle.record.specs.declared.instruction.Instruction.{Instruction}
 use Rattle.record.specs.GraphRecords.{graphOf}

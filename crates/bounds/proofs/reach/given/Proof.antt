@@ -1,15 +1,15 @@
 -- `bounds::reach::given` meets its contract. The invariant: the table has the ports of the first i inputs. Assumes nothing.
-use Prim.Native.Nat.{ℕ, _≤_, _<_, _-_, _/_}
+use Prim.Native.Nat.{_≤_, _<_, _-_, _/_}
 use native.Mathlib.Omega.{arith}
-use mathlib.Core.Path.{_≡_, refl, sym, _∙_}
+use mathlib.Core.Path.{sym, _∙_}
 use lib.ListN.{length, take}
 use lib.Seq.{take-all}
-use Rattle.record.specs.TokensAndTags.{rootOf, standsAt, tokenAt}
+use Rattle.record.specs.TokensAndTags.{rootOf, standsAt}
 use Rattle.record.specs.Widths.{tokenWidth}
 use Rattle.rules.specs.Needs.{inputsOf}
 use Rattle.check_inputs.proofs.Tokens.{length-tokens, in-tokens}
 use Rattle.check_fields.proofs.Turns.{any-next}
-use Rattle.bounds.specs.Reach.{Inside, GoodToken, Ports, given}
+use Rattle.bounds.specs.Reach.{GoodToken, Ports, given}
 use Rattle.bounds.proofs.Ports.{no-ports, alike, mark, stands}
 use Rattle.bounds.proofs.reach.given.Statement.{statement}
 use Rattle.bounds.proofs.reach.given.Tie as tie

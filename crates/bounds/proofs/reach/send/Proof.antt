@@ -1,7 +1,5 @@
 -- `bounds::reach::send` meets its contract. Assumes nothing.
-use mathlib.Core.List.{List}
 use borrow.Author.Needs.{needs}
-use Rattle.record.specs.declared.instruction.Destination.{Destination}
 use Rattle.check_fields.proofs.Graphs.{both-in-use}
 use Rattle.bounds.proofs.Ports.{first-inside, second-inside}
 use Rattle.bounds.proofs.reach.send.Statement.{statement}
