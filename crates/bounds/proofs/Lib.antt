@@ -1,4 +1,5 @@
--- The laws of the bounds. Assumes nothing.
+-- The laws of the bounds, and of the ledger that a run takes. Assumes nothing.
 pub mod Ports
 pub mod Rounds
 pub mod Runs
+pub mod Capacity

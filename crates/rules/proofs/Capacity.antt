@@ -66,7 +66,7 @@ module _ (graph inputs picks : List ℕ) (ledger cells : ℕ) (rests : Quiescent
   abbrev e : End Refusal Tag ℤ
   e = run M 2048 (picksOf picks) s
 
-  passes : check graph inputs picks ledger cells ≡ Passed
+  pub passes : check graph inputs picks ledger cells ≡ Passed
   unfolding result unlessFailed
   passes = go (check graph inputs picks ledger cells) refl
     where
@@ -97,12 +97,12 @@ module _ (graph inputs picks : List ℕ) (ledger cells : ℕ) (rests : Quiescent
       omega (arith, c, tokens-first inputs (cells / cellWidth))
 
   -- with a ledger that has room for the inputs too
-  also-passes : (picks′ : List ℕ) (ledger′ : ℕ) → Allowed picks′ ledger′ cells → length (allRows tokenWidth Tokens.decode inputs) ≤ capacityOf ledger′ → check graph inputs picks′ ledger′ cells ≡ Passed
+  pub also-passes : (picks′ : List ℕ) (ledger′ : ℕ) → Allowed picks′ ledger′ cells → length (allRows tokenWidth Tokens.decode inputs) ≤ capacityOf ledger′ → check graph inputs picks′ ledger′ cells ≡ Passed
   unfolding check checkStores
   also-passes picks′ ledger′ a l =
       rw (parts .1 .graphPassed, wholes .wholeInputs, a .allowedPicks, a .allowedLedger, a .allowedCells) (inputs-fit (graphOf graph) (capacityOf ledger) (capacityOf ledger′) inputs (parts .1 .inputsPassed) l)
 
-  also-exceeds : (picks′ : List ℕ) (ledger′ : ℕ) → Allowed picks′ ledger′ cells → capacityOf ledger′ < length (allRows tokenWidth Tokens.decode inputs) → check graph inputs picks′ ledger′ cells ≡ Failed LedgerFull (capacityOf ledger′)
+  pub also-exceeds : (picks′ : List ℕ) (ledger′ : ℕ) → Allowed picks′ ledger′ cells → capacityOf ledger′ < length (allRows tokenWidth Tokens.decode inputs) → check graph inputs picks′ ledger′ cells ≡ Failed LedgerFull (capacityOf ledger′)
   unfolding check checkStores
   also-exceeds picks′ ledger′ a l =
       rw (parts .1 .graphPassed, wholes .wholeInputs, a .allowedPicks, a .allowedLedger, a .allowedCells) (inputs-exceed (graphOf graph) (capacityOf ledger) (capacityOf ledger′) inputs (parts .1 .inputsPassed) l)
