@@ -29,13 +29,10 @@ fn outputs_of(r: Instruction) -> usize
     if r.code == 5 {
         return 1;
     }
-    if r.fanout == 0 {
-        return 0;
+    if 2 <= r.fanout {
+        return 2;
     }
-    if r.fanout == 1 {
-        return 1;
-    }
-    2
+    r.fanout as usize
 }
 
 pub fn total(graph: &[u8], reached: &[bool; 256]) -> Totals
