@@ -1,7 +1,7 @@
 -- `bounds::at_most` meets its contract. Assumes nothing.
 use Prim.Native.Nat.{ℕ}
 use native.Mathlib.Omega.{arith}
-use mathlib.Core.Path.{_≡_}
+use mathlib.Core.Path.{_≡_, _∙_}
 use mathlib.Core.List.{List}
 use lib.ListN.{length}
 use borrow.Author.Needs.{needs}
@@ -10,6 +10,7 @@ use Rattle.record.specs.GraphRecords.{graphOf}
 use Rattle.record.specs.Widths.{tokenWidth}
 use Rattle.rules.specs.declared.answer.Refusal.the-variants.{BadInput}
 use Rattle.rules.specs.declared.answer.Checked.the-variants.{Passed}
+use Rattle.rules.specs.declared.answer.Needs.the-variants.{AtMost}
 use Rattle.rules.specs.Check.{demand, inTurn, goodInput, checkGraph, checkStores}
 use Rattle.rules.specs.Needs.{firingsOf, outputsOf, inputsOf, checkNeeds}
 use Rattle.rules.specs.Needs as Needs
@@ -33,6 +34,9 @@ module _ (graph inputs : List ℕ) (passed : checkNeeds graph inputs ≡ Passed)
       let later = both-passed (checkStores (length inputs) 0 0 0) _ (both-passed (checkGraph graph) _ passed .1) in
       both-passed (inTurn (λ i good. demand good BadInput i) 0 (allRows tokenWidth (goodInput (graphOf graph)) inputs)) _ (later .1) .0
 
+alike : {f f′ t t′ : ℕ} → f ≡ f′ → t ≡ t′ → AtMost f t ≡ AtMost f′ t′
+alike e d = cc
+
 pub at-most-spec : {M : Type 1} → statement M
 unfolding Needs.needs
 at-most-spec = tie.close (tie.spec
@@ -54,4 +58,6 @@ at-most-spec = tie.close (tie.spec
     let ts = inputsOf (a .inputs .now) in
     let t = c .before .total .ensures in
     let same = c .before .before .before .reach .ensures ts (c .before .before .before .before .before .given .ensures) in
-    rw (p, length-tokens (a .inputs .now), t .0, t .1, totals ts g _ same firingsOf, totals ts g _ same outputsOf)))
+    let reached = c .before .before .before .reach .result in
+    let outputs = t .1 ∙ totals ts g reached same outputsOf in
+    rw p (alike (t .0 ∙ totals ts g reached same firingsOf) (omega (arith, length-tokens (a .inputs .now), outputs)))))

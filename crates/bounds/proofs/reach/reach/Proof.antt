@@ -17,7 +17,7 @@ use Rattle.bounds.proofs.reach.reach.Tie as tie
 
 abbrev Inv-loop : tie.InvT-loop
 Inv-loop graph sent₀ reached₀ rounds₀ sent reached rounds =
-    (rounds ≤ length graph / graphWidth) × ((ts : List Token) → Ports (given ts) sent₀ → Kept ts (graphOf graph) sent reached × Within (after ts (graphOf graph) rounds) (flag reached))
+    ((ts : List Token) → Ports (given ts) sent₀ → Kept ts (graphOf graph) sent reached × Within (after ts (graphOf graph) rounds) (flag reached)) × (rounds ≤ length graph / graphWidth)
 
 abbrev μ-loop : tie.MeasureT-loop
 μ-loop graph sent₀ reached₀ rounds₀ sent reached rounds = length graph / graphWidth - rounds
@@ -26,23 +26,23 @@ pub reach-spec : {M : Type 1} → statement M
 reach-spec = tie.close (tie.spec
     Inv-loop
     μ-loop
-    (λ c. (omega arith, λ ts k. (start ts (graphOf (c .before .args .graph .now)) k, first ts (graphOf (c .before .args .graph .now)) (replicate 256 false))))
+    (λ c. (λ ts k. (start ts (graphOf (c .before .args .graph .now)) k, first ts (graphOf (c .before .args .graph .now)) (replicate 256 false)), omega arith))
     (λ c κs. c .before .before .before .before .before .pre)
     (λ c ts k i.
     let l = c .before .before .before .before .before .loop in
     let g = graphOf (c .before .before .before .before .before .before .before .args .graph .now) in
-    no-more ts g (c .before .round .ensures ts (l .inv .1 ts k .0)) (not-true _ (c .if1 .taken)) i)
+    no-more ts g (c .before .round .ensures ts (l .inv .0 ts k .0)) (not-true _ (c .if1 .taken)) i)
     (λ c. omega arith)
     (λ c. omega arith)
     (λ c. (
-      omega arith,
       λ ts k.
           let l = c .before .before .before .before .before .loop in
           let g = graphOf (c .before .before .before .before .before .before .before .args .graph .now) in
-          let r = c .before .round .ensures ts (l .inv .1 ts k .0) in
-          (r .kept, again ts g r (l .rounds) (l .inv .1 ts k .1)),
+          let r = c .before .round .ensures ts (l .inv .0 ts k .0) in
+          (r .kept, again ts g r (l .rounds) (l .inv .0 ts k .1)),
+      omega arith,
     ))
     (λ c ts k i.
     let l = c .before .loop in
     let s = c .before .before .before .args .graph .now in
-    enough ts (graphOf s) (l .rounds) (l .inv .1 ts k .0) (omega (arith, length-graph s)) (l .inv .1 ts k .1) i))
+    enough ts (graphOf s) (l .rounds) (l .inv .0 ts k .0) (omega (arith, length-graph s)) (l .inv .0 ts k .1) i))
