@@ -64,17 +64,19 @@ fn send(sent: &mut [bool; 512], r: Instruction)
     sent[entry(second)] = true;
 }
 
-// Whether all ports of instruction i are marked.
+// Whether all ports of instruction i are marked: it has one or two. Port 0 decides most often, so it comes first.
 fn ready(graph: &[u8], sent: &[bool; 512], i: usize) -> bool
     requires { ⌜ (i < length (now graph) / graphWidth) × (i < 256) × (1 ≤ operandsAt (graphOf (now graph)) i) ⌝ }
     ensures { λ r. ⌜ r ≡ allBelow (operandsAt (graphOf (now (graph .entry))) i) (λ p. getD (now (sent .entry)) (entryOf i p) false) ⌝ }
 {
-    let operands = operation::operands(graph[i * instruction::WIDTH]);
     let at = i * 2;
-    if operands == 1 {
-        return sent[at];
+    if !sent[at] {
+        return false;
     }
-    sent[at + 1] && sent[at]
+    if operation::operands(graph[i * instruction::WIDTH]) == 1 {
+        return true;
+    }
+    sent[at + 1]
 }
 
 // Adds instruction i where it is ready, and marks the ports that it sends to; whether it was added.
