@@ -59,7 +59,7 @@ outcome-back Hung = refl
 outcome-back Spent = refl
 outcome-back (Refused r place) = refusal-back r place
 
-number-small : (r : Refusal) → numberOf r < 65536
+pub number-small : (r : Refusal) → numberOf r < 65536
 number-small GraphLength = omega arith
 number-small UnknownOperation = omega arith
 number-small FanOut = omega arith

@@ -8,6 +8,8 @@ use Rattle.rules.specs.declared.answer.Refusal.{Refusal}
 use Rattle.rules.specs.declared.answer.Refusal.the-variants.{GraphLength, UnknownOperation, FanOut, BadArc, BadSite, BadInput, BadStore, LedgerFull, SecondToken, NoSuchCell, SecondWrite, OutOfRange, Iteration, TooDeep, NoReturn}
 use Rattle.rules.specs.declared.answer.Outcome.{Outcome}
 use Rattle.rules.specs.declared.answer.Outcome.the-variants.{Completed, Hung, Spent, Refused}
+use Rattle.rules.specs.declared.answer.Needs.{Needs}
+use Rattle.rules.specs.declared.answer.Needs.the-variants as Bounds
 use Rattle.text.specs.Text.{printed, printedOf, outAfter}
 use Rattle.text.specs.declared.Printed.{Printed}
 use Rattle.text.specs.declared.Printed.the-variants.{Done, TooSmall}
@@ -22,6 +24,11 @@ use Rattle.abi.specs.declared.Unpacked.the-variants.{Answered, NoAnswer}
 
 abbrev pub packed : Values → ℕ
 packed v = v .word + v .firings % 65536 * 65536 + v .tokens % 65536 * 4294967296 + v .place % 65536 * 281474976710656
+
+-- the bounds of 02, R-3: word 0, or the refusal's number with its place and no counts
+abbrev pub boundsOf : Needs → Values
+boundsOf (Bounds.AtMost firings tokens) = record { word = 0; firings = firings; tokens = tokens; place = 0 }
+boundsOf (Bounds.Refused r place) = record { word = numberOf r; firings = 0; tokens = 0; place = place }
 
 -- ---- the way back
 
