@@ -5,7 +5,7 @@ use mathlib.Core.List.{List, [], _∷_}
 use lib.Dec.{eqb}
 use Rattle.rules.specs.Answer.{Values, numberOf}
 use Rattle.rules.specs.declared.answer.Refusal.{Refusal}
-use Rattle.rules.specs.declared.answer.Refusal.the-variants.{GraphLength, UnknownOperation, FanOut, BadArc, BadSite, BadInput, BadStore, LedgerFull, SecondToken, NoSuchCell, SecondWrite, OutOfRange, Iteration, TooDeep, NoReturn}
+use Rattle.rules.specs.declared.answer.Refusal.the-variants.{GraphLength, UnknownOperation, FanOut, BadArc, BadSite, BadInput, BadStore, LedgerFull, SecondToken, NoSuchCell, SecondWrite, OutOfRange, Iteration, TooDeep, NoReturn, ProfileFull, NotLoopFree, NotEnabled}
 use Rattle.rules.specs.declared.answer.Outcome.{Outcome}
 use Rattle.rules.specs.declared.answer.Outcome.the-variants.{Completed, Hung, Spent, Refused}
 use Rattle.rules.specs.declared.answer.Needs.{Needs}
@@ -32,7 +32,7 @@ boundsOf (Bounds.Refused r place) = record { word = numberOf r; firings = 0; tok
 
 -- ---- the way back
 
--- all of them, in the order of 01's table without 15 and 16, which R-5 and R-6 took out
+-- all of them, in the order of 01's table without 15 and 16, which R-5 and R-6 took out; then 02's
 abbrev pub refusals : List Refusal
 refusals =
     GraphLength
@@ -50,6 +50,9 @@ refusals =
     ∷ Iteration
     ∷ TooDeep
     ∷ NoReturn
+    ∷ ProfileFull
+    ∷ NotLoopFree
+    ∷ NotEnabled
     ∷ []
 
 -- the one of some with a number

@@ -77,6 +77,9 @@ fn refusal_of(word: u64) -> Numbered
         13 => Numbered::One(Refusal::Iteration),
         14 => Numbered::One(Refusal::TooDeep),
         17 => Numbered::One(Refusal::NoReturn),
+        18 => Numbered::One(Refusal::ProfileFull),
+        19 => Numbered::One(Refusal::NotLoopFree),
+        20 => Numbered::One(Refusal::NotEnabled),
         _ => Numbered::NoRefusal,
     }
 }
