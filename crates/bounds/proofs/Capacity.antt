@@ -31,7 +31,7 @@ use Rattle.rules.specs.Capacity as Rules
 use Rattle.rules.proofs.Inputs.{tokens-first}
 use Rattle.rules.proofs.Accepted.{whole-bytes, accepted, stores-whole}
 use Rattle.rules.proofs.Invariants.{result-invariants}
-use Rattle.rules.proofs.Fits.{CellCount}
+use Rattle.rules.specs.Fits.{CellCount}
 use Rattle.rules.proofs.Capacity as Laws
 use Rattle.bounds.specs.Runs.{Lent, Left, RanOn, CompletedOrHung}
 use Rattle.bounds.specs.Capacity.{used, SameEnd, EnoughRoom, RefusedBy8, TooSmall}
