@@ -39,20 +39,22 @@ fn say_bounds(name: &[u8], graph: &[u8], inputs: &[u8]) {
     }
 }
 
-// Record i: an operation that sends to port 0 of one instruction, a SWITCH to two, an OUT to none.
+// A SWITCH has two destinations, OUT and LEAVE have none, and the others here one.
+fn fan_out(code: u8) -> u8 {
+    match code {
+        3 | 9 => 0,
+        5 => 2,
+        _ => 1,
+    }
+}
+
+// Record i: an operation that sends to port 0 of these instructions.
 fn put(graph: &mut [u8], i: usize, code: u8, first: u16, second: u16)
     requires { ⌜ i < length (now graph) / graphWidth ⌝ }
 {
-    let mut fanout = 1;
-    if code == 3 {
-        fanout = 0;
-    }
-    if code == 5 {
-        fanout = 2;
-    }
     let r = Instruction {
         code,
-        fanout,
+        fanout: fan_out(code),
         first: Destination {
             instruction: first,
             port: 0,
@@ -110,7 +112,7 @@ fn say_switch() {
     say_bounds(b"SWITCH", &graph, &inputs);
 }
 
-// COPY to an operation of that code to OUT, with an input to COPY or to an instruction that is absent.
+// COPY to an operation of that code to OUT, with an input to this instruction.
 fn say_through(name: &[u8], code: u8, to: u16) {
     let mut graph = [0u8; 48];
     let mut inputs = [0u8; 20];
@@ -119,6 +121,16 @@ fn say_through(name: &[u8], code: u8, to: u16) {
     put(&mut graph, 2, 3, 0, 0);
     put_input(&mut inputs, 0, to, 0, 7);
     say_bounds(name, &graph, &inputs);
+}
+
+// COPY to LEAVE.
+fn say_leave() {
+    let mut graph = [0u8; 32];
+    let mut inputs = [0u8; 20];
+    put(&mut graph, 0, 1, 1, 0);
+    put(&mut graph, 1, 9, 0, 0);
+    put_input(&mut inputs, 0, 0, 0, 7);
+    say_bounds(b"LEAVE", &graph, &inputs);
 }
 
 // Each record sends to the one before it, the first is OUT.
@@ -150,7 +162,7 @@ fn main() {
     say_switch();
     say_through(b"NEXT", 7, 0);
     say_through(b"NEXT and an input to 9", 7, 9);
-    say_through(b"LEAVE in its place", 9, 0);
     say_through(b"COPY in its place", 1, 0);
+    say_leave();
     say_chain();
 }
