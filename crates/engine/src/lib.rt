@@ -4,7 +4,7 @@ use fire_commit::Fired;
 use rules::answer::Answer;
 use rules::answer::Checked;
 use rules::answer::Outcome;
-ghost use Prim.Native.Nat.{_/_};
+ghost use Prim.Native.Nat.{_/_, _%_, _<_};
 ghost use mathlib.Core.Path.{_≡_};
 ghost use lib.ListN.{length, drop};
 ghost use Rattle.record.specs.GraphRecords.{graphOf};
@@ -22,6 +22,14 @@ ghost use Rattle.engine.specs.Turns.{Turned, endOf};
 pub enum Turn {
     Fired(usize),
     Ended(Outcome),
+}
+
+// The number that a pick takes of e activities. One below e is that number itself, and needs no division.
+fn number_of(pick: usize, e: usize) -> usize
+    requires { ⌜ 0 < e ⌝ }
+    ensures { λ r. ⌜ r ≡ pick % e ⌝ }
+{
+    if pick < e { pick } else { pick % e }
 }
 
 // The activity that the pick takes fires, if one is enabled.
@@ -43,7 +51,7 @@ fn take_turn(
     if e == 0 {
         return Turn::Ended(ending::ending(tables, ledger, used));
     }
-    let number = load::pick_at(picks, firings) % e;
+    let number = number_of(load::pick_at(picks, firings), e);
     let place = store::enabled_at(flags, number);
     let fired = fire::fire(graph, tables, links, flags, ledger, cells, used, place);
     match fired {
