@@ -6,13 +6,18 @@
 //! All works are run in turn, round after round. With the argument `repeated` each
 //! is run a block of times before the next, so that it meets the caches that it
 //! left; with `growth` only the growth is measured, of runs of one size that follow
-//! each other (growth.rs). The figures of the three differ.
+//! each other (growth.rs). The figures of the three differ. `program` measures the
+//! whole job of the printing program (program.rs). `once WORK` and `folders DIR` are
+//! for the script `instructions`.
 
 mod growth;
+mod printing;
+mod program;
 mod work;
 
 use std::time::{Duration, Instant};
 
+use printing::Printing;
 use second::{Answer, Outcome};
 use work::Work;
 
@@ -37,10 +42,21 @@ const KINDS: [Kind; 5] = [
 ];
 
 fn main() {
-    if std::env::args().any(|word| word == "growth") {
-        return growth::print();
+    let words: Vec<String> = std::env::args().skip(1).collect();
+    let words: Vec<&str> = words.iter().map(String::as_str).collect();
+    match words[..] {
+        [] => compare(1),
+        ["repeated"] => compare(BLOCK),
+        ["growth"] => growth::print(),
+        ["program"] => program::print(),
+        ["once", work] => program::once(work),
+        ["folders", folder] => program::write_folders(folder.as_ref()),
+        _ => eprintln!("repeated, growth, program, once WORK, folders DIR, or nothing"),
     }
-    let repeated = std::env::args().any(|word| word == "repeated");
+}
+
+/// Prints the tables of all works, each run a block of times before the next.
+fn compare(block: usize) {
     println!("Time of one run, median of {RUNS} runs of each emulator. The buffers are not");
     println!("cleared: each run finds ledger and cells as the run before it left them. The");
     println!("second emulator allocates its tables in every run.");
@@ -58,10 +74,16 @@ fn main() {
     for arrangement in ARRANGEMENTS {
         listings.extend(SIZES.map(|size| Listing::new(arrangement, size)));
     }
-    let block = if repeated { BLOCK } else { 1 };
+    let mut printings: Vec<Printing> = Vec::new();
+    for kind in KINDS.into_iter().filter(|(_, _, newest)| !newest) {
+        printings.extend(SIZES.map(|size| Printing::new(kind, size)));
+    }
     for _ in 0..RUNS / block {
         works.iter_mut().for_each(|work| work.runs(block));
         listings.iter_mut().for_each(|listing| listing.runs(block));
+        printings
+            .iter_mut()
+            .for_each(|printing| printing.runs(block));
     }
     works.iter().for_each(Measured::print);
     println!();
@@ -77,6 +99,9 @@ fn main() {
     println!("| records | count | engine | stable sort | engine / stable sort |");
     println!("|---|---:|---:|---:|---:|");
     listings.iter().for_each(Listing::print);
+    println!();
+    Printing::print_head();
+    printings.iter().for_each(Printing::print);
 }
 
 /// What both emulators are lent.

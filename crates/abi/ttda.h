@@ -16,6 +16,12 @@ uint64_t ttda_run(const uint8_t *graph, size_t graph_len,
                   uint8_t *ledger, size_t ledger_len,
                   uint8_t *cells, size_t cells_len);
 
+/* What a graph will need, before it runs: no run from these inputs has more firings or tokens. The answer has 16 bits
+   each, lowest first: the word (0, or 1 to 7 or 19 refused), firings, tokens, place. 19 is a graph with NEXT, ENTER or
+   LEAVE, at the first such record. */
+uint64_t ttda_bounds(const uint8_t *graph, size_t graph_len,
+                     const uint8_t *inputs, size_t inputs_len);
+
 /* Sorts the used records of a ledger, so many as the answer has tokens, into out of the same length. 0, or 7 with out
    untouched. */
 uint64_t ttda_list(const uint8_t *ledger, size_t ledger_len,

@@ -15,7 +15,7 @@ use Rattle.record.specs.Cells as Cells
 use Rattle.record.specs.Widths.{tokenWidth, cellWidth}
 use Rattle.rules.specs.Answer.{Values, numberOf, wordOf, placeIn, valuesOf}
 use Rattle.rules.specs.declared.answer.Refusal.{Refusal}
-use Rattle.rules.specs.declared.answer.Refusal.the-variants.{GraphLength, UnknownOperation, FanOut, BadArc, BadSite, BadInput, BadStore, LedgerFull, SecondToken, NoSuchCell, SecondWrite, OutOfRange, Iteration, TooDeep, NoReturn}
+use Rattle.rules.specs.declared.answer.Refusal.the-variants.{GraphLength, UnknownOperation, FanOut, BadArc, BadSite, BadInput, BadStore, LedgerFull, SecondToken, NoSuchCell, SecondWrite, OutOfRange, Iteration, TooDeep, NoReturn, ProfileFull, NotLoopFree, NotEnabled}
 use Rattle.rules.specs.declared.answer.Outcome.{Outcome}
 use Rattle.rules.specs.declared.answer.Outcome.the-variants.{Completed, Hung, Spent, Refused}
 use Rattle.rules.specs.declared.answer.Answer.{Answer}
@@ -51,6 +51,9 @@ refusal-back OutOfRange place = refl
 refusal-back Iteration place = refl
 refusal-back TooDeep place = refl
 refusal-back NoReturn place = refl
+refusal-back ProfileFull place = refl
+refusal-back NotLoopFree place = refl
+refusal-back NotEnabled place = refl
 
 outcome-back : (o : Outcome) → outcomeOf (wordOf o) (placeIn o) ≡ Ended o
 unfolding outcomeOf
@@ -59,7 +62,7 @@ outcome-back Hung = refl
 outcome-back Spent = refl
 outcome-back (Refused r place) = refusal-back r place
 
-number-small : (r : Refusal) → numberOf r < 65536
+pub number-small : (r : Refusal) → numberOf r < 65536
 number-small GraphLength = omega arith
 number-small UnknownOperation = omega arith
 number-small FanOut = omega arith
@@ -75,6 +78,9 @@ number-small OutOfRange = omega arith
 number-small Iteration = omega arith
 number-small TooDeep = omega arith
 number-small NoReturn = omega arith
+number-small ProfileFull = omega arith
+number-small NotLoopFree = omega arith
+number-small NotEnabled = omega arith
 
 word-small : (o : Outcome) → wordOf o < 65536
 word-small Completed = omega arith

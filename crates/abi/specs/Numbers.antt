@@ -5,9 +5,11 @@ use mathlib.Core.List.{List, [], _∷_}
 use lib.Dec.{eqb}
 use Rattle.rules.specs.Answer.{Values, numberOf}
 use Rattle.rules.specs.declared.answer.Refusal.{Refusal}
-use Rattle.rules.specs.declared.answer.Refusal.the-variants.{GraphLength, UnknownOperation, FanOut, BadArc, BadSite, BadInput, BadStore, LedgerFull, SecondToken, NoSuchCell, SecondWrite, OutOfRange, Iteration, TooDeep, NoReturn}
+use Rattle.rules.specs.declared.answer.Refusal.the-variants.{GraphLength, UnknownOperation, FanOut, BadArc, BadSite, BadInput, BadStore, LedgerFull, SecondToken, NoSuchCell, SecondWrite, OutOfRange, Iteration, TooDeep, NoReturn, ProfileFull, NotLoopFree, NotEnabled}
 use Rattle.rules.specs.declared.answer.Outcome.{Outcome}
 use Rattle.rules.specs.declared.answer.Outcome.the-variants.{Completed, Hung, Spent, Refused}
+use Rattle.rules.specs.declared.answer.Needs.{Needs}
+use Rattle.rules.specs.declared.answer.Needs.the-variants as Bounds
 use Rattle.text.specs.Text.{printed, printedOf, outAfter}
 use Rattle.text.specs.declared.Printed.{Printed}
 use Rattle.text.specs.declared.Printed.the-variants.{Done, TooSmall}
@@ -23,9 +25,14 @@ use Rattle.abi.specs.declared.Unpacked.the-variants.{Answered, NoAnswer}
 abbrev pub packed : Values → ℕ
 packed v = v .word + v .firings % 65536 * 65536 + v .tokens % 65536 * 4294967296 + v .place % 65536 * 281474976710656
 
+-- the bounds of 02, R-3: word 0, or the refusal's number with its place and no counts
+abbrev pub boundsOf : Needs → Values
+boundsOf (Bounds.AtMost firings tokens) = record { word = 0; firings = firings; tokens = tokens; place = 0 }
+boundsOf (Bounds.Refused r place) = record { word = numberOf r; firings = 0; tokens = 0; place = place }
+
 -- ---- the way back
 
--- all of them, in the order of 01's table without 15 and 16, which R-5 and R-6 took out
+-- all of them, in the order of 01's table without 15 and 16, which R-5 and R-6 took out; then 02's
 abbrev pub refusals : List Refusal
 refusals =
     GraphLength
@@ -43,6 +50,9 @@ refusals =
     ∷ Iteration
     ∷ TooDeep
     ∷ NoReturn
+    ∷ ProfileFull
+    ∷ NotLoopFree
+    ∷ NotEnabled
     ∷ []
 
 -- the one of some with a number

@@ -3,17 +3,19 @@
 use listing::Listed;
 use rules::answer;
 use rules::answer::Answer;
+use rules::answer::Needs;
 use rules::answer::Outcome;
 use rules::answer::Refusal;
 use text::Printed;
 ghost use mathlib.Core.Path.{_≡_};
 ghost use lib.ListN.{length};
 ghost use Rattle.rules.specs.Answer.{placeIn, valuesOf};
+ghost use Rattle.rules.specs.Needs.{needs};
 ghost use Rattle.rules.specs.Run.{result, ledgerAfter, cellsAfter};
 ghost use Rattle.rules.specs.Run.{answer as Run·answer};
 ghost use Rattle.listing.specs.Listing.{outAfter};
 ghost use Rattle.listing.specs.Listing.{answer as Listing·answer};
-ghost use Rattle.abi.specs.Numbers.{packed, refusalOf, unplaced, outcomeOf, unpacked, printAnswer, printAfter};
+ghost use Rattle.abi.specs.Numbers.{packed, boundsOf, refusalOf, unplaced, outcomeOf, unpacked, printAnswer, printAfter};
 
 // What a word says of a refusal.
 enum Numbered {
@@ -75,6 +77,9 @@ fn refusal_of(word: u64) -> Numbered
         13 => Numbered::One(Refusal::Iteration),
         14 => Numbered::One(Refusal::TooDeep),
         17 => Numbered::One(Refusal::NoReturn),
+        18 => Numbered::One(Refusal::ProfileFull),
+        19 => Numbered::One(Refusal::NotLoopFree),
+        20 => Numbered::One(Refusal::NotEnabled),
         _ => Numbered::NoRefusal,
     }
 }
@@ -140,6 +145,25 @@ pub extern "C" fn ttda_run(
     ensures { λ _. ⌜ now (cells .exit) ≡ cellsAfter (result (now (graph .entry)) (now (inputs .entry)) (now (picks .entry)) budget (length (now (ledger .entry))) (length (now (cells .entry)))) (now (cells .entry)) ⌝ }
 {
     number_of(engine::run(graph, inputs, picks, budget, ledger, cells))
+}
+
+#[no_mangle]
+pub extern "C" fn ttda_bounds(graph: &[u8], inputs: &[u8]) -> u64
+    ensures { λ r. ⌜ r ≡ packed (boundsOf (needs (now (graph .entry)) (now (inputs .entry)))) ⌝ }
+{
+    let needs = bounds::bounds(graph, inputs);
+    match needs {
+        Needs::AtMost { firings, tokens } => number_of(Answer {
+            outcome: Outcome::Completed,
+            firings,
+            tokens,
+        }),
+        Needs::Refused(r, place) => number_of(Answer {
+            outcome: Outcome::Refused(r, place),
+            firings: 0,
+            tokens: 0,
+        }),
+    }
 }
 
 #[no_mangle]

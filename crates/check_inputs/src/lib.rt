@@ -33,7 +33,7 @@ fn good(graph: &[u8], s: &[u8]) -> bool
 }
 
 // 6, the inputs in turn.
-fn fields(graph: &[u8], inputs: &[u8]) -> Checked
+pub fn fields(graph: &[u8], inputs: &[u8]) -> Checked
     ensures { λ c. ⌜ c ≡ checkFields (graphOf (now (graph .entry))) (now (inputs .entry)) ⌝ }
 {
     let mut i = 0;

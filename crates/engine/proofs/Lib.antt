@@ -1,5 +1,4 @@
 -- The laws of a run over bytes. Assumes nothing.
 pub mod Turning
-pub mod Ending
 pub mod Looping
-pub mod Starting
+pub mod Accepting

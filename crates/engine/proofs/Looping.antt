@@ -25,8 +25,9 @@ use Rattle.fire.proofs.Place.{on-ports}
 use Rattle.fire.specs.Running.{machineFor, stateIn, Running}
 use Rattle.ending.specs.Endings.{RestsAs}
 use Rattle.ending.proofs.Laws.{rests-there}
-use Rattle.engine.specs.Turns.{Advanced, Halted, EndedAt, endOf}
-use Rattle.engine.proofs.Ending.{left}
+use Rattle.start.specs.Ended.{EndedAt}
+use Rattle.engine.specs.Turns.{Advanced, Halted, endOf}
+use Rattle.start.proofs.Ending.{left}
 
 -- after so many firings, from a ledger and cells as lent
 pub record SoFar (g : List Instruction) (ledger₀ cells₀ : List ℕ) (start budget : ℕ) (picks tables links flags ledger cells : List ℕ) (used firings : ℕ) : Type 0 where

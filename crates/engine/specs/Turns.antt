@@ -1,20 +1,16 @@
 -- A run, a turn at a time, in the terms of the machine: what a turn leaves, and what a run leaves. Assumes nothing.
 use Prim.Native.Nat.{ℕ, suc, _*_, _≤_}
 use mathlib.Core.Path.{_≡_}
-use mathlib.Core.List.{List, map}
+use mathlib.Core.List.{List}
 use lib.ListN.{length, drop}
 use lib.IntN.{ℤ}
 use Rattle.record.specs.declared.tag.Tag.{Tag}
 use Rattle.record.specs.declared.instruction.Instruction.{Instruction}
-use Rattle.record.specs.TokensAndTags.{ledgerOf}
-use Rattle.buffer.specs.Rows.{writtenOver}
-use Rattle.record.specs.Cells as Cells
 use Rattle.record.specs.Widths.{tokenWidth}
 use Rattle.machine.specs.Machine.{Outcome, End, byPicks, runBy, run, end, laterPicks}
 use Rattle.rules.specs.declared.answer.Refusal.{Refusal}
 use Rattle.rules.specs.declared.answer.Outcome as AnswerOutcome
-use Rattle.rules.specs.declared.answer.Answer.{Answer}
-use Rattle.rules.specs.Run.{tokenRecord, cellRecord, outcomeOf}
+use Rattle.rules.specs.Run.{outcomeOf}
 use Rattle.fire.specs.Running.{machineFor, stateIn, Running}
 use Rattle.engine.specs.declared.Turn.{Turn}
 use Rattle.engine.specs.declared.Turn.the-variants as Turns
@@ -44,12 +40,6 @@ Turned (Turns.Fired n) g picks tables links flags ledger′ cells′ used ledger
     Advanced g picks tables links flags ledger′ cells′ n used ledger cells
 Turned (Turns.Ended o) g picks tables links flags ledger′ cells′ used ledger cells =
     Halted o g picks tables links flags ledger′ cells′ used ledger cells
-
--- what a run that came to this end answers, and leaves in ledger and cells
-pub record EndedAt (e : End Refusal Tag ℤ) (r : Answer) (ledger cells ledger′ cells′ : List ℕ) : Type 0 where
-  pub answered : r ≡ record { outcome = outcomeOf (e .outcome); firings = e .firings; tokens = length (e .state .tokens) }
-  pub ledgerLeft : ledger′ ≡ ledgerOf (map tokenRecord (e .state .tokens)) ledger
-  pub cellsLeft : cells′ ≡ writtenOver Cells.encode (map cellRecord (e .state .cells)) cells
 
 -- the end of a run from a state of so many tokens
 abbrev pub endOf : List Instruction → (ledger cells : List ℕ) → (used budget : ℕ) → (picks : List ℕ) → End Refusal Tag ℤ

@@ -4,7 +4,7 @@ use fire_commit::Fired;
 use rules::answer::Answer;
 use rules::answer::Checked;
 use rules::answer::Outcome;
-ghost use Prim.Native.Nat.{_/_};
+ghost use Prim.Native.Nat.{_/_, _%_, _<_};
 ghost use mathlib.Core.Path.{_≡_};
 ghost use lib.ListN.{length, drop};
 ghost use Rattle.record.specs.GraphRecords.{graphOf};
@@ -15,12 +15,21 @@ ghost use Rattle.rules.specs.Answer.{valuesChecked};
 ghost use Rattle.rules.specs.Check.{checkGraph, check};
 ghost use Rattle.rules.specs.Run.{picksOf, firstState, result, Ran};
 ghost use Rattle.fire.specs.Running.{machineFor, Prepared, Running};
-ghost use Rattle.engine.specs.Turns.{Turned, EndedAt, endOf};
+ghost use Rattle.start.specs.Ended.{EndedAt};
+ghost use Rattle.engine.specs.Turns.{Turned, endOf};
 
 // What a turn of a run comes to: an activity fired and left so many tokens, or the run is at its end.
 pub enum Turn {
     Fired(usize),
     Ended(Outcome),
+}
+
+// The number that a pick takes of e activities. One below e is that number itself, and needs no division.
+fn number_of(pick: usize, e: usize) -> usize
+    requires { ⌜ 0 < e ⌝ }
+    ensures { λ r. ⌜ r ≡ pick % e ⌝ }
+{
+    if pick < e { pick } else { pick % e }
 }
 
 // The activity that the pick takes fires, if one is enabled.
@@ -42,7 +51,7 @@ fn take_turn(
     if e == 0 {
         return Turn::Ended(ending::ending(tables, ledger, used));
     }
-    let number = load::pick_at(picks, firings) % e;
+    let number = number_of(load::pick_at(picks, firings), e);
     let place = store::enabled_at(flags, number);
     let fired = fire::fire(graph, tables, links, flags, ledger, cells, used, place);
     match fired {
@@ -117,9 +126,15 @@ fn accepted(
     let mut tables = [0u16; 512];
     let mut links = [0u16; 9216];
     let mut flags = [0u64; 69];
-    graph_tables::make(graph, &mut tables);
-    load::clear(cells);
-    let used = load::inputs(&tables, &mut links, &mut flags, ledger, inputs);
+    let used = start::begin(
+        graph,
+        inputs,
+        &mut tables,
+        &mut links,
+        &mut flags,
+        ledger,
+        cells,
+    );
     proceed(
         graph,
         &tables,

@@ -43,20 +43,20 @@ use Rattle.listing.proofs.AnyTwoOrders.{places-differ, records-differ, 
 pub record SameEnd (x : Result) (o : Outcome) : Type 0 where
   pub completes : Rules.Completed x ↔ Completed o
   pub hangs : Rules.Hung x ↔ Hung o
-  pub rests : Quiescent o → Rules.Quiescent x
+  pub rests : Rules.Quiescent x ↔ Quiescent o
   pub refuses : Rules.Refused x ↔ Refused o
   pub spends : Spent o → Rules.Spent x
 
 pub same-end : (x : Result) → SameEnd x (Run.answer x .outcome)
 unfolding Run.answer
-same-end (refusedAtOnce r p) = record { completes = (λ h. h, λ h. h); hangs = (λ h. h, λ h. h); rests = λ h. h; refuses = (λ h. h, λ h. h); spends = λ h. h }
+same-end (refusedAtOnce r p) = record { completes = (λ h. h, λ h. h); hangs = (λ h. h, λ h. h); rests = (λ h. h, λ h. h); refuses = (λ h. h, λ h. h); spends = λ h. h }
 same-end (ranTo e) = go (e .outcome)
   where
     go : (o : Machine.Outcome Refusal) → SameEnd (ranTo (record { outcome = o; firings = e .firings; state = e .state })) (outcomeOf o)
-    go Machine.completed = record { completes = (λ h. h, λ h. h); hangs = (λ h. h, λ h. h); rests = λ h. h; refuses = (λ h. h, λ h. h); spends = λ h. h }
-    go Machine.hung = record { completes = (λ h. h, λ h. h); hangs = (λ h. h, λ h. h); rests = λ h. h; refuses = (λ h. h, λ h. h); spends = λ h. h }
-    go Machine.budgetSpent = record { completes = (λ h. h, λ h. h); hangs = (λ h. h, λ h. h); rests = λ h. h; refuses = (λ h. h, λ h. h); spends = λ h. h }
-    go (Machine.refused r p) = record { completes = (λ h. h, λ h. h); hangs = (λ h. h, λ h. h); rests = λ h. h; refuses = (λ h. h, λ h. h); spends = λ h. h }
+    go Machine.completed = record { completes = (λ h. h, λ h. h); hangs = (λ h. h, λ h. h); rests = (λ h. h, λ h. h); refuses = (λ h. h, λ h. h); spends = λ h. h }
+    go Machine.hung = record { completes = (λ h. h, λ h. h); hangs = (λ h. h, λ h. h); rests = (λ h. h, λ h. h); refuses = (λ h. h, λ h. h); spends = λ h. h }
+    go Machine.budgetSpent = record { completes = (λ h. h, λ h. h); hangs = (λ h. h, λ h. h); rests = (λ h. h, λ h. h); refuses = (λ h. h, λ h. h); spends = λ h. h }
+    go (Machine.refused r p) = record { completes = (λ h. h, λ h. h); hangs = (λ h. h, λ h. h); rests = (λ h. h, λ h. h); refuses = (λ h. h, λ h. h); spends = λ h. h }
 
 is-completed : (o : Outcome) → Completed o → o ≡ Outcomes.Completed
 is-completed Outcomes.Completed h = refl
@@ -155,8 +155,8 @@ module _ (graph inputs : List ℕ) (graphBytes : Bytes graph) (inputBytes : Byte
   alike : Quiescent (x .answer .outcome) → Alike x y
   alike done =
       let outcomes = same-outcome (x .answer .outcome) (y .answer .outcome) done (completing .0) (hanging .0) in
-      let cx = ended l x ranX .rests done in
-      let cy = ended m y ranY .rests (subst Quiescent outcomes done) in
+      let cx = ended l x ranX .rests .1 done in
+      let cy = ended m y ranY .rests .1 (subst Quiescent outcomes done) in
       let same = agreed .alike cx in
       let ts = tokensOf (resultOf l) in
       let us = tokensOf (resultOf m) in

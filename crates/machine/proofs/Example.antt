@@ -1,13 +1,18 @@
--- A small program under two orders, computed: the runs end alike, and their ledgers are different lists; a run that hangs;
--- and how the theorems are cited for it. Assumes nothing.
+-- A small program under two orders, computed: the runs end alike, and their ledgers are different lists; a run that hangs; its
+-- ideal steps, logs and replays, a smaller ledger; and how the theorems are cited for it. Assumes nothing.
 use mathlib.Core.Path.{_≡_, refl}
 use mathlib.Core.List.{[], _∷_}
+use mathlib.Core.Option.{none, some}
 use Prim.Native.Nat.{ℕ, zero, suc, _+_}
 use native.Mathlib.Decide.{ℕ-discrete}
 use native.Mathlib.Omega.{arith}
 use Rattle.machine.specs.Machine.{Key, Token, Effect, refuse, send, read, write, Machine, State, live, spent, deferred, absent, waiting, present}
-use Rattle.machine.specs.Machine.{completed, hung, run, machine}
+use Rattle.machine.specs.Machine.{completed, hung, budgetSpent, refused, byPicks, run, machine}
 use Rattle.machine.specs.Orders.{CellsBelow, ReadsForSome, Lawful, Start, Same, Invariants}
+use Rattle.machine.specs.Sequences.{logOf}
+use Rattle.machine.specs.Steps.{profile}
+use Rattle.machine.specs.Replay.{replay}
+use Rattle.machine.specs.Capacity.{withCapacity}
 use Rattle.machine.proofs.Orders.{startGood, orders}
 use Rattle.machine.proofs.Reached.{reached-invariants, reached-picks}
 
@@ -77,6 +82,54 @@ unanswered : run small 65535 [] (record { tokens = token 0 0 5 ∷ []; cells = a
 }
 unfolding machine
 unanswered = refl
+
+-- ---- R-1: 0 and 1 fire in the first step, 2 in the second
+
+steps : profile small 18 8 0 start ≡ record { records = record { firings = 2; unspent = 2 } ∷ record { firings = 1; unspent = 1 } ∷ []; ended = run small 65535 [] start }
+unfolding machine profile
+steps = refl
+
+-- a token that is deferred is counted
+deferredStep : profile small 18 8 0 (record { tokens = token 0 0 5 ∷ []; cells = absent ∷ [] }) .records ≡ record { firings = 1; unspent = 1 } ∷ []
+unfolding machine profile
+deferredStep = refl
+
+noRecord : profile small 18 1 0 start .ended .outcome ≡ refused 18 0
+unfolding machine profile
+noRecord = refl
+
+-- ---- R-7: logs and their replay
+
+logs : (logOf small (byPicks small) 65535 [] start ≡ 0 ∷ 1 ∷ 2 ∷ []) × (logOf small (byPicks small) 65535 (1 ∷ []) start ≡ 1 ∷ 0 ∷ 2 ∷ [])
+unfolding machine logOf
+logs = (refl, refl)
+
+again : replay small 20 (some 1 ∷ some 0 ∷ some 2 ∷ []) 0 start ≡ run small 65535 (1 ∷ []) start
+unfolding machine replay
+again = refl
+
+-- 2 has no operands yet, a log may end early, and a record may name nothing
+notEnabled : replay small 20 (some 0 ∷ some 2 ∷ []) 0 start .outcome ≡ refused 20 1
+unfolding machine replay
+notEnabled = refl
+
+early : replay small 20 (some 0 ∷ []) 0 start .outcome ≡ budgetSpent
+unfolding machine replay
+early = refl
+
+unread : replay small 20 (none ∷ some 0 ∷ []) 0 start ≡ record { outcome = refused 20 0; firings = 0; state = start }
+unfolding machine replay
+unread = refl
+
+-- ---- R-12: the run has 5 tokens, and a ledger of 4 is too small
+
+fits : run (withCapacity small 5) 65535 [] start ≡ run small 65535 [] start
+unfolding machine
+fits = refl
+
+overflows : run (withCapacity small 4) 65535 [] start .outcome ≡ refused 8 2
+unfolding machine
+overflows = refl
 
 -- ---- the theorems' hypotheses hold here
 

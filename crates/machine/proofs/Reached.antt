@@ -140,7 +140,7 @@ module _ (M : Machine) where
         isFetched = λ i g. let (k, a) = firstAmong keys h in (only i (ℕ-discrete i c) g, k, a);
       }
 
-  keysKnown : (e : EffectOf M) (d : DeltaOf M) → deltaOf M e ≡ some d → keysOf M e ≡ d .keys
+  pub keysKnown : (e : EffectOf M) (d : DeltaOf M) → deltaOf M e ≡ some d → keysOf M e ≡ d .keys
   keysKnown (refuse r) d e = noneSome e
   keysKnown (send v keys) d e = cc
   keysKnown (read c keys) d e = cc
@@ -240,7 +240,7 @@ module _ (M : Machine) where
 
   -- ---- at the start
 
-  startLive : (ts : Ledger M) → AllLive M ts → (k : Key (M .Tag)) (y : Content (M .Value)) → find M k ts ≡ some y → (u : M .Value) × (y ≡ live u)
+  pub startLive : (ts : Ledger M) → AllLive M ts → (k : Key (M .Tag)) (y : Content (M .Value)) → find M k ts ≡ some y → (u : M .Value) × (y ≡ live u)
   startLive [] h k y e = noneSome e
   startLive (t ∷ ts) h k y e = go (sameKey M k (t .key)) (λ f. startLive ts (h .1) k y f) e
     where
@@ -258,7 +258,7 @@ module _ (M : Machine) where
 
   -- ---- a firing
 
-  outputsKnown : (s : StateOf M) (τ : M .Tag) (p : Operands (M .Value)) (d : DeltaOf M) → operands M (look M s) τ ≡ some p → deltaOf M (M .effect τ (p .left) (p .right)) ≡ some d
+  pub outputsKnown : (s : StateOf M) (τ : M .Tag) (p : Operands (M .Value)) (d : DeltaOf M) → operands M (look M s) τ ≡ some p → deltaOf M (M .effect τ (p .left) (p .right)) ≡ some d
       → outputs M s τ ≡ length (d .keys)
   outputsKnown s τ p d e f = rw e (ap length (keysKnown (M .effect τ (p .left) (p .right)) d f))
 

@@ -4,21 +4,23 @@
 use mathlib.Core.Path.{_≡_, refl, sym, ap, subst, _∙_}
 use mathlib.Core.List.{List, [], _∷_, _++_, List·Memᴰ, List·Memᴰ·not-nil, List·Permᴰ, List·Permᴰ·trans, Permᴰ·refl, Permᴰ·middle, Permᴰ·append-left}
 use mathlib.Core.Option.{Option, none, some}
-use Prim.Native.Nat.{ℕ, _+_, _≤_, _<_}
+use Prim.Native.Nat.{ℕ, _+_, _-_, _≤_, _<_}
 use native.Mathlib.Omega.{arith}
 use lib.ListN.{length, length-append}
 use lib.Seq.{ext-getD}
 use Rattle.machine.specs.Machine.{absent, Machine, Activity, fired, notFired, onOption, Operands}
 use Rattle.machine.specs.Machine.{StateOf, FiredOf, at, look, operands, placeOf, enabled, commit, fire}
 use Rattle.machine.specs.Orders.{Lawful, Good}
-use Rattle.machine.specs.Sequences.{AlikeStates, spentTags, Fires, FiredEnabled, LedgerTells, FiresOnce, NoLonger, NothingEnabled, AnyTwoSequences, NoneRefused}
+use Rattle.machine.specs.Sequences.{AlikeStates, spentTags, Fires, FiredEnabled, Joined, StaysEnabled, LedgerTells, FiresOnce, NoLonger, NothingEnabled, AnyTwoSequences, NoneRefused}
 use Rattle.machine.proofs.Lists.{perm-length, perm-once, once-front}
 use Rattle.machine.proofs.Swap.{Final, Run, goesOn, unique}
 use Rattle.machine.proofs.View.{noneSome, View, DeltaOf, deltaOf, Allowed, Ready, Step, operandLive, operandZero, laws}
-use Rattle.machine.proofs.Store.{view, After, Answer, commitResult}
+use Rattle.machine.proofs.Store.{view, After, placed, Answer, commitResult}
 use Rattle.machine.proofs.Tags.{tagsLength, tagsLive, tagsOnce, tagsAfter}
+use Rattle.machine.proofs.Unspent.{unspentAfter}
+use Rattle.machine.specs.Steps.{unspentIn}
 use Rattle.machine.proofs.Perm.{permOf}
-use Rattle.machine.proofs.Enabled.{enabledReady, readyEnabled}
+use Rattle.machine.proofs.Enabled.{enabledReady, readyEnabled, enabledIn, enabledPlace}
 
 module _ (M : Machine) where
   abbrev Steps : List (M .Tag) → View M → View M → Type 0
@@ -54,12 +56,21 @@ module _ (M : Machine) where
     pub good : Good M x
     -- it spends its operands
     pub tags : List·Permᴰ (spentTags M (x .tokens)) (τ ∷ spentTags M (s .tokens))
+    -- and adds its outputs
+    pub grown : length (s .tokens) ≤ length (x .tokens)
+    pub unspent : unspentIn M (x .tokens) + M .arity τ ≡ unspentIn M (s .tokens) + (length (x .tokens) - length (s .tokens))
+    -- an activity with an operand in the ledger keeps its place
+    pub places : (σ : M .Tag) → placeOf M σ (s .tokens) < length (s .tokens) → placeOf M σ (x .tokens) ≡ placeOf M σ (s .tokens)
 
   abbrev Tried : StateOf M → M .Tag → FiredOf M → Type 0
   Tried s τ (notFired r) = (y : View M) → ¬ (Step M (view M s) τ y)
   Tried s τ (fired x) = Firing s τ x
 
   -- ---- sequences
+
+  pub joined : Joined M
+  joined [] υs s x y p q = subst (λ z. Fires M z υs y) (sym p) q
+  joined (τ ∷ τs) υs s x y (u, e, p) q = (u, e, joined τs υs u x y p q)
 
   pub noneReady : (x : StateOf M) → NothingEnabled M x → Ended (view M x)
   noneReady x e τ r = List·Memᴰ·not-nil (rw e at (readyEnabled M x τ r))
@@ -102,10 +113,22 @@ module _ (M : Machine) where
           step = record { ops = p; given = e; delta = d; known = f; allowed = a .allowed; result = a .seen };
           good = goodAfter d x a;
           tags = tagsAfter M s τ d x p (g .distinct) e a;
+          grown = let q : length (s .tokens) + length (d .keys) ≡ length (x .tokens) = ap (λ v. v .used) (a .seen) in omega arith;
+          unspent =
+              let q : length (s .tokens) + length (d .keys) ≡ length (x .tokens) = ap (λ v. v .used) (a .seen) in
+              omega (arith, unspentAfter M s τ d x p (g .distinct) e a);
+          places = placed M s τ d x a;
         }
 
     pub firing : (s x : StateOf M) (τ : M .Tag) → Good M s → fire M s τ ≡ fired x → Firing s τ x
     firing s x τ g e = rw e at (fireResult s τ g (firedReady s x τ e))
+
+    pub staysEnabled : StaysEnabled M
+    staysEnabled s g x τ b e ne m =
+        let f = firing s x τ g e in
+        let p : placeOf M (b .tag) (x .tokens) ≡ b .place = f .places (b .tag) (rw (sym (enabledIn M s b m .2)) (enabledPlace M s b m)) ∙ sym (enabledIn M s b m .2) in
+        subst (λ a. List·Memᴰ a (enabled M x)) (λ i. record { place = p i; tag = b .tag })
+        (readyEnabled M x (b .tag) (laws M .persist ne (f .step) (enabledReady M s b m)))
 
     -- ---- a sequence, over the view
 

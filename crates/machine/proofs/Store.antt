@@ -1,10 +1,10 @@
--- A firing over the lists of tokens and cells is a firing over the view (`commitResult`), and it keeps keys
--- different. Assumes nothing.
+-- A firing over the lists of tokens and cells is a firing over the view (`commitResult`), it keeps keys
+-- different and activities at their places. Assumes nothing.
 use mathlib.Core.Path.{_≡_, refl, sym, ap, subst, _∙_, fun-ext}
 use mathlib.Core.List.{List, [], _∷_, _++_, map}
 use mathlib.Core.Option.{Option, none, some}
-use mathlib.Core.Bool.{Bool, true, false, _||_}
-use Prim.Native.Nat.{ℕ, _+_, _<_}
+use mathlib.Core.Bool.{Bool, true, false, _||_, cond}
+use Prim.Native.Nat.{ℕ, suc, _+_, _<_}
 use native.Mathlib.Decide.{ℕ-discrete}
 use native.Mathlib.Omega.{arith}
 use lib.ListN.{length, set, length-append, length-map, length-set}
@@ -12,7 +12,7 @@ use lib.Seq.{getD-set-same, getD-set-other}
 use borrow.Author.Tests.{ltb-true, ltb-false}
 use Rattle.machine.specs.Machine.{Key, Content, live, spent, deferred, Token, Cell, absent, waiting, present, refuse, send, read, write, Machine, fired, notFired}
 use Rattle.machine.specs.Machine.{when, isThere, fill, cellAt, cellRead, contentRead, ifPresent, changed, output}
-use Rattle.machine.specs.Machine.{Ledger, StateOf, EffectOf, FiredOf, Contents, sameKey, find, look, spendAt, among, anyTaken, exceeds, admit, commit}
+use Rattle.machine.specs.Machine.{Ledger, StateOf, EffectOf, FiredOf, Contents, sameKey, find, look, operandOf, placeOf, spendAt, among, anyTaken, exceeds, admit, commit}
 use Rattle.machine.specs.Orders.{CellsBelow, Distinct}
 use Rattle.machine.proofs.View.{when-yes, noneSome, falseTrue, omap, orElse, given, value, resolve, settle, onlyAt, cellStep, NotPresent, Unwritten, cellAfter}
 use Rattle.machine.proofs.View.{View, DeltaOf, deltaOf, Fresh, Allowed, change, apply, freshGet, freshChange}
@@ -135,6 +135,18 @@ module _ (M : Machine) where
   takenOf ts [] f = refl
   takenOf ts (k ∷ ks) f = rw (f .0, f .1) (takenOf ts ks (f .2))
 
+  -- ---- places
+
+  -- tokens keep their keys, and more come behind them
+  placeKept : (f : Key (M .Tag) → Content (M .Value) → Content (M .Value)) (τ : M .Tag) (l m : Ledger M) → placeOf M τ l < length l → placeOf M τ (map (changed f) l ++ m) ≡ placeOf M τ l
+  placeKept f τ [] m h = absurd (omega arith)
+  placeKept f τ (x ∷ xs) m h = go (operandOf M τ (x .key)) h (λ i. placeKept f τ xs m i)
+    where
+      go : (b : Bool) → cond b 0 (suc (placeOf M τ xs)) < suc (length xs) → (placeOf M τ xs < length xs → placeOf M τ (map (changed f) xs ++ m) ≡ placeOf M τ xs)
+          → cond b 0 (suc (placeOf M τ (map (changed f) xs ++ m))) ≡ cond b 0 (suc (placeOf M τ xs))
+      go true i rec = refl
+      go false i rec = ap suc (rec (omega arith))
+
   -- ---- a firing
 
   -- a state by key and by cell
@@ -151,6 +163,10 @@ module _ (M : Machine) where
     pub sent : Content (M .Value)
     pub sentFrom : sent ≡ resolve (cellAfter d (cellAt (s .cells))) (d .source)
     pub listed : x .tokens ≡ map (changed (change M t d)) (s .tokens) ++ map (output sent) (d .keys)
+
+  -- an activity with an operand in the ledger keeps its place
+  pub placed : (s : StateOf M) (t : M .Tag) (d : DeltaOf M) (x : StateOf M) → After s t d x → (τ : M .Tag) → placeOf M τ (s .tokens) < length (s .tokens) → placeOf M τ (x .tokens) ≡ placeOf M τ (s .tokens)
+  placed s t d x a τ h = ap (placeOf M τ) (a .listed) ∙ placeKept (change M t d) τ (s .tokens) (map (output (a .sent)) (d .keys)) h
 
   abbrev pub Result : StateOf M → M .Tag → DeltaOf M → FiredOf M → Type 0
   Result s t d (notFired r) = ¬ (Allowed M (view s) d)

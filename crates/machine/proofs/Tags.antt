@@ -25,7 +25,7 @@ andFalse true = refl
 andFalse false = refl
 
 module _ {W : Type 0} where
-  settleUnspent : (f : ℕ → Option W) (y : Content W) → isSpent (settle f y) ≡ isSpent y
+  pub settleUnspent : (f : ℕ → Option W) (y : Content W) → isSpent (settle f y) ≡ isSpent y
   settleUnspent f (live v) = refl
   settleUnspent f (spent v) = refl
   settleUnspent f (deferred c) = go (f c)
@@ -35,7 +35,7 @@ module _ {W : Type 0} where
       go (some v) = refl
 
   -- no output is spent
-  sourceUnspent : (cell : ℕ → Cell W) (o : Source W) → isSpent (resolve cell o) ≡ false
+  pub sourceUnspent : (cell : ℕ → Cell W) (o : Source W) → isSpent (resolve cell o) ≡ false
   sourceUnspent cell (value v) = refl
   sourceUnspent cell (fetched c) = go (cell c)
     where

@@ -1,4 +1,9 @@
--- The definitions that a reader must believe: the machine, and what is stated of its orders and of its firing sequences. Assumes nothing.
+-- The definitions that a reader must believe: the machine, what is stated of its orders and of its firing sequences, the runs by
+-- ideal steps, the replay of a log, another capacity, and another instruction set. Assumes nothing.
 pub mod Machine
 pub mod Orders
 pub mod Sequences
+pub mod Steps
+pub mod Replay
+pub mod Capacity
+pub mod Agreement

@@ -46,6 +46,13 @@ module _ (M : Machine) where
   abbrev pub FiredEnabled : Type 0
   FiredEnabled = (s x : StateOf M) (τ : M .Tag) → fire M s τ ≡ fired x → (a : Activity (M .Tag)) × List·Memᴰ a (enabled M s) × (a .tag ≡ τ)
 
+  -- and an enabled activity stays enabled, at its place, while another fires
+  abbrev pub StaysEnabled : Type 0
+  StaysEnabled = (s : StateOf M) → Good M s → (x : StateOf M) (τ : M .Tag) (a : Activity (M .Tag)) → fire M s τ ≡ fired x → ¬ (τ ≡ a .tag) → List·Memᴰ a (enabled M s) → List·Memᴰ a (enabled M x)
+
+  abbrev pub Joined : Type 0
+  Joined = (τs υs : List (M .Tag)) (s x y : StateOf M) → Fires s τs x → Fires x υs y → Fires s (τs ++ υs) y
+
   -- the tags with spent operands: all of a tag are spent together, so that the one on port 0 stands for it
   abbrev pub spentTags : Ledger M → List (M .Tag)
   spentTags [] = []

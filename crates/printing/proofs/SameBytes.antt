@@ -14,7 +14,7 @@ use Rattle.record.specs.Widths.{tokenWidth, cellWidth, pickWidth}
 use Rattle.rules.specs.Answer.{valuesOf}
 use Rattle.rules.specs.Check.{mostCells}
 use Rattle.rules.specs.Run.{Result, result, answer, ledgerAfter, cellsAfter}
-use Rattle.rules.specs.Orders.{Completed}
+use Rattle.rules.specs.Orders.{Quiescent}
 use Rattle.listing.specs.Listing.{listing}
 use Rattle.listing.specs.Demand3.{Lent, Left, RanOn, NotForOthers, used, Alike}
 use Rattle.listing.proofs.Answers.{done}
@@ -75,13 +75,13 @@ module _ (graph inputs : List ℕ) (graphBytes : Bytes graph) (inputBytes : Byte
       let sorted : listing u ≡ listing v = sym (done u u (l .0) .1) ∙ l .2 ∙ done v v (l .1) .1 in
       same-text (answer x) (answer y) (listing u) (listing v) (cellsAfter x (replicate cellBytes 0)) (cellsAfter y (replicate cellBytes 0)) (ap valuesOf (a .answers)) sorted (a .cells)
 
-  same-texts : (picks picks′ : List ℕ) → whole pickWidth mostTokens (length picks) ≡ true → whole pickWidth mostTokens (length picks′) ≡ true → Completed (runOf graph inputs picks)
+  same-texts : (picks picks′ : List ℕ) → whole pickWidth mostTokens (length picks) ≡ true → whole pickWidth mostTokens (length picks′) ≡ true → Quiescent (runOf graph inputs picks)
       → printedRun graph inputs picks ≡ printedRun graph inputs picks′
   unfolding printedRun
   same-texts picks picks′ w w′ c =
-      let completes : Completed (ended picks) = subst Completed (sym (same-run picks)) c in
+      let rests : Quiescent (ended picks) = subst Quiescent (sym (same-run picks)) c in
       let agreed = demand3 graph inputs graphBytes inputBytes (lent picks) (lent picks′) (allowed picks w) (allowed picks′ w′) refl refl (leftBy (ended picks)) (leftBy (ended picks′)) (ran picks) (ran picks′) in
-      let alike = agreed .alike (same-end (ended picks) .completes .0 completes) in
+      let alike = agreed .alike (same-end (ended picks) .rests .0 rests) in
       ap textLeft (sym (same-run picks)) ∙ same-left (ended picks) (ended picks′) alike ∙ ap textLeft (same-run picks′)
 
 pub orders-print-alike : OrdersPrintAlike

@@ -1,4 +1,4 @@
--- Two orders that complete print the same bytes: demand 3 (listing/specs/Demand3) joined with the printed text, over what `print_run` promises. It is what a
+-- Two orders that complete or hang print the same bytes: demand 3 (listing/specs/Demand3) joined with the printed text, over what `print_run` promises. It is what a
 -- reader of a listing relies on. The statement; it is proved in proofs/SameBytes. Assumes nothing.
 use Prim.Native.Nat.{ℕ}
 use mathlib.Core.Path.{_≡_}
@@ -9,7 +9,7 @@ use Rattle.number.specs.Number.{Bytes}
 use Rattle.buffer.specs.Rows.{whole}
 use Rattle.record.specs.TokensAndTags.{mostTokens}
 use Rattle.record.specs.Widths.{pickWidth}
-use Rattle.rules.specs.Orders.{Completed}
+use Rattle.rules.specs.Orders.{Quiescent}
 use Rattle.text.specs.declared.Printed.{Printed}
 use Rattle.text.specs.declared.Printed.the-variants.{Done}
 use Rattle.printing.specs.PrintedRun.{runOf, printedRun, PrintedRun}
@@ -20,9 +20,9 @@ pub record SameBytes (text text′ : List ℕ) (r r′ : Printed) (left left′ 
   pub answers : r ≡ r′
   pub bytes : (n : ℕ) → r ≡ Done n → take n left ≡ take n left′
 
--- one graph, one list of inputs, any two lists of picks of allowed length: if one order completes, both print the same, in outputs of one length
+-- one graph, one list of inputs, any two lists of picks of allowed length: if one order completes or hangs, both print the same, in outputs of one length
 abbrev pub OrdersPrintAlike : Type 0
 OrdersPrintAlike = (graph inputs picks picks′ : List ℕ) → Bytes graph → Bytes inputs
-    → whole pickWidth mostTokens (length picks) ≡ true → whole pickWidth mostTokens (length picks′) ≡ true → Completed (runOf graph inputs picks)
+    → whole pickWidth mostTokens (length picks) ≡ true → whole pickWidth mostTokens (length picks′) ≡ true → Quiescent (runOf graph inputs picks)
     → (r r′ : Printed) (out out′ left left′ : List ℕ) → PrintedRun graph inputs picks r out left → PrintedRun graph inputs picks′ r′ out′ left′ → length out ≡ length out′
     → SameBytes (printedRun graph inputs picks) (printedRun graph inputs picks′) r r′ left left′

@@ -230,5 +230,5 @@ caller-found graph passed t h = found-known graph passed t h
 pub callers-known : CallersKnown
 callers-known graph inputs capacity cells passed accepted f o x r =
     let g = graphOf graph in
-    let first = start-keys g capacity cells (Called graph passed) (λ c. Unit {0}) inputs (λ t e h. rw e (root-path g, omega arith)) accepted in
+    let first = start-keys g capacity cells (Called graph passed) (λ c. Unit {0}) inputs (λ t e l h. rw e (root-path g, omega arith)) accepted in
     known graph passed capacity cells (x .tokens) (reached-keeps (machineOf g capacity cells) (Called graph passed) (λ v. Unit {0}) (λ c. Unit {0}) (keeps graph passed capacity cells) _ first f o x r .tokens)

@@ -2,8 +2,8 @@
 use mathlib.Core.Path.{_≡_, refl}
 use mathlib.Core.List.{map}
 use Rattle.rules.specs.Computed.{rules}
-use Rattle.rules.specs.Cases.{written, seenIn, seen, expected, cases}
+use Rattle.rules.specs.Cases.{written, seenIn, seenSteps, seenLog, seen, expected, cases}
 
 pub cases-hold : map seen cases ≡ map expected cases
-unfolding rules written seenIn seen expected
+unfolding rules written seenIn seenSteps seenLog seen expected
 cases-hold = refl

@@ -1,9 +1,10 @@
 -- What a run over a graph keeps, of keys, of values and of cells read, is asked by kinds of operations: of the destinations in use, of the tags that NEXT,
 -- ENTER and LEAVE make, of the values that are computed and of the cells that FETCH reads (`Asked`). Then the machine of the graph keeps it (`keeps-asked`). Assumes nothing.
-use Prim.Native.Nat.{ℕ, _+_, _-_, _^_, _<_}
+use Prim.Native.Nat.{ℕ, zero, suc, _+_, _-_, _^_, _<_, _≤_}
 use mathlib.Core.Path.{_≡_, refl}
 use mathlib.Core.Bool.{Bool, true, false, cond}
-use mathlib.Core.List.{List, [], _∷_}
+use mathlib.Core.List.{List, [], _∷_, map}
+use native.Mathlib.Omega.{arith}
 use lib.ListN.{length}
 use lib.Dec.{ltb}
 use lib.IntN.{ℤ, pos, negsuc, natAbs}
@@ -13,13 +14,14 @@ use Rattle.record.specs.declared.tag.Next.the-variants.{Is, Last}
 use Rattle.record.specs.declared.tag.Entered.the-variants.{In, TooDeep}
 use Rattle.record.specs.declared.tag.Left.{Left}
 use Rattle.record.specs.declared.tag.Left.the-variants.{To, NoCaller}
+use Rattle.record.specs.declared.instruction.Destination.{Destination}
 use Rattle.record.specs.declared.instruction.Instruction.{Instruction}
 use Rattle.record.specs.declared.operation.Arithmetic.{Arithmetic}
 use Rattle.record.specs.declared.operation.Operation.{Operation}
 use Rattle.record.specs.declared.operation.Operation.the-variants as Operations
 use Rattle.record.specs.TokensAndTags.{toOf}
 use Rattle.record.specs.Calls.{mostLevels, entered, nextOf, enterOf, leaveOf}
-use Rattle.record.specs.GraphRecords.{operationOf}
+use Rattle.record.specs.GraphRecords.{inUse, operationOf}
 use Rattle.arithmetic.specs.declared.Computed.{Computed}
 use Rattle.arithmetic.specs.declared.Computed.the-variants.{Value, OutOfRange}
 use Rattle.arithmetic.specs.Arithmetic.{computeOf, eqZ}
@@ -32,6 +34,12 @@ use Rattle.rules.specs.InstructionSet.{EffectHere, keyUnder, allUnder, s
 -- the tag that NEXT makes
 abbrev pub later : Tag → Tag
 later τ = record { path = τ .path; iteration = τ .iteration + 1; instruction = τ .instruction }
+
+-- where both destinations are in use
+pub both-sides : (Q : Key Tag → Type 0) (τ : Tag) (n : ℕ) (d e : Destination) → 2 ≤ n → Each Q (map (keyUnder τ) (inUse n d e)) → Q (keyUnder τ d) × Q (keyUnder τ e)
+both-sides Q τ zero d e l h = absurd (omega arith)
+both-sides Q τ (suc zero) d e l h = absurd (omega arith)
+both-sides Q τ (suc (suc n)) d e l h = (h .0, h .1 .0)
 
 module _ (g : List Instruction) (capacity cells : ℕ) (P : Key Tag → Type 0) (Q : ℤ → Type 0) (R : (cell : ℕ) → Type 0) where
   abbrev M : Machine

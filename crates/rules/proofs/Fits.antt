@@ -1,7 +1,7 @@
--- Every token and every cell of a run fits its record, where graph and inputs are bytes: so that the bytes of a token tell which token it is.
+-- Every token and every cell of a run, of a profile and of a replay fits its record, where graph and inputs are bytes: so that the bytes of a token tell which token it is.
 -- The tokens fit the ledger, and the cells are as many as there are. Assumes nothing.
 use Prim.Native.Nat.{ℕ, zero, suc, _/_, _%_, _^_, _<_, _≤_}
-use mathlib.Core.Path.{_≡_, sym, subst, _∙_}
+use mathlib.Core.Path.{_≡_, refl, sym, subst, _∙_}
 use mathlib.Core.Bool.{Bool, true, false, cond}
 use mathlib.Core.List.{List, [], _∷_, map}
 use mathlib.Core.Option.{some}
@@ -33,23 +33,31 @@ use Rattle.record.proofs.Fitting.{token-fits, instruction-fits, rows-fit}
 use Rattle.buffer.proofs.Tables.{length-rows}
 use Rattle.record.specs.Widths.{tokenWidth, cellWidth, graphWidth}
 use Rattle.arithmetic.proofs.Ranged.{value-fits}
-use Rattle.machine.specs.Machine.{Key, Content, live, spent, deferred, Token, Cell, absent, waiting, present, State, run}
-use Rattle.machine.specs.Orders.{Live, AllLive, Start}
+use Rattle.machine.specs.Machine.{Key, Content, live, spent, deferred, Token, Cell, absent, waiting, present, State, End, run}
+use Rattle.machine.specs.Orders.{Live, AllLive, Start, Reached}
+use Rattle.machine.specs.Steps.{Profile, profile}
+use Rattle.machine.specs.Replay.{replay}
 use Rattle.machine.proofs.Orders.{startGood}
-use Rattle.machine.proofs.Reached.{reached-good, reached-picks}
-use Rattle.machine.proofs.Kept.{Each, OfContent, OfToken, OfCell, OfState, Keeps, run-keeps}
-use Rattle.rules.specs.declared.answer.Checked.the-variants.{Passed}
-use Rattle.rules.specs.declared.answer.Refusal.the-variants as Refusals
+use Rattle.machine.proofs.Reached.{reached-good}
+use Rattle.machine.proofs.Kept.{Each, OfContent, OfToken, OfCell, OfState, Keeps, reached-keeps}
+use Rattle.rules.specs.declared.answer.Checked.{Checked}
+use Rattle.rules.specs.declared.answer.Checked.the-variants.{Passed, Failed}
+use Rattle.rules.specs.declared.answer.Refusal.{Refusal}
+use Rattle.rules.specs.declared.answer.Refusal.the-variants.{ProfileFull, NotEnabled}
 use Rattle.rules.specs.Check.{instructionAt, within, checkGraph, checkStores, check, mostCells}
 use Rattle.rules.specs.InstructionSet.{keyUnder, allUnder, machineOf}
 use Rattle.rules.specs.Run.{contentHeld, contentRecord, tokenHeld, tokenRecord, cellRecord, firstState, picksOf, Result, refusedAtOnce, ranTo, result}
+use Rattle.rules.specs.Profile.{checkProfileStores, checkProfile, profileUnlessFailed, profiled}
+use Rattle.rules.specs.Log.{namesIn, replayed}
+use Rattle.rules.specs.Invariants.{LawfulResult}
 use Rattle.rules.specs.Fits.{AllFit, ResultsFit}
-use Rattle.rules.proofs.Passed.{both}
+use Rattle.rules.proofs.Passed.{both, andThen-passed}
 use Rattle.rules.proofs.PassedGraph.{past-operation, of-graph, at-most, enter-site}
 use Rattle.rules.proofs.Effects.{later, Asked, keeps-asked}
 use Rattle.rules.proofs.Lawful.{lawful}
 use Rattle.rules.proofs.Inputs.{absent-of}
-use Rattle.rules.proofs.Accepted.{whole-bytes, stores-whole, accepted, begins, by-check}
+use Rattle.rules.proofs.Accepted.{whole-bytes, stores-whole, Accepted, accepted, begins, by-check}
+use Rattle.rules.proofs.Invariants.{result-invariants, profile-invariants, replay-invariants}
 
 -- ---- keys
 
@@ -187,16 +195,16 @@ module _ (graph : List ℕ) (bytes : Bytes graph) (passed : checkGraph graph ≡
 
 -- ---- whole runs
 
-run-fits : (graph : List ℕ) → Bytes graph → checkGraph graph ≡ Passed → (capacity cells : ℕ) → cells ≤ mostCells → (inputs : List ℕ) → Bytes inputs
-    → Start (machineOf (graphOf graph) capacity cells) (firstState inputs cells) → (budget : ℕ) (picks : List ℕ)
-    → AllFit (ranTo (run (machineOf (graphOf graph) capacity cells) budget picks (firstState inputs cells))) capacity cells
-run-fits graph graphBytes passed capacity cells few inputs inputBytes begun budget picks =
+-- of every end that is reached from the inputs
+pub ended-fits : (graph : List ℕ) → Bytes graph → checkGraph graph ≡ Passed → (capacity cells : ℕ) → cells ≤ mostCells → (inputs : List ℕ) → Bytes inputs
+    → Start (machineOf (graphOf graph) capacity cells) (firstState inputs cells) → (e : End Refusal Tag ℤ) (n o : ℕ) → Reached (machineOf (graphOf graph) capacity cells) (firstState inputs cells) n o (e .state)
+    → AllFit (ranTo e) capacity cells
+ended-fits graph graphBytes passed capacity cells few inputs inputBytes begun e n o r =
     let M = machineOf (graphOf graph) capacity cells in
     let s = firstState inputs cells in
-    let x = run M budget picks s .state in
-    let fits = run-keeps M KeyFits (SFits w32) (λ c. c < cells) (keeps graph graphBytes passed capacity cells) s (start-fits graph graphBytes passed capacity cells inputs inputBytes begun) budget picks in
-    let e = reached-picks M s budget picks in
-    let good = reached-good M (lawful graph passed capacity cells) s (startGood M s begun) (e .done) (e .sent) x (e .reached) in
+    let x = e .state in
+    let fits = reached-keeps M KeyFits (SFits w32) (λ c. c < cells) (keeps graph graphBytes passed capacity cells) s (start-fits graph graphBytes passed capacity cells inputs inputBytes begun) n o x r in
+    let good = reached-good M (lawful graph passed capacity cells) s (startGood M s begun) n o x r in
     record {
       tokens = token-records graph graphBytes passed capacity cells few (x .tokens) (fits .tokens);
       cells = cell-records graph graphBytes passed capacity cells (x .cells) (fits .cells);
@@ -204,10 +212,42 @@ run-fits graph graphBytes passed capacity cells few inputs inputBytes begun budg
       cellCount = length-map (x .cells) cellRecord ∙ good .cellCount;
     }
 
+none-fits : (r : Refusal) (p capacity count : ℕ) → AllFit (refusedAtOnce r p) capacity count
+none-fits r p capacity count = record { tokens = tt; cells = tt; room = omega arith; cellCount = tt }
+
+module _ (graph inputs : List ℕ) (ledger cells : ℕ) (graphBytes : Bytes graph) (inputBytes : Bytes inputs) where
+  -- what is lawful fits, where the check passed
+  lawful-fits : (picks : ℕ) → checkStores (length inputs) picks ledger cells ≡ Passed → Accepted graph inputs (capacityOf ledger) → (e : End Refusal Tag ℤ) → LawfulResult graph inputs ledger cells (ranTo e)
+      → AllFit (ranTo e) (capacityOf ledger) (cells / cellWidth)
+  lawful-fits picks stores a e h =
+      ended-fits graph graphBytes (a .graphPassed) (capacityOf ledger) (cells / cellWidth) (whole-bytes cellWidth mostCells cells (stores-whole (length inputs) picks ledger cells stores .wholeCells) .1) inputs inputBytes
+      (begins graph inputs (capacityOf ledger) (cells / cellWidth) a) e (e .firings) (h .sent) (h .reached)
+
+  pub profile-result-fits : (lent : ℕ) → AllFit (profiled graph inputs ledger cells lent .result) (capacityOf ledger) (cells / cellWidth)
+  unfolding profiled profileUnlessFailed checkProfile checkProfileStores
+  profile-result-fits lent = go (checkProfile graph inputs ledger cells lent) refl (profile-invariants graph inputs ledger cells lent)
+    where
+      p : Profile Refusal Tag ℤ
+      p = profile (machineOf (graphOf graph) (capacityOf ledger) (cells / cellWidth)) ProfileFull (lent / 4) 0 (firstState inputs (cells / cellWidth))
+
+      go : (c : Checked) → checkProfile graph inputs ledger cells lent ≡ c → LawfulResult graph inputs ledger cells (profileUnlessFailed c p .result) → AllFit (profileUnlessFailed c p .result) (capacityOf ledger) (cells / cellWidth)
+      go (Failed r n) e h = none-fits r n (capacityOf ledger) (cells / cellWidth)
+      go Passed e h =
+          let (stores, a) = accepted graph inputs (capacityOf ledger) (checkProfileStores (length inputs) ledger cells lent) e in
+          lawful-fits 0 (andThen-passed (checkStores (length inputs) 0 ledger cells) _ stores .0) a (p .ended) h
+
+  pub replay-result-fits : (log : List ℕ) → AllFit (replayed graph inputs log ledger cells) (capacityOf ledger) (cells / cellWidth)
+  unfolding replayed check
+  replay-result-fits log =
+      by-check (check graph inputs [] ledger cells) _ (λ x. LawfulResult graph inputs ledger cells x → AllFit x (capacityOf ledger) (cells / cellWidth)) (λ r n e h. none-fits r n (capacityOf ledger) (cells / cellWidth)) (λ e h.
+      let (stores, a) = accepted graph inputs (capacityOf ledger) (checkStores (length inputs) 0 ledger cells) e in
+      lawful-fits 0 stores a (replay (machineOf (graphOf graph) (capacityOf ledger) (cells / cellWidth)) NotEnabled (namesIn log) 0 (firstState inputs (cells / cellWidth))) h)
+      (replay-invariants graph inputs log ledger cells)
+
 pub result-fits : ResultsFit
 unfolding result check
 result-fits graph inputs picks budget ledger cells graphBytes inputBytes =
-    by-check (check graph inputs picks ledger cells) _ (λ x. AllFit x (capacityOf ledger) (cells / cellWidth)) (λ r p e. record { tokens = tt; cells = tt; room = omega arith; cellCount = tt }) (λ e.
+    by-check (check graph inputs picks ledger cells) _ (λ x. LawfulResult graph inputs ledger cells x → AllFit x (capacityOf ledger) (cells / cellWidth)) (λ r n e h. none-fits r n (capacityOf ledger) (cells / cellWidth)) (λ e h.
     let (stores, a) = accepted graph inputs (capacityOf ledger) (checkStores (length inputs) (length picks) ledger cells) e in
-    let few = whole-bytes cellWidth mostCells cells (stores-whole (length inputs) (length picks) ledger cells stores .wholeCells) .1 in
-    run-fits graph graphBytes (a .graphPassed) (capacityOf ledger) (cells / cellWidth) few inputs inputBytes (begins graph inputs (capacityOf ledger) (cells / cellWidth) a) budget (picksOf picks))
+    lawful-fits graph inputs ledger cells graphBytes inputBytes (length picks) stores a (run (machineOf (graphOf graph) (capacityOf ledger) (cells / cellWidth)) budget (picksOf picks) (firstState inputs (cells / cellWidth))) h)
+    (result-invariants graph inputs picks budget ledger cells)

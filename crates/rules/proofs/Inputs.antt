@@ -10,7 +10,7 @@ use native.Mathlib.Nat.{zero-add}
 use lib.ListN.{length, getD, take, drop, replicate, length-map}
 use lib.Dec.{eqb, leb, ltb}
 use lib.IntN.{ℤ}
-use borrow.Author.Tests.{leb-true, eqb-true, eq-eqb, not-true}
+use borrow.Author.Tests.{ltb-true, leb-true, eqb-true, eq-eqb, not-true}
 use Rattle.record.specs.declared.tag.Tag.{Tag}
 use Rattle.record.specs.declared.token.Token.{Token}
 use Rattle.record.specs.declared.instruction.Instruction.{Instruction}
@@ -30,6 +30,10 @@ use Rattle.rules.specs.InstructionSet.{machineOf}
 use Rattle.rules.specs.Run.{contentHeld, tokenHeld, firstState}
 use Rattle.rules.proofs.Passed.{both, demand-passed, andThen-passed, turn-passed}
 use Rattle.rules.proofs.Lists.{neither, each-both, any-own}
+
+pub tokens-first : (inputs : List ℕ) (cells : ℕ) → length (firstState inputs cells .tokens) ≡ length (allRows tokenWidth Tokens.decode inputs)
+unfolding firstState
+tokens-first inputs cells = length-map (allRows tokenWidth Tokens.decode inputs) tokenHeld
 
 -- ---- each is live
 
@@ -58,6 +62,11 @@ input-root g l e =
     let path = eqb-true (number64 l 0) 0 (parts .0) in
     let iteration = eqb-true (byteAt l 8) 0 (both (eqb (byteAt l 8) 0) _ (parts .1) .0) in
     λ j. record { path = path j; iteration = iteration j; instruction = number16 l 10 }
+
+-- at a port of an instruction
+input-port : (g : List Instruction) (l : List ℕ) → goodInput g l ≡ true → Tokens.decode l .port < operandsAt g (Tokens.decode l .tag .instruction)
+unfolding goodInput Tokens.decode
+input-port g l e = ltb-true (byteAt l 9) (operandsAt g (number16 l 10)) (both (isInput l) (ltb (byteAt l 9) (operandsAt g (number16 l 10))) e .1)
 
 -- of one key
 stands-there : (t u : Token) → tokenHeld t .key ≡ tokenHeld u .key → standsAt (u .tag) (u .port) t ≡ true
@@ -88,11 +97,11 @@ module _ (g : List Instruction) (capacity cells : ℕ) where
 
   -- what holds of every key at the root where an input stands, holds of the first state
   pub start-keys : (P : Key Tag → Type 0) (R : ℕ → Type 0) (inputs : List ℕ)
-      → ((t : Token) → t .tag ≡ rootOf (t .tag .instruction) → any (standsAt (t .tag) (t .port)) (allRows tokenWidth Tokens.decode inputs) ≡ true → P (tokenHeld t .key))
+      → ((t : Token) → t .tag ≡ rootOf (t .tag .instruction) → t .port < operandsAt g (t .tag .instruction) → any (standsAt (t .tag) (t .port)) (allRows tokenWidth Tokens.decode inputs) ≡ true → P (tokenHeld t .key))
       → checkInputs g capacity inputs ≡ Passed → OfState M P (λ v. Unit {0}) R (firstState inputs cells)
   unfolding checkInputs firstState goodInput
   start-keys P R inputs h e = record {
-    tokens = each-map (λ t. Input t × (any (standsAt (t .tag) (t .port)) ts ≡ true)) (OfToken M P (λ v. Unit {0}) R) tokenHeld (λ t ((root, content), own). (h t root own, content)) ts
+    tokens = each-map (λ t. Input t × (any (standsAt (t .tag) (t .port)) ts ≡ true)) (OfToken M P (λ v. Unit {0}) R) tokenHeld (λ t ((root, port, content), own). (h t root port own, content)) ts
         (each-both Input (λ t. any (standsAt (t .tag) (t .port)) ts ≡ true) ts (inputs-each g Input input (length inputs / tokenWidth) 0 inputs (andThen-passed _ _ e .0)) (any-own (λ t u. standsAt (t .tag) (t .port) u) (λ t. stands-there t t refl) ts));
     cells = absent-of P (λ v. Unit {0}) R cells;
   }
@@ -101,13 +110,13 @@ module _ (g : List Instruction) (capacity cells : ℕ) where
       ts = allRows tokenWidth Tokens.decode inputs
 
       Input : Token → Type 0
-      Input t = (t .tag ≡ rootOf (t .tag .instruction)) × OfContent M P (λ v. Unit {0}) R (contentHeld (t .content))
+      Input t = (t .tag ≡ rootOf (t .tag .instruction)) × (t .port < operandsAt g (t .tag .instruction)) × OfContent M P (λ v. Unit {0}) R (contentHeld (t .content))
 
       input : (l : List ℕ) → goodInput g l ≡ true → Input (Tokens.decode l)
       input l k =
           let (v, f) = input-live l (both (isInput l) _ k .0) in
           let z : contentHeld (Tokens.decode l .content) ≡ live v = cc in
-          (input-root g l k, rw z tt)
+          (input-root g l k, input-port g l k, rw z tt)
 
   -- ---- their keys are different
 

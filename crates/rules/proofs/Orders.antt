@@ -14,8 +14,9 @@ use Rattle.buffer.specs.Rows.{All, whole}
 use Rattle.record.specs.GraphRecords.{graphOf}
 use Rattle.record.specs.TokensAndTags.{mostTokens, capacityOf}
 use Rattle.record.specs.Widths.{tokenWidth, cellWidth}
-use Rattle.machine.specs.Machine.{Token, Machine, State, when, find, sameKey, run}
+use Rattle.machine.specs.Machine.{Token, Machine, State, End, when, find, sameKey, run}
 use Rattle.machine.specs.Orders.{Distinct, Good}
+use Rattle.machine.specs.Orders as Ends
 use Rattle.machine.proofs.View.{noneSome, keyPath}
 use Rattle.machine.proofs.Orders.{orders, neverSpent, refuses}
 use Rattle.machine.proofs.Reached.{reached-good, reached-picks}
@@ -26,7 +27,7 @@ use Rattle.rules.specs.declared.answer.Checked.the-variants.{Passed, Fai
 use Rattle.rules.specs.Check.{checkGraph, checkStores, check, mostCells}
 use Rattle.rules.specs.InstructionSet.{machineOf}
 use Rattle.rules.specs.Run.{tokenRecord, cellRecord, firstState, picksOf, Result, refusedAtOnce, ranTo, unlessFailed, result, answer}
-use Rattle.rules.specs.Orders.{EachOnce, Agree, Allowed, AnyTwoOrders}
+use Rattle.rules.specs.Orders.{EachOnce, Alike, Agree, Allowed, AnyTwoOrders}
 use Rattle.rules.proofs.Accepted.{whole-bytes, Accepted, accepted, law, good}
 
 -- ---- lists
@@ -39,10 +40,10 @@ perm-map f (List·Permᴰ·trans d e) = List·Permᴰ·trans (perm-map f d) (per
 
 -- ---- lengths
 
-same-length : (n m : ℕ) → n % tokenWidth ≡ 0 → m % tokenWidth ≡ 0 → n / tokenWidth ≡ m / tokenWidth → n ≡ m
+pub same-length : (n m : ℕ) → n % tokenWidth ≡ 0 → m % tokenWidth ≡ 0 → n / tokenWidth ≡ m / tokenWidth → n ≡ m
 same-length n m p q e = omega arith
 
-same-cells : (n m : ℕ) → n % cellWidth ≡ 0 → m % cellWidth ≡ 0 → n / cellWidth ≡ m / cellWidth → n ≡ m
+pub same-cells : (n m : ℕ) → n % cellWidth ≡ 0 → m % cellWidth ≡ 0 → n / cellWidth ≡ m / cellWidth → n ≡ m
 same-cells n m p q e = omega arith
 
 -- ---- runs from inputs that passed
@@ -77,8 +78,18 @@ module _ (graph inputs : List ℕ) (capacity cells : ℕ) (few : capacity ≤ 20
       let e = reached-picks M s 2048 picks in
       reached-good M (law graph inputs capacity cells a) s (good graph inputs capacity cells a) (e .done) (e .sent) _ (e .reached)
 
-  agree : (picks picks′ : List ℕ) → Agree (ranTo (run M 2048 picks s)) (ranTo (run M 2048 picks′ s))
+  -- of ends that the machine's theorem compares
+  pub alike-ends : (d e : End Refusal Tag ℤ) → Distinct M (d .state .tokens) → Ends.Alike d e → Alike (ranTo d) (ranTo e)
   unfolding answer
+  alike-ends d e distinct z = record {
+    firings = z .firings;
+    tokens = z .count;
+    cells = ap (map cellRecord) (z .cells);
+    sameTokens = perm-map tokenRecord (z .tokens);
+    eachOnce = once (d .state .tokens) distinct;
+  }
+
+  agree : (picks picks′ : List ℕ) → Agree (ranTo (run M 2048 picks s)) (ranTo (run M 2048 picks′ s))
   agree picks picks′ =
       let lawful = law graph inputs capacity cells a in
       let first = good graph inputs capacity cells a in
@@ -86,15 +97,7 @@ module _ (graph inputs : List ℕ) (capacity cells : ℕ) (few : capacity ≤ 20
       record {
         completes = same .completes;
         hangs = same .hangs;
-        alike = λ c.
-            let z = same .alike c in
-            record {
-              firings = z .firings;
-              tokens = z .count;
-              cells = ap (map cellRecord) (z .cells);
-              sameTokens = perm-map tokenRecord (z .tokens);
-              eachOnce = once (run M 2048 picks s .state .tokens) (end picks .distinct);
-            };
+        alike = λ c. alike-ends (run M 2048 picks s) (run M 2048 picks′ s) (end picks .distinct) (same .alike c);
         refused = refuses M lawful s first 2048 picks picks′ few;
         neverSpent = neverSpent M lawful s first 2048 picks few;
       }

@@ -17,7 +17,7 @@ use Rattle.record.specs.GraphRecords as Graph
 use Rattle.record.specs.Widths.{graphWidth}
 use Rattle.rules.specs.declared.answer.Refusal.the-variants.{GraphLength, UnknownOperation, FanOut, BadArc, BadSite}
 use Rattle.rules.specs.declared.answer.Checked.the-variants.{Passed}
-use Rattle.rules.specs.Check.{demand, all, any, otherReturn, inTurn, instructionAt, fanOutAllowed, unusedAreZero, goodArc, within, goodSite, checkRecord, checkGraph}
+use Rattle.rules.specs.Check.{demand, all, any, otherReturn, inTurn, instructionAt, operandsAt, fanOutAllowed, unusedAreZero, goodArc, within, goodSite, checkRecord, checkGraph}
 use Rattle.rules.proofs.Passed.{both, demand-passed, andThen-passed, turn-passed, getD-past}
 
 -- ---- the records
@@ -42,10 +42,14 @@ of-record g i r e =
       site = demand-passed _ BadSite i (s .1);
     }
 
--- past the graph stands an unknown operation
+-- past the graph stands an unknown operation, which has no operands
 pub past-operation : (g : List Instruction) (i : ℕ) → length g ≤ i → operationOf (instructionAt g i .code) ≡ Unknown
 unfolding instructionAt Graph.decode rowOf
 past-operation g i h = rw (getD-past g i (Graph.decode []) h)
+
+pub past-operands : (g : List Instruction) (i : ℕ) → length g ≤ i → operandsAt g i ≡ 0
+unfolding operandsAt instructionAt Graph.decode rowOf
+past-operands g i h = rw (getD-past g i (Graph.decode []) h)
 
 module _ (graph : List ℕ) (passed : checkGraph graph ≡ Passed) where
   parts : (isGraphLength (length graph) ≡ true) × (inTurn (checkRecord (graphOf graph)) 0 (graphOf graph) ≡ Passed)
@@ -99,6 +103,27 @@ said n = by-rows says n refl table refl
 pub two-operands : (n : ℕ) → operandsOf n ≤ 2
 two-operands n = leb-true _ _ (both (Said (operationOf n) n (rowOf n .leastFanOut)) _ (said n) .1)
 
+-- the code of an operation that is known by its code elsewhere, and the most fan-out of those that send nothing
+abbrev Coded : Operation → (code mostFanOut : ℕ) → Bool
+Coded Copy n k = true
+Coded Sink n k = eqb k 0
+Coded Out n k = eqb k 0
+Coded Const n k = true
+Coded Switch n k = eqb n 5
+Coded Gate n k = true
+Coded Next n k = eqb n 7
+Coded Enter n k = eqb n 8
+Coded Leave n k = eqb n 9
+Coded Fetch n k = eqb n 10
+Coded Store n k = true
+Coded (OnTwo o) n k = true
+Coded (OnConstant o) n k = true
+Coded Unknown n k = eqb k 0
+
+pub coded : {o : Operation} (n : ℕ) → operationOf n ≡ o → Coded o n (rowOf n .mostFanOut) ≡ true
+unfolding rowOf
+coded n e = rw e at (by-rows (λ c r. Coded (r .operation) c (r .mostFanOut)) n refl table refl)
+
 -- ---- what the operations need
 
 wider : (k : ℤ) → within 1 255 k ≡ true → within 0 255 k ≡ true
@@ -113,6 +138,10 @@ module _ {g : List Instruction} {i : ℕ} {r : Instruction} (good : Good g i r) 
   pub least-fan-out : rowOf (r .code) .leastFanOut ≤ r .fanout
   unfolding fanOutAllowed
   least-fan-out = leb-true _ _ (both _ (leb (r .fanout) _) (good .fanOut) .0)
+
+  pub most-fan-out : r .fanout ≤ rowOf (r .code) .mostFanOut
+  unfolding fanOutAllowed
+  most-fan-out = leb-true _ _ (both (leb (rowOf (r .code) .leastFanOut) (r .fanout)) _ (good .fanOut) .1)
 
   pub enter-code : operationOf (r .code) ≡ Enter → eqb (r .code) 8 ≡ true
   enter-code e = both (eqb (r .code) 8) (leb 2 (rowOf (r .code) .leastFanOut)) (said-of e) .0

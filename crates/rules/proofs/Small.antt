@@ -35,15 +35,15 @@ use Rattle.rules.proofs.Accepted.{whole-bytes, stores-whole, Accepted, 
 
 -- ---- a refusal before any firing: its place is below 2,048
 
-abbrev Below : Checked → Type 0
+abbrev pub Below : Checked → Type 0
 Below Passed = Unit {0}
 Below (Failed r p) = p < mostTokens
 
-demand-below : (b : Bool) (r : Refusal) (p : ℕ) → (b ≡ false → p < mostTokens) → Below (demand b r p)
+pub demand-below : (b : Bool) (r : Refusal) (p : ℕ) → (b ≡ false → p < mostTokens) → Below (demand b r p)
 demand-below true r p h = tt
 demand-below false r p h = h refl
 
-then-below : (a b : Checked) → Below a → (a ≡ Passed → Below b) → Below (a andThen b)
+pub then-below : (a b : Checked) → Below a → (a ≡ Passed → Below b) → Below (a andThen b)
 then-below Passed b h k = k refl
 then-below (Failed r p) b h k = h
 
@@ -52,7 +52,7 @@ first-below : (b : Bool) (r : Refusal) (p : ℕ) (c : Checked) → (b ≡ false 
 first-below true r p c h k = k refl
 first-below false r p c h k = h refl
 
-turn-below : {A : Type 0} (f : ℕ → A → Checked) → ((i : ℕ) (x : A) → i < mostTokens → Below (f i x)) → (i : ℕ) (xs : List A) → i + length xs ≤ mostTokens → Below (inTurn f i xs)
+pub turn-below : {A : Type 0} (f : ℕ → A → Checked) → ((i : ℕ) (x : A) → i < mostTokens → Below (f i x)) → (i : ℕ) (xs : List A) → i + length xs ≤ mostTokens → Below (inTurn f i xs)
 turn-below f h i [] k = tt
 turn-below f h i (x ∷ xs) k = then-below (f i x) (inTurn f (suc i) xs) (h i x (omega arith)) (λ e. turn-below f h (suc i) xs (omega arith))
 
@@ -64,7 +64,7 @@ record-below g i r h =
     first-below (all (goodArc g) (destinations r)) BadArc i _ (λ k. h) (λ k.
     demand-below (goodSite (take i g) r) BadSite i (λ l. h))))
 
-graph-below : (graph : List ℕ) → Below (checkGraph graph)
+pub graph-below : (graph : List ℕ) → Below (checkGraph graph)
 unfolding checkGraph
 graph-below graph =
     first-below (isGraphLength (length graph)) GraphLength 0 _ (λ e. omega arith) (λ e.
@@ -85,7 +85,7 @@ inputs-below g capacity inputs few =
     first-below (leb (length ts) capacity) LedgerFull capacity _ (λ f. let more = leb-false (length ts) capacity f in omega arith) (λ f.
     turn-below (λ i t. demand (not (secondInput (take i ts) t)) SecondToken i) (λ i t h. demand-below (not (secondInput (take i ts) t)) SecondToken i (λ k. h)) 0 ts (omega arith)))
 
-stores-below : (inputs picks ledger cells : ℕ) → Below (checkStores inputs picks ledger cells)
+pub stores-below : (inputs picks ledger cells : ℕ) → Below (checkStores inputs picks ledger cells)
 unfolding checkStores
 stores-below inputs picks ledger cells =
     demand-below (whole tokenWidth mostTokens inputs && (whole pickWidth mostTokens picks && (whole tokenWidth mostTokens ledger && whole cellWidth mostCells cells))) BadStore 0 (λ e. omega arith)

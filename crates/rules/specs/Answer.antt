@@ -1,14 +1,14 @@
 -- 01, "The answer and the refusals": an answer in this paper's numbers. Assumes nothing.
 use Prim.Native.Nat.{ℕ}
 use Rattle.rules.specs.declared.answer.Refusal.{Refusal}
-use Rattle.rules.specs.declared.answer.Refusal.the-variants.{GraphLength, UnknownOperation, FanOut, BadArc, BadSite, BadInput, BadStore, LedgerFull, SecondToken, NoSuchCell, SecondWrite, OutOfRange, Iteration, TooDeep, NoReturn}
+use Rattle.rules.specs.declared.answer.Refusal.the-variants.{GraphLength, UnknownOperation, FanOut, BadArc, BadSite, BadInput, BadStore, LedgerFull, SecondToken, NoSuchCell, SecondWrite, OutOfRange, Iteration, TooDeep, NoReturn, ProfileFull, NotLoopFree, NotEnabled}
 use Rattle.rules.specs.declared.answer.Outcome.{Outcome}
 use Rattle.rules.specs.declared.answer.Outcome.the-variants.{Completed, Hung, Spent, Refused}
 use Rattle.rules.specs.declared.answer.Answer.{Answer}
 use Rattle.rules.specs.declared.answer.Checked.{Checked}
 use Rattle.rules.specs.declared.answer.Checked.the-variants.{Passed, Failed}
 
--- the column "No.", without 15 and 16, which R-5 and R-6 took out
+-- the column "No.", without 15 and 16, which R-5 and R-6 took out; then 02's
 abbrev pub numberOf : Refusal → ℕ
 numberOf GraphLength = 1
 numberOf UnknownOperation = 2
@@ -25,6 +25,9 @@ numberOf OutOfRange = 12
 numberOf Iteration = 13
 numberOf TooDeep = 14
 numberOf NoReturn = 17
+numberOf ProfileFull = 18
+numberOf NotLoopFree = 19
+numberOf NotEnabled = 20
 
 -- "An answer is completed, spent or refused with its number", or hung: one number for the four, 0 for completed, 100 for spent and 101 for hung
 abbrev pub wordOf : Outcome → ℕ

@@ -9,12 +9,19 @@ use Rattle.number.specs.Number.{bitsOf, bytes16, bytes32}
 use Rattle.record.specs.GraphRecords.{graphOf}
 use Rattle.record.specs.TokensAndTags as Tokens
 use Rattle.record.specs.Widths.{tokenWidth, cellWidth}
+use Rattle.machine.specs.Steps.{StepRecord}
 use Rattle.machine.specs.Machine.{Key, Content, live, spent, deferred, Token, Cell, absent, waiting, present, Effect, send, refuse}
 use Rattle.rules.specs.declared.answer.Refusal.{Refusal}
 use Rattle.rules.specs.declared.answer.Refusal.the-variants as Refusals
+use Rattle.rules.specs.declared.answer.Refusal.the-variants.{BadInput, BadStore, NotLoopFree}
+use Rattle.rules.specs.declared.answer.Needs.{Needs}
+use Rattle.rules.specs.declared.answer.Needs.the-variants.{AtMost, Refused}
 use Rattle.rules.specs.Answer.{Values, valuesOf}
 use Rattle.rules.specs.InstructionSet.{effectIn}
 use Rattle.rules.specs.Run.{tokenRecord, Result, refusedAtOnce, ranTo, result, answer}
+use Rattle.rules.specs.Profile.{ProfileResult, profiled}
+use Rattle.rules.specs.Log.{LogResult, logged, logAfter, replayed}
+use Rattle.rules.specs.Needs.{needs}
 
 -- ---- how the rows are written
 
@@ -63,11 +70,23 @@ pub data Numbered : Type 0 where
 pub data Case : Type 0 where
   -- a run: what is lent; the answer, the tokens of the ledger in order of arrival, the cells that are not absent
   running : (graph inputs picks : List ℕ) → (budget capacity cells : ℕ) → Values → List (Token Tag ℤ) → List Numbered → Case
+  -- a profile of so many bytes: what is lent; the answer, its records, the tokens
+  profiling : (graph inputs : List ℕ) → (capacity cells lent : ℕ) → Values → List StepRecord → List (Token Tag ℤ) → Case
+  -- a run with a log of so many bytes: what is lent; the answer, the log's bytes
+  logging : (graph inputs picks : List ℕ) → (budget lent : ℕ) → Values → List ℕ → Case
+  -- a replay: what is lent; the answer
+  replaying : (graph inputs log : List ℕ) → Values → Case
+  -- a graph and its inputs: what it will need, before it runs
+  needing : (graph inputs : List ℕ) → Needs → Case
   -- a firing at a tag: what is given; the effect
   firing : (graph : List ℕ) → (cells : ℕ) → Tag → (a b : ℤ) → Effect Refusal Tag ℤ → Case
 
 pub data Seen : Type 0 where
   ran : Values → List (Token Tag ℤ) → List Numbered → Seen
+  plotted : Values → List StepRecord → List (Token Tag ℤ) → Seen
+  wrote : Values → List ℕ → Seen
+  again : Values → Seen
+  needed : Needs → Seen
   did : Effect Refusal Tag ℤ → Seen
 
 unfoldable pub written : ℕ → List (Cell ℤ) → List Numbered
@@ -80,14 +99,32 @@ unfoldable pub seenIn : Result → Seen
 seenIn (refusedAtOnce r p) = ran (valuesOf (answer (refusedAtOnce r p))) [] []
 seenIn (ranTo e) = ran (valuesOf (answer (ranTo e))) (e .state .tokens) (written 0 (e .state .cells))
 
+unfoldable pub seenSteps : ProfileResult → Seen
+seenSteps x = plotted (valuesOf (answer (x .result))) (x .records) (held (x .result))
+  where
+    held : Result → List (Token Tag ℤ)
+    held (refusedAtOnce r p) = []
+    held (ranTo e) = e .state .tokens
+
+unfoldable pub seenLog : LogResult → Seen
+seenLog x = wrote (valuesOf (answer (x .result))) (logAfter x [])
+
 -- by the rules
 unfoldable pub seen : Case → Seen
 seen (running graph inputs picks budget capacity cells a ts cs) = seenIn (result graph inputs picks budget (tokenWidth * capacity) (cellWidth * cells))
+seen (profiling graph inputs capacity cells lent a rs ts) = seenSteps (profiled graph inputs (tokenWidth * capacity) (cellWidth * cells) lent)
+seen (logging graph inputs picks budget lent a l) = seenLog (logged graph inputs picks budget 40960 64 lent)
+seen (replaying graph inputs log a) = again (valuesOf (answer (replayed graph inputs log 40960 64)))
+seen (needing graph inputs n) = needed (needs graph inputs)
 seen (firing graph cells τ a b e) = did (effectIn (graphOf graph) cells τ a b)
 
 -- by the table
 unfoldable pub expected : Case → Seen
 expected (running graph inputs picks budget capacity cells a ts cs) = ran a ts cs
+expected (profiling graph inputs capacity cells lent a rs ts) = plotted a rs ts
+expected (logging graph inputs picks budget lent a l) = wrote a l
+expected (replaying graph inputs log a) = again a
+expected (needing graph inputs n) = needed n
 expected (firing graph cells τ a b e) = did e
 
 -- ---- the starred cases
@@ -434,5 +471,116 @@ distinguishing =
     ∷ returnsPast
     ∷ []
 
+-- ---- R-1
+
+abbrev pub step : (firings unspent : ℕ) → StepRecord
+step f u = record { firings = f; unspent = u }
+
+-- ADD of 7 and -9, with a profile of so many bytes
+abbrev pub added : (lent : ℕ) → Values → List StepRecord → List (Token Tag ℤ) → Case
+added lent a rs ts = profiling (binary 16) (operands (pos 7) (negsuc 8)) 2048 8 lent a rs ts
+
+-- 0 is COPY to 2, which is OUT, 1 is COPY to 3, which is DIV by 0 to 2. The second step is refused
+abbrev pub refusedStep : (lent : ℕ) → Values → Case
+refusedStep lent a =
+    profiling (to1 1 (pos 0) 0 2 ++ to1 1 (pos 0) 0 3 ++ to0 3 (pos 0) ++ to1 35 (pos 0) 0 2) (input 0 0 (pos 7) ++ input 1 0 (pos 8)) 2048 8 lent a (step 2 2 ∷ [])
+    (root 0 0 (spent (pos 7)) ∷ root 1 0 (spent (pos 8)) ∷ root 2 0 (live (pos 7)) ∷ root 3 0 (live (pos 8)) ∷ [])
+
+abbrev pub profiles : List Case
+profiles =
+    added 4 (values completed 1 3 0) (step 1 1 ∷ []) (root 0 0 (spent (pos 7)) ∷ root 0 1 (spent (negsuc 8)) ∷ root 1 0 (live (negsuc 1)) ∷ [])
+    -- an empty profile: with nothing fired the inputs are in the ledger
+    ∷ added 0 (values 18 0 2 0) [] (root 0 0 (live (pos 7)) ∷ root 0 1 (live (negsuc 8)) ∷ [])
+    -- one with nothing to do is not full
+    ∷ profiling (to0 3 (pos 0)) (input 0 0 (pos 7)) 2048 8 0 (values completed 0 1 0) [] (root 0 0 (live (pos 7)) ∷ [])
+    -- 3 bytes are no whole record
+    ∷ added 3 (values 7 0 0 0) [] []
+    ∷ refusedStep 8 (values 12 2 4 3)
+    -- 18 comes before the step
+    ∷ refusedStep 4 (values 18 2 4 0)
+    ∷ []
+
+-- ---- R-7
+
+-- the log of ADD at the root: its bytes are all zero, and so are those of a record of no firing
+abbrev pub addLog : List ℕ
+addLog = replicate 12 0
+
+abbrev pub replaysAdd : (log : List ℕ) → Values → Case
+replaysAdd log a = replaying (binary 16) (operands (pos 7) (negsuc 8)) log a
+
+-- 0 and 1 are COPY to 2 and to 3, both OUT. Instruction 1 fires first
+abbrev pub twoCopies : List ℕ
+twoCopies = to1 1 (pos 0) 0 2 ++ to1 1 (pos 0) 0 3 ++ to0 3 (pos 0) ++ to0 3 (pos 0)
+
+abbrev pub secondFirst : List ℕ
+secondFirst = replicate 10 0 ++ bytes16 1
+
+abbrev pub logs : List Case
+logs =
+    logging (binary 16) (operands (pos 7) (negsuc 8)) [] 2 24 (values completed 1 3 0) addLog
+    -- one record is fewer than the budget; 2,048 are enough for every budget; 25 bytes are not whole
+    ∷ logging (binary 16) (operands (pos 7) (negsuc 8)) [] 2 12 (values 7 0 0 0) []
+    ∷ logging (binary 16) (operands (pos 7) (negsuc 8)) [] 65535 24576 (values completed 1 3 0) addLog
+    ∷ logging (binary 16) (operands (pos 7) (negsuc 8)) [] 2 25 (values 7 0 0 0) []
+    ∷ logging twoCopies (input 0 0 (pos 7) ++ input 1 0 (pos 8)) (bytes16 1) 1 12 (values spentWord 1 3 0) secondFirst
+    ∷ replaysAdd addLog (values completed 1 3 0)
+    ∷ replaysAdd [] (values spentWord 0 2 0)
+    -- an activity fires once; byte 9 is not zero; OUT never fires; 5 bytes are not whole
+    ∷ replaysAdd (addLog ++ addLog) (values 20 1 3 1)
+    ∷ replaysAdd (replicate 9 0 ++ 1 ∷ 0 ∷ 0 ∷ []) (values 20 0 2 0)
+    ∷ replaysAdd secondFirst (values 20 0 2 0)
+    ∷ replaysAdd (addLog ++ replicate 5 0) (values 20 1 3 1)
+    ∷ replaysAdd (replicate 5 0) (values 20 0 2 0)
+    -- the log of a run is its first records: as many as it has firings
+    ∷ replaying twoCopies (input 0 0 (pos 7) ++ input 1 0 (pos 8)) secondFirst (values spentWord 1 3 0)
+    ∷ replaying twoCopies (input 0 0 (pos 7) ++ input 1 0 (pos 8)) (secondFirst ++ replicate 24 0) (values 20 2 4 2)
+    ∷ []
+
+-- ---- R-3, what graphs will need: firings and tokens
+
+-- each side of a SWITCH goes to a COPY and then to an OUT
+abbrev pub twoSides : List ℕ
+twoSides = to2 5 (pos 0) 0 1 0 2 ++ to1 1 (pos 0) 0 3 ++ to1 1 (pos 0) 0 4 ++ to0 3 (pos 0) ++ to0 3 (pos 0)
+
+-- two elements of a vector sum: of each, COPY of the index to a FETCH and to the STORE, a FETCH of the other vector, ADD; the second STORE signals to an OUT
+abbrev pub vectorSum : List ℕ
+vectorSum =
+    to2 1 (pos 0) 0 1 0 4
+    ++ to1 10 (pos 0) 0 3
+    ++ to1 10 (pos 0) 1 3
+    ++ to1 16 (pos 0) 1 4
+    ++ to0 11 (pos 0)
+    ++ to2 1 (pos 0) 0 6 0 9
+    ++ to1 10 (pos 0) 0 8
+    ++ to1 10 (pos 0) 1 8
+    ++ to1 16 (pos 0) 1 9
+    ++ to1 11 (pos 0) 0 10
+    ++ to0 3 (pos 0)
+
+abbrev pub sized : List Case
+sized =
+    -- the printed example; without its second input
+    needing (binary 16) (operands (pos 7) (negsuc 8)) (AtMost 1 3)
+    ∷ needing (binary 16) (input 0 0 (pos 7)) (AtMost 0 1)
+    -- a SWITCH reaches both sides and counts one output: a run fires one COPY less
+    ∷ needing twoSides (operands (pos 7) (pos 0)) (AtMost 3 5)
+    ∷ running twoSides (operands (pos 7) (pos 0)) [] 2048 2048 8 (values completed 2 4 0)
+    (root 0 0 (spent (pos 7)) ∷ root 0 1 (spent (pos 0)) ∷ root 2 0 (spent (pos 7)) ∷ root 4 0 (live (pos 7)) ∷ [])
+    []
+    ∷ needing vectorSum (input 0 0 (pos 0) ++ input 2 0 (pos 2) ++ input 5 0 (pos 1) ++ input 7 0 (pos 3)) (AtMost 10 15)
+    -- the second element is not reached without its index
+    ∷ needing vectorSum (input 0 0 (pos 0) ++ input 2 0 (pos 2) ++ input 7 0 (pos 3)) (AtMost 6 9)
+    -- ADD that waits for its own output; two COPYs in a circle, of which every run is refused by 9
+    ∷ needing (to2 16 (pos 0) 1 0 0 1 ++ to0 3 (pos 0)) (input 0 0 (pos 7)) (AtMost 0 1)
+    ∷ needing (to1 1 (pos 0) 0 1 ++ to1 1 (pos 0) 0 0) (input 0 0 (pos 7)) (AtMost 2 3)
+    -- 9 is not tested
+    ∷ needing (to1 1 (pos 0) 0 1 ++ to0 3 (pos 0)) (input 0 0 (pos 7) ++ input 0 0 (pos 8)) (AtMost 1 3)
+    -- 19 at the first NEXT, ENTER or LEAVE, reached or not; 6 and 7 come before it
+    ∷ needing (to1 1 (pos 0) 0 1 ++ to1 7 (pos 0) 0 2 ++ to0 9 (pos 0)) [] (Refused NotLoopFree 1)
+    ∷ needing (to1 7 (pos 0) 0 1 ++ to0 3 (pos 0)) (input 0 0 (pos 7) ++ input 0 1 (pos 7)) (Refused BadInput 1)
+    ∷ needing (to1 7 (pos 0) 0 1 ++ to0 3 (pos 0)) (0 ∷ []) (Refused BadStore 0)
+    ∷ []
+
 abbrev pub cases : List Case
-cases = starred ++ distinguishing
+cases = starred ++ distinguishing ++ profiles ++ logs ++ sized

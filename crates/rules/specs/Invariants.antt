@@ -1,4 +1,4 @@
--- What holds of every result of a run, over the rules: 01, "Tokens and tags" and "Firing". The statement; it is proved in proofs/Invariants. Assumes nothing.
+-- What holds of every result of a run, of a profile and of a replay, over the rules: 01, "Tokens and tags" and "Firing". The statement; it is proved in proofs/Invariants. Assumes nothing.
 use Prim.Native.Nat.{ℕ, _/_}
 use mathlib.Core.List.{List}
 use lib.IntN.{ℤ}
@@ -10,6 +10,8 @@ use Rattle.machine.specs.Machine.{Machine, State}
 use Rattle.machine.specs.Orders.{Reached, Invariants}
 use Rattle.rules.specs.InstructionSet.{machineOf}
 use Rattle.rules.specs.Run.{firstState, Result, refusedAtOnce, ranTo, result}
+use Rattle.rules.specs.Profile.{profiled}
+use Rattle.rules.specs.Log.{replayed}
 
 module _ (graph inputs : List ℕ) (ledger cells : ℕ) where
   abbrev M : Machine
@@ -30,6 +32,12 @@ module _ (graph inputs : List ℕ) (ledger cells : ℕ) where
   LawfulResult (refusedAtOnce r p) = Unit {0}
   LawfulResult (ranTo e) = EndLawful (e .firings) (e .state)
 
--- of every run
+-- of every run, every profile and every replay
 abbrev pub ResultInvariants : Type 0
 ResultInvariants = (graph inputs picks : List ℕ) (budget ledger cells : ℕ) → LawfulResult graph inputs ledger cells (result graph inputs picks budget ledger cells)
+
+abbrev pub ProfileInvariants : Type 0
+ProfileInvariants = (graph inputs : List ℕ) (ledger cells lent : ℕ) → LawfulResult graph inputs ledger cells (profiled graph inputs ledger cells lent .result)
+
+abbrev pub ReplayInvariants : Type 0
+ReplayInvariants = (graph inputs log : List ℕ) (ledger cells : ℕ) → LawfulResult graph inputs ledger cells (replayed graph inputs log ledger cells)

@@ -1,4 +1,4 @@
--- The definitions of 01's rules. Assumes nothing.
+-- The definitions of 01's rules and of 02's requests. Assumes nothing.
 pub mod Answer
 pub mod Check
 pub mod InstructionSet
@@ -11,4 +11,10 @@ pub mod Small
 pub mod Fits
 pub mod Demand1
 pub mod Demand2
+pub mod Proper
 pub mod Callers
+pub mod RootLeave
+pub mod Profile
+pub mod Log
+pub mod Needs
+pub mod Capacity

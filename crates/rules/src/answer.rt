@@ -2,7 +2,7 @@
 ghost use mathlib.Core.Path.{_≡_};
 ghost use Rattle.rules.specs.Answer.{numberOf, wordOf};
 
-// The words of 01's table of refusals in this order, 1 to 17 without 15 and 16, which R-5 and R-6 took out.
+// The words of 01's table of refusals in this order, 1 to 17 without 15 and 16, which R-5 and R-6 took out; then 02's.
 pub enum Refusal {
     GraphLength,
     UnknownOperation,
@@ -19,6 +19,9 @@ pub enum Refusal {
     Iteration,
     TooDeep,
     NoReturn,
+    ProfileFull,
+    NotLoopFree,
+    NotEnabled,
 }
 
 // A refusal comes with its place.
@@ -35,13 +38,25 @@ pub struct Answer {
     pub tokens: usize,
 }
 
+// What a profile answers, with the number of its records.
+pub struct Profiled {
+    pub answer: Answer,
+    pub records: usize,
+}
+
 // What a check before the first firing says.
 pub enum Checked {
     Passed,
     Failed(Refusal, usize),
 }
 
-// 01's number of a refusal.
+// What a graph will need, before it runs: so many firings and so many tokens at most.
+pub enum Needs {
+    AtMost { firings: usize, tokens: usize },
+    Refused(Refusal, usize),
+}
+
+// The papers' number of a refusal.
 pub fn number(r: Refusal) -> u8
     ensures { λ n. ⌜ n ≡ numberOf r ⌝ }
 {
@@ -61,6 +76,9 @@ pub fn number(r: Refusal) -> u8
         Refusal::Iteration => 13,
         Refusal::TooDeep => 14,
         Refusal::NoReturn => 17,
+        Refusal::ProfileFull => 18,
+        Refusal::NotLoopFree => 19,
+        Refusal::NotEnabled => 20,
     }
 }
 

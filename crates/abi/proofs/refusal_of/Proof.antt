@@ -52,4 +52,7 @@ refusal-of-spec =
     (λ c. rw (c .match .keys13))
     (λ c. rw (c .match .keys14))
     (λ c. rw (c .match .keys15))
+    (λ c. rw (c .match .keys16))
+    (λ c. rw (c .match .keys17))
+    (λ c. rw (c .match .keys18))
     (λ c. sym (absent refusals (c .before .args .word) (turned (onto refusals []) [] (c .before .args .word) (c .match .rest) tt))))

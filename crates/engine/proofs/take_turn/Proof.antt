@@ -21,18 +21,21 @@ take-turn-spec =
     let s = n .before .before .before .before .before .before in
     turn-none _ (s .args .picks .now) (s .pre .0) (s .pre .1) (s .args .firings) _ (n .enabled-count .ensures) (c .before .before .if1 .taken) _ (c .ending .ensures))
     (λ c κs. search needs)
-    (λ c. search needs)
+    (λ c κs. search needs)
     (λ c κs.
-    let p = c .before in
+    let m = c .before in
+    let p = m .before in
     let n = p .before .before in
     let s = n .before .before .before .before .before .before in
-    (matching-counted (s .pre .1 .matching), below _ (s .args .picks .now) (s .pre .0) (s .pre .1) (s .args .firings) _ _ _ (n .enabled-count .ensures) (p .before .if1 .left) (p .pick-at .ensures .0) refl))
+    let low = below _ (s .args .picks .now) (s .pre .0) (s .pre .1) (s .args .firings) _ _ _ (n .enabled-count .ensures) (p .before .if1 .left) (p .pick-at .ensures .0) refl in
+    (matching-counted (s .pre .1 .matching), rw (m .number-of .ensures) low))
     (λ c κs.
     let a = c .before .before .before .before in
-    let p = a .before .before in
+    let m = a .before .before in
+    let p = m .before in
     let n = p .before .before in
     let s = n .before .before .before .before .before .before in
-    let there = place-enabled _ (s .args .picks .now) (s .pre .0) (s .pre .1) (s .args .firings) _ _ _ (n .enabled-count .ensures) (p .before .if1 .left) (p .pick-at .ensures .0) (a .enabled-at .ensures .0) in
+    let there = place-enabled _ (s .args .picks .now) (s .pre .0) (s .pre .1) (s .args .firings) _ _ _ (n .enabled-count .ensures) (p .before .if1 .left) (p .pick-at .ensures .0) (rw (m .number-of .ensures) at (a .enabled-at .ensures .0)) in
     (s .pre .0, s .pre .1, there .0, there .1))
     (λ c. search needs)
     (λ c. search needs)
@@ -41,16 +44,18 @@ take-turn-spec =
     (λ c.
     let f = c .before .before .before .before .before .before .before in
     let a = f .before .before .before .before .before in
-    let p = a .before .before in
+    let m = a .before .before in
+    let p = m .before in
     let n = p .before .before in
     let s = n .before .before .before .before .before .before in
-    turn-done _ (s .args .picks .now) (s .pre .0) (s .pre .1) (s .args .firings) _ _ _ (n .enabled-count .ensures) (p .before .if1 .left) (p .pick-at .ensures .0) (a .enabled-at .ensures .0) (rw (c .before .fired .given .1) at (f .fire .ensures)))
+    turn-done _ (s .args .picks .now) (s .pre .0) (s .pre .1) (s .args .firings) _ _ _ (n .enabled-count .ensures) (p .before .if1 .left) (p .pick-at .ensures .0) (rw (m .number-of .ensures) at (a .enabled-at .ensures .0)) (rw (c .before .fired .given .1) at (f .fire .ensures)))
     (λ c. search needs)
     (λ c. search needs)
     (λ c.
     let f = c .before .before .before .before .before .before .before in
     let a = f .before .before .before .before .before in
-    let p = a .before .before in
+    let m = a .before .before in
+    let p = m .before in
     let n = p .before .before in
     let s = n .before .before .before .before .before .before in
-    turn-refused _ (s .args .picks .now) (s .pre .0) (s .pre .1) (s .args .firings) _ _ _ (n .enabled-count .ensures) (p .before .if1 .left) (p .pick-at .ensures .0) (a .enabled-at .ensures .0) (rw (c .before .fired2 .given .1) at (f .fire .ensures))))
+    turn-refused _ (s .args .picks .now) (s .pre .0) (s .pre .1) (s .args .firings) _ _ _ (n .enabled-count .ensures) (p .before .if1 .left) (p .pick-at .ensures .0) (rw (m .number-of .ensures) at (a .enabled-at .ensures .0)) (rw (c .before .fired2 .given .1) at (f .fire .ensures))))

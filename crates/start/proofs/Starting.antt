@@ -1,5 +1,5 @@
--- The start of an accepted run: the tables made of the graph are right, the inputs are in the ledger and all cells absent, and that is the state from
--- which 01's run starts. Assumes nothing.
+-- The start of an accepted run: the inputs are in the ledger and all cells absent, and that is the state from which 01's run starts; and the end of what is
+-- fired from there, said of the buffers as lent. Assumes nothing.
 use Prim.Native.Nat.{ℕ, zero, suc, _+_, _*_, _/_, _≤_, _<_}
 use mathlib.Core.Path.{_≡_, refl, sym, ap, _∙_, subst}
 use mathlib.Core.List.{List, [], _∷_, _++_, map}
@@ -23,29 +23,32 @@ use Rattle.buffer.proofs.Tables.{length-rows, length-joined}
 use Rattle.record.proofs.Records.{length-token, length-cell}
 use Rattle.record.specs.Widths.{tokenWidth, cellWidth}
 use Rattle.store_chains.specs.Deferred.{LowCell}
-use Rattle.machine.specs.Machine.{Machine, State, End, absent, run}
+use Rattle.machine.specs.Machine.{Machine, State, End, absent}
 use Rattle.machine.specs.Orders as Orders
-use Rattle.machine.specs.Orders.{Good}
+use Rattle.machine.specs.Orders.{Good, Reached}
 use Rattle.machine.proofs.Orders.{startGood}
-use Rattle.machine.proofs.Reached.{reached-good, reached-count, reached-picks}
+use Rattle.machine.specs.Sequences.{Fires}
+use Rattle.machine.proofs.Reached.{reached-good, reached-count, sequenceReaches}
 use Rattle.rules.specs.declared.answer.Refusal.{Refusal}
 use Rattle.rules.specs.declared.answer.Answer.{Answer}
 use Rattle.rules.specs.declared.answer.Checked.the-variants.{Passed}
-use Rattle.rules.specs.Check.{checkGraph, checkInputs, check, operandsAt}
+use Rattle.rules.specs.Check.{checkInputs, operandsAt}
 use Rattle.rules.specs.InstructionSet.{machineOf}
 use Rattle.rules.specs.Run.{contentHeld, tokenHeld, tokenRecord, cellRecord, firstState}
 use Rattle.rules.proofs.Inputs.{start}
 use Rattle.rules.proofs.Lawful.{lawful}
-use Rattle.checks.proofs.Passed.{passed-check, GoodStores, passed-stores, GoodInputs, passed-inputs, passed-input}
+use Rattle.checks.proofs.Passed.{GoodInputs, passed-inputs, passed-input}
 use Rattle.fire_effect.proofs.Arrives.{arrives-port}
 use Rattle.abstraction.specs.States.{cellHeld}
+use Rattle.abstraction.specs.Tables.{Arities, Returns}
 use Rattle.abstraction.proofs.Keys.{alone-free}
 use Rattle.fire_outputs.specs.Outputs.{cellsIn, CellStore}
 use Rattle.fire_outputs.proofs.Laws.{rest-on}
 use Rattle.load.specs.Loaded.{Proper, Alone, Loaded}
 use Rattle.load.proofs.Laws.{zeros-joined, absent-fit, zeros-cells}
 use Rattle.fire.specs.Running.{stateIn, Arrived, Running}
-use Rattle.engine.specs.Turns.{EndedAt, endOf}
+use Rattle.start.specs.Begun.{Accepted, Begun}
+use Rattle.start.specs.Ended.{EndedAt}
 
 -- ---- the inputs
 
@@ -110,84 +113,91 @@ zeros-store l n e h =
       few = omega (arith, ap length e, length-replicate {A = ℕ} (n * cellWidth) 0);
     }
 
-module _ (graph inputs picks ledger cells : List ℕ) (accepted : check graph inputs picks (length ledger) (length cells) ≡ Passed) where
+module _ (graph inputs ledger cells : List ℕ) (accepted : Accepted graph inputs (length ledger) (length cells)) where
   abbrev M : Machine
   M = machineOf (graphOf graph) (length ledger / tokenWidth) (length cells / cellWidth)
 
-  pub graph-passed : checkGraph graph ≡ Passed
-  graph-passed = passed-check graph inputs picks (length ledger) (length cells) accepted .0
-
-  pub stores-good : GoodStores (length inputs) (length picks) (length ledger) (length cells)
-  stores-good = passed-stores (length inputs) (length picks) (length ledger) (length cells) (passed-check graph inputs picks (length ledger) (length cells) accepted .1)
-
-  pub inputs-passed : checkInputs (graphOf graph) (length ledger / tokenWidth) inputs ≡ Passed
-  inputs-passed = passed-check graph inputs picks (length ledger) (length cells) accepted .2
-
   bytes : length cells ≡ (length cells / cellWidth) * cellWidth
-  bytes = omega (arith, stores-good .cellRecords)
+  bytes = omega (arith, accepted .cellRecords)
 
-  good-start : Good M (firstState inputs (length cells / cellWidth))
-  good-start = startGood M (firstState inputs (length cells / cellWidth)) (start (graphOf graph) (length ledger / tokenWidth) (length cells / cellWidth) inputs inputs-passed)
+  pub good-start : Good M (firstState inputs (length cells / cellWidth))
+  good-start = startGood M (firstState inputs (length cells / cellWidth)) (start (graphOf graph) (length ledger / tokenWidth) (length cells / cellWidth) inputs (accepted .inputsPassed))
 
   module _ {tables links flags ledger₁ cells₁ : List ℕ} {used : ℕ} (a : Loaded tables links flags ledger ledger₁ inputs used)
-      (cleared : cells₁ ≡ replicate (length cells) 0) where
+      (cleared : cells₁ ≡ replicate (length cells) 0) (right : Arities (graphOf graph) tables × Returns (graphOf graph) tables) where
     zeros : cells₁ ≡ replicate ((length cells / cellWidth) * cellWidth) 0
     zeros = cleared ∙ ap (λ (n : ℕ). replicate n 0) bytes
 
-    cellSize : length cells₁ ≡ length cells
-    cellSize = ap length cleared ∙ length-replicate {A = ℕ} (length cells) 0
+    cell-size : length cells₁ ≡ length cells
+    cell-size = ap length cleared ∙ length-replicate {A = ℕ} (length cells) 0
 
     same-state : stateIn ledger₁ cells₁ used ≡ firstState inputs (length cells / cellWidth)
     unfolding firstState
     same-state = λ i. record { tokens = map tokenHeld (a .taken i); cells = (ap (map cellHeld) (zeros-in cells₁ (length cells / cellWidth) zeros) ∙ absent-held (length cells / cellWidth)) i }
 
-    pub started : Running (graphOf graph) tables links flags ledger₁ cells₁ used
+    started : Running (graphOf graph) tables links flags ledger₁ cells₁ used
     started = record {
       matching = a .matching;
-      few = omega (arith, a .size, stores-good .tokenRecords);
-      store = zeros-store cells₁ (length cells / cellWidth) zeros (omega (arith, stores-good .cellRecords));
-      arrived = subst (Arrived (graphOf graph)) (sym (a .taken)) (inputs-arrive graph inputs (length ledger / tokenWidth) (length cells / cellWidth) inputs-passed);
+      few = omega (arith, a .size, accepted .few);
+      store = zeros-store cells₁ (length cells / cellWidth) zeros (omega (arith, accepted .cellRecords));
+      arrived = subst (Arrived (graphOf graph)) (sym (a .taken)) (inputs-arrive graph inputs (length ledger / tokenWidth) (length cells / cellWidth) (accepted .inputsPassed));
       good =
           subst (λ (n : ℕ). Good (machineOf (graphOf graph) (n / tokenWidth) (length cells₁ / cellWidth)) (stateIn ledger₁ cells₁ used)) (sym (a .size))
-          (subst (λ (n : ℕ). Good (machineOf (graphOf graph) (length ledger / tokenWidth) (n / cellWidth)) (stateIn ledger₁ cells₁ used)) (sym cellSize)
+          (subst (λ (n : ℕ). Good (machineOf (graphOf graph) (length ledger / tokenWidth) (n / cellWidth)) (stateIn ledger₁ cells₁ used)) (sym cell-size)
           (subst (λ (x : State Tag ℤ). Good M x) (sym same-state) good-start));
     }
 
-    -- the end of the run is 01's, and what it leaves is said of the buffers as lent
-    module _ (budget : ℕ) (ps : List ℕ) where
-      abbrev e : End Refusal Tag ℤ
-      e = run M budget ps (firstState inputs (length cells / cellWidth))
+    pub begun : Begun graph inputs tables links flags ledger ledger₁ cells cells₁ used
+    begun = record {
+      prepared = record { passed = accepted .graphPassed; returnsRight = right .1; aritiesRight = right .0 };
+      running = started;
+      state = same-state;
+      size = a .size;
+      rest = a .rest;
+      cellSize = cell-size;
+    }
 
-      same-end : endOf (graphOf graph) ledger₁ cells₁ used budget ps ≡ e
-      same-end = λ i. run (machineOf (graphOf graph) (a .size i / tokenWidth) (cellSize i / cellWidth)) budget ps (same-state i)
+-- ---- the end
 
-      token-count : used ≤ length (e .state .tokens)
-      unfolding firstState
-      token-count =
-          let r = reached-picks M (firstState inputs (length cells / cellWidth)) budget ps in
-          let n = reached-count M (lawful graph graph-passed (length ledger / tokenWidth) (length cells / cellWidth)) (firstState inputs (length cells / cellWidth)) good-start (r .done) (r .sent) (e .state) (r .reached) in
-          omega (arith, n, length-map (allRows tokenWidth Tokens.decode inputs) tokenHeld, length-rows tokenWidth Tokens.decode (length inputs / tokenWidth) inputs, a .all)
+-- the machine's end from the state that `begin` left is the end from 01's first state, and what it leaves is said of the buffers as lent
+module _ (graph inputs ledger cells : List ℕ) (accepted : Accepted graph inputs (length ledger) (length cells))
+    {tables links flags ledger₁ cells₁ : List ℕ} {used : ℕ} (b : Begun graph inputs tables links flags ledger ledger₁ cells cells₁ used) where
+  abbrev N : Machine
+  N = machineOf (graphOf graph) (length ledger / tokenWidth) (length cells / cellWidth)
 
-      cell-count : length (e .state .cells) ≡ length cells / cellWidth
-      cell-count =
-          let r = reached-picks M (firstState inputs (length cells / cellWidth)) budget ps in
-          reached-good M (lawful graph graph-passed (length ledger / tokenWidth) (length cells / cellWidth)) (firstState inputs (length cells / cellWidth)) good-start (r .done) (r .sent) (e .state) (r .reached) .cellCount
+  abbrev s₀ : State Tag ℤ
+  s₀ = firstState inputs (length cells / cellWidth)
 
-      pub as-lent : (r : Answer) (ledger′ cells′ : List ℕ) → EndedAt (endOf (graphOf graph) ledger₁ cells₁ used budget ps) r ledger₁ cells₁ ledger′ cells′ → EndedAt e r ledger cells ledger′ cells′
-      as-lent r ledger′ cells′ l = go (subst (λ (x : End Refusal Tag ℤ). EndedAt x r ledger₁ cells₁ ledger′ cells′) same-end l)
-        where
-          go : EndedAt e r ledger₁ cells₁ ledger′ cells′ → EndedAt e r ledger cells ledger′ cells′
-          go h =
-              let ts = map tokenRecord (e .state .tokens) in
-              let cs = map cellRecord (e .state .cells) in
-              let tokenBytes : length (joined Tokens.encode ts) ≡ length (e .state .tokens) * tokenWidth = length-joined tokenWidth Tokens.encode length-token ts ∙ ap (λ (n : ℕ). n * tokenWidth) (length-map (e .state .tokens) tokenRecord) in
-              let cellBytes : length (joined Cells.encode cs) ≡ length cells = length-joined cellWidth Cells.encode length-cell cs ∙ ap (λ (n : ℕ). n * cellWidth) (length-map (e .state .cells) cellRecord ∙ cell-count) ∙ sym bytes in
-              let rest : drop (length (joined Tokens.encode ts)) ledger₁ ≡ drop (length (joined Tokens.encode ts)) ledger =
-              ap (λ (n : ℕ). drop n ledger₁) tokenBytes ∙ rest-on ledger₁ ledger used (length (e .state .tokens)) token-count (a .rest) ∙ sym (ap (λ (n : ℕ). drop n ledger) tokenBytes) in
-              let short₁ : length cells₁ ≤ length (joined Cells.encode cs) = omega (arith, cellBytes, cellSize) in
-              let short : length cells ≤ length (joined Cells.encode cs) = omega (arith, cellBytes) in
-              record {
-                answered = h .answered;
-                ledgerLeft = h .ledgerLeft ∙ ap (λ (b : List ℕ). joined Tokens.encode ts ++ b) rest;
-                cellsLeft = h .cellsLeft ∙ ap (λ (b : List ℕ). joined Cells.encode cs ++ b) (drop-of-length-le cells₁ short₁ ∙ sym (drop-of-length-le cells short));
-              }
+  -- whatever is made of a machine and of a state
+  pub from-start : {A : Type 0} (f : (capacity count : ℕ) → State Tag ℤ → A)
+      → f (length ledger₁ / tokenWidth) (length cells₁ / cellWidth) (stateIn ledger₁ cells₁ used) ≡ f (length ledger / tokenWidth) (length cells / cellWidth) s₀
+  from-start f = λ i. f (b .size i / tokenWidth) (b .cellSize i / cellWidth) (b .state i)
+
+  module _ (e : End Refusal Tag ℤ) (τs : List Tag) (fires : Fires N s₀ τs (e .state)) where
+    reached : (sent : ℕ) × Reached N s₀ (length τs) sent (e .state)
+    reached = sequenceReaches N τs s₀ (e .state) fires
+
+    token-count : used ≤ length (e .state .tokens)
+    unfolding firstState
+    token-count =
+        let n = reached-count N (lawful graph (accepted .graphPassed) (length ledger / tokenWidth) (length cells / cellWidth)) s₀ (good-start graph inputs ledger cells accepted) (length τs) (reached .0) (e .state) (reached .1) in
+        omega (arith, n, ap (λ (x : State Tag ℤ). length (x .tokens)) (b .state), length-map (tokens used ledger₁) tokenHeld, length-rows tokenWidth Tokens.decode used ledger₁)
+
+    cell-count : length (e .state .cells) ≡ length cells / cellWidth
+    cell-count = reached-good N (lawful graph (accepted .graphPassed) (length ledger / tokenWidth) (length cells / cellWidth)) s₀ (good-start graph inputs ledger cells accepted) (length τs) (reached .0) (e .state) (reached .1) .cellCount
+
+    pub as-lent : (r : Answer) (ledger′ cells′ : List ℕ) → EndedAt e r ledger₁ cells₁ ledger′ cells′ → EndedAt e r ledger cells ledger′ cells′
+    as-lent r ledger′ cells′ h =
+        let ts = map tokenRecord (e .state .tokens) in
+        let cs = map cellRecord (e .state .cells) in
+        let tokenBytes : length (joined Tokens.encode ts) ≡ length (e .state .tokens) * tokenWidth = length-joined tokenWidth Tokens.encode length-token ts ∙ ap (λ (n : ℕ). n * tokenWidth) (length-map (e .state .tokens) tokenRecord) in
+        let cellBytes : length (joined Cells.encode cs) ≡ length cells = length-joined cellWidth Cells.encode length-cell cs ∙ ap (λ (n : ℕ). n * cellWidth) (length-map (e .state .cells) cellRecord ∙ cell-count) ∙ sym (bytes graph inputs ledger cells accepted) in
+        let rest : drop (length (joined Tokens.encode ts)) ledger₁ ≡ drop (length (joined Tokens.encode ts)) ledger =
+        ap (λ (n : ℕ). drop n ledger₁) tokenBytes ∙ rest-on ledger₁ ledger used (length (e .state .tokens)) token-count (b .rest) ∙ sym (ap (λ (n : ℕ). drop n ledger) tokenBytes) in
+        let short₁ : length cells₁ ≤ length (joined Cells.encode cs) = omega (arith, cellBytes, b .cellSize) in
+        let short : length cells ≤ length (joined Cells.encode cs) = omega (arith, cellBytes) in
+        record {
+          answered = h .answered;
+          ledgerLeft = h .ledgerLeft ∙ ap (λ (l : List ℕ). joined Tokens.encode ts ++ l) rest;
+          cellsLeft = h .cellsLeft ∙ ap (λ (l : List ℕ). joined Cells.encode cs ++ l) (drop-of-length-le cells₁ short₁ ∙ sym (drop-of-length-le cells short));
+        }

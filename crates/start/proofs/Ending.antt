@@ -24,7 +24,7 @@ use Rattle.rules.specs.Run.{contentHeld, contentRecord, tokenHeld, tokenRecord,
 use Rattle.abstraction.specs.States.{cellHeld}
 use Rattle.fire_outputs.specs.Outputs.{cellsIn}
 use Rattle.fire.specs.Running.{machineFor, stateIn, Running}
-use Rattle.engine.specs.Turns.{EndedAt}
+use Rattle.start.specs.Ended.{EndedAt}
 
 -- ---- records and the machine's tokens and cells, there and back
 

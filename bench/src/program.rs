@@ -1,0 +1,129 @@
+//! The whole job of the printing program: a run, its listing and its text, in
+//! buffers of zeros as the program has them. Both emulators do it in this process;
+//! then the program itself is started on the same files, and on an empty folder,
+//! whose answer is `refused 1`: that is what starting it costs.
+
+use std::fs;
+use std::path::{Path, PathBuf};
+use std::process::Command;
+use std::time::Duration;
+
+use crate::printing::longest;
+use crate::work::Work;
+use crate::{microseconds, middle, ratio, time, BUDGET, CELLS, KINDS};
+
+const RECORDS: usize = 2048;
+const RUNS: usize = 200;
+
+pub fn print() {
+    let folder = std::env::temp_dir().join(format!("ttda-bench-{}", std::process::id()));
+    write_folders(&folder);
+    println!("The whole job of the program, median of {RUNS} runs of each.");
+    println!();
+    println!("| work | engine | second | engine / second | the program |");
+    println!("|---|---:|---:|---:|---:|");
+    for (name, work, _) in KINDS.into_iter().filter(|(_, _, newest)| !newest) {
+        print_job(name, &work(RECORDS), &folder.join(file_name(name)));
+    }
+    let started = folder.join("empty");
+    println!("| nothing | | | | {} |", microseconds(programs(&started)));
+    fs::remove_dir_all(&folder).expect("the folder is there");
+}
+
+fn print_job(name: &str, work: &Work, folder: &Path) {
+    let (text, same) = (engine_job(work), second_job(work));
+    assert!(text == same, "the engine prints otherwise");
+    assert!(text == printed(folder), "the program prints otherwise");
+    let (mut engine, mut second) = (Vec::new(), Vec::new());
+    for _ in 0..RUNS {
+        engine.push(time(|| engine_job(work)));
+        second.push(time(|| second_job(work)));
+    }
+    let (engine, second) = (middle(&engine), middle(&second));
+    println!(
+        "| {name} | {} | {} | {} | {} |",
+        microseconds(engine),
+        microseconds(second),
+        ratio(engine, second),
+        microseconds(programs(folder)),
+    );
+}
+
+fn engine_job(work: &Work) -> Vec<u8> {
+    let mut ledger = vec![0; 20 * RECORDS];
+    let mut cells = vec![0; 8 * CELLS];
+    let answer = engine::run(
+        &work.graph,
+        &work.inputs,
+        &[],
+        BUDGET,
+        &mut ledger,
+        &mut cells,
+    );
+    let used = 20 * engine::unpacked(answer).2 as usize;
+    let mut listing = vec![0; used];
+    engine::list(&ledger[..used], &mut listing);
+    let mut text = vec![0; longest(RECORDS)];
+    let bytes = engine::print(answer, &listing, &cells, &mut text);
+    text.truncate(bytes as usize);
+    text
+}
+
+fn second_job(work: &Work) -> Vec<u8> {
+    let mut ledger = vec![0; 20 * RECORDS];
+    let mut cells = vec![0; 8 * CELLS];
+    let answer = second::run(
+        &work.graph,
+        &work.inputs,
+        &[],
+        BUDGET,
+        &mut ledger,
+        &mut cells,
+    );
+    let used = 20 * answer.tokens;
+    let mut listing = vec![0; used];
+    second::list(&ledger[..used], &mut listing);
+    second::print(&answer, &listing, &cells)
+}
+
+/// The program, that of this project unless TTDA names another.
+fn program() -> PathBuf {
+    match std::env::var_os("TTDA") {
+        Some(program) => program.into(),
+        None => Path::new(env!("CARGO_MANIFEST_DIR")).join("../target/bin/ttda"),
+    }
+}
+
+fn printed(folder: &Path) -> Vec<u8> {
+    let output = Command::new(program()).arg(folder).output();
+    output.expect("the program runs").stdout
+}
+
+fn programs(folder: &Path) -> Duration {
+    let times: Vec<Duration> = (0..RUNS).map(|_| time(|| printed(folder))).collect();
+    middle(&times)
+}
+
+/// The name of a work as that of a folder.
+fn file_name(name: &str) -> String {
+    name.replace(' ', "_")
+}
+
+/// Writes the files of each work of 2,048 tokens for the program, each to a folder
+/// of its own, and an empty folder.
+pub fn write_folders(folder: &Path) {
+    fs::create_dir_all(folder.join("empty")).expect("a folder can be made");
+    for (name, work, _) in KINDS.into_iter().filter(|(_, _, newest)| !newest) {
+        let (place, work) = (folder.join(file_name(name)), work(RECORDS));
+        fs::create_dir_all(&place).expect("a folder can be made");
+        fs::write(place.join("graph"), &work.graph).expect("a file can be written");
+        fs::write(place.join("inputs"), &work.inputs).expect("a file can be written");
+    }
+}
+
+/// One job of the engine on a work, for a count of its instructions.
+pub fn once(name: &str) {
+    let kind = KINDS.into_iter().find(|kind| file_name(kind.0) == name);
+    let (_, work, _) = kind.expect("the name of a work, with _ for a space");
+    println!("{}", engine_job(&work(RECORDS)).len());
+}

@@ -1,0 +1,17 @@
+-- The bounds as a number, from `bounds`' promise: the bounds are packed as an answer with word and place 0, a refusal as one without counts. Assumes nothing.
+use borrow.Author.Needs.{needs}
+use mathlib.Core.Path.{ap, sym, _∙_}
+use Rattle.rules.specs.declared.answer.Needs.{Needs}
+use Rattle.abi.specs.Numbers.{packed, boundsOf}
+use Rattle.abi.proofs.ttda_bounds.Statement.{statement}
+use Rattle.abi.proofs.ttda_bounds.Tie as tie
+
+pub ttda-bounds-spec : {M : Type 1} → statement M
+ttda-bounds-spec = tie.close (tie.spec
+    (λ c κs. search needs)
+    (λ c. search needs)
+    (λ c κs. search needs)
+    (λ c. search needs)
+    (λ c κs. search needs)
+    (λ c. c .number-of .ensures ∙ ap (λ (n : Needs). packed (boundsOf n)) (sym (c .before .before .needs .given .1) ∙ c .before .before .before .before .bounds .ensures))
+    (λ c. c .number-of2 .ensures ∙ ap (λ (n : Needs). packed (boundsOf n)) (sym (c .before .before .needs2 .given .1) ∙ c .before .before .before .before .bounds .ensures)))

@@ -1,0 +1,9 @@
+-- `engine::number_of` meets its contract. Assumes nothing.
+use borrow.Author.Needs.{needs}
+use native.Mathlib.Nat.{mod-eq-of-lt}
+use mathlib.Core.Path.{sym}
+use Rattle.engine.proofs.number_of.Statement.{statement}
+use Rattle.engine.proofs.number_of.Tie as tie
+
+pub number-of-spec : {M : Type 1} → statement M
+number-of-spec = tie.close (tie.spec (λ c. search needs) (λ c. sym (mod-eq-of-lt (c .if1 .taken))) (λ c. search needs))

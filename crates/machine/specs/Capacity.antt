@@ -1,0 +1,51 @@
+-- R-12, "The ledger a graph really takes": one machine with another capacity. The statements, over any machine with a lawful instruction set; they are
+-- proved in proofs/Capacity. Assumes nothing.
+use mathlib.Core.Path.{_≡_}
+use mathlib.Core.List.{List}
+use Prim.Native.Nat.{ℕ, _≤_, _<_}
+use lib.ListN.{length}
+use Rattle.machine.specs.Machine.{Machine, Outcome, completed, hung, budgetSpent, refused, StateOf, EndOf, Choice, runBy}
+use Rattle.machine.specs.Orders.{Good, LawfulChoice, Quiescent, BudgetSpent}
+
+-- all else is equal
+abbrev pub withCapacity : Machine → ℕ → Machine
+withCapacity M n = record {
+  Tag = M .Tag;
+  Value = M .Value;
+  Refusal = M .Refusal;
+  same = M .same;
+  arity = M .arity;
+  effect = M .effect;
+  signal = M .signal;
+  ledgerFull = M .ledgerFull;
+  secondToken = M .secondToken;
+  secondWrite = M .secondWrite;
+  capacity = n;
+  cellCount = M .cellCount;
+}
+
+abbrev pub RefusedBy : {R : Type 0} → R → Outcome R → Type 0
+RefusedBy r completed = ⊥
+RefusedBy r hung = ⊥
+RefusedBy r budgetSpent = ⊥
+RefusedBy r (refused q place) = q ≡ r
+
+module _ (M : Machine) where
+  -- "Tokens used"
+  abbrev pub tokensUsed : EndOf M → ℕ
+  tokensUsed e = length (e .state .tokens)
+
+  -- of a run that "completed or hung with t tokens": "with any capacity from t [..] and equal picks the end is the same"
+  abbrev pub EnoughRoom : Type 0
+  EnoughRoom = (c : Choice M) (s : StateOf M) (budget : ℕ) (picks : List ℕ) (f : ℕ) → Quiescent (runBy M c budget picks f s .outcome)
+      → (n : ℕ) → tokensUsed (runBy M c budget picks f s) ≤ n → runBy (withCapacity M n) c budget picks f s ≡ runBy M c budget picks f s
+
+  -- "with any smaller one every order is refused by 8", where the start fits and the budget is no less than the capacity
+  abbrev pub TooSmall : Type 0
+  TooSmall = (c d : Choice M) → LawfulChoice M c → LawfulChoice M d → (s : StateOf M) → Good M s → (budget budget′ : ℕ) (picks picks′ : List ℕ) (f : ℕ)
+      → Quiescent (runBy M c budget picks f s .outcome) → (n : ℕ) → n < tokensUsed (runBy M c budget picks f s) → length (s .tokens) ≤ n → n ≤ budget′
+      → RefusedBy (M .ledgerFull) (runBy (withCapacity M n) d budget′ picks′ f s .outcome)
+
+  -- a run that is not spent has done what it can: with more budget it ends the same
+  abbrev pub MoreBudget : Type 0
+  MoreBudget = (c : Choice M) (a b : ℕ) (picks : List ℕ) (f : ℕ) (s : StateOf M) → a ≤ b → ¬ (BudgetSpent (runBy M c a picks f s .outcome)) → runBy M c b picks f s ≡ runBy M c a picks f s

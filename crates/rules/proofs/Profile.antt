@@ -1,0 +1,107 @@
+-- R-1 over the rules: a profile that is not refused ends as every order does (`as-every-order`); its records have room in what is lent
+-- (`profile-fits`). Assumes nothing.
+use Prim.Native.Nat.{ℕ, _*_, _/_, _%_, _≤_}
+use mathlib.Core.Path.{_≡_, refl, ap, _∙_}
+use mathlib.Core.List.{List}
+use native.Mathlib.Nat.{zero-add}
+use native.Mathlib.Omega.{arith}
+use lib.ListN.{length}
+use lib.Dec.{eqb}
+use lib.IntN.{ℤ}
+use Rattle.record.specs.declared.tag.Tag.{Tag}
+use Rattle.record.specs.GraphRecords.{graphOf}
+use Rattle.record.specs.TokensAndTags.{mostTokens, capacityOf}
+use Rattle.record.specs.Widths.{tokenWidth, cellWidth}
+use Rattle.machine.specs.Machine.{Machine, State, byPicks, run}
+use Rattle.machine.specs.Machine as Machine
+use Rattle.machine.specs.Orders as Ends
+use Rattle.machine.specs.Steps.{profile}
+use Rattle.machine.proofs.Ending.{ending-rests}
+use Rattle.machine.proofs.Sequences.{firesGood}
+use Rattle.machine.proofs.Orders.{byPicksLawful}
+use Rattle.machine.proofs.Steps.{everyProfile, profileEnds}
+use Rattle.rules.specs.declared.answer.Refusal.the-variants.{BadStore, ProfileFull}
+use Rattle.rules.specs.declared.answer.Checked.{Checked}
+use Rattle.rules.specs.declared.answer.Checked.the-variants.{Passed, Failed}
+use Rattle.rules.specs.Check.{demand, checkStores, check, mostCells}
+use Rattle.rules.specs.InstructionSet.{machineOf}
+use Rattle.rules.specs.Run.{firstState, picksOf, ranTo, outcomeOf, unlessFailed, result, answer}
+use Rattle.rules.specs.Orders.{Refused, Allowed}
+use Rattle.rules.specs.Profile.{checkProfileStores, checkProfile, profileUnlessFailed, profiled, ProfileFits, EndsAs, AsEveryOrder}
+use Rattle.rules.proofs.Passed.{andThen-passed}
+use Rattle.rules.proofs.Accepted.{whole-bytes, Whole, stores-whole, Accepted, accepted, law, good}
+use Rattle.rules.proofs.Orders.{same-length, same-cells, alike-ends}
+
+-- ---- from inputs that passed
+
+module _ (graph inputs : List ℕ) (capacity cells : ℕ) (few : capacity ≤ 2048) (a : Accepted graph inputs capacity) where
+  abbrev M : Machine
+  M = machineOf (graphOf graph) capacity cells
+
+  abbrev s : State Tag ℤ
+  s = firstState inputs cells
+
+  ends-as : (left : ℕ) → ¬ (Ends.Refused (profile M ProfileFull left 0 s .ended .outcome)) → (picks : List ℕ)
+      → EndsAs (record { result = ranTo (profile M ProfileFull left 0 s .ended); records = profile M ProfileFull left 0 s .records }) (ranTo (run M 2048 picks s))
+  unfolding answer
+  ends-as left n picks =
+      let lawful = law graph inputs capacity cells a in
+      let first = good graph inputs capacity cells a in
+      let h = profileEnds M lawful ProfileFull s first left 0 n in
+      let p = everyProfile M lawful ProfileFull s first left 0 in
+      let z = h .ends (byPicks M) (byPicksLawful M) 2048 few picks in
+      record {
+        rests = rw (h .outcome) (ending-rests M (profile M ProfileFull left 0 s .ended .state));
+        outcome = ap outcomeOf (z .outcome);
+        alike = alike-ends graph inputs capacity cells few a _ _ (firesGood M lawful s first (p .log) _ (p .logged .fires) .distinct) z;
+        firings = h .firings ∙ zero-add _;
+      }
+
+-- ---- over bytes
+
+module _ (graph inputs : List ℕ) (ledger cells lent : ℕ) where
+  passes : ¬ (Refused (profiled graph inputs ledger cells lent .result)) → checkProfile graph inputs ledger cells lent ≡ Passed
+  unfolding profiled profileUnlessFailed
+  passes n = go (checkProfile graph inputs ledger cells lent) refl
+    where
+      go : (c : Checked) → checkProfile graph inputs ledger cells lent ≡ c → c ≡ Passed
+      go Passed e = refl
+      go (Failed r p) e = absurd (n (rw e tt))
+
+  wholes : checkProfile graph inputs ledger cells lent ≡ Passed → Whole (length inputs) 0 ledger cells × Accepted graph inputs (capacityOf ledger)
+  unfolding checkProfile checkProfileStores
+  wholes e =
+      let (stores, a) = accepted graph inputs (capacityOf ledger) (checkProfileStores (length inputs) ledger cells lent) e in
+      (stores-whole (length inputs) 0 ledger cells (andThen-passed (checkStores (length inputs) 0 ledger cells) (demand (eqb (lent % 4) 0) BadStore 0) stores .0), a)
+
+  -- what a profile accepts, a run accepts
+  run-accepts : (picks : List ℕ) → Allowed picks ledger cells → Accepted graph inputs (capacityOf ledger) → Whole (length inputs) 0 ledger cells → check graph inputs picks ledger cells ≡ Passed
+  unfolding check checkStores
+  run-accepts picks allowed a w = rw (a .graphPassed, w .wholeInputs, allowed .allowedPicks, w .wholeLedger, w .wholeCells) (a .inputsPassed)
+
+  as-orders : (picks : List ℕ) → Allowed picks ledger cells → ¬ (Refused (profiled graph inputs ledger cells lent .result))
+      → EndsAs (profiled graph inputs ledger cells lent) (result graph inputs picks 2048 ledger cells)
+  unfolding profiled profileUnlessFailed result unlessFailed
+  as-orders picks allowed n =
+      let e = passes n in
+      let (w, a) = wholes e in
+      rw (e, run-accepts picks allowed a w) (ends-as graph inputs (capacityOf ledger) (cells / cellWidth) (whole-bytes tokenWidth mostTokens ledger (w .wholeLedger) .1) a (lent / 4) (rw e at n) (picksOf picks))
+
+pub as-every-order : AsEveryOrder
+as-every-order graph inputs picks ledger ledger′ cells cells′ lent n allowed c d =
+    let w = wholes graph inputs ledger cells lent (passes graph inputs ledger cells lent n) .0 in
+    let l = same-length ledger ledger′ (whole-bytes tokenWidth mostTokens ledger (w .wholeLedger) .0) (whole-bytes tokenWidth mostTokens ledger′ (allowed .allowedLedger) .0) c in
+    let k = same-cells cells cells′ (whole-bytes cellWidth mostCells cells (w .wholeCells) .0) (whole-bytes cellWidth mostCells cells′ (allowed .allowedCells) .0) d in
+    rw (← l, ← k) (as-orders graph inputs ledger cells lent picks (rw (l, k) allowed) n)
+
+pub profile-fits : ProfileFits
+unfolding profiled profileUnlessFailed
+profile-fits graph inputs ledger cells lent = go (checkProfile graph inputs ledger cells lent) refl
+  where
+    go : (c : Checked) → checkProfile graph inputs ledger cells lent ≡ c → length (profiled graph inputs ledger cells lent .records) * 4 ≤ lent
+    go (Failed r p) e = rw e (omega arith)
+    go Passed e =
+        let a = wholes graph inputs ledger cells lent e .1 in
+        let capacity = capacityOf ledger in
+        let p = everyProfile (machineOf (graphOf graph) capacity (cells / cellWidth)) (law graph inputs capacity (cells / cellWidth) a) ProfileFull (firstState inputs (cells / cellWidth)) (good graph inputs capacity (cells / cellWidth) a) (lent / 4) 0 in
+        rw e (omega (arith, p .within))

@@ -1,0 +1,129 @@
+-- 02, R-7, "Firing logs": the log that a run writes and the replay of a log, over bytes; and that a replay gives the run again and that logs agree, proved in
+-- proofs/Log and proofs/Replay. Assumes nothing.
+use Prim.Native.Nat.{ℕ, _+_, _*_, _/_, _%_, _≤_}
+use mathlib.Core.Path.{_≡_}
+use mathlib.Core.Bool.{true, _&&_, _||_, cond}
+use mathlib.Core.Option.{Option, none, some}
+use mathlib.Core.List.{List, [], _∷_, _++_, List·Permᴰ}
+use lib.ListN.{length, take}
+use lib.IntN.{ℤ}
+use lib.Dec.{eqb, leb}
+use Rattle.record.specs.declared.tag.Tag.{Tag}
+use Rattle.number.specs.Number.{Bytes, byteAt, number16, number64, bytes16, bytes64}
+use Rattle.buffer.specs.Rows.{rows, writtenOver}
+use Rattle.record.specs.GraphRecords.{graphOf}
+use Rattle.record.specs.TokensAndTags.{mostTokens, capacityOf}
+use Rattle.record.specs.Widths.{cellWidth}
+use Rattle.machine.specs.Machine.{End, byPicks, run}
+use Rattle.machine.specs.Orders as Ends
+use Rattle.machine.specs.Sequences.{Once, logOf}
+use Rattle.machine.specs.Replay.{replay}
+use Rattle.rules.specs.declared.answer.Refusal.{Refusal}
+use Rattle.rules.specs.declared.answer.Refusal.the-variants.{BadStore, NotEnabled}
+use Rattle.rules.specs.declared.answer.Answer.{Answer}
+use Rattle.rules.specs.declared.answer.Checked.{Checked}
+use Rattle.rules.specs.declared.answer.Checked.the-variants.{Passed, Failed}
+use Rattle.rules.specs.Check.{demand, _andThen_, checkGraph, checkStores, checkInputs, check}
+use Rattle.rules.specs.InstructionSet.{machineOf}
+use Rattle.rules.specs.Run.{firstState, picksOf, Result, refusedAtOnce, ranTo, unlessFailed, result, answer, ledgerAfter, cellsAfter}
+use Rattle.rules.specs.Orders.{Quiescent}
+
+-- ---- records: "one 12-byte record a firing: path, iteration, a zero byte, instruction"
+
+unfoldable pub encode : Tag → List ℕ
+encode τ = bytes64 (τ .path) ++ τ .iteration ∷ 0 ∷ bytes16 (τ .instruction)
+
+-- what the record names that l starts with: nothing if it "lacks its zero byte or isn't whole"
+unfoldable pub nameOf : List ℕ → Option Tag
+nameOf l = cond (leb 12 (length l) && eqb (byteAt l 9) 0) (some (record { path = number64 l 0; iteration = byteAt l 8; instruction = number16 l 10 })) none
+
+-- what all records of a log name, with a last one that is not whole
+unfoldable pub namesIn : List ℕ → List (Option Tag)
+namesIn l = rows 12 nameOf ((length l + 11) / 12) l
+
+-- ---- a run that writes a log
+
+-- "A log lent not whole or with fewer records than the budget, or than 2,048 if that is less, is refused by 7."
+unfoldable pub checkLogStores : (inputs picks ledger cells budget lent : ℕ) → Checked
+checkLogStores inputs picks ledger cells budget lent =
+    checkStores inputs picks ledger cells andThen demand (eqb (lent % 12) 0 && (leb budget (lent / 12) || leb mostTokens (lent / 12))) BadStore 0
+
+unfoldable pub checkLogged : (graph inputs picks : List ℕ) → (budget ledger cells lent : ℕ) → Checked
+checkLogged graph inputs picks budget ledger cells lent =
+    checkGraph graph
+    andThen checkLogStores (length inputs) (length picks) ledger cells budget lent
+    andThen checkInputs (graphOf graph) (capacityOf ledger) inputs
+
+-- a run's result, and the tags of its firings in turn
+pub record LogResult : Type 0 where
+  pub result : Result
+  pub log : List Tag
+
+unfoldable pub logUnlessFailed : Checked → End Refusal Tag ℤ → List Tag → LogResult
+logUnlessFailed Passed e log = record { result = ranTo e; log = log }
+logUnlessFailed (Failed r place) e log = record { result = refusedAtOnce r place; log = [] }
+
+-- ledger, cells and log by their lengths in bytes
+unfoldable pub logged : (graph inputs picks : List ℕ) → (budget ledger cells lent : ℕ) → LogResult
+logged graph inputs picks budget ledger cells lent =
+    let M = machineOf (graphOf graph) (capacityOf ledger) (cells / cellWidth) in
+    let s = firstState inputs (cells / cellWidth) in
+    logUnlessFailed (checkLogged graph inputs picks budget ledger cells lent) (run M budget (picksOf picks) s) (logOf M (byPicks M) budget (picksOf picks) s)
+
+unfoldable pub logAfter : LogResult → (lent : List ℕ) → List ℕ
+logAfter x lent = writtenOver encode (x .log) lent
+
+-- what such a run promises
+pub record LogRan (x : LogResult) (r : Answer) (ledger ledger′ cells cells′ log log′ : List ℕ) : Type 0 where
+  pub answered : r ≡ answer (x .result)
+  pub ledgerLeft : ledger′ ≡ ledgerAfter (x .result) ledger
+  pub cellsLeft : cells′ ≡ cellsAfter (x .result) cells
+  pub logLeft : log′ ≡ logAfter x log
+
+-- ---- a replay: "takes graph, inputs, log, ledger and cells". Its check is that of a run without picks
+
+unfoldable pub replayed : (graph inputs log : List ℕ) → (ledger cells : ℕ) → Result
+replayed graph inputs log ledger cells =
+    unlessFailed (check graph inputs [] ledger cells)
+    (ranTo (replay (machineOf (graphOf graph) (capacityOf ledger) (cells / cellWidth)) NotEnabled (namesIn log) 0 (firstState inputs (cells / cellWidth))))
+
+-- ---- what is stated
+
+-- a run that writes a log is the run, if the log suffices
+abbrev pub LoggedRuns : Type 0
+LoggedRuns = (graph inputs picks : List ℕ) (budget ledger cells lent : ℕ) → (eqb (lent % 12) 0 && (leb budget (lent / 12) || leb mostTokens (lent / 12))) ≡ true
+    → logged graph inputs picks budget ledger cells lent .result ≡ result graph inputs picks budget ledger cells
+
+-- the log has room in what is lent
+abbrev pub LogFits : Type 0
+LogFits = (graph inputs picks : List ℕ) (budget ledger cells lent : ℕ) → length (logged graph inputs picks budget ledger cells lent .log) * 12 ≤ lent
+
+abbrev pub NotBy7 : Result → Type 0
+NotBy7 (refusedAtOnce r place) = ¬ (r ≡ BadStore)
+NotBy7 (ranTo e) = Unit {0}
+
+abbrev pub InFiring : Result → Type 0
+InFiring (refusedAtOnce r place) = ⊥
+InFiring (ranTo e) = Ends.Refused (e .outcome)
+
+-- "the same ledger, cells and counts in every byte"; the answer too, unless a firing was refused
+pub record Again (x y : Result) : Type 0 where
+  pub ledgerLeft : (lent : List ℕ) → ledgerAfter y lent ≡ ledgerAfter x lent
+  pub cellsLeft : (lent : List ℕ) → cellsAfter y lent ≡ cellsAfter x lent
+  pub firings : answer y .firings ≡ answer x .firings
+  pub tokens : answer y .tokens ≡ answer x .tokens
+  pub answered : ¬ (InFiring x) → answer y ≡ answer x
+
+-- "Replaying the log of a run not refused by 7, buffers lent alike": the log of a run is its first records, as many as it has firings
+abbrev pub LogReplays : Type 0
+LogReplays = (graph inputs picks : List ℕ) (budget ledger cells : ℕ) (lent : List ℕ) → Bytes graph → Bytes inputs
+    → NotBy7 (logged graph inputs picks budget ledger cells (length lent) .result)
+    → Again (logged graph inputs picks budget ledger cells (length lent) .result)
+    (replayed graph inputs (take (answer (logged graph inputs picks budget ledger cells (length lent) .result) .firings * 12) (logAfter (logged graph inputs picks budget ledger cells (length lent)) lent)) ledger cells)
+
+-- "The logs of two completed runs of one graph with equal inputs, capacity and cell count hold the same records, each once.": and of two that hang
+abbrev pub LogsAgree : Type 0
+LogsAgree = (graph inputs picks picks′ : List ℕ) (budget budget′ ledger ledger′ cells cells′ lent lent′ : ℕ)
+    → capacityOf ledger ≡ capacityOf ledger′ → cells / cellWidth ≡ cells′ / cellWidth
+    → Quiescent (logged graph inputs picks budget ledger cells lent .result) → Quiescent (logged graph inputs picks′ budget′ ledger′ cells′ lent′ .result)
+    → List·Permᴰ (logged graph inputs picks budget ledger cells lent .log) (logged graph inputs picks′ budget′ ledger′ cells′ lent′ .log) × Once (logged graph inputs picks budget ledger cells lent .log)

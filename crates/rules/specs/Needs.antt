@@ -1,0 +1,153 @@
+-- 02, R-3, "What a graph will need, before it runs", in its order: what is reached, the bounds, the refusals, and the claims, which are proved in proofs/Needs.
+-- Assumes nothing.
+use Prim.Native.Nat.{ℕ, zero, suc, _+_, _≤_, _<_}
+use mathlib.Core.Path.{_≡_}
+use mathlib.Core.Bool.{Bool, true, false, not, _&&_, _||_, cond}
+use mathlib.Core.List.{List, [], _∷_}
+use lib.ListN.{length, getD}
+use lib.IntN.{ℤ}
+use lib.Dec.{eqb, leb}
+use Rattle.record.specs.declared.tag.Tag.{Tag}
+use Rattle.record.specs.declared.token.Token.{Token}
+use Rattle.record.specs.declared.instruction.Instruction.{Instruction}
+use Rattle.buffer.specs.Rows.{allRows}
+use Rattle.record.specs.GraphRecords.{graphOf, destinations}
+use Rattle.record.specs.TokensAndTags.{rootOf, standsAt}
+use Rattle.record.specs.TokensAndTags as Tokens
+use Rattle.record.specs.Widths.{tokenWidth}
+use Rattle.machine.specs.Machine.{State, enabled}
+use Rattle.machine.specs.Orders.{Reached}
+use Rattle.rules.specs.declared.answer.Refusal.the-variants.{BadInput, NotLoopFree}
+use Rattle.rules.specs.declared.answer.Checked.{Checked}
+use Rattle.rules.specs.declared.answer.Checked.the-variants.{Passed, Failed}
+use Rattle.rules.specs.declared.answer.Needs.{Needs}
+use Rattle.rules.specs.declared.answer.Needs.the-variants.{AtMost, Refused}
+use Rattle.rules.specs.Check.{demand, _andThen_, any, inTurn, instructionAt, operandsAt, checkGraph, checkStores, goodInput, checkInputs}
+use Rattle.rules.specs.InstructionSet.{machineOf}
+use Rattle.rules.specs.Run.{firstState, result, answer}
+use Rattle.rules.specs.Orders.{Quiescent}
+
+-- ---- over the numbers below n
+
+abbrev pub anyBelow : (n : ℕ) → (ℕ → Bool) → Bool
+anyBelow zero f = false
+anyBelow (suc n) f = f n || anyBelow n f
+
+abbrev pub allBelow : (n : ℕ) → (ℕ → Bool) → Bool
+allBelow zero f = true
+allBelow (suc n) f = f n && allBelow n f
+
+abbrev pub sumBelow : (n : ℕ) → (ℕ → ℕ) → ℕ
+sumBelow zero f = 0
+sumBelow (suc n) f = sumBelow n f + f n
+
+-- f i and what follows, n in all
+abbrev pub listFrom : {A : Type 0} → (i n : ℕ) → (ℕ → A) → List A
+listFrom i zero f = []
+listFrom i (suc n) f = f i ∷ listFrom (suc i) n f
+
+-- ---- what is reached
+
+-- the instruction sends to this port, whichever side a SWITCH takes
+unfoldable pub sendsTo : (instruction port : ℕ) → Instruction → Bool
+sendsTo i p r = any (λ d. eqb (d .instruction) i && eqb (d .port) p) (destinations r)
+
+module _ (inputs : List Token) (g : List Instruction) where
+  -- "A port is reached if an input or a reached instruction sends to it"
+  unfoldable pub portReached : (reached : ℕ → Bool) → (instruction port : ℕ) → Bool
+  portReached reached i p = any (standsAt (rootOf i) p) inputs || anyBelow (length g) (λ j. reached j && sendsTo i p (instructionAt g j))
+
+  -- "an instruction is reached if all its ports are"
+  unfoldable pub allReached : (reached : ℕ → Bool) → (instruction : ℕ) → Bool
+  allReached reached i = allBelow (operandsAt g i) (portReached reached i)
+
+  -- by instruction, whether n rounds reach it: each round adds the instructions whose ports are all reached by the rounds before it
+  unfoldable pub rounds : (n : ℕ) → List Bool
+  rounds zero = []
+  rounds (suc n) = let before = rounds n in listFrom 0 (length g) (allReached (λ i. getD before i false))
+
+  -- as many rounds as there are instructions: another round adds none (`reached-least`)
+  unfoldable pub reached : (instruction : ℕ) → Bool
+  reached i = getD (rounds (length g)) i false
+
+-- "nothing else is reached": the least set of instructions that has each whose ports it reaches
+abbrev pub Closed : List Token → List Instruction → (ℕ → Bool) → Type 0
+Closed inputs g s = (i : ℕ) → i < length g → allReached inputs g s i ≡ true → s i ≡ true
+
+pub record Least (inputs : List Token) (g : List Instruction) (s : ℕ → Bool) : Type 0 where
+  pub closed : Closed inputs g s
+  pub least : (t : ℕ → Bool) → Closed inputs g t → (i : ℕ) → s i ≡ true → t i ≡ true
+
+abbrev pub ReachedLeast : Type 0
+ReachedLeast = (inputs : List Token) (g : List Instruction) → Least inputs g (reached inputs g)
+
+-- ---- "The bounds are the number of reached instructions that can fire, and inputs plus their outputs."
+
+-- "OUT, a result; never fires" (code 3)
+unfoldable pub firingsOf : Instruction → ℕ
+firingsOf r = cond (eqb (r .code) 3) 0 1
+
+-- "a SWITCH reaches both sides and counts one output" (code 5); an OUT has no destinations
+unfoldable pub outputsOf : Instruction → ℕ
+outputsOf r = cond (eqb (r .code) 5) 1 (length (destinations r))
+
+-- over the reached instructions
+unfoldable pub total : List Token → List Instruction → (Instruction → ℕ) → ℕ
+total inputs g f = let flags = rounds inputs g (length g) in sumBelow (length g) (λ i. cond (getD flags i false) (f (instructionAt g i)) 0)
+
+-- ---- "Refused: 19, not loop-free, at the first such record, after refusals 1 to 7; 8 and 9 aren't tested."
+
+-- "without NEXT, ENTER and LEAVE" (codes 7, 8 and 9)
+unfoldable pub loopFree : Instruction → Bool
+loopFree r = not (leb 7 (r .code) && leb (r .code) 9)
+
+unfoldable pub checkNeeds : (graph inputs : List ℕ) → Checked
+checkNeeds graph inputs =
+    checkGraph graph
+    andThen checkStores (length inputs) 0 0 0
+    andThen inTurn (λ i good. demand good BadInput i) 0 (allRows tokenWidth (goodInput (graphOf graph)) inputs)
+    andThen inTurn (λ i r. demand (loopFree r) NotLoopFree i) 0 (graphOf graph)
+
+abbrev pub inputsOf : List ℕ → List Token
+inputsOf inputs = allRows tokenWidth Tokens.decode inputs
+
+abbrev pub unlessRefused : Checked → Needs → Needs
+unlessRefused Passed x = x
+unlessRefused (Failed r p) x = Refused r p
+
+unfoldable pub needs : (graph inputs : List ℕ) → Needs
+needs graph inputs =
+    let ts = inputsOf inputs in
+    let g = graphOf graph in
+    unlessRefused (checkNeeds graph inputs) (AtMost (total ts g firingsOf) (length ts + total ts g outputsOf))
+
+-- ---- the claims
+
+-- a SWITCH or a FETCH (codes 5 and 10)
+abbrev pub switchOrFetch : Instruction → Bool
+switchOrFetch r = eqb (r .code) 5 || eqb (r .code) 10
+
+-- "where no SWITCH or FETCH is reached"
+abbrev pub NoSwitchOrFetch : (graph inputs : List ℕ) → Type 0
+NoSwitchOrFetch graph inputs = (i : ℕ) → reached (inputsOf inputs) (graphOf graph) i ≡ true → switchOrFetch (instructionAt (graphOf graph) i) ≡ false
+
+-- of every state that a run from inputs reaches
+abbrev pub NoStateExceeds : Type 0
+NoStateExceeds = (graph inputs : List ℕ) (capacity cells firings tokens : ℕ) → needs graph inputs ≡ AtMost firings tokens → checkInputs (graphOf graph) capacity inputs ≡ Passed
+    → (f o : ℕ) (x : State Tag ℤ) → Reached (machineOf (graphOf graph) capacity cells) (firstState inputs cells) f o x → (f ≤ firings) × (length (x .tokens) ≤ tokens)
+
+abbrev pub ExactAtRest : Type 0
+ExactAtRest = (graph inputs : List ℕ) (capacity cells firings tokens : ℕ) → needs graph inputs ≡ AtMost firings tokens → NoSwitchOrFetch graph inputs → checkInputs (graphOf graph) capacity inputs ≡ Passed
+    → (f o : ℕ) (x : State Tag ℤ) → Reached (machineOf (graphOf graph) capacity cells) (firstState inputs cells) f o x → enabled (machineOf (graphOf graph) capacity cells) x ≡ []
+    → (f ≡ firings) × (length (x .tokens) ≡ tokens)
+
+-- "No completed or hung run exceeds either", and no other
+abbrev pub NeverExceeded : Type 0
+NeverExceeded = (graph inputs picks : List ℕ) (budget ledger cells firings tokens : ℕ) → needs graph inputs ≡ AtMost firings tokens
+    → (answer (result graph inputs picks budget ledger cells) .firings ≤ firings) × (answer (result graph inputs picks budget ledger cells) .tokens ≤ tokens)
+
+-- "and both are exact where no SWITCH or FETCH is reached"
+abbrev pub Exact : Type 0
+Exact = (graph inputs picks : List ℕ) (budget ledger cells firings tokens : ℕ) → needs graph inputs ≡ AtMost firings tokens → NoSwitchOrFetch graph inputs
+    → Quiescent (result graph inputs picks budget ledger cells)
+    → (answer (result graph inputs picks budget ledger cells) .firings ≡ firings) × (answer (result graph inputs picks budget ledger cells) .tokens ≡ tokens)

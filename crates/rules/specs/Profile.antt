@@ -1,0 +1,91 @@
+-- 02, R-1, "Profiles for the plotter": a run by ideal steps over bytes, what it answers, and what it leaves in ledger, cells and profile; and that it ends as
+-- every order does, proved in proofs/Profile. Assumes nothing.
+use Prim.Native.Nat.{ℕ, _*_, _/_, _%_, _≤_}
+use mathlib.Core.Path.{_≡_}
+use mathlib.Core.List.{List, [], _++_}
+use lib.ListN.{length}
+use lib.IntN.{ℤ}
+use lib.Dec.{eqb}
+use Rattle.record.specs.declared.tag.Tag.{Tag}
+use Rattle.number.specs.Number.{bytes16}
+use Rattle.buffer.specs.Rows.{writtenOver}
+use Rattle.record.specs.GraphRecords.{graphOf}
+use Rattle.record.specs.TokensAndTags.{capacityOf}
+use Rattle.record.specs.Widths.{cellWidth}
+use Rattle.machine.specs.Steps.{StepRecord, Profile, firingsIn, profile}
+use Rattle.rules.specs.declared.answer.Refusal.{Refusal}
+use Rattle.rules.specs.declared.answer.Refusal.the-variants.{BadStore, ProfileFull}
+use Rattle.rules.specs.declared.answer.Profiled.{Profiled}
+use Rattle.rules.specs.declared.answer.Checked.{Checked}
+use Rattle.rules.specs.declared.answer.Checked.the-variants.{Passed, Failed}
+use Rattle.rules.specs.Check.{demand, _andThen_, checkGraph, checkStores, checkInputs}
+use Rattle.rules.specs.InstructionSet.{machineOf}
+use Rattle.rules.specs.Run.{firstState, Result, refusedAtOnce, ranTo, result, answer, ledgerAfter, cellsAfter}
+use Rattle.rules.specs.Orders.{Quiescent, Refused, Alike, Allowed}
+
+-- ---- a profile
+
+-- "It takes no picks"; "A profile not in whole records is refused by 7."
+unfoldable pub checkProfileStores : (inputs ledger cells profile : ℕ) → Checked
+checkProfileStores inputs ledger cells profile = checkStores inputs 0 ledger cells andThen demand (eqb (profile % 4) 0) BadStore 0
+
+unfoldable pub checkProfile : (graph inputs : List ℕ) → (ledger cells profile : ℕ) → Checked
+checkProfile graph inputs ledger cells profile =
+    checkGraph graph
+    andThen checkProfileStores (length inputs) ledger cells profile
+    andThen checkInputs (graphOf graph) (capacityOf ledger) inputs
+
+-- a result as a run has it, and the records of the whole steps
+pub record ProfileResult : Type 0 where
+  pub result : Result
+  pub records : List StepRecord
+
+unfoldable pub profileUnlessFailed : Checked → Profile Refusal Tag ℤ → ProfileResult
+profileUnlessFailed Passed p = record { result = ranTo (p .ended); records = p .records }
+profileUnlessFailed (Failed r place) p = record { result = refusedAtOnce r place; records = [] }
+
+-- ledger, cells and profile by their lengths in bytes
+unfoldable pub profiled : (graph inputs : List ℕ) → (ledger cells lent : ℕ) → ProfileResult
+profiled graph inputs ledger cells lent =
+    profileUnlessFailed (checkProfile graph inputs ledger cells lent)
+    (profile (machineOf (graphOf graph) (capacityOf ledger) (cells / cellWidth)) ProfileFull (lent / 4) 0 (firstState inputs (cells / cellWidth)))
+
+-- ---- what it answers and leaves
+
+-- "the answer also gives the number of records"
+unfoldable pub profileAnswer : ProfileResult → Profiled
+profileAnswer x = record { answer = answer (x .result); records = length (x .records) }
+
+-- "one 4-byte record: firings in it, and live plus deferred tokens after it, 16 bits each"
+unfoldable pub encode : StepRecord → List ℕ
+encode r = bytes16 (r .firings) ++ bytes16 (r .unspent)
+
+unfoldable pub profileAfter : ProfileResult → (lent : List ℕ) → List ℕ
+profileAfter x lent = writtenOver encode (x .records) lent
+
+-- what a profile promises
+pub record ProfileRan (x : ProfileResult) (r : Profiled) (ledger ledger′ cells cells′ profile profile′ : List ℕ) : Type 0 where
+  pub answered : r ≡ profileAnswer x
+  pub ledgerLeft : ledger′ ≡ ledgerAfter (x .result) ledger
+  pub cellsLeft : cells′ ≡ cellsAfter (x .result) cells
+  pub profileLeft : profile′ ≡ profileAfter x profile
+
+-- ---- the records have room in what is lent
+
+abbrev pub ProfileFits : Type 0
+ProfileFits = (graph inputs : List ℕ) (ledger cells lent : ℕ) → length (profiled graph inputs ledger cells lent .records) * 4 ≤ lent
+
+-- ---- "if it isn't refused, its end must equal every order's as demand 3 compares them"
+
+pub record EndsAs (x : ProfileResult) (y : Result) : Type 0 where
+  pub rests : Quiescent (x .result)
+  -- completed or hung
+  pub outcome : answer (x .result) .outcome ≡ answer y .outcome
+  pub alike : Alike (x .result) y
+  -- and its records tell its firings
+  pub firings : answer (x .result) .firings ≡ firingsIn (x .records)
+
+abbrev pub AsEveryOrder : Type 0
+AsEveryOrder = (graph inputs picks : List ℕ) (ledger ledger′ cells cells′ lent : ℕ) → ¬ (Refused (profiled graph inputs ledger cells lent .result))
+    → Allowed picks ledger′ cells′ → capacityOf ledger ≡ capacityOf ledger′ → cells / cellWidth ≡ cells′ / cellWidth
+    → EndsAs (profiled graph inputs ledger cells lent) (result graph inputs picks 2048 ledger′ cells′)
