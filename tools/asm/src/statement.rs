@@ -1,0 +1,47 @@
+//! What a line says, with names that are not yet resolved.
+
+use crate::errors::Span;
+use crate::operations::Operation;
+use crate::words::Word;
+use crate::{GRAPH_RECORD, TOKEN_RECORD};
+
+/// An instruction's name with one of its ports.
+#[derive(Clone, Debug)]
+pub struct Target<'t> {
+    pub name: Word<'t>,
+    pub port: u8,
+    /// The whole of it.
+    pub word: Word<'t>,
+}
+
+#[derive(Clone, Debug)]
+pub enum Statement<'t> {
+    /// A typed instruction; the target behind `return` is the last of its arcs.
+    Typed {
+        operation: Operation,
+        constant: i32,
+        arcs: Vec<Target<'t>>,
+    },
+    /// A graph record in bytes.
+    Raw([u8; GRAPH_RECORD]),
+    Input(Target<'t>, i32),
+    /// An input record in bytes.
+    RawInput([u8; TOKEN_RECORD]),
+    /// A cell and its value: a STORE and the two inputs that fire it.
+    Cell(i32, i32),
+    Picks(Vec<u16>),
+    /// An instruction with a fault. Its name is defined all the same, so that
+    /// one fault is not reported at every arc to it.
+    Faulty,
+}
+
+/// A line with a statement.
+#[derive(Clone, Debug)]
+pub struct Line<'t> {
+    /// The line's number, counted from 1.
+    pub number: usize,
+    pub name: Option<Word<'t>>,
+    pub statement: Statement<'t>,
+    /// From the first word to the last.
+    pub span: Span,
+}
