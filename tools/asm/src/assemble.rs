@@ -103,7 +103,11 @@ impl Program {
                 self.files.picks.extend::<Vec<u8>>(bytes.collect());
                 Vec::new()
             }
-            Statement::Faulty => self.instruction(line, [0; GRAPH_RECORD]),
+            Statement::Faulty(targets) => resolve_all(names, targets).1,
+            Statement::FaultyInstruction(targets) => {
+                self.instruction(line, [0; GRAPH_RECORD]);
+                resolve_all(names, targets).1
+            }
         }
     }
 

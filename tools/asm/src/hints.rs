@@ -1,6 +1,6 @@
 //! Guesses at what was meant.
 
-use crate::operations::{by_name, names};
+use crate::operations::names;
 
 /// Words of the memos and of other machines, and what is written here.
 const KNOWN: [(&[&str], &str); 14] = [
@@ -71,13 +71,6 @@ pub fn arrow(operation: &str, words: &[&str]) -> Option<String> {
         .split(' ')
         .all(|word| target(&word))
         .then(|| format!("an arrow before the targets: `{operation} -> {words}`"))
-}
-
-/// What to write where a line begins with a word that is no operation, but the
-/// next is one.
-pub fn colon(word: &str, next: Option<&str>) -> Option<String> {
-    next.filter(|next| by_name(next).is_some() || *next == "raw")
-        .map(|next| format!("a colon behind the name: `{word}: {next}`"))
 }
 
 /// The nearest of some names, if it is near enough to have been meant.

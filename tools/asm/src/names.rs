@@ -33,8 +33,8 @@ impl<'t> Names<'t> {
                 Statement::Typed { operation, .. } => Some(operation.operands),
                 Statement::Raw(record) => Some(operand_count(record[0])),
                 Statement::Cell(..) => Some(operand_count(STORE)),
-                Statement::Faulty => None,
-                Statement::Input(..) | Statement::RawInput(_) | Statement::Picks(_) => continue,
+                Statement::FaultyInstruction(_) => None,
+                _ => continue,
             };
             if names.operands.len() == MOST_INSTRUCTIONS {
                 let fault = Fault::new(line.span.clone(), "more than 65,536 instructions");

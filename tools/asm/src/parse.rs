@@ -21,16 +21,31 @@ pub fn parse_line<'t>(
     let (name, rest) = parse_label(words, faults);
     let statement = parse_statement(words, name.is_some(), rest).unwrap_or_else(|fault| {
         faults.push(fault);
-        Statement::Faulty
+        let targets = named_targets(rest);
+        match name.is_none() && is_other(words[0].text) {
+            true => Statement::Faulty(targets),
+            false => Statement::FaultyInstruction(targets),
+        }
     });
-    let instruction = name.is_some() || !is_other(words[0].text);
-    let faulty = matches!(statement, Statement::Faulty);
-    (instruction || !faulty).then(|| Line {
+    Some(Line {
         number,
         name,
         statement,
         span: span_of(words),
     })
+}
+
+/// The targets of a line with a fault, as far as they can be told.
+fn named_targets<'t>(words: &[Word<'t>]) -> Vec<Target<'t>> {
+    let arrow = words.iter().position(|word| word.text == "->");
+    let ends: &[Word] = match (words, arrow) {
+        ([input, target, ..], _) if input.text == "input" => std::slice::from_ref(target),
+        (_, Some(arrow)) => &words[arrow + 1..],
+        (_, None) => &[],
+    };
+    ends.iter()
+        .filter_map(|word| parse_target(*word).ok())
+        .collect()
 }
 
 /// Whether a word begins a line that is no instruction.
@@ -44,7 +59,7 @@ fn parse_label<'t, 'w>(
     faults: &mut Vec<Fault>,
 ) -> (Option<Word<'t>>, &'w [Word<'t>]) {
     let Some(colon) = words.iter().position(|word| word.text == ":") else {
-        return (None, words);
+        return forgotten_colon(words, faults);
     };
     let before = &words[..colon];
     let name = match before {
@@ -61,6 +76,30 @@ fn parse_label<'t, 'w>(
     };
     let name = name.map_err(|fault| faults.push(fault)).ok();
     (name, &words[colon + 1..])
+}
+
+/// A name whose colon is missing is a fault, and is taken for the name.
+fn forgotten_colon<'t, 'w>(
+    words: &'w [Word<'t>],
+    faults: &mut Vec<Fault>,
+) -> (Option<Word<'t>>, &'w [Word<'t>]) {
+    match words {
+        [name, next, ..] if is_operation(next.text) && !begins_line(name.text) => {
+            let text = format!("`{}` is no operation", name.text);
+            let hint = format!("a colon behind the name: `{}: {}`", name.text, next.text);
+            faults.push(Fault::new(name.span(), text).hint(hint));
+            (check_name(*name).ok(), &words[1..])
+        }
+        _ => (None, words),
+    }
+}
+
+fn is_operation(word: &str) -> bool {
+    by_name(word).is_some() || word == "raw"
+}
+
+fn begins_line(word: &str) -> bool {
+    is_operation(word) || is_other(word)
 }
 
 fn parse_statement<'t>(
@@ -163,8 +202,8 @@ fn parse_cell<'t>(first: Word<'t>, rest: &[Word<'t>]) -> Result<Statement<'t>, F
         }
         _ => {
             let span = first.start..rest.last().map_or(first.span(), Word::span).end;
-            let fault = Fault::new(span, "a cell is loaded by `cell number = value`");
-            Err(fault.maybe(hints::colon(first.text, rest.first().map(|word| word.text))))
+            let text = "a cell is loaded by `cell number = value`";
+            Err(Fault::new(span, text))
         }
     }
 }
@@ -196,9 +235,8 @@ fn parse_bytes<const N: usize>(first: Word, words: &[Word]) -> Result<[u8; N], F
 
 fn parse_instruction<'t>(first: Word<'t>, rest: &[Word<'t>]) -> Result<Statement<'t>, Fault> {
     let operation = by_name(first.text).ok_or_else(|| {
-        let next = rest.first().map(|word| word.text);
-        let hint = hints::colon(first.text, next).or_else(|| hints::operation(first.text));
-        Fault::new(first.span(), format!("`{}` is no operation", first.text)).maybe(hint)
+        let text = format!("`{}` is no operation", first.text);
+        Fault::new(first.span(), text).maybe(hints::operation(first.text))
     })?;
     let (head, tail) = match rest.iter().position(|word| word.text == "->") {
         Some(at) => (&rest[..at], &rest[at + 1..]),

@@ -30,9 +30,11 @@ pub enum Statement<'t> {
     /// A cell and its value: a STORE and the two inputs that fire it.
     Cell(i32, i32),
     Picks(Vec<u16>),
-    /// An instruction with a fault. Its name is defined all the same, so that
-    /// one fault is not reported at every arc to it.
-    Faulty,
+    /// A line with a fault, and the targets that are named in it all the same.
+    Faulty(Vec<Target<'t>>),
+    /// An instruction with a fault. Its name is defined, so that one fault is
+    /// not reported at every arc to it.
+    FaultyInstruction(Vec<Target<'t>>),
 }
 
 /// A line with a statement.

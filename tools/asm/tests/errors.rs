@@ -98,7 +98,7 @@ fn each_error_has_its_place_and_its_hint() {
 
 #[test]
 fn all_errors_come_at_once() {
-    let text = "a: COPY → b, c\nb: GT 4 -> a.1\nb: OUT\ninput d = 7\n";
+    let text = "a: COPY → b, c\nb: GT 4 -> a.1\nb: OUT\ninput d = 7x\n";
     let lines: Vec<String> = errors(text).iter().map(|e| e.to_string()).collect();
     assert_eq!(
         lines,
@@ -107,8 +107,10 @@ fn all_errors_come_at_once() {
             "line 1: a comma (words are parted by spaces alone)",
             "line 1: `c` is not defined",
             "line 2: `GT` is no operation (there is no GT: `a > b` is LT with b on port 0)",
+            "line 2: `a` has no port 1, its operand count is 1 (its only port is `a.0`)",
             "line 3: `b` is defined twice (the first is in line 2)",
             "line 4: `d` is not defined",
+            "line 4: `7x` is not a signed number of 32 bits",
         ]
     );
 }

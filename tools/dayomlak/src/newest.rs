@@ -1,0 +1,152 @@
+//! Picks that fire the newest first.
+//!
+//! Of e enabled activities the newest is number e - 1, and the engine does not say e. So e is foretold, and what is
+//! foretold is tried: the run under picks e - 1 and the run under picks 2e - 1 have equal logs and answers exactly if
+//! every firing took the newest. For let e be foretold and d activities be enabled. If d divides e, both picks are
+//! d - 1 modulo d, the newest. If not, they differ modulo d by e, and two different activities are fired. So no picks
+//! are used that the engine itself has not shown to be newest first.
+//!
+//! To foretell e, a run in another order is enough where nothing is refused: the same activities fire in every order and
+//! send the same tokens (demand 3). Where a run is refused, what it fired before serves to foretell some more firings, and
+//! a run under these picks shows more.
+
+use std::collections::{BTreeMap, HashMap, HashSet};
+
+use crate::answer::Word;
+use crate::failure::Failure;
+use crate::graph::{Graph, LEAVE, OUT};
+use crate::history::{Firing, History, Touch};
+use crate::machine::{End, Machine, WHOLE};
+use crate::orders;
+use crate::records::{Tag, MOST_RECORDS};
+
+/// Newest first where up to 12 activities are enabled: 1 less than a number that 1 to 12 divide.
+const MOSTLY_NEWEST: u16 = 27_719;
+
+/// The picks of a whole run that fire the newest first.
+pub fn picks(machine: &Machine) -> Result<Vec<u8>, Failure> {
+    let mut enabled: Vec<u16> = Vec::new();
+    // Each round foretells one firing more at least.
+    for _ in 0..=MOST_RECORDS {
+        let (end, log) = machine.run_logged(&times(&enabled, 1), WHOLE);
+        if tried(&end) <= enabled.len() {
+            let (other_end, other_log) = machine.run_logged(&times(&enabled, 2), WHOLE);
+            if (end.answer, &log) == (other_end.answer, &other_log) {
+                return Ok(orders::bytes(enabled.iter().map(|e| e - 1)));
+            }
+        }
+        let history = History::of(machine, &end, &log)?;
+        enabled = Schedule::new(&machine.program.graph, &history).newest_first();
+    }
+    let text = "the picks for newest first are not newest first";
+    Err(Failure::Inconsistent(text.to_string()))
+}
+
+/// Picks that are 1 less than a multiple of the foretold numbers.
+fn times(enabled: &[u16], factor: u16) -> Vec<u8> {
+    let known = enabled.iter().map(|e| factor * e - 1);
+    let rest = std::iter::repeat(MOSTLY_NEWEST);
+    orders::bytes(known.chain(rest).take(MOST_RECORDS))
+}
+
+/// How many picks a run has used, that of a refused firing included.
+fn tried(end: &End) -> usize {
+    let refused = matches!(end.answer.word, Word::Refused(_)) && !end.answer.refused_at_once();
+    end.answer.firings + usize::from(refused)
+}
+
+/// The firings of a known run put in another order. Tokens are named by their places in the known ledger.
+struct Schedule<'h> {
+    graph: &'h Graph,
+    history: &'h History,
+    known: HashMap<Tag, &'h Firing>,
+    /// The tokens so far, in order of arrival, are so many.
+    arrived: usize,
+    /// Where each token arrived.
+    places: Vec<usize>,
+    /// The live operands of a tag, how many and the earliest place.
+    operands: HashMap<Tag, (u8, usize)>,
+    /// Enabled activities by place.
+    enabled: BTreeMap<usize, Tag>,
+    written: HashSet<i32>,
+    waiting: HashMap<i32, Vec<usize>>,
+}
+
+impl<'h> Schedule<'h> {
+    fn new(graph: &'h Graph, history: &'h History) -> Schedule<'h> {
+        let mut schedule = Schedule {
+            graph,
+            history,
+            known: history.firings.iter().map(|f| (f.tag, f)).collect(),
+            arrived: 0,
+            places: vec![0; history.tokens.len()],
+            operands: HashMap::new(),
+            enabled: BTreeMap::new(),
+            written: HashSet::new(),
+            waiting: HashMap::new(),
+        };
+        for input in 0..history.inputs {
+            schedule.arrive(input);
+            schedule.wake(input);
+        }
+        schedule
+    }
+
+    /// How many activities are enabled before each firing, up to the first that the known run did not make.
+    fn newest_first(mut self) -> Vec<u16> {
+        let mut counts = Vec::new();
+        while let Some((place, tag)) = self.enabled.pop_last() {
+            counts.push(self.enabled.len() as u16 + 1);
+            debug_assert!(place < self.arrived);
+            match self.known.get(&tag) {
+                Some(firing) => self.fire(firing),
+                None => break,
+            }
+        }
+        counts
+    }
+
+    fn fire(&mut self, firing: &Firing) {
+        for output in firing.outputs.clone() {
+            self.arrive(output);
+        }
+        match firing.touch {
+            Some(Touch::Written(cell, _)) => {
+                self.written.insert(cell);
+                for token in self.waiting.remove(&cell).unwrap_or_default() {
+                    self.wake(token);
+                }
+            }
+            Some(Touch::Read(cell) | Touch::Deferred(cell)) if !self.written.contains(&cell) => {
+                let waiting = self.waiting.entry(cell).or_default();
+                waiting.extend(firing.outputs.clone());
+                return;
+            }
+            _ => {}
+        }
+        for output in firing.outputs.clone() {
+            self.wake(output);
+        }
+    }
+
+    fn arrive(&mut self, token: usize) {
+        self.places[token] = self.arrived;
+        self.arrived += 1;
+    }
+
+    /// A token is live; its activity is enabled if it was the last operand to come.
+    fn wake(&mut self, token: usize) {
+        let tag = self.history.tokens[token].tag;
+        let place = self.places[token];
+        let Some(instruction) = self.graph.get(tag.instruction) else {
+            return;
+        };
+        let (count, first) = self.operands.entry(tag).or_insert((0, place));
+        *count += 1;
+        *first = place.min(*first);
+        let result = instruction.code == OUT || instruction.code == LEAVE && tag.path == 0;
+        if *count == instruction.operands() && !result {
+            self.enabled.insert(*first, tag);
+        }
+    }
+}
