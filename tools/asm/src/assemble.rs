@@ -8,14 +8,22 @@ use crate::statement::{Line, Statement, Target};
 use crate::words::words;
 use crate::{Files, GRAPH_RECORD, TOKEN_RECORD};
 
-/// Where an instruction stands in the text.
+/// Where a statement stands in the text. Line and column are counted from 1, the
+/// column in characters.
+#[derive(Clone, Debug, PartialEq, Eq)]
+pub struct Place {
+    pub line: usize,
+    pub column: usize,
+    pub span: Span,
+}
+
+/// Name and place of an instruction.
 #[derive(Clone, Debug, PartialEq, Eq)]
 pub struct Instruction {
     /// The typed name; `#` and the number where there is none, and `cell 3` for
     /// the STORE of a line that loads a cell.
     pub name: String,
-    pub line: usize,
-    pub span: Span,
+    pub place: Place,
     /// The targets, in the order of the destinations.
     pub arcs: Vec<Span>,
 }
@@ -25,8 +33,8 @@ pub struct Instruction {
 pub struct Program {
     pub files: Files,
     pub instructions: Vec<Instruction>,
-    /// The statement of each input.
-    pub inputs: Vec<Span>,
+    /// The place of each input.
+    pub inputs: Vec<Place>,
 }
 
 /// Assembles a text. Names may be used before they are defined. A text without
@@ -60,7 +68,11 @@ fn parse<'t>(text: &'t str, errors: &mut Vec<Error>) -> Vec<Line<'t>> {
     for (number, line) in (1..).zip(body.split_inclusive('\n')) {
         let mut faults = Vec::new();
         let words = words(line, offset, &mut faults);
-        lines.extend(parse_line(number, &words, &mut faults));
+        if let Some(mut parsed) = parse_line(number, &words, &mut faults) {
+            let before = &line[..parsed.span.start - offset];
+            parsed.column = before.chars().count() + 1;
+            lines.push(parsed);
+        }
         errors.extend(faults.into_iter().map(|fault| fault.on_line(number)));
         offset += line.len();
     }
@@ -122,8 +134,7 @@ impl Program {
         };
         self.instructions.push(Instruction {
             name,
-            line: line.number,
-            span: line.span.clone(),
+            place: line.place(),
             arcs,
         });
         self.files.graph.extend(record);
@@ -138,7 +149,7 @@ impl Program {
     }
 
     fn input(&mut self, line: &Line, record: [u8; TOKEN_RECORD]) -> Vec<Fault> {
-        self.inputs.push(line.span.clone());
+        self.inputs.push(line.place());
         self.files.inputs.extend(record);
         Vec::new()
     }

@@ -29,6 +29,7 @@ pub fn parse_line<'t>(
     });
     Some(Line {
         number,
+        column: 1,
         name,
         statement,
         span: span_of(words),

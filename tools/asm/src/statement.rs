@@ -1,5 +1,6 @@
 //! What a line says, with names that are not yet resolved.
 
+use crate::assemble::Place;
 use crate::errors::Span;
 use crate::operations::Operation;
 use crate::words::Word;
@@ -42,8 +43,20 @@ pub enum Statement<'t> {
 pub struct Line<'t> {
     /// The line's number, counted from 1.
     pub number: usize,
+    /// The column of its first word, counted from 1.
+    pub column: usize,
     pub name: Option<Word<'t>>,
     pub statement: Statement<'t>,
     /// From the first word to the last.
     pub span: Span,
+}
+
+impl Line<'_> {
+    pub fn place(&self) -> Place {
+        Place {
+            line: self.number,
+            column: self.column,
+            span: self.span.clone(),
+        }
+    }
 }

@@ -94,13 +94,18 @@ fn everything_has_its_place() {
     let program = read(text).unwrap();
     let names: Vec<&str> = program.instructions.iter().map(|i| &i.name[..]).collect();
     assert_eq!(names, ["a", "#1", "b", "cell 3"]);
-    let lines: Vec<usize> = program.instructions.iter().map(|i| i.line).collect();
-    assert_eq!(lines, [1, 2, 3, 4]);
+    let places = program.instructions.iter().map(|i| &i.place);
+    let places: Vec<_> = places.map(|place| (place.line, place.column)).collect();
+    assert_eq!(places, [(1, 1), (2, 3), (3, 1), (4, 1)]);
     let first = &program.instructions[0];
-    assert_eq!(&text[first.span.clone()], "a: COPY -> b b.0");
+    assert_eq!(&text[first.place.span.clone()], "a: COPY -> b b.0");
     let arcs: Vec<&str> = first.arcs.iter().map(|arc| &text[arc.clone()]).collect();
     assert_eq!(arcs, ["b", "b.0"]);
-    let inputs: Vec<&str> = program.inputs.iter().map(|s| &text[s.clone()]).collect();
+    let inputs: Vec<&str> = program
+        .inputs
+        .iter()
+        .map(|i| &text[i.span.clone()])
+        .collect();
     assert_eq!(inputs, ["cell 3 = -7", "cell 3 = -7", "input a = 1"]);
 }
 

@@ -29,17 +29,23 @@ pub fn picks(machine: &Machine) -> Result<Vec<u8>, Failure> {
     // Each round foretells one firing more at least.
     for _ in 0..=MOST_RECORDS {
         let (end, log) = machine.run_logged(&times(&enabled, 1), WHOLE);
-        if tried(&end) <= enabled.len() {
-            let (other_end, other_log) = machine.run_logged(&times(&enabled, 2), WHOLE);
-            if (end.answer, &log) == (other_end.answer, &other_log) {
-                return Ok(orders::bytes(enabled.iter().map(|e| e - 1)));
-            }
+        if shown(machine, &enabled, &end, &log) {
+            return Ok(orders::bytes(enabled.iter().map(|e| e - 1)));
         }
         let history = History::of(machine, &end, &log)?;
         enabled = Schedule::new(&machine.program.graph, &history).newest_first();
     }
     let text = "the picks for newest first are not newest first";
     Err(Failure::Inconsistent(text.to_string()))
+}
+
+/// Whether a run under foretold numbers is newest first, as the engine itself shows.
+fn shown(machine: &Machine, enabled: &[u16], end: &End, log: &[Tag]) -> bool {
+    if tried(end) > enabled.len() {
+        return false;
+    }
+    let (other_end, other_log) = machine.run_logged(&times(enabled, 2), WHOLE);
+    end.answer == other_end.answer && log == other_log
 }
 
 /// Picks that are 1 less than a multiple of the foretold numbers.
@@ -148,5 +154,44 @@ impl<'h> Schedule<'h> {
         if *count == instruction.operands() && !result {
             self.enabled.insert(*first, tag);
         }
+    }
+}
+
+#[cfg(test)]
+mod tests {
+    use super::*;
+    use crate::machine::Sizes;
+    use crate::program::Program;
+
+    /// Three are enabled, then two, then one.
+    const THREE: &str = "a: SINK\nb: SINK\nc: SINK\ninput a = 1\ninput b = 1\ninput c = 1\n";
+
+    fn is_shown(text: &str, enabled: &[u16]) -> bool {
+        let program = Program::typed("test", text.as_bytes().to_vec()).unwrap();
+        let sizes = Sizes {
+            capacity: 2048,
+            cells: 1024,
+        };
+        let machine = Machine::new(&program, sizes);
+        let (end, log) = machine.run_logged(&times(enabled, 1), WHOLE);
+        shown(&machine, enabled, &end, &log)
+    }
+
+    #[test]
+    fn numbers_foretold_wrong_are_noticed() {
+        assert!(is_shown(THREE, &[3, 2, 1]));
+        // A multiple takes the newest as well.
+        assert!(is_shown(THREE, &[6, 4, 1]));
+        for wrong in [[1, 1, 1], [2, 2, 1], [3, 1, 1], [4, 2, 1], [3, 3, 1]] {
+            assert!(!is_shown(THREE, &wrong), "{wrong:?}");
+        }
+        assert!(!is_shown(THREE, &[3, 2]));
+    }
+
+    #[test]
+    fn a_refused_firing_is_looked_at_too() {
+        let text = "a: COPY -> a\nb: COPY -> b\ninput a = 1\ninput b = 1\n";
+        assert!(is_shown(text, &[2]));
+        assert!(!is_shown(text, &[1]) && !is_shown(text, &[]));
     }
 }

@@ -4,7 +4,7 @@ use std::fs;
 use std::io::{self, Read};
 use std::path::Path;
 
-use asm::{disassemble, read, Files, Span};
+use asm::{disassemble, read, Files, Place, Span};
 
 use crate::diagnostics::{self, Finding};
 use crate::failure::Failure;
@@ -19,11 +19,11 @@ pub struct Program {
     pub files: Files,
     pub graph: Graph,
     instructions: Vec<asm::Instruction>,
-    inputs: Vec<Span>,
+    inputs: Vec<Place>,
 }
 
 impl Program {
-    /// Loads what a command is given. The faults of a text are shown.
+    /// Loads what a command is given.
     pub fn load(file: &str) -> Result<Program, Failure> {
         let path = Path::new(file);
         if file == "-" {
@@ -39,7 +39,8 @@ impl Program {
         Program::typed(file, bytes)
     }
 
-    fn typed(label: &str, bytes: Vec<u8>) -> Result<Program, Failure> {
+    /// A typed graph. Its faults are shown.
+    pub fn typed(label: &str, bytes: Vec<u8>) -> Result<Program, Failure> {
         let text = String::from_utf8(bytes).map_err(|_| {
             Failure::Wrong(format!(
                 "{label} is no text (UTF-8)\n  for the files of a graph give their folder, for a log `dayomlak replay`"
@@ -108,19 +109,21 @@ impl Program {
 
     /// Where an instruction stands in the text.
     pub fn span(&self, instruction: usize) -> Option<Span> {
-        self.instructions.get(instruction).map(|i| i.span.clone())
+        self.instructions
+            .get(instruction)
+            .map(|i| i.place.span.clone())
     }
 
     /// Where an arc of an instruction stands in the text, or else the instruction.
     pub fn arc_span(&self, instruction: usize, arc: usize) -> Option<Span> {
         let instruction = self.instructions.get(instruction)?;
-        let arc = instruction.arcs.get(arc).unwrap_or(&instruction.span);
+        let arc = instruction.arcs.get(arc).unwrap_or(&instruction.place.span);
         Some(arc.clone())
     }
 
     /// Where an input stands in the text.
     pub fn input_span(&self, input: usize) -> Option<Span> {
-        self.inputs.get(input).cloned()
+        self.inputs.get(input).map(|input| input.span.clone())
     }
 
     pub fn input_count(&self) -> usize {

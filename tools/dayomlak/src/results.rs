@@ -69,7 +69,7 @@ pub fn headline(end: &End, order: &str) -> String {
     let start = format!("{}: {}, {order}", answer.words(), answer.counts());
     match answer.word {
         Word::Hung => format!("{start}; nothing more can fire, and some tokens still wait"),
-        Word::Spent => format!("{start}; the budget is used up, and more can fire"),
+        Word::Spent => format!("{start}; more can fire"),
         Word::Completed | Word::Refused(_) => start,
     }
 }

@@ -3,7 +3,7 @@
 use std::collections::{HashSet, VecDeque};
 
 use crate::diagnostics::Finding;
-use crate::graph::{Destination, ENTER, LEAVE, NEXT};
+use crate::graph::{ENTER, LEAVE, NEXT, OUT, SWITCH};
 use crate::program::Program;
 use crate::records;
 
@@ -87,7 +87,7 @@ fn circle_warning(program: &Program, circle: &[usize]) -> Finding {
         program.arc_span(circle[from], arc.unwrap_or(0)),
         "this arc goes back under the same tag",
     )
-    .note("a token that goes round meets its own tag, and the run is refused by 9 in every order")
+    .note("a token that goes round meets its own tag: the run is then refused by 9, in every order")
     .note(format!(
         "let it go by a NEXT: `{}: ... -> n` and `n: NEXT -> {}`",
         program.name(circle[from] as u16),
@@ -126,21 +126,25 @@ fn unfed(program: &Program) -> Vec<(usize, Finding)> {
             .map(|port| format!("`{name}.{port}`"))
             .collect();
         let finding = Finding::warning(format!("nothing sends to {}", names.join(" and ")))
-            .at(program.span(number), "it never fires");
+            .at(program.span(number), unfed_words(instruction.code));
         found.push((number, finding));
     }
     found
+}
+
+fn unfed_words(code: u8) -> &'static str {
+    match code {
+        OUT => "no result comes here",
+        _ => "it never fires",
+    }
 }
 
 /// Instructions whose two destinations are one port. A SWITCH sends to one of them only.
 fn twins(program: &Program) -> Vec<(usize, Finding)> {
     let mut found = Vec::new();
     for (number, instruction) in program.graph.instructions.iter().enumerate() {
-        if let [Destination { .. }, _] = instruction.arcs() {
-            let (first, second) = (instruction.arcs()[0], instruction.arcs()[1]);
-            if first == second {
-                found.push((number, twin_warning(program, number, instruction.code)));
-            }
+        if matches!(instruction.arcs(), [first, second] if first == second) {
+            found.push((number, twin_warning(program, number, instruction.code)));
         }
     }
     found
@@ -149,13 +153,11 @@ fn twins(program: &Program) -> Vec<(usize, Finding)> {
 fn twin_warning(program: &Program, number: usize, code: u8) -> Finding {
     let name = program.name(number as u16);
     let finding = Finding::warning(format!("both destinations of `{name}` are the same port"));
-    if code == crate::graph::SWITCH {
-        finding
-            .at(program.arc_span(number, 1), "the same as the first")
-            .note("the value goes there whatever the condition is")
-    } else {
-        finding
-            .at(program.arc_span(number, 1), "the same as the first")
-            .note("two tokens come to one port, and its firing is refused by 9")
-    }
+    let note = match code {
+        SWITCH => "the value goes there whatever the condition is",
+        _ => "two tokens come to one port, and its firing is refused by 9",
+    };
+    finding
+        .at(program.arc_span(number, 1), "the same as the first")
+        .note(note)
 }
