@@ -4,7 +4,7 @@ use crate::errors::{Error, Errors, Fault, Span};
 use crate::names::{Names, STORE};
 use crate::operations::Constant;
 use crate::parse::parse_line;
-use crate::statement::{Line, Statement, Target};
+use crate::statement::{Line, Statement, Target, Typed};
 use crate::words::words;
 use crate::{Files, GRAPH_RECORD, TOKEN_RECORD};
 
@@ -83,24 +83,11 @@ impl Program {
     /// Appends the records of one line; answers what is wrong with it.
     fn write(&mut self, names: &mut Names, line: &Line) -> Vec<Fault> {
         match &line.statement {
-            Statement::Typed {
-                operation,
-                constant,
-                arcs,
-            } => {
-                let (ends, mut faults) = resolve_all(names, arcs);
-                if operation.constant == Constant::Site && faults.is_empty() {
-                    faults.extend(names.check_return(*constant, ends[1].0, line).err());
-                }
-                self.instruction(line, graph_record(operation.code, &ends, *constant));
-                faults
-            }
+            Statement::Typed(typed) => return self.typed(names, line, typed),
             Statement::Raw(record) => self.instruction(line, *record),
             Statement::Input(target, value) => match names.resolve(target) {
-                Ok((instruction, port)) => {
-                    self.input(line, input_record(instruction, port, *value))
-                }
-                Err(fault) => vec![fault],
+                Ok((number, port)) => self.input(line, input_record(number, port, *value)),
+                Err(fault) => return vec![fault],
             },
             Statement::RawInput(record) => self.input(line, *record),
             Statement::Cell(cell, value) => {
@@ -108,50 +95,56 @@ impl Program {
                 let store = self.instructions.len() as u16;
                 self.instruction(line, graph_record(STORE, &[], 0));
                 self.input(line, input_record(store, 0, *cell));
-                self.input(line, input_record(store, 1, *value))
+                self.input(line, input_record(store, 1, *value));
             }
             Statement::Picks(picks) => {
                 let bytes = picks.iter().flat_map(|pick| pick.to_le_bytes());
-                self.files.picks.extend::<Vec<u8>>(bytes.collect());
-                Vec::new()
+                self.files.picks.extend(bytes);
             }
-            Statement::Faulty(targets) => resolve_all(names, targets).1,
+            Statement::Faulty(targets) => return resolve_all(names, targets).1,
             Statement::FaultyInstruction(targets) => {
                 self.instruction(line, [0; GRAPH_RECORD]);
-                resolve_all(names, targets).1
+                return resolve_all(names, targets).1;
             }
         }
+        Vec::new()
     }
 
-    fn instruction(&mut self, line: &Line, record: [u8; GRAPH_RECORD]) -> Vec<Fault> {
-        let (name, arcs) = match &line.statement {
-            Statement::Cell(cell, _) => (format!("cell {cell}"), Vec::new()),
-            Statement::Typed { arcs, .. } => (
-                self.name(line),
-                arcs.iter().map(|arc| arc.word.span()).collect(),
-            ),
-            _ => (self.name(line), Vec::new()),
+    fn typed(&mut self, names: &mut Names, line: &Line, typed: &Typed) -> Vec<Fault> {
+        let (ends, mut faults) = resolve_all(names, &typed.arcs);
+        if typed.operation.constant == Constant::Site && faults.is_empty() {
+            let back = ends[1].0;
+            faults.extend(names.check_return(typed.constant, back, line).err());
+        }
+        let record = graph_record(typed.operation.code, &ends, typed.constant);
+        self.instruction(line, record);
+        faults
+    }
+
+    fn instruction(&mut self, line: &Line, record: [u8; GRAPH_RECORD]) {
+        let arcs = match &line.statement {
+            Statement::Typed(typed) => typed.arcs.iter().map(|arc| arc.word.span()).collect(),
+            _ => Vec::new(),
         };
         self.instructions.push(Instruction {
-            name,
+            name: self.name(line),
             place: line.place(),
             arcs,
         });
         self.files.graph.extend(record);
-        Vec::new()
     }
 
     fn name(&self, line: &Line) -> String {
-        match line.name {
-            Some(name) => name.text.to_string(),
-            None => format!("#{}", self.instructions.len()),
+        match (&line.statement, line.name) {
+            (Statement::Cell(cell, _), _) => format!("cell {cell}"),
+            (_, Some(name)) => name.text.to_string(),
+            (_, None) => format!("#{}", self.instructions.len()),
         }
     }
 
-    fn input(&mut self, line: &Line, record: [u8; TOKEN_RECORD]) -> Vec<Fault> {
+    fn input(&mut self, line: &Line, record: [u8; TOKEN_RECORD]) {
         self.inputs.push(line.place());
         self.files.inputs.extend(record);
-        Vec::new()
     }
 }
 

@@ -30,7 +30,7 @@ impl<'t> Names<'t> {
         };
         for line in lines {
             let operands = match &line.statement {
-                Statement::Typed { operation, .. } => Some(operation.operands),
+                Statement::Typed(typed) => Some(typed.operation.operands),
                 Statement::Raw(record) => Some(operand_count(record[0])),
                 Statement::Cell(..) => Some(operand_count(STORE)),
                 Statement::FaultyInstruction(_) => None,

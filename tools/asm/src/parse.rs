@@ -3,7 +3,7 @@
 use crate::errors::Fault;
 use crate::hints;
 use crate::operations::{by_name, is_arithmetic, with_constant, Constant, Operation};
-use crate::statement::{Line, Statement, Target};
+use crate::statement::{Line, Statement, Target, Typed};
 use crate::words::{span_of, Word};
 
 const ENTER_FORM: &str = "ENTER is `ENTER site N -> name.port return name`";
@@ -246,11 +246,11 @@ fn parse_instruction<'t>(first: Word<'t>, rest: &[Word<'t>]) -> Result<Statement
     let (operation, constant) = parse_constant(first, operation, head)?;
     let arcs = parse_arcs(first, &operation, tail)?;
     check_fan_out(first, &operation, tail, arcs.len())?;
-    Ok(Statement::Typed {
+    Ok(Statement::Typed(Typed {
         operation,
         constant,
         arcs,
-    })
+    }))
 }
 
 fn check_fan_out(

@@ -15,14 +15,17 @@ pub struct Target<'t> {
     pub word: Word<'t>,
 }
 
+/// A typed instruction. The target behind `return` is the last of its arcs.
+#[derive(Clone, Debug)]
+pub struct Typed<'t> {
+    pub operation: Operation,
+    pub constant: i32,
+    pub arcs: Vec<Target<'t>>,
+}
+
 #[derive(Clone, Debug)]
 pub enum Statement<'t> {
-    /// A typed instruction; the target behind `return` is the last of its arcs.
-    Typed {
-        operation: Operation,
-        constant: i32,
-        arcs: Vec<Target<'t>>,
-    },
+    Typed(Typed<'t>),
     /// A graph record in bytes.
     Raw([u8; GRAPH_RECORD]),
     Input(Target<'t>, i32),

@@ -20,9 +20,6 @@ use crate::machine::{End, Machine, WHOLE};
 use crate::orders;
 use crate::records::{Tag, MOST_RECORDS};
 
-/// Newest first where up to 12 activities are enabled: 1 less than a number that 1 to 12 divide.
-const MOSTLY_NEWEST: u16 = 27_719;
-
 /// The picks of a whole run that fire the newest first.
 pub fn picks(machine: &Machine) -> Result<Vec<u8>, Failure> {
     let mut enabled: Vec<u16> = Vec::new();
@@ -48,11 +45,38 @@ fn shown(machine: &Machine, enabled: &[u16], end: &End, log: &[Tag]) -> bool {
     end.answer == other_end.answer && log == other_log
 }
 
-/// Picks that are 1 less than a multiple of the foretold numbers.
+/// Picks that are 1 less than a multiple of the foretold numbers, and then a guess.
 fn times(enabled: &[u16], factor: u16) -> Vec<u8> {
     let known = enabled.iter().map(|e| factor * e - 1);
-    let rest = std::iter::repeat(MOSTLY_NEWEST);
+    let rest = std::iter::repeat(guess(enabled));
     orders::bytes(known.chain(rest).take(MOST_RECORDS))
+}
+
+/// A pick that takes the newest if about as many are enabled as were last: 1 less than a number that the last counts
+/// divide, as many as 16 bits allow. At the beginning, any count up to 12.
+fn guess(enabled: &[u16]) -> u16 {
+    let small = (1..=12).rev();
+    let counts = enabled
+        .iter()
+        .rev()
+        .map(|count| u32::from(*count))
+        .chain(small);
+    let mut multiple: u32 = 1;
+    for count in counts {
+        let next = multiple / common_divisor(multiple, count) * count;
+        if next > 65_536 {
+            break;
+        }
+        multiple = next;
+    }
+    (65_536 / multiple * multiple - 1) as u16
+}
+
+fn common_divisor(one: u32, other: u32) -> u32 {
+    match other {
+        0 => one,
+        _ => common_divisor(other, one % other),
+    }
 }
 
 /// How many picks a run has used, that of a refused firing included.
@@ -186,6 +210,14 @@ mod tests {
             assert!(!is_shown(THREE, &wrong), "{wrong:?}");
         }
         assert!(!is_shown(THREE, &[3, 2]));
+    }
+
+    #[test]
+    fn guesses_take_the_newest_of_the_last_counts() {
+        assert!((1..=12).all(|count| (guess(&[]) + 1) % count == 0));
+        let pick = u32::from(guess(&[5, 13, 40, 41])) + 1;
+        assert_eq!((pick % 41, pick % 40, pick % 13), (0, 0, 0));
+        assert_eq!(guess(&[2048, 2047]) % 2047, 2046);
     }
 
     #[test]

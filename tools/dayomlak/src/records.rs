@@ -34,6 +34,33 @@ impl Tag {
         calls
     }
 
+    /// The same instruction in the call of a site.
+    pub fn entered(self, site: u8) -> Tag {
+        Tag {
+            path: self.path << 16 | u64::from(site) << 8 | u64::from(self.iteration),
+            iteration: 0,
+            ..self
+        }
+    }
+
+    /// The same instruction where the innermost call came from, and that call's site.
+    pub fn left(self) -> (Tag, u8) {
+        let tag = Tag {
+            path: self.path >> 16,
+            iteration: self.path as u8,
+            ..self
+        };
+        (tag, (self.path >> 8) as u8)
+    }
+
+    /// The same instruction in the next iteration.
+    pub fn next(self) -> Tag {
+        Tag {
+            iteration: self.iteration.saturating_add(1),
+            ..self
+        }
+    }
+
     /// The tag that a record of the log names.
     pub fn logged(record: &[u8]) -> Tag {
         Tag {

@@ -9,7 +9,7 @@ use crate::records::{Tag, Token};
 use crate::refusals;
 
 /// The finding of a refused run; `None` for another one.
-pub fn explain(program: &Program, end: &End, sizes: Sizes) -> Option<Finding> {
+pub fn explain(program: &Program, end: &End, sizes: Sizes, order: &str) -> Option<Finding> {
     let Word::Refused(number) = end.answer.word else {
         return None;
     };
@@ -18,7 +18,7 @@ pub fn explain(program: &Program, end: &End, sizes: Sizes) -> Option<Finding> {
     } else if end.answer.refused_at_once() {
         at_once(program, number, &end.answer, sizes)
     } else {
-        Refused::of(program, end, number, sizes)?.finding()
+        Refused::of(program, end, number, sizes)?.finding(order)
     };
     Some(finding.note(format!("`dayomlak explain {number}` says more")))
 }
@@ -69,6 +69,7 @@ fn at_once(program: &Program, number: u16, answer: &Answer, sizes: Sizes) -> Fin
         9 => finding
             .at(program.input_span(place), "a second token for this port")
             .note("an earlier input goes to the same port"),
+        1 if program.files.graph.is_empty() => finding.note("there is no instruction"),
         _ => finding.note(meaning),
     }
 }
@@ -110,7 +111,7 @@ impl<'p> Refused<'p> {
         })
     }
 
-    fn finding(&self) -> Finding {
+    fn finding(&self, order: &str) -> Finding {
         let tag = self.program.tag(&self.tag);
         let title = format!(
             "{}, in firing {}, of `{tag}`",
@@ -124,7 +125,7 @@ impl<'p> Refused<'p> {
                 self.instruction.words(),
                 self.operand_words()
             ))
-            .note(format!("before it: {}", self.answer.counts()))
+            .note(format!("before it: {}, {order}", self.answer.counts()))
     }
 
     fn operand_words(&self) -> String {
@@ -218,62 +219,39 @@ impl<'p> Refused<'p> {
         }
     }
 
-    /// The ends of the arcs that this firing sends along, by the rules of tags.
+    /// The ends of the arcs that this firing sends along, by the rules of tags; `None` where nothing is sent.
     fn ends(&self) -> Vec<Option<(Tag, u8)>> {
-        let tag = self.tag;
-        let to = |tag: Tag, arc: &Destination| {
-            let instruction = arc.instruction;
-            Some((Tag { instruction, ..tag }, arc.port))
-        };
-        let arcs = self.instruction.arcs();
+        let arcs = self.instruction.arcs().iter();
         match self.instruction.code {
-            LEAVE => vec![self.back().and_then(|arc| {
-                let iteration = tag.path as u8;
-                let path = tag.path >> 16;
-                to(
-                    Tag {
-                        path,
-                        iteration,
-                        ..tag
-                    },
-                    &arc,
-                )
-            })],
+            LEAVE => vec![self.back()],
             ENTER => {
-                let path = tag.path << 16
-                    | (self.instruction.constant as u64) << 8
-                    | u64::from(tag.iteration);
-                let entered = Tag {
-                    path,
-                    iteration: 0,
-                    ..tag
-                };
-                arcs.iter().map(|arc| to(entered, arc)).collect()
+                let tag = self.tag.entered(self.instruction.constant as u8);
+                arcs.map(|arc| Some(end(tag, arc))).collect()
             }
-            NEXT => {
-                let iteration = tag.iteration.saturating_add(1);
-                arcs.iter()
-                    .map(|arc| to(Tag { iteration, ..tag }, arc))
-                    .collect()
-            }
+            NEXT => arcs.map(|arc| Some(end(self.tag.next(), arc))).collect(),
             SWITCH => {
                 let taken = usize::from(self.operands.get(1) == Some(&0));
-                let side = |(number, arc)| if number == taken { to(tag, arc) } else { None };
-                arcs.iter().enumerate().map(side).collect()
+                let side = |(side, arc)| (side == taken).then(|| end(self.tag, arc));
+                arcs.enumerate().map(side).collect()
             }
-            _ => arcs.iter().map(|arc| to(tag, arc)).collect(),
+            _ => arcs.map(|arc| Some(end(self.tag, arc))).collect(),
         }
     }
 
     /// Where the call that this LEAVE ends returns to.
-    fn back(&self) -> Option<Destination> {
-        let site = (self.tag.path >> 8) as u8;
+    fn back(&self) -> Option<(Tag, u8)> {
+        let (caller, site) = self.tag.left();
         let enter = self.program.graph.get(self.program.graph.enter(site)?)?;
-        let back = i32::from(enter.destinations.get(1)?.instruction) + self.instruction.constant;
-        Some(Destination {
-            instruction: u16::try_from(back).ok()?,
-            port: 0,
-        })
+        let back = enter.destinations.get(1)?.instruction;
+        let number = i32::from(back) + self.instruction.constant;
+        let instruction = u16::try_from(number).ok()?;
+        Some((
+            Tag {
+                instruction,
+                ..caller
+            },
+            0,
+        ))
     }
 
     fn second_write(&self, cell: i32) -> String {
@@ -313,4 +291,10 @@ impl<'p> Refused<'p> {
             self.instruction.constant
         )
     }
+}
+
+/// The end of an arc under a tag.
+fn end(tag: Tag, arc: &Destination) -> (Tag, u8) {
+    let instruction = arc.instruction;
+    (Tag { instruction, ..tag }, arc.port)
 }

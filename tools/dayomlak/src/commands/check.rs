@@ -15,7 +15,7 @@ pub fn check(args: &File) -> Result<u8, Failure> {
     let machine = Machine::new(&program, LARGEST);
     // With a budget of 0 nothing is fired; only what comes before the first firing is refused.
     let end = machine.run(&program.files.picks, 0);
-    if let Some(finding) = refused::explain(&program, &end, machine.sizes) {
+    if let Some(finding) = refused::explain(&program, &end, machine.sizes, "nothing fired") {
         diagnostics::complain(&program.label, &program.text, &[finding]);
         return Ok(failure::NOT_COMPLETED);
     }

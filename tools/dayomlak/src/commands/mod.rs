@@ -26,7 +26,7 @@ fn load(file: &str) -> Result<Program, Failure> {
 /// The answer of a run in words: why it was refused, or its first line.
 fn answer(machine: &Machine, end: &End, order: &str) -> String {
     let program = machine.program;
-    match refused::explain(program, end, machine.sizes) {
+    match refused::explain(program, end, machine.sizes, order) {
         Some(finding) => diagnostics::plain(&program.label, &program.text, &[finding]),
         None => results::headline(end, order) + "\n",
     }

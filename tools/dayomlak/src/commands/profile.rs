@@ -19,22 +19,23 @@ pub fn profile(args: &Profile) -> Result<u8, Failure> {
     let program = load(&args.file.file)?;
     let machine = Machine::new(&program, args.buffers.sizes());
     let plot = plotter::plot(&machine, args.firing.order, args.firing.budget)?;
+    let mut text = String::new();
     match &args.output {
         Some(path) => {
-            let picture = picture(&program, &plot);
-            let svg = curves::svg(&picture);
-            let svg =
-                svg.map_err(|error| Failure::Inconsistent(format!("the picture: {error}")))?;
+            let svg = curves::svg(&picture(&program, &plot));
+            let svg = svg.map_err(|e| Failure::Inconsistent(format!("the picture: {e}")))?;
             output::write(path, svg.as_bytes())?;
         }
-        None => {
-            let text = table(&plot.steps)
-                + &profiled(&plot)
-                + "\n"
-                + &answer(&machine, &plot.end, &plot.order);
-            output::print(text.as_bytes())?;
-        }
+        None => text += &table(&plot.steps),
     }
+    // The run may be an earlier one, from the cache: its date says so.
+    let order = format!("{}, {}", plot.order, pictures::date(plot.seconds));
+    text += &format!(
+        "{}\n{}",
+        profiled(&plot),
+        answer(&machine, &plot.end, &order)
+    );
+    output::print(text.as_bytes())?;
     Ok(status(&plot.end))
 }
 

@@ -1,5 +1,7 @@
 //! `dayomlak trace`.
 
+use std::ops::Range;
+
 use super::{answer, load, status};
 use crate::cli::Trace;
 use crate::failure::Failure;
@@ -7,14 +9,6 @@ use crate::history::{Firing, History, Touch};
 use crate::machine::Machine;
 use crate::output;
 use crate::program::Program;
-
-/// The columns of a line but the last.
-struct Columns {
-    number: String,
-    activity: String,
-    operation: String,
-    operands: String,
-}
 
 pub fn trace(args: &Trace) -> Result<u8, Failure> {
     let program = load(&args.file.file)?;
@@ -37,57 +31,39 @@ pub fn trace(args: &Trace) -> Result<u8, Failure> {
     Ok(status(&end))
 }
 
-fn lines(program: &Program, history: &History, shown: std::ops::Range<usize>) -> String {
-    let rows: Vec<(Columns, String)> = shown
-        .map(|number| {
-            let firing = &history.firings[number];
-            (
-                columns(program, history, number, firing),
-                effects(program, history, firing),
-            )
-        })
-        .collect();
-    let width = |part: fn(&Columns) -> &String| {
-        rows.iter()
-            .map(|(c, _)| part(c).chars().count())
-            .max()
-            .unwrap_or(0)
+fn lines(program: &Program, history: &History, shown: Range<usize>) -> String {
+    let row = |number: usize| {
+        let firing = &history.firings[number];
+        let columns = columns(program, history, number, firing);
+        (columns, effects(program, history, firing))
     };
-    let widths = [
-        width(|c| &c.number),
-        width(|c| &c.activity),
-        width(|c| &c.operation),
-        width(|c| &c.operands),
-    ];
+    let rows: Vec<([String; 4], String)> = shown.map(row).collect();
+    let width = |column: usize| {
+        let widths = rows.iter().map(|(columns, _)| columns[column].len());
+        widths.max().unwrap_or(0)
+    };
+    let [w0, w1, w2, w3] = [0, 1, 2, 3].map(width);
     let mut text = String::new();
-    for (c, effects) in &rows {
-        let line = format!(
-            "{:>w0$}  {:w1$}  {:w2$}  {:>w3$}  {effects}",
-            c.number,
-            c.activity,
-            c.operation,
-            c.operands,
-            w0 = widths[0],
-            w1 = widths[1],
-            w2 = widths[2],
-            w3 = widths[3],
-        );
+    for ([number, activity, operation, operands], effects) in &rows {
+        let line =
+            format!("{number:>w0$}  {activity:w1$}  {operation:w2$}  {operands:>w3$}  {effects}");
         text += line.trim_end();
         text.push('\n');
     }
     text
 }
 
-fn columns(program: &Program, history: &History, number: usize, firing: &Firing) -> Columns {
+/// Number, activity, operation and operands.
+fn columns(program: &Program, history: &History, number: usize, firing: &Firing) -> [String; 4] {
     let operand = |place: &usize| history.tokens[*place].value.to_string();
     let operands: Vec<String> = firing.operands.iter().map(operand).collect();
     let instruction = program.graph.get(firing.tag.instruction);
-    Columns {
-        number: (number + 1).to_string(),
-        activity: program.tag(&firing.tag),
-        operation: instruction.map_or(String::new(), |i| i.words()),
-        operands: operands.join(" "),
-    }
+    [
+        (number + 1).to_string(),
+        program.tag(&firing.tag),
+        instruction.map_or(String::new(), |i| i.words()),
+        operands.join(" "),
+    ]
 }
 
 /// What the firing does: its outputs, and the cell that it touches.
