@@ -1,6 +1,8 @@
 //! The records of a graph, read for names, pictures and warnings. A graph that the engine refuses is read too, as far as it
 //! goes.
 
+use std::collections::BTreeSet;
+
 use asm::{by_code, Operation, GRAPH_RECORD};
 
 pub const SINK: u8 = 2;
@@ -66,6 +68,14 @@ impl Instruction {
         }
     }
 
+    /// Of an ENTER, where it sends to and where the call returns to.
+    fn call(&self) -> Option<&[Destination; 2]> {
+        match self.code {
+            ENTER => self.destinations.first_chunk(),
+            _ => None,
+        }
+    }
+
     /// The operation with its constant, as it is typed.
     pub fn words(&self) -> String {
         let Some(operation) = self.operation else {
@@ -111,17 +121,62 @@ impl Graph {
 
     /// Where tokens that LEAVE in any call may go.
     pub fn returns(&self) -> Vec<Destination> {
-        let of = |code: u8| self.instructions.iter().filter(move |i| i.code == code);
-        let backs = of(ENTER).filter_map(|enter| enter.destinations.get(1));
-        backs
-            .flat_map(|back| of(LEAVE).map(move |leave| (back, leave.constant)))
-            .filter_map(|(back, constant)| {
-                let instruction = i32::from(back.instruction).checked_add(constant)?;
-                Some(Destination {
-                    instruction: u16::try_from(instruction).ok()?,
-                    port: 0,
-                })
-            })
+        let returns = (0..self.instructions.len()).flat_map(|number| self.returns_of(number));
+        let to = |instruction| Destination {
+            instruction,
+            port: 0,
+        };
+        returns.map(to).collect()
+    }
+
+    /// The instructions that the call of an ENTER may return to: its return instruction plus the constant of each LEAVE
+    /// that can be reached in the call.
+    pub fn returns_of(&self, number: usize) -> BTreeSet<u16> {
+        let Some([first, back]) = self.instructions.get(number).and_then(Instruction::call) else {
+            return BTreeSet::new();
+        };
+        let reached = self.reached(first.instruction);
+        let constants = reached.into_iter().filter_map(|number| self.leave(number));
+        constants
+            .filter_map(|constant| self.behind(back.instruction, constant))
             .collect()
+    }
+
+    /// The constant of a LEAVE.
+    fn leave(&self, number: u16) -> Option<i32> {
+        let instruction = self.get(number).filter(|i| i.code == LEAVE)?;
+        Some(instruction.constant)
+    }
+
+    /// The instruction that stands so many behind another, if there is one.
+    fn behind(&self, instruction: u16, constant: i32) -> Option<u16> {
+        let number = i32::from(instruction).checked_add(constant)?;
+        let number = u16::try_from(number).ok()?;
+        self.get(number).map(|_| number)
+    }
+
+    /// What can be reached from an instruction within its call. An inner call is passed over: it may return by any LEAVE
+    /// of the graph.
+    fn reached(&self, from: u16) -> BTreeSet<u16> {
+        let leaves: BTreeSet<i32> = (0..self.instructions.len() as u16)
+            .filter_map(|number| self.leave(number))
+            .collect();
+        let next = |number: u16| -> Vec<u16> {
+            match self.get(number).map(|i| (i.call(), i.arcs())) {
+                Some((Some([_, back]), _)) => {
+                    let back = back.instruction;
+                    let ends = leaves.iter().filter_map(|leave| self.behind(back, *leave));
+                    ends.collect()
+                }
+                Some((None, arcs)) => arcs.iter().map(|arc| arc.instruction).collect(),
+                None => Vec::new(),
+            }
+        };
+        let mut reached = BTreeSet::from([from]);
+        let mut open = vec![from];
+        while let Some(number) = open.pop() {
+            open.extend(next(number).into_iter().filter(|end| reached.insert(*end)));
+        }
+        reached
     }
 }

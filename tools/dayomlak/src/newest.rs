@@ -214,7 +214,7 @@ mod tests {
 
     #[test]
     fn guesses_take_the_newest_of_the_last_counts() {
-        assert!((1..=12).all(|count| (guess(&[]) + 1) % count == 0));
+        assert!((1..=12).all(|count| guess(&[]) % count == count - 1));
         let pick = u32::from(guess(&[5, 13, 40, 41])) + 1;
         assert_eq!((pick % 41, pick % 40, pick % 13), (0, 0, 0));
         assert_eq!(guess(&[2048, 2047]) % 2047, 2046);

@@ -34,15 +34,9 @@ pub fn which(program: &Program, end: &End) -> Option<String> {
 }
 
 fn not_a_firing(number: u16, answer: &Answer) -> Finding {
-    let title = format!("{}: {}", answer.words(), answer.counts());
-    let note = match number {
-        20 => format!(
-            "record {} of the log (counted from 0) is the first that cannot be fired",
-            answer.place
-        ),
-        _ => "the profile has no record left for the next step".to_string(),
-    };
-    Finding::error(title).note(note)
+    let finding = Finding::error(format!("{}: {}", answer.words(), answer.counts()));
+    let meaning = refusals::by_number(number).map_or("", |refusal| refusal.given_when);
+    finding.note(meaning)
 }
 
 /// Refused before its inputs were written: the place is that of a graph record or of an input.

@@ -2,14 +2,14 @@
 
 use std::fs;
 
-use super::{answer, load, report, status};
+use super::{answer, left, load, status};
 use crate::answer::Word;
 use crate::cli::{Log, Replay};
 use crate::failure::Failure;
-use crate::machine::Machine;
-use crate::output;
+use crate::machine::{End, Machine};
 use crate::program::Program;
 use crate::records::{Tag, LOGGED};
+use crate::{diagnostics, output, refused};
 
 pub fn log(args: &Log) -> Result<u8, Failure> {
     let program = load(&args.file.file)?;
@@ -31,12 +31,23 @@ pub fn replay(args: &Replay) -> Result<u8, Failure> {
         output::print(&end.text()?)?;
         return Ok(status(&end));
     }
-    let mut text = report(&machine, &end, "as logged");
-    if end.answer.word == Word::Refused(20) {
-        text += &format!("{}\n", named(&program, &log, end.answer.place));
-    }
+    let text = replayed(&machine, &end, &log) + &left(&machine, &end);
     output::print(text.as_bytes())?;
     Ok(status(&end))
+}
+
+/// The answer of a replay in words. Only here is it known what a record of the log names.
+fn replayed(machine: &Machine, end: &End, log: &[u8]) -> String {
+    let order = "as logged";
+    let program = machine.program;
+    match refused::explain(program, end, machine.sizes, order) {
+        Some(mut finding) if end.answer.word == Word::Refused(20) => {
+            let named = named(program, log, end.answer.place);
+            finding.notes.insert(0, named);
+            diagnostics::plain(&program.label, &program.text, &[finding])
+        }
+        _ => answer(machine, end, order),
+    }
 }
 
 /// What the record at fault names.

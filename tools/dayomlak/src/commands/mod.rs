@@ -34,12 +34,13 @@ fn answer(machine: &Machine, end: &End, order: &str) -> String {
 
 /// The answer and what the run left.
 fn report(machine: &Machine, end: &End, order: &str) -> String {
-    let mut text = answer(machine, end, order);
-    for line in results::lines(machine.program, end) {
-        text += &line;
-        text.push('\n');
-    }
-    text
+    answer(machine, end, order) + &left(machine, end)
+}
+
+/// What the run left, a line each.
+fn left(machine: &Machine, end: &End) -> String {
+    let lines = results::lines(machine.program, end).into_iter();
+    lines.map(|line| line + "\n").collect()
 }
 
 /// The exit status of an answer.

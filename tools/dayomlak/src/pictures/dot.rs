@@ -105,18 +105,16 @@ fn node(name: &str, number: usize, instruction: &Instruction) -> String {
     )
 }
 
-/// The arcs of an instruction. Those of a NEXT go to the next iteration, and the second of an ENTER is where the call
-/// returns to.
+/// The arcs of an instruction, and where the call of an ENTER returns to. The arcs of a NEXT go to the next iteration.
 fn edges(program: &Program, number: usize, instruction: &Instruction) -> String {
     let mut text = String::new();
-    for (side, arc) in instruction.destinations.iter().enumerate() {
+    for (side, arc) in instruction.arcs().iter().enumerate() {
         let tail = match instruction.code {
             SWITCH => ["T", "F"][side],
             _ => "",
         };
-        let style = match (instruction.code, side) {
-            (NEXT, _) => ", color=\"#2b6cb0\", penwidth=1.6, constraint=false",
-            (ENTER, 1) => ", style=dashed, color=\"#8a6fc1\"",
+        let style = match instruction.code {
+            NEXT => ", color=\"#2b6cb0\", penwidth=1.6, constraint=false",
             _ => "",
         };
         let head = port_words(program, arc.instruction, arc.port);
@@ -124,6 +122,13 @@ fn edges(program: &Program, number: usize, instruction: &Instruction) -> String 
         let _ = writeln!(
             text,
             "  n{number} -> n{to} [taillabel=\"{tail}\", headlabel=\"{head}\"{style}];"
+        );
+    }
+    for to in program.graph.returns_of(number) {
+        let head = port_words(program, to, 0);
+        let _ = writeln!(
+            text,
+            "  n{number} -> n{to} [headlabel=\"{head}\", style=dashed, color=\"#8a6fc1\"];"
         );
     }
     text
