@@ -120,3 +120,45 @@ fn firings(graph: &Graph, inputs: usize, log: &[Tag], tokens: &[Token]) -> Optio
     let deferred = tokens.iter().filter(|token| token.state == State::Deferred);
     (used == tokens.len() && waiting == deferred.count()).then_some(firings)
 }
+
+#[cfg(test)]
+mod tests {
+    use super::*;
+    use crate::machine::{Sizes, WHOLE};
+    use crate::program::Program;
+
+    const TEXT: &str = "read: FETCH -> plus\nplus: ADD 1 -> out\nout: OUT\nwrite: STORE\n\
+        input read = 3\ninput write.0 = 3\ninput write.1 = 7\n";
+
+    /// The run of the text, with its log changed.
+    fn history(change: impl FnOnce(&mut Vec<Tag>)) -> Result<History, Failure> {
+        let program = Program::typed("test", TEXT.as_bytes().to_vec())?;
+        let sizes = Sizes {
+            capacity: 2048,
+            cells: 1024,
+        };
+        let machine = Machine::new(&program, sizes);
+        let (end, mut log) = machine.run_logged(&[], WHOLE);
+        change(&mut log);
+        History::of(&machine, &end, &log)
+    }
+
+    #[test]
+    fn a_deferred_read_and_its_write() {
+        let history = history(|_| {}).unwrap();
+        let touches: Vec<_> = history.firings.iter().map(|f| f.touch.clone()).collect();
+        let woken = Some(Touch::Written(3, vec![3]));
+        assert_eq!(touches, [Some(Touch::Deferred(3)), woken, None]);
+        let outputs: Vec<_> = history.firings.iter().map(|f| f.outputs.clone()).collect();
+        assert_eq!(outputs, [3..4, 4..4, 4..5]);
+    }
+
+    #[test]
+    fn a_log_of_another_run_is_noticed() {
+        assert!(history(|log| log.truncate(2)).is_err());
+        assert!(history(|log| log.swap(0, 2)).is_err());
+        assert!(history(|log| log[0].instruction = 2).is_err());
+        assert!(history(|log| log[1].instruction = 9).is_err());
+        assert!(history(|log| log[2].iteration = 1).is_err());
+    }
+}

@@ -106,20 +106,18 @@ impl<'p> Refused<'p> {
     }
 
     fn finding(&self, order: &str) -> Finding {
-        let tag = self.program.tag(&self.tag);
-        let title = format!(
-            "{}, in firing {}, of `{tag}`",
-            self.answer.words(),
-            self.answer.firings + 1
-        );
-        let finding = self.reason(Finding::error(title));
-        finding
-            .note(format!(
-                "{} with {}",
-                self.instruction.words(),
-                self.operand_words()
-            ))
+        let words = self.answer.words();
+        let (firing, tag) = (self.answer.firings + 1, self.program.tag(&self.tag));
+        let finding = Finding::error(format!("{words}, in firing {firing}, of `{tag}`"));
+        let operands = self.operand_words();
+        self.reason(finding)
+            .note(format!("{} with {operands}", self.instruction.words()))
             .note(format!("before it: {}, {order}", self.answer.counts()))
+    }
+
+    /// What the table says to do.
+    fn what_to_do(&self) -> &'static str {
+        refusals::by_number(self.number).map_or("", |refusal| refusal.what_to_do)
     }
 
     fn operand_words(&self) -> String {
@@ -134,44 +132,42 @@ impl<'p> Refused<'p> {
 
     /// The place in the text, what stood in the way there, and what to do.
     fn reason(&self, finding: Finding) -> Finding {
-        let at = usize::from(self.tag.instruction);
-        let here = self.program.span(at);
+        if self.number == 9 {
+            return self.second_token(finding);
+        }
+        let here = self.program.span(usize::from(self.tag.instruction));
+        finding.at(here, self.obstacle()).note(self.what_to_do())
+    }
+
+    /// What stood in the way.
+    fn obstacle(&self) -> String {
         let first = self.operands.first().copied().unwrap_or(0);
         match self.number {
-            8 => finding
-                .at(here, self.full())
-                .note("raise --capacity, or let loops go round less often"),
-            9 => self.second_token(finding),
-            10 => {
-                let last = self.sizes.cells as i64 - 1;
-                finding.at(
-                    here,
-                    format!("there is no cell {first}: the cells are 0 to {last}"),
-                )
+            8 => self.full(),
+            10 => self.no_cell(first),
+            11 => self.second_write(first),
+            12 => self.out_of_range(),
+            13 => "the next iteration would be 256, and 255 is the last".to_string(),
+            14 => {
+                let calls = count(self.tag.calls().len(), "call");
+                format!("{calls} deep already, and that is the most")
             }
-            11 => finding
-                .at(here, self.second_write(first))
-                .note("a cell is written once; give each write a cell of its own"),
-            12 => finding.at(here, self.out_of_range()),
-            13 => finding.at(here, "the next iteration would be 256, and 255 is the last"),
-            14 => finding.at(
-                here,
-                format!(
-                    "{} deep already, and that is the most",
-                    count(self.tag.calls().len(), "call")
-                ),
-            ),
-            17 => finding.at(here, self.no_return()),
-            _ => finding.at(here, ""),
+            17 => self.no_return(),
+            _ => String::new(),
         }
     }
 
     fn full(&self) -> String {
         let needed = count(self.instruction.outputs(), "token");
-        format!(
-            "it sends {needed}, and {} of {} records are used",
-            self.answer.tokens, self.sizes.capacity
-        )
+        let (used, capacity) = (self.answer.tokens, self.sizes.capacity);
+        format!("it sends {needed}, and {used} of {capacity} records are used")
+    }
+
+    fn no_cell(&self, cell: i32) -> String {
+        match self.sizes.cells {
+            0 => format!("there is no cell {cell}: there are no cells"),
+            cells => format!("there is no cell {cell}: the cells are 0 to {}", cells - 1),
+        }
     }
 
     /// The arc whose end had a token already.
