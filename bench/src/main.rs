@@ -158,12 +158,11 @@ impl Lent {
         self.ledger.fill(0xa5);
         self.cells.fill(0xa5);
         let answer = self.second();
-        let word = match answer.outcome {
-            Outcome::Completed => engine::COMPLETED,
-            Outcome::Hung => engine::HUNG,
-            outcome => panic!("the work ends with {outcome:?}"),
-        };
-        let due = engine::packed(word, answer.firings, answer.tokens, 0);
+        assert!(
+            matches!(answer.outcome, Outcome::Completed | Outcome::Hung),
+            "the work comes to rest"
+        );
+        let due = engine::packed_answer(&answer);
         assert_eq!(packed, due, "the engine answers otherwise");
         assert!(
             ledger == self.ledger && cells == self.cells,

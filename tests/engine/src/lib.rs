@@ -1,6 +1,8 @@
 //! The engine under test. Its answers stay packed as the C functions give them,
 //! so that a comparison sees every bit.
 
+use second::{Answer, Outcome};
+
 /// The word of a completed run in a packed answer; a refused run has the
 /// refusal's number.
 pub const COMPLETED: u64 = 0;
@@ -28,6 +30,20 @@ extern "C" {
         cells_len: usize,
     ) -> u64;
 
+    fn ttda_profile(
+        graph: *const u8,
+        graph_len: usize,
+        inputs: *const u8,
+        inputs_len: usize,
+        ledger: *mut u8,
+        ledger_len: usize,
+        cells: *mut u8,
+        cells_len: usize,
+        profile: *mut u8,
+        profile_len: usize,
+        records: *mut u64,
+    ) -> u64;
+
     fn ttda_list(ledger: *const u8, ledger_len: usize, out: *mut u8, out_len: usize) -> u64;
 
     fn ttda_print(
@@ -43,12 +59,23 @@ extern "C" {
 
 /// Whether a word is the number of a refusal. Numbers 15 and 16 have left the table.
 pub fn is_refusal(word: u64) -> bool {
-    matches!(word, 1..=14 | 17)
+    matches!(word, 1..=14 | 17..=18)
 }
 
 /// The packed answer of a word with its firings, tokens and place.
 pub fn packed(word: u64, firings: usize, tokens: usize, place: usize) -> u64 {
     word + ((firings as u64) << 16) + ((tokens as u64) << 32) + ((place as u64) << 48)
+}
+
+/// The packed form of the second emulator's answer.
+pub fn packed_answer(answer: &Answer) -> u64 {
+    let word = match answer.outcome {
+        Outcome::Completed => COMPLETED,
+        Outcome::Hung => HUNG,
+        Outcome::Spent => SPENT,
+        Outcome::Refused(refusal) => u64::from(refusal.number),
+    };
+    packed(word, answer.firings, answer.tokens, answer.place())
 }
 
 /// The parts of a packed answer: word, firings, tokens and place.
@@ -83,6 +110,35 @@ pub fn run(
             cells.len(),
         )
     }
+}
+
+/// The engine's profile in ideal steps; the packed answer and the number of records.
+pub fn profile(
+    graph: &[u8],
+    inputs: &[u8],
+    ledger: &mut [u8],
+    cells: &mut [u8],
+    profile: &mut [u8],
+) -> (u64, u64) {
+    // A number that no profile has, so that one left unwritten shows.
+    let mut records = u64::MAX;
+    // SAFETY: as in `run`.
+    let answer = unsafe {
+        ttda_profile(
+            graph.as_ptr(),
+            graph.len(),
+            inputs.as_ptr(),
+            inputs.len(),
+            ledger.as_mut_ptr(),
+            ledger.len(),
+            cells.as_mut_ptr(),
+            cells.len(),
+            profile.as_mut_ptr(),
+            profile.len(),
+            &mut records,
+        )
+    };
+    (answer, records)
 }
 
 /// Sorts the used records of a ledger into `out`; answers 0 or 7.

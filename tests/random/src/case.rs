@@ -1,4 +1,4 @@
-//! One run of the engine beside the same run of the second emulator.
+//! One call of the engine beside the same call of the second emulator.
 
 use std::time::{Duration, Instant};
 
@@ -6,10 +6,19 @@ use second::{Answer, Outcome, Refusal};
 
 use crate::prng::Prng;
 
-/// What is lent to a run. Ledger and cells hold random bytes by a seed.
+/// What is called.
+#[derive(Clone, Copy, Debug)]
+pub enum Call {
+    Run,
+    /// A profile of so many bytes; picks and budget are not lent.
+    Profile(usize),
+}
+
+/// What is lent to a call. The buffers that it writes hold random bytes by a seed.
 #[derive(Clone)]
 pub struct Case {
     pub kind: &'static str,
+    pub call: Call,
     pub graph: Vec<u8>,
     pub inputs: Vec<u8>,
     pub picks: Vec<u8>,
@@ -24,6 +33,9 @@ pub struct Left {
     pub answer: Answer,
     pub ledger: Vec<u8>,
     pub cells: Vec<u8>,
+    pub profile: Vec<u8>,
+    /// The number of records of the profile.
+    pub records: usize,
     pub listing: Vec<u8>,
 }
 
@@ -80,17 +92,6 @@ impl Guarded {
     }
 }
 
-/// The engine's form of an answer.
-pub fn packed(answer: &Answer) -> u64 {
-    let word = match answer.outcome {
-        Outcome::Completed => engine::COMPLETED,
-        Outcome::Hung => engine::HUNG,
-        Outcome::Spent => engine::SPENT,
-        Outcome::Refused(refusal) => u64::from(refusal.number),
-    };
-    engine::packed(word, answer.firings, answer.tokens, answer.place())
-}
-
 /// The answer of a number, by the words of ttda.h: an unknown word is no answer's,
 /// nor is a place where nothing is refused.
 fn answer_of(number: u64) -> Option<Answer> {
@@ -112,60 +113,134 @@ fn answer_of(number: u64) -> Option<Answer> {
     })
 }
 
-/// Runs both and compares answer, ledger, cells, listing and printed lines.
+/// The buffers that a call writes.
+struct Buffers<B> {
+    ledger: B,
+    cells: B,
+    profile: B,
+}
+
+impl Case {
+    /// Whether inputs, ledger and cells are whole records and not too many.
+    pub fn stores_fit(&self) -> bool {
+        [
+            (self.inputs.len(), 20, 2048),
+            (self.ledger_bytes, 20, 2048),
+            (self.cells_bytes, 8, 1024),
+        ]
+        .iter()
+        .all(|&(bytes, record, most)| bytes % record == 0 && bytes / record <= most)
+    }
+
+    /// The buffers as they are lent.
+    fn buffers(&self, prng: &mut Prng) -> Buffers<Vec<u8>> {
+        let mut garbage = |length: usize| {
+            let mut bytes = vec![0; length];
+            prng.fill(&mut bytes);
+            bytes
+        };
+        let profile_bytes = match self.call {
+            Call::Profile(bytes) => bytes,
+            Call::Run => 0,
+        };
+        Buffers {
+            ledger: garbage(self.ledger_bytes),
+            cells: garbage(self.cells_bytes),
+            profile: garbage(profile_bytes),
+        }
+    }
+
+    /// The second emulator's answer, and the number of records of a profile.
+    fn second(&self, lent: &mut Buffers<Vec<u8>>) -> (Answer, usize) {
+        let (graph, inputs) = (&self.graph, &self.inputs);
+        let (ledger, cells) = (&mut lent.ledger, &mut lent.cells);
+        match self.call {
+            Call::Run => {
+                let answer = second::run(graph, inputs, &self.picks, self.budget, ledger, cells);
+                (answer, 0)
+            }
+            Call::Profile(_) => {
+                let profiled = second::profile(graph, inputs, ledger, cells, &mut lent.profile);
+                (profiled.answer, profiled.records)
+            }
+        }
+    }
+
+    /// The engine's answer, packed, and the number of records of a profile.
+    fn engine(&self, lent: &mut Buffers<Guarded>) -> (u64, u64) {
+        let (graph, inputs) = (&self.graph, &self.inputs);
+        let (ledger, cells) = (lent.ledger.lent(), lent.cells.lent());
+        match self.call {
+            Call::Run => {
+                let answer = engine::run(graph, inputs, &self.picks, self.budget, ledger, cells);
+                (answer, 0)
+            }
+            Call::Profile(_) => engine::profile(graph, inputs, ledger, cells, lent.profile.lent()),
+        }
+    }
+}
+
+/// Calls both and compares answer, all bytes that are left, listing and printed lines.
 pub fn compare(case: &Case, clock: &mut Clock) -> (Left, Result<(), String>) {
     let mut prng = Prng::new(case.garbage);
-    let mut ledger = vec![0; case.ledger_bytes];
-    let mut cells = vec![0; case.cells_bytes];
-    prng.fill(&mut ledger);
-    prng.fill(&mut cells);
+    let mut due = case.buffers(&mut prng);
     let front = 16 + prng.below(8);
-    let mut engine_ledger = Guarded::new(&ledger, front);
-    let mut engine_cells = Guarded::new(&cells, front + 1);
-
-    let Case {
-        graph,
-        inputs,
-        picks,
-        budget,
-        ..
-    } = case;
+    let mut found = Buffers {
+        ledger: Guarded::new(&due.ledger, front),
+        cells: Guarded::new(&due.cells, front + 1),
+        profile: Guarded::new(&due.profile, front + 3),
+    };
     let start = Instant::now();
-    let answer = second::run(graph, inputs, picks, *budget, &mut ledger, &mut cells);
+    let (answer, records) = case.second(&mut due);
     clock.second += start.elapsed();
     let start = Instant::now();
-    let (lent_ledger, lent_cells) = (engine_ledger.lent(), engine_cells.lent());
-    let engine_answer = engine::run(graph, inputs, picks, *budget, lent_ledger, lent_cells);
+    let engine_answer = case.engine(&mut found);
     clock.engine += start.elapsed();
 
     let mut listing = vec![0; 20 * answer.tokens];
-    let code = second::list(&ledger[..20 * answer.tokens], &mut listing);
+    let code = second::list(&due.ledger[..20 * answer.tokens], &mut listing);
     assert_eq!(code, 0, "the second emulator lists its own ledger");
     let left = Left {
         answer,
-        ledger,
-        cells,
+        ledger: due.ledger,
+        cells: due.cells,
+        profile: due.profile,
+        records,
         listing,
     };
-    let result = check_run(&left, engine_answer, &engine_ledger, &engine_cells)
+    let result = check_call(&left, engine_answer, &found)
         .and_then(|()| compare_listing(left.used(), left.used().len(), &mut prng))
         .and_then(|()| compare_printing(&left, &mut prng));
     (left, result)
 }
 
-fn check_run(left: &Left, answer: u64, ledger: &Guarded, cells: &Guarded) -> Result<(), String> {
-    if answer != packed(&left.answer) {
-        let found = engine::unpacked(answer);
-        let due = engine::unpacked(packed(&left.answer));
+fn check_call(
+    left: &Left,
+    (answer, records): (u64, u64),
+    found: &Buffers<Guarded>,
+) -> Result<(), String> {
+    let due = engine::packed_answer(&left.answer);
+    if answer != due {
         return Err(format!(
-            "answer (word, firings, tokens, place): {found:?}, due {due:?}"
+            "answer (word, firings, tokens, place): {:?}, due {:?}",
+            engine::unpacked(answer),
+            engine::unpacked(due)
         ));
     }
-    if !ledger.intact() || !cells.intact() {
-        return Err("bytes outside a lent buffer were written".to_string());
+    if records != left.records as u64 {
+        return Err(format!("profile: {records} records, due {}", left.records));
     }
-    equal("ledger", ledger.contents(), &left.ledger)?;
-    equal("cells", cells.contents(), &left.cells)
+    for (name, found, due) in [
+        ("ledger", &found.ledger, &left.ledger),
+        ("cells", &found.cells, &left.cells),
+        ("profile", &found.profile, &left.profile),
+    ] {
+        if !found.intact() {
+            return Err(format!("{name}: bytes outside the buffer were written"));
+        }
+        equal(name, found.contents(), due)?;
+    }
+    Ok(())
 }
 
 fn equal(name: &str, found: &[u8], due: &[u8]) -> Result<(), String> {
@@ -209,7 +284,8 @@ fn compare_printing(left: &Left, prng: &mut Prng) -> Result<(), String> {
         true => vec![0; left.cells.len()],
         false => left.cells.clone(),
     };
-    compare_text(packed(&left.answer), &left.listing, &cells, prng)?;
+    let number = engine::packed_answer(&left.answer);
+    compare_text(number, &left.listing, &cells, prng)?;
     if prng.one_in(4) {
         let word = [prng.below(24), prng.below(65_536), 98 + prng.below(6)][prng.below(3)] as u64;
         let place = if prng.one_in(2) { 0 } else { prng.word() >> 48 };

@@ -13,6 +13,7 @@ mod damage;
 mod generate;
 mod orders;
 mod prng;
+mod profiles;
 mod records;
 mod shapes;
 mod tally;
@@ -21,7 +22,7 @@ use std::fs;
 use std::path::Path;
 use std::process::ExitCode;
 
-use case::{compare, compare_listing, Case, Clock, Left};
+use case::{compare, compare_listing, Call, Case, Clock, Left};
 use prng::Prng;
 use tally::Tally;
 
@@ -36,27 +37,37 @@ struct Harness {
     keep: bool,
     first: bool,
     runs: u64,
+    profiles: u64,
     groups: u64,
     listings: u64,
     agreements: u64,
+    profile_ends: u64,
     failed: u64,
     tally: Tally,
     clock: Clock,
 }
 
 impl Harness {
-    /// Compares one run and counts it.
-    fn run(&mut self, case: &Case) -> Left {
+    /// Compares one call and counts it.
+    fn call(&mut self, case: &Case) -> Left {
         if self.keep {
             write_files(case, "random-failures/current");
         }
         let (left, result) = compare(case, &mut self.clock);
-        self.runs += 1;
+        match case.call {
+            Call::Run => self.runs += 1,
+            Call::Profile(_) => self.profiles += 1,
+        }
         self.tally.count(case, &left);
         if let Err(reason) = result {
             self.fail(case, &reason);
         }
         left
+    }
+
+    /// All calls that were compared.
+    fn calls(&self) -> u64 {
+        self.runs + self.profiles
     }
 
     fn fail(&mut self, case: &Case, reason: &str) {
@@ -66,16 +77,19 @@ impl Harness {
         }
         println!(
             "seed {}, group {}, run {}, {}:",
-            self.seed, self.groups, self.runs, case.kind
+            self.seed,
+            self.groups,
+            self.calls(),
+            case.kind
         );
         println!("  {reason}");
         println!(
-            "  budget {}, ledger {} bytes, cells {} bytes",
-            case.budget, case.ledger_bytes, case.cells_bytes
+            "  {:?}, budget {}, ledger {} bytes, cells {} bytes",
+            case.call, case.budget, case.ledger_bytes, case.cells_bytes
         );
         write_files(
             case,
-            &format!("random-failures/{}-{}", self.seed, self.runs),
+            &format!("random-failures/{}-{}", self.seed, self.calls()),
         );
     }
 
@@ -87,14 +101,15 @@ impl Harness {
     fn group(&mut self, prng: &mut Prng) {
         self.groups += 1;
         let case = first_case(prng);
-        self.all_orders(&case, prng);
+        let ends = self.all_orders(&case, prng);
+        self.all_profiles(&case, &ends, prng);
         for _ in 0..2 {
             let mut case = case.clone();
             case.budget = [0, 1, 2, prng.below(40) as u16, 65_535][prng.below(5)];
             case.garbage = prng.word();
             case.picks = vec![0; 2 * prng.below(30)];
             prng.fill(&mut case.picks);
-            self.run(&case);
+            self.call(&case);
         }
         for _ in 0..4 {
             let mut case = case.clone();
@@ -102,7 +117,11 @@ impl Harness {
             case.picks = vec![0; 2 * prng.below(30)];
             prng.fill(&mut case.picks);
             damage::damage(&mut case, prng);
-            self.run(&case);
+            self.call(&case);
+            if prng.one_in(3) {
+                case.call = Call::Profile(profiles::bytes(prng.below(30), prng));
+                self.call(&case);
+            }
         }
         if prng.one_in(4) {
             self.arbitrary_listing(&case, prng);
@@ -110,20 +129,20 @@ impl Harness {
     }
 
     /// Every list of picks, then demand 3 between the first order and each other
-    /// one, and the budget that is just enough or one too small.
-    fn all_orders(&mut self, case: &Case, prng: &mut Prng) {
-        let mut first: Option<Left> = None;
+    /// one, and the budget that is just enough or one too small. Answers what each
+    /// order left.
+    fn all_orders(&mut self, case: &Case, prng: &mut Prng) -> Vec<Left> {
+        let mut ends: Vec<Left> = Vec::new();
         for picks in orders::pick_lists(case, prng) {
             let mut case = case.clone();
             case.picks = picks;
             case.garbage = prng.word();
-            let left = self.run(&case);
-            match &first {
+            let left = self.call(&case);
+            match ends.first() {
                 None => {
                     let exact = left.answer.firings as u16;
-                    first = Some(left);
                     case.budget = exact.saturating_sub(prng.below(2) as u16);
-                    self.run(&case);
+                    self.call(&case);
                 }
                 Some(first) => {
                     self.agreements += 1;
@@ -133,6 +152,31 @@ impl Harness {
                     }
                 }
             }
+            ends.push(left);
+        }
+        ends
+    }
+
+    /// A profile with room for every step ends as each order does; then profiles with
+    /// just enough room, too little, or a length that is refused.
+    fn all_profiles(&mut self, case: &Case, ends: &[Left], prng: &mut Prng) {
+        let mut case = case.clone();
+        case.garbage = prng.word();
+        case.call = Call::Profile(4 * (2048 + prng.below(3)));
+        let left = self.call(&case);
+        for end in ends {
+            self.profile_ends += 1;
+            if let Err(reason) = orders::agree(end, &left) {
+                self.fail(&case, &format!("profile against a run: {reason}"));
+            }
+        }
+        if let Err(reason) = profiles::add_up(&left) {
+            self.fail(&case, &reason);
+        }
+        for _ in 0..2 {
+            case.garbage = prng.word();
+            case.call = Call::Profile(profiles::bytes(left.records, prng));
+            self.call(&case);
         }
     }
 
@@ -191,6 +235,7 @@ fn first_case(prng: &mut Prng) -> Case {
     };
     let mut case = Case {
         kind: subject.kind,
+        call: Call::Run,
         graph: subject.graph,
         inputs: subject.inputs,
         picks: Vec::new(),
@@ -247,9 +292,11 @@ fn main() -> ExitCode {
         keep: given("--keep"),
         first: given("--first"),
         runs: 0,
+        profiles: 0,
         groups: 0,
         listings: 0,
         agreements: 0,
+        profile_ends: 0,
         failed: 0,
         tally: Tally::new(),
         clock: Clock::default(),
@@ -267,6 +314,10 @@ fn report(harness: &Harness) -> ExitCode {
         harness.seed, harness.groups, harness.runs
     );
     println!("pairs of orders compared: {}", harness.agreements);
+    println!(
+        "profiles: {}; pairs of a profile and an order compared: {}",
+        harness.profiles, harness.profile_ends
+    );
     println!("listings of arbitrary records: {}", harness.listings);
     println!(
         "time in the engine {:.2?}, in the second {:.2?}",
@@ -279,7 +330,7 @@ fn report(harness: &Harness) -> ExitCode {
     let failed = harness.failed + missing as u64;
     println!(
         "{} passed, {} failed",
-        harness.runs.saturating_sub(harness.failed),
+        harness.calls().saturating_sub(harness.failed),
         failed
     );
     ExitCode::from(u8::from(failed > 0))

@@ -85,6 +85,10 @@ impl<'a> Machine<'a> {
             }
             firings += 1;
         };
+        self.answer(outcome, firings)
+    }
+
+    pub fn answer(&self, outcome: Outcome, firings: usize) -> Answer {
         Answer {
             outcome,
             firings,
@@ -92,9 +96,22 @@ impl<'a> Machine<'a> {
         }
     }
 
+    /// The places of all enabled activities, in order.
+    pub fn enabled_places(&self) -> Vec<usize> {
+        (0..self.enabled.len())
+            .map(|number| self.enabled.nth(number))
+            .collect()
+    }
+
+    /// The number of tokens that are live or deferred.
+    pub fn unspent(&self) -> usize {
+        let unspent = |token: &&Token| token.state != State::Spent;
+        self.tokens.iter().filter(unspent).count()
+    }
+
     /// How a run with nothing enabled ends: completed only if every live token is a
     /// result and none is deferred (02, R-2).
-    fn rest(&self) -> Outcome {
+    pub fn rest(&self) -> Outcome {
         let proper = |token: &Token| match token.state {
             State::Live => self.is_result(token),
             State::Spent => true,
@@ -134,7 +151,7 @@ impl<'a> Machine<'a> {
 
     /// One firing: 10 to 17 in rising order, then 8, then 9. Nothing is changed
     /// before all of them are passed.
-    fn fire(&mut self, place: usize) -> Result<(), u8> {
+    pub fn fire(&mut self, place: usize) -> Result<(), u8> {
         let activity = self.activity(place);
         let effect = self.effect(&activity)?;
         let outputs = effect.outputs;
