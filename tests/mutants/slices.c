@@ -17,6 +17,11 @@ uint64_t unproved_run(const struct slice *graph, const struct slice *inputs, con
                       const struct slice *ledger, const struct slice *cells);
 uint64_t unproved_profile(const struct slice *graph, const struct slice *inputs, const struct slice *ledger,
                           const struct slice *cells, const struct slice *profile, uint64_t *records);
+uint64_t unproved_run_logged(const struct slice *graph, const struct slice *inputs, const struct slice *picks,
+                             uint16_t budget, const struct slice *ledger, const struct slice *cells,
+                             const struct slice *log);
+uint64_t unproved_replay(const struct slice *graph, const struct slice *inputs, const struct slice *log,
+                         const struct slice *ledger, const struct slice *cells);
 uint64_t unproved_list(const struct slice *ledger, const struct slice *out);
 uint64_t unproved_print(uint64_t answer, const struct slice *listing, const struct slice *cells, const struct slice *out);
 
@@ -52,6 +57,23 @@ uint64_t ttda_profile(const uint8_t *graph, size_t graph_len, const uint8_t *inp
     const struct slice c = {cells, cells_len}, p = {profile, profile_len};
     count();
     return unproved_profile(&g, &i, &l, &c, &p, records);
+}
+
+uint64_t ttda_run_logged(const uint8_t *graph, size_t graph_len, const uint8_t *inputs, size_t inputs_len,
+                         const uint8_t *picks, size_t picks_len, uint16_t budget, uint8_t *ledger, size_t ledger_len,
+                         uint8_t *cells, size_t cells_len, uint8_t *log, size_t log_len) {
+    const struct slice g = {graph, graph_len}, i = {inputs, inputs_len}, p = {picks, picks_len};
+    const struct slice l = {ledger, ledger_len}, c = {cells, cells_len}, o = {log, log_len};
+    count();
+    return unproved_run_logged(&g, &i, &p, budget, &l, &c, &o);
+}
+
+uint64_t ttda_replay(const uint8_t *graph, size_t graph_len, const uint8_t *inputs, size_t inputs_len, const uint8_t *log,
+                     size_t log_len, uint8_t *ledger, size_t ledger_len, uint8_t *cells, size_t cells_len) {
+    const struct slice g = {graph, graph_len}, i = {inputs, inputs_len}, o = {log, log_len};
+    const struct slice l = {ledger, ledger_len}, c = {cells, cells_len};
+    count();
+    return unproved_replay(&g, &i, &o, &l, &c);
 }
 
 uint64_t ttda_list(const uint8_t *ledger, size_t ledger_len, uint8_t *out, size_t out_len) {

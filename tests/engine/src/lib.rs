@@ -44,6 +44,35 @@ extern "C" {
         records: *mut u64,
     ) -> u64;
 
+    fn ttda_run_logged(
+        graph: *const u8,
+        graph_len: usize,
+        inputs: *const u8,
+        inputs_len: usize,
+        picks: *const u8,
+        picks_len: usize,
+        budget: u16,
+        ledger: *mut u8,
+        ledger_len: usize,
+        cells: *mut u8,
+        cells_len: usize,
+        log: *mut u8,
+        log_len: usize,
+    ) -> u64;
+
+    fn ttda_replay(
+        graph: *const u8,
+        graph_len: usize,
+        inputs: *const u8,
+        inputs_len: usize,
+        log: *const u8,
+        log_len: usize,
+        ledger: *mut u8,
+        ledger_len: usize,
+        cells: *mut u8,
+        cells_len: usize,
+    ) -> u64;
+
     fn ttda_list(ledger: *const u8, ledger_len: usize, out: *mut u8, out_len: usize) -> u64;
 
     fn ttda_print(
@@ -59,7 +88,7 @@ extern "C" {
 
 /// Whether a word is the number of a refusal. Numbers 15 and 16 have left the table.
 pub fn is_refusal(word: u64) -> bool {
-    matches!(word, 1..=14 | 17..=18)
+    matches!(word, 1..=14 | 17..=18 | 20)
 }
 
 /// The packed answer of a word with its firings, tokens and place.
@@ -139,6 +168,55 @@ pub fn profile(
         )
     };
     (answer, records)
+}
+
+/// Runs the engine and writes the log of its firings; the answer is packed.
+pub fn run_logged(
+    graph: &[u8],
+    inputs: &[u8],
+    picks: &[u8],
+    budget: u16,
+    ledger: &mut [u8],
+    cells: &mut [u8],
+    log: &mut [u8],
+) -> u64 {
+    // SAFETY: as in `run`.
+    unsafe {
+        ttda_run_logged(
+            graph.as_ptr(),
+            graph.len(),
+            inputs.as_ptr(),
+            inputs.len(),
+            picks.as_ptr(),
+            picks.len(),
+            budget,
+            ledger.as_mut_ptr(),
+            ledger.len(),
+            cells.as_mut_ptr(),
+            cells.len(),
+            log.as_mut_ptr(),
+            log.len(),
+        )
+    }
+}
+
+/// Fires what a log names; the answer is packed.
+pub fn replay(graph: &[u8], inputs: &[u8], log: &[u8], ledger: &mut [u8], cells: &mut [u8]) -> u64 {
+    // SAFETY: as in `run`.
+    unsafe {
+        ttda_replay(
+            graph.as_ptr(),
+            graph.len(),
+            inputs.as_ptr(),
+            inputs.len(),
+            log.as_ptr(),
+            log.len(),
+            ledger.as_mut_ptr(),
+            ledger.len(),
+            cells.as_mut_ptr(),
+            cells.len(),
+        )
+    }
 }
 
 /// Sorts the used records of a ledger into `out`; answers 0 or 7.

@@ -7,11 +7,27 @@ use second::{Answer, Outcome, Refusal};
 use crate::prng::Prng;
 
 /// What is called.
-#[derive(Clone, Copy, Debug)]
+#[derive(Clone)]
 pub enum Call {
     Run,
+    /// A run with a log of so many bytes.
+    Logged(usize),
     /// A profile of so many bytes; picks and budget are not lent.
     Profile(usize),
+    /// The replay of a log; picks and budget are not lent.
+    Replay(Vec<u8>),
+}
+
+impl Call {
+    /// The call by its name, and the bytes of its log or profile.
+    pub fn name(&self) -> String {
+        match self {
+            Call::Run => "run".to_string(),
+            Call::Logged(bytes) => format!("run with a log of {bytes} bytes"),
+            Call::Profile(bytes) => format!("profile of {bytes} bytes"),
+            Call::Replay(log) => format!("replay of {} bytes", log.len()),
+        }
+    }
 }
 
 /// What is lent to a call. The buffers that it writes hold random bytes by a seed.
@@ -33,7 +49,8 @@ pub struct Left {
     pub answer: Answer,
     pub ledger: Vec<u8>,
     pub cells: Vec<u8>,
-    pub profile: Vec<u8>,
+    /// The profile, or the log of a run.
+    pub further: Vec<u8>,
     /// The number of records of the profile.
     pub records: usize,
     pub listing: Vec<u8>,
@@ -43,6 +60,11 @@ impl Left {
     /// The used records of the ledger.
     pub fn used(&self) -> &[u8] {
         &self.ledger[..20 * self.answer.tokens]
+    }
+
+    /// The log of a logged run: a record for each firing.
+    pub fn log(&self) -> &[u8] {
+        &self.further[..12 * self.answer.firings]
     }
 }
 
@@ -113,11 +135,11 @@ fn answer_of(number: u64) -> Option<Answer> {
     })
 }
 
-/// The buffers that a call writes.
+/// The buffers that a call writes; the further one is a profile or a log.
 struct Buffers<B> {
     ledger: B,
     cells: B,
-    profile: B,
+    further: B,
 }
 
 impl Case {
@@ -139,44 +161,49 @@ impl Case {
             prng.fill(&mut bytes);
             bytes
         };
-        let profile_bytes = match self.call {
-            Call::Profile(bytes) => bytes,
-            Call::Run => 0,
+        let further_bytes = match self.call {
+            Call::Profile(bytes) | Call::Logged(bytes) => bytes,
+            Call::Run | Call::Replay(_) => 0,
         };
         Buffers {
             ledger: garbage(self.ledger_bytes),
             cells: garbage(self.cells_bytes),
-            profile: garbage(profile_bytes),
+            further: garbage(further_bytes),
         }
     }
 
     /// The second emulator's answer, and the number of records of a profile.
     fn second(&self, lent: &mut Buffers<Vec<u8>>) -> (Answer, usize) {
-        let (graph, inputs) = (&self.graph, &self.inputs);
-        let (ledger, cells) = (&mut lent.ledger, &mut lent.cells);
-        match self.call {
-            Call::Run => {
-                let answer = second::run(graph, inputs, &self.picks, self.budget, ledger, cells);
-                (answer, 0)
+        let (graph, inputs, picks) = (&self.graph, &self.inputs, &self.picks);
+        let (ledger, cells, further) = (&mut lent.ledger, &mut lent.cells, &mut lent.further);
+        let answer = match &self.call {
+            Call::Run => second::run(graph, inputs, picks, self.budget, ledger, cells),
+            Call::Logged(_) => {
+                second::run_logged(graph, inputs, picks, self.budget, ledger, cells, further)
             }
             Call::Profile(_) => {
-                let profiled = second::profile(graph, inputs, ledger, cells, &mut lent.profile);
-                (profiled.answer, profiled.records)
+                let profiled = second::profile(graph, inputs, ledger, cells, further);
+                return (profiled.answer, profiled.records);
             }
-        }
+            Call::Replay(log) => second::replay(graph, inputs, log, ledger, cells),
+        };
+        (answer, 0)
     }
 
     /// The engine's answer, packed, and the number of records of a profile.
     fn engine(&self, lent: &mut Buffers<Guarded>) -> (u64, u64) {
-        let (graph, inputs) = (&self.graph, &self.inputs);
+        let (graph, inputs, picks) = (&self.graph, &self.inputs, &self.picks);
         let (ledger, cells) = (lent.ledger.lent(), lent.cells.lent());
-        match self.call {
-            Call::Run => {
-                let answer = engine::run(graph, inputs, &self.picks, self.budget, ledger, cells);
-                (answer, 0)
+        let further = lent.further.lent();
+        let answer = match &self.call {
+            Call::Run => engine::run(graph, inputs, picks, self.budget, ledger, cells),
+            Call::Logged(_) => {
+                engine::run_logged(graph, inputs, picks, self.budget, ledger, cells, further)
             }
-            Call::Profile(_) => engine::profile(graph, inputs, ledger, cells, lent.profile.lent()),
-        }
+            Call::Profile(_) => return engine::profile(graph, inputs, ledger, cells, further),
+            Call::Replay(log) => engine::replay(graph, inputs, log, ledger, cells),
+        };
+        (answer, 0)
     }
 }
 
@@ -188,7 +215,7 @@ pub fn compare(case: &Case, clock: &mut Clock) -> (Left, Result<(), String>) {
     let mut found = Buffers {
         ledger: Guarded::new(&due.ledger, front),
         cells: Guarded::new(&due.cells, front + 1),
-        profile: Guarded::new(&due.profile, front + 3),
+        further: Guarded::new(&due.further, front + 3),
     };
     let start = Instant::now();
     let (answer, records) = case.second(&mut due);
@@ -204,7 +231,7 @@ pub fn compare(case: &Case, clock: &mut Clock) -> (Left, Result<(), String>) {
         answer,
         ledger: due.ledger,
         cells: due.cells,
-        profile: due.profile,
+        further: due.further,
         records,
         listing,
     };
@@ -233,7 +260,7 @@ fn check_call(
     for (name, found, due) in [
         ("ledger", &found.ledger, &left.ledger),
         ("cells", &found.cells, &left.cells),
-        ("profile", &found.profile, &left.profile),
+        ("profile or log", &found.further, &left.further),
     ] {
         if !found.intact() {
             return Err(format!("{name}: bytes outside the buffer were written"));

@@ -4,13 +4,14 @@
 //! last line is "N passed, M failed"; the exit status is 1 if a run failed or if
 //! an answer, refusal or operation that can be reached never came up, so fewer
 //! than a few thousand runs may fail for that. A failed run's files graph, inputs
-//! and picks are written to random-failures/SEED-RUN; with --keep every run's files
+//! and picks, and the log of a replay, are written to random-failures/SEED-RUN; with --keep every run's files
 //! are written to random-failures/current beforehand, for an engine that crashes.
 //! With --first the runs end with the group in which the first one failed.
 
 mod case;
 mod damage;
 mod generate;
+mod logs;
 mod orders;
 mod prng;
 mod profiles;
@@ -23,6 +24,7 @@ use std::path::Path;
 use std::process::ExitCode;
 
 use case::{compare, compare_listing, Call, Case, Clock, Left};
+use orders::End;
 use prng::Prng;
 use tally::Tally;
 
@@ -38,10 +40,12 @@ struct Harness {
     first: bool,
     runs: u64,
     profiles: u64,
+    replays: u64,
     groups: u64,
     listings: u64,
     agreements: u64,
     profile_ends: u64,
+    logs_compared: u64,
     failed: u64,
     tally: Tally,
     clock: Clock,
@@ -55,8 +59,9 @@ impl Harness {
         }
         let (left, result) = compare(case, &mut self.clock);
         match case.call {
-            Call::Run => self.runs += 1,
+            Call::Run | Call::Logged(_) => self.runs += 1,
             Call::Profile(_) => self.profiles += 1,
+            Call::Replay(_) => self.replays += 1,
         }
         self.tally.count(case, &left);
         if let Err(reason) = result {
@@ -67,7 +72,7 @@ impl Harness {
 
     /// All calls that were compared.
     fn calls(&self) -> u64 {
-        self.runs + self.profiles
+        self.runs + self.profiles + self.replays
     }
 
     fn fail(&mut self, case: &Case, reason: &str) {
@@ -84,8 +89,11 @@ impl Harness {
         );
         println!("  {reason}");
         println!(
-            "  {:?}, budget {}, ledger {} bytes, cells {} bytes",
-            case.call, case.budget, case.ledger_bytes, case.cells_bytes
+            "  {}, budget {}, ledger {} bytes, cells {} bytes",
+            case.call.name(),
+            case.budget,
+            case.ledger_bytes,
+            case.cells_bytes
         );
         write_files(
             case,
@@ -103,6 +111,7 @@ impl Harness {
         let case = first_case(prng);
         let ends = self.all_orders(&case, prng);
         self.all_profiles(&case, &ends, prng);
+        self.all_logs(&ends, prng);
         for _ in 0..2 {
             let mut case = case.clone();
             case.budget = [0, 1, 2, prng.below(40) as u16, 65_535][prng.below(5)];
@@ -110,6 +119,9 @@ impl Harness {
             case.picks = vec![0; 2 * prng.below(30)];
             prng.fill(&mut case.picks);
             self.call(&case);
+            case.call = Call::Logged(logs::bytes(case.budget, prng));
+            let left = self.call(&case);
+            self.replay_of(&case, &left);
         }
         for _ in 0..4 {
             let mut case = case.clone();
@@ -118,10 +130,13 @@ impl Harness {
             prng.fill(&mut case.picks);
             damage::damage(&mut case, prng);
             self.call(&case);
-            if prng.one_in(3) {
-                case.call = Call::Profile(profiles::bytes(prng.below(30), prng));
-                self.call(&case);
-            }
+            case.call = match prng.below(4) {
+                0 => Call::Profile(profiles::bytes(prng.below(30), prng)),
+                1 => Call::Logged(logs::bytes(case.budget, prng)),
+                2 => Call::Replay(ends[0].left.log().to_vec()),
+                _ => continue,
+            };
+            self.call(&case);
         }
         if prng.one_in(4) {
             self.arbitrary_listing(&case, prng);
@@ -131,42 +146,50 @@ impl Harness {
     /// Every list of picks, then demand 3 between the first order and each other
     /// one, and the budget that is just enough or one too small. Answers what each
     /// order left.
-    fn all_orders(&mut self, case: &Case, prng: &mut Prng) -> Vec<Left> {
-        let mut ends: Vec<Left> = Vec::new();
+    fn all_orders(&mut self, case: &Case, prng: &mut Prng) -> Vec<End> {
+        let mut ends: Vec<End> = Vec::new();
         for picks in orders::pick_lists(case, prng) {
             let mut case = case.clone();
             case.picks = picks;
             case.garbage = prng.word();
+            if ends.len() % 3 != 2 {
+                case.call = Call::Logged(12 * (2048 + prng.below(2)));
+            }
             let left = self.call(&case);
             match ends.first() {
-                None => {
-                    let exact = left.answer.firings as u16;
-                    case.budget = exact.saturating_sub(prng.below(2) as u16);
-                    self.call(&case);
-                }
+                None => self.short_budget(case.clone(), &left, prng),
                 Some(first) => {
                     self.agreements += 1;
-                    self.tally.count_pair(&case, first, &left);
-                    if let Err(reason) = orders::agree(first, &left) {
+                    self.tally.count_pair(&case, &first.left, &left);
+                    if let Err(reason) = orders::agree(&first.left, &left) {
                         self.fail(&case, &reason);
                     }
                 }
             }
-            ends.push(left);
+            ends.push(End { case, left });
         }
         ends
     }
 
+    /// A run again with the budget that is just enough or one too small, and a log for it.
+    fn short_budget(&mut self, mut case: Case, left: &Left, prng: &mut Prng) {
+        let exact = left.answer.firings as u16;
+        case.budget = exact.saturating_sub(prng.below(2) as u16);
+        case.call = Call::Logged(12 * usize::from(case.budget));
+        let left = self.call(&case);
+        self.replay_of(&case, &left);
+    }
+
     /// A profile with room for every step ends as each order does; then profiles with
     /// just enough room, too little, or a length that is refused.
-    fn all_profiles(&mut self, case: &Case, ends: &[Left], prng: &mut Prng) {
+    fn all_profiles(&mut self, case: &Case, ends: &[End], prng: &mut Prng) {
         let mut case = case.clone();
         case.garbage = prng.word();
         case.call = Call::Profile(4 * (2048 + prng.below(3)));
         let left = self.call(&case);
         for end in ends {
             self.profile_ends += 1;
-            if let Err(reason) = orders::agree(end, &left) {
+            if let Err(reason) = orders::agree(&end.left, &left) {
                 self.fail(&case, &format!("profile against a run: {reason}"));
             }
         }
@@ -217,7 +240,11 @@ fn write_files(case: &Case, folder: &str) {
     let written = fs::create_dir_all(path)
         .and_then(|()| fs::write(path.join("graph"), &case.graph))
         .and_then(|()| fs::write(path.join("inputs"), &case.inputs))
-        .and_then(|()| fs::write(path.join("picks"), &case.picks));
+        .and_then(|()| fs::write(path.join("picks"), &case.picks))
+        .and_then(|()| match &case.call {
+            Call::Replay(log) => fs::write(path.join("log"), log),
+            _ => Ok(()),
+        });
     if let Err(error) = written {
         println!("  {folder} could not be written: {error}");
     }
@@ -256,6 +283,9 @@ fn first_case(prng: &mut Prng) -> Case {
         _ => used + prng.below(20),
     };
     case.ledger_bytes = 20 * capacity.min(2048);
+    if prng.one_in(50) {
+        case.inputs.clear();
+    }
     case
 }
 
@@ -293,10 +323,12 @@ fn main() -> ExitCode {
         first: given("--first"),
         runs: 0,
         profiles: 0,
+        replays: 0,
         groups: 0,
         listings: 0,
         agreements: 0,
         profile_ends: 0,
+        logs_compared: 0,
         failed: 0,
         tally: Tally::new(),
         clock: Clock::default(),
@@ -317,6 +349,10 @@ fn report(harness: &Harness) -> ExitCode {
     println!(
         "profiles: {}; pairs of a profile and an order compared: {}",
         harness.profiles, harness.profile_ends
+    );
+    println!(
+        "replays: {}; pairs of logs compared: {}",
+        harness.replays, harness.logs_compared
     );
     println!("listings of arbitrary records: {}", harness.listings);
     println!(

@@ -21,7 +21,7 @@ pub fn bytes(steps: usize, prng: &mut Prng) -> usize {
 
 /// The firings of each step.
 fn firings(left: &Left) -> impl Iterator<Item = usize> + '_ {
-    let steps = left.profile.chunks_exact(4).take(left.records);
+    let steps = left.further.chunks_exact(4).take(left.records);
     steps.map(|record| usize::from(u16::from_le_bytes([record[0], record[1]])))
 }
 
@@ -57,8 +57,8 @@ pub const NAMES: [&str; 11] = [
 
 /// Which of the names a profile has.
 pub fn names(case: &Case, left: &Left) -> Vec<&'static str> {
-    let whole = left.profile.len().is_multiple_of(4);
-    let room = left.profile.len() / 4;
+    let whole = left.further.len().is_multiple_of(4);
+    let room = left.further.len() / 4;
     let stepped = left.records > 0;
     let mut names = match left.answer.outcome {
         Outcome::Completed => vec!["completed"],

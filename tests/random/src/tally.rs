@@ -4,7 +4,7 @@ use layout::{LEAVE, OUT};
 use second::Outcome;
 
 use crate::case::{Call, Case, Left};
-use crate::profiles;
+use crate::{logs, profiles};
 
 const NAMES: [(u8, &str); 27] = [
     (1, "COPY"),
@@ -81,6 +81,8 @@ pub struct Tally {
     deepest: u64,
     largest: usize,
     profiles: Named,
+    logged: Named,
+    replays: Named,
 }
 
 impl Tally {
@@ -102,13 +104,20 @@ impl Tally {
             deepest: 0,
             largest: 0,
             profiles: Named::new(&profiles::NAMES),
+            logged: Named::new(&logs::RUN_NAMES),
+            replays: Named::new(&logs::REPLAY_NAMES),
         }
     }
 
     pub fn count(&mut self, case: &Case, left: &Left) {
-        match case.call {
+        match &case.call {
             Call::Run => self.count_run(case, left),
+            Call::Logged(_) => {
+                self.count_run(case, left);
+                self.logged.count(logs::run_names(case, left));
+            }
             Call::Profile(_) => self.profiles.count(profiles::names(case, left)),
+            Call::Replay(log) => self.replays.count(logs::replay_names(case, log, left)),
         }
     }
 
@@ -183,6 +192,10 @@ impl Tally {
         }
         println!("profiles:");
         self.profiles.print(&mut lines);
+        println!("runs with a log:");
+        self.logged.print(&mut lines);
+        println!("replays:");
+        self.replays.print(&mut lines);
         println!("further:");
         lines.count("results at a LEAVE", self.root_leaves);
         lines.count("deferred at such a LEAVE", self.root_leaves_deferred);

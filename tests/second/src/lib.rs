@@ -9,6 +9,7 @@
 mod arithmetic;
 mod graph;
 mod listing;
+mod log;
 mod machine;
 mod places;
 mod printing;
@@ -17,6 +18,7 @@ mod token;
 
 pub use graph::{operand_count, Graph};
 pub use listing::list;
+pub use log::{replay, run_logged};
 pub use printing::print;
 pub use profile::{profile, Profiled};
 
@@ -35,6 +37,8 @@ pub const CELL_RECORD: usize = 8;
 pub const PICK_RECORD: usize = 2;
 /// Bytes of a profile record (02, R-1).
 pub const PROFILE_RECORD: usize = 4;
+/// Bytes of a log record (02, R-7).
+pub const LOG_RECORD: usize = 12;
 /// Most records of inputs, picks or ledger (01, refusal 7).
 pub const MOST_RECORDS: usize = 2048;
 /// Most cells (01, refusal 7).
@@ -82,10 +86,12 @@ impl Answer {
         }
     }
 
-    /// Whether the run was refused before a firing was tried. A firing has at
-    /// least one operand, so a refusal without tokens precedes all firings.
+    /// Whether the call was refused before its inputs were written, so that ledger and
+    /// cells stay as lent. These refusals are 1 to 9 without tokens: a firing has at
+    /// least one operand, and 18 and 20 come after the inputs, of which a replay may
+    /// have none.
     pub fn refused_at_once(&self) -> bool {
-        self.refusal().is_some() && self.tokens == 0
+        self.refusal().is_some_and(|number| number <= 9) && self.tokens == 0
     }
 }
 
@@ -99,12 +105,16 @@ pub fn run(
     ledger: &mut [u8],
     cells: &mut [u8],
 ) -> Answer {
-    let choose = |firing: usize, _enabled: usize| match picks.get(2 * firing..2 * firing + 2) {
-        Some(pick) => u16::from_le_bytes([pick[0], pick[1]]),
-        // 01, "Firing": once picks run out, the first is taken.
-        None => 0,
-    };
+    let choose = |firing: usize, _enabled: usize| pick_of(picks, firing);
     run_checked(graph, inputs, picks.len(), budget, ledger, cells, choose)
+}
+
+/// The pick for a firing; once picks run out, the first is taken (01, "Firing").
+fn pick_of(picks: &[u8], firing: usize) -> u16 {
+    match picks.get(2 * firing..2 * firing + 2) {
+        Some(pick) => u16::from_le_bytes([pick[0], pick[1]]),
+        None => 0,
+    }
 }
 
 /// Runs a graph with picks given one by one: `choose` gets the number of firings

@@ -4,7 +4,7 @@ use std::collections::HashMap;
 
 use crate::graph::{Graph, Instruction, Operation};
 use crate::places::Places;
-use crate::token::{Cell, Key, KeyHashing, State, Token};
+use crate::token::{Cell, Key, KeyHashing, State, Tag, Token};
 use crate::{Answer, Outcome, Refusal, CELL_RECORD, TOKEN_RECORD};
 
 /// A path of at least this has four levels: a site is at least 1, so every
@@ -21,6 +21,7 @@ pub struct Machine<'a> {
     matching: HashMap<Key, usize, KeyHashing>,
     enabled: Places,
     cells: Vec<Cell>,
+    fired: Vec<Tag>,
 }
 
 /// An activity that is enabled: its tag with the positions and values of its
@@ -58,6 +59,7 @@ impl<'a> Machine<'a> {
             matching: HashMap::with_capacity_and_hasher(capacity, KeyHashing::default()),
             enabled: Places::new(),
             cells: vec![Cell::Absent; cell_count],
+            fired: Vec::with_capacity(capacity),
         };
         for &token in inputs {
             machine.append(token);
@@ -101,6 +103,19 @@ impl<'a> Machine<'a> {
         (0..self.enabled.len())
             .map(|number| self.enabled.nth(number))
             .collect()
+    }
+
+    /// The place of the activity with a tag, if it is enabled.
+    pub fn enabled_place(&self, tag: Tag) -> Option<usize> {
+        let left = *self.matching.get(&tag.key(0))?;
+        let right = self.matching.get(&tag.key(1));
+        let place = right.map_or(left, |&right| right.min(left));
+        self.enabled.contains(place).then_some(place)
+    }
+
+    /// The activities fired so far, in order.
+    pub fn fired(&self) -> &[Tag] {
+        &self.fired
     }
 
     /// The number of tokens that are live or deferred.
@@ -162,6 +177,7 @@ impl<'a> Machine<'a> {
             return Err(9);
         }
         self.enabled.remove(place);
+        self.fired.push(self.tokens[place].tag());
         self.tokens[activity.left].state = State::Spent;
         if let Some(right) = activity.right {
             self.tokens[right].state = State::Spent;
