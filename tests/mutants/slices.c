@@ -22,6 +22,7 @@ uint64_t unproved_run_logged(const struct slice *graph, const struct slice *inpu
                              const struct slice *log);
 uint64_t unproved_replay(const struct slice *graph, const struct slice *inputs, const struct slice *log,
                          const struct slice *ledger, const struct slice *cells);
+uint64_t unproved_bounds(const struct slice *graph, const struct slice *inputs);
 uint64_t unproved_list(const struct slice *ledger, const struct slice *out);
 uint64_t unproved_print(uint64_t answer, const struct slice *listing, const struct slice *cells, const struct slice *out);
 
@@ -74,6 +75,12 @@ uint64_t ttda_replay(const uint8_t *graph, size_t graph_len, const uint8_t *inpu
     const struct slice l = {ledger, ledger_len}, c = {cells, cells_len};
     count();
     return unproved_replay(&g, &i, &o, &l, &c);
+}
+
+uint64_t ttda_bounds(const uint8_t *graph, size_t graph_len, const uint8_t *inputs, size_t inputs_len) {
+    const struct slice g = {graph, graph_len}, i = {inputs, inputs_len};
+    count();
+    return unproved_bounds(&g, &i);
 }
 
 uint64_t ttda_list(const uint8_t *ledger, size_t ledger_len, uint8_t *out, size_t out_len) {

@@ -1,7 +1,7 @@
 //! The engine under test. Its answers stay packed as the C functions give them,
 //! so that a comparison sees every bit.
 
-use second::{Answer, Outcome};
+use second::{Answer, Bounds, Outcome, Refusal};
 
 /// The word of a completed run in a packed answer; a refused run has the
 /// refusal's number.
@@ -73,6 +73,9 @@ extern "C" {
         cells_len: usize,
     ) -> u64;
 
+    fn ttda_bounds(graph: *const u8, graph_len: usize, inputs: *const u8, inputs_len: usize)
+        -> u64;
+
     fn ttda_list(ledger: *const u8, ledger_len: usize, out: *mut u8, out_len: usize) -> u64;
 
     fn ttda_print(
@@ -88,7 +91,7 @@ extern "C" {
 
 /// Whether a word is the number of a refusal. Numbers 15 and 16 have left the table.
 pub fn is_refusal(word: u64) -> bool {
-    matches!(word, 1..=14 | 17..=18 | 20)
+    matches!(word, 1..=14 | 17..=20)
 }
 
 /// The packed answer of a word with its firings, tokens and place.
@@ -216,6 +219,21 @@ pub fn replay(graph: &[u8], inputs: &[u8], log: &[u8], ledger: &mut [u8], cells:
             cells.as_mut_ptr(),
             cells.len(),
         )
+    }
+}
+
+/// The engine's bounds of a graph, packed as an answer: word 0 or a refusal, most
+/// firings, most tokens, place.
+pub fn bounds(graph: &[u8], inputs: &[u8]) -> u64 {
+    // SAFETY: as in `run`.
+    unsafe { ttda_bounds(graph.as_ptr(), graph.len(), inputs.as_ptr(), inputs.len()) }
+}
+
+/// The packed form of the second emulator's bounds.
+pub fn packed_bounds(bounds: &Result<Bounds, Refusal>) -> u64 {
+    match bounds {
+        Ok(bounds) => packed(0, bounds.firings, bounds.tokens, 0),
+        Err(refusal) => packed(u64::from(refusal.number), 0, 0, refusal.place),
     }
 }
 

@@ -8,6 +8,7 @@
 //! are written to random-failures/current beforehand, for an engine that crashes.
 //! With --first the runs end with the group in which the first one failed.
 
+mod bounds;
 mod case;
 mod damage;
 mod generate;
@@ -41,6 +42,7 @@ struct Harness {
     runs: u64,
     profiles: u64,
     replays: u64,
+    bounds: u64,
     groups: u64,
     listings: u64,
     agreements: u64,
@@ -72,7 +74,7 @@ impl Harness {
 
     /// All calls that were compared.
     fn calls(&self) -> u64 {
-        self.runs + self.profiles + self.replays
+        self.runs + self.profiles + self.replays + self.bounds
     }
 
     fn fail(&mut self, case: &Case, reason: &str) {
@@ -112,6 +114,7 @@ impl Harness {
         let ends = self.all_orders(&case, prng);
         self.all_profiles(&case, &ends, prng);
         self.all_logs(&ends, prng);
+        self.compare_bounds(&case, &ends);
         for _ in 0..2 {
             let mut case = case.clone();
             case.budget = [0, 1, 2, prng.below(40) as u16, 65_535][prng.below(5)];
@@ -130,6 +133,7 @@ impl Harness {
             prng.fill(&mut case.picks);
             damage::damage(&mut case, prng);
             self.call(&case);
+            self.compare_bounds(&case, &[]);
             case.call = match prng.below(4) {
                 0 => Call::Profile(profiles::bytes(prng.below(30), prng)),
                 1 => Call::Logged(logs::bytes(case.budget, prng)),
@@ -324,6 +328,7 @@ fn main() -> ExitCode {
         runs: 0,
         profiles: 0,
         replays: 0,
+        bounds: 0,
         groups: 0,
         listings: 0,
         agreements: 0,
@@ -354,6 +359,7 @@ fn report(harness: &Harness) -> ExitCode {
         "replays: {}; pairs of logs compared: {}",
         harness.replays, harness.logs_compared
     );
+    println!("bounds: {}", harness.bounds);
     println!("listings of arbitrary records: {}", harness.listings);
     println!(
         "time in the engine {:.2?}, in the second {:.2?}",

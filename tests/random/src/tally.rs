@@ -4,7 +4,7 @@ use layout::{LEAVE, OUT};
 use second::Outcome;
 
 use crate::case::{Call, Case, Left};
-use crate::{logs, profiles};
+use crate::{bounds, logs, profiles};
 
 const NAMES: [(u8, &str); 27] = [
     (1, "COPY"),
@@ -83,6 +83,7 @@ pub struct Tally {
     profiles: Named,
     logged: Named,
     replays: Named,
+    bounds: Named,
 }
 
 impl Tally {
@@ -106,6 +107,7 @@ impl Tally {
             profiles: Named::new(&profiles::NAMES),
             logged: Named::new(&logs::RUN_NAMES),
             replays: Named::new(&logs::REPLAY_NAMES),
+            bounds: Named::new(&bounds::NAMES),
         }
     }
 
@@ -119,6 +121,10 @@ impl Tally {
             Call::Profile(_) => self.profiles.count(profiles::names(case, left)),
             Call::Replay(log) => self.replays.count(logs::replay_names(case, log, left)),
         }
+    }
+
+    pub fn count_bounds(&mut self, names: Vec<&'static str>) {
+        self.bounds.count(names);
     }
 
     fn count_run(&mut self, case: &Case, left: &Left) {
@@ -196,6 +202,8 @@ impl Tally {
         self.logged.print(&mut lines);
         println!("replays:");
         self.replays.print(&mut lines);
+        println!("bounds:");
+        self.bounds.print(&mut lines);
         println!("further:");
         lines.count("results at a LEAVE", self.root_leaves);
         lines.count("deferred at such a LEAVE", self.root_leaves_deferred);

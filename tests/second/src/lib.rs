@@ -7,6 +7,7 @@
 //! at the end of the run.
 
 mod arithmetic;
+mod bounds;
 mod graph;
 mod listing;
 mod log;
@@ -16,6 +17,7 @@ mod printing;
 mod profile;
 mod token;
 
+pub use bounds::{bounds, Bounds};
 pub use graph::{operand_count, Graph};
 pub use listing::list;
 pub use log::{replay, run_logged};
