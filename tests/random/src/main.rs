@@ -9,6 +9,7 @@
 //! With --first the runs end with the group in which the first one failed.
 
 mod bounds;
+mod capacities;
 mod case;
 mod damage;
 mod generate;
@@ -115,6 +116,7 @@ impl Harness {
         self.all_profiles(&case, &ends, prng);
         self.all_logs(&ends, prng);
         self.compare_bounds(&case, &ends);
+        self.all_capacities(&ends, prng);
         for _ in 0..2 {
             let mut case = case.clone();
             case.budget = [0, 1, 2, prng.below(40) as u16, 65_535][prng.below(5)];

@@ -4,7 +4,7 @@ use layout::{LEAVE, OUT};
 use second::Outcome;
 
 use crate::case::{Call, Case, Left};
-use crate::{bounds, logs, profiles};
+use crate::{bounds, capacities, logs, profiles};
 
 const NAMES: [(u8, &str); 27] = [
     (1, "COPY"),
@@ -84,6 +84,7 @@ pub struct Tally {
     logged: Named,
     replays: Named,
     bounds: Named,
+    capacities: Named,
 }
 
 impl Tally {
@@ -108,6 +109,7 @@ impl Tally {
             logged: Named::new(&logs::RUN_NAMES),
             replays: Named::new(&logs::REPLAY_NAMES),
             bounds: Named::new(&bounds::NAMES),
+            capacities: Named::new(&capacities::NAMES),
         }
     }
 
@@ -125,6 +127,10 @@ impl Tally {
 
     pub fn count_bounds(&mut self, names: Vec<&'static str>) {
         self.bounds.count(names);
+    }
+
+    pub fn count_capacity(&mut self, name: &'static str) {
+        self.capacities.count(vec![name]);
     }
 
     fn count_run(&mut self, case: &Case, left: &Left) {
@@ -204,6 +210,8 @@ impl Tally {
         self.replays.print(&mut lines);
         println!("bounds:");
         self.bounds.print(&mut lines);
+        println!("capacities of runs that completed or hung:");
+        self.capacities.print(&mut lines);
         println!("further:");
         lines.count("results at a LEAVE", self.root_leaves);
         lines.count("deferred at such a LEAVE", self.root_leaves_deferred);
