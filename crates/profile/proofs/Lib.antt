@@ -1,0 +1,2 @@
+-- The laws of a profile over bytes. Assumes nothing.
+pub mod Stepping
