@@ -15,12 +15,15 @@ ghost use lib.ListN.{length};
 ghost use Rattle.buffer.specs.Rows.{putRow};
 ghost use Rattle.record.specs.GraphRecords.{graphOf};
 ghost use Rattle.record.specs.TokensAndTags.{tokens, tokenAt};
-ghost use Rattle.record.specs.Widths.{tokenWidth};
+ghost use Rattle.record.specs.Widths.{tokenWidth, cellWidth};
+ghost use Rattle.machine.specs.Steps.{profile as Machine·profile};
+ghost use Rattle.rules.specs.declared.answer.Refusal.the-variants.{ProfileFull};
 ghost use Rattle.rules.specs.declared.answer.Checked.the-variants.{Passed};
+ghost use Rattle.rules.specs.Run.{firstState};
 ghost use Rattle.rules.specs.Profile.{checkProfileStores, checkProfile, encode, profiled, ProfileRan};
 ghost use Rattle.store_flags.specs.Flags.{Counted, places, flagsOf};
 ghost use Rattle.store_enabled.specs.Enabled.{arityOf, enabledPlaces};
-ghost use Rattle.fire.specs.Running.{Prepared, Running};
+ghost use Rattle.fire.specs.Running.{machineFor, Prepared, Running};
 ghost use Rattle.profile.specs.Steps.{stepWidth, unspentAt, profileFrom, LastAs, StepDone, ProfiledTo};
 
 // The bytes of a step's record.
@@ -145,4 +148,106 @@ fn step(
         }
     }
     StepEnd::Whole(count, used, unspent)
+}
+
+// The answer, with the number of records.
+fn answered(outcome: Outcome, firings: usize, tokens: usize, records: usize) -> Profiled
+    ensures { λ r. ⌜ r ≡ record { answer = record { outcome = outcome; firings = firings; tokens = tokens }; records = records } ⌝ }
+{
+    let answer = Answer {
+        outcome,
+        firings,
+        tokens,
+    };
+    Profiled { answer, records }
+}
+
+// A profile goes on from a state of `start` tokens, all live.
+fn proceed(
+    graph: &[u8],
+    tables: &[u16; 512],
+    links: &mut [u16; 9216],
+    flags: &mut [u64; 69],
+    ledger: &mut [u8],
+    cells: &mut [u8],
+    profile: &mut [u8],
+    start: usize,
+) -> Profiled
+    requires { ⌜ Prepared (now graph) (now tables) × Running (graphOf (now graph)) (now tables) (now links) (now flags) (now ledger) (now cells) start × (start ≡ unspentAt (graphOf (now graph)) (now ledger) (now cells) start) ⌝ }
+    ensures { λ r. ⌜ ProfiledTo (profileFrom (graphOf (now (graph .entry))) (length (now (profile .entry)) / stepWidth) 0 (now (ledger .entry)) (now (cells .entry)) start) r (now (ledger .entry)) (now (cells .entry)) (now (profile .entry)) (now (ledger .exit)) (now (cells .exit)) (now (profile .exit)) ⌝ }
+{
+    let room = profile.len() / WIDTH;
+    let mut used = start;
+    let mut unspent = start;
+    let mut firings = 0;
+    let mut records = 0;
+    while records < room {
+        let ended = step(graph, tables, links, flags, ledger, cells, used, unspent);
+        match ended {
+            StepEnd::Whole(count, n, live) => {
+                put_record(profile, records, count, live);
+                used = n;
+                unspent = live;
+                firings += count;
+                records += 1;
+            }
+            StepEnd::Ended(outcome, done, n) => {
+                return answered(outcome, firings + done, n, records);
+            }
+        }
+    }
+    answered(no_record(tables, flags, ledger, used), firings, used, records)
+}
+
+// A profile that passed every check: all cells are set absent, the inputs go into the ledger, and it
+// proceeds.
+fn accepted(
+    graph: &[u8],
+    inputs: &[u8],
+    ledger: &mut [u8],
+    cells: &mut [u8],
+    profile: &mut [u8],
+) -> Profiled
+    requires { ⌜ checkProfile (now graph) (now inputs) (length (now ledger)) (length (now cells)) (length (now profile)) ≡ Passed ⌝ }
+    ensures { λ r. ⌜ ProfiledTo (Machine·profile (machineFor (graphOf (now (graph .entry))) (now (ledger .entry)) (now (cells .entry))) ProfileFull (length (now (profile .entry)) / stepWidth) 0 (firstState (now (inputs .entry)) (length (now (cells .entry)) / cellWidth))) r (now (ledger .entry)) (now (cells .entry)) (now (profile .entry)) (now (ledger .exit)) (now (cells .exit)) (now (profile .exit)) ⌝ }
+{
+    let mut tables = [0u16; 512];
+    let mut links = [0u16; 9216];
+    let mut flags = [0u64; 69];
+    let used = start::begin(
+        graph,
+        inputs,
+        &mut tables,
+        &mut links,
+        &mut flags,
+        ledger,
+        cells,
+    );
+    proceed(
+        graph,
+        &tables,
+        &mut links,
+        &mut flags,
+        ledger,
+        cells,
+        profile,
+        used,
+    )
+}
+
+// A profile over lent bytes: its answer, and what it leaves in ledger, cells and profile, are what the rules give.
+pub fn profile(
+    graph: &[u8],
+    inputs: &[u8],
+    ledger: &mut [u8],
+    cells: &mut [u8],
+    profile: &mut [u8],
+) -> Profiled
+    ensures { λ r. ⌜ ProfileRan (profiled (now (graph .entry)) (now (inputs .entry)) (length (now (ledger .entry))) (length (now (cells .entry))) (length (now (profile .entry)))) r (now (ledger .entry)) (now (ledger .exit)) (now (cells .entry)) (now (cells .exit)) (now (profile .entry)) (now (profile .exit)) ⌝ }
+{
+    let checked = check(graph, inputs, ledger.len(), cells.len(), profile.len());
+    match checked {
+        Checked::Failed(r, place) => answered(Outcome::Refused(r, place), 0, 0, 0),
+        Checked::Passed => accepted(graph, inputs, ledger, cells, profile),
+    }
 }
