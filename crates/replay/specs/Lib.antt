@@ -1,0 +1,2 @@
+-- The definitions of a replay, a record at a time. Assumes nothing.
+pub mod Turns
