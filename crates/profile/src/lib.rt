@@ -196,7 +196,12 @@ fn proceed(
             }
         }
     }
-    answered(no_record(tables, flags, ledger, used), firings, used, records)
+    answered(
+        no_record(tables, flags, ledger, used),
+        firings,
+        used,
+        records,
+    )
 }
 
 // A profile that passed every check: all cells are set absent, the inputs go into the ledger, and it
