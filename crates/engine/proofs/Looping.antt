@@ -11,8 +11,9 @@ use Rattle.record.specs.declared.tag.Tag.{Tag}
 use Rattle.record.specs.declared.instruction.Instruction.{Instruction}
 use Rattle.record.specs.TokensAndTags.{tokens}
 use Rattle.record.specs.Widths.{tokenWidth, cellWidth}
-use Rattle.machine.specs.Machine.{Machine, StateOf, Choice, Outcome, End, laterPicks, byPicks, runBy, end}
+use Rattle.machine.specs.Machine.{Machine, Outcome, End, laterPicks, byPicks, runBy, end}
 use Rattle.machine.specs.Sequences.{logOf}
+use Rattle.machine.proofs.Runs.{logZero}
 use Rattle.load.specs.Loaded.{tailOf}
 use Rattle.load.proofs.Laws.{tail-drop}
 use Rattle.fire_outputs.proofs.Laws.{rest-on}
@@ -60,10 +61,6 @@ noted-none g ledger₀ cells₀ start budget picks log₀ = record {
   written = sym (recorded-none log₀);
   toLog = let e : budget ≡ budget - 0 = omega arith in ap (λ (b : ℕ). logOf (machineFor g ledger₀ cells₀) (byPicks (machineFor g ledger₀ cells₀)) b picks (stateIn ledger₀ cells₀ start)) e;
 }
-
-log-zero : (M : Machine) (c : Choice M) (ps : List ℕ) (s : StateOf M) → logOf M c 0 ps s ≡ []
-unfolding logOf
-log-zero M c ps s = refl
 
 later-drop : (k : ℕ) (xs : List ℕ) → laterPicks (drop k xs) ≡ drop (suc k) xs
 later-drop k xs = go (drop k xs) ∙ tail-drop k xs
@@ -183,4 +180,4 @@ module _ (g : List Instruction) (ledger₀ cells₀ : List ℕ) (start budget : 
           no-more (to-log (suc b) [] (omega arith) (as-lent (λ p q. logOf (machineOf g p q) (byPicks (machineOf g p q)) (suc b) (drop firings picks) (stateIn ledger cells used) ≡ []) (a .logsNone b)))
 
       pub noted-finished : budget ≤ firings → log ≡ recorded (firedBy g ledger₀ cells₀ start budget picks) log₀
-      noted-finished h = no-more (to-log 0 [] (omega arith) (log-zero M₀ (byPicks M₀) (drop firings picks) (stateIn ledger cells used)))
+      noted-finished h = no-more (to-log 0 [] (omega arith) (logZero M₀ (byPicks M₀) (drop firings picks) (stateIn ledger cells used)))

@@ -21,10 +21,10 @@ use Rattle.store.proofs.Laws.{matching-places, matching-enabled-below, matching
 use Rattle.load.specs.Loaded.{headOr0}
 use Rattle.load.proofs.Laws.{head-drop}
 use Rattle.store_enabled.specs.Enabled.{leads, enabledPlaces}
-use Rattle.machine.specs.Machine.{Machine, State, StateOf, Activity, Choice, ending, enabled, firstPick, laterPicks, pickOf, byPicks, runBy, end, fire, fired, notFired}
+use Rattle.machine.specs.Machine.{Machine, State, Activity, ending, enabled, firstPick, laterPicks, pickOf, byPicks, runBy, end, fire, fired, notFired}
 use Rattle.machine.specs.Machine as Machines
 use Rattle.machine.specs.Sequences.{logOf}
-use Rattle.machine.proofs.Runs.{runFired, runRefused}
+use Rattle.machine.proofs.Runs.{runFired, runRefused, logEmpty, logFired, logRefused}
 use Rattle.rules.specs.declared.answer.Refusal.{Refusal}
 use Rattle.rules.specs.declared.answer.Outcome as AnswerOutcome
 use Rattle.rules.specs.declared.answer.Outcome.the-variants as Outcomes
@@ -38,22 +38,6 @@ use Rattle.fire.specs.Running.{machineFor, stateIn, Arrived, Running, Went, Sto
 use Rattle.ending.specs.Endings.{EndsAs}
 use Rattle.ending.proofs.Laws.{ended}
 use Rattle.engine.specs.Turns.{Advanced, Halted}
-
--- ---- the log of a run, a firing at a time
-
-module _ (M : Machine) (c : Choice M) (b : ℕ) (ps : List ℕ) (s : StateOf M) where
-  log-rests : enabled M s ≡ [] → logOf M c (suc b) ps s ≡ []
-  unfolding logOf
-  log-rests e = rw e
-
-  module _ (a : Activity (M .Tag)) (more : List (Activity (M .Tag))) (e : enabled M s ≡ a ∷ more) where
-    log-fired : (x : StateOf M) → fire M s (c s (firstPick ps) a more .tag) ≡ fired x → logOf M c (suc b) ps s ≡ c s (firstPick ps) a more .tag ∷ logOf M c b (laterPicks ps) x
-    unfolding logOf
-    log-fired x f = rw (e, f)
-
-    log-refused : (r : M .Refusal) → fire M s (c s (firstPick ps) a more .tag) ≡ notFired r → logOf M c (suc b) ps s ≡ []
-    unfolding logOf
-    log-refused r f = rw (e, f)
 
 -- ---- picks
 
@@ -110,7 +94,7 @@ module _ (g : List Instruction) (tables : List ℕ) (right : Arities g tables) (
         go [] q h c = absurd (h refl)
         go (p ∷ l) q h c =
             let pick = picked (firstPick picks) p l ∙ ap activity (sym c) in
-            log-fired M (byPicks M) b picks s (activity p) (map activity l) (enabled-here ∙ ap (map activity) q) x (ap (λ (a : Activity Tag). fire M s (a .tag)) pick ∙ e)
+            logFired M (byPicks M) b picks s x (activity p) (map activity l) (enabled-here ∙ ap (map activity) q) (ap (λ (a : Activity Tag). fire M s (a .tag)) pick ∙ e)
             ∙ ap (λ (a : Activity Tag). a .tag ∷ logOf M (byPicks M) b (laterPicks picks) x) pick
 
     pub logs-none : (r : Refusal) → fire M s (getD (tokens used ledger) place noToken .tag) ≡ notFired r → (b : ℕ) → logOf M (byPicks M) (suc b) picks s ≡ []
@@ -119,7 +103,7 @@ module _ (g : List Instruction) (tables : List ℕ) (right : Arities g tables) (
         go : (l : List ℕ) → enabledPlaces tables (tokens used ledger) ≡ l → (length l ≡ 0 → ⊥) → place ≡ getD l (firstPick picks % length l) 0 → logOf M (byPicks M) (suc b) picks s ≡ []
         go [] q h c = absurd (h refl)
         go (p ∷ l) q h c =
-            log-refused M (byPicks M) b picks s (activity p) (map activity l) (enabled-here ∙ ap (map activity) q) r
+            logRefused M (byPicks M) b picks s (activity p) (map activity l) r (enabled-here ∙ ap (map activity) q)
             (ap (λ (a : Activity Tag). fire M s (a .tag)) (picked (firstPick picks) p l ∙ ap activity (sym c)) ∙ e)
 
     pub halts : (r : Refusal) → fire M s (getD (tokens used ledger) place noToken .tag) ≡ notFired r → (b f : ℕ) → runBy M (byPicks M) (suc b) picks f s ≡ end M (Machines.refused r place) f s
@@ -160,7 +144,7 @@ module _ (graph picks : List ℕ) {tables links flags ledger cells : List ℕ} {
         told = sym (said (graphOf graph) (ready .aritiesRight) (length ledger / tokenWidth) (length cells / cellWidth) (cellsIn cells));
         ends = λ b f. ended (graphOf graph) (length ledger / tokenWidth) (length cells / cellWidth) tables (tokens used ledger) (cellsIn cells) (ready .aritiesRight)
             (on-ports (graphOf graph) (tokens used ledger) (now .arrived)) (byPicks M₁) (suc b) later-picks f (sym (count e h) ∙ z);
-        logsNone = λ b. log-rests M₁ (byPicks M₁) b later-picks (stateIn ledger cells used) (none-enabled (graphOf graph) tables (ready .aritiesRight) ledger cells used (now .arrived) (sym (count e h) ∙ z));
+        logsNone = λ b. logEmpty M₁ (byPicks M₁) (suc b) later-picks (stateIn ledger cells used) (none-enabled (graphOf graph) tables (ready .aritiesRight) ledger cells used (now .arrived) (sym (count e h) ∙ z));
         running = now;
         sameLedger = refl;
         sameCells = refl;

@@ -131,7 +131,7 @@ module _ (graph inputs : List ℕ) (capacity cells : ℕ) (a : Accepted graph in
   ranHere = ran (M graph capacity cells) (byPicks (M graph capacity cells)) (byPicksLawful (M graph capacity cells)) budget picks 0 s
 
   -- each has a token, and so fits a record
-  tags-fit : All TagFits τs
+  pub tags-fit : All TagFits τs
   tags-fit =
       let told = ledgerTells (M graph capacity cells) (law graph inputs capacity cells a) s (good graph inputs capacity cells a) τs (e .state) (ranHere .logged .fires) in
       let (o, r) = sequenceReaches (M graph capacity cells) τs s (e .state) (ranHere .logged .fires) in
