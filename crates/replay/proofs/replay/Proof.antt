@@ -20,10 +20,10 @@ replay-spec =
     (λ c κs. sym (c .before .before .before .before .check .ensures) ∙ c .before .before .enum-told .given .1)
     (λ c.
     let e = sym (c .before .before .before .check .ensures) ∙ c .before .checked .given .1 in
-    rw e (record { answered = refl; ledgerLeft = refl; cellsLeft = refl }))
+    rw e (record { answered = refl; numbers = refl; ledgerLeft = refl; cellsLeft = refl }))
     (λ c. search needs)
     (λ c. search needs)
     (λ c.
     let e = sym (c .before .before .before .before .before .before .before .before .before .check .ensures) ∙ c .before .before .before .before .before .before .before .enum-told .given .1 in
     let l = c .before .before .before .before .accepted .ensures in
-    rw e (record { answered = l .answered; ledgerLeft = l .ledgerLeft; cellsLeft = l .cellsLeft })))
+    rw e (record { answered = l .answered; numbers = ap valuesOf (l .answered); ledgerLeft = l .ledgerLeft; cellsLeft = l .cellsLeft })))
