@@ -9,44 +9,38 @@ use lib.ListN.{length}
 use lib.IntN.{ℤ}
 use Rattle.record.specs.declared.tag.Tag.{Tag}
 use Rattle.record.specs.GraphRecords.{graphOf}
-use Rattle.record.specs.TokensAndTags.{mostTokens, capacityOf}
+use Rattle.record.specs.TokensAndTags.{mostTokens}
 use Rattle.record.specs.Widths.{tokenWidth, cellWidth}
 use Rattle.machine.specs.Machine.{Machine, State, Ledger, Content, live, spent, deferred}
 use Rattle.machine.specs.Orders as Orders
 use Rattle.machine.specs.Steps.{Profile, isUnspent, unspentIn, profile}
 use Rattle.machine.proofs.Steps.{everyProfile}
 use Rattle.rules.specs.declared.answer.Refusal.{Refusal}
-use Rattle.rules.specs.declared.answer.Refusal.the-variants.{BadStore, ProfileFull}
+use Rattle.rules.specs.declared.answer.Refusal.the-variants.{ProfileFull}
 use Rattle.rules.specs.declared.answer.Profiled.{Profiled}
 use Rattle.rules.specs.declared.answer.Checked.the-variants.{Passed}
-use Rattle.rules.specs.Check.{demand, checkStores, mostCells}
+use Rattle.rules.specs.Check.{mostCells}
 use Rattle.rules.specs.InstructionSet.{machineOf}
 use Rattle.rules.specs.Run.{firstState}
-use Rattle.rules.specs.Profile.{checkProfileStores, checkProfile}
-use Rattle.rules.proofs.Passed.{andThen-passed}
-use Rattle.rules.proofs.Accepted.{whole-bytes, stores-whole, law, begins, good}
+use Rattle.rules.specs.Profile.{stepWidth, checkProfile}
+use Rattle.rules.proofs.Accepted.{whole-bytes, law, begins, good}
 use Rattle.rules.proofs.Accepted as Rules
+use Rattle.rules.proofs.Profile.{wholes}
 use Rattle.fire.specs.Running.{machineFor, stateIn}
 use Rattle.start.specs.Begun.{Accepted, Begun}
 use Rattle.start.proofs.Starting.{from-start, as-lent}
-use Rattle.profile.specs.Steps.{stepWidth, unspentAt, profileFrom, ProfiledTo}
+use Rattle.profile.specs.Steps.{unspentAt, profileFrom, ProfiledTo}
 use Rattle.profile.proofs.Stepping.{held-size}
 
-module _ (graph inputs : List ℕ) (ledger cells lent : ℕ) (e : checkProfile graph inputs ledger cells lent ≡ Passed) where
-  parts : (checkProfileStores (length inputs) ledger cells lent ≡ Passed) × Rules.Accepted graph inputs (capacityOf ledger)
-  unfolding checkProfile
-  parts = Rules.accepted graph inputs (capacityOf ledger) (checkProfileStores (length inputs) ledger cells lent) e
-
-  pub accepted-by : Accepted graph inputs ledger cells
-  unfolding checkProfileStores
-  accepted-by =
-      let w = stores-whole (length inputs) 0 ledger cells (andThen-passed (checkStores (length inputs) 0 ledger cells) _ (parts .0) .0) in
-      record {
-        graphPassed = parts .1 .graphPassed;
-        inputsPassed = parts .1 .inputsPassed;
-        few = whole-bytes tokenWidth mostTokens ledger (w .wholeLedger) .1;
-        cellRecords = whole-bytes cellWidth mostCells cells (w .wholeCells);
-      }
+pub accepted-by : (graph inputs : List ℕ) (ledger cells lent : ℕ) → checkProfile graph inputs ledger cells lent ≡ Passed → Accepted graph inputs ledger cells
+accepted-by graph inputs ledger cells lent e =
+    let (w, a) = wholes graph inputs ledger cells lent e in
+    record {
+      graphPassed = a .graphPassed;
+      inputsPassed = a .inputsPassed;
+      few = whole-bytes tokenWidth mostTokens ledger (w .wholeLedger) .1;
+      cellRecords = whole-bytes cellWidth mostCells cells (w .wholeCells);
+    }
 
 live-one : (x : Content ℤ) → Orders.Live (some x) → isUnspent x ≡ 1
 live-one (live v) h = refl
@@ -66,7 +60,7 @@ module _ (graph inputs ledger cells : List ℕ) (lent : ℕ) (e : checkProfile g
   s₀ = firstState inputs (length cells / cellWidth)
 
   allowed : Rules.Accepted graph inputs (length ledger / tokenWidth)
-  allowed = parts graph inputs (length ledger) (length cells) lent e .1
+  allowed = wholes graph inputs (length ledger) (length cells) lent e .1
 
   pub all-live : used ≡ unspentAt (graphOf graph) ledger₁ cells₁ used
   all-live =

@@ -26,7 +26,7 @@ use Rattle.rules.specs.declared.answer.Outcome as AnswerOutcome
 use Rattle.rules.specs.declared.answer.Profiled.{Profiled}
 use Rattle.rules.specs.InstructionSet.{machineOf}
 use Rattle.rules.specs.Run.{outcomeOf}
-use Rattle.rules.specs.Profile.{encode}
+use Rattle.rules.specs.Profile.{stepWidth, encode}
 use Rattle.rules.proofs.Lawful.{lawful}
 use Rattle.store.proofs.Laws.{matching-few}
 use Rattle.fire_outputs.specs.Outputs.{cellsIn}
@@ -35,7 +35,7 @@ use Rattle.fire.specs.Running.{machineFor, stateIn, Running, Prepared}
 use Rattle.fire.proofs.Place.{on-ports}
 use Rattle.start.specs.Ended.{EndedAt}
 use Rattle.start.proofs.Ending.{left}
-use Rattle.profile.specs.Steps.{stepWidth, unspentAt, profileFrom, Went, Stepped, Halted, LastAs, ProfiledTo}
+use Rattle.profile.specs.Steps.{unspentAt, profileFrom, Went, Stepped, Halted, LastAs, ProfiledTo}
 use Rattle.profile.proofs.Stepping.{held-size}
 
 -- ---- firings after firings

@@ -28,10 +28,6 @@ use Rattle.start.specs.Ended.{EndedAt}
 use Rattle.profile.specs.declared.StepEnd.{StepEnd}
 use Rattle.profile.specs.declared.StepEnd.the-variants as StepEnds
 
--- "one 4-byte record"
-abbrev pub stepWidth : ℕ
-stepWidth = 4
-
 -- live plus deferred tokens
 abbrev pub unspentAt : List Instruction → (ledger cells : List ℕ) → (used : ℕ) → ℕ
 unspentAt g ledger cells used = unspentIn (machineFor g ledger cells) (stateIn ledger cells used .tokens)

@@ -20,11 +20,11 @@ ghost use Rattle.machine.specs.Steps.{profile as Machine·profile};
 ghost use Rattle.rules.specs.declared.answer.Refusal.the-variants.{ProfileFull};
 ghost use Rattle.rules.specs.declared.answer.Checked.the-variants.{Passed};
 ghost use Rattle.rules.specs.Run.{firstState};
-ghost use Rattle.rules.specs.Profile.{checkProfileStores, checkProfile, encode, profiled, ProfileRan};
+ghost use Rattle.rules.specs.Profile.{stepWidth, checkProfileStores, checkProfile, encode, profiled, ProfileRan};
 ghost use Rattle.store_flags.specs.Flags.{Counted, places, flagsOf};
 ghost use Rattle.store_enabled.specs.Enabled.{arityOf, enabledPlaces};
 ghost use Rattle.fire.specs.Running.{machineFor, Prepared, Running};
-ghost use Rattle.profile.specs.Steps.{stepWidth, unspentAt, profileFrom, LastAs, StepDone, ProfiledTo};
+ghost use Rattle.profile.specs.Steps.{unspentAt, profileFrom, LastAs, StepDone, ProfiledTo};
 
 // The bytes of a step's record.
 pub const WIDTH: usize = 4;

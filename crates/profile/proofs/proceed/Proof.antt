@@ -7,7 +7,7 @@ use lib.ListN.{length}
 use borrow.Author.Needs.{needs}
 use Rattle.record.specs.GraphRecords.{graphOf}
 use Rattle.store.proofs.Laws.{matching-counted, matching-places, matching-room}
-use Rattle.profile.specs.Steps.{stepWidth}
+use Rattle.rules.specs.Profile.{stepWidth}
 use Rattle.profile.proofs.Looping.{SoFar, went-joined, firings-few, begun, same-profile, advanced, halted, finished}
 use Rattle.profile.proofs.proceed.Statement.{statement}
 use Rattle.profile.proofs.proceed.Tie as tie

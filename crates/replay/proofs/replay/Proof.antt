@@ -1,5 +1,6 @@
 -- `replay::replay` meets its contract: a check that failed leaves everything as lent, and an accepted replay ends as the rules say. Assumes nothing.
-use mathlib.Core.Path.{refl, sym, _∙_}
+use mathlib.Core.Path.{refl, sym, ap, _∙_}
+use Rattle.rules.specs.Answer.{valuesOf}
 use borrow.Author.Needs.{needs}
 use Rattle.rules.specs.Run.{unlessFailed, answer, ledgerAfter, cellsAfter}
 use Rattle.rules.specs.Log.{replayed}
