@@ -196,12 +196,8 @@ fn proceed(
             }
         }
     }
-    answered(
-        no_record(tables, flags, ledger, used),
-        firings,
-        used,
-        records,
-    )
+    let outcome = no_record(tables, flags, ledger, used);
+    answered(outcome, firings, used, records)
 }
 
 // A profile that passed every check: all cells are set absent, the inputs go into the ledger, and it
