@@ -164,9 +164,7 @@ pub extern "C" fn ttda_run_logged(
     ensures { λ _. ⌜ now (cells .exit) ≡ cellsAfter (logged (now (graph .entry)) (now (inputs .entry)) (now (picks .entry)) budget (length (now (ledger .entry))) (length (now (cells .entry))) (length (now (log .entry))) .result) (now (cells .entry)) ⌝ }
     ensures { λ _. ⌜ now (log .exit) ≡ logAfter (logged (now (graph .entry)) (now (inputs .entry)) (now (picks .entry)) budget (length (now (ledger .entry))) (length (now (cells .entry))) (length (now (log .entry)))) (now (log .entry)) ⌝ }
 {
-    number_of(engine::run_logged(
-        graph, inputs, picks, budget, ledger, cells, log,
-    ))
+    number_of(engine::run_logged(graph, inputs, picks, budget, ledger, cells, log))
 }
 
 #[no_mangle]
