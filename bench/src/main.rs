@@ -10,6 +10,7 @@
 //! whole job of the printing program (program.rs). `once WORK` and `folders DIR` are
 //! for the script `instructions`.
 
+mod calls;
 mod growth;
 mod printing;
 mod program;
@@ -55,17 +56,8 @@ fn main() {
     }
 }
 
-/// Prints the tables of all works, each run a block of times before the next.
+/// Measures all works, each run a block of times before the next, and prints the tables.
 fn compare(block: usize) {
-    println!("Time of one run, median of {RUNS} runs of each emulator. The buffers are not");
-    println!("cleared: each run finds ledger and cells as the run before it left them. The");
-    println!("second emulator allocates its tables in every run.");
-    println!();
-    println!(
-        "| work | size | tokens | firings | engine | engine, a firing | second | engine / second | \
-         engine firings/s | second firings/s |"
-    );
-    println!("|---|---:|---:|---:|---:|---:|---:|---:|---:|---:|");
     let mut works: Vec<Measured> = Vec::new();
     for kind in KINDS {
         works.extend(SIZES.map(|size| Measured::new(kind, size)));
@@ -78,21 +70,47 @@ fn compare(block: usize) {
     for kind in KINDS.into_iter().filter(|(_, _, newest)| !newest) {
         printings.extend(SIZES.map(|size| Printing::new(kind, size)));
     }
+    let (mut calls, mut bounds) = (calls::all(), calls::all_bounds());
     for _ in 0..RUNS / block {
         works.iter_mut().for_each(|work| work.runs(block));
         listings.iter_mut().for_each(|listing| listing.runs(block));
         printings
             .iter_mut()
             .for_each(|printing| printing.runs(block));
+        calls.iter_mut().for_each(|work| work.runs(block));
+        bounds.iter_mut().for_each(|graph| graph.runs(block));
     }
+    print_works(&works);
+    print_listings(&listings);
+    Printing::print_head();
+    printings.iter().for_each(Printing::print);
+    println!();
+    calls::print(&calls);
+    println!();
+    calls::print_bounds(&bounds);
+}
+
+fn print_works(works: &[Measured]) {
+    println!("Time of one run, median of {RUNS} runs of each emulator. The buffers are not");
+    println!("cleared: each run finds ledger and cells as the run before it left them. The");
+    println!("second emulator allocates its tables in every run.");
+    println!();
+    println!(
+        "| work | size | tokens | firings | engine | engine, a firing | second | engine / second | \
+         engine firings/s | second firings/s |"
+    );
+    println!("|---|---:|---:|---:|---:|---:|---:|---:|---:|---:|");
     works.iter().for_each(Measured::print);
     println!();
     println!("The engine's time for one firing at 2,048 tokens against that at 256:");
     println!();
     for (name, _, _) in KINDS {
-        println!("- {name}: {:.2}", growth_of(&works, name));
+        println!("- {name}: {:.2}", growth_of(works, name));
     }
     println!();
+}
+
+fn print_listings(listings: &[Listing]) {
     println!("The listing, against a stable sort of parsed records by Rust's own library");
     println!("(parsing and writing included), of the vector sum's ledger.");
     println!();
@@ -100,8 +118,6 @@ fn compare(block: usize) {
     println!("|---|---:|---:|---:|---:|");
     listings.iter().for_each(Listing::print);
     println!();
-    Printing::print_head();
-    printings.iter().for_each(Printing::print);
 }
 
 /// What both emulators are lent.
@@ -158,12 +174,11 @@ impl Lent {
         self.ledger.fill(0xa5);
         self.cells.fill(0xa5);
         let answer = self.second();
-        let word = match answer.outcome {
-            Outcome::Completed => engine::COMPLETED,
-            Outcome::Hung => engine::HUNG,
-            outcome => panic!("the work ends with {outcome:?}"),
-        };
-        let due = engine::packed(word, answer.firings, answer.tokens, 0);
+        assert!(
+            matches!(answer.outcome, Outcome::Completed | Outcome::Hung),
+            "the work comes to rest"
+        );
+        let due = engine::packed_answer(&answer);
         assert_eq!(packed, due, "the engine answers otherwise");
         assert!(
             ledger == self.ledger && cells == self.cells,

@@ -216,6 +216,20 @@ pub fn recursion(tokens: usize) -> Work {
     work
 }
 
+/// A chain of 255 COPYs to an OUT; backward, each record sends to the one before it.
+pub fn chain(backward: bool) -> Work {
+    let mut work = Work::default();
+    let record = |step: u16| if backward { 255 - step } else { step };
+    for number in 0..=255 {
+        work.add(if number == record(255) { OUT } else { COPY }, 0);
+    }
+    for step in 0..255 {
+        work.arc(record(step), record(step + 1), 0);
+    }
+    work.input(record(0), 0, 1);
+    work
+}
+
 #[cfg(test)]
 mod tests {
     use super::*;
@@ -257,6 +271,15 @@ mod tests {
                 assert!(answer.tokens > 3 * size / 4, "{} of {size}", answer.tokens);
             }
             assert_eq!(counted(&vector_sum(size), size, 2048, 0).0.tokens, size);
+        }
+    }
+
+    #[test]
+    fn all_of_a_chain_is_reached() {
+        for backward in [false, true] {
+            let work = chain(backward);
+            let bounds = second::bounds(&work.graph, &work.inputs).expect("it is loop-free");
+            assert_eq!((bounds.firings, bounds.tokens), (255, 256));
         }
     }
 

@@ -1,4 +1,4 @@
-/* The run, the listing and the printed lines of target/staticlib/libabi.a, which `rt staticlib abi` makes. Numbers and
+/* The functions of target/staticlib/libabi.a, which `rt staticlib abi` makes. Numbers and
    records are little-endian; README.md gives the formats. No function keeps a pointer, and each may be called from any
    thread. No pointer is NULL, even with length 0, and a buffer that is written overlaps no other of the same call. */
 #ifndef TTDA_H
@@ -16,6 +16,36 @@ uint64_t ttda_run(const uint8_t *graph, size_t graph_len,
                   uint8_t *ledger, size_t ledger_len,
                   uint8_t *cells, size_t cells_len);
 
+/* The same run, which also writes a log: a record of 12 bytes for each firing, from the start of log, with the bytes
+   behind them untouched. A log that is not whole records, or has fewer than the budget and fewer than 2,048, is refused
+   by 7. */
+uint64_t ttda_run_logged(const uint8_t *graph, size_t graph_len,
+                         const uint8_t *inputs, size_t inputs_len,
+                         const uint8_t *picks, size_t picks_len,
+                         uint16_t budget,
+                         uint8_t *ledger, size_t ledger_len,
+                         uint8_t *cells, size_t cells_len,
+                         uint8_t *log, size_t log_len);
+
+/* Replays a log: fires the activities that its records name, in turn. The log of a run is its first records, as many as
+   the run's answer has firings. A record that names no enabled activity, lacks its zero byte or is not whole is refused
+   by 20, with the record's number as the place. */
+uint64_t ttda_replay(const uint8_t *graph, size_t graph_len,
+                     const uint8_t *inputs, size_t inputs_len,
+                     const uint8_t *log, size_t log_len,
+                     uint8_t *ledger, size_t ledger_len,
+                     uint8_t *cells, size_t cells_len);
+
+/* Runs a graph in ideal steps, each of which fires every activity that is enabled at its start. Writes a record of 4 bytes
+   for each whole step to the start of profile (its firings, and the live plus deferred tokens after it, 16 bits each), and
+   the number of records to *records, also where the call is refused. 18 if a step has no record left. */
+uint64_t ttda_profile(const uint8_t *graph, size_t graph_len,
+                      const uint8_t *inputs, size_t inputs_len,
+                      uint8_t *ledger, size_t ledger_len,
+                      uint8_t *cells, size_t cells_len,
+                      uint8_t *profile, size_t profile_len,
+                      uint64_t *records);
+
 /* What a graph will need, before it runs: no run from these inputs has more firings or tokens. The answer has 16 bits
    each, lowest first: the word (0, or 1 to 7 or 19 refused), firings, tokens, place. 19 is a graph with NEXT, ENTER or
    LEAVE, at the first such record. */
@@ -31,7 +61,7 @@ uint64_t ttda_list(const uint8_t *ledger, size_t ledger_len,
 #define TTDA_TOO_SMALL 0
 #define TTDA_NO_ANSWER 1
 
-/* Prints an answer of ttda_run, a listing of ttda_list and the cells to the start of out, as the program does: the number
+/* Prints an answer of one of the functions above, a listing of ttda_list and the cells to the start of out, as the program does: the number
    of bytes, with the bytes of out behind them untouched. TTDA_TOO_SMALL if the text does not fit, TTDA_NO_ANSWER if the
    number is no answer's (another word, or a place though nothing is refused), both with out untouched. 74 bytes, 56 for
    each token and 46 for each cell are room enough. Bytes past the last whole record are passed over. */

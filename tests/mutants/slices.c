@@ -1,7 +1,7 @@
 /* The C functions of ttda.h over the engine as an unproved build has it. There a slice is passed by a pointer to its start
    and length; tests/mutants/run gives the engine's own functions the names below. A trap, which is how the build says that
    an assumption of the compiler is broken (an index out of range, a cast that loses bits), is reported with the number of
-   the run that it came in. */
+   the call that it came in. */
 #include <signal.h>
 #include <stddef.h>
 #include <stdint.h>
@@ -15,27 +15,72 @@ struct slice {
 
 uint64_t unproved_run(const struct slice *graph, const struct slice *inputs, const struct slice *picks, uint16_t budget,
                       const struct slice *ledger, const struct slice *cells);
+uint64_t unproved_profile(const struct slice *graph, const struct slice *inputs, const struct slice *ledger,
+                          const struct slice *cells, const struct slice *profile, uint64_t *records);
+uint64_t unproved_run_logged(const struct slice *graph, const struct slice *inputs, const struct slice *picks,
+                             uint16_t budget, const struct slice *ledger, const struct slice *cells,
+                             const struct slice *log);
+uint64_t unproved_replay(const struct slice *graph, const struct slice *inputs, const struct slice *log,
+                         const struct slice *ledger, const struct slice *cells);
+uint64_t unproved_bounds(const struct slice *graph, const struct slice *inputs);
 uint64_t unproved_list(const struct slice *ledger, const struct slice *out);
 uint64_t unproved_print(uint64_t answer, const struct slice *listing, const struct slice *cells, const struct slice *out);
 
-static unsigned long runs;
+static unsigned long calls;
 
 static void trapped(int number) {
     (void)number;
-    dprintf(1, "seed -, group -, run %lu, -:\n  trap: an assumption of the compiler is broken\n", runs);
+    dprintf(1, "seed -, group -, run %lu, -:\n  trap: an assumption of the compiler is broken\n", calls);
     _exit(1);
+}
+
+/* Counts a call of the random tests; from the first one on a trap is reported. */
+static void count(void) {
+    if (calls++ == 0) {
+        signal(SIGILL, trapped);
+        signal(SIGTRAP, trapped);
+        signal(SIGSEGV, trapped);
+    }
 }
 
 uint64_t ttda_run(const uint8_t *graph, size_t graph_len, const uint8_t *inputs, size_t inputs_len, const uint8_t *picks,
                   size_t picks_len, uint16_t budget, uint8_t *ledger, size_t ledger_len, uint8_t *cells, size_t cells_len) {
     const struct slice g = {graph, graph_len}, i = {inputs, inputs_len}, p = {picks, picks_len};
     const struct slice l = {ledger, ledger_len}, c = {cells, cells_len};
-    if (runs++ == 0) {
-        signal(SIGILL, trapped);
-        signal(SIGTRAP, trapped);
-        signal(SIGSEGV, trapped);
-    }
+    count();
     return unproved_run(&g, &i, &p, budget, &l, &c);
+}
+
+uint64_t ttda_profile(const uint8_t *graph, size_t graph_len, const uint8_t *inputs, size_t inputs_len, uint8_t *ledger,
+                      size_t ledger_len, uint8_t *cells, size_t cells_len, uint8_t *profile, size_t profile_len,
+                      uint64_t *records) {
+    const struct slice g = {graph, graph_len}, i = {inputs, inputs_len}, l = {ledger, ledger_len};
+    const struct slice c = {cells, cells_len}, p = {profile, profile_len};
+    count();
+    return unproved_profile(&g, &i, &l, &c, &p, records);
+}
+
+uint64_t ttda_run_logged(const uint8_t *graph, size_t graph_len, const uint8_t *inputs, size_t inputs_len,
+                         const uint8_t *picks, size_t picks_len, uint16_t budget, uint8_t *ledger, size_t ledger_len,
+                         uint8_t *cells, size_t cells_len, uint8_t *log, size_t log_len) {
+    const struct slice g = {graph, graph_len}, i = {inputs, inputs_len}, p = {picks, picks_len};
+    const struct slice l = {ledger, ledger_len}, c = {cells, cells_len}, o = {log, log_len};
+    count();
+    return unproved_run_logged(&g, &i, &p, budget, &l, &c, &o);
+}
+
+uint64_t ttda_replay(const uint8_t *graph, size_t graph_len, const uint8_t *inputs, size_t inputs_len, const uint8_t *log,
+                     size_t log_len, uint8_t *ledger, size_t ledger_len, uint8_t *cells, size_t cells_len) {
+    const struct slice g = {graph, graph_len}, i = {inputs, inputs_len}, o = {log, log_len};
+    const struct slice l = {ledger, ledger_len}, c = {cells, cells_len};
+    count();
+    return unproved_replay(&g, &i, &o, &l, &c);
+}
+
+uint64_t ttda_bounds(const uint8_t *graph, size_t graph_len, const uint8_t *inputs, size_t inputs_len) {
+    const struct slice g = {graph, graph_len}, i = {inputs, inputs_len};
+    count();
+    return unproved_bounds(&g, &i);
 }
 
 uint64_t ttda_list(const uint8_t *ledger, size_t ledger_len, uint8_t *out, size_t out_len) {

@@ -1,5 +1,5 @@
-// What Rust and C link: the run, the listing and the printed lines over numbers and byte slices, with the
-// promises of the crates behind them.
+// What Rust and C link: the run, with and without a log, the replay, the profile, the bounds, the listing and the
+// printed lines over numbers and byte slices, with the promises of the crates behind them.
 use listing::Listed;
 use rules::answer;
 use rules::answer::Answer;
@@ -13,6 +13,8 @@ ghost use Rattle.rules.specs.Answer.{placeIn, valuesOf};
 ghost use Rattle.rules.specs.Needs.{needs};
 ghost use Rattle.rules.specs.Run.{result, ledgerAfter, cellsAfter};
 ghost use Rattle.rules.specs.Run.{answer as Run·answer};
+ghost use Rattle.rules.specs.Log.{logged, logAfter, replayed};
+ghost use Rattle.rules.specs.Profile.{profiled, profileAnswer, profileAfter};
 ghost use Rattle.listing.specs.Listing.{outAfter};
 ghost use Rattle.listing.specs.Listing.{answer as Listing·answer};
 ghost use Rattle.abi.specs.Numbers.{packed, boundsOf, refusalOf, unplaced, outcomeOf, unpacked, printAnswer, printAfter};
@@ -57,7 +59,7 @@ fn number_of(a: Answer) -> u64
         + ((place_of(outcome) % 65536) as u64) * 281474976710656
 }
 
-// The refusal with 01's number.
+// The refusal with the papers' number.
 fn refusal_of(word: u64) -> Numbered
     ensures { λ r. ⌜ r ≡ refusalOf word ⌝ }
 {
@@ -145,6 +147,61 @@ pub extern "C" fn ttda_run(
     ensures { λ _. ⌜ now (cells .exit) ≡ cellsAfter (result (now (graph .entry)) (now (inputs .entry)) (now (picks .entry)) budget (length (now (ledger .entry))) (length (now (cells .entry)))) (now (cells .entry)) ⌝ }
 {
     number_of(engine::run(graph, inputs, picks, budget, ledger, cells))
+}
+
+#[no_mangle]
+pub extern "C" fn ttda_run_logged(
+    graph: &[u8],
+    inputs: &[u8],
+    picks: &[u8],
+    budget: u16,
+    ledger: &mut [u8],
+    cells: &mut [u8],
+    log: &mut [u8],
+) -> u64
+    ensures { λ r. ⌜ r ≡ packed (valuesOf (Run·answer (logged (now (graph .entry)) (now (inputs .entry)) (now (picks .entry)) budget (length (now (ledger .entry))) (length (now (cells .entry))) (length (now (log .entry))) .result))) ⌝ }
+    ensures { λ _. ⌜ now (ledger .exit) ≡ ledgerAfter (logged (now (graph .entry)) (now (inputs .entry)) (now (picks .entry)) budget (length (now (ledger .entry))) (length (now (cells .entry))) (length (now (log .entry))) .result) (now (ledger .entry)) ⌝ }
+    ensures { λ _. ⌜ now (cells .exit) ≡ cellsAfter (logged (now (graph .entry)) (now (inputs .entry)) (now (picks .entry)) budget (length (now (ledger .entry))) (length (now (cells .entry))) (length (now (log .entry))) .result) (now (cells .entry)) ⌝ }
+    ensures { λ _. ⌜ now (log .exit) ≡ logAfter (logged (now (graph .entry)) (now (inputs .entry)) (now (picks .entry)) budget (length (now (ledger .entry))) (length (now (cells .entry))) (length (now (log .entry)))) (now (log .entry)) ⌝ }
+{
+    number_of(engine::run_logged(graph, inputs, picks, budget, ledger, cells, log))
+}
+
+#[no_mangle]
+pub extern "C" fn ttda_replay(
+    graph: &[u8],
+    inputs: &[u8],
+    log: &[u8],
+    ledger: &mut [u8],
+    cells: &mut [u8],
+) -> u64
+    ensures { λ r. ⌜ r ≡ packed (valuesOf (Run·answer (replayed (now (graph .entry)) (now (inputs .entry)) (now (log .entry)) (length (now (ledger .entry))) (length (now (cells .entry)))))) ⌝ }
+    ensures { λ _. ⌜ now (ledger .exit) ≡ ledgerAfter (replayed (now (graph .entry)) (now (inputs .entry)) (now (log .entry)) (length (now (ledger .entry))) (length (now (cells .entry)))) (now (ledger .entry)) ⌝ }
+    ensures { λ _. ⌜ now (cells .exit) ≡ cellsAfter (replayed (now (graph .entry)) (now (inputs .entry)) (now (log .entry)) (length (now (ledger .entry))) (length (now (cells .entry)))) (now (cells .entry)) ⌝ }
+{
+    number_of(replay::replay(graph, inputs, log, ledger, cells))
+}
+
+// The number of records goes to `records`.
+#[no_mangle]
+pub extern "C" fn ttda_profile(
+    graph: &[u8],
+    inputs: &[u8],
+    ledger: &mut [u8],
+    cells: &mut [u8],
+    profile: &mut [u8],
+    records: &mut u64,
+) -> u64
+    ensures { λ r. ⌜ r ≡ packed (valuesOf (profileAnswer (profiled (now (graph .entry)) (now (inputs .entry)) (length (now (ledger .entry))) (length (now (cells .entry))) (length (now (profile .entry)))) .answer)) ⌝ }
+    ensures { λ _. ⌜ now (records .exit) ≡ profileAnswer (profiled (now (graph .entry)) (now (inputs .entry)) (length (now (ledger .entry))) (length (now (cells .entry))) (length (now (profile .entry)))) .records ⌝ }
+    ensures { λ _. ⌜ now (ledger .exit) ≡ ledgerAfter (profiled (now (graph .entry)) (now (inputs .entry)) (length (now (ledger .entry))) (length (now (cells .entry))) (length (now (profile .entry))) .result) (now (ledger .entry)) ⌝ }
+    ensures { λ _. ⌜ now (cells .exit) ≡ cellsAfter (profiled (now (graph .entry)) (now (inputs .entry)) (length (now (ledger .entry))) (length (now (cells .entry))) (length (now (profile .entry))) .result) (now (cells .entry)) ⌝ }
+    ensures { λ _. ⌜ now (profile .exit) ≡ profileAfter (profiled (now (graph .entry)) (now (inputs .entry)) (length (now (ledger .entry))) (length (now (cells .entry))) (length (now (profile .entry)))) (now (profile .entry)) ⌝ }
+{
+    let profiled = profile::profile(graph, inputs, ledger, cells, profile);
+    *records = profiled.records as u64;
+    let answer = profiled.answer;
+    number_of(answer)
 }
 
 #[no_mangle]

@@ -6,19 +6,46 @@ pub mod stores;
 use record::token;
 use rules::answer::Checked;
 ghost use mathlib.Core.Path.{_≡_};
+ghost use Rattle.record.specs.GraphRecords.{graphOf};
+ghost use Rattle.record.specs.TokensAndTags.{capacityOf};
 ghost use Rattle.rules.specs.Check as Rules;
+ghost use Rattle.rules.specs.Check.{_andThen_, checkGraph, checkInputs};
+ghost use Rattle.rules.specs.Log.{checkLogged};
 
-// All of it; the ledger and the cells by their lengths in bytes.
-pub fn check(graph: &[u8], inputs: &[u8], picks: &[u8], ledger: usize, cells: usize) -> Checked
-    ensures { λ r. ⌜ r ≡ Rules.check (now (graph .entry)) (now (inputs .entry)) (now (picks .entry)) ledger cells ⌝ }
+// The graph, what the check of the stores said, and the inputs; the ledger by its length in bytes.
+fn in_order(graph: &[u8], lent: Checked, inputs: &[u8], ledger: usize) -> Checked
+    ensures { λ r. ⌜ r ≡ (checkGraph (now (graph .entry)) andThen lent andThen checkInputs (graphOf (now (graph .entry))) (capacityOf ledger) (now (inputs .entry))) ⌝ }
 {
     let of_graph = graph::check(graph);
     let Checked::Passed = of_graph else {
         return of_graph;
     };
-    let of_stores = stores::check(inputs.len(), picks.len(), ledger, cells);
-    let Checked::Passed = of_stores else {
-        return of_stores;
+    let Checked::Passed = lent else {
+        return lent;
     };
     check_inputs::check(graph, inputs, ledger / token::WIDTH)
+}
+
+// All of it; the ledger and the cells by their lengths in bytes.
+pub fn check(graph: &[u8], inputs: &[u8], picks: &[u8], ledger: usize, cells: usize) -> Checked
+    ensures { λ r. ⌜ r ≡ Rules.check (now (graph .entry)) (now (inputs .entry)) (now (picks .entry)) ledger cells ⌝ }
+{
+    let of_stores = stores::check(inputs.len(), picks.len(), ledger, cells);
+    in_order(graph, of_stores, inputs, ledger)
+}
+
+// The same of a run that writes a log, by its length in bytes too.
+pub fn check_logged(
+    graph: &[u8],
+    inputs: &[u8],
+    picks: &[u8],
+    budget: usize,
+    ledger: usize,
+    cells: usize,
+    log: usize,
+) -> Checked
+    ensures { λ r. ⌜ r ≡ checkLogged (now (graph .entry)) (now (inputs .entry)) (now (picks .entry)) budget ledger cells log ⌝ }
+{
+    let of_stores = stores::check_logged(inputs.len(), picks.len(), ledger, cells, budget, log);
+    in_order(graph, of_stores, inputs, ledger)
 }

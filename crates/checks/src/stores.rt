@@ -1,5 +1,6 @@
 // Refusal 7: the stores, by their lengths in bytes.
 use record::cell;
+use record::log;
 use record::pick;
 use record::token;
 use rules::answer::Checked;
@@ -9,6 +10,7 @@ ghost use mathlib.Core.Bool.{_&&_};
 ghost use Rattle.buffer.specs.Rows as Rows;
 ghost use Rattle.record.specs.Widths.{tokenWidth, cellWidth, pickWidth};
 ghost use Rattle.rules.specs.Check.{checkStores};
+ghost use Rattle.rules.specs.Log.{logSuffices, checkLogStores};
 
 fn all_whole(inputs: usize, picks: usize, ledger: usize, cells: usize) -> bool
     ensures { λ r. ⌜ r ≡ (Rows.whole tokenWidth 2048 inputs && (Rows.whole pickWidth 2048 picks && (Rows.whole tokenWidth 2048 ledger && Rows.whole cellWidth 1024 cells))) ⌝ }
@@ -23,6 +25,36 @@ pub fn check(inputs: usize, picks: usize, ledger: usize, cells: usize) -> Checke
     ensures { λ c. ⌜ c ≡ checkStores inputs picks ledger cells ⌝ }
 {
     if all_whole(inputs, picks, ledger, cells) {
+        Checked::Passed
+    } else {
+        Checked::Failed(Refusal::BadStore, 0)
+    }
+}
+
+// 02, R-7: a log of whole records, as many as the budget or 2,048.
+fn log_suffices(budget: usize, log: usize) -> bool
+    ensures { λ r. ⌜ r ≡ logSuffices budget log ⌝ }
+{
+    let records = log / log::WIDTH;
+    log % log::WIDTH == 0 && (budget <= records || 2048 <= records)
+}
+
+// The same with a log.
+pub fn check_logged(
+    inputs: usize,
+    picks: usize,
+    ledger: usize,
+    cells: usize,
+    budget: usize,
+    log: usize,
+) -> Checked
+    ensures { λ c. ⌜ c ≡ checkLogStores inputs picks ledger cells budget log ⌝ }
+{
+    let others = check(inputs, picks, ledger, cells);
+    let Checked::Passed = others else {
+        return others;
+    };
+    if log_suffices(budget, log) {
         Checked::Passed
     } else {
         Checked::Failed(Refusal::BadStore, 0)

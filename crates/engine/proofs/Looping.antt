@@ -1,17 +1,19 @@
--- The loop of a run: what holds after so many firings, and that a turn, a refusal, nothing enabled and a spent budget end it as the machine's run ends.
+-- The loop of a run: what holds of ledger, cells and log after so many firings, and that a turn, a refusal, nothing enabled and a spent budget end it as the machine's run ends.
 -- Assumes nothing.
 use Prim.Native.Nat.{ℕ, suc, _+_, _-_, _*_, _/_, _≤_, _<_}
 use mathlib.Core.Path.{_≡_, refl, sym, ap, _∙_, subst}
-use mathlib.Core.List.{List, [], _∷_}
+use mathlib.Core.List.{List, [], _∷_, _++_, append-nil, append-assoc}
 use native.Mathlib.Omega.{arith}
 use native.Mathlib.Numerals.{add-one}
-use lib.ListN.{length, drop}
+use lib.ListN.{length, drop, length-append}
 use lib.IntN.{ℤ}
 use Rattle.record.specs.declared.tag.Tag.{Tag}
 use Rattle.record.specs.declared.instruction.Instruction.{Instruction}
 use Rattle.record.specs.TokensAndTags.{tokens}
 use Rattle.record.specs.Widths.{tokenWidth, cellWidth}
 use Rattle.machine.specs.Machine.{Machine, Outcome, End, laterPicks, byPicks, runBy, end}
+use Rattle.machine.specs.Sequences.{logOf}
+use Rattle.machine.proofs.Runs.{logZero}
 use Rattle.load.specs.Loaded.{tailOf}
 use Rattle.load.proofs.Laws.{tail-drop}
 use Rattle.fire_outputs.proofs.Laws.{rest-on}
@@ -26,7 +28,8 @@ use Rattle.fire.specs.Running.{machineFor, stateIn, Running}
 use Rattle.ending.specs.Endings.{RestsAs}
 use Rattle.ending.proofs.Laws.{rests-there}
 use Rattle.start.specs.Ended.{EndedAt}
-use Rattle.engine.specs.Turns.{Advanced, Halted, endOf}
+use Rattle.engine.specs.Turns.{Advanced, Halted, endOf, firedBy, noted, recorded}
+use Rattle.engine.proofs.Recording.{recorded-none, length-recorded, noted-next}
 use Rattle.start.proofs.Ending.{left}
 
 -- after so many firings, from a ledger and cells as lent
@@ -39,6 +42,25 @@ pub record SoFar (g : List Instruction) (ledger₀ cells₀ : List ℕ) (start b
   -- the run that is left to do
   pub toDo : endOf g ledger₀ cells₀ start budget picks
       ≡ runBy (machineFor g ledger₀ cells₀) (byPicks (machineFor g ledger₀ cells₀)) (budget - firings) (drop firings picks) firings (stateIn ledger cells used)
+
+-- the log after so many firings, from one as lent
+pub record Noted (g : List Instruction) (ledger₀ cells₀ log₀ : List ℕ) (start budget : ℕ) (picks ledger cells log : List ℕ) (used firings : ℕ) : Type 0 where
+  pub done : List Tag
+  pub count : length done ≡ firings
+  pub size : length log ≡ length log₀
+  pub written : log ≡ recorded done log₀
+  -- the log that is left to write
+  pub toLog : firedBy g ledger₀ cells₀ start budget picks
+      ≡ done ++ logOf (machineFor g ledger₀ cells₀) (byPicks (machineFor g ledger₀ cells₀)) (budget - firings) (drop firings picks) (stateIn ledger cells used)
+
+pub noted-none : (g : List Instruction) (ledger₀ cells₀ : List ℕ) (start budget : ℕ) (picks log₀ : List ℕ) → Noted g ledger₀ cells₀ log₀ start budget picks ledger₀ cells₀ log₀ start 0
+noted-none g ledger₀ cells₀ start budget picks log₀ = record {
+  done = [];
+  count = refl;
+  size = refl;
+  written = sym (recorded-none log₀);
+  toLog = let e : budget ≡ budget - 0 = omega arith in ap (λ (b : ℕ). logOf (machineFor g ledger₀ cells₀) (byPicks (machineFor g ledger₀ cells₀)) b picks (stateIn ledger₀ cells₀ start)) e;
+}
 
 later-drop : (k : ℕ) (xs : List ℕ) → laterPicks (drop k xs) ≡ drop (suc k) xs
 later-drop k xs = go (drop k xs) ∙ tail-drop k xs
@@ -70,10 +92,10 @@ module _ (g : List Instruction) (ledger₀ cells₀ : List ℕ) (start budget : 
     to-do b e = so .toDo ∙ ap (λ (n : ℕ). runBy M₀ (byPicks M₀) n (drop firings picks) firings (stateIn ledger cells used)) e
 
     -- a turn that fired
-    pub advanced : firings < budget → (links′ flags′ ledger′ cells′ : List ℕ) (n : ℕ)
-        → Advanced g (drop firings picks) tables links′ flags′ ledger′ cells′ n used ledger cells
+    pub advanced : firings < budget → (links′ flags′ ledger′ cells′ : List ℕ) (n : ℕ) (τ : Tag)
+        → Advanced g τ (drop firings picks) tables links′ flags′ ledger′ cells′ n used ledger cells
         → SoFar g ledger₀ cells₀ start budget picks tables links′ flags′ ledger′ cells′ n (firings + 1)
-    advanced h links′ flags′ ledger′ cells′ n a =
+    advanced h links′ flags′ ledger′ cells′ n τ a =
         let s = stateIn ledger cells used in
         let s′ = stateIn ledger′ cells′ n in
         let b = budget - suc firings in
@@ -122,3 +144,40 @@ module _ (g : List Instruction) (ledger₀ cells₀ : List ℕ) (start budget : 
         let o = runBy M₀ (byPicks M₀) 0 (drop firings picks) firings s .outcome in
         let told = said g right (on-ports g (tokens used ledger) (so .running .arrived)) (length ledger₀ / tokenWidth) (length cells₀ / cellWidth) (cellsIn cells) (byPicks M₀) (drop firings picks) firings in
         ends-as o w (sym told) (to-do 0 (omega arith) ∙ rests-there M₀ (byPicks M₀) (drop firings picks) firings s) (so .running) refl refl
+
+    -- ---- the log
+
+    module _ {log₀ log : List ℕ} (no : Noted g ledger₀ cells₀ log₀ start budget picks ledger cells log used firings) where
+      to-log : (b : ℕ) (τs : List Tag) → budget - firings ≡ b → logOf M₀ (byPicks M₀) b (drop firings picks) (stateIn ledger cells used) ≡ τs → firedBy g ledger₀ cells₀ start budget picks ≡ no .done ++ τs
+      to-log b τs e h = no .toLog ∙ ap (λ (n : ℕ). no .done ++ logOf M₀ (byPicks M₀) n (drop firings picks) (stateIn ledger cells used)) e ∙ ap (λ (l : List Tag). no .done ++ l) h
+
+      pub noted-on : firings < budget → {links′ flags′ ledger′ cells′ : List ℕ} {n : ℕ} (τ : Tag) → Advanced g τ (drop firings picks) tables links′ flags′ ledger′ cells′ n used ledger cells
+          → (log′ : List ℕ) → log′ ≡ noted log firings τ → Noted g ledger₀ cells₀ log₀ start budget picks ledger′ cells′ log′ n (firings + 1)
+      noted-on h {ledger′ = ledger′} {cells′ = cells′} {n = n} τ a log′ w =
+          let s = stateIn ledger cells used in
+          let s′ = stateIn ledger′ cells′ n in
+          let b = budget - suc firings in
+          let later = logOf M₀ (byPicks M₀) b (drop (suc firings) picks) s′ in
+          let step : logOf M₀ (byPicks M₀) (suc b) (drop firings picks) s ≡ τ ∷ later =
+          as-lent (λ p q. logOf (machineOf g p q) (byPicks (machineOf g p q)) (suc b) (drop firings picks) s ≡ τ ∷ logOf (machineOf g p q) (byPicks (machineOf g p q)) b (laterPicks (drop firings picks)) s′) (a .logs b)
+          ∙ ap (λ (ps : List ℕ). τ ∷ logOf M₀ (byPicks M₀) b ps s′) (later-drop firings picks) in
+          let all : log′ ≡ recorded (no .done ++ τ ∷ []) log₀ = w ∙ (λ i. noted (no .written i) (sym (no .count) i) τ) ∙ noted-next (no .done) log₀ τ in
+          record {
+            done = no .done ++ τ ∷ [];
+            count = omega (arith, length-append (no .done) (τ ∷ []), no .count);
+            size = ap length all ∙ length-recorded (no .done ++ τ ∷ []) log₀;
+            written = all;
+            toLog = rw (add-one firings) (to-log (suc b) (τ ∷ later) (omega arith) step ∙ sym (append-assoc (no .done) (τ ∷ []) later));
+          }
+
+      no-more : firedBy g ledger₀ cells₀ start budget picks ≡ no .done ++ [] → log ≡ recorded (firedBy g ledger₀ cells₀ start budget picks) log₀
+      no-more e = no .written ∙ ap (λ (l : List Tag). recorded l log₀) (sym (e ∙ append-nil (no .done)))
+
+      pub noted-halted : firings < budget → {o : AnswerOutcome.Outcome} {links′ flags′ ledger′ cells′ : List ℕ} → Halted o g (drop firings picks) tables links′ flags′ ledger′ cells′ used ledger cells
+          → log ≡ recorded (firedBy g ledger₀ cells₀ start budget picks) log₀
+      noted-halted h a =
+          let b = budget - suc firings in
+          no-more (to-log (suc b) [] (omega arith) (as-lent (λ p q. logOf (machineOf g p q) (byPicks (machineOf g p q)) (suc b) (drop firings picks) (stateIn ledger cells used) ≡ []) (a .logsNone b)))
+
+      pub noted-finished : budget ≤ firings → log ≡ recorded (firedBy g ledger₀ cells₀ start budget picks) log₀
+      noted-finished h = no-more (to-log 0 [] (omega arith) (logZero M₀ (byPicks M₀) (drop firings picks) (stateIn ledger cells used)))

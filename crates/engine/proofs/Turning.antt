@@ -23,7 +23,8 @@ use Rattle.load.proofs.Laws.{head-drop}
 use Rattle.store_enabled.specs.Enabled.{leads, enabledPlaces}
 use Rattle.machine.specs.Machine.{Machine, State, Activity, ending, enabled, firstPick, laterPicks, pickOf, byPicks, runBy, end, fire, fired, notFired}
 use Rattle.machine.specs.Machine as Machines
-use Rattle.machine.proofs.Runs.{runFired, runRefused}
+use Rattle.machine.specs.Sequences.{logOf}
+use Rattle.machine.proofs.Runs.{runFired, runRefused, logEmpty, logFired, logRefused}
 use Rattle.rules.specs.declared.answer.Refusal.{Refusal}
 use Rattle.rules.specs.declared.answer.Outcome as AnswerOutcome
 use Rattle.rules.specs.declared.answer.Outcome.the-variants as Outcomes
@@ -58,6 +59,13 @@ module _ (g : List Instruction) (tables : List ℕ) (right : Arities g tables) (
   enabled-here : enabled M s ≡ map activity (enabledPlaces tables (tokens used ledger))
   enabled-here = held-enabled g (length ledger / tokenWidth) (length cells / cellWidth) tables (tokens used ledger) (cellsIn cells) noToken right (on-ports g (tokens used ledger) arrived)
 
+  none-enabled : length (enabledPlaces tables (tokens used ledger)) ≡ 0 → enabled M s ≡ []
+  none-enabled e = enabled-here ∙ go (enabledPlaces tables (tokens used ledger)) e
+    where
+      go : (l : List ℕ) → length l ≡ 0 → map activity l ≡ []
+      go [] h = refl
+      go (p ∷ l) h = absurd (omega arith)
+
   -- the activity that a pick takes, of as many as there are
   picked : (pick : ℕ) (p : ℕ) (l : List ℕ) → pickOf M pick (activity p) (map activity l) ≡ activity (getD (p ∷ l) (pick % length (p ∷ l)) 0)
   picked pick p l =
@@ -74,6 +82,28 @@ module _ (g : List Instruction) (tables : List ℕ) (right : Arities g tables) (
         go [] q h c = absurd (h refl)
         go (p ∷ l) q h c =
             runFired M (byPicks M) b picks f s x (activity p) (map activity l) (enabled-here ∙ ap (map activity) q)
+            (ap (λ (a : Activity Tag). fire M s (a .tag)) (picked (firstPick picks) p l ∙ ap activity (sym c)) ∙ e)
+
+    -- the tag of the activity that fired heads the log
+    pub logs-on : (x : State Tag ℤ) → fire M s (getD (tokens used ledger) place noToken .tag) ≡ fired x → (b : ℕ)
+        → logOf M (byPicks M) (suc b) picks s ≡ getD (tokens used ledger) place noToken .tag ∷ logOf M (byPicks M) b (laterPicks picks) x
+    logs-on x e b = go (enabledPlaces tables (tokens used ledger)) refl some chosen
+      where
+        go : (l : List ℕ) → enabledPlaces tables (tokens used ledger) ≡ l → (length l ≡ 0 → ⊥) → place ≡ getD l (firstPick picks % length l) 0
+            → logOf M (byPicks M) (suc b) picks s ≡ getD (tokens used ledger) place noToken .tag ∷ logOf M (byPicks M) b (laterPicks picks) x
+        go [] q h c = absurd (h refl)
+        go (p ∷ l) q h c =
+            let pick = picked (firstPick picks) p l ∙ ap activity (sym c) in
+            logFired M (byPicks M) b picks s x (activity p) (map activity l) (enabled-here ∙ ap (map activity) q) (ap (λ (a : Activity Tag). fire M s (a .tag)) pick ∙ e)
+            ∙ ap (λ (a : Activity Tag). a .tag ∷ logOf M (byPicks M) b (laterPicks picks) x) pick
+
+    pub logs-none : (r : Refusal) → fire M s (getD (tokens used ledger) place noToken .tag) ≡ notFired r → (b : ℕ) → logOf M (byPicks M) (suc b) picks s ≡ []
+    logs-none r e b = go (enabledPlaces tables (tokens used ledger)) refl some chosen
+      where
+        go : (l : List ℕ) → enabledPlaces tables (tokens used ledger) ≡ l → (length l ≡ 0 → ⊥) → place ≡ getD l (firstPick picks % length l) 0 → logOf M (byPicks M) (suc b) picks s ≡ []
+        go [] q h c = absurd (h refl)
+        go (p ∷ l) q h c =
+            logRefused M (byPicks M) b picks s (activity p) (map activity l) r (enabled-here ∙ ap (map activity) q)
             (ap (λ (a : Activity Tag). fire M s (a .tag)) (picked (firstPick picks) p l ∙ ap activity (sym c)) ∙ e)
 
     pub halts : (r : Refusal) → fire M s (getD (tokens used ledger) place noToken .tag) ≡ notFired r → (b f : ℕ) → runBy M (byPicks M) (suc b) picks f s ≡ end M (Machines.refused r place) f s
@@ -114,6 +144,7 @@ module _ (graph picks : List ℕ) {tables links flags ledger cells : List ℕ} {
         told = sym (said (graphOf graph) (ready .aritiesRight) (length ledger / tokenWidth) (length cells / cellWidth) (cellsIn cells));
         ends = λ b f. ended (graphOf graph) (length ledger / tokenWidth) (length cells / cellWidth) tables (tokens used ledger) (cellsIn cells) (ready .aritiesRight)
             (on-ports (graphOf graph) (tokens used ledger) (now .arrived)) (byPicks M₁) (suc b) later-picks f (sym (count e h) ∙ z);
+        logsNone = λ b. logEmpty M₁ (byPicks M₁) (suc b) later-picks (stateIn ledger cells used) (none-enabled (graphOf graph) tables (ready .aritiesRight) ledger cells used (now .arrived) (sym (count e h) ∙ z));
         running = now;
         sameLedger = refl;
         sameCells = refl;
@@ -145,11 +176,14 @@ module _ (graph picks : List ℕ) {tables links flags ledger cells : List ℕ} {
     that-tag = ap (λ (t : Record.Token). t .tag) (sym (getD-rows tokenWidth Tokens.decode used place ledger noToken (place-enabled .0)))
 
     module _ {links′ flags′ ledger′ cells′ : List ℕ} where
-      pub turn-done : {n : ℕ} → Went (graphOf graph) (tokenAt ledger place .tag) tables links′ flags′ ledger′ cells′ n used ledger cells
-          → Advanced (graphOf graph) later-picks tables links′ flags′ ledger′ cells′ n used ledger cells
-      turn-done w = record {
+      pub turn-done : {n : ℕ} (τ : Tag) → τ ≡ tokenAt ledger place .tag → Went (graphOf graph) (tokenAt ledger place .tag) tables links′ flags′ ledger′ cells′ n used ledger cells
+          → Advanced (graphOf graph) τ later-picks tables links′ flags′ ledger′ cells′ n used ledger cells
+      turn-done {n} τ is w = record {
         goesOn = goes-on (graphOf graph) tables (ready .aritiesRight) ledger cells used (now .arrived) later-picks place enabled-some chosen _
             (ap (fire (machineFor (graphOf graph) ledger cells) (stateIn ledger cells used)) (sym that-tag) ∙ w .step);
+        logs = λ b. logs-on (graphOf graph) tables (ready .aritiesRight) ledger cells used (now .arrived) later-picks place enabled-some chosen _
+            (ap (fire (machineFor (graphOf graph) ledger cells) (stateIn ledger cells used)) (sym that-tag) ∙ w .step) b
+            ∙ ap (λ (σ : Tag). σ ∷ logOf (machineFor (graphOf graph) ledger cells) (byPicks (machineFor (graphOf graph) ledger cells)) b (laterPicks later-picks) (stateIn ledger′ cells′ n)) (sym (is ∙ that-tag));
         running = w .running;
         grown = w .grown;
         size = w .size;
@@ -163,6 +197,8 @@ module _ (graph picks : List ℕ) {tables links flags ledger cells : List ℕ} {
         outcome = Machines.refused r place;
         told = refl;
         ends = halts (graphOf graph) tables (ready .aritiesRight) ledger cells used (now .arrived) later-picks place enabled-some chosen r
+            (ap (fire (machineFor (graphOf graph) ledger cells) (stateIn ledger cells used)) (sym that-tag) ∙ w .step);
+        logsNone = logs-none (graphOf graph) tables (ready .aritiesRight) ledger cells used (now .arrived) later-picks place enabled-some chosen r
             (ap (fire (machineFor (graphOf graph) ledger cells) (stateIn ledger cells used)) (sym that-tag) ∙ w .step);
         running = w .running;
         sameLedger = w .sameLedger;

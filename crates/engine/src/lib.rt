@@ -1,6 +1,9 @@
-// The engine: a graph and its inputs are checked, and fired under picks.
+// The engine: a graph and its inputs are checked, and fired under picks. A run may write a log.
 use checks::graph;
 use fire_commit::Fired;
+use record::log;
+use record::tag::Tag;
+use record::token;
 use rules::answer::Answer;
 use rules::answer::Checked;
 use rules::answer::Outcome;
@@ -9,18 +12,21 @@ ghost use mathlib.Core.Path.{_≡_};
 ghost use lib.ListN.{length, drop};
 ghost use Rattle.record.specs.GraphRecords.{graphOf};
 ghost use Rattle.record.specs.Widths.{cellWidth};
+ghost use Rattle.machine.specs.Machine.{byPicks};
 ghost use Rattle.machine.specs.Machine.{run as Machine·run};
-ghost use Rattle.rules.specs.declared.answer.Checked.the-variants.{Passed};
+ghost use Rattle.machine.specs.Sequences.{logOf};
 ghost use Rattle.rules.specs.Answer.{valuesChecked};
-ghost use Rattle.rules.specs.Check.{checkGraph, check};
+ghost use Rattle.rules.specs.Check.{checkGraph};
 ghost use Rattle.rules.specs.Run.{picksOf, firstState, result, Ran};
+ghost use Rattle.rules.specs.Log.{logged, LogRan};
 ghost use Rattle.fire.specs.Running.{machineFor, Prepared, Running};
+ghost use Rattle.start.specs.Begun.{Accepted};
 ghost use Rattle.start.specs.Ended.{EndedAt};
-ghost use Rattle.engine.specs.Turns.{Turned, endOf};
+ghost use Rattle.engine.specs.Turns.{Turned, endOf, firedBy, noted, recorded};
 
-// What a turn of a run comes to: an activity fired and left so many tokens, or the run is at its end.
+// What a turn of a run comes to: the activity of a tag fired and left so many tokens, or the run is at its end.
 pub enum Turn {
-    Fired(usize),
+    Fired(usize, Tag),
     Ended(Outcome),
 }
 
@@ -53,29 +59,48 @@ fn take_turn(
     }
     let number = number_of(load::pick_at(picks, firings), e);
     let place = store::enabled_at(flags, number);
+    let t = token::token_at(ledger, place);
+    let tag = t.tag;
     let fired = fire::fire(graph, tables, links, flags, ledger, cells, used, place);
     match fired {
-        Fired::Done(n) => Turn::Fired(n),
+        Fired::Done(n) => Turn::Fired(n, tag),
         Fired::Refused(r) => Turn::Ended(Outcome::Refused(r, place)),
     }
 }
 
-// A run goes on from a state, with picks and a budget.
+// Writes the record of firing i, if the log has room for it. A run without a log has one of no bytes.
+fn note(log: &mut [u8], i: usize, tag: Tag)
+    ensures { λ _. ⌜ now (log .exit) ≡ noted (now (log .entry)) i tag ⌝ }
+{
+    if i < log.len() / log::WIDTH {
+        log::put_tag(log, i, tag);
+    }
+}
+
+// What a run goes on from and how far: the tokens in the ledger, and the firings that it may do.
+pub struct Going {
+    pub used: usize,
+    pub budget: usize,
+}
+
+// A run goes on from a state under picks, and notes each firing.
 fn proceed(
     graph: &[u8],
     tables: &[u16; 512],
     picks: &[u8],
-    budget: usize,
     links: &mut [u16; 9216],
     flags: &mut [u64; 69],
     ledger: &mut [u8],
     cells: &mut [u8],
-    start: usize,
+    log: &mut [u8],
+    going: Going,
 ) -> Answer
-    requires { ⌜ Prepared (now graph) (now tables) × Running (graphOf (now graph)) (now tables) (now links) (now flags) (now ledger) (now cells) start ⌝ }
-    ensures { λ r. ⌜ EndedAt (endOf (graphOf (now (graph .entry))) (now (ledger .entry)) (now (cells .entry)) start budget (picksOf (now (picks .entry)))) r (now (ledger .entry)) (now (cells .entry)) (now (ledger .exit)) (now (cells .exit)) ⌝ }
+    requires { ⌜ Prepared (now graph) (now tables) × Running (graphOf (now graph)) (now tables) (now links) (now flags) (now ledger) (now cells) (going .used) ⌝ }
+    ensures { λ r. ⌜ EndedAt (endOf (graphOf (now (graph .entry))) (now (ledger .entry)) (now (cells .entry)) (going .used) (going .budget) (picksOf (now (picks .entry)))) r (now (ledger .entry)) (now (cells .entry)) (now (ledger .exit)) (now (cells .exit)) ⌝ }
+    ensures { λ _. ⌜ now (log .exit) ≡ recorded (firedBy (graphOf (now (graph .entry))) (now (ledger .entry)) (now (cells .entry)) (going .used) (going .budget) (picksOf (now (picks .entry)))) (now (log .entry)) ⌝ }
 {
-    let mut used = start;
+    let budget = going.budget;
+    let mut used = going.used;
     let mut firings = 0;
     while firings < budget {
         let turned = take_turn(
@@ -90,7 +115,8 @@ fn proceed(
             used,
         );
         match turned {
-            Turn::Fired(n) => {
+            Turn::Fired(n, tag) => {
+                note(log, firings, tag);
                 used = n;
                 firings += 1;
             }
@@ -119,9 +145,11 @@ fn accepted(
     budget: usize,
     ledger: &mut [u8],
     cells: &mut [u8],
+    log: &mut [u8],
 ) -> Answer
-    requires { ⌜ check (now graph) (now inputs) (now picks) (length (now ledger)) (length (now cells)) ≡ Passed ⌝ }
+    requires { ⌜ Accepted (now graph) (now inputs) (length (now ledger)) (length (now cells)) ⌝ }
     ensures { λ r. ⌜ EndedAt (Machine·run (machineFor (graphOf (now (graph .entry))) (now (ledger .entry)) (now (cells .entry))) budget (picksOf (now (picks .entry))) (firstState (now (inputs .entry)) (length (now (cells .entry)) / cellWidth))) r (now (ledger .entry)) (now (cells .entry)) (now (ledger .exit)) (now (cells .exit)) ⌝ }
+    ensures { λ _. ⌜ now (log .exit) ≡ recorded (logOf (machineFor (graphOf (now (graph .entry))) (now (ledger .entry)) (now (cells .entry))) (byPicks (machineFor (graphOf (now (graph .entry))) (now (ledger .entry)) (now (cells .entry)))) budget (picksOf (now (picks .entry))) (firstState (now (inputs .entry)) (length (now (cells .entry)) / cellWidth))) (now (log .entry)) ⌝ }
 {
     let mut tables = [0u16; 512];
     let mut links = [0u16; 9216];
@@ -139,12 +167,12 @@ fn accepted(
         graph,
         &tables,
         picks,
-        budget,
         &mut links,
         &mut flags,
         ledger,
         cells,
-        used,
+        log,
+        Going { used, budget },
     )
 }
 
@@ -173,6 +201,49 @@ pub fn run(
             firings: 0,
             tokens: 0,
         },
-        Checked::Passed => accepted(graph, inputs, picks, budget as usize, ledger, cells),
+        Checked::Passed => {
+            let mut none = [0u8; 0];
+            accepted(
+                graph,
+                inputs,
+                picks,
+                budget as usize,
+                ledger,
+                cells,
+                &mut none,
+            )
+        }
+    }
+}
+
+// The same run, which also writes a log: the first records of it, one for each firing.
+pub fn run_logged(
+    graph: &[u8],
+    inputs: &[u8],
+    picks: &[u8],
+    budget: u16,
+    ledger: &mut [u8],
+    cells: &mut [u8],
+    log: &mut [u8],
+) -> Answer
+    ensures { λ r. ⌜ LogRan (logged (now (graph .entry)) (now (inputs .entry)) (now (picks .entry)) budget (length (now (ledger .entry))) (length (now (cells .entry))) (length (now (log .entry)))) r (now (ledger .entry)) (now (ledger .exit)) (now (cells .entry)) (now (cells .exit)) (now (log .entry)) (now (log .exit)) ⌝ }
+{
+    let firings = budget as usize;
+    let checked = checks::check_logged(
+        graph,
+        inputs,
+        picks,
+        firings,
+        ledger.len(),
+        cells.len(),
+        log.len(),
+    );
+    match checked {
+        Checked::Failed(r, place) => Answer {
+            outcome: Outcome::Refused(r, place),
+            firings: 0,
+            tokens: 0,
+        },
+        Checked::Passed => accepted(graph, inputs, picks, firings, ledger, cells, log),
     }
 }

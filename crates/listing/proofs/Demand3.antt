@@ -12,7 +12,7 @@ use Rattle.record.specs.declared.tag.Tag.{Tag}
 use Rattle.record.specs.declared.token.Token.{Token}
 use Rattle.number.specs.Number.{Bytes}
 use Rattle.buffer.specs.Rows.{All, joined}
-use Rattle.record.specs.TokensAndTags.{encode, mostTokens, capacityOf, ledgerOf}
+use Rattle.record.specs.TokensAndTags.{encode, TokenFits, mostTokens, capacityOf, ledgerOf}
 use Rattle.record.specs.Cells as Cells
 use Rattle.record.proofs.Records.{length-token, length-cell}
 use Rattle.buffer.proofs.Tables.{length-joined}
@@ -23,7 +23,7 @@ use Rattle.rules.specs.declared.answer.Outcome.{Outcome}
 use Rattle.rules.specs.declared.answer.Outcome.the-variants as Outcomes
 use Rattle.rules.specs.declared.answer.Answer.{Answer}
 use Rattle.rules.specs.Check.{mostCells}
-use Rattle.rules.specs.Run.{Result, refusedAtOnce, ranTo, outcomeOf, result, ledgerAfter, cellsAfter, tokenRecord}
+use Rattle.rules.specs.Run.{Result, refusedAtOnce, ranTo, outcomeOf, result, Ran, ledgerAfter, cellsAfter, tokenRecord}
 use Rattle.rules.specs.Run as Run
 use Rattle.rules.specs.Orders.{tokensOf, cellsOf, EachOnce}
 use Rattle.rules.specs.Orders as Rules
@@ -114,6 +114,38 @@ once-apart (t ∷ ts) h = (all-apart t ts (h .0), once-apart ts (h .1))
 records-of : (ts : List Token) → records (joined encode ts) ≡ map encode ts
 records-of ts = records-joined encode ts (all-of (λ t. length (encode t) ≡ tokenWidth) length-token ts)
 
+-- ---- two ends that are alike by the rules are alike in every byte
+
+abbrev CellsLent : Result → List ℕ → Type 0
+CellsLent x lent = (length lent % cellWidth ≡ 0) × CellCount x (length lent / cellWidth)
+
+module _ (x y : Result) {r q : Answer} {l l′ c c′ m m′ d d′ : List ℕ} (ranX : Ran x r l l′ c c′) (ranY : Ran y q m m′ d d′) (cx : Rules.Quiescent x) (cy : Rules.Quiescent y) where
+  abbrev left : Left
+  left = record { answer = r; ledger = l′; cells = c′ }
+
+  abbrev other : Left
+  other = record { answer = q; ledger = m′; cells = d′ }
+
+  pub bytes-alike : r .outcome ≡ q .outcome → Rules.Alike x y → All TokenFits (tokensOf x) → length (tokensOf x) ≤ mostTokens → CellsLent x c → CellsLent y d → Alike left other
+  bytes-alike outcomes same fits few cellsX cellsY =
+      let ts = tokensOf x in
+      let us = tokensOf y in
+      let ux : used left ≡ joined encode ts = rw (ranX .answered, ranX .ledgerLeft) (used-bytes x l) in
+      let uy : used other ≡ joined encode us = rw (ranY .answered, ranY .ledgerLeft) (used-bytes y m) in
+      let firings : r .firings ≡ q .firings = rw (ranX .answered, ranY .answered) (same .firings) in
+      let tokens : r .tokens ≡ q .tokens = rw (ranX .answered, ranY .answered) (same .tokens) in
+      let apart = places-differ ts (once-apart ts (same .eachOnce)) in
+      record {
+        answers = λ i. record { outcome = outcomes i; firings = firings i; tokens = tokens i };
+        cells = ranX .cellsLeft ∙ cell-bytes x cx c (cellsX .0) (cellsX .1) ∙ ap (joined Cells.encode) (same .cells) ∙ sym (ranY .cellsLeft ∙ cell-bytes y cy d (cellsY .0) (cellsY .1));
+        sameTokens = rw (ux, uy, records-of ts, records-of us) (perm-map encode (same .sameTokens));
+        eachOnce = rw (ux, records-of ts) (records-differ ts fits apart);
+        listings = λ out out′ e e′.
+            rw (ux, uy)
+            (list-orders out out′ (same .sameTokens) apart fits few
+            (e ∙ ap length ux ∙ length-tokens ts) (e′ ∙ ap length uy ∙ length-tokens us));
+      }
+
 -- ---- two runs
 
 module _ (graph inputs : List ℕ) (graphBytes : Bytes graph) (inputBytes : Bytes inputs) (l m : Lent) (a : NotForOthers graph inputs l) (b : NotForOthers graph inputs m)
@@ -128,17 +160,9 @@ module _ (graph inputs : List ℕ) (graphBytes : Bytes graph) (inputBytes : Byte
   ended : (k : Lent) (z : Left) → RanOn graph inputs k z → SameEnd (resultOf k) (z .answer .outcome)
   ended k z ran = subst (λ (r : Answer). SameEnd (resultOf k) (r .outcome)) (sym (ran .answered)) (same-end (resultOf k))
 
-  used-of : (k : Lent) (z : Left) → RanOn graph inputs k z → used z ≡ joined encode (tokensOf (resultOf k))
-  used-of k z ran = rw (ran .answered, ran .ledgerLeft) (used-bytes (resultOf k) (k .ledger))
-
   -- a run that completes or hangs passed the check of its stores
   stores-of : (k : Lent) → Rules.Quiescent (resultOf k) → Whole (length inputs) (length (k .picks)) (length (k .ledger)) (length (k .cells))
   stores-of k c = stores-whole (length inputs) (length (k .picks)) (length (k .ledger)) (length (k .cells)) (begun-stores graph inputs (k .picks) 2048 (length (k .ledger)) (length (k .cells)) (quiescent-begun (resultOf k) c))
-
-  cells-of : (k : Lent) (z : Left) → RanOn graph inputs k z → Rules.Quiescent (resultOf k) → z .cells ≡ joined Cells.encode (cellsOf (resultOf k))
-  cells-of k z ran c =
-      let fits = result-fits graph inputs (k .picks) 2048 (length (k .ledger)) (length (k .cells)) graphBytes inputBytes in
-      ran .cellsLeft ∙ cell-bytes (resultOf k) c (k .cells) (whole-bytes cellWidth mostCells (length (k .cells)) (stores-of k c .wholeCells) .0) (fits .cellCount)
 
   completing : Completed (x .answer .outcome) ↔ Completed (y .answer .outcome)
   completing =
@@ -157,26 +181,11 @@ module _ (graph inputs : List ℕ) (graphBytes : Bytes graph) (inputBytes : Byte
       let outcomes = same-outcome (x .answer .outcome) (y .answer .outcome) done (completing .0) (hanging .0) in
       let cx = ended l x ranX .rests .1 done in
       let cy = ended m y ranY .rests .1 (subst Quiescent outcomes done) in
-      let same = agreed .alike cx in
-      let ts = tokensOf (resultOf l) in
-      let us = tokensOf (resultOf m) in
-      let ux = used-of l x ranX in
-      let uy = used-of m y ranY in
       let fits = result-fits graph inputs (l .picks) 2048 (length (l .ledger)) (length (l .cells)) graphBytes inputBytes in
+      let others = result-fits graph inputs (m .picks) 2048 (length (m .ledger)) (length (m .cells)) graphBytes inputBytes in
       let few = whole-bytes tokenWidth mostTokens (length (l .ledger)) (stores-of l cx .wholeLedger) .1 in
-      let firings : x .answer .firings ≡ y .answer .firings = rw (ranX .answered, ranY .answered) (same .firings) in
-      let tokens : x .answer .tokens ≡ y .answer .tokens = rw (ranX .answered, ranY .answered) (same .tokens) in
-      let apart = places-differ ts (once-apart ts (same .eachOnce)) in
-      record {
-        answers = λ i. record { outcome = outcomes i; firings = firings i; tokens = tokens i };
-        cells = cells-of l x ranX cx ∙ ap (joined Cells.encode) (same .cells) ∙ sym (cells-of m y ranY cy);
-        sameTokens = rw (ux, uy, records-of ts, records-of us) (perm-map encode (same .sameTokens));
-        eachOnce = rw (ux, records-of ts) (records-differ ts (fits .tokens) apart);
-        listings = λ out out′ e e′.
-            rw (ux, uy)
-            (list-orders out out′ (same .sameTokens) apart (fits .tokens) (omega (arith, fits .room, few))
-            (e ∙ ap length ux ∙ length-tokens ts) (e′ ∙ ap length uy ∙ length-tokens us));
-      }
+      bytes-alike (resultOf l) (resultOf m) ranX ranY cx cy outcomes (agreed .alike cx) (fits .tokens) (omega (arith, fits .room, few))
+      (whole-bytes cellWidth mostCells (length (l .cells)) (stores-of l cx .wholeCells) .0, fits .cellCount) (whole-bytes cellWidth mostCells (length (m .cells)) (stores-of m cy .wholeCells) .0, others .cellCount)
 
   agree : Agree x y
   agree =

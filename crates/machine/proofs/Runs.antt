@@ -65,21 +65,21 @@ module _ (M : Machine) where
 
   -- ---- a run and its log
 
-  logEmpty : (c : Choice M) (b : ℕ) (ps : List ℕ) (s : StateOf M) → enabled M s ≡ [] → logOf M c b ps s ≡ []
+  pub logEmpty : (c : Choice M) (b : ℕ) (ps : List ℕ) (s : StateOf M) → enabled M s ≡ [] → logOf M c b ps s ≡ []
   unfolding logOf
   logEmpty c zero ps s e = refl
   logEmpty c (suc b) ps s e = rw e
 
-  logZero : (c : Choice M) (ps : List ℕ) (s : StateOf M) → logOf M c zero ps s ≡ []
+  pub logZero : (c : Choice M) (ps : List ℕ) (s : StateOf M) → logOf M c zero ps s ≡ []
   unfolding logOf
   logZero c ps s = refl
 
-  logFired : (c : Choice M) (b : ℕ) (ps : List ℕ) (s x : StateOf M) (a : Activity (M .Tag)) (more : List (Activity (M .Tag))) → enabled M s ≡ a ∷ more
+  pub logFired : (c : Choice M) (b : ℕ) (ps : List ℕ) (s x : StateOf M) (a : Activity (M .Tag)) (more : List (Activity (M .Tag))) → enabled M s ≡ a ∷ more
       → fire M s (c s (firstPick ps) a more .tag) ≡ fired x → logOf M c (suc b) ps s ≡ c s (firstPick ps) a more .tag ∷ logOf M c b (laterPicks ps) x
   unfolding logOf
   logFired c b ps s x a more e f = rw (e, f)
 
-  logRefused : (c : Choice M) (b : ℕ) (ps : List ℕ) (s : StateOf M) (a : Activity (M .Tag)) (more : List (Activity (M .Tag))) (r : M .Refusal) → enabled M s ≡ a ∷ more
+  pub logRefused : (c : Choice M) (b : ℕ) (ps : List ℕ) (s : StateOf M) (a : Activity (M .Tag)) (more : List (Activity (M .Tag))) (r : M .Refusal) → enabled M s ≡ a ∷ more
       → fire M s (c s (firstPick ps) a more .tag) ≡ notFired r → logOf M c (suc b) ps s ≡ []
   unfolding logOf
   logRefused c b ps s a more r e f = rw (e, f)

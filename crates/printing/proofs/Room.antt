@@ -1,11 +1,10 @@
 -- Every text that the printing program prints fits 161,866 bytes (`every-text-fits`). Assumes nothing.
-use Prim.Native.Nat.{ℕ, _*_, _/_, _^_, _<_, _≤_}
-use mathlib.Core.Path.{_≡_, refl, sym, ap, subst, _∙_}
+use Prim.Native.Nat.{ℕ, _*_, _/_, _≤_}
+use mathlib.Core.Path.{_≡_, sym, ap, subst, _∙_}
 use mathlib.Core.List.{List, [], append-nil}
 use native.Mathlib.Omega.{arith}
 use native.Mathlib.Nat.{mul-div-cancel}
 use lib.ListN.{length, take, replicate, length-replicate}
-use Rattle.number.specs.Number.{Bytes}
 use Rattle.buffer.specs.Rows.{All, allRows, joined}
 use Rattle.record.specs.declared.token.Token.{Token}
 use Rattle.record.specs.declared.cell.Cell.{Cell}
@@ -20,7 +19,6 @@ use Rattle.load.proofs.Laws.{zeros-cells, absent-fit}
 use Rattle.rules.specs.Check.{mostCells}
 use Rattle.rules.specs.Run.{Result, refusedAtOnce, ranTo, answer, ledgerAfter, cellsAfter}
 use Rattle.rules.specs.Orders.{tokensOf, cellsOf}
-use Rattle.rules.specs.Small.{Small}
 use Rattle.rules.specs.Fits.{CellCount, AllFit}
 use Rattle.rules.proofs.Small.{answer-small}
 use Rattle.rules.proofs.Fits.{result-fits}
@@ -31,7 +29,7 @@ use Rattle.listing.proofs.Laws.{sort-permutation}
 use Rattle.listing.proofs.AnyTwoOrders.{token-listing}
 use Rattle.listing.proofs.Demand3.{used-bytes, ran-cells}
 use Rattle.text.proofs.Room.{fitting-within}
-use Rattle.printing.specs.PrintedRun.{ledgerBytes, cellBytes, runOf, textLeft, printedRun, mostBytes, EveryTextFits}
+use Rattle.printing.specs.PrintedRun.{ledgerBytes, cellBytes, runOf, printedRun, EveryTextFits}
 
 -- ---- records that hold what fits them are read back
 

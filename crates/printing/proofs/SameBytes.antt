@@ -1,5 +1,5 @@
 -- Two orders that complete print the same bytes (`orders-print-alike`): demand 3, of runs whose ledgers and cells start as zeros. Assumes nothing.
-use Prim.Native.Nat.{ℕ, _*_}
+use Prim.Native.Nat.{ℕ}
 use mathlib.Core.Path.{_≡_, refl, sym, ap, subst, _∙_}
 use mathlib.Core.Bool.{Bool, true, false, cond}
 use mathlib.Core.List.{List, _++_}
@@ -19,12 +19,11 @@ use Rattle.listing.specs.Listing.{listing}
 use Rattle.listing.specs.Demand3.{Lent, Left, RanOn, NotForOthers, used, Alike}
 use Rattle.listing.proofs.Answers.{done}
 use Rattle.listing.proofs.Demand3.{same-end, demand3}
-use Rattle.text.specs.declared.Printed.{Printed}
 use Rattle.text.specs.declared.Printed.the-variants.{Done, TooSmall}
 use Rattle.text.specs.Text.{printedOf, outAfter}
 use Rattle.text.proofs.Laws.{same-text}
-use Rattle.printing.specs.PrintedRun.{ledgerBytes, cellBytes, runOf, textLeft, printedRun, PrintedRun}
-use Rattle.printing.specs.SameBytes.{SameBytes, OrdersPrintAlike}
+use Rattle.printing.specs.PrintedRun.{ledgerBytes, cellBytes, runOf, textLeft, printedRun}
+use Rattle.printing.specs.SameBytes.{OrdersPrintAlike}
 
 -- ---- a text in an output
 

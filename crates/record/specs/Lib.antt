@@ -1,7 +1,8 @@
--- 01, "Graph records", "Tokens and tags", and of "Firing" the cells and the tags of calls. Assumes nothing.
+-- 01, "Graph records", "Tokens and tags", and of "Firing" the cells and the tags of calls; and the records of 02's logs. Assumes nothing.
 pub mod Widths
 pub mod GraphRecords
 pub mod TokensAndTags
 pub mod Calls
 pub mod Cells
 pub mod Codecs
+pub mod Logs

@@ -21,10 +21,17 @@ use Rattle.record.specs.Widths.{tokenWidth}
 unfoldable pub contentOf : (bits state : ℕ) → Content
 contentOf bits state = cond (eqb state 0) (Live (signedOf bits)) (cond (eqb state 1) (Spent (signedOf bits)) (Deferred bits))
 
+-- the tag of the record that l starts with, and its bytes with that of a port: a log's records have them too
+abbrev pub tagIn : List ℕ → Tag
+tagIn l = record { path = number64 l 0; iteration = byteAt l 8; instruction = number16 l 10 }
+
+abbrev pub tagBytes : (path iteration port instruction : ℕ) → List ℕ
+tagBytes path iteration port instruction = bytes64 path ++ iteration ∷ port ∷ bytes16 instruction
+
 -- the token of the record that l starts with
 unfoldable pub decode : List ℕ → Token
 decode l = record {
-  tag = record { path = number64 l 0; iteration = byteAt l 8; instruction = number16 l 10 };
+  tag = tagIn l;
   port = byteAt l 9;
   content = contentOf (number32 l 12) (byteAt l 16);
 }
@@ -41,7 +48,7 @@ valueOf (Deferred cell) = cell
 
 abbrev pub tokenBytes : (path iteration port instruction value state : ℕ) → List ℕ
 tokenBytes path iteration port instruction value state =
-    bytes64 path ++ iteration ∷ port ∷ bytes16 instruction ++ bytes32 value ++ state ∷ 0 ∷ 0 ∷ 0 ∷ []
+    tagBytes path iteration port instruction ++ bytes32 value ++ state ∷ 0 ∷ 0 ∷ 0 ∷ []
 
 unfoldable pub encode : Token → List ℕ
 encode t = tokenBytes (t .tag .path) (t .tag .iteration) (t .port) (t .tag .instruction) (valueOf (t .content)) (stateOf (t .content))

@@ -16,3 +16,7 @@ cellWidth = 8
 -- 01, "The printed listing": "picks (2 bytes each ..)"
 abbrev pub pickWidth : ℕ
 pickWidth = 2
+
+-- 02, R-7: "one 12-byte record a firing"
+abbrev pub logWidth : ℕ
+logWidth = 12

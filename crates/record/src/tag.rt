@@ -1,6 +1,9 @@
-// The tag of a token, and how ENTER, LEAVE and NEXT make new ones.
+// The tag of a token, read from its bytes, and how ENTER, LEAVE and NEXT make new ones.
 ghost use mathlib.Core.Path.{_≡_};
-ghost use Rattle.record.specs.TokensAndTags.{rootOf, toOf, sameTag};
+ghost use Prim.Native.Nat.{_≤_};
+ghost use lib.ListN.{length};
+ghost use Rattle.record.specs.TokensAndTags.{tagIn, rootOf, toOf, sameTag};
+ghost use Rattle.record.specs.Widths.{logWidth};
 ghost use Rattle.record.specs.Calls.{enterOf, leaveOf, nextOf};
 
 // 01, "Tokens and tags": a tag is path, iteration and instruction.
@@ -28,6 +31,18 @@ pub enum Next {
 // A path at or above this one has as many levels as there may be: 65,536 to the number of levels
 // less 1.
 const DEEPEST: u64 = 281474976710656;
+
+// The tag of the record, of a token or of a log, that s starts with.
+pub fn decode(s: &[u8]) -> Tag
+    requires { ⌜ logWidth ≤ length (now s) ⌝ }
+    ensures { λ r. ⌜ r ≡ tagIn (now (s .entry)) ⌝ }
+{
+    Tag {
+        path: number::u64_at(s, 0),
+        iteration: s[8],
+        instruction: number::u16_at(s, 10),
+    }
+}
 
 impl Tag {
     // The root tag of instruction 0.

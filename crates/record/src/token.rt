@@ -1,4 +1,5 @@
 // Token records of 20 bytes: a token read from its bytes, and written as bytes.
+use crate::tag;
 use crate::tag::Tag;
 ghost use mathlib.Core.Path.{_≡_};
 ghost use Prim.Native.Nat.{_/_, _≤_, _<_};
@@ -42,11 +43,7 @@ pub fn decode(s: &[u8]) -> Token
     requires { ⌜ tokenWidth ≤ length (now s) ⌝ }
     ensures { λ r. ⌜ r ≡ Tokens.decode (now (s .entry)) ⌝ }
 {
-    let tag = Tag {
-        path: number::u64_at(s, 0),
-        iteration: s[8],
-        instruction: number::u16_at(s, 10),
-    };
+    let tag = tag::decode(s);
     Token {
         tag,
         port: s[9],

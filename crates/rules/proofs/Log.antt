@@ -1,6 +1,6 @@
 -- R-7: what a log's records name (`names-back`), that a run that writes a log is the run (`logged-runs`), that a log has room in what is lent (`log-fits`), and that the logs of two runs to an end hold the same records,
 -- each once (`logs-agree`). Assumes nothing.
-use Prim.Native.Nat.{ℕ, _+_, _*_, _/_, _%_, _^_, _≤_, _<_}
+use Prim.Native.Nat.{ℕ, _+_, _-_, _*_, _/_, _%_, _^_, _≤_, _<_}
 use mathlib.Core.Path.{_≡_, refl, ap, _∙_}
 use mathlib.Core.Bool.{Bool, true, false, _&&_, _||_}
 use mathlib.Core.Option.{some}
@@ -16,7 +16,8 @@ use Rattle.buffer.specs.Rows.{rows, joined, All}
 use Rattle.buffer.proofs.Tables.{length-joined}
 use Rattle.record.specs.GraphRecords.{graphOf}
 use Rattle.record.specs.TokensAndTags.{mostTokens, capacityOf}
-use Rattle.record.specs.Widths.{tokenWidth, cellWidth}
+use Rattle.record.specs.Logs.{encode, nameOf}
+use Rattle.record.specs.Widths.{tokenWidth, cellWidth, logWidth}
 use Rattle.machine.specs.Machine.{Machine, End, byPicks, run}
 use Rattle.machine.specs.Sequences.{logOf}
 use Rattle.machine.proofs.Sequences.{noLonger}
@@ -31,7 +32,7 @@ use Rattle.rules.specs.Check.{_andThen_, checkGraph, checkStores, checkI
 use Rattle.rules.specs.InstructionSet.{machineOf}
 use Rattle.rules.specs.Run.{firstState, picksOf, ranTo, unlessFailed, result}
 use Rattle.rules.specs.Orders.{Quiescent}
-use Rattle.rules.specs.Log.{encode, nameOf, namesIn, checkLogStores, checkLogged, logUnlessFailed, logged, LoggedRuns, LogFits, LogsAgree}
+use Rattle.rules.specs.Log.{namesIn, logSuffices, checkLogStores, checkLogged, logUnlessFailed, logged, LoggedRuns, LogFits, LogsAgree}
 use Rattle.rules.proofs.Passed.{both, demand-passed, andThen-passed}
 use Rattle.rules.proofs.Accepted.{whole-bytes, Whole, stores-whole, Accepted, accepted, law, good}
 
@@ -42,12 +43,12 @@ pub record TagFits (τ : Tag) : Type 0 where
   pub iteration : τ .iteration < 2 ^ 8
   pub instruction : τ .instruction < 2 ^ 16
 
-pub length-record : (τ : Tag) → length (encode τ) ≡ 12
+pub length-record : (τ : Tag) → length (encode τ) ≡ logWidth
 unfolding encode
 length-record τ = refl
 
-whole-record : (τ : Tag) (rest : List ℕ) → leb 12 (length (encode τ ++ rest)) ≡ true
-whole-record τ rest = le-leb 12 (length (encode τ ++ rest)) (omega (arith, length-append (encode τ) rest, length-record τ))
+whole-record : (τ : Tag) (rest : List ℕ) → leb logWidth (length (encode τ ++ rest)) ≡ true
+whole-record τ rest = le-leb logWidth (length (encode τ ++ rest)) (omega (arith, length-append (encode τ) rest, length-record τ))
 
 name-back : (τ : Tag) (rest : List ℕ) → TagFits τ → nameOf (encode τ ++ rest) ≡ some τ
 unfolding encode nameOf
@@ -60,7 +61,7 @@ name-back τ rest f =
       fits16 _ (f .instruction),
     )
 
-rows-back : (τs : List Tag) → All TagFits τs → rows 12 nameOf (length τs) (joined encode τs) ≡ map some τs
+rows-back : (τs : List Tag) → All TagFits τs → rows logWidth nameOf (length τs) (joined encode τs) ≡ map some τs
 unfolding encode
 rows-back [] f = refl
 rows-back (τ ∷ τs) f = λ i. name-back τ (joined encode τs) (f .0) i ∷ rows-back τs (f .1) i
@@ -68,22 +69,22 @@ rows-back (τ ∷ τs) f = λ i. name-back τ (joined encode τs) (f .0) i ∷ r
 pub names-back : (τs : List Tag) → All TagFits τs → namesIn (joined encode τs) ≡ map some τs
 unfolding namesIn
 names-back τs f =
-    let n : (length (joined encode τs) + 11) / 12 ≡ length τs = let z = length-joined 12 encode length-record τs in omega arith in
-    ap (λ (k : ℕ). rows 12 nameOf k (joined encode τs)) n ∙ rows-back τs f
+    let n : (length (joined encode τs) + (logWidth - 1)) / logWidth ≡ length τs = let z = length-joined logWidth encode length-record τs in omega arith in
+    ap (λ (k : ℕ). rows logWidth nameOf k (joined encode τs)) n ∙ rows-back τs f
 
 -- ---- a log that passed
 
 pub log-stores : (inputs picks ledger cells budget lent : ℕ) → checkLogStores inputs picks ledger cells budget lent ≡ Passed
-    → Whole inputs picks ledger cells × ((leb budget (lent / 12) || leb mostTokens (lent / 12)) ≡ true)
+    → Whole inputs picks ledger cells × ((leb budget (lent / logWidth) || leb mostTokens (lent / logWidth)) ≡ true)
 unfolding checkLogStores
 log-stores inputs picks ledger cells budget lent e =
     let (p, q) = andThen-passed (checkStores inputs picks ledger cells) _ e in
-    (stores-whole inputs picks ledger cells p, both (eqb (lent % 12) 0) _ (demand-passed (eqb (lent % 12) 0 && (leb budget (lent / 12) || leb mostTokens (lent / 12))) BadStore 0 q) .1)
+    (stores-whole inputs picks ledger cells p, both (eqb (lent % logWidth) 0) _ (demand-passed (logSuffices budget lent) BadStore 0 q) .1)
 
 pub record LogPassed (graph inputs picks : List ℕ) (budget ledger cells lent : ℕ) : Type 0 where
   pub stores : Whole (length inputs) (length picks) ledger cells
   -- so many records, at least
-  pub room : (leb budget (lent / 12) || leb mostTokens (lent / 12)) ≡ true
+  pub room : (leb budget (lent / logWidth) || leb mostTokens (lent / logWidth)) ≡ true
   pub start : Accepted graph inputs (capacityOf ledger)
 
 pub log-passed : (graph inputs picks : List ℕ) (budget ledger cells lent : ℕ) → checkLogged graph inputs picks budget ledger cells lent ≡ Passed → LogPassed graph inputs picks budget ledger cells lent
@@ -99,12 +100,12 @@ pub log-fits : LogFits
 unfolding logged logUnlessFailed
 log-fits graph inputs picks budget ledger cells lent = go (checkLogged graph inputs picks budget ledger cells lent) refl
   where
-    enough : (n : ℕ) → n ≤ budget → n ≤ mostTokens → (a b : Bool) → leb budget (lent / 12) ≡ a → leb mostTokens (lent / 12) ≡ b → (a || b) ≡ true → n * 12 ≤ lent
-    enough n l m true b p q h = omega (arith, leb-true budget (lent / 12) p)
-    enough n l m false true p q h = omega (arith, leb-true mostTokens (lent / 12) q)
+    enough : (n : ℕ) → n ≤ budget → n ≤ mostTokens → (a b : Bool) → leb budget (lent / logWidth) ≡ a → leb mostTokens (lent / logWidth) ≡ b → (a || b) ≡ true → n * logWidth ≤ lent
+    enough n l m true b p q h = omega (arith, leb-true budget (lent / logWidth) p)
+    enough n l m false true p q h = omega (arith, leb-true mostTokens (lent / logWidth) q)
     enough n l m false false p q h = let z : _≡_ {A = ℕ} 0 1 = cc in absurd (omega arith)
 
-    go : (c : Checked) → checkLogged graph inputs picks budget ledger cells lent ≡ c → length (logged graph inputs picks budget ledger cells lent .log) * 12 ≤ lent
+    go : (c : Checked) → checkLogged graph inputs picks budget ledger cells lent ≡ c → length (logged graph inputs picks budget ledger cells lent .log) * logWidth ≤ lent
     go (Failed r p) e = rw e (omega arith)
     go Passed e =
         let h = log-passed graph inputs picks budget ledger cells lent e in
@@ -113,7 +114,7 @@ log-fits graph inputs picks budget ledger cells lent = go (checkLogged graph inp
         let r = ran M (byPicks M) (byPicksLawful M) budget (picksOf picks) 0 s in
         let l = noLonger M (law graph inputs (capacityOf ledger) (cells / cellWidth) (h .start)) s (good graph inputs (capacityOf ledger) (cells / cellWidth) (h .start)) (logOf M (byPicks M) budget (picksOf picks) s) _ (r .logged .fires) in
         let few = whole-bytes tokenWidth mostTokens ledger (h .stores .wholeLedger) .1 in
-        rw e (enough (length (logOf M (byPicks M) budget (picksOf picks) s)) (r .within) (omega (arith, l .0, l .1)) (leb budget (lent / 12)) (leb mostTokens (lent / 12)) refl refl (h .room))
+        rw e (enough (length (logOf M (byPicks M) budget (picksOf picks) s)) (r .within) (omega (arith, l .0, l .1)) (leb budget (lent / logWidth)) (leb mostTokens (lent / logWidth)) refl refl (h .room))
 
 -- ---- the run
 

@@ -1,5 +1,5 @@
 -- R-1 over the rules: a profile that is not refused ends as every order does (`as-every-order`); its records have room in what is lent
--- (`profile-fits`). Assumes nothing.
+-- (`profile-fits`); and what a profile that passes its checks has (`passes`, `wholes`). Assumes nothing.
 use Prim.Native.Nat.{ℕ, _*_, _/_, _%_, _≤_}
 use mathlib.Core.Path.{_≡_, refl, ap, _∙_}
 use mathlib.Core.List.{List}
@@ -27,7 +27,7 @@ use Rattle.rules.specs.Check.{demand, checkStores, check, mostCells}
 use Rattle.rules.specs.InstructionSet.{machineOf}
 use Rattle.rules.specs.Run.{firstState, picksOf, ranTo, outcomeOf, unlessFailed, result, answer}
 use Rattle.rules.specs.Orders.{Refused, Allowed}
-use Rattle.rules.specs.Profile.{checkProfileStores, checkProfile, profileUnlessFailed, profiled, ProfileFits, EndsAs, AsEveryOrder}
+use Rattle.rules.specs.Profile.{stepWidth, checkProfileStores, checkProfile, profileUnlessFailed, profiled, ProfileFits, EndsAs, AsEveryOrder}
 use Rattle.rules.proofs.Passed.{andThen-passed}
 use Rattle.rules.proofs.Accepted.{whole-bytes, Whole, stores-whole, Accepted, accepted, law, good}
 use Rattle.rules.proofs.Orders.{same-length, same-cells, alike-ends}
@@ -55,12 +55,13 @@ module _ (graph inputs : List ℕ) (capacity cells : ℕ) (few : capacity ≤ 20
         outcome = ap outcomeOf (z .outcome);
         alike = alike-ends graph inputs capacity cells few a _ _ (firesGood M lawful s first (p .log) _ (p .logged .fires) .distinct) z;
         firings = h .firings ∙ zero-add _;
+        eachFires = p .eachFires;
       }
 
 -- ---- over bytes
 
 module _ (graph inputs : List ℕ) (ledger cells lent : ℕ) where
-  passes : ¬ (Refused (profiled graph inputs ledger cells lent .result)) → checkProfile graph inputs ledger cells lent ≡ Passed
+  pub passes : ¬ (Refused (profiled graph inputs ledger cells lent .result)) → checkProfile graph inputs ledger cells lent ≡ Passed
   unfolding profiled profileUnlessFailed
   passes n = go (checkProfile graph inputs ledger cells lent) refl
     where
@@ -68,11 +69,11 @@ module _ (graph inputs : List ℕ) (ledger cells lent : ℕ) where
       go Passed e = refl
       go (Failed r p) e = absurd (n (rw e tt))
 
-  wholes : checkProfile graph inputs ledger cells lent ≡ Passed → Whole (length inputs) 0 ledger cells × Accepted graph inputs (capacityOf ledger)
+  pub wholes : checkProfile graph inputs ledger cells lent ≡ Passed → Whole (length inputs) 0 ledger cells × Accepted graph inputs (capacityOf ledger)
   unfolding checkProfile checkProfileStores
   wholes e =
       let (stores, a) = accepted graph inputs (capacityOf ledger) (checkProfileStores (length inputs) ledger cells lent) e in
-      (stores-whole (length inputs) 0 ledger cells (andThen-passed (checkStores (length inputs) 0 ledger cells) (demand (eqb (lent % 4) 0) BadStore 0) stores .0), a)
+      (stores-whole (length inputs) 0 ledger cells (andThen-passed (checkStores (length inputs) 0 ledger cells) (demand (eqb (lent % stepWidth) 0) BadStore 0) stores .0), a)
 
   -- what a profile accepts, a run accepts
   run-accepts : (picks : List ℕ) → Allowed picks ledger cells → Accepted graph inputs (capacityOf ledger) → Whole (length inputs) 0 ledger cells → check graph inputs picks ledger cells ≡ Passed
@@ -85,7 +86,7 @@ module _ (graph inputs : List ℕ) (ledger cells lent : ℕ) where
   as-orders picks allowed n =
       let e = passes n in
       let (w, a) = wholes e in
-      rw (e, run-accepts picks allowed a w) (ends-as graph inputs (capacityOf ledger) (cells / cellWidth) (whole-bytes tokenWidth mostTokens ledger (w .wholeLedger) .1) a (lent / 4) (rw e at n) (picksOf picks))
+      rw (e, run-accepts picks allowed a w) (ends-as graph inputs (capacityOf ledger) (cells / cellWidth) (whole-bytes tokenWidth mostTokens ledger (w .wholeLedger) .1) a (lent / stepWidth) (rw e at n) (picksOf picks))
 
 pub as-every-order : AsEveryOrder
 as-every-order graph inputs picks ledger ledger′ cells cells′ lent n allowed c d =
@@ -98,10 +99,10 @@ pub profile-fits : ProfileFits
 unfolding profiled profileUnlessFailed
 profile-fits graph inputs ledger cells lent = go (checkProfile graph inputs ledger cells lent) refl
   where
-    go : (c : Checked) → checkProfile graph inputs ledger cells lent ≡ c → length (profiled graph inputs ledger cells lent .records) * 4 ≤ lent
+    go : (c : Checked) → checkProfile graph inputs ledger cells lent ≡ c → length (profiled graph inputs ledger cells lent .records) * stepWidth ≤ lent
     go (Failed r p) e = rw e (omega arith)
     go Passed e =
         let a = wholes graph inputs ledger cells lent e .1 in
         let capacity = capacityOf ledger in
-        let p = everyProfile (machineOf (graphOf graph) capacity (cells / cellWidth)) (law graph inputs capacity (cells / cellWidth) a) ProfileFull (firstState inputs (cells / cellWidth)) (good graph inputs capacity (cells / cellWidth) a) (lent / 4) 0 in
+        let p = everyProfile (machineOf (graphOf graph) capacity (cells / cellWidth)) (law graph inputs capacity (cells / cellWidth) a) ProfileFull (firstState inputs (cells / cellWidth)) (good graph inputs capacity (cells / cellWidth) a) (lent / stepWidth) 0 in
         rw e (omega (arith, p .within))

@@ -17,7 +17,8 @@ use Rattle.buffer.specs.Rows.{whole, joined, All}
 use Rattle.buffer.proofs.Tables.{length-joined}
 use Rattle.record.specs.GraphRecords.{graphOf}
 use Rattle.record.specs.TokensAndTags.{mostTokens, capacityOf, TokenFits}
-use Rattle.record.specs.Widths.{tokenWidth, cellWidth, pickWidth}
+use Rattle.record.specs.Logs.{encode}
+use Rattle.record.specs.Widths.{tokenWidth, cellWidth, pickWidth, logWidth}
 use Rattle.machine.specs.Machine.{Token, Machine, State, End, byPicks, run}
 use Rattle.machine.specs.Sequences.{isSpentFirst, spentTags, logOf, Ran}
 use Rattle.machine.specs.Replay.{SameAs, replay}
@@ -34,7 +35,7 @@ use Rattle.rules.specs.declared.answer.Checked.the-variants.{Passed, Fai
 use Rattle.rules.specs.Check.{demand, _andThen_, checkGraph, checkStores, checkInputs, check, mostCells}
 use Rattle.rules.specs.InstructionSet.{machineOf}
 use Rattle.rules.specs.Run.{tokenRecord, firstState, picksOf, ranTo, unlessFailed, answer, ledgerAfter, cellsAfter}
-use Rattle.rules.specs.Log.{encode, namesIn, checkLogStores, checkLogged, LogResult, logUnlessFailed, logged, logAfter, replayed, NotBy7, Again, LogReplays}
+use Rattle.rules.specs.Log.{namesIn, logSuffices, checkLogStores, checkLogged, LogResult, logUnlessFailed, logged, logAfter, replayed, NotBy7, Again, LogReplays}
 use Rattle.rules.proofs.Accepted.{whole-bytes, Accepted, law, begins, good}
 use Rattle.rules.proofs.Fits.{ended-fits}
 use Rattle.rules.proofs.Log.{TagFits, length-record, names-back, log-stores, log-passed}
@@ -103,7 +104,7 @@ module _ (graph inputs picks : List ℕ) (budget ledger cells lent : ℕ) where
   unfolding checkLogStores checkStores
   stores-fail q n p =
       two-demands (whole tokenWidth mostTokens (length inputs) && (whole pickWidth mostTokens (length picks) && (whole tokenWidth mostTokens ledger && whole cellWidth mostCells cells)))
-      (eqb (lent % 12) 0 && (leb budget (lent / 12) || leb mostTokens (lent / 12))) q n p
+      (logSuffices budget lent) q n p
 
   replay-passes : checkLogged graph inputs picks budget ledger cells lent ≡ Passed → check graph inputs [] ledger cells ≡ Passed
   unfolding checkLogged check
@@ -130,7 +131,7 @@ module _ (graph inputs : List ℕ) (capacity cells : ℕ) (a : Accepted graph in
   ranHere = ran (M graph capacity cells) (byPicks (M graph capacity cells)) (byPicksLawful (M graph capacity cells)) budget picks 0 s
 
   -- each has a token, and so fits a record
-  tags-fit : All TagFits τs
+  pub tags-fit : All TagFits τs
   tags-fit =
       let told = ledgerTells (M graph capacity cells) (law graph inputs capacity cells a) s (good graph inputs capacity cells a) τs (e .state) (ranHere .logged .fires) in
       let (o, r) = sequenceReaches (M graph capacity cells) τs s (e .state) (ranHere .logged .fires) in
@@ -138,12 +139,12 @@ module _ (graph inputs : List ℕ) (capacity cells : ℕ) (a : Accepted graph in
       members-all TagFits τs (λ τ m. spent-fits graph capacity cells (e .state .tokens) fits τ (perm-member (Permᴰ·symm told) (Memᴰ·append-left (spentTags (M graph capacity cells) (s .tokens)) m)))
 
   -- the first records are the log
-  first-records : namesIn (take (e .firings * 12) (joined encode τs ++ drop (length (joined encode τs)) lent)) ≡ map some τs
+  first-records : namesIn (take (e .firings * logWidth) (joined encode τs ++ drop (length (joined encode τs)) lent)) ≡ map some τs
   first-records =
-      let n : length (joined encode τs) ≡ e .firings * 12 = length-joined 12 encode length-record τs ∙ ap (λ (k : ℕ). k * 12) (sym (ranHere .logged .firings ∙ zero-add (length τs))) in
-      ap namesIn (take-at (joined encode τs) (drop (length (joined encode τs)) lent) (e .firings * 12) n) ∙ names-back τs tags-fit
+      let n : length (joined encode τs) ≡ e .firings * logWidth = length-joined logWidth encode length-record τs ∙ ap (λ (k : ℕ). k * logWidth) (sym (ranHere .logged .firings ∙ zero-add (length τs))) in
+      ap namesIn (take-at (joined encode τs) (drop (length (joined encode τs)) lent) (e .firings * logWidth) n) ∙ names-back τs tags-fit
 
-  again : Again (ranTo e) (ranTo (replay (M graph capacity cells) NotEnabled (namesIn (take (e .firings * 12) (joined encode τs ++ drop (length (joined encode τs)) lent))) 0 s))
+  again : Again (ranTo e) (ranTo (replay (M graph capacity cells) NotEnabled (namesIn (take (e .firings * logWidth) (joined encode τs ++ drop (length (joined encode τs)) lent))) 0 s))
   unfolding answer ledgerAfter cellsAfter
   again =
       let h : SameAs (M graph capacity cells) NotEnabled e (replay (M graph capacity cells) NotEnabled (map some τs) 0 s) = runReplays (M graph capacity cells) NotEnabled (byPicks (M graph capacity cells)) (byPicksLawful (M graph capacity cells)) budget picks 0 s in
@@ -164,7 +165,7 @@ log-replays graph inputs picks budget ledger cells lent graphBytes inputBytes = 
         (logOf (machineOf (graphOf graph) (capacityOf ledger) (cells / cellWidth)) (byPicks (machineOf (graphOf graph) (capacityOf ledger) (cells / cellWidth))) budget (picksOf picks) (firstState inputs (cells / cellWidth)))
 
     go : (c : Checked) → checkLogged graph inputs picks budget ledger cells (length lent) ≡ c → NotBy7 (x c .result)
-        → Again (x c .result) (replayed graph inputs (take (answer (x c .result) .firings * 12) (logAfter (x c) lent)) ledger cells)
+        → Again (x c .result) (replayed graph inputs (take (answer (x c .result) .firings * logWidth) (logAfter (x c) lent)) ledger cells)
     go (Failed r p) f other = rw (replay-fails graph inputs picks budget ledger cells (length lent) r p f other) (record { ledgerLeft = λ l. refl; cellsLeft = λ l. refl; firings = refl; tokens = refl; answered = λ n. refl })
     go Passed f other =
         let h = log-passed graph inputs picks budget ledger cells (length lent) f in

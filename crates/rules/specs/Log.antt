@@ -1,19 +1,20 @@
 -- 02, R-7, "Firing logs": the log that a run writes and the replay of a log, over bytes; and that a replay gives the run again and that logs agree, proved in
 -- proofs/Log and proofs/Replay. Assumes nothing.
-use Prim.Native.Nat.{ℕ, _+_, _*_, _/_, _%_, _≤_}
+use Prim.Native.Nat.{ℕ, _+_, _-_, _*_, _/_, _%_, _≤_}
 use mathlib.Core.Path.{_≡_}
-use mathlib.Core.Bool.{true, _&&_, _||_, cond}
-use mathlib.Core.Option.{Option, none, some}
-use mathlib.Core.List.{List, [], _∷_, _++_, List·Permᴰ}
+use mathlib.Core.Bool.{Bool, true, _&&_, _||_}
+use mathlib.Core.Option.{Option}
+use mathlib.Core.List.{List, [], List·Permᴰ}
 use lib.ListN.{length, take}
 use lib.IntN.{ℤ}
 use lib.Dec.{eqb, leb}
 use Rattle.record.specs.declared.tag.Tag.{Tag}
-use Rattle.number.specs.Number.{Bytes, byteAt, number16, number64, bytes16, bytes64}
+use Rattle.number.specs.Number.{Bytes}
 use Rattle.buffer.specs.Rows.{rows, writtenOver}
 use Rattle.record.specs.GraphRecords.{graphOf}
 use Rattle.record.specs.TokensAndTags.{mostTokens, capacityOf}
-use Rattle.record.specs.Widths.{cellWidth}
+use Rattle.record.specs.Logs.{encode, nameOf}
+use Rattle.record.specs.Widths.{cellWidth, logWidth}
 use Rattle.machine.specs.Machine.{End, byPicks, run}
 use Rattle.machine.specs.Orders as Ends
 use Rattle.machine.specs.Sequences.{Once, logOf}
@@ -28,25 +29,21 @@ use Rattle.rules.specs.InstructionSet.{machineOf}
 use Rattle.rules.specs.Run.{firstState, picksOf, Result, refusedAtOnce, ranTo, unlessFailed, result, answer, ledgerAfter, cellsAfter}
 use Rattle.rules.specs.Orders.{Quiescent}
 
--- ---- records: "one 12-byte record a firing: path, iteration, a zero byte, instruction"
-
-unfoldable pub encode : Tag → List ℕ
-encode τ = bytes64 (τ .path) ++ τ .iteration ∷ 0 ∷ bytes16 (τ .instruction)
-
--- what the record names that l starts with: nothing if it "lacks its zero byte or isn't whole"
-unfoldable pub nameOf : List ℕ → Option Tag
-nameOf l = cond (leb 12 (length l) && eqb (byteAt l 9) 0) (some (record { path = number64 l 0; iteration = byteAt l 8; instruction = number16 l 10 })) none
+-- ---- records (`encode`, `nameOf`: specs/Logs of `record`)
 
 -- what all records of a log name, with a last one that is not whole
 unfoldable pub namesIn : List ℕ → List (Option Tag)
-namesIn l = rows 12 nameOf ((length l + 11) / 12) l
+namesIn l = rows logWidth nameOf ((length l + (logWidth - 1)) / logWidth) l
 
 -- ---- a run that writes a log
 
 -- "A log lent not whole or with fewer records than the budget, or than 2,048 if that is less, is refused by 7."
+abbrev pub logSuffices : (budget lent : ℕ) → Bool
+logSuffices budget lent = eqb (lent % logWidth) 0 && (leb budget (lent / logWidth) || leb mostTokens (lent / logWidth))
+
 unfoldable pub checkLogStores : (inputs picks ledger cells budget lent : ℕ) → Checked
 checkLogStores inputs picks ledger cells budget lent =
-    checkStores inputs picks ledger cells andThen demand (eqb (lent % 12) 0 && (leb budget (lent / 12) || leb mostTokens (lent / 12))) BadStore 0
+    checkStores inputs picks ledger cells andThen demand (logSuffices budget lent) BadStore 0
 
 unfoldable pub checkLogged : (graph inputs picks : List ℕ) → (budget ledger cells lent : ℕ) → Checked
 checkLogged graph inputs picks budget ledger cells lent =
@@ -91,12 +88,12 @@ replayed graph inputs log ledger cells =
 
 -- a run that writes a log is the run, if the log suffices
 abbrev pub LoggedRuns : Type 0
-LoggedRuns = (graph inputs picks : List ℕ) (budget ledger cells lent : ℕ) → (eqb (lent % 12) 0 && (leb budget (lent / 12) || leb mostTokens (lent / 12))) ≡ true
+LoggedRuns = (graph inputs picks : List ℕ) (budget ledger cells lent : ℕ) → logSuffices budget lent ≡ true
     → logged graph inputs picks budget ledger cells lent .result ≡ result graph inputs picks budget ledger cells
 
 -- the log has room in what is lent
 abbrev pub LogFits : Type 0
-LogFits = (graph inputs picks : List ℕ) (budget ledger cells lent : ℕ) → length (logged graph inputs picks budget ledger cells lent .log) * 12 ≤ lent
+LogFits = (graph inputs picks : List ℕ) (budget ledger cells lent : ℕ) → length (logged graph inputs picks budget ledger cells lent .log) * logWidth ≤ lent
 
 abbrev pub NotBy7 : Result → Type 0
 NotBy7 (refusedAtOnce r place) = ¬ (r ≡ BadStore)
@@ -119,7 +116,7 @@ abbrev pub LogReplays : Type 0
 LogReplays = (graph inputs picks : List ℕ) (budget ledger cells : ℕ) (lent : List ℕ) → Bytes graph → Bytes inputs
     → NotBy7 (logged graph inputs picks budget ledger cells (length lent) .result)
     → Again (logged graph inputs picks budget ledger cells (length lent) .result)
-    (replayed graph inputs (take (answer (logged graph inputs picks budget ledger cells (length lent) .result) .firings * 12) (logAfter (logged graph inputs picks budget ledger cells (length lent)) lent)) ledger cells)
+    (replayed graph inputs (take (answer (logged graph inputs picks budget ledger cells (length lent) .result) .firings * logWidth) (logAfter (logged graph inputs picks budget ledger cells (length lent)) lent)) ledger cells)
 
 -- "The logs of two completed runs of one graph with equal inputs, capacity and cell count hold the same records, each once.": and of two that hang
 abbrev pub LogsAgree : Type 0

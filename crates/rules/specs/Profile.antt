@@ -12,7 +12,7 @@ use Rattle.buffer.specs.Rows.{writtenOver}
 use Rattle.record.specs.GraphRecords.{graphOf}
 use Rattle.record.specs.TokensAndTags.{capacityOf}
 use Rattle.record.specs.Widths.{cellWidth}
-use Rattle.machine.specs.Steps.{StepRecord, Profile, firingsIn, profile}
+use Rattle.machine.specs.Steps.{StepRecord, Profile, firingsIn, EachFires, profile}
 use Rattle.rules.specs.declared.answer.Refusal.{Refusal}
 use Rattle.rules.specs.declared.answer.Refusal.the-variants.{BadStore, ProfileFull}
 use Rattle.rules.specs.declared.answer.Profiled.{Profiled}
@@ -25,9 +25,13 @@ use Rattle.rules.specs.Orders.{Quiescent, Refused, Alike, Allowed}
 
 -- ---- a profile
 
+-- "one 4-byte record"
+abbrev pub stepWidth : ℕ
+stepWidth = 4
+
 -- "It takes no picks"; "A profile not in whole records is refused by 7."
 unfoldable pub checkProfileStores : (inputs ledger cells profile : ℕ) → Checked
-checkProfileStores inputs ledger cells profile = checkStores inputs 0 ledger cells andThen demand (eqb (profile % 4) 0) BadStore 0
+checkProfileStores inputs ledger cells profile = checkStores inputs 0 ledger cells andThen demand (eqb (profile % stepWidth) 0) BadStore 0
 
 unfoldable pub checkProfile : (graph inputs : List ℕ) → (ledger cells profile : ℕ) → Checked
 checkProfile graph inputs ledger cells profile =
@@ -48,7 +52,7 @@ profileUnlessFailed (Failed r place) p = record { result = refusedAtOnce r place
 unfoldable pub profiled : (graph inputs : List ℕ) → (ledger cells lent : ℕ) → ProfileResult
 profiled graph inputs ledger cells lent =
     profileUnlessFailed (checkProfile graph inputs ledger cells lent)
-    (profile (machineOf (graphOf graph) (capacityOf ledger) (cells / cellWidth)) ProfileFull (lent / 4) 0 (firstState inputs (cells / cellWidth)))
+    (profile (machineOf (graphOf graph) (capacityOf ledger) (cells / cellWidth)) ProfileFull (lent / stepWidth) 0 (firstState inputs (cells / cellWidth)))
 
 -- ---- what it answers and leaves
 
@@ -73,7 +77,7 @@ pub record ProfileRan (x : ProfileResult) (r : Profiled) (ledger ledger′ cells
 -- ---- the records have room in what is lent
 
 abbrev pub ProfileFits : Type 0
-ProfileFits = (graph inputs : List ℕ) (ledger cells lent : ℕ) → length (profiled graph inputs ledger cells lent .records) * 4 ≤ lent
+ProfileFits = (graph inputs : List ℕ) (ledger cells lent : ℕ) → length (profiled graph inputs ledger cells lent .records) * stepWidth ≤ lent
 
 -- ---- "if it isn't refused, its end must equal every order's as demand 3 compares them"
 
@@ -82,8 +86,9 @@ pub record EndsAs (x : ProfileResult) (y : Result) : Type 0 where
   -- completed or hung
   pub outcome : answer (x .result) .outcome ≡ answer y .outcome
   pub alike : Alike (x .result) y
-  -- and its records tell its firings
+  -- and its records tell its firings, each one at least
   pub firings : answer (x .result) .firings ≡ firingsIn (x .records)
+  pub eachFires : EachFires (x .records)
 
 abbrev pub AsEveryOrder : Type 0
 AsEveryOrder = (graph inputs picks : List ℕ) (ledger ledger′ cells cells′ lent : ℕ) → ¬ (Refused (profiled graph inputs ledger cells lent .result))

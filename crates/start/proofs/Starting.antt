@@ -32,12 +32,12 @@ use Rattle.machine.proofs.Reached.{reached-good, reached-count, sequenceReaches
 use Rattle.rules.specs.declared.answer.Refusal.{Refusal}
 use Rattle.rules.specs.declared.answer.Answer.{Answer}
 use Rattle.rules.specs.declared.answer.Checked.the-variants.{Passed}
-use Rattle.rules.specs.Check.{checkInputs, operandsAt}
+use Rattle.rules.specs.Check.{checkInputs, check, operandsAt}
 use Rattle.rules.specs.InstructionSet.{machineOf}
 use Rattle.rules.specs.Run.{contentHeld, tokenHeld, tokenRecord, cellRecord, firstState}
 use Rattle.rules.proofs.Inputs.{start}
 use Rattle.rules.proofs.Lawful.{lawful}
-use Rattle.checks.proofs.Passed.{GoodInputs, passed-inputs, passed-input}
+use Rattle.checks.proofs.Passed.{GoodInputs, passed-inputs, passed-input, passed-check, passed-stores}
 use Rattle.fire_effect.proofs.Arrives.{arrives-port}
 use Rattle.abstraction.specs.States.{cellHeld}
 use Rattle.abstraction.specs.Tables.{Arities, Returns}
@@ -156,6 +156,13 @@ module _ (graph inputs ledger cells : List ℕ) (accepted : Accepted graph input
       rest = a .rest;
       cellSize = cell-size;
     }
+
+-- a run's check says so
+pub accepted-by : (graph inputs picks : List ℕ) (ledger cells : ℕ) → check graph inputs picks ledger cells ≡ Passed → Accepted graph inputs ledger cells
+accepted-by graph inputs picks ledger cells e =
+    let parts = passed-check graph inputs picks ledger cells e in
+    let stores = passed-stores (length inputs) (length picks) ledger cells (parts .1) in
+    record { graphPassed = parts .0; inputsPassed = parts .2; few = stores .tokenRecords .1; cellRecords = stores .cellRecords }
 
 -- ---- the end
 

@@ -1,6 +1,6 @@
 // The matching store: a ledger, with two arrays beside it. By `links` a token is found by its tag and port, and the tokens
-// deferred on a cell are woken; by `flags` the enabled activities are counted and found by their number; all without a scan
-// of the ledger. `used` is the number of tokens in the ledger, and `tables` those of the graph.
+// deferred on a cell are woken; by `flags` the enabled activities are counted and found by their number; an activity is found by its
+// tag; all without a scan of the ledger. `used` is the number of tokens in the ledger, and `tables` those of the graph.
 use record::tag::Tag;
 use record::token;
 use record::token::Content;
@@ -16,7 +16,7 @@ ghost use Rattle.record.specs.Widths.{tokenWidth};
 ghost use Rattle.store_flags.specs.Flags.{places, flagsOf, Counted};
 ghost use Rattle.store_chains.specs.Search.{firstFrom, Within, Free};
 ghost use Rattle.store_chains.specs.Deferred as Deferred;
-ghost use Rattle.store_enabled.specs.Store.{Known, Operands, statesSpent, tokensSpent};
+ghost use Rattle.store_enabled.specs.Store.{Known, enabledAt, Operands, statesSpent, tokensSpent};
 ghost use Rattle.store.specs.Matching.{Matching};
 
 // The first token that stands at a port of a tag.
@@ -41,6 +41,20 @@ pub fn enabled_at(flags: &[u64; 69], k: usize) -> usize
     ensures { λ r. ⌜ (r ≡ getD (places (flagsOf (now (flags .entry)))) k 0) × (r < 2048) ⌝ }
 {
     store_flags::select(flags, k)
+}
+
+// The place of the activity of a tag, if it is enabled.
+pub fn enabled_by_tag(
+    tables: &[u16; 512],
+    links: &[u16; 9216],
+    ledger: &[u8],
+    used: usize,
+    tag: Tag,
+) -> Found
+    requires { ⌜ Known (now links) (now ledger) used ⌝ }
+    ensures { λ r. ⌜ (r ≡ enabledAt (now (tables .entry)) (tokens used (now (ledger .entry))) tag) × Within r used ⌝ }
+{
+    store_enabled::enabled_by_tag(tables, links, ledger, used, tag)
 }
 
 // A token arrives where none stands: it becomes record `used`.

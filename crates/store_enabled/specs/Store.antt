@@ -8,6 +8,7 @@ use lib.ListN.{length, getD, set, take}
 use lib.Dec.{eqb, ltb}
 use Rattle.buffer.specs.Rows.{joined, All}
 use Rattle.record.specs.TokensAndTags.{encode, tokens, tokenAt, standsAt, TokenFits}
+use Rattle.record.specs.declared.tag.Tag.{Tag}
 use Rattle.record.specs.declared.token.Token.{Token}
 use Rattle.record.specs.Widths.{tokenWidth}
 use Rattle.store_flags.specs.Flags.{flagsOf, Counted}
@@ -57,6 +58,10 @@ lower a b = cond (ltb a b) a b
 abbrev pub liveFound : (ℕ → Token) → Found → Bool
 liveFound at (At i) = isLive (at i .content)
 liveFound at Nothing = false
+
+-- the place of the activity of a tag, if it is enabled
+abbrev pub enabledAt : (tables : List ℕ) → List Token → Tag → Found
+enabledAt tables ts tag = cond (isEnabled tables ts tag) (At (placeOf ts tag)) Nothing
 
 -- of n operands all are live, where a and b say it of ports 0 and 1
 abbrev pub readyOf : (n : ℕ) → (a b : Bool) → Bool

@@ -17,7 +17,7 @@ ghost use Rattle.store_chains.specs.Search.{firstFrom, Within, Free};
 ghost use Rattle.store_chains.specs.Deferred.{LowCell, Waiting};
 ghost use Rattle.store_chains.specs.declared.Found.the-variants.{At};
 ghost use Rattle.store_enabled.specs.Enabled.{isLive, allLive, waitedFor, arityOf, placeOf};
-ghost use Rattle.store_enabled.specs.Store.{Known, Stored, raisedIf, placeOr, lower, liveFound, readyOf, readyWith, Operands, statesSpent, tokensSpent};
+ghost use Rattle.store_enabled.specs.Store.{Known, Stored, raisedIf, placeOr, lower, liveFound, enabledAt, readyOf, readyWith, Operands, statesSpent, tokensSpent};
 
 fn place_or(f: Found, other: usize) -> usize
     ensures { λ r. ⌜ r ≡ placeOr f other ⌝ }
@@ -119,6 +119,26 @@ pub fn arity(tables: &[u16], tag: Tag) -> u16
         waited_for(tables[i], tag)
     } else {
         0
+    }
+}
+
+// The place of the activity of a tag, if it is enabled: its operands are found by their ports.
+pub fn enabled_by_tag(
+    tables: &[u16; 512],
+    links: &[u16; 9216],
+    ledger: &[u8],
+    used: usize,
+    tag: Tag,
+) -> Found
+    requires { ⌜ Known (now links) (now ledger) used ⌝ }
+    ensures { λ r. ⌜ (r ≡ enabledAt (now (tables .entry)) (tokens used (now (ledger .entry))) tag) × Within r used ⌝ }
+{
+    let first = store_chains::find(links, ledger, used, tag, 0);
+    let second = store_chains::find(links, ledger, used, tag, 1);
+    if ready(ledger, first, second, arity(tables, tag)) {
+        Found::At(earlier(place_or(first, used), place_or(second, used)))
+    } else {
+        Found::Nothing
     }
 }
 

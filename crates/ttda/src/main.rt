@@ -5,7 +5,6 @@ use libc::ENAMETOOLONG;
 use libc::ENOENT;
 use libc::STDOUT_FILENO;
 use text::Printed;
-ghost use mathlib.Core.Path.{_≡_};
 ghost use Prim.Native.Nat.{_≤_};
 ghost use lib.ListN.{length};
 

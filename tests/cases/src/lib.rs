@@ -12,15 +12,21 @@
 //! - `hung`: runs with nothing enabled that are not completed (02, R-2);
 //! - `procedures`: a LEAVE under path 0 is a result (02, R-5);
 //! - `sites`: every LEAVE in an entered path has its caller (02, R-6);
+//! - `profiles`, `logs`, `bounds`: profiles in ideal steps (02, R-1), logs and replays
+//!   and bounds, which the tests of these names call through the C
+//!   functions, apart from the program;
 //! - `apart`: which cases tell the wrong emulators of 01 and 02 from a right one.
 
 pub mod apart;
+pub mod bounds;
 mod hung;
 pub mod lent;
 mod limits;
+pub mod logs;
 mod orders;
 mod paper;
 mod procedures;
+pub mod profiles;
 mod refusals;
 mod sites;
 

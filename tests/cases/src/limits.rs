@@ -8,6 +8,7 @@ use crate::{case, Case};
 pub fn cases() -> Vec<Case> {
     let mut cases = budgets();
     cases.extend(capacities());
+    cases.extend(taken());
     cases.extend(full());
     cases.extend(cell_counts());
     cases.extend(enabled());
@@ -130,6 +131,34 @@ fn capacities() -> Vec<Case> {
             three().capacity(2048).from(16),
             "completed 18 23 0",
         ),
+    ]
+}
+
+/// The ledger that a run really takes (02, R-12): with fewer records every order is
+/// refused by 8.
+fn taken() -> Vec<Case> {
+    let read = [op(FETCH, &[(1, 0)]), op(ADD, &[(2, 0)]), op(OUT, &[])];
+    let hangs = |capacity| lend(&read, &[token(0, 0, 1), token(1, 1, 4)]).capacity(capacity);
+    let copy = |to| op(COPY, &[(to, 0)]);
+    let copies = [copy(2), copy(3), op(OUT, &[]), op(OUT, &[])];
+    let completes = |capacity| lend(&copies, &[token(0, 0, 1), token(1, 0, 2)]).capacity(capacity);
+    vec![
+        case("takes 3 and hangs, capacity 3", hangs(3), "hung 1 3 0"),
+        case(
+            "takes 3 and hangs, capacity 2048",
+            hangs(2048),
+            "hung 1 3 0",
+        ),
+        case("takes 3 and hangs, capacity 2", hangs(2), "refused 8 0 2 0"),
+        case("takes 3 and hangs, capacity 1", hangs(1), "refused 8 0 0 1"),
+        case("takes 4, capacity 4", completes(4), "completed 2 4 0"),
+        case("takes 4, capacity 3", completes(3), "refused 8 1 3 1"),
+        case(
+            "takes 4, capacity 3, the other order",
+            completes(3).picks(&[1]),
+            "refused 8 1 3 0",
+        ),
+        case("takes 4, capacity 0", completes(0), "refused 8 0 0 0"),
     ]
 }
 

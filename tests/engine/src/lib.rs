@@ -1,6 +1,8 @@
 //! The engine under test. Its answers stay packed as the C functions give them,
 //! so that a comparison sees every bit.
 
+use second::{Answer, Bounds, Outcome, Refusal};
+
 /// The word of a completed run in a packed answer; a refused run has the
 /// refusal's number.
 pub const COMPLETED: u64 = 0;
@@ -28,6 +30,52 @@ extern "C" {
         cells_len: usize,
     ) -> u64;
 
+    fn ttda_profile(
+        graph: *const u8,
+        graph_len: usize,
+        inputs: *const u8,
+        inputs_len: usize,
+        ledger: *mut u8,
+        ledger_len: usize,
+        cells: *mut u8,
+        cells_len: usize,
+        profile: *mut u8,
+        profile_len: usize,
+        records: *mut u64,
+    ) -> u64;
+
+    fn ttda_run_logged(
+        graph: *const u8,
+        graph_len: usize,
+        inputs: *const u8,
+        inputs_len: usize,
+        picks: *const u8,
+        picks_len: usize,
+        budget: u16,
+        ledger: *mut u8,
+        ledger_len: usize,
+        cells: *mut u8,
+        cells_len: usize,
+        log: *mut u8,
+        log_len: usize,
+    ) -> u64;
+
+    fn ttda_replay(
+        graph: *const u8,
+        graph_len: usize,
+        inputs: *const u8,
+        inputs_len: usize,
+        log: *const u8,
+        log_len: usize,
+        ledger: *mut u8,
+        ledger_len: usize,
+        cells: *mut u8,
+        cells_len: usize,
+    ) -> u64;
+
+    fn ttda_bounds(graph: *const u8, graph_len: usize, inputs: *const u8, inputs_len: usize)
+        -> u64;
+
     fn ttda_list(ledger: *const u8, ledger_len: usize, out: *mut u8, out_len: usize) -> u64;
 
     fn ttda_print(
@@ -43,12 +91,23 @@ extern "C" {
 
 /// Whether a word is the number of a refusal. Numbers 15 and 16 have left the table.
 pub fn is_refusal(word: u64) -> bool {
-    matches!(word, 1..=14 | 17)
+    matches!(word, 1..=14 | 17..=20)
 }
 
 /// The packed answer of a word with its firings, tokens and place.
 pub fn packed(word: u64, firings: usize, tokens: usize, place: usize) -> u64 {
     word + ((firings as u64) << 16) + ((tokens as u64) << 32) + ((place as u64) << 48)
+}
+
+/// The packed form of the second emulator's answer.
+pub fn packed_answer(answer: &Answer) -> u64 {
+    let word = match answer.outcome {
+        Outcome::Completed => COMPLETED,
+        Outcome::Hung => HUNG,
+        Outcome::Spent => SPENT,
+        Outcome::Refused(refusal) => u64::from(refusal.number),
+    };
+    packed(word, answer.firings, answer.tokens, answer.place())
 }
 
 /// The parts of a packed answer: word, firings, tokens and place.
@@ -82,6 +141,99 @@ pub fn run(
             cells.as_mut_ptr(),
             cells.len(),
         )
+    }
+}
+
+/// The engine's profile in ideal steps; the packed answer and the number of records.
+pub fn profile(
+    graph: &[u8],
+    inputs: &[u8],
+    ledger: &mut [u8],
+    cells: &mut [u8],
+    profile: &mut [u8],
+) -> (u64, u64) {
+    // A number that no profile has, so that one left unwritten shows.
+    let mut records = u64::MAX;
+    // SAFETY: as in `run`.
+    let answer = unsafe {
+        ttda_profile(
+            graph.as_ptr(),
+            graph.len(),
+            inputs.as_ptr(),
+            inputs.len(),
+            ledger.as_mut_ptr(),
+            ledger.len(),
+            cells.as_mut_ptr(),
+            cells.len(),
+            profile.as_mut_ptr(),
+            profile.len(),
+            &mut records,
+        )
+    };
+    (answer, records)
+}
+
+/// Runs the engine and writes the log of its firings; the answer is packed.
+pub fn run_logged(
+    graph: &[u8],
+    inputs: &[u8],
+    picks: &[u8],
+    budget: u16,
+    ledger: &mut [u8],
+    cells: &mut [u8],
+    log: &mut [u8],
+) -> u64 {
+    // SAFETY: as in `run`.
+    unsafe {
+        ttda_run_logged(
+            graph.as_ptr(),
+            graph.len(),
+            inputs.as_ptr(),
+            inputs.len(),
+            picks.as_ptr(),
+            picks.len(),
+            budget,
+            ledger.as_mut_ptr(),
+            ledger.len(),
+            cells.as_mut_ptr(),
+            cells.len(),
+            log.as_mut_ptr(),
+            log.len(),
+        )
+    }
+}
+
+/// Fires what a log names; the answer is packed.
+pub fn replay(graph: &[u8], inputs: &[u8], log: &[u8], ledger: &mut [u8], cells: &mut [u8]) -> u64 {
+    // SAFETY: as in `run`.
+    unsafe {
+        ttda_replay(
+            graph.as_ptr(),
+            graph.len(),
+            inputs.as_ptr(),
+            inputs.len(),
+            log.as_ptr(),
+            log.len(),
+            ledger.as_mut_ptr(),
+            ledger.len(),
+            cells.as_mut_ptr(),
+            cells.len(),
+        )
+    }
+}
+
+/// The engine's bounds of a graph, packed as an answer: word 0 or a refusal, most
+/// firings, most tokens, place.
+pub fn bounds(graph: &[u8], inputs: &[u8]) -> u64 {
+    // SAFETY: as in `run`.
+    unsafe { ttda_bounds(graph.as_ptr(), graph.len(), inputs.as_ptr(), inputs.len()) }
+}
+
+/// The packed form of the second emulator's bounds.
+pub fn packed_bounds(bounds: &Result<Bounds, Refusal>) -> u64 {
+    match bounds {
+        Ok(bounds) => packed(0, bounds.firings, bounds.tokens, 0),
+        Err(refusal) => packed(u64::from(refusal.number), 0, 0, refusal.place),
     }
 }
 

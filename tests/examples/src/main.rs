@@ -11,7 +11,7 @@ use std::path::{Path, PathBuf};
 use std::process::ExitCode;
 
 use asm::Files;
-use second::{Answer, Outcome};
+use second::Answer;
 
 const RECORDS: usize = 2048;
 const CELLS: usize = 1024;
@@ -211,16 +211,10 @@ fn second_run(files: &Files) -> Second {
     let used = &ledger[..20 * answer.tokens];
     let mut listing = vec![0; used.len()];
     second::list(used, &mut listing);
-    let word = match answer.outcome {
-        Outcome::Completed => engine::COMPLETED,
-        Outcome::Hung => engine::HUNG,
-        Outcome::Spent => engine::SPENT,
-        Outcome::Refused(refusal) => u64::from(refusal.number),
-    };
     Second {
         answer,
         left: Left {
-            answer: engine::packed(word, answer.firings, answer.tokens, answer.place()),
+            answer: engine::packed_answer(&answer),
             listing,
             cells,
         },

@@ -1,4 +1,4 @@
-//! One run of the engine beside the same run of the second emulator.
+//! One call of the engine beside the same call of the second emulator.
 
 use std::time::{Duration, Instant};
 
@@ -6,10 +6,35 @@ use second::{Answer, Outcome, Refusal};
 
 use crate::prng::Prng;
 
-/// What is lent to a run. Ledger and cells hold random bytes by a seed.
+/// What is called.
+#[derive(Clone)]
+pub enum Call {
+    Run,
+    /// A run with a log of so many bytes.
+    Logged(usize),
+    /// A profile of so many bytes; picks and budget are not lent.
+    Profile(usize),
+    /// The replay of a log; picks and budget are not lent.
+    Replay(Vec<u8>),
+}
+
+impl Call {
+    /// The call by its name, and the bytes of its log or profile.
+    pub fn name(&self) -> String {
+        match self {
+            Call::Run => "run".to_string(),
+            Call::Logged(bytes) => format!("run with a log of {bytes} bytes"),
+            Call::Profile(bytes) => format!("profile of {bytes} bytes"),
+            Call::Replay(log) => format!("replay of {} bytes", log.len()),
+        }
+    }
+}
+
+/// What is lent to a call. The buffers that it writes hold random bytes by a seed.
 #[derive(Clone)]
 pub struct Case {
     pub kind: &'static str,
+    pub call: Call,
     pub graph: Vec<u8>,
     pub inputs: Vec<u8>,
     pub picks: Vec<u8>,
@@ -24,6 +49,10 @@ pub struct Left {
     pub answer: Answer,
     pub ledger: Vec<u8>,
     pub cells: Vec<u8>,
+    /// The profile, or the log of a run.
+    pub further: Vec<u8>,
+    /// The number of records of the profile.
+    pub records: usize,
     pub listing: Vec<u8>,
 }
 
@@ -31,6 +60,11 @@ impl Left {
     /// The used records of the ledger.
     pub fn used(&self) -> &[u8] {
         &self.ledger[..20 * self.answer.tokens]
+    }
+
+    /// The log of a logged run: a record for each firing.
+    pub fn log(&self) -> &[u8] {
+        &self.further[..12 * self.answer.firings]
     }
 }
 
@@ -80,17 +114,6 @@ impl Guarded {
     }
 }
 
-/// The engine's form of an answer.
-pub fn packed(answer: &Answer) -> u64 {
-    let word = match answer.outcome {
-        Outcome::Completed => engine::COMPLETED,
-        Outcome::Hung => engine::HUNG,
-        Outcome::Spent => engine::SPENT,
-        Outcome::Refused(refusal) => u64::from(refusal.number),
-    };
-    engine::packed(word, answer.firings, answer.tokens, answer.place())
-}
-
 /// The answer of a number, by the words of ttda.h: an unknown word is no answer's,
 /// nor is a place where nothing is refused.
 fn answer_of(number: u64) -> Option<Answer> {
@@ -112,60 +135,139 @@ fn answer_of(number: u64) -> Option<Answer> {
     })
 }
 
-/// Runs both and compares answer, ledger, cells, listing and printed lines.
+/// The buffers that a call writes; the further one is a profile or a log.
+struct Buffers<B> {
+    ledger: B,
+    cells: B,
+    further: B,
+}
+
+impl Case {
+    /// Whether inputs, ledger and cells are whole records and not too many.
+    pub fn stores_fit(&self) -> bool {
+        [
+            (self.inputs.len(), 20, 2048),
+            (self.ledger_bytes, 20, 2048),
+            (self.cells_bytes, 8, 1024),
+        ]
+        .iter()
+        .all(|&(bytes, record, most)| bytes % record == 0 && bytes / record <= most)
+    }
+
+    /// The buffers as they are lent.
+    fn buffers(&self, prng: &mut Prng) -> Buffers<Vec<u8>> {
+        let mut garbage = |length: usize| {
+            let mut bytes = vec![0; length];
+            prng.fill(&mut bytes);
+            bytes
+        };
+        let further_bytes = match self.call {
+            Call::Profile(bytes) | Call::Logged(bytes) => bytes,
+            Call::Run | Call::Replay(_) => 0,
+        };
+        Buffers {
+            ledger: garbage(self.ledger_bytes),
+            cells: garbage(self.cells_bytes),
+            further: garbage(further_bytes),
+        }
+    }
+
+    /// The second emulator's answer, and the number of records of a profile.
+    fn second(&self, lent: &mut Buffers<Vec<u8>>) -> (Answer, usize) {
+        let (graph, inputs, picks) = (&self.graph, &self.inputs, &self.picks);
+        let (ledger, cells, further) = (&mut lent.ledger, &mut lent.cells, &mut lent.further);
+        let answer = match &self.call {
+            Call::Run => second::run(graph, inputs, picks, self.budget, ledger, cells),
+            Call::Logged(_) => {
+                second::run_logged(graph, inputs, picks, self.budget, ledger, cells, further)
+            }
+            Call::Profile(_) => {
+                let profiled = second::profile(graph, inputs, ledger, cells, further);
+                return (profiled.answer, profiled.records);
+            }
+            Call::Replay(log) => second::replay(graph, inputs, log, ledger, cells),
+        };
+        (answer, 0)
+    }
+
+    /// The engine's answer, packed, and the number of records of a profile.
+    fn engine(&self, lent: &mut Buffers<Guarded>) -> (u64, u64) {
+        let (graph, inputs, picks) = (&self.graph, &self.inputs, &self.picks);
+        let (ledger, cells) = (lent.ledger.lent(), lent.cells.lent());
+        let further = lent.further.lent();
+        let answer = match &self.call {
+            Call::Run => engine::run(graph, inputs, picks, self.budget, ledger, cells),
+            Call::Logged(_) => {
+                engine::run_logged(graph, inputs, picks, self.budget, ledger, cells, further)
+            }
+            Call::Profile(_) => return engine::profile(graph, inputs, ledger, cells, further),
+            Call::Replay(log) => engine::replay(graph, inputs, log, ledger, cells),
+        };
+        (answer, 0)
+    }
+}
+
+/// Calls both and compares answer, all bytes that are left, listing and printed lines.
 pub fn compare(case: &Case, clock: &mut Clock) -> (Left, Result<(), String>) {
     let mut prng = Prng::new(case.garbage);
-    let mut ledger = vec![0; case.ledger_bytes];
-    let mut cells = vec![0; case.cells_bytes];
-    prng.fill(&mut ledger);
-    prng.fill(&mut cells);
+    let mut due = case.buffers(&mut prng);
     let front = 16 + prng.below(8);
-    let mut engine_ledger = Guarded::new(&ledger, front);
-    let mut engine_cells = Guarded::new(&cells, front + 1);
-
-    let Case {
-        graph,
-        inputs,
-        picks,
-        budget,
-        ..
-    } = case;
+    let mut found = Buffers {
+        ledger: Guarded::new(&due.ledger, front),
+        cells: Guarded::new(&due.cells, front + 1),
+        further: Guarded::new(&due.further, front + 3),
+    };
     let start = Instant::now();
-    let answer = second::run(graph, inputs, picks, *budget, &mut ledger, &mut cells);
+    let (answer, records) = case.second(&mut due);
     clock.second += start.elapsed();
     let start = Instant::now();
-    let (lent_ledger, lent_cells) = (engine_ledger.lent(), engine_cells.lent());
-    let engine_answer = engine::run(graph, inputs, picks, *budget, lent_ledger, lent_cells);
+    let engine_answer = case.engine(&mut found);
     clock.engine += start.elapsed();
 
     let mut listing = vec![0; 20 * answer.tokens];
-    let code = second::list(&ledger[..20 * answer.tokens], &mut listing);
+    let code = second::list(&due.ledger[..20 * answer.tokens], &mut listing);
     assert_eq!(code, 0, "the second emulator lists its own ledger");
     let left = Left {
         answer,
-        ledger,
-        cells,
+        ledger: due.ledger,
+        cells: due.cells,
+        further: due.further,
+        records,
         listing,
     };
-    let result = check_run(&left, engine_answer, &engine_ledger, &engine_cells)
+    let result = check_call(&left, engine_answer, &found)
         .and_then(|()| compare_listing(left.used(), left.used().len(), &mut prng))
         .and_then(|()| compare_printing(&left, &mut prng));
     (left, result)
 }
 
-fn check_run(left: &Left, answer: u64, ledger: &Guarded, cells: &Guarded) -> Result<(), String> {
-    if answer != packed(&left.answer) {
-        let found = engine::unpacked(answer);
-        let due = engine::unpacked(packed(&left.answer));
+fn check_call(
+    left: &Left,
+    (answer, records): (u64, u64),
+    found: &Buffers<Guarded>,
+) -> Result<(), String> {
+    let due = engine::packed_answer(&left.answer);
+    if answer != due {
         return Err(format!(
-            "answer (word, firings, tokens, place): {found:?}, due {due:?}"
+            "answer (word, firings, tokens, place): {:?}, due {:?}",
+            engine::unpacked(answer),
+            engine::unpacked(due)
         ));
     }
-    if !ledger.intact() || !cells.intact() {
-        return Err("bytes outside a lent buffer were written".to_string());
+    if records != left.records as u64 {
+        return Err(format!("profile: {records} records, due {}", left.records));
     }
-    equal("ledger", ledger.contents(), &left.ledger)?;
-    equal("cells", cells.contents(), &left.cells)
+    for (name, found, due) in [
+        ("ledger", &found.ledger, &left.ledger),
+        ("cells", &found.cells, &left.cells),
+        ("profile or log", &found.further, &left.further),
+    ] {
+        if !found.intact() {
+            return Err(format!("{name}: bytes outside the buffer were written"));
+        }
+        equal(name, found.contents(), due)?;
+    }
+    Ok(())
 }
 
 fn equal(name: &str, found: &[u8], due: &[u8]) -> Result<(), String> {
@@ -209,7 +311,8 @@ fn compare_printing(left: &Left, prng: &mut Prng) -> Result<(), String> {
         true => vec![0; left.cells.len()],
         false => left.cells.clone(),
     };
-    compare_text(packed(&left.answer), &left.listing, &cells, prng)?;
+    let number = engine::packed_answer(&left.answer);
+    compare_text(number, &left.listing, &cells, prng)?;
     if prng.one_in(4) {
         let word = [prng.below(24), prng.below(65_536), 98 + prng.below(6)][prng.below(3)] as u64;
         let place = if prng.one_in(2) { 0 } else { prng.word() >> 48 };

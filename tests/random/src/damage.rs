@@ -19,14 +19,14 @@ pub fn damage(case: &mut Case, prng: &mut Prng) {
     }
 }
 
-fn flip(bytes: &mut [u8], prng: &mut Prng) {
+pub fn flip(bytes: &mut [u8], prng: &mut Prng) {
     if !bytes.is_empty() {
         let at = prng.below(bytes.len());
         bytes[at] ^= 1 << prng.below(8);
     }
 }
 
-fn overwrite(bytes: &mut [u8], prng: &mut Prng) {
+pub fn overwrite(bytes: &mut [u8], prng: &mut Prng) {
     if !bytes.is_empty() {
         let at = prng.below(bytes.len());
         bytes[at] = match prng.below(3) {
@@ -38,7 +38,7 @@ fn overwrite(bytes: &mut [u8], prng: &mut Prng) {
 }
 
 /// Sets one field of a random record, so that refusals of every field come up.
-fn set_field(bytes: &mut [u8], record: usize, field: usize, value: u8, prng: &mut Prng) {
+pub fn set_field(bytes: &mut [u8], record: usize, field: usize, value: u8, prng: &mut Prng) {
     if bytes.len() >= record {
         let number = prng.below(bytes.len() / record);
         bytes[record * number + field] = value;

@@ -46,6 +46,8 @@ struct Function {
 pub struct Size {
     pub steps: usize,
     pub passes: i32,
+    /// Without NEXT, ENTER and LEAVE.
+    pub loop_free: bool,
 }
 
 pub struct Generator<'a> {
@@ -128,6 +130,7 @@ impl<'a> Generator<'a> {
                 return;
             }
             match self.prng.below(30) {
+                11 | 23..=27 | 29 if self.size.loop_free => self.immediate(base),
                 0..=4 => self.immediate(base),
                 5..=8 => self.binary(base),
                 9 | 10 => self.unary(base, COPY),
@@ -192,7 +195,7 @@ impl<'a> Generator<'a> {
     /// Ends a source at OUT or SINK, or at the root now and then at LEAVE, which is a
     /// result there.
     fn end(&mut self, source: Source) {
-        let root = source.context.call == ROOT.call;
+        let root = source.context.call == ROOT.call && !self.size.loop_free;
         let (code, constant) = match self.prng.below(8) {
             0 | 1 => (SINK, 0),
             2 if root => (LEAVE, self.prng.between(0, 255)),

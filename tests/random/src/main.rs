@@ -4,15 +4,19 @@
 //! last line is "N passed, M failed"; the exit status is 1 if a run failed or if
 //! an answer, refusal or operation that can be reached never came up, so fewer
 //! than a few thousand runs may fail for that. A failed run's files graph, inputs
-//! and picks are written to random-failures/SEED-RUN; with --keep every run's files
+//! and picks, and the log of a replay, are written to random-failures/SEED-RUN; with --keep every run's files
 //! are written to random-failures/current beforehand, for an engine that crashes.
 //! With --first the runs end with the group in which the first one failed.
 
+mod bounds;
+mod capacities;
 mod case;
 mod damage;
 mod generate;
+mod logs;
 mod orders;
 mod prng;
+mod profiles;
 mod records;
 mod shapes;
 mod tally;
@@ -21,7 +25,8 @@ use std::fs;
 use std::path::Path;
 use std::process::ExitCode;
 
-use case::{compare, compare_listing, Case, Clock, Left};
+use case::{compare, compare_listing, Call, Case, Clock, Left};
+use orders::End;
 use prng::Prng;
 use tally::Tally;
 
@@ -36,27 +41,41 @@ struct Harness {
     keep: bool,
     first: bool,
     runs: u64,
+    profiles: u64,
+    replays: u64,
+    bounds: u64,
     groups: u64,
     listings: u64,
     agreements: u64,
+    profile_ends: u64,
+    logs_compared: u64,
     failed: u64,
     tally: Tally,
     clock: Clock,
 }
 
 impl Harness {
-    /// Compares one run and counts it.
-    fn run(&mut self, case: &Case) -> Left {
+    /// Compares one call and counts it.
+    fn call(&mut self, case: &Case) -> Left {
         if self.keep {
             write_files(case, "random-failures/current");
         }
         let (left, result) = compare(case, &mut self.clock);
-        self.runs += 1;
+        match case.call {
+            Call::Run | Call::Logged(_) => self.runs += 1,
+            Call::Profile(_) => self.profiles += 1,
+            Call::Replay(_) => self.replays += 1,
+        }
         self.tally.count(case, &left);
         if let Err(reason) = result {
             self.fail(case, &reason);
         }
         left
+    }
+
+    /// All calls that were compared.
+    fn calls(&self) -> u64 {
+        self.runs + self.profiles + self.replays + self.bounds
     }
 
     fn fail(&mut self, case: &Case, reason: &str) {
@@ -66,16 +85,22 @@ impl Harness {
         }
         println!(
             "seed {}, group {}, run {}, {}:",
-            self.seed, self.groups, self.runs, case.kind
+            self.seed,
+            self.groups,
+            self.calls(),
+            case.kind
         );
         println!("  {reason}");
         println!(
-            "  budget {}, ledger {} bytes, cells {} bytes",
-            case.budget, case.ledger_bytes, case.cells_bytes
+            "  {}, budget {}, ledger {} bytes, cells {} bytes",
+            case.call.name(),
+            case.budget,
+            case.ledger_bytes,
+            case.cells_bytes
         );
         write_files(
             case,
-            &format!("random-failures/{}-{}", self.seed, self.runs),
+            &format!("random-failures/{}-{}", self.seed, self.calls()),
         );
     }
 
@@ -87,14 +112,21 @@ impl Harness {
     fn group(&mut self, prng: &mut Prng) {
         self.groups += 1;
         let case = first_case(prng);
-        self.all_orders(&case, prng);
+        let ends = self.all_orders(&case, prng);
+        self.all_profiles(&case, &ends, prng);
+        self.all_logs(&ends, prng);
+        self.compare_bounds(&case, &ends);
+        self.all_capacities(&ends, prng);
         for _ in 0..2 {
             let mut case = case.clone();
             case.budget = [0, 1, 2, prng.below(40) as u16, 65_535][prng.below(5)];
             case.garbage = prng.word();
             case.picks = vec![0; 2 * prng.below(30)];
             prng.fill(&mut case.picks);
-            self.run(&case);
+            self.call(&case);
+            case.call = Call::Logged(logs::bytes(case.budget, prng));
+            let left = self.call(&case);
+            self.replay_of(&case, &left);
         }
         for _ in 0..4 {
             let mut case = case.clone();
@@ -102,7 +134,15 @@ impl Harness {
             case.picks = vec![0; 2 * prng.below(30)];
             prng.fill(&mut case.picks);
             damage::damage(&mut case, prng);
-            self.run(&case);
+            self.call(&case);
+            self.compare_bounds(&case, &[]);
+            case.call = match prng.below(4) {
+                0 => Call::Profile(profiles::bytes(prng.below(30), prng)),
+                1 => Call::Logged(logs::bytes(case.budget, prng)),
+                2 => Call::Replay(ends[0].left.log().to_vec()),
+                _ => continue,
+            };
+            self.call(&case);
         }
         if prng.one_in(4) {
             self.arbitrary_listing(&case, prng);
@@ -110,29 +150,62 @@ impl Harness {
     }
 
     /// Every list of picks, then demand 3 between the first order and each other
-    /// one, and the budget that is just enough or one too small.
-    fn all_orders(&mut self, case: &Case, prng: &mut Prng) {
-        let mut first: Option<Left> = None;
+    /// one, and the budget that is just enough or one too small. Answers what each
+    /// order left.
+    fn all_orders(&mut self, case: &Case, prng: &mut Prng) -> Vec<End> {
+        let mut ends: Vec<End> = Vec::new();
         for picks in orders::pick_lists(case, prng) {
             let mut case = case.clone();
             case.picks = picks;
             case.garbage = prng.word();
-            let left = self.run(&case);
-            match &first {
-                None => {
-                    let exact = left.answer.firings as u16;
-                    first = Some(left);
-                    case.budget = exact.saturating_sub(prng.below(2) as u16);
-                    self.run(&case);
-                }
+            if ends.len() % 3 != 2 {
+                case.call = Call::Logged(12 * (2048 + prng.below(2)));
+            }
+            let left = self.call(&case);
+            match ends.first() {
+                None => self.short_budget(case.clone(), &left, prng),
                 Some(first) => {
                     self.agreements += 1;
-                    self.tally.count_pair(&case, first, &left);
-                    if let Err(reason) = orders::agree(first, &left) {
+                    self.tally.count_pair(&case, &first.left, &left);
+                    if let Err(reason) = orders::agree(&first.left, &left) {
                         self.fail(&case, &reason);
                     }
                 }
             }
+            ends.push(End { case, left });
+        }
+        ends
+    }
+
+    /// A run again with the budget that is just enough or one too small, and a log for it.
+    fn short_budget(&mut self, mut case: Case, left: &Left, prng: &mut Prng) {
+        let exact = left.answer.firings as u16;
+        case.budget = exact.saturating_sub(prng.below(2) as u16);
+        case.call = Call::Logged(12 * usize::from(case.budget));
+        let left = self.call(&case);
+        self.replay_of(&case, &left);
+    }
+
+    /// A profile with room for every step ends as each order does; then profiles with
+    /// just enough room, too little, or a length that is refused.
+    fn all_profiles(&mut self, case: &Case, ends: &[End], prng: &mut Prng) {
+        let mut case = case.clone();
+        case.garbage = prng.word();
+        case.call = Call::Profile(4 * (2048 + prng.below(3)));
+        let left = self.call(&case);
+        for end in ends {
+            self.profile_ends += 1;
+            if let Err(reason) = orders::agree(&end.left, &left) {
+                self.fail(&case, &format!("profile against a run: {reason}"));
+            }
+        }
+        if let Err(reason) = profiles::add_up(&left) {
+            self.fail(&case, &reason);
+        }
+        for _ in 0..2 {
+            case.garbage = prng.word();
+            case.call = Call::Profile(profiles::bytes(left.records, prng));
+            self.call(&case);
         }
     }
 
@@ -173,7 +246,11 @@ fn write_files(case: &Case, folder: &str) {
     let written = fs::create_dir_all(path)
         .and_then(|()| fs::write(path.join("graph"), &case.graph))
         .and_then(|()| fs::write(path.join("inputs"), &case.inputs))
-        .and_then(|()| fs::write(path.join("picks"), &case.picks));
+        .and_then(|()| fs::write(path.join("picks"), &case.picks))
+        .and_then(|()| match &case.call {
+            Call::Replay(log) => fs::write(path.join("log"), log),
+            _ => Ok(()),
+        });
     if let Err(error) = written {
         println!("  {folder} could not be written: {error}");
     }
@@ -191,6 +268,7 @@ fn first_case(prng: &mut Prng) -> Case {
     };
     let mut case = Case {
         kind: subject.kind,
+        call: Call::Run,
         graph: subject.graph,
         inputs: subject.inputs,
         picks: Vec::new(),
@@ -211,6 +289,9 @@ fn first_case(prng: &mut Prng) -> Case {
         _ => used + prng.below(20),
     };
     case.ledger_bytes = 20 * capacity.min(2048);
+    if prng.one_in(50) {
+        case.inputs.clear();
+    }
     case
 }
 
@@ -247,9 +328,14 @@ fn main() -> ExitCode {
         keep: given("--keep"),
         first: given("--first"),
         runs: 0,
+        profiles: 0,
+        replays: 0,
+        bounds: 0,
         groups: 0,
         listings: 0,
         agreements: 0,
+        profile_ends: 0,
+        logs_compared: 0,
         failed: 0,
         tally: Tally::new(),
         clock: Clock::default(),
@@ -267,6 +353,15 @@ fn report(harness: &Harness) -> ExitCode {
         harness.seed, harness.groups, harness.runs
     );
     println!("pairs of orders compared: {}", harness.agreements);
+    println!(
+        "profiles: {}; pairs of a profile and an order compared: {}",
+        harness.profiles, harness.profile_ends
+    );
+    println!(
+        "replays: {}; pairs of logs compared: {}",
+        harness.replays, harness.logs_compared
+    );
+    println!("bounds: {}", harness.bounds);
     println!("listings of arbitrary records: {}", harness.listings);
     println!(
         "time in the engine {:.2?}, in the second {:.2?}",
@@ -279,7 +374,7 @@ fn report(harness: &Harness) -> ExitCode {
     let failed = harness.failed + missing as u64;
     println!(
         "{} passed, {} failed",
-        harness.runs.saturating_sub(harness.failed),
+        harness.calls().saturating_sub(harness.failed),
         failed
     );
     ExitCode::from(u8::from(failed > 0))

@@ -5,6 +5,12 @@ use second::{Answer, Outcome};
 use crate::case::{Case, Left};
 use crate::prng::Prng;
 
+/// One order of a graph: what was lent to its run, and what the run left.
+pub struct End {
+    pub case: Case,
+    pub left: Left,
+}
+
 /// At least eight lists of picks, oldest first and newest first among them.
 pub fn pick_lists(case: &Case, prng: &mut Prng) -> Vec<Vec<u8>> {
     let (capacity, cells) = (case.ledger_bytes / 20, case.cells_bytes / 8);

@@ -35,14 +35,23 @@ pub fn subject(prng: &mut Prng) -> Subject {
 const SMALL: Size = Size {
     steps: 12,
     passes: 4,
+    loop_free: false,
 };
 const MEDIUM: Size = Size {
     steps: 30,
     passes: 12,
+    loop_free: false,
 };
 const LARGE: Size = Size {
     steps: 40,
     passes: 120,
+    loop_free: false,
+};
+
+const LOOP_FREE: Size = Size {
+    steps: 40,
+    passes: 0,
+    loop_free: true,
 };
 
 /// The kind of a graph, its draft and the number of its cells.
@@ -50,7 +59,8 @@ type Drafted = (&'static str, Draft, usize);
 
 fn draft(prng: &mut Prng) -> Drafted {
     match prng.below(100) {
-        0..=54 => generated(prng, "small", SMALL),
+        0..=46 => generated(prng, "small", SMALL),
+        47..=54 => generated(prng, "loop-free", LOOP_FREE),
         55..=66 => generated(prng, "medium", MEDIUM),
         67 => generated(prng, "large", LARGE),
         68 => long_loop(prng),

@@ -3,7 +3,8 @@
 use layout::{LEAVE, OUT};
 use second::Outcome;
 
-use crate::case::{Case, Left};
+use crate::case::{Call, Case, Left};
+use crate::{bounds, capacities, logs, profiles};
 
 const NAMES: [(u8, &str); 27] = [
     (1, "COPY"),
@@ -79,6 +80,11 @@ pub struct Tally {
     deferred: u64,
     deepest: u64,
     largest: usize,
+    profiles: Named,
+    logged: Named,
+    replays: Named,
+    bounds: Named,
+    capacities: Named,
 }
 
 impl Tally {
@@ -99,10 +105,35 @@ impl Tally {
             deferred: 0,
             deepest: 0,
             largest: 0,
+            profiles: Named::new(&profiles::NAMES),
+            logged: Named::new(&logs::RUN_NAMES),
+            replays: Named::new(&logs::REPLAY_NAMES),
+            bounds: Named::new(&bounds::NAMES),
+            capacities: Named::new(&capacities::NAMES),
         }
     }
 
     pub fn count(&mut self, case: &Case, left: &Left) {
+        match &case.call {
+            Call::Run => self.count_run(case, left),
+            Call::Logged(_) => {
+                self.count_run(case, left);
+                self.logged.count(logs::run_names(case, left));
+            }
+            Call::Profile(_) => self.profiles.count(profiles::names(case, left)),
+            Call::Replay(log) => self.replays.count(logs::replay_names(case, log, left)),
+        }
+    }
+
+    pub fn count_bounds(&mut self, names: Vec<&'static str>) {
+        self.bounds.count(names);
+    }
+
+    pub fn count_capacity(&mut self, name: &'static str) {
+        self.capacities.count(vec![name]);
+    }
+
+    fn count_run(&mut self, case: &Case, left: &Left) {
         match left.answer.outcome {
             Outcome::Completed => self.completed += 1,
             Outcome::Hung => self.hung += 1,
@@ -163,6 +194,34 @@ impl Tally {
         println!("pairs of orders that hang:");
         lines.count("operands waiting", self.hung_waiting);
         lines.count("tokens deferred", self.hung_deferred);
+        self.print_refusals(&mut lines);
+        println!("operations fired:");
+        for (code, name) in NAMES {
+            match code {
+                OUT => lines.count("3 OUT (tokens received)", self.results),
+                _ => lines.count(&format!("{code} {name}"), self.fired[usize::from(code)]),
+            }
+        }
+        println!("profiles:");
+        self.profiles.print(&mut lines);
+        println!("runs with a log:");
+        self.logged.print(&mut lines);
+        println!("replays:");
+        self.replays.print(&mut lines);
+        println!("bounds:");
+        self.bounds.print(&mut lines);
+        println!("capacities of runs that completed or hung:");
+        self.capacities.print(&mut lines);
+        println!("further:");
+        lines.count("results at a LEAVE", self.root_leaves);
+        lines.count("deferred at such a LEAVE", self.root_leaves_deferred);
+        lines.count("tokens left deferred", self.deferred);
+        lines.count("most levels of a path", self.deepest);
+        lines.count("most tokens of a run", self.largest as u64);
+        lines.missing
+    }
+
+    fn print_refusals(&self, lines: &mut Lines) {
         println!("refusals:");
         for (number, word) in REFUSALS {
             lines.count(&format!("{number} {word}"), self.refusals[number]);
@@ -173,20 +232,6 @@ impl Tally {
                 self.refused_inputs[number],
             );
         }
-        println!("operations fired:");
-        for (code, name) in NAMES {
-            match code {
-                OUT => lines.count("3 OUT (tokens received)", self.results),
-                _ => lines.count(&format!("{code} {name}"), self.fired[usize::from(code)]),
-            }
-        }
-        println!("further:");
-        lines.count("results at a LEAVE", self.root_leaves);
-        lines.count("deferred at such a LEAVE", self.root_leaves_deferred);
-        lines.count("tokens left deferred", self.deferred);
-        lines.count("most levels of a path", self.deepest);
-        lines.count("most tokens of a run", self.largest as u64);
-        lines.missing
     }
 }
 
@@ -203,6 +248,28 @@ fn is_result(case: &Case, record: &[u8]) -> bool {
         OUT => true,
         LEAVE => record[..8] == [0; 8],
         _ => false,
+    }
+}
+
+/// Counts by name.
+struct Named(Vec<(&'static str, u64)>);
+
+impl Named {
+    fn new(names: &[&'static str]) -> Named {
+        Named(names.iter().map(|&name| (name, 0)).collect())
+    }
+
+    fn count(&mut self, names: Vec<&'static str>) {
+        for name in names {
+            let found = self.0.iter_mut().find(|(known, _)| *known == name);
+            found.expect("a name of the list").1 += 1;
+        }
+    }
+
+    fn print(&self, lines: &mut Lines) {
+        for &(name, count) in &self.0 {
+            lines.count(name, count);
+        }
     }
 }
 

@@ -1,22 +1,28 @@
 //! A second emulator of the tagged-token machine with a ledger.
 //!
-//! It is written from the rules (document 01) alone and shares nothing with the
+//! It is written from the rules (documents 01 and 02) alone and shares nothing with the
 //! engine, so that a run of both over the same bytes is a test of the engine.
 //! Instructions and tokens are parsed once, the matching store is a map by
 //! path, iteration, instruction and port, and the lent buffers are written once,
 //! at the end of the run.
 
 mod arithmetic;
+mod bounds;
 mod graph;
 mod listing;
+mod log;
 mod machine;
 mod places;
 mod printing;
+mod profile;
 mod token;
 
+pub use bounds::{bounds, Bounds};
 pub use graph::{operand_count, Graph};
 pub use listing::list;
+pub use log::{replay, run_logged};
 pub use printing::print;
+pub use profile::{profile, Profiled};
 
 use std::collections::HashSet;
 
@@ -31,6 +37,10 @@ pub const TOKEN_RECORD: usize = 20;
 pub const CELL_RECORD: usize = 8;
 /// Bytes of a pick (01, "The printed listing").
 pub const PICK_RECORD: usize = 2;
+/// Bytes of a profile record (02, R-1).
+pub const PROFILE_RECORD: usize = 4;
+/// Bytes of a log record (02, R-7).
+pub const LOG_RECORD: usize = 12;
 /// Most records of inputs, picks or ledger (01, refusal 7).
 pub const MOST_RECORDS: usize = 2048;
 /// Most cells (01, refusal 7).
@@ -78,10 +88,12 @@ impl Answer {
         }
     }
 
-    /// Whether the run was refused before a firing was tried. A firing has at
-    /// least one operand, so a refusal without tokens precedes all firings.
+    /// Whether the call was refused before its inputs were written, so that ledger and
+    /// cells stay as lent. These refusals are 1 to 9 without tokens: a firing has at
+    /// least one operand, and 18 and 20 come after the inputs, of which a replay may
+    /// have none.
     pub fn refused_at_once(&self) -> bool {
-        self.refusal().is_some() && self.tokens == 0
+        self.refusal().is_some_and(|number| number <= 9) && self.tokens == 0
     }
 }
 
@@ -95,12 +107,16 @@ pub fn run(
     ledger: &mut [u8],
     cells: &mut [u8],
 ) -> Answer {
-    let choose = |firing: usize, _enabled: usize| match picks.get(2 * firing..2 * firing + 2) {
-        Some(pick) => u16::from_le_bytes([pick[0], pick[1]]),
-        // 01, "Firing": once picks run out, the first is taken.
-        None => 0,
-    };
+    let choose = |firing: usize, _enabled: usize| pick_of(picks, firing);
     run_checked(graph, inputs, picks.len(), budget, ledger, cells, choose)
+}
+
+/// The pick for a firing; once picks run out, the first is taken (01, "Firing").
+fn pick_of(picks: &[u8], firing: usize) -> u16 {
+    match picks.get(2 * firing..2 * firing + 2) {
+        Some(pick) => u16::from_le_bytes([pick[0], pick[1]]),
+        None => 0,
+    }
 }
 
 /// Runs a graph with picks given one by one: `choose` gets the number of firings
@@ -165,81 +181,93 @@ fn run_checked(
     cells: &mut [u8],
     choose: impl FnMut(usize, usize) -> u16,
 ) -> Answer {
-    let lengths = Lengths {
-        inputs: inputs.len(),
-        picks: picks_length,
-        ledger: ledger.len(),
-        cells: cells.len(),
+    let lent = Lent {
+        graph,
+        inputs,
+        ledger,
+        cells,
     };
-    match prepare(graph, inputs, &lengths) {
-        Err(refusal) => Answer {
-            outcome: Outcome::Refused(refusal),
-            firings: 0,
-            tokens: 0,
-        },
-        Ok((graph, tokens)) => {
-            let capacity = lengths.ledger / TOKEN_RECORD;
-            let cell_count = lengths.cells / CELL_RECORD;
-            let mut machine = Machine::new(&graph, capacity, cell_count, &tokens);
-            let answer = machine.run(usize::from(budget), choose);
-            machine.write(ledger, cells);
-            answer
+    let picks_fit = fits(picks_length, PICK_RECORD, MOST_RECORDS);
+    lent.accept(picks_fit, |machine| {
+        machine.run(usize::from(budget), choose)
+    })
+}
+
+/// What every call that fires is lent.
+struct Lent<'a> {
+    graph: &'a [u8],
+    inputs: &'a [u8],
+    ledger: &'a mut [u8],
+    cells: &'a mut [u8],
+}
+
+impl Lent<'_> {
+    /// Checks what is lent, and lets a machine go from the inputs; ledger and cells are
+    /// written unless the checks refuse. `others_fit` says that refusal 7 finds no
+    /// fault with what else is lent.
+    fn accept(self, others_fit: bool, go: impl FnOnce(&mut Machine) -> Answer) -> Answer {
+        match self.check(others_fit) {
+            Err(refusal) => Answer {
+                outcome: Outcome::Refused(refusal),
+                firings: 0,
+                tokens: 0,
+            },
+            Ok((graph, tokens)) => {
+                let cell_count = self.cells.len() / CELL_RECORD;
+                let mut machine = Machine::new(&graph, self.capacity(), cell_count, &tokens);
+                let answer = go(&mut machine);
+                machine.write(self.ledger, self.cells);
+                answer
+            }
         }
+    }
+
+    fn capacity(&self) -> usize {
+        self.ledger.len() / TOKEN_RECORD
+    }
+
+    /// All checks before the first firing, in the order of 01: 1; records in turn,
+    /// each 2 to 5; 7; inputs in turn for 6; 8; 9 by input in turn.
+    fn check(&self, others_fit: bool) -> Result<(Graph, Vec<Token>), Refusal> {
+        let stores_fit = others_fit
+            && fits(self.ledger.len(), TOKEN_RECORD, MOST_RECORDS)
+            && fits(self.cells.len(), CELL_RECORD, MOST_CELLS);
+        let (graph, tokens) = parse(self.graph, self.inputs, stores_fit)?;
+        if tokens.len() > self.capacity() {
+            // The first input that doesn't fit.
+            return Err(Refusal {
+                number: 8,
+                place: self.capacity(),
+            });
+        }
+        let mut taken = HashSet::with_capacity_and_hasher(tokens.len(), KeyHashing::default());
+        for (place, token) in tokens.iter().enumerate() {
+            if !taken.insert(token.key()) {
+                return Err(Refusal { number: 9, place });
+            }
+        }
+        Ok((graph, tokens))
     }
 }
 
-/// The lengths of the lent buffers, in bytes.
-struct Lengths {
-    inputs: usize,
-    picks: usize,
-    ledger: usize,
-    cells: usize,
+/// Whether a buffer is whole records and at most so many (01, refusal 7).
+fn fits(length: usize, record: usize, most: usize) -> bool {
+    length.is_multiple_of(record) && length / record <= most
 }
 
-impl Lengths {
-    /// 01, refusal 7.
-    fn check(&self) -> Result<(), Refusal> {
-        let fits = |length: usize, record: usize, most: usize| {
-            length.is_multiple_of(record) && length / record <= most
-        };
-        if fits(self.inputs, TOKEN_RECORD, MOST_RECORDS)
-            && fits(self.picks, PICK_RECORD, MOST_RECORDS)
-            && fits(self.ledger, TOKEN_RECORD, MOST_RECORDS)
-            && fits(self.cells, CELL_RECORD, MOST_CELLS)
-        {
-            Ok(())
-        } else {
-            Err(Refusal {
-                number: 7,
-                place: 0,
-            })
-        }
-    }
-}
-
-/// All checks before the first firing, in the order of 01: 1; records in turn,
-/// each 2 to 5; 7; inputs in turn for 6; 8; 9 by input in turn.
-fn prepare(graph: &[u8], inputs: &[u8], lengths: &Lengths) -> Result<(Graph, Vec<Token>), Refusal> {
+/// The graph and the input tokens, or one of 1 to 7.
+fn parse(graph: &[u8], inputs: &[u8], others_fit: bool) -> Result<(Graph, Vec<Token>), Refusal> {
     let graph = Graph::parse(graph)?;
-    lengths.check()?;
-    let mut tokens = Vec::with_capacity(lengths.inputs / TOKEN_RECORD);
+    if !others_fit || !fits(inputs.len(), TOKEN_RECORD, MOST_RECORDS) {
+        return Err(Refusal {
+            number: 7,
+            place: 0,
+        });
+    }
+    let mut tokens = Vec::with_capacity(inputs.len() / TOKEN_RECORD);
     for (place, record) in inputs.chunks_exact(TOKEN_RECORD).enumerate() {
         let token = input_token(record, &graph).ok_or(Refusal { number: 6, place })?;
         tokens.push(token);
-    }
-    let capacity = lengths.ledger / TOKEN_RECORD;
-    if tokens.len() > capacity {
-        // The first input that doesn't fit.
-        return Err(Refusal {
-            number: 8,
-            place: capacity,
-        });
-    }
-    let mut taken = HashSet::with_capacity_and_hasher(tokens.len(), KeyHashing::default());
-    for (place, token) in tokens.iter().enumerate() {
-        if !taken.insert(token.key()) {
-            return Err(Refusal { number: 9, place });
-        }
     }
     Ok((graph, tokens))
 }

@@ -4,7 +4,7 @@ use std::collections::HashMap;
 
 use crate::graph::{Graph, Instruction, Operation};
 use crate::places::Places;
-use crate::token::{Cell, Key, KeyHashing, State, Token};
+use crate::token::{Cell, Key, KeyHashing, State, Tag, Token};
 use crate::{Answer, Outcome, Refusal, CELL_RECORD, TOKEN_RECORD};
 
 /// A path of at least this has four levels: a site is at least 1, so every
@@ -21,6 +21,7 @@ pub struct Machine<'a> {
     matching: HashMap<Key, usize, KeyHashing>,
     enabled: Places,
     cells: Vec<Cell>,
+    fired: Vec<Tag>,
 }
 
 /// An activity that is enabled: its tag with the positions and values of its
@@ -58,6 +59,7 @@ impl<'a> Machine<'a> {
             matching: HashMap::with_capacity_and_hasher(capacity, KeyHashing::default()),
             enabled: Places::new(),
             cells: vec![Cell::Absent; cell_count],
+            fired: Vec::with_capacity(capacity),
         };
         for &token in inputs {
             machine.append(token);
@@ -85,6 +87,10 @@ impl<'a> Machine<'a> {
             }
             firings += 1;
         };
+        self.answer(outcome, firings)
+    }
+
+    pub fn answer(&self, outcome: Outcome, firings: usize) -> Answer {
         Answer {
             outcome,
             firings,
@@ -92,9 +98,35 @@ impl<'a> Machine<'a> {
         }
     }
 
+    /// The places of all enabled activities, in order.
+    pub fn enabled_places(&self) -> Vec<usize> {
+        (0..self.enabled.len())
+            .map(|number| self.enabled.nth(number))
+            .collect()
+    }
+
+    /// The place of the activity with a tag, if it is enabled.
+    pub fn enabled_place(&self, tag: Tag) -> Option<usize> {
+        let left = *self.matching.get(&tag.key(0))?;
+        let right = self.matching.get(&tag.key(1));
+        let place = right.map_or(left, |&right| right.min(left));
+        self.enabled.contains(place).then_some(place)
+    }
+
+    /// The activities fired so far, in order.
+    pub fn fired(&self) -> &[Tag] {
+        &self.fired
+    }
+
+    /// The number of tokens that are live or deferred.
+    pub fn unspent(&self) -> usize {
+        let unspent = |token: &&Token| token.state != State::Spent;
+        self.tokens.iter().filter(unspent).count()
+    }
+
     /// How a run with nothing enabled ends: completed only if every live token is a
     /// result and none is deferred (02, R-2).
-    fn rest(&self) -> Outcome {
+    pub fn rest(&self) -> Outcome {
         let proper = |token: &Token| match token.state {
             State::Live => self.is_result(token),
             State::Spent => true,
@@ -134,7 +166,7 @@ impl<'a> Machine<'a> {
 
     /// One firing: 10 to 17 in rising order, then 8, then 9. Nothing is changed
     /// before all of them are passed.
-    fn fire(&mut self, place: usize) -> Result<(), u8> {
+    pub fn fire(&mut self, place: usize) -> Result<(), u8> {
         let activity = self.activity(place);
         let effect = self.effect(&activity)?;
         let outputs = effect.outputs;
@@ -145,6 +177,7 @@ impl<'a> Machine<'a> {
             return Err(9);
         }
         self.enabled.remove(place);
+        self.fired.push(self.tokens[place].tag());
         self.tokens[activity.left].state = State::Spent;
         if let Some(right) = activity.right {
             self.tokens[right].state = State::Spent;

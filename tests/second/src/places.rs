@@ -24,14 +24,18 @@ impl Places {
 
     /// Adds a place that is not in the set.
     pub fn insert(&mut self, place: usize) {
-        debug_assert!(self.words[place / 64] >> (place % 64) & 1 == 0);
+        debug_assert!(!self.contains(place));
         self.words[place / 64] |= 1 << (place % 64);
         self.count += 1;
     }
 
+    pub fn contains(&self, place: usize) -> bool {
+        self.words[place / 64] >> (place % 64) & 1 == 1
+    }
+
     /// Takes out a place that is in the set.
     pub fn remove(&mut self, place: usize) {
-        debug_assert!(self.words[place / 64] >> (place % 64) & 1 == 1);
+        debug_assert!(self.contains(place));
         self.words[place / 64] &= !(1 << (place % 64));
         self.count -= 1;
     }

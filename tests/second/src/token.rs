@@ -2,7 +2,7 @@
 
 use std::hash::{BuildHasherDefault, Hash, Hasher};
 
-use crate::{CELL_RECORD, TOKEN_RECORD};
+use crate::{CELL_RECORD, LOG_RECORD, TOKEN_RECORD};
 
 /// The state of a token (01, "Tokens and tags").
 #[derive(Clone, Copy, Debug, PartialEq, Eq)]
@@ -58,12 +58,53 @@ impl Token {
     }
 
     pub fn key(&self) -> Key {
+        self.tag().key(self.port)
+    }
+
+    pub fn tag(&self) -> Tag {
+        Tag {
+            path: self.path,
+            iteration: self.iteration,
+            instruction: self.instruction,
+        }
+    }
+}
+
+/// What names an activity.
+#[derive(Clone, Copy, Debug, PartialEq, Eq)]
+pub struct Tag {
+    pub path: u64,
+    pub iteration: u8,
+    pub instruction: u16,
+}
+
+impl Tag {
+    pub fn key(self, port: u8) -> Key {
         Key {
             path: self.path,
             iteration: self.iteration,
             instruction: self.instruction,
-            port: self.port,
+            port,
         }
+    }
+
+    /// Path, iteration, a zero byte, instruction (02, R-7).
+    pub fn log_record(self) -> [u8; LOG_RECORD] {
+        let mut record = [0; LOG_RECORD];
+        record[0..8].copy_from_slice(&self.path.to_le_bytes());
+        record[8] = self.iteration;
+        record[10..12].copy_from_slice(&self.instruction.to_le_bytes());
+        record
+    }
+
+    /// The tag of a log record, or `None` if it isn't whole or lacks its zero byte.
+    pub fn of_log_record(record: &[u8]) -> Option<Tag> {
+        let record: &[u8; LOG_RECORD] = record.try_into().ok()?;
+        (record[9] == 0).then_some(Tag {
+            path: u64::from_le_bytes(record[0..8].try_into().ok()?),
+            iteration: record[8],
+            instruction: u16::from_le_bytes([record[10], record[11]]),
+        })
     }
 }
 

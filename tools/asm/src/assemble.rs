@@ -1,121 +1,164 @@
 //! From text to files.
 
-use std::collections::HashMap;
+use crate::errors::{Error, Errors, Fault, Span};
+use crate::names::{Names, STORE};
+use crate::operations::Constant;
+use crate::parse::parse_line;
+use crate::statement::{Line, Statement, Target, Typed};
+use crate::words::words;
+use crate::{Files, GRAPH_RECORD, TOKEN_RECORD};
 
-use crate::operations::{operand_count, Constant};
-use crate::parse::{parse_line, Line, Statement, Target};
-use crate::{Error, Files, GRAPH_RECORD, TOKEN_RECORD};
+/// Where a statement stands in the text. Line and column are counted from 1, the
+/// column in characters.
+#[derive(Clone, Debug, PartialEq, Eq)]
+pub struct Place {
+    pub line: usize,
+    pub column: usize,
+    pub span: Span,
+}
+
+/// Name and place of an instruction.
+#[derive(Clone, Debug, PartialEq, Eq)]
+pub struct Instruction {
+    /// The typed name; `#` and the number where there is none, and `cell 3` for
+    /// the STORE of a line that loads a cell.
+    pub name: String,
+    pub place: Place,
+    /// The targets, in the order of the destinations.
+    pub arcs: Vec<Span>,
+}
+
+/// The files of a text, and where their records come from.
+#[derive(Clone, Debug, Default, PartialEq, Eq)]
+pub struct Program {
+    pub files: Files,
+    pub instructions: Vec<Instruction>,
+    /// The place of each input.
+    pub inputs: Vec<Place>,
+}
 
 /// Assembles a text. Names may be used before they are defined. A text without
 /// `raw` and with 1 to 256 instructions gives a graph that passes the check.
-pub fn assemble(text: &str) -> Result<Files, Error> {
+pub fn assemble(text: &str) -> Result<Files, Errors> {
+    read(text).map(|program| program.files)
+}
+
+/// Assembles a text and keeps where everything stands. All faults are found.
+pub fn read(text: &str) -> Result<Program, Errors> {
+    let mut errors = Vec::new();
+    let lines = parse(text, &mut errors);
+    let mut names = Names::of(&lines, &mut errors);
+    let mut program = Program::default();
+    for line in &lines {
+        let faults = program.write(&mut names, line);
+        errors.extend(faults.into_iter().map(|fault| fault.on_line(line.number)));
+    }
+    if errors.is_empty() {
+        return Ok(program);
+    }
+    errors.sort_by_key(|error| error.span.start);
+    Err(Errors(errors))
+}
+
+/// The lines with statements. A byte order mark is skipped.
+fn parse<'t>(text: &'t str, errors: &mut Vec<Error>) -> Vec<Line<'t>> {
+    let body = text.strip_prefix('\u{feff}').unwrap_or(text);
+    let mut offset = text.len() - body.len();
     let mut lines = Vec::new();
-    for (number, line) in (1..).zip(text.lines()) {
-        let parsed = parse_line(line).map_err(|text| Error::new(number, text))?;
-        lines.extend(parsed.map(|line| (number, line)));
-    }
-    let mut names = Names::of(&lines)?;
-    let mut files = Files::default();
-    for (number, (_, statement)) in &lines {
-        names
-            .write(&mut files, statement)
-            .map_err(|text| Error::new(*number, text))?;
-    }
-    Ok(files)
-}
-
-/// The instructions by name, their codes by number, and the return instruction
-/// of every site so far.
-struct Names {
-    numbers: HashMap<String, u16>,
-    codes: Vec<u8>,
-    returns: HashMap<i32, u16>,
-}
-
-impl Names {
-    fn of(lines: &[(usize, Line)]) -> Result<Names, Error> {
-        let mut names = Names {
-            numbers: HashMap::new(),
-            codes: Vec::new(),
-            returns: HashMap::new(),
-        };
-        for (line, (name, statement)) in lines {
-            let code = match statement {
-                Statement::Typed { operation, .. } => operation.code,
-                Statement::Raw(record) => record[0],
-                _ => continue,
-            };
-            let number = u16::try_from(names.codes.len())
-                .map_err(|_| Error::new(*line, "more than 65,536 instructions"))?;
-            names.codes.push(code);
-            if let Some(name) = name {
-                if names.numbers.insert(name.clone(), number).is_some() {
-                    return Err(Error::new(*line, format!("`{name}` is defined twice")));
-                }
-            }
+    for (number, line) in (1..).zip(body.split_inclusive('\n')) {
+        let mut faults = Vec::new();
+        let words = words(line, offset, &mut faults);
+        if let Some(mut parsed) = parse_line(number, &words, &mut faults) {
+            let before = &line[..parsed.span.start - offset];
+            parsed.column = before.chars().count() + 1;
+            lines.push(parsed);
         }
-        Ok(names)
+        errors.extend(faults.into_iter().map(|fault| fault.on_line(number)));
+        offset += line.len();
     }
+    lines
+}
 
-    /// Appends the records of one statement.
-    fn write(&mut self, files: &mut Files, statement: &Statement) -> Result<(), String> {
-        match statement {
-            Statement::Typed {
-                operation,
-                constant,
-                arcs,
-            } => {
-                let arcs = arcs
-                    .iter()
-                    .map(|arc| self.resolve(arc))
-                    .collect::<Result<Vec<_>, _>>()?;
-                if operation.constant == Constant::Site {
-                    self.check_return(*constant, arcs[1].0)?;
-                }
-                files
-                    .graph
-                    .extend(graph_record(operation.code, &arcs, *constant));
+impl Program {
+    /// Appends the records of one line; answers what is wrong with it.
+    fn write(&mut self, names: &mut Names, line: &Line) -> Vec<Fault> {
+        match &line.statement {
+            Statement::Typed(typed) => return self.typed(names, line, typed),
+            Statement::Raw(record) => self.instruction(line, *record),
+            Statement::Input(target, value) => match names.resolve(target) {
+                Ok((number, port)) => self.input(line, input_record(number, port, *value)),
+                Err(fault) => return vec![fault],
+            },
+            Statement::RawInput(record) => self.input(line, *record),
+            Statement::Cell(cell, value) => {
+                // The number fits: Names has counted the instructions.
+                let store = self.instructions.len() as u16;
+                self.instruction(line, graph_record(STORE, &[], 0));
+                self.input(line, input_record(store, 0, *cell));
+                self.input(line, input_record(store, 1, *value));
             }
-            Statement::Raw(record) => files.graph.extend(record),
-            Statement::Input(target, value) => {
-                let (instruction, port) = self.resolve(target)?;
-                files.inputs.extend(input_record(instruction, port, *value));
-            }
-            Statement::RawInput(record) => files.inputs.extend(record),
             Statement::Picks(picks) => {
-                files
-                    .picks
-                    .extend(picks.iter().flat_map(|pick| pick.to_le_bytes()));
+                let bytes = picks.iter().flat_map(|pick| pick.to_le_bytes());
+                self.files.picks.extend(bytes);
+            }
+            Statement::Faulty(targets) => return resolve_all(names, targets).1,
+            Statement::FaultyInstruction(targets) => {
+                self.instruction(line, [0; GRAPH_RECORD]);
+                return resolve_all(names, targets).1;
             }
         }
-        Ok(())
+        Vec::new()
     }
 
-    fn resolve(&self, target: &Target) -> Result<(u16, u8), String> {
-        let name = &target.name;
-        let number = *self
-            .numbers
-            .get(name)
-            .ok_or_else(|| format!("`{name}` is not defined"))?;
-        let operands = operand_count(self.codes[usize::from(number)]);
-        if target.port >= operands {
-            let port = target.port;
-            return Err(format!(
-                "`{name}` has no port {port}, its operand count is {operands}"
-            ));
+    fn typed(&mut self, names: &mut Names, line: &Line, typed: &Typed) -> Vec<Fault> {
+        let (ends, mut faults) = resolve_all(names, &typed.arcs);
+        if typed.operation.constant == Constant::Site && faults.is_empty() {
+            let back = ends[1].0;
+            faults.extend(names.check_return(typed.constant, back, line).err());
         }
-        Ok((number, target.port))
+        let record = graph_record(typed.operation.code, &ends, typed.constant);
+        self.instruction(line, record);
+        faults
     }
 
-    /// All ENTERs of one site have the same return instruction.
-    fn check_return(&mut self, site: i32, back: u16) -> Result<(), String> {
-        match self.returns.insert(site, back) {
-            Some(before) if before != back => Err(format!(
-                "an earlier ENTER of site {site} has another return"
-            )),
-            _ => Ok(()),
+    fn instruction(&mut self, line: &Line, record: [u8; GRAPH_RECORD]) {
+        let arcs = match &line.statement {
+            Statement::Typed(typed) => typed.arcs.iter().map(|arc| arc.word.span()).collect(),
+            _ => Vec::new(),
+        };
+        self.instructions.push(Instruction {
+            name: self.name(line),
+            place: line.place(),
+            arcs,
+        });
+        self.files.graph.extend(record);
+    }
+
+    fn name(&self, line: &Line) -> String {
+        match (&line.statement, line.name) {
+            (Statement::Cell(cell, _), _) => format!("cell {cell}"),
+            (_, Some(name)) => name.text.to_string(),
+            (_, None) => format!("#{}", self.instructions.len()),
         }
     }
+
+    fn input(&mut self, line: &Line, record: [u8; TOKEN_RECORD]) {
+        self.inputs.push(line.place());
+        self.files.inputs.extend(record);
+    }
+}
+
+/// The ends of some arcs, and the faults of those that have none.
+fn resolve_all(names: &Names, arcs: &[Target]) -> (Vec<(u16, u8)>, Vec<Fault>) {
+    let mut ends = Vec::new();
+    let mut faults = Vec::new();
+    for arc in arcs {
+        match names.resolve(arc) {
+            Ok(end) => ends.push(end),
+            Err(fault) => faults.push(fault),
+        }
+    }
+    (ends, faults)
 }
 
 fn graph_record(code: u8, arcs: &[(u16, u8)], constant: i32) -> [u8; GRAPH_RECORD] {

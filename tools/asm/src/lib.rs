@@ -3,13 +3,18 @@
 
 mod assemble;
 mod disassemble;
+mod errors;
+mod hints;
+mod names;
 mod operations;
 mod parse;
+mod statement;
+mod words;
 
-pub use assemble::assemble;
+pub use assemble::{assemble, read, Instruction, Place, Program};
 pub use disassemble::disassemble;
-
-use std::fmt;
+pub use errors::{Error, Errors, Span};
+pub use operations::{by_code, Constant, Operation};
 
 /// Bytes of a graph record.
 pub const GRAPH_RECORD: usize = 16;
@@ -25,27 +30,3 @@ pub struct Files {
     pub inputs: Vec<u8>,
     pub picks: Vec<u8>,
 }
-
-/// What is wrong with a text, and the number of its line, counted from 1.
-#[derive(Clone, Debug, PartialEq, Eq)]
-pub struct Error {
-    pub line: usize,
-    pub text: String,
-}
-
-impl Error {
-    fn new(line: usize, text: impl Into<String>) -> Error {
-        Error {
-            line,
-            text: text.into(),
-        }
-    }
-}
-
-impl fmt::Display for Error {
-    fn fmt(&self, f: &mut fmt::Formatter<'_>) -> fmt::Result {
-        write!(f, "line {}: {}", self.line, self.text)
-    }
-}
-
-impl std::error::Error for Error {}

@@ -28,7 +28,10 @@ fn main() -> ExitCode {
 
 fn to_files(file: &str, folder: &Path) -> Result<(), String> {
     let text = fs::read_to_string(file).map_err(|error| format!("{file}: {error}"))?;
-    let files = assemble(&text).map_err(|error| format!("{file}: {error}"))?;
+    let files = assemble(&text).map_err(|errors| {
+        let lines: Vec<String> = errors.0.iter().map(|e| format!("{file}: {e}")).collect();
+        lines.join("\n")
+    })?;
     fs::create_dir_all(folder)
         .and_then(|()| fs::write(folder.join("graph"), &files.graph))
         .and_then(|()| fs::write(folder.join("inputs"), &files.inputs))

@@ -89,6 +89,11 @@ pub fn by_name(name: &str) -> Option<Operation> {
         .find(|operation| operation.name.eq_ignore_ascii_case(name))
 }
 
+/// The names of all operations.
+pub fn names() -> impl Iterator<Item = &'static str> {
+    OPERATIONS.into_iter().map(|operation| operation.name)
+}
+
 /// Whether a constant may stand behind the name, which makes the operation one
 /// with a single operand.
 pub fn is_arithmetic(operation: &Operation) -> bool {

@@ -1,196 +1,355 @@
-//! From a line of text to a statement with names that are not yet resolved.
+//! From the words of a line to a statement.
 
+use crate::errors::Fault;
+use crate::hints;
 use crate::operations::{by_name, is_arithmetic, with_constant, Constant, Operation};
-use crate::{GRAPH_RECORD, TOKEN_RECORD};
+use crate::statement::{Line, Statement, Target, Typed};
+use crate::words::{span_of, Word};
 
-/// An instruction's name with one of its ports.
-#[derive(Clone, Debug, PartialEq, Eq)]
-pub struct Target {
-    pub name: String,
-    pub port: u8,
+const ENTER_FORM: &str = "ENTER is `ENTER site N -> name.port return name`";
+const NUMBER: &str = "a signed number of 32 bits";
+
+/// Parses the words of one line; `None` for one without a statement.
+pub fn parse_line<'t>(
+    number: usize,
+    words: &[Word<'t>],
+    faults: &mut Vec<Fault>,
+) -> Option<Line<'t>> {
+    if words.is_empty() {
+        return None;
+    }
+    let (name, rest) = parse_label(words, faults);
+    let statement = parse_statement(words, name.is_some(), rest).unwrap_or_else(|fault| {
+        faults.push(fault);
+        let targets = named_targets(rest);
+        match name.is_none() && is_other(words[0].text) {
+            true => Statement::Faulty(targets),
+            false => Statement::FaultyInstruction(targets),
+        }
+    });
+    Some(Line {
+        number,
+        column: 1,
+        name,
+        statement,
+        span: span_of(words),
+    })
 }
 
-/// One line of a text.
-#[derive(Clone, Debug)]
-pub enum Statement {
-    /// A typed instruction; the target behind `return` is the last of its arcs.
-    Typed {
-        operation: Operation,
-        constant: i32,
-        arcs: Vec<Target>,
-    },
-    /// A graph record in bytes.
-    Raw([u8; GRAPH_RECORD]),
-    Input(Target, i32),
-    /// An input record in bytes.
-    RawInput([u8; TOKEN_RECORD]),
-    Picks(Vec<u16>),
-}
-
-/// A statement and, for an instruction, its name.
-pub type Line = (Option<String>, Statement);
-
-/// Parses one line; `None` for one without a statement.
-pub fn parse_line(text: &str) -> Result<Option<Line>, String> {
-    let text = text.split('#').next().unwrap_or_default();
-    let (name, rest) = match text.split_once(':') {
-        Some((name, rest)) => (Some(check_name(name.trim())?), rest),
-        None => (None, text),
+/// The targets of a line with a fault, as far as they can be told.
+fn named_targets<'t>(words: &[Word<'t>]) -> Vec<Target<'t>> {
+    let arrow = words.iter().position(|word| word.text == "->");
+    let ends: &[Word] = match (words, arrow) {
+        ([input, target, ..], _) if input.text == "input" => std::slice::from_ref(target),
+        (_, Some(arrow)) => &words[arrow + 1..],
+        (_, None) => &[],
     };
-    let spaced = rest.replace("->", " -> ").replace('=', " = ");
-    let words: Vec<&str> = spaced.split_whitespace().collect();
-    match (words.first().copied(), name) {
-        (None, None) => Ok(None),
-        (None, Some(name)) => Err(format!("{name} has no instruction")),
-        (Some("input"), None) => Ok(Some((None, parse_input(&words[1..])?))),
-        (Some("picks"), None) => Ok(Some((None, parse_picks(&words[1..])?))),
-        (Some("raw"), name) => Ok(Some((name, Statement::Raw(parse_bytes(&words[1..])?)))),
-        (Some(_), name) => Ok(Some((name, parse_instruction(&words)?))),
+    ends.iter()
+        .filter_map(|word| parse_target(*word).ok())
+        .collect()
+}
+
+/// Whether a word begins a line that is no instruction.
+fn is_other(word: &str) -> bool {
+    matches!(word, "input" | "picks" | "cell")
+}
+
+/// The name before a colon, and the words behind it.
+fn parse_label<'t, 'w>(
+    words: &'w [Word<'t>],
+    faults: &mut Vec<Fault>,
+) -> (Option<Word<'t>>, &'w [Word<'t>]) {
+    let Some(colon) = words.iter().position(|word| word.text == ":") else {
+        return forgotten_colon(words, faults);
+    };
+    let before = &words[..colon];
+    let name = match before {
+        [name] => check_name(*name),
+        [] => Err(Fault::new(words[0].span(), "a colon without a name")),
+        // No label: the colon stands among targets, or in a line of another kind.
+        [first, ..] if before.iter().any(|word| word.text == "->") || is_other(first.text) => {
+            return (None, words)
+        }
+        _ => {
+            let texts: Vec<&str> = before.iter().map(|word| word.text).collect();
+            Err(no_name(&texts.join(" "), span_of(before)))
+        }
+    };
+    let name = name.map_err(|fault| faults.push(fault)).ok();
+    (name, &words[colon + 1..])
+}
+
+/// A name whose colon is missing is a fault, and is taken for the name.
+fn forgotten_colon<'t, 'w>(
+    words: &'w [Word<'t>],
+    faults: &mut Vec<Fault>,
+) -> (Option<Word<'t>>, &'w [Word<'t>]) {
+    match words {
+        [name, next, ..] if is_operation(next.text) && !begins_line(name.text) => {
+            let text = format!("`{}` is no operation", name.text);
+            let hint = format!("a colon behind the name: `{}: {}`", name.text, next.text);
+            faults.push(Fault::new(name.span(), text).hint(hint));
+            (check_name(*name).ok(), &words[1..])
+        }
+        _ => (None, words),
     }
 }
 
-fn check_name(name: &str) -> Result<String, String> {
-    let mut letters = name.chars();
+fn is_operation(word: &str) -> bool {
+    by_name(word).is_some() || word == "raw"
+}
+
+fn begins_line(word: &str) -> bool {
+    is_operation(word) || is_other(word)
+}
+
+fn parse_statement<'t>(
+    words: &[Word<'t>],
+    named: bool,
+    rest: &[Word<'t>],
+) -> Result<Statement<'t>, Fault> {
+    match rest {
+        [] => {
+            let name = words[0].text;
+            let fault = Fault::new(span_of(words), format!("{name} has no instruction"));
+            Err(fault.hint(format!("for example `{name}: COPY -> other.0`")))
+        }
+        [first, rest @ ..] if !named => match first.text {
+            "input" => parse_input(*first, rest),
+            "picks" => parse_picks(rest),
+            "cell" => parse_cell(*first, rest),
+            "raw" => parse_bytes(*first, rest).map(Statement::Raw),
+            _ => parse_instruction(*first, rest),
+        },
+        [first, rest @ ..] => match first.text {
+            "raw" => parse_bytes(*first, rest).map(Statement::Raw),
+            _ => parse_instruction(*first, rest),
+        },
+    }
+}
+
+fn no_name(name: &str, span: crate::Span) -> Fault {
+    let text = format!("`{name}` is no name: letters, digits and _, no digit first");
+    Fault::new(span, text)
+}
+
+fn check_name(word: Word) -> Result<Word, Fault> {
+    let mut letters = word.text.chars();
     let first = letters
         .next()
         .is_some_and(|c| c.is_ascii_alphabetic() || c == '_');
     if !first || !letters.all(|c| c.is_ascii_alphanumeric() || c == '_') {
-        return Err(format!(
-            "`{name}` is no name: letters, digits and _, no digit first"
-        ));
+        return Err(no_name(word.text, word.span()));
     }
-    if ["input", "picks", "raw", "return", "site"].contains(&name) {
-        return Err(format!("`{name}` cannot be a name"));
+    if ["input", "picks", "raw", "return", "site"].contains(&word.text) {
+        let text = format!("`{}` cannot be a name", word.text);
+        return Err(Fault::new(word.span(), text).hint("it begins a line of its own or a clause"));
     }
-    Ok(name.to_string())
+    Ok(word)
 }
 
-fn parse_number<T: std::str::FromStr>(word: Option<&&str>, what: &str) -> Result<T, String> {
-    let word = word.ok_or(format!("{what} is missing"))?;
-    word.parse().map_err(|_| format!("`{word}` is not {what}"))
+fn parse_number<T: std::str::FromStr>(word: Word, what: &str) -> Result<T, Fault> {
+    word.text
+        .parse()
+        .map_err(|_| Fault::new(word.span(), format!("`{}` is not {what}", word.text)))
 }
 
 /// `name.port`, or `name` alone for port 0.
-fn parse_target(word: &str) -> Result<Target, String> {
-    let (name, port) = match word.split_once('.') {
+fn parse_target(word: Word) -> Result<Target, Fault> {
+    if word.text == ":" {
+        let fault = Fault::new(word.span(), "a colon among the targets");
+        return Err(fault.hint("a port is written with a point: `name.0`"));
+    }
+    let (name, port) = match word.text.find('.') {
         None => (word, 0),
-        Some((name, port)) => (name, parse_number(Some(&port), "a port")?),
+        Some(point) => {
+            let port = word.part(point + 1, word.text.len());
+            (word.part(0, point), parse_number(port, "a port")?)
+        }
     };
-    Ok(Target {
-        name: check_name(name)?,
-        port,
-    })
+    let name = check_name(name)?;
+    Ok(Target { name, port, word })
 }
 
 /// `input name.port = value` or `input raw BYTES`.
-fn parse_input(words: &[&str]) -> Result<Statement, String> {
-    match words {
-        ["raw", bytes @ ..] => Ok(Statement::RawInput(parse_bytes(bytes)?)),
-        [target, "=", value] => {
-            let value = parse_number(Some(value), "a signed number of 32 bits")?;
-            Ok(Statement::Input(parse_target(target)?, value))
+fn parse_input<'t>(first: Word<'t>, rest: &[Word<'t>]) -> Result<Statement<'t>, Fault> {
+    match rest {
+        [raw, bytes @ ..] if raw.text == "raw" => parse_bytes(*raw, bytes).map(Statement::RawInput),
+        [target, equals, value] if equals.text == "=" => {
+            let value = parse_number(*value, NUMBER)?;
+            Ok(Statement::Input(parse_target(*target)?, value))
         }
-        _ => Err("an input is `input name.port = value`".to_string()),
+        _ => {
+            let span = first.start..rest.last().map_or(first.span(), Word::span).end;
+            Err(Fault::new(span, "an input is `input name.port = value`"))
+        }
     }
 }
 
-fn parse_picks(words: &[&str]) -> Result<Statement, String> {
-    let pick = |word| parse_number(Some(word), "a pick, 0 to 65535");
-    words
-        .iter()
-        .map(pick)
-        .collect::<Result<Vec<u16>, _>>()
-        .map(Statement::Picks)
+/// `cell number = value`.
+fn parse_cell<'t>(first: Word<'t>, rest: &[Word<'t>]) -> Result<Statement<'t>, Fault> {
+    match rest {
+        [cell, equals, value] if equals.text == "=" => {
+            let what = "the number of a cell, 0 to 1023";
+            let number: u16 = parse_number(*cell, what)?;
+            if number >= 1024 {
+                let text = format!("`{number}` is not {what}");
+                return Err(Fault::new(cell.span(), text));
+            }
+            Ok(Statement::Cell(
+                i32::from(number),
+                parse_number(*value, NUMBER)?,
+            ))
+        }
+        _ => {
+            let span = first.start..rest.last().map_or(first.span(), Word::span).end;
+            let text = "a cell is loaded by `cell number = value`";
+            Err(Fault::new(span, text))
+        }
+    }
 }
 
-fn parse_bytes<const N: usize>(words: &[&str]) -> Result<[u8; N], String> {
-    let byte = |word: &&str| {
-        let digits = word.len() == 2 && word.bytes().all(|b| b.is_ascii_hexdigit());
-        match u8::from_str_radix(word, 16) {
+fn parse_picks<'t>(words: &[Word<'t>]) -> Result<Statement<'t>, Fault> {
+    let pick = |word: &Word| parse_number(*word, "a pick, 0 to 65535");
+    let picks: Result<Vec<u16>, Fault> = words.iter().map(pick).collect();
+    picks.map(Statement::Picks)
+}
+
+fn parse_bytes<const N: usize>(first: Word, words: &[Word]) -> Result<[u8; N], Fault> {
+    let byte = |word: &Word| {
+        let digits = word.text.len() == 2 && word.text.bytes().all(|b| b.is_ascii_hexdigit());
+        match u8::from_str_radix(word.text, 16) {
             Ok(byte) if digits => Ok(byte),
-            _ => Err(format!("`{word}` is not a byte of two hexadecimal digits")),
+            _ => {
+                let text = format!("`{}` is not a byte of two hexadecimal digits", word.text);
+                Err(Fault::new(word.span(), text))
+            }
         }
     };
-    let bytes = words
-        .iter()
-        .map(byte)
-        .collect::<Result<Vec<u8>, String>>()?;
+    let bytes: Vec<u8> = words.iter().map(byte).collect::<Result<_, _>>()?;
     let count = bytes.len();
-    bytes
-        .try_into()
-        .map_err(|_| format!("{count} bytes instead of {N}"))
-}
-
-fn parse_instruction(words: &[&str]) -> Result<Statement, String> {
-    let operation = by_name(words[0]).ok_or_else(|| format!("`{}` is no operation", words[0]))?;
-    let arrow = words.iter().position(|&word| word == "->");
-    let (head, tail) = match arrow {
-        Some(at) => (&words[1..at], &words[at + 1..]),
-        None => (&words[1..], &[][..]),
-    };
-    let (operation, constant) = parse_constant(operation, head)?;
-    let arcs = parse_arcs(&operation, tail)?;
-    let count = arcs.len();
-    if !u8::try_from(count).is_ok_and(|count| operation.fan_outs().contains(&count)) {
-        let (low, high) = operation.fan_outs().into_inner();
-        let allowed = if low == high {
-            low.to_string()
-        } else {
-            format!("{low} to {high}")
-        };
-        return Err(format!(
-            "{} has {allowed} destinations, not {count}",
-            operation.name
-        ));
-    }
-    Ok(Statement::Typed {
-        operation,
-        constant,
-        arcs,
+    bytes.try_into().map_err(|_| {
+        let span = first.start..words.last().map_or(first.span(), Word::span).end;
+        Fault::new(span, format!("{count} bytes instead of {N}"))
     })
 }
 
+fn parse_instruction<'t>(first: Word<'t>, rest: &[Word<'t>]) -> Result<Statement<'t>, Fault> {
+    let operation = by_name(first.text).ok_or_else(|| {
+        let text = format!("`{}` is no operation", first.text);
+        Fault::new(first.span(), text).maybe(hints::operation(first.text))
+    })?;
+    let (head, tail) = match rest.iter().position(|word| word.text == "->") {
+        Some(at) => (&rest[..at], &rest[at + 1..]),
+        None => (rest, &[][..]),
+    };
+    let (operation, constant) = parse_constant(first, operation, head)?;
+    let arcs = parse_arcs(first, &operation, tail)?;
+    check_fan_out(first, &operation, tail, arcs.len())?;
+    Ok(Statement::Typed(Typed {
+        operation,
+        constant,
+        arcs,
+    }))
+}
+
+fn check_fan_out(
+    first: Word,
+    operation: &Operation,
+    tail: &[Word],
+    count: usize,
+) -> Result<(), Fault> {
+    if u8::try_from(count).is_ok_and(|count| operation.fan_outs().contains(&count)) {
+        return Ok(());
+    }
+    let (low, high) = operation.fan_outs().into_inner();
+    let allowed = if low == high {
+        low.to_string()
+    } else {
+        format!("{low} to {high}")
+    };
+    let span = if tail.is_empty() {
+        first.span()
+    } else {
+        span_of(tail)
+    };
+    let text = format!("{} has {allowed} destinations, not {count}", operation.name);
+    let hint = match (operation.name, count) {
+        ("OUT" | "SINK" | "LEAVE", _) => "an arc ends here",
+        ("SWITCH", 0 | 1) => "the second one is taken if port 1 is 0; a SINK swallows it",
+        (_, 0) => "where does its token go? `-> name.port`",
+        _ => "a COPY has two more",
+    };
+    Err(Fault::new(span, text).hint(hint))
+}
+
 /// The words between the operation's name and its arrow.
-fn parse_constant(operation: Operation, words: &[&str]) -> Result<(Operation, i32), String> {
+fn parse_constant(
+    first: Word,
+    operation: Operation,
+    words: &[Word],
+) -> Result<(Operation, i32), Fault> {
     let name = operation.name;
+    let texts: Vec<&str> = words.iter().map(|word| word.text).collect();
+    let arrow = || hints::arrow(name, &texts);
     match (operation.constant, words) {
         (Constant::Unused, []) => Ok((operation, 0)),
         (Constant::Unused, [word]) if is_arithmetic(&operation) => {
-            let constant = parse_number(Some(word), "a signed number of 32 bits")?;
+            let constant = parse_number(*word, NUMBER).map_err(|fault| fault.maybe(arrow()))?;
             Ok((with_constant(operation), constant))
         }
-        (Constant::Value, [word]) => Ok((
-            operation,
-            parse_number(Some(word), "a signed number of 32 bits")?,
-        )),
-        (Constant::Site, ["site", word]) => match word.parse() {
-            Ok(site @ 1..=255) => Ok((operation, site)),
-            _ => Err(format!("`{word}` is not a site, 1 to 255")),
-        },
-        (Constant::Offset, [word]) => match word.parse() {
-            Ok(offset @ 0..=255) => Ok((operation, offset)),
-            _ => Err(format!("`{word}` is not a LEAVE constant, 0 to 255")),
-        },
-        (Constant::Unused, _) => Err(format!("{name} is followed by `{}`", words.join(" "))),
-        (Constant::Value, _) => Err(format!("{name} needs one constant")),
-        (Constant::Site, _) => Err("ENTER is `ENTER site N -> name.port return name`".to_string()),
-        (Constant::Offset, _) => Err("LEAVE needs one constant, 0 to 255".to_string()),
+        (Constant::Value, [word]) => Ok((operation, parse_number(*word, NUMBER)?)),
+        (Constant::Site, [site, word]) if site.text == "site" => {
+            let site = parse_byte(*word, 1, "a site, 1 to 255")?;
+            Ok((operation, site))
+        }
+        (Constant::Offset, [word]) => {
+            let offset = parse_byte(*word, 0, "a LEAVE constant, 0 to 255")?;
+            Ok((operation, offset))
+        }
+        (Constant::Unused, _) => {
+            let text = format!("{name} is followed by `{}`", texts.join(" "));
+            Err(Fault::new(span_of(words), text).maybe(arrow()))
+        }
+        (Constant::Value, _) => {
+            let fault = Fault::new(first.span(), format!("{name} needs one constant"));
+            Err(fault.hint(format!("for example `{name} 5 -> name.port`")))
+        }
+        (Constant::Site, _) => Err(Fault::new(first.span(), ENTER_FORM)),
+        (Constant::Offset, _) => {
+            let fault = Fault::new(first.span(), "LEAVE needs one constant, 0 to 255");
+            Err(fault.hint("`LEAVE 0` sends to the return instruction itself"))
+        }
+    }
+}
+
+fn parse_byte(word: Word, least: i32, what: &str) -> Result<i32, Fault> {
+    match word.text.parse() {
+        Ok(number) if (least..=255).contains(&number) => Ok(number),
+        _ => {
+            let text = format!("`{}` is not {what}", word.text);
+            Err(Fault::new(word.span(), text))
+        }
     }
 }
 
 /// The words behind the arrow; ENTER has its return instruction there too.
-fn parse_arcs(operation: &Operation, words: &[&str]) -> Result<Vec<Target>, String> {
+fn parse_arcs<'t>(
+    first: Word<'t>,
+    operation: &Operation,
+    words: &[Word<'t>],
+) -> Result<Vec<Target<'t>>, Fault> {
     if operation.constant != Constant::Site {
-        return words.iter().map(|word| parse_target(word)).collect();
+        return words.iter().map(|word| parse_target(*word)).collect();
     }
     match words {
-        [first, "return", back] => {
-            let back = parse_target(back)?;
+        [target, clause, back] if clause.text == "return" => {
+            let back = parse_target(*back)?;
             if back.port != 0 {
-                return Err("a return is to port 0".to_string());
+                return Err(Fault::new(back.word.span(), "a return is to port 0"));
             }
-            Ok(vec![parse_target(first)?, back])
+            Ok(vec![parse_target(*target)?, back])
         }
-        _ => Err("ENTER is `ENTER site N -> name.port return name`".to_string()),
+        _ => Err(Fault::new(first.span(), ENTER_FORM)),
     }
 }

@@ -1,6 +1,6 @@
-//! Texts, their files, and the errors of texts.
+//! Texts, their files, and where everything stands.
 
-use asm::{assemble, disassemble};
+use asm::{assemble, disassemble, read};
 
 const SUM: &str = "# the sum of 01
 sum: ADD -> out.0
@@ -45,10 +45,10 @@ m: raw 63 00 00 00 00 00 00 00 00 00 00 00 00 00 00 ff
 #[test]
 fn every_form_of_an_instruction() {
     // A raw record of unknown code has no ports.
-    let error = assemble(FORMS).unwrap_err();
+    let errors = assemble(FORMS).unwrap_err();
     assert_eq!(
-        (error.line, &error.text[..]),
-        (10, "`m` has no port 0, its operand count is 0")
+        errors.to_string(),
+        "line 10: `m` has no port 0, its operand count is 0"
     );
     let files = assemble(&FORMS.replace("i: STORE -> m.0", "i: STORE")).unwrap();
     let record = |number: usize| &files.graph[16 * number..16 * number + 16];
@@ -88,79 +88,40 @@ fn files_that_are_not_whole_records_have_no_text() {
     }
 }
 
-/// A text, the line at fault and the message.
-const ERRORS: [(&str, usize, &str); 26] = [
-    ("\n\nx: FROB -> y.0", 3, "`FROB` is no operation"),
-    ("x: COPY -> y.0", 1, "`y` is not defined"),
-    ("x: OUT\nx: SINK", 2, "`x` is defined twice"),
-    (
-        "x: OUT\ny: COPY -> x.1",
-        2,
-        "`x` has no port 1, its operand count is 1",
-    ),
-    ("x: OUT -> x.0", 1, "OUT has 0 destinations, not 1"),
-    ("x: COPY", 1, "COPY has 1 to 2 destinations, not 0"),
-    ("x: SWITCH -> x.0", 1, "SWITCH has 2 destinations, not 1"),
-    ("x: COPY -> x x x", 1, "COPY has 1 to 2 destinations, not 3"),
-    ("x: COPY 4 -> x", 1, "COPY is followed by `4`"),
-    ("x: CONST -> x", 1, "CONST needs one constant"),
-    (
-        "x: CONST 2147483648 -> x",
-        1,
-        "`2147483648` is not a signed number of 32 bits",
-    ),
-    ("x: LEAVE 256", 1, "`256` is not a LEAVE constant, 0 to 255"),
-    ("x: LEAVE", 1, "LEAVE needs one constant, 0 to 255"),
-    (
-        "x: ENTER site 0 -> x return x",
-        1,
-        "`0` is not a site, 1 to 255",
-    ),
-    (
-        "x: ENTER site 1 -> x x",
-        1,
-        "ENTER is `ENTER site N -> name.port return name`",
-    ),
-    (
-        "x: ADD -> x\ny: ENTER site 1 -> x return x.1",
-        2,
-        "a return is to port 0",
-    ),
-    ("input x.0 7", 1, "an input is `input name.port = value`"),
-    (
-        "x: OUT\n\ninput x.0 = 7a",
-        3,
-        "`7a` is not a signed number of 32 bits",
-    ),
-    ("input x.0 = 7", 1, "`x` is not defined"),
-    ("picks 0 65536", 1, "`65536` is not a pick, 0 to 65535"),
-    ("x: raw 00", 1, "1 bytes instead of 16"),
-    (
-        "x: raw 0g",
-        1,
-        "`0g` is not a byte of two hexadecimal digits",
-    ),
-    (
-        "9x: OUT",
-        1,
-        "`9x` is no name: letters, digits and _, no digit first",
-    ),
-    ("input: OUT", 1, "`input` cannot be a name"),
-    ("x:", 1, "x has no instruction"),
-    ("x: COPY -> x.y", 1, "`y` is not a port"),
-];
+#[test]
+fn everything_has_its_place() {
+    let text = "a: COPY -> b b.0 # twice\n  SINK\nb: SINK\ncell 3 = -7\ninput a = 1\n";
+    let program = read(text).unwrap();
+    let names: Vec<&str> = program.instructions.iter().map(|i| &i.name[..]).collect();
+    assert_eq!(names, ["a", "#1", "b", "cell 3"]);
+    let places = program.instructions.iter().map(|i| &i.place);
+    let places: Vec<_> = places.map(|place| (place.line, place.column)).collect();
+    assert_eq!(places, [(1, 1), (2, 3), (3, 1), (4, 1)]);
+    let first = &program.instructions[0];
+    assert_eq!(&text[first.place.span.clone()], "a: COPY -> b b.0");
+    let arcs: Vec<&str> = first.arcs.iter().map(|arc| &text[arc.clone()]).collect();
+    assert_eq!(arcs, ["b", "b.0"]);
+    let inputs: Vec<&str> = program
+        .inputs
+        .iter()
+        .map(|i| &text[i.span.clone()])
+        .collect();
+    assert_eq!(inputs, ["cell 3 = -7", "cell 3 = -7", "input a = 1"]);
+}
 
 #[test]
-fn errors_name_their_line() {
-    for (text, line, message) in ERRORS {
-        let error = assemble(text).expect_err(text);
-        assert_eq!((error.line, &error.text[..]), (line, message), "{text}");
-        assert_eq!(error.to_string(), format!("line {line}: {message}"));
-    }
-    let text = "a: OUT\nb: OUT\nx: ENTER site 7 -> a return a\ny: ENTER site 7 -> a return b";
-    let error = assemble(text).unwrap_err();
+fn a_cell_is_loaded_by_a_store() {
+    let short = assemble("out: OUT\ncell 3 = -7\ninput out = 1\n").unwrap();
+    let long = "out: OUT\nc: STORE\ninput c.0 = 3\ninput c.1 = -7\ninput out = 1\n";
+    assert_eq!(short, assemble(long).unwrap());
+    // A name `cell` is still a name.
+    assert!(assemble("cell: OUT\ninput cell.0 = 3\n").is_ok());
+}
+
+#[test]
+fn a_byte_order_mark_and_other_line_ends() {
     assert_eq!(
-        error.to_string(),
-        "line 4: an earlier ENTER of site 7 has another return"
+        assemble("\u{feff}a: OUT\r\ninput a = 1\r\n").unwrap(),
+        assemble("a: OUT\ninput a = 1").unwrap()
     );
 }

@@ -1,7 +1,7 @@
--- `checks::check` meets its contract. A part that fails is the answer; the next is looked at only where all before passed. Assumes nothing.
+-- `checks::check` meets its contract. Assumes nothing.
+use mathlib.Core.Path.{_∙_}
 use borrow.Author.Needs.{needs}
 use Rattle.rules.specs.Check.{check}
-use Rattle.check_fields.proofs.Turns.{stopped}
 use Rattle.checks.proofs.check.Statement.{statement}
 use Rattle.checks.proofs.check.Tie as tie
 
@@ -9,12 +9,5 @@ pub check-spec : {M : Type 1} → statement M
 unfolding check
 check-spec = tie.close (tie.spec
     (λ c κs. search needs)
-    (λ c. search needs)
-    (λ c. search needs)
-    (λ c. rw (← c .before .before .check .ensures) (stopped _ _ _ _ (c .enum-told2 .given .1)))
     (λ c κs. search needs)
-    (λ c. search needs)
-    (λ c. search needs)
-    (λ c. rw (← c .before .before .before .before .before .check .ensures, c .before .before .before .enum-told .given .1, ← c .before .before .check2 .ensures) (stopped _ _ _ _ (c .enum-told4 .given .1)))
-    (λ c κs. search needs)
-    (λ c. rw (← c .before .before .before .before .before .before .check .ensures, c .before .before .before .before .enum-told .given .1, ← c .before .before .before .check2 .ensures, c .before .enum-told3 .given .1) (c .check3 .ensures)))
+    (λ c. c .in-order .ensures ∙ rw (c .before .check .ensures)))

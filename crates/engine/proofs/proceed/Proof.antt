@@ -1,22 +1,26 @@
 -- `engine::proceed` meets its contract. The invariant is what holds after so many firings (proofs/Looping), the measure how many the budget still allows.
 -- Assumes nothing.
-use Prim.Native.Nat.{_-_}
+use Prim.Native.Nat.{_-_, _<_}
 use native.Mathlib.Omega.{arith}
 use borrow.Author.Needs.{needs}
 use Rattle.record.specs.GraphRecords.{graphOf}
 use Rattle.store.proofs.Laws.{matching-counted, matching-places, matching-room}
 use Rattle.rules.specs.Run.{picksOf}
-use Rattle.engine.proofs.Looping.{SoFar, begun, advanced, halted, finished}
+use Rattle.engine.proofs.Looping.{SoFar, Noted, begun, noted-none, advanced, noted-on, halted, noted-halted, finished, noted-finished}
 use Rattle.engine.proofs.proceed.Statement.{statement}
 use Rattle.engine.proofs.proceed.Tie as tie
 
 abbrev Inv-loop : tie.InvT-loop
-Inv-loop graph tables picks budget links₀ flags₀ ledger₀ cells₀ start used₀ firings₀ links flags ledger cells used firings =
-    SoFar (graphOf graph) ledger₀ cells₀ start budget (picksOf picks) tables links flags ledger cells used firings
+Inv-loop graph tables picks links₀ flags₀ ledger₀ cells₀ log₀ budget used₀ firings₀ links flags ledger cells log used firings =
+    SoFar (graphOf graph) ledger₀ cells₀ used₀ budget (picksOf picks) tables links flags ledger cells used firings
+    × Noted (graphOf graph) ledger₀ cells₀ log₀ used₀ budget (picksOf picks) ledger cells log used firings
 
 abbrev μ-loop : tie.MeasureT-loop
-μ-loop graph tables picks budget links₀ flags₀ ledger₀ cells₀ start used₀ firings₀ links flags ledger cells used firings =
+μ-loop graph tables picks links₀ flags₀ ledger₀ cells₀ log₀ budget used₀ firings₀ links flags ledger cells log used firings =
     budget - firings
+
+budget-fits : (s : tie.Start Inv-loop μ-loop) → s .args .going .budget < 18446744073709551616
+budget-fits s = omega arith
 
 pub proceed-spec : {M : Type 1} → statement M
 proceed-spec =
@@ -24,17 +28,31 @@ proceed-spec =
     (tie.spec
     Inv-loop
     μ-loop
-    (λ c. begun _ _ _ _ _ _ (c .before .before .before .before .pre .1))
-    (λ c κs. (c .before .before .before .before .before .before .before .before .before .before .pre .0, c .before .before .before .before .before .loop .inv .running))
+    (λ c. (begun _ _ _ _ _ _ (c .before .before .before .before .before .pre .1), noted-none _ _ _ _ _ _ _))
+    (λ c κs. (c .before .before .before .before .before .before .before .before .before .before .before .pre .0, c .before .before .before .before .before .loop .inv .0 .running))
     (λ c. search needs)
-    (λ c. omega (arith, c .before .before .before .before .before .before .before .before .before .before .before .before .loop-test .taken))
-    (λ c. omega (arith, c .before .before .before .before .before .before .before .before .before .before .before .before .loop-test .taken))
-    (λ c. advanced _ _ _ _ _ _ (c .before .before .before .before .before .before .before .before .before .before .before .before .before .loop .inv) (c .before .before .before .before .before .before .before .before .before .before .before .before .loop-test .taken) _ _ _ _ _ (rw (c .before .turned .given .1) at (c .before .before .before .before .before .before .before .take-turn .ensures)))
+    (λ c κs. search needs)
+    (λ c. omega (arith, budget-fits (c .before .before .before .before .before .before .before .before .before .before .before .before .before .before .before .before .before .before .before .before .before .before .before), c .before .before .before .before .before .before .before .before .before .before .before .before .before .before .before .before .loop-test .taken))
+    (λ c. omega (arith, c .before .before .before .before .before .before .before .before .before .before .before .before .before .before .before .before .loop-test .taken))
+    (λ c.
+    let l = c .before .before .before .before .before .before .before .before .before .before .before .before .before .before .before .before .before .loop .inv in
+    let h = c .before .before .before .before .before .before .before .before .before .before .before .before .before .before .before .before .loop-test .taken in
+    let a = rw (c .before .before .before .before .before .turned .given .1) at (c .before .before .before .before .before .before .before .before .before .before .before .take-turn .ensures) in
+    (advanced _ _ _ _ _ _ (l .0) h _ _ _ _ _ _ a, noted-on _ _ _ _ _ _ (l .0) (l .1) h _ a _ (c .before .before .note .ensures)))
     (λ c. search needs)
     (λ c. search needs)
     (λ c. search needs)
-    (λ c. halted _ _ _ _ _ _ (c .before .before .before .before .before .before .before .before .before .before .before .before .before .loop .inv) (c .before .before .before .before .before .before .before .before .before .before .before .before .loop-test .taken) _ _ _ _ _ (rw (c .before .turned2 .given .1) at (c .before .before .before .before .before .before .before .take-turn .ensures)))
-    (λ c κs. let m = c .before .before .before .loop .inv .running .matching in (matching-counted m, matching-places m, matching-room m))
+    (λ c. search needs)
+    (λ c.
+    let l = c .before .before .before .before .before .before .before .before .before .before .before .before .before .loop .inv in
+    let h = c .before .before .before .before .before .before .before .before .before .before .before .before .loop-test .taken in
+    let a = rw (c .before .turned2 .given .1) at (c .before .before .before .before .before .before .before .take-turn .ensures) in
+    (halted _ _ _ _ _ _ (l .0) h _ _ _ _ _ a, noted-halted _ _ _ _ _ _ (l .0) (l .1) h a))
+    (λ c κs. let m = c .before .before .before .loop .inv .0 .running .matching in (matching-counted m, matching-places m, matching-room m))
     (λ c. search needs)
     (λ c. search needs)
-    (λ c. finished _ _ _ _ _ _ (c .before .before .before .before .loop .inv) (c .before .before .before .loop-test .left) (c .before .before .before .before .before .before .before .before .before .pre .0 .aritiesRight) _ (c .rest .ensures)))
+    (λ c. search needs)
+    (λ c.
+    let l = c .before .before .before .before .loop .inv in
+    let h = c .before .before .before .loop-test .left in
+    (finished _ _ _ _ _ _ (l .0) h (c .before .before .before .before .before .before .before .before .before .before .pre .0 .aritiesRight) _ (c .rest .ensures), noted-finished _ _ _ _ _ _ (l .0) (l .1) h)))

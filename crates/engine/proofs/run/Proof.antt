@@ -1,8 +1,10 @@
 -- `engine::run` meets its contract: a check that failed leaves everything as lent, and an accepted run ends as the rules say. Assumes nothing.
 use mathlib.Core.Path.{refl, sym, ap, _∙_}
+use lib.ListN.{length}
 use borrow.Author.Needs.{needs}
 use Rattle.rules.specs.Answer.{valuesOf}
 use Rattle.rules.specs.Run.{result, unlessFailed, answer, ledgerAfter, cellsAfter}
+use Rattle.start.proofs.Starting.{accepted-by}
 use Rattle.engine.proofs.run.Statement.{statement}
 use Rattle.engine.proofs.run.Tie as tie
 
@@ -14,13 +16,16 @@ run-spec =
     (λ c κs. search needs)
     (λ c. search needs)
     (λ c. search needs)
-    (λ c κs. sym (c .before .before .before .before .check .ensures) ∙ c .before .before .enum-told .given .1)
+    (λ c. search needs)
+    (λ c κs.
+    let a = c .before .before .before .before .before .before .before .before .before .before .before .args in
+    accepted-by (a .graph .now) (a .inputs .now) (a .picks .now) (length (a .ledger .now)) (length (a .cells .now)) (sym (c .before .before .before .before .before .check .ensures) ∙ c .before .before .before .enum-told .given .1))
     (λ c.
     let e = sym (c .before .before .before .check .ensures) ∙ c .before .checked .given .1 in
     rw e (record { answered = refl; numbers = refl; ledgerLeft = refl; cellsLeft = refl }))
     (λ c. search needs)
     (λ c. search needs)
     (λ c.
-    let e = sym (c .before .before .before .before .before .before .before .before .before .check .ensures) ∙ c .before .before .before .before .before .before .before .enum-told .given .1 in
-    let l = c .before .before .before .before .accepted .ensures in
+    let e = sym (c .before .before .before .before .before .before .before .before .before .before .before .check .ensures) ∙ c .before .before .before .before .before .before .before .before .before .enum-told .given .1 in
+    let l = c .before .before .before .before .before .accepted .ensures .0 in
     rw e (record { answered = l .answered; numbers = ap valuesOf (l .answered); ledgerLeft = l .ledgerLeft; cellsLeft = l .cellsLeft })))

@@ -12,12 +12,9 @@ decode-spec = tie.close (tie.spec
     (λ c κs. search needs)
     (λ c. search needs)
     (λ c κs. search needs)
-    (λ c. search needs)
-    (λ c κs. search needs)
     (λ c.
     rw (
       c .content-of .ensures,
       c .before .before .u32-at .ensures,
-      c .before .before .before .before .u16-at .ensures,
-      c .before .before .before .before .before .before .u64-at .ensures,
+      c .before .before .before .before .decode .ensures,
     )))

@@ -1,0 +1,201 @@
+//! The calls beside a plain run: the profile of a work, its run with a log, and the
+//! replay of that log, each against the engine's own run in the same rounds; and the
+//! bounds of a graph of 256 records.
+
+use super::{microseconds, middle, ratio, time, Kind, Lent, BUDGET, KINDS, SIZES};
+use crate::work::{self, Work};
+use std::time::Duration;
+
+/// A call of the engine on what it is lent; the further buffer is the profile or log.
+type Call = fn(&mut Lent, &mut [u8]) -> u64;
+
+/// Each call with its name and, where there is one, the most that it may take of the
+/// run's time.
+const CALLS: [(&str, Call, Option<f64>); 4] = [
+    ("run", run, None),
+    ("profile", profile, Some(1.5)),
+    ("run with a log", run_logged, Some(1.1)),
+    ("replay", replay, None),
+];
+
+fn run(lent: &mut Lent, _: &mut [u8]) -> u64 {
+    lent.engine()
+}
+
+fn profile(lent: &mut Lent, profile: &mut [u8]) -> u64 {
+    let Work { graph, inputs } = &lent.work;
+    engine::profile(graph, inputs, &mut lent.ledger, &mut lent.cells, profile).0
+}
+
+fn run_logged(lent: &mut Lent, log: &mut [u8]) -> u64 {
+    let Work { graph, inputs } = &lent.work;
+    let (ledger, cells) = (&mut lent.ledger, &mut lent.cells);
+    engine::run_logged(graph, inputs, &lent.picks, BUDGET, ledger, cells, log)
+}
+
+fn replay(lent: &mut Lent, log: &mut [u8]) -> u64 {
+    let Work { graph, inputs } = &lent.work;
+    engine::replay(graph, inputs, log, &mut lent.ledger, &mut lent.cells)
+}
+
+/// A work of one size, with what each call is lent and its times.
+pub struct Calls {
+    name: &'static str,
+    size: usize,
+    lent: Vec<(Lent, Vec<u8>)>,
+    times: [Vec<Duration>; CALLS.len()],
+}
+
+/// All works in all sizes.
+pub fn all() -> Vec<Calls> {
+    let of_kind = |kind: Kind| SIZES.map(|size| Calls::new(kind, size));
+    KINDS.into_iter().flat_map(of_kind).collect()
+}
+
+impl Calls {
+    fn new((name, work, newest): Kind, size: usize) -> Calls {
+        let lent = || Lent::new(work(size), size, newest);
+        let log = agreed(&mut lent());
+        let profile = vec![0; 4 * usize::from(BUDGET)];
+        let room = vec![0; 12 * usize::from(BUDGET)];
+        let further = [Vec::new(), profile, room, log];
+        Calls {
+            name,
+            size,
+            lent: further.map(|further| (lent(), further)).into(),
+            times: Default::default(),
+        }
+    }
+
+    /// Calls all in turn, so that each meets the same load of the computer; each time
+    /// another one begins, and finds the caches as another work left them.
+    pub fn runs(&mut self, times: usize) {
+        for _ in 0..times {
+            let first = self.times[0].len();
+            for turn in first..first + CALLS.len() {
+                let number = turn % CALLS.len();
+                let (lent, further) = &mut self.lent[number];
+                self.times[number].push(time(|| CALLS[number].1(lent, further)));
+            }
+        }
+    }
+
+    /// How much of the run's time a call takes.
+    fn share(&self, number: usize) -> f64 {
+        let [run, call] = [0, number].map(|n| middle(&self.times[n]).as_secs_f64());
+        call / run
+    }
+
+    fn print(&self) {
+        let run = middle(&self.times[0]);
+        print!("| {} | {} | {} |", self.name, self.size, microseconds(run));
+        for times in &self.times[1..] {
+            let call = middle(times);
+            print!(" {} | {} |", microseconds(call), ratio(call, run));
+        }
+        println!();
+    }
+}
+
+/// The log of the work's run, once profile, logged run and replay of the engine have
+/// left what those of the second emulator leave.
+fn agreed(lent: &mut Lent) -> Vec<u8> {
+    let Work { graph, inputs } = &lent.work;
+    let (mut ledger, mut cells) = (lent.ledger.clone(), lent.cells.clone());
+    let mut due = vec![0; 4 * usize::from(BUDGET)];
+    let mut found = due.clone();
+    let profiled = second::profile(graph, inputs, &mut ledger, &mut cells, &mut due);
+    let answer = engine::packed_answer(&profiled.answer);
+    assert_eq!(profile(lent, &mut found), answer, "profile");
+    assert!(found == due && ledger == lent.ledger && cells == lent.cells);
+
+    let (graph, inputs, picks) = (&lent.work.graph, &lent.work.inputs, &lent.picks);
+    let mut due = vec![0; 12 * usize::from(BUDGET)];
+    let mut found = due.clone();
+    let (ledger, cells) = (&mut ledger, &mut cells);
+    let answer = second::run_logged(graph, inputs, picks, BUDGET, ledger, cells, &mut due);
+    let packed = engine::packed_answer(&answer);
+    assert_eq!(run_logged(lent, &mut found), packed, "run with a log");
+    assert!(found == due && *ledger == lent.ledger && *cells == lent.cells);
+
+    found.truncate(12 * answer.firings);
+    assert_eq!(replay(lent, &mut found), packed, "replay");
+    assert!(*ledger == lent.ledger && *cells == lent.cells);
+    found
+}
+
+/// Prints the table, and the largest share of the run's time for each call.
+pub fn print(works: &[Calls]) {
+    println!("The engine's other calls on the same work, against its run in the same rounds.");
+    println!();
+    print!("| work | size | run |");
+    for (name, _, _) in &CALLS[1..] {
+        print!(" {name} | {name} / run |");
+    }
+    println!("\n|---|---:|{}", "---:|".repeat(2 * CALLS.len() - 1));
+    works.iter().for_each(Calls::print);
+    println!();
+    for (number, (name, _, most)) in CALLS.iter().enumerate().skip(1) {
+        let largest = works
+            .iter()
+            .map(|work| work.share(number))
+            .fold(0.0, f64::max);
+        let limit = most.map_or(String::new(), |most| {
+            format!(" (at most {most} is asked for)")
+        });
+        println!("- {name} / run, the largest: {largest:.2}{limit}");
+    }
+}
+
+/// A graph of 256 records, with the times of both emulators for its bounds.
+pub struct Bounds {
+    name: &'static str,
+    work: Work,
+    engine: Vec<Duration>,
+    second: Vec<Duration>,
+}
+
+pub fn all_bounds() -> Vec<Bounds> {
+    let graphs = [
+        ("chain, the first record first", work::chain(false)),
+        ("chain, the last record first", work::chain(true)),
+    ];
+    let bounds = |(name, work): (&'static str, Work)| {
+        let due = engine::packed_bounds(&second::bounds(&work.graph, &work.inputs));
+        assert_eq!(engine::bounds(&work.graph, &work.inputs), due, "{name}");
+        Bounds {
+            name,
+            work,
+            engine: Vec::new(),
+            second: Vec::new(),
+        }
+    };
+    graphs.map(bounds).into()
+}
+
+impl Bounds {
+    pub fn runs(&mut self, times: usize) {
+        let Work { graph, inputs } = &self.work;
+        for _ in 0..times {
+            self.engine.push(time(|| engine::bounds(graph, inputs)));
+            self.second.push(time(|| second::bounds(graph, inputs)));
+        }
+    }
+}
+
+pub fn print_bounds(graphs: &[Bounds]) {
+    println!("Bounds of a graph of 256 records, all of them reached.");
+    println!();
+    println!("| graph | engine | second | engine / second |");
+    println!("|---|---:|---:|---:|");
+    for graph in graphs {
+        let (engine_time, second_time) = (middle(&graph.engine), middle(&graph.second));
+        println!(
+            "| {} | {} | {} | {} |",
+            graph.name,
+            microseconds(engine_time),
+            microseconds(second_time),
+            ratio(engine_time, second_time),
+        );
+    }
+}

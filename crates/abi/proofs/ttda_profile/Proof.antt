@@ -1,0 +1,21 @@
+-- `abi::ttda_profile` meets its contract: the profile as a number, from profile's promise. Assumes nothing.
+use borrow.Author.Needs.{needs}
+use mathlib.Core.Path.{ap, _∙_}
+use Rattle.rules.specs.declared.answer.Profiled.{Profiled}
+use Rattle.rules.specs.Answer.{valuesOf}
+use Rattle.abi.specs.Numbers.{packed}
+use Rattle.abi.proofs.ttda_profile.Statement.{statement}
+use Rattle.abi.proofs.ttda_profile.Tie as tie
+
+pub ttda-profile-spec : {M : Type 1} → statement M
+ttda-profile-spec = tie.close (tie.spec
+    (λ c κs. search needs)
+    (λ c κs. search needs)
+    (λ c. search needs)
+    (λ c. search needs)
+    (λ c. search needs)
+    (λ c.
+    let ran = c .before .before .before .before .before .before .before .before .profile .ensures in (
+      c .number-of .ensures ∙ ap (λ (a : Profiled). packed (valuesOf (a .answer))) (ran .answered),
+      (ap (λ (a : Profiled). a .records) (ran .answered), (ran .ledgerLeft, (ran .cellsLeft, ran .profileLeft))),
+    )))

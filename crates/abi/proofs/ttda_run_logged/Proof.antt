@@ -1,0 +1,18 @@
+-- `abi::ttda_run_logged` meets its contract: the run as a number, from the engine's promise. Assumes nothing.
+use borrow.Author.Needs.{needs}
+use mathlib.Core.Path.{ap, _∙_}
+use Rattle.rules.specs.Answer.{valuesOf}
+use Rattle.abi.specs.Numbers.{packed}
+use Rattle.abi.proofs.ttda_run_logged.Statement.{statement}
+use Rattle.abi.proofs.ttda_run_logged.Tie as tie
+
+pub ttda-run-logged-spec : {M : Type 1} → statement M
+ttda-run-logged-spec = tie.close (tie.spec
+    (λ c κs. search needs)
+    (λ c κs. search needs)
+    (λ c. search needs)
+    (λ c. search needs)
+    (λ c. search needs)
+    (λ c.
+    let ran = c .before .before .before .before .before .before .before .run-logged .ensures in
+    (c .number-of .ensures ∙ ap (λ a. packed (valuesOf a)) (ran .answered), (ran .ledgerLeft, (ran .cellsLeft, ran .logLeft)))))

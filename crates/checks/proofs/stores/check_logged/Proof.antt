@@ -1,0 +1,17 @@
+-- `checks::stores::check_logged` meets its contract. Assumes nothing.
+use borrow.Author.Needs.{needs}
+use Rattle.rules.specs.Log.{checkLogStores}
+use Rattle.check_fields.proofs.Turns.{stopped}
+use Rattle.checks.proofs.stores.check_logged.Statement.{statement}
+use Rattle.checks.proofs.stores.check_logged.Tie as tie
+
+pub check-logged-spec : {M : Type 1} → statement M
+unfolding checkLogStores
+check-logged-spec = tie.close (tie.spec
+    (λ c κs. search needs)
+    (λ c. search needs)
+    (λ c. search needs)
+    (λ c. rw (← c .before .before .check .ensures) (stopped _ _ _ _ (c .enum-told2 .given .1)))
+    (λ c κs. search needs)
+    (λ c. rw (← c .before .before .before .before .check .ensures, c .before .before .enum-told .given .1, ← c .before .log-suffices .ensures, c .if1 .taken))
+    (λ c. rw (← c .before .before .before .before .check .ensures, c .before .before .enum-told .given .1, ← c .before .log-suffices .ensures, c .if1 .left)))

@@ -1,0 +1,15 @@
+-- `engine::note` meets its contract. Assumes nothing.
+use mathlib.Core.Path.{_∙_}
+use borrow.Author.Needs.{needs}
+use borrow.Author.Tests.{lt-ltb, le-ltb}
+use Rattle.engine.specs.Turns.{noted}
+use Rattle.engine.proofs.note.Statement.{statement}
+use Rattle.engine.proofs.note.Tie as tie
+
+pub note-spec : {M : Type 1} → statement M
+unfolding noted
+note-spec = tie.close (tie.spec
+    (λ c κs. search needs)
+    (λ c. search needs)
+    (λ c. c .before .before .put-tag .ensures ∙ rw (lt-ltb _ _ (c .before .before .before .before .if1 .taken)))
+    (λ c. rw (le-ltb _ _ (c .if1 .left))))

@@ -1,0 +1,60 @@
+-- 02, R-1, in bytes: "if it isn't refused, its end must equal every order's as demand 3 compares them". One claim about a profile and a run over one graph and one
+-- list of inputs, for every list of picks, and whatever the buffers held before. It speaks of what `profile` (crate profile), `run` (crate engine) and `list`
+-- promise. The statement; it is proved in proofs/Profiles. Assumes nothing.
+use Prim.Native.Nat.{ℕ, _+_, _/_, _<_}
+use mathlib.Core.Path.{_≡_}
+use mathlib.Core.List.{List, [], _∷_}
+use lib.ListN.{length}
+use Rattle.number.specs.Number.{Bytes, number16}
+use Rattle.buffer.specs.Rows.{rows, All}
+use Rattle.record.specs.TokensAndTags.{capacityOf}
+use Rattle.record.specs.Widths.{cellWidth}
+use Rattle.rules.specs.declared.answer.Profiled.{Profiled}
+use Rattle.rules.specs.Profile.{stepWidth, profiled, ProfileRan}
+use Rattle.rules.specs.Orders.{Allowed}
+use Rattle.listing.specs.Demand3.{Lent, Left, RanOn, Refused, Quiescent, Alike}
+
+-- what a profile is lent beside graph and inputs
+pub record LentToProfile : Type 0 where
+  pub ledger : List ℕ
+  pub cells : List ℕ
+  pub profile : List ℕ
+
+-- what it answers, and every byte of the three buffers afterwards
+pub record LeftByProfile : Type 0 where
+  pub answer : Profiled
+  pub ledger : List ℕ
+  pub cells : List ℕ
+  pub profile : List ℕ
+
+-- the promise of `profile`
+abbrev pub ProfiledOn : (graph inputs : List ℕ) → LentToProfile → LeftByProfile → Type 0
+ProfiledOn graph inputs l x =
+    ProfileRan (profiled graph inputs (length (l .ledger)) (length (l .cells)) (length (l .profile))) (x .answer)
+    (l .ledger) (x .ledger) (l .cells) (x .cells) (l .profile) (x .profile)
+
+-- what a run has too
+abbrev pub asRun : LeftByProfile → Left
+asRun x = record { answer = x .answer .answer; ledger = x .ledger; cells = x .cells }
+
+-- "firings in it", 16 bits, of each record
+abbrev pub firingsOf : LeftByProfile → List ℕ
+firingsOf x = rows stepWidth (λ b. number16 b 0) (x .answer .records) (x .profile)
+
+abbrev pub sum : List ℕ → ℕ
+sum [] = 0
+sum (n ∷ ns) = n + sum ns
+
+pub record EndsAsRun (x : LeftByProfile) (y : Left) : Type 0 where
+  -- completed or hung
+  pub rests : Quiescent (x .answer .answer .outcome)
+  -- the answer, every byte of the cells, the same tokens, equal listings
+  pub alike : Alike (asRun x) y
+  -- the records' firings add up to the firings, and each record has one at least
+  pub firings : sum (firingsOf x) ≡ x .answer .answer .firings
+  pub eachFires : All (λ n. 0 < n) (firingsOf x)
+
+abbrev pub ProfileEndsAsRun : Type 0
+ProfileEndsAsRun = (graph inputs : List ℕ) → Bytes graph → Bytes inputs → (l : LentToProfile) (m : Lent) → Allowed (m .picks) (length (m .ledger)) (length (m .cells))
+    → capacityOf (length (l .ledger)) ≡ capacityOf (length (m .ledger)) → length (l .cells) / cellWidth ≡ length (m .cells) / cellWidth
+    → (x : LeftByProfile) (y : Left) → ProfiledOn graph inputs l x → RanOn graph inputs m y → ¬ (Refused (x .answer .answer .outcome)) → EndsAsRun x y

@@ -1,0 +1,4 @@
+-- The laws of a profile over bytes. Assumes nothing.
+pub mod Stepping
+pub mod Looping
+pub mod Accepting

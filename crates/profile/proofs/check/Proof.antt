@@ -1,0 +1,20 @@
+-- `profile::check` meets its contract. A part that fails is the answer; the next is looked at only where all before passed. Assumes nothing.
+use borrow.Author.Needs.{needs}
+use Rattle.rules.specs.Profile.{checkProfile}
+use Rattle.check_fields.proofs.Turns.{stopped}
+use Rattle.profile.proofs.check.Statement.{statement}
+use Rattle.profile.proofs.check.Tie as tie
+
+pub check-spec : {M : Type 1} → statement M
+unfolding checkProfile
+check-spec = tie.close (tie.spec
+    (λ c κs. search needs)
+    (λ c. search needs)
+    (λ c. search needs)
+    (λ c. rw (← c .before .before .check .ensures) (stopped _ _ _ _ (c .enum-told2 .given .1)))
+    (λ c κs. search needs)
+    (λ c. search needs)
+    (λ c. search needs)
+    (λ c. rw (← c .before .before .before .before .before .check .ensures, c .before .before .before .enum-told .given .1, ← c .before .before .check-stores .ensures) (stopped _ _ _ _ (c .enum-told4 .given .1)))
+    (λ c κs. search needs)
+    (λ c. rw (← c .before .before .before .before .before .before .check .ensures, c .before .before .before .before .enum-told .given .1, ← c .before .before .before .check-stores .ensures, c .before .enum-told3 .given .1) (c .check2 .ensures)))

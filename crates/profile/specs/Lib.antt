@@ -1,0 +1,2 @@
+-- The definitions of the steps of a profile. Assumes nothing.
+pub mod Steps

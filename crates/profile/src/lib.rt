@@ -1,0 +1,254 @@
+// Profiles for the plotter (02, R-1): a run by ideal steps. In a step every activity that is enabled at its start fires, in ledger
+// order, and each whole step leaves a record.
+use checks::graph;
+use checks::stores;
+use fire_commit::Fired;
+use record::token;
+use rules::answer::Answer;
+use rules::answer::Checked;
+use rules::answer::Outcome;
+use rules::answer::Profiled;
+use rules::answer::Refusal;
+ghost use Prim.Native.Nat.{_/_, _<_, _≤_};
+ghost use mathlib.Core.Path.{_≡_};
+ghost use lib.ListN.{length};
+ghost use Rattle.buffer.specs.Rows.{putRow};
+ghost use Rattle.record.specs.GraphRecords.{graphOf};
+ghost use Rattle.record.specs.TokensAndTags.{tokens, tokenAt};
+ghost use Rattle.record.specs.Widths.{tokenWidth, cellWidth};
+ghost use Rattle.machine.specs.Steps.{profile as Machine·profile};
+ghost use Rattle.rules.specs.declared.answer.Refusal.the-variants.{ProfileFull};
+ghost use Rattle.rules.specs.declared.answer.Checked.the-variants.{Passed};
+ghost use Rattle.rules.specs.Run.{firstState};
+ghost use Rattle.rules.specs.Profile.{stepWidth, checkProfileStores, checkProfile, encode, profiled, ProfileRan};
+ghost use Rattle.store_flags.specs.Flags.{Counted, places, flagsOf};
+ghost use Rattle.store_enabled.specs.Enabled.{arityOf, enabledPlaces};
+ghost use Rattle.fire.specs.Running.{machineFor, Prepared, Running};
+ghost use Rattle.profile.specs.Steps.{unspentAt, profileFrom, LastAs, StepDone, ProfiledTo};
+
+// The bytes of a step's record.
+pub const WIDTH: usize = 4;
+
+// What an ideal step comes to: all its activities fired, so many of them, and left so many tokens, of which so many are live or
+// deferred; or the profile is at its end, after so many of the step's firings and with so many tokens.
+pub enum StepEnd {
+    Whole(usize, usize, usize),
+    Ended(Outcome, usize, usize),
+}
+
+// 7: a profile in whole records, and the stores of a run without picks, by their lengths in bytes.
+fn check_stores(inputs: usize, ledger: usize, cells: usize, profile: usize) -> Checked
+    ensures { λ r. ⌜ r ≡ checkProfileStores inputs ledger cells profile ⌝ }
+{
+    let of_stores = stores::check(inputs, 0, ledger, cells);
+    let Checked::Passed = of_stores else {
+        return of_stores;
+    };
+    if profile % WIDTH == 0 {
+        Checked::Passed
+    } else {
+        Checked::Failed(Refusal::BadStore, 0)
+    }
+}
+
+// What is refused before the inputs are written; ledger, cells and profile by their lengths in bytes.
+fn check(graph: &[u8], inputs: &[u8], ledger: usize, cells: usize, profile: usize) -> Checked
+    ensures { λ r. ⌜ r ≡ checkProfile (now (graph .entry)) (now (inputs .entry)) ledger cells profile ⌝ }
+{
+    let of_graph = graph::check(graph);
+    let Checked::Passed = of_graph else {
+        return of_graph;
+    };
+    let of_stores = check_stores(inputs.len(), ledger, cells, profile);
+    let Checked::Passed = of_stores else {
+        return of_stores;
+    };
+    check_inputs::check(graph, inputs, ledger / token::WIDTH)
+}
+
+// The bytes of a step's record.
+fn bytes_of(firings: usize, unspent: usize) -> [u8; WIDTH]
+    ensures { λ r. ⌜ r ≡ encode (record { firings = firings; unspent = unspent }) ⌝ }
+{
+    [
+        (firings % 256) as u8,
+        (firings / 256 % 256) as u8,
+        (unspent % 256) as u8,
+        (unspent / 256 % 256) as u8,
+    ]
+}
+
+// Writes a step's record as record i of a profile; every other byte stays.
+fn put_record(profile: &mut [u8], i: usize, firings: usize, unspent: usize)
+    requires { ⌜ i < length (now profile) / stepWidth ⌝ }
+    ensures { λ _. ⌜ now (profile .exit) ≡ putRow stepWidth (now (profile .entry)) i (encode (record { firings = firings; unspent = unspent })) ⌝ }
+{
+    let bytes = bytes_of(firings, unspent);
+    buffer::put_row(profile, WIDTH, i, &bytes);
+}
+
+// How many operands the activity waits for whose place this is.
+fn arity_at(tables: &[u16; 512], ledger: &[u8], place: usize) -> usize
+    requires { ⌜ place < length (now ledger) / tokenWidth ⌝ }
+    ensures { λ r. ⌜ r ≡ arityOf (now (tables .entry)) (tokenAt (now (ledger .entry)) place .tag) ⌝ }
+{
+    let t = token::token_at(ledger, place);
+    let tag = t.tag;
+    store_enabled::arity(tables, tag) as usize
+}
+
+// How a profile ends that has no record left: 18, unless nothing is enabled.
+fn no_record(tables: &[u16; 512], flags: &[u64; 69], ledger: &[u8], used: usize) -> Outcome
+    requires { ⌜ Counted (now flags) × (places (flagsOf (now flags)) ≡ enabledPlaces (now tables) (tokens used (now ledger))) × (used ≤ length (now ledger) / tokenWidth) ⌝ }
+    ensures { λ r. ⌜ LastAs r (now (tables .entry)) (tokens used (now (ledger .entry))) ⌝ }
+{
+    if store::enabled_count(flags) == 0 {
+        ending::ending(tables, ledger, used)
+    } else {
+        Outcome::Refused(Refusal::ProfileFull, 0)
+    }
+}
+
+// An ideal step from a state of `start` tokens, of which `unspent` are live or deferred. What becomes enabled within it fires in
+// the next step at the earliest, so the flags are copied first.
+fn step(
+    graph: &[u8],
+    tables: &[u16; 512],
+    links: &mut [u16; 9216],
+    flags: &mut [u64; 69],
+    ledger: &mut [u8],
+    cells: &mut [u8],
+    start: usize,
+    live: usize,
+) -> StepEnd
+    requires { ⌜ Prepared (now graph) (now tables) × Running (graphOf (now graph)) (now tables) (now links) (now flags) (now ledger) (now cells) start × (live ≡ unspentAt (graphOf (now graph)) (now ledger) (now cells) start) ⌝ }
+    ensures { λ r. ⌜ StepDone r (graphOf (now (graph .entry))) (now (tables .entry)) (now (links .exit)) (now (flags .exit)) (now (ledger .exit)) (now (cells .exit)) start (now (ledger .entry)) (now (cells .entry)) ⌝ }
+{
+    let at_start = *flags;
+    let count = store::enabled_count(&at_start);
+    if count == 0 {
+        return StepEnd::Ended(ending::ending(tables, ledger, start), 0, start);
+    }
+    let mut used = start;
+    let mut unspent = live;
+    let mut k = 0;
+    while k < count {
+        let place = store::enabled_at(&at_start, k);
+        let arity = arity_at(tables, ledger, place);
+        let fired = fire::fire(graph, tables, links, flags, ledger, cells, used, place);
+        match fired {
+            Fired::Done(n) => {
+                unspent = unspent + (n - used) - arity;
+                used = n;
+                k += 1;
+            }
+            Fired::Refused(r) => {
+                return StepEnd::Ended(Outcome::Refused(r, place), k, used);
+            }
+        }
+    }
+    StepEnd::Whole(count, used, unspent)
+}
+
+// The answer, with the number of records.
+fn answered(outcome: Outcome, firings: usize, tokens: usize, records: usize) -> Profiled
+    ensures { λ r. ⌜ r ≡ record { answer = record { outcome = outcome; firings = firings; tokens = tokens }; records = records } ⌝ }
+{
+    let answer = Answer {
+        outcome,
+        firings,
+        tokens,
+    };
+    Profiled { answer, records }
+}
+
+// A profile goes on from a state of `start` tokens, all live.
+fn proceed(
+    graph: &[u8],
+    tables: &[u16; 512],
+    links: &mut [u16; 9216],
+    flags: &mut [u64; 69],
+    ledger: &mut [u8],
+    cells: &mut [u8],
+    profile: &mut [u8],
+    start: usize,
+) -> Profiled
+    requires { ⌜ Prepared (now graph) (now tables) × Running (graphOf (now graph)) (now tables) (now links) (now flags) (now ledger) (now cells) start × (start ≡ unspentAt (graphOf (now graph)) (now ledger) (now cells) start) ⌝ }
+    ensures { λ r. ⌜ ProfiledTo (profileFrom (graphOf (now (graph .entry))) (length (now (profile .entry)) / stepWidth) 0 (now (ledger .entry)) (now (cells .entry)) start) r (now (ledger .entry)) (now (cells .entry)) (now (profile .entry)) (now (ledger .exit)) (now (cells .exit)) (now (profile .exit)) ⌝ }
+{
+    let room = profile.len() / WIDTH;
+    let mut used = start;
+    let mut unspent = start;
+    let mut firings = 0;
+    let mut records = 0;
+    while records < room {
+        let ended = step(graph, tables, links, flags, ledger, cells, used, unspent);
+        match ended {
+            StepEnd::Whole(count, n, live) => {
+                put_record(profile, records, count, live);
+                used = n;
+                unspent = live;
+                firings += count;
+                records += 1;
+            }
+            StepEnd::Ended(outcome, done, n) => {
+                return answered(outcome, firings + done, n, records);
+            }
+        }
+    }
+    let outcome = no_record(tables, flags, ledger, used);
+    answered(outcome, firings, used, records)
+}
+
+// A profile that passed every check: all cells are set absent, the inputs go into the ledger, and it
+// proceeds.
+fn accepted(
+    graph: &[u8],
+    inputs: &[u8],
+    ledger: &mut [u8],
+    cells: &mut [u8],
+    profile: &mut [u8],
+) -> Profiled
+    requires { ⌜ checkProfile (now graph) (now inputs) (length (now ledger)) (length (now cells)) (length (now profile)) ≡ Passed ⌝ }
+    ensures { λ r. ⌜ ProfiledTo (Machine·profile (machineFor (graphOf (now (graph .entry))) (now (ledger .entry)) (now (cells .entry))) ProfileFull (length (now (profile .entry)) / stepWidth) 0 (firstState (now (inputs .entry)) (length (now (cells .entry)) / cellWidth))) r (now (ledger .entry)) (now (cells .entry)) (now (profile .entry)) (now (ledger .exit)) (now (cells .exit)) (now (profile .exit)) ⌝ }
+{
+    let mut tables = [0u16; 512];
+    let mut links = [0u16; 9216];
+    let mut flags = [0u64; 69];
+    let used = start::begin(
+        graph,
+        inputs,
+        &mut tables,
+        &mut links,
+        &mut flags,
+        ledger,
+        cells,
+    );
+    proceed(
+        graph,
+        &tables,
+        &mut links,
+        &mut flags,
+        ledger,
+        cells,
+        profile,
+        used,
+    )
+}
+
+// A profile over lent bytes: its answer, and what it leaves in ledger, cells and profile, are what the rules give.
+pub fn profile(
+    graph: &[u8],
+    inputs: &[u8],
+    ledger: &mut [u8],
+    cells: &mut [u8],
+    profile: &mut [u8],
+) -> Profiled
+    ensures { λ r. ⌜ ProfileRan (profiled (now (graph .entry)) (now (inputs .entry)) (length (now (ledger .entry))) (length (now (cells .entry))) (length (now (profile .entry)))) r (now (ledger .entry)) (now (ledger .exit)) (now (cells .entry)) (now (cells .exit)) (now (profile .entry)) (now (profile .exit)) ⌝ }
+{
+    let checked = check(graph, inputs, ledger.len(), cells.len(), profile.len());
+    match checked {
+        Checked::Failed(r, place) => answered(Outcome::Refused(r, place), 0, 0, 0),
+        Checked::Passed => accepted(graph, inputs, ledger, cells, profile),
+    }
+}

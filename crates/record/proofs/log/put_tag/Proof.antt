@@ -1,0 +1,20 @@
+-- `record::log::put_tag` meets its contract: the first bytes of the token record are those of the log record. Assumes nothing.
+use mathlib.Core.Path.{_∙_}
+use borrow.Author.Needs.{needs}
+use Rattle.record.specs.TokensAndTags as Tokens
+use Rattle.record.specs.Logs.{encode}
+use Rattle.record.proofs.log.put_tag.Statement.{statement}
+use Rattle.record.proofs.log.put_tag.Tie as tie
+
+pub put-tag-spec : {M : Type 1} → statement M
+unfolding Tokens.encode encode
+put-tag-spec = tie.close (tie.spec
+    (λ c κs. search needs)
+    (λ c. search needs)
+    (λ c. search needs)
+    (λ c. search needs)
+    (λ c κs. search needs)
+    (λ c. search needs)
+    (λ c.
+    let p = c .before .before in
+    p .put-row .ensures ∙ rw (p .before .before .before .before .encode .ensures .0)))

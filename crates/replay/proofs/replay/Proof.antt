@@ -1,0 +1,30 @@
+-- `replay::replay` meets its contract: a check that failed leaves everything as lent, and an accepted replay ends as the rules say. Assumes nothing.
+use mathlib.Core.Path.{refl, sym, ap, _∙_}
+use Rattle.rules.specs.Answer.{valuesOf}
+use borrow.Author.Needs.{needs}
+use Rattle.rules.specs.Run.{unlessFailed, answer, ledgerAfter, cellsAfter}
+use Rattle.rules.specs.Log.{replayed}
+use Rattle.replay.proofs.replay.Statement.{statement}
+use Rattle.replay.proofs.replay.Tie as tie
+
+pub replay-spec : {M : Type 1} → statement M
+unfolding replayed unlessFailed answer ledgerAfter cellsAfter
+replay-spec =
+    tie.close
+    (tie.spec
+    (λ c. search needs)
+    (λ c. search needs)
+    (λ c. search needs)
+    (λ c κs. search needs)
+    (λ c. search needs)
+    (λ c. search needs)
+    (λ c κs. sym (c .before .before .before .before .check .ensures) ∙ c .before .before .enum-told .given .1)
+    (λ c.
+    let e = sym (c .before .before .before .check .ensures) ∙ c .before .checked .given .1 in
+    rw e (record { answered = refl; numbers = refl; ledgerLeft = refl; cellsLeft = refl }))
+    (λ c. search needs)
+    (λ c. search needs)
+    (λ c.
+    let e = sym (c .before .before .before .before .before .before .before .before .before .check .ensures) ∙ c .before .before .before .before .before .before .before .enum-told .given .1 in
+    let l = c .before .before .before .before .accepted .ensures in
+    rw e (record { answered = l .answered; numbers = ap valuesOf (l .answered); ledgerLeft = l .ledgerLeft; cellsLeft = l .cellsLeft })))

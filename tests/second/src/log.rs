@@ -1,0 +1,79 @@
+//! Firing logs and their replay (02, R-7).
+
+use crate::machine::Machine;
+use crate::token::Tag;
+use crate::{fits, pick_of, Answer, Lent, Outcome, Refusal, LOG_RECORD, MOST_RECORDS, PICK_RECORD};
+
+/// Runs as `run` does, and writes the log of the firings done.
+pub fn run_logged(
+    graph: &[u8],
+    inputs: &[u8],
+    picks: &[u8],
+    budget: u16,
+    ledger: &mut [u8],
+    cells: &mut [u8],
+    log: &mut [u8],
+) -> Answer {
+    let budget = usize::from(budget);
+    let lent = Lent {
+        graph,
+        inputs,
+        ledger,
+        cells,
+    };
+    // A log may have more than 2,048 records.
+    let log_fits =
+        log.len().is_multiple_of(LOG_RECORD) && log.len() / LOG_RECORD >= budget.min(MOST_RECORDS);
+    let picks_fit = fits(picks.len(), PICK_RECORD, MOST_RECORDS);
+    lent.accept(picks_fit && log_fits, |machine| {
+        let answer = machine.run(budget, |firing, _| pick_of(picks, firing));
+        for (record, tag) in log.chunks_exact_mut(LOG_RECORD).zip(machine.fired()) {
+            record.copy_from_slice(&tag.log_record());
+        }
+        answer
+    })
+}
+
+/// Fires exactly the activities that a log names, in turn.
+pub fn replay(
+    graph: &[u8],
+    inputs: &[u8],
+    log: &[u8],
+    ledger: &mut [u8],
+    cells: &mut [u8],
+) -> Answer {
+    let lent = Lent {
+        graph,
+        inputs,
+        ledger,
+        cells,
+    };
+    lent.accept(true, |machine| {
+        let outcome = fire_all(machine, log).err().unwrap_or_else(|| end(machine));
+        machine.answer(outcome, machine.fired().len())
+    })
+}
+
+/// Fires the records in turn. One that names no enabled activity, lacks its zero byte
+/// or isn't whole is refused by 20 at its number, before the firing's own refusals.
+fn fire_all(machine: &mut Machine, log: &[u8]) -> Result<(), Outcome> {
+    for (number, record) in log.chunks(LOG_RECORD).enumerate() {
+        let named = Tag::of_log_record(record).and_then(|tag| machine.enabled_place(tag));
+        let place = named.ok_or(Outcome::Refused(Refusal {
+            number: 20,
+            place: number,
+        }))?;
+        let refused = |number| Outcome::Refused(Refusal { number, place });
+        machine.fire(place).map_err(refused)?;
+    }
+    Ok(())
+}
+
+/// The answer once the log has ended: spent if an activity is still enabled.
+fn end(machine: &Machine) -> Outcome {
+    if machine.enabled_places().is_empty() {
+        machine.rest()
+    } else {
+        Outcome::Spent
+    }
+}

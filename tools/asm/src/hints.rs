@@ -1,0 +1,116 @@
+//! Guesses at what was meant.
+
+use crate::operations::names;
+
+/// Words of the memos and of other machines, and what is written here.
+const KNOWN: [(&[&str], &str); 14] = [
+    (&["D"], "the memo's D is written NEXT here"),
+    (
+        &["D-1", "D⁻¹", "D^-1", "D-RESET", "D_RESET", "RESET"],
+        "LEAVE drops the iteration here",
+    ),
+    (&["L"], "the memo's L is written ENTER here"),
+    (
+        &["L-1", "L⁻¹", "L^-1", "END", "RETURN"],
+        "the memo's L⁻¹ and END are written LEAVE here",
+    ),
+    (
+        &["A", "APPLY", "CALL"],
+        "the memo's A is written ENTER here, one for each argument",
+    ),
+    (
+        &["A-1", "A⁻¹", "A^-1"],
+        "the memo's A⁻¹ is the instruction behind `return` of ENTER",
+    ),
+    (
+        &["BEGIN"],
+        "there is no BEGIN: ENTER sends to the first instruction",
+    ),
+    (
+        &["GT", ">"],
+        "there is no GT: `a > b` is LT with b on port 0",
+    ),
+    (
+        &["GE", ">="],
+        "there is no GE: `a >= b` is LE with b on port 0",
+    ),
+    (
+        &["NE", "NEQ", "NOT", "!="],
+        "EQ 0 turns 1 into 0 and 0 into 1",
+    ),
+    (&["MOD"], "the remainder is written REM"),
+    (
+        &["MERGE", "JOIN"],
+        "there is no MERGE: arcs may end at one port",
+    ),
+    (&["READ", "SELECT", "LOAD"], "a cell is read by FETCH"),
+    (&["WRITE", "PUT", "APPEND"], "a cell is written by STORE"),
+];
+
+/// What to write for a word that is no operation.
+pub fn operation(word: &str) -> Option<String> {
+    let known = KNOWN
+        .iter()
+        .find(|(words, _)| words.iter().any(|w| w.eq_ignore_ascii_case(word)));
+    match known {
+        Some((_, hint)) => Some((*hint).to_string()),
+        None => nearest(word, names()).map(|name| format!("did you mean {name}?")),
+    }
+}
+
+/// What to write for a name that is not defined.
+pub fn name<'n>(word: &str, defined: impl Iterator<Item = &'n str>) -> Option<String> {
+    nearest(word, defined).map(|name| format!("did you mean `{name}`?"))
+}
+
+/// What to write where a constant or nothing is expected and other words stand.
+pub fn arrow(operation: &str, words: &[&str]) -> Option<String> {
+    let target = |word: &&str| word.starts_with(|c: char| c.is_ascii_alphabetic() || c == '_');
+    let words = words.join(" ");
+    words
+        .split(' ')
+        .all(|word| target(&word))
+        .then(|| format!("an arrow before the targets: `{operation} -> {words}`"))
+}
+
+/// The nearest of some names, if it is near enough to have been meant.
+fn nearest<'n>(word: &str, names: impl Iterator<Item = &'n str>) -> Option<&'n str> {
+    let most = (word.chars().count() / 3).min(3);
+    let word = word.to_lowercase();
+    names
+        .map(|name| (distance(&word, &name.to_lowercase()), name))
+        .filter(|(distance, _)| *distance <= most)
+        .min()
+        .map(|(_, name)| name)
+}
+
+/// The number of letters to add, drop or change (Levenshtein).
+fn distance(one: &str, other: &str) -> usize {
+    let other: Vec<char> = other.chars().collect();
+    let mut row: Vec<usize> = (0..=other.len()).collect();
+    for (i, a) in one.chars().enumerate() {
+        let mut corner = row[0];
+        row[0] = i + 1;
+        for (j, b) in other.iter().enumerate() {
+            let change = corner + usize::from(a != *b);
+            corner = row[j + 1];
+            row[j + 1] = change.min(corner + 1).min(row[j] + 1);
+        }
+    }
+    row[other.len()]
+}
+
+#[cfg(test)]
+mod tests {
+    use super::{distance, name};
+
+    #[test]
+    fn the_nearest_name_is_near() {
+        assert_eq!((distance("tests", "testss"), distance("ab", "ba")), (1, 2));
+        let names = ["tests", "total"];
+        let hint = |word| name(word, names.into_iter());
+        assert_eq!(hint("testss").as_deref(), Some("did you mean `tests`?"));
+        assert_eq!(hint("Total").as_deref(), Some("did you mean `total`?"));
+        assert_eq!((hint("pass"), hint("t")), (None, None));
+    }
+}

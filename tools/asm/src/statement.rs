@@ -1,0 +1,65 @@
+//! What a line says, with names that are not yet resolved.
+
+use crate::assemble::Place;
+use crate::errors::Span;
+use crate::operations::Operation;
+use crate::words::Word;
+use crate::{GRAPH_RECORD, TOKEN_RECORD};
+
+/// An instruction's name with one of its ports.
+#[derive(Clone, Debug)]
+pub struct Target<'t> {
+    pub name: Word<'t>,
+    pub port: u8,
+    /// The whole of it.
+    pub word: Word<'t>,
+}
+
+/// A typed instruction. The target behind `return` is the last of its arcs.
+#[derive(Clone, Debug)]
+pub struct Typed<'t> {
+    pub operation: Operation,
+    pub constant: i32,
+    pub arcs: Vec<Target<'t>>,
+}
+
+#[derive(Clone, Debug)]
+pub enum Statement<'t> {
+    Typed(Typed<'t>),
+    /// A graph record in bytes.
+    Raw([u8; GRAPH_RECORD]),
+    Input(Target<'t>, i32),
+    /// An input record in bytes.
+    RawInput([u8; TOKEN_RECORD]),
+    /// A cell and its value: a STORE and the two inputs that fire it.
+    Cell(i32, i32),
+    Picks(Vec<u16>),
+    /// A line with a fault, and the targets that are named in it all the same.
+    Faulty(Vec<Target<'t>>),
+    /// An instruction with a fault. Its name is defined, so that one fault is
+    /// not reported at every arc to it.
+    FaultyInstruction(Vec<Target<'t>>),
+}
+
+/// A line with a statement.
+#[derive(Clone, Debug)]
+pub struct Line<'t> {
+    /// The line's number, counted from 1.
+    pub number: usize,
+    /// The column of its first word, counted from 1.
+    pub column: usize,
+    pub name: Option<Word<'t>>,
+    pub statement: Statement<'t>,
+    /// From the first word to the last.
+    pub span: Span,
+}
+
+impl Line<'_> {
+    pub fn place(&self) -> Place {
+        Place {
+            line: self.number,
+            column: self.column,
+            span: self.span.clone(),
+        }
+    }
+}

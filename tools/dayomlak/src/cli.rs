@@ -1,0 +1,198 @@
+//! The command line.
+
+use std::path::PathBuf;
+
+use clap::{Args, Parser, Subcommand};
+
+use crate::machine::Sizes;
+use crate::orders::Order;
+
+/// Runs, checks, compares and draws graphs of the MIT tagged-token dataflow machine, on an engine whose answers are proved.
+#[derive(Debug, Parser)]
+#[command(name = "dayomlak", version, propagate_version = true)]
+#[command(
+    after_help = "FILE is a typed graph (.ttda), a folder with the files graph, inputs and picks, or - for standard \
+    input.\nExit status: 0 completed; 1 hung, spent or refused; 2 a wrong command line or text; 3 a file that cannot be \
+    read or written.\n\nTry: dayomlak run sum.ttda"
+)]
+pub struct Cli {
+    #[command(subcommand)]
+    pub command: Command,
+}
+
+#[derive(Debug, Subcommand)]
+pub enum Command {
+    /// Run a graph: the answer, results, waiting tokens and cells
+    Run(Run),
+    /// Find errors and warnings, and what the graph needs, without a firing
+    Check(File),
+    /// Run a graph oldest first, newest first and in random orders
+    Compare(Compare),
+    /// Show every firing: operands, outputs and cells
+    Trace(Trace),
+    /// Firings and tokens by ideal steps (Memo 280), as a table or a picture
+    Profile(Profile),
+    /// Draw the graph (Graphviz)
+    Draw(Draw),
+    /// Write the log of a run, for others to replay
+    Log(Log),
+    /// Fire exactly the activities of a log
+    Replay(Replay),
+    /// Make the files graph, inputs and picks of a typed graph
+    Asm(Asm),
+    /// Print the text of the files in a folder
+    Disasm(Disasm),
+    /// What a refusal means and what to do
+    Explain(Explain),
+}
+
+#[derive(Debug, Args)]
+pub struct File {
+    /// A typed graph, a folder with its files, or -
+    #[arg(value_name = "FILE")]
+    pub file: String,
+}
+
+#[derive(Debug, Args)]
+pub struct Buffers {
+    /// Records of the ledger, which keeps every token
+    #[arg(long, value_name = "N", default_value_t = 2048, value_parser = clap::value_parser!(u16).range(0..=2048))]
+    capacity: u16,
+    /// I-structure cells
+    #[arg(long, value_name = "N", default_value_t = 1024, value_parser = clap::value_parser!(u16).range(0..=1024))]
+    cells: u16,
+}
+
+impl Buffers {
+    pub fn sizes(&self) -> Sizes {
+        Sizes {
+            capacity: usize::from(self.capacity),
+            cells: usize::from(self.cells),
+        }
+    }
+}
+
+#[derive(Debug, Args)]
+pub struct Firing {
+    /// Which enabled activity fires next: oldest, newest, random:SEED, or typed (the picks of the file, oldest without)
+    #[arg(long, value_name = "ORDER", default_value_t = Order::Typed)]
+    pub order: Order,
+    /// The most firings
+    #[arg(long, value_name = "N", default_value_t = 2048)]
+    pub budget: u16,
+}
+
+#[derive(Debug, Args)]
+pub struct Run {
+    #[command(flatten)]
+    pub file: File,
+    #[command(flatten)]
+    pub firing: Firing,
+    #[command(flatten)]
+    pub buffers: Buffers,
+    /// Print the listing, byte for byte as the program ttda does
+    #[arg(long)]
+    pub listing: bool,
+}
+
+#[derive(Debug, Args)]
+pub struct Compare {
+    #[command(flatten)]
+    pub file: File,
+    /// How many random orders
+    #[arg(long, value_name = "N", default_value_t = 100)]
+    pub orders: u32,
+    #[command(flatten)]
+    pub buffers: Buffers,
+}
+
+#[derive(Debug, Args)]
+pub struct Trace {
+    #[command(flatten)]
+    pub file: File,
+    /// The first firing to show, counted from 1
+    #[arg(long, value_name = "N", default_value_t = 1)]
+    pub from: usize,
+    /// How many firings to show
+    #[arg(long, value_name = "N")]
+    pub count: Option<usize>,
+    #[command(flatten)]
+    pub firing: Firing,
+    #[command(flatten)]
+    pub buffers: Buffers,
+}
+
+#[derive(Debug, Args)]
+pub struct Profile {
+    #[command(flatten)]
+    pub file: File,
+    /// Draw the curves to an SVG file
+    #[arg(short, value_name = "X.svg")]
+    pub output: Option<PathBuf>,
+    #[command(flatten)]
+    pub firing: Firing,
+    #[command(flatten)]
+    pub buffers: Buffers,
+}
+
+#[derive(Debug, Args)]
+pub struct Draw {
+    #[command(flatten)]
+    pub file: File,
+    /// The text for Graphviz instead of the picture
+    #[arg(long)]
+    pub dot: bool,
+    /// Where the picture goes; standard output without
+    #[arg(short, value_name = "X.svg")]
+    pub output: Option<PathBuf>,
+}
+
+#[derive(Debug, Args)]
+pub struct Log {
+    #[command(flatten)]
+    pub file: File,
+    /// Where the log goes
+    #[arg(short, value_name = "LOG")]
+    pub output: PathBuf,
+    #[command(flatten)]
+    pub firing: Firing,
+    #[command(flatten)]
+    pub buffers: Buffers,
+}
+
+#[derive(Debug, Args)]
+pub struct Replay {
+    #[command(flatten)]
+    pub file: File,
+    /// A log, as `dayomlak log` writes it
+    #[arg(value_name = "LOG")]
+    pub log: PathBuf,
+    #[command(flatten)]
+    pub buffers: Buffers,
+    /// Print the listing, byte for byte as the program ttda does
+    #[arg(long)]
+    pub listing: bool,
+}
+
+#[derive(Debug, Args)]
+pub struct Asm {
+    #[command(flatten)]
+    pub file: File,
+    /// Where the files go; it is made if it is not there
+    #[arg(value_name = "FOLDER")]
+    pub folder: PathBuf,
+}
+
+#[derive(Debug, Args)]
+pub struct Disasm {
+    /// The folder with the files; a missing one counts as empty
+    #[arg(value_name = "FOLDER")]
+    pub folder: PathBuf,
+}
+
+#[derive(Debug, Args)]
+pub struct Explain {
+    /// The number of a refusal
+    #[arg(value_name = "N")]
+    pub number: u16,
+}

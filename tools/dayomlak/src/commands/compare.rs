@@ -1,0 +1,147 @@
+//! `dayomlak compare`.
+
+use std::time::{Duration, Instant};
+
+use indicatif::{ProgressBar, ProgressStyle};
+
+use super::{load, report, status};
+use crate::answer::Word;
+use crate::cli::Compare;
+use crate::failure::{self, Failure};
+use crate::machine::{End, Machine, WHOLE};
+use crate::orders::Order;
+use crate::output;
+use crate::program::Program;
+
+/// Progress is shown once a comparison has taken so long.
+const LONG: Duration = Duration::from_millis(500);
+
+/// Orders that were answered alike.
+struct Kind {
+    end: End,
+    listing: Vec<u8>,
+    /// What they were answered, without the counts of a refused run, which differ from order to order.
+    words: String,
+    orders: Vec<Order>,
+}
+
+pub fn compare(args: &Compare) -> Result<u8, Failure> {
+    let program = load(&args.file.file)?;
+    let machine = Machine::new(&program, args.buffers.sizes());
+    let orders = orders(args.orders, !program.files.picks.is_empty());
+    let kinds = kinds(&machine, &orders)?;
+    let mut text = String::new();
+    for kind in &kinds {
+        text += &format!("{}\n", line(kind));
+    }
+    text += &format!("{}\n\n", verdict(&kinds));
+    let first = kinds[0].orders[0].words(!program.files.picks.is_empty());
+    text += &report(&machine, &kinds[0].end, &first);
+    output::print(text.as_bytes())?;
+    match agrees(&kinds) {
+        true => Ok(status(&kinds[0].end)),
+        false => Ok(failure::NOT_COMPLETED),
+    }
+}
+
+fn orders(random: u32, has_picks: bool) -> Vec<Order> {
+    let mut orders = vec![Order::Oldest, Order::Newest];
+    orders.extend(has_picks.then_some(Order::Typed));
+    orders.extend((1..=u64::from(random)).map(Order::Random));
+    orders
+}
+
+/// Runs all orders and puts those that were answered alike together.
+fn kinds(machine: &Machine, orders: &[Order]) -> Result<Vec<Kind>, Failure> {
+    let started = Instant::now();
+    let bar = ProgressBar::hidden();
+    bar.set_length(orders.len() as u64);
+    bar.set_style(
+        ProgressStyle::with_template("{bar:40} {pos} of {len} orders")
+            .expect("the template is right"),
+    );
+    let mut kinds: Vec<Kind> = Vec::new();
+    for order in orders {
+        let end = machine.run(&order.picks(machine)?, WHOLE);
+        let words = words(machine.program, &end);
+        match kinds.iter_mut().find(|kind| alike(kind, &end, &words)) {
+            Some(kind) => kind.orders.push(*order),
+            None => kinds.push(Kind {
+                listing: end.listing(),
+                end,
+                words,
+                orders: vec![*order],
+            }),
+        }
+        if bar.is_hidden() && started.elapsed() > LONG {
+            bar.set_draw_target(indicatif::ProgressDrawTarget::stderr());
+        }
+        bar.inc(1);
+    }
+    bar.finish_and_clear();
+    Ok(kinds)
+}
+
+/// Runs that end are alike if all they leave is, in every byte. Refused ones are if the same instruction is refused by the
+/// same number.
+fn alike(kind: &Kind, end: &End, words: &str) -> bool {
+    match end.answer.ended() && kind.end.answer.ended() {
+        true => {
+            let same = kind.end.answer == end.answer && kind.end.bytes().1 == end.bytes().1;
+            same && kind.listing == end.listing()
+        }
+        false => kind.words == words,
+    }
+}
+
+fn words(program: &Program, end: &End) -> String {
+    let answer = &end.answer;
+    let place = match answer.word {
+        Word::Refused(_) if !answer.refused_at_once() => end.tokens().get(answer.place).copied(),
+        _ => None,
+    };
+    match (answer.word, place) {
+        (Word::Refused(_), Some(token)) => {
+            format!(
+                "{}, at `{}`",
+                answer.words(),
+                program.name(token.tag.instruction)
+            )
+        }
+        (Word::Refused(_), None) => answer.words(),
+        _ => format!("{}: {}", answer.words(), answer.counts()),
+    }
+}
+
+fn line(kind: &Kind) -> String {
+    let shown: Vec<String> = kind.orders.iter().take(3).map(Order::to_string).collect();
+    let more = if kind.orders.len() > shown.len() {
+        ", ..."
+    } else {
+        ""
+    };
+    let s = if kind.orders.len() == 1 { "" } else { "s" };
+    format!(
+        "{:>5} order{s} ({}{more}): {}",
+        kind.orders.len(),
+        shown.join(", "),
+        kind.words
+    )
+}
+
+/// Whether the answers are as demand 3 says: all end, and alike, or all are refused.
+fn agrees(kinds: &[Kind]) -> bool {
+    kinds.len() == 1
+        || kinds
+            .iter()
+            .all(|kind| matches!(kind.end.answer.word, Word::Refused(_)))
+}
+
+fn verdict(kinds: &[Kind]) -> &'static str {
+    let refused = matches!(kinds[0].end.answer.word, Word::Refused(_));
+    match (agrees(kinds), refused) {
+        (true, false) => "all orders leave the same listing, equal in every byte",
+        (true, true) => "every order is refused; by what and where may depend on the order",
+        (false, _) => "the orders disagree, which is proved impossible: please report this graph",
+    }
+}

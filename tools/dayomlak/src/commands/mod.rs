@@ -1,0 +1,52 @@
+//! The commands, a file each. Each answers the exit status.
+
+pub mod check;
+pub mod compare;
+pub mod draw;
+pub mod explain;
+pub mod files;
+pub mod logs;
+pub mod profile;
+pub mod run;
+pub mod trace;
+
+use crate::diagnostics;
+use crate::failure::{self, Failure};
+use crate::machine::{End, Machine};
+use crate::program::Program;
+use crate::{refused, results, warnings};
+
+/// Loads a program and shows its warnings.
+fn load(file: &str) -> Result<Program, Failure> {
+    let program = Program::load(file)?;
+    diagnostics::complain(&program.label, &program.text, &warnings::of(&program));
+    Ok(program)
+}
+
+/// The answer of a run in words: why it was refused, or its first line.
+fn answer(machine: &Machine, end: &End, order: &str) -> String {
+    let program = machine.program;
+    match refused::explain(program, end, machine.sizes, order) {
+        Some(finding) => diagnostics::plain(&program.label, &program.text, &[finding]),
+        None => results::headline(end, order) + "\n",
+    }
+}
+
+/// The answer and what the run left.
+fn report(machine: &Machine, end: &End, order: &str) -> String {
+    answer(machine, end, order) + &left(machine, end)
+}
+
+/// What the run left, a line each.
+fn left(machine: &Machine, end: &End) -> String {
+    let lines = results::lines(machine.program, end).into_iter();
+    lines.map(|line| line + "\n").collect()
+}
+
+/// The exit status of an answer.
+fn status(end: &End) -> u8 {
+    match end.answer.completed() {
+        true => failure::COMPLETED,
+        false => failure::NOT_COMPLETED,
+    }
+}

@@ -1,0 +1,51 @@
+//! Why a command gives no answer, and the exit status that says so.
+
+use std::fmt;
+use std::io;
+use std::path::Path;
+
+/// Exit statuses. clap answers a wrong command line by `WRONG` too.
+pub const COMPLETED: u8 = 0;
+pub const NOT_COMPLETED: u8 = 1;
+pub const WRONG: u8 = 2;
+pub const NO_FILE: u8 = 3;
+
+#[derive(Debug)]
+pub enum Failure {
+    /// A command line or a text that cannot be used, and what to do.
+    Wrong(String),
+    /// A text with faults, which are shown already.
+    Shown,
+    /// A file that cannot be read or written.
+    File(String, io::Error),
+    /// What the engine gave and what was made of it do not fit together.
+    Inconsistent(String),
+}
+
+impl Failure {
+    pub fn file(path: &Path, error: io::Error) -> Failure {
+        Failure::File(path.display().to_string(), error)
+    }
+
+    pub fn status(&self) -> u8 {
+        match self {
+            Failure::Wrong(_) | Failure::Shown => WRONG,
+            Failure::File(..) => NO_FILE,
+            Failure::Inconsistent(_) => NOT_COMPLETED,
+        }
+    }
+}
+
+impl fmt::Display for Failure {
+    fn fmt(&self, f: &mut fmt::Formatter<'_>) -> fmt::Result {
+        match self {
+            Failure::Wrong(text) => write!(f, "error: {text}"),
+            Failure::Shown => Ok(()),
+            Failure::File(path, error) => write!(f, "error: {path}: {error}"),
+            Failure::Inconsistent(text) => write!(
+                f,
+                "error: {text}\n  this is a fault of dayomlak and not of your graph: please report it with the graph"
+            ),
+        }
+    }
+}

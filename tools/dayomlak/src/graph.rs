@@ -1,0 +1,182 @@
+//! The records of a graph, read for names, pictures and warnings. A graph that the engine refuses is read too, as far as it
+//! goes.
+
+use std::collections::BTreeSet;
+
+use asm::{by_code, Operation, GRAPH_RECORD};
+
+pub const SINK: u8 = 2;
+pub const OUT: u8 = 3;
+pub const SWITCH: u8 = 5;
+pub const GATE: u8 = 6;
+pub const NEXT: u8 = 7;
+pub const ENTER: u8 = 8;
+pub const LEAVE: u8 = 9;
+pub const FETCH: u8 = 10;
+pub const STORE: u8 = 11;
+
+/// The end of an arc.
+#[derive(Clone, Copy, Debug, PartialEq, Eq, PartialOrd, Ord)]
+pub struct Destination {
+    pub instruction: u16,
+    pub port: u8,
+}
+
+#[derive(Clone, Debug)]
+pub struct Instruction {
+    pub code: u8,
+    /// `None` for an unknown code.
+    operation: Option<Operation>,
+    /// Those in use. The second of an ENTER is where the call returns to, and no arc.
+    pub destinations: Vec<Destination>,
+    pub constant: i32,
+}
+
+impl Instruction {
+    fn of(record: &[u8]) -> Instruction {
+        let destination = |number: usize| Destination {
+            instruction: u16::from_le_bytes([record[4 + 2 * number], record[5 + 2 * number]]),
+            port: record[2 + number],
+        };
+        Instruction {
+            code: record[0],
+            operation: by_code(record[0]),
+            destinations: (0..usize::from(record[1]).min(2))
+                .map(destination)
+                .collect(),
+            constant: i32::from_le_bytes([record[8], record[9], record[10], record[11]]),
+        }
+    }
+
+    pub fn operands(&self) -> u8 {
+        self.operation.map_or(0, |operation| operation.operands)
+    }
+
+    /// How many tokens a firing sends.
+    pub fn outputs(&self) -> usize {
+        match self.code {
+            SWITCH | ENTER | LEAVE => 1,
+            _ => self.destinations.len(),
+        }
+    }
+
+    /// The arcs that tokens go along under the same path and iteration, or the next one.
+    pub fn arcs(&self) -> &[Destination] {
+        match self.code {
+            ENTER => &self.destinations[..self.destinations.len().min(1)],
+            _ => &self.destinations,
+        }
+    }
+
+    /// Of an ENTER, where it sends to and where the call returns to.
+    fn call(&self) -> Option<&[Destination; 2]> {
+        match self.code {
+            ENTER => self.destinations.first_chunk(),
+            _ => None,
+        }
+    }
+
+    /// The operation with its constant, as it is typed.
+    pub fn words(&self) -> String {
+        let Some(operation) = self.operation else {
+            return format!("code {}", self.code);
+        };
+        match operation.constant {
+            asm::Constant::Unused => operation.name.to_string(),
+            asm::Constant::Site => format!("{} site {}", operation.name, self.constant),
+            asm::Constant::Value | asm::Constant::Offset => {
+                format!("{} {}", operation.name, self.constant)
+            }
+        }
+    }
+}
+
+#[derive(Clone, Debug)]
+pub struct Graph {
+    pub instructions: Vec<Instruction>,
+}
+
+impl Graph {
+    pub fn of(bytes: &[u8]) -> Graph {
+        Graph {
+            instructions: bytes
+                .chunks_exact(GRAPH_RECORD)
+                .map(Instruction::of)
+                .collect(),
+        }
+    }
+
+    pub fn get(&self, number: u16) -> Option<&Instruction> {
+        self.instructions.get(usize::from(number))
+    }
+
+    /// The first ENTER of a site.
+    pub fn enter(&self, site: u8) -> Option<u16> {
+        let is = |i: &Instruction| i.code == ENTER && i.constant == i32::from(site);
+        self.instructions
+            .iter()
+            .position(is)
+            .map(|number| number as u16)
+    }
+
+    /// Where tokens that LEAVE in any call may go.
+    pub fn returns(&self) -> Vec<Destination> {
+        let returns = (0..self.instructions.len()).flat_map(|number| self.returns_of(number));
+        let to = |instruction| Destination {
+            instruction,
+            port: 0,
+        };
+        returns.map(to).collect()
+    }
+
+    /// The instructions that the call of an ENTER may return to: its return instruction plus the constant of each LEAVE
+    /// that can be reached in the call.
+    pub fn returns_of(&self, number: usize) -> BTreeSet<u16> {
+        let Some([first, back]) = self.instructions.get(number).and_then(Instruction::call) else {
+            return BTreeSet::new();
+        };
+        let reached = self.reached(first.instruction);
+        let constants = reached.into_iter().filter_map(|number| self.leave(number));
+        constants
+            .filter_map(|constant| self.behind(back.instruction, constant))
+            .collect()
+    }
+
+    /// The constant of a LEAVE.
+    fn leave(&self, number: u16) -> Option<i32> {
+        let instruction = self.get(number).filter(|i| i.code == LEAVE)?;
+        Some(instruction.constant)
+    }
+
+    /// The instruction that stands so many behind another, if there is one.
+    fn behind(&self, instruction: u16, constant: i32) -> Option<u16> {
+        let number = i32::from(instruction).checked_add(constant)?;
+        let number = u16::try_from(number).ok()?;
+        self.get(number).map(|_| number)
+    }
+
+    /// What can be reached from an instruction within its call. An inner call is passed over: it may return by any LEAVE
+    /// of the graph.
+    fn reached(&self, from: u16) -> BTreeSet<u16> {
+        let leaves: BTreeSet<i32> = (0..self.instructions.len() as u16)
+            .filter_map(|number| self.leave(number))
+            .collect();
+        let next = |number: u16| -> Vec<u16> {
+            match self.get(number).map(|i| (i.call(), i.arcs())) {
+                Some((Some([_, back]), _)) => {
+                    let back = back.instruction;
+                    let ends = leaves.iter().filter_map(|leave| self.behind(back, *leave));
+                    ends.collect()
+                }
+                Some((None, arcs)) => arcs.iter().map(|arc| arc.instruction).collect(),
+                None => Vec::new(),
+            }
+        };
+        let mut reached = BTreeSet::from([from]);
+        let mut open = vec![from];
+        while let Some(number) = open.pop() {
+            open.extend(next(number).into_iter().filter(|end| reached.insert(*end)));
+        }
+        reached
+    }
+}

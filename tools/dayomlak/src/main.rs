@@ -1,0 +1,57 @@
+//! `dayomlak`: the tagged-token dataflow machine for the people who use it. Every firing, listing, profile, log and bound
+//! that it shows is the proved engine's; what is here reads text, chooses picks, names, draws and explains.
+
+mod answer;
+mod cache;
+mod cli;
+mod commands;
+mod diagnostics;
+mod engine;
+mod failure;
+mod graph;
+mod graphviz;
+mod history;
+mod machine;
+mod newest;
+mod orders;
+mod output;
+mod pictures;
+mod plotter;
+mod program;
+mod records;
+mod refusals;
+mod refused;
+mod results;
+mod warnings;
+
+use std::process::ExitCode;
+
+use clap::Parser;
+
+use cli::{Cli, Command};
+use failure::Failure;
+
+fn main() -> ExitCode {
+    let result = match &Cli::parse().command {
+        Command::Run(args) => commands::run::run(args),
+        Command::Check(args) => commands::check::check(args),
+        Command::Compare(args) => commands::compare::compare(args),
+        Command::Trace(args) => commands::trace::trace(args),
+        Command::Profile(args) => commands::profile::profile(args),
+        Command::Draw(args) => commands::draw::draw(args),
+        Command::Log(args) => commands::logs::log(args),
+        Command::Replay(args) => commands::logs::replay(args),
+        Command::Asm(args) => commands::files::asm(args),
+        Command::Disasm(args) => commands::files::disasm(args),
+        Command::Explain(args) => commands::explain::explain(args),
+    };
+    match result {
+        Ok(status) => ExitCode::from(status),
+        Err(failure) => {
+            if !matches!(failure, Failure::Shown) {
+                eprintln!("{failure}");
+            }
+            ExitCode::from(failure.status())
+        }
+    }
+}

@@ -1,0 +1,152 @@
+//! What a user gives: a typed graph, a folder with the files of one, or `-` for standard input.
+
+use std::fs;
+use std::io::{self, Read};
+use std::path::Path;
+
+use asm::{disassemble, read, Files, Place, Span};
+
+use crate::diagnostics::{self, Finding};
+use crate::failure::Failure;
+use crate::graph::Graph;
+use crate::records::Tag;
+
+pub struct Program {
+    /// How messages and pictures call it.
+    pub label: String,
+    /// As typed, or disassembled; empty where files have no text.
+    pub text: String,
+    pub files: Files,
+    pub graph: Graph,
+    instructions: Vec<asm::Instruction>,
+    inputs: Vec<Place>,
+}
+
+impl Program {
+    /// Loads what a command is given.
+    pub fn load(file: &str) -> Result<Program, Failure> {
+        let path = Path::new(file);
+        if file == "-" {
+            let mut bytes = Vec::new();
+            let read = io::stdin().read_to_end(&mut bytes);
+            read.map_err(|error| Failure::File("standard input".to_string(), error))?;
+            return Program::typed("standard input", bytes);
+        }
+        if path.is_dir() {
+            return Program::folder(file, files(path)?);
+        }
+        let bytes = fs::read(path).map_err(|error| Failure::file(path, error))?;
+        Program::typed(file, bytes)
+    }
+
+    /// A typed graph. Its faults are shown.
+    pub fn typed(label: &str, bytes: Vec<u8>) -> Result<Program, Failure> {
+        let text = String::from_utf8(bytes).map_err(|_| {
+            Failure::Wrong(format!(
+                "{label} is no text (UTF-8)\n  for the files of a graph give their folder, for a log `dayomlak replay`"
+            ))
+        })?;
+        match read(&text) {
+            Ok(program) => Ok(Program {
+                label: label.to_string(),
+                graph: Graph::of(&program.files.graph),
+                files: program.files,
+                instructions: program.instructions,
+                inputs: program.inputs,
+                text,
+            }),
+            Err(errors) => {
+                let findings: Vec<Finding> = errors.0.into_iter().map(Finding::from).collect();
+                diagnostics::complain(label, &text, &findings);
+                Err(Failure::Shown)
+            }
+        }
+    }
+
+    /// The files have a text if they are in whole records; without one there are no names.
+    fn folder(label: &str, files: Files) -> Result<Program, Failure> {
+        let text = disassemble(&files).unwrap_or_default();
+        let typed = read(&text).unwrap_or_default();
+        Ok(Program {
+            label: label.to_string(),
+            graph: Graph::of(&files.graph),
+            files,
+            instructions: typed.instructions,
+            inputs: typed.inputs,
+            text,
+        })
+    }
+
+    /// An instruction's name; its number where it has none.
+    pub fn name(&self, instruction: u16) -> String {
+        match self.instructions.get(usize::from(instruction)) {
+            Some(instruction) => instruction.name.clone(),
+            None => format!("#{instruction}"),
+        }
+    }
+
+    /// A tag by names: `start[0]/call1[0]/n[0]`, each call by an ENTER of its site.
+    pub fn tag(&self, tag: &Tag) -> String {
+        let mut words = String::new();
+        for (site, iteration) in tag.calls() {
+            let name = match self.graph.enter(site) {
+                Some(enter) => self.name(enter),
+                None => format!("site {site}"),
+            };
+            words += &format!("{name}[{iteration}]/");
+        }
+        words + &format!("{}[{}]", self.name(tag.instruction), tag.iteration)
+    }
+
+    /// A tag with a port. A single port needs no number.
+    pub fn port(&self, tag: &Tag, port: u8) -> String {
+        let operands = self.graph.get(tag.instruction).map_or(0, |i| i.operands());
+        match operands {
+            1 => self.tag(tag),
+            _ => format!("{}.{port}", self.tag(tag)),
+        }
+    }
+
+    /// Where an instruction stands in the text.
+    pub fn span(&self, instruction: usize) -> Option<Span> {
+        self.instructions
+            .get(instruction)
+            .map(|i| i.place.span.clone())
+    }
+
+    /// Where an arc of an instruction stands in the text, or else the instruction.
+    pub fn arc_span(&self, instruction: usize, arc: usize) -> Option<Span> {
+        let instruction = self.instructions.get(instruction)?;
+        let arc = instruction.arcs.get(arc).unwrap_or(&instruction.place.span);
+        Some(arc.clone())
+    }
+
+    /// Where an input stands in the text.
+    pub fn input_span(&self, input: usize) -> Option<Span> {
+        self.inputs.get(input).map(|input| input.span.clone())
+    }
+
+    pub fn input_count(&self) -> usize {
+        self.files.inputs.len() / asm::TOKEN_RECORD
+    }
+}
+
+/// The files of a folder; a missing one counts as empty, as it does for the printing program.
+pub fn files(folder: &Path) -> Result<Files, Failure> {
+    if !folder.is_dir() {
+        let error = io::Error::new(io::ErrorKind::NotFound, "no such folder");
+        return Err(Failure::file(folder, error));
+    }
+    let file = |name: &str| {
+        let path = folder.join(name);
+        match fs::read(&path) {
+            Err(error) if error.kind() == io::ErrorKind::NotFound => Ok(Vec::new()),
+            result => result.map_err(|error| Failure::file(&path, error)),
+        }
+    };
+    Ok(Files {
+        graph: file("graph")?,
+        inputs: file("inputs")?,
+        picks: file("picks")?,
+    })
+}

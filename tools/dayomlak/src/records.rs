@@ -1,0 +1,165 @@
+//! The records that the engine writes: tokens, cells, the log and the profile. Numbers are little-endian.
+
+/// Bytes of a token record.
+pub const TOKEN: usize = 20;
+/// Bytes of a cell record.
+pub const CELL: usize = 8;
+/// Bytes of a record of the log.
+pub const LOGGED: usize = 12;
+/// Bytes of a record of the profile.
+pub const STEP: usize = 4;
+/// Most records of a ledger, of picks and of firings.
+pub const MOST_RECORDS: usize = 2048;
+/// Most cells.
+pub const MOST_CELLS: usize = 1024;
+
+/// What an activity is named by.
+#[derive(Clone, Copy, Debug, PartialEq, Eq, PartialOrd, Ord, Hash)]
+pub struct Tag {
+    pub path: u64,
+    pub iteration: u8,
+    pub instruction: u16,
+}
+
+impl Tag {
+    /// The calls of the path, outermost first: the site and the iteration that it was entered from.
+    pub fn calls(&self) -> Vec<(u8, u8)> {
+        let mut calls = Vec::new();
+        let mut path = self.path;
+        while path != 0 {
+            calls.push(((path >> 8) as u8, path as u8));
+            path >>= 16;
+        }
+        calls.reverse();
+        calls
+    }
+
+    /// The same instruction in the call of a site.
+    pub fn entered(self, site: u8) -> Tag {
+        Tag {
+            path: self.path << 16 | u64::from(site) << 8 | u64::from(self.iteration),
+            iteration: 0,
+            ..self
+        }
+    }
+
+    /// The same instruction where the innermost call came from, and that call's site.
+    pub fn left(self) -> (Tag, u8) {
+        let tag = Tag {
+            path: self.path >> 16,
+            iteration: self.path as u8,
+            ..self
+        };
+        (tag, (self.path >> 8) as u8)
+    }
+
+    /// The same instruction in the next iteration.
+    pub fn next(self) -> Tag {
+        Tag {
+            iteration: self.iteration.saturating_add(1),
+            ..self
+        }
+    }
+
+    /// The tag that a record of the log names.
+    pub fn logged(record: &[u8]) -> Tag {
+        Tag {
+            path: u64::from_le_bytes(bytes(record, 0)),
+            iteration: record[8],
+            instruction: u16::from_le_bytes(bytes(record, 10)),
+        }
+    }
+}
+
+#[derive(Clone, Copy, Debug, PartialEq, Eq)]
+pub enum State {
+    Live,
+    Spent,
+    Deferred,
+}
+
+impl State {
+    pub fn word(self) -> &'static str {
+        match self {
+            State::Live => "live",
+            State::Spent => "spent",
+            State::Deferred => "deferred",
+        }
+    }
+}
+
+#[derive(Clone, Copy, Debug, PartialEq, Eq)]
+pub struct Token {
+    pub tag: Tag,
+    pub port: u8,
+    /// The cell that it waits for, where it is deferred.
+    pub value: i32,
+    pub state: State,
+}
+
+impl Token {
+    fn of(record: &[u8]) -> Token {
+        Token {
+            tag: Tag {
+                path: u64::from_le_bytes(bytes(record, 0)),
+                iteration: record[8],
+                instruction: u16::from_le_bytes(bytes(record, 10)),
+            },
+            port: record[9],
+            value: i32::from_le_bytes(bytes(record, 12)),
+            state: match record[16] {
+                0 => State::Live,
+                1 => State::Spent,
+                _ => State::Deferred,
+            },
+        }
+    }
+}
+
+#[derive(Clone, Copy, Debug, PartialEq, Eq)]
+pub enum Cell {
+    Absent,
+    Waiting,
+    Present(i32),
+}
+
+/// One ideal step: how many activities fired in it, and how many tokens are live or deferred after it.
+#[derive(Clone, Copy, Debug, PartialEq, Eq)]
+pub struct Step {
+    pub firings: u16,
+    pub tokens: u16,
+}
+
+pub fn tokens(ledger: &[u8]) -> Vec<Token> {
+    ledger.chunks_exact(TOKEN).map(Token::of).collect()
+}
+
+pub fn cells(records: &[u8]) -> Vec<Cell> {
+    let cell = |record: &[u8]| match record[4] {
+        1 => Cell::Waiting,
+        2 => Cell::Present(i32::from_le_bytes(bytes(record, 0))),
+        _ => Cell::Absent,
+    };
+    records.chunks_exact(CELL).map(cell).collect()
+}
+
+pub fn steps(profile: &[u8]) -> Vec<Step> {
+    let step = |record: &[u8]| Step {
+        firings: u16::from_le_bytes(bytes(record, 0)),
+        tokens: u16::from_le_bytes(bytes(record, 2)),
+    };
+    profile.chunks_exact(STEP).map(step).collect()
+}
+
+/// The records of steps.
+pub fn step_bytes(steps: &[Step]) -> Vec<u8> {
+    let bytes = |step: &Step| [step.firings.to_le_bytes(), step.tokens.to_le_bytes()].concat();
+    steps.iter().flat_map(bytes).collect()
+}
+
+/// The bytes of a number at a place of a record.
+fn bytes<const N: usize>(record: &[u8], at: usize) -> [u8; N] {
+    let mut bytes = [0; N];
+    bytes.copy_from_slice(&record[at..at + N]);
+    bytes
+}

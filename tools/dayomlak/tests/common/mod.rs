@@ -1,0 +1,121 @@
+//! Running the program and comparing what it prints with stored files.
+
+// Each test program uses a part of this.
+#![allow(dead_code)]
+
+use std::fs;
+use std::io::Write;
+use std::path::{Path, PathBuf};
+use std::process::{Command, Stdio};
+use std::sync::atomic::{AtomicUsize, Ordering};
+
+/// The project's root, where the program is run, so that the paths in its messages are the same everywhere.
+pub const ROOT: &str = concat!(env!("CARGO_MANIFEST_DIR"), "/../..");
+/// The moment that pictures are drawn at.
+pub const MOMENT: &str = "1794807612";
+
+/// What a command printed, and its exit status.
+#[derive(Debug)]
+pub struct Done {
+    pub out: String,
+    pub err: String,
+    pub status: i32,
+}
+
+/// A folder that goes with the test.
+pub struct Folder(PathBuf);
+
+impl Folder {
+    pub fn new() -> Folder {
+        static COUNT: AtomicUsize = AtomicUsize::new(0);
+        let number = COUNT.fetch_add(1, Ordering::Relaxed);
+        let name = format!("dayomlak-test-{}-{number}", std::process::id());
+        let path = std::env::temp_dir().join(name);
+        fs::create_dir_all(&path).unwrap();
+        Folder(path)
+    }
+
+    pub fn path(&self, name: &str) -> String {
+        self.0.join(name).display().to_string()
+    }
+
+    /// Writes a file and answers its path.
+    pub fn write(&self, name: &str, bytes: impl AsRef<[u8]>) -> String {
+        fs::write(self.0.join(name), bytes).unwrap();
+        self.path(name)
+    }
+}
+
+impl Drop for Folder {
+    fn drop(&mut self) {
+        let _ = fs::remove_dir_all(&self.0);
+    }
+}
+
+/// A command in the project's root, with a cache of its own at a fixed moment.
+pub fn command(cache: &Folder, arguments: &[&str]) -> Command {
+    let mut command = Command::new(env!("CARGO_BIN_EXE_dayomlak"));
+    command.current_dir(ROOT).args(arguments);
+    command.env("XDG_CACHE_HOME", cache.path("cache"));
+    command.env("SOURCE_DATE_EPOCH", MOMENT);
+    command
+}
+
+pub fn done(command: &mut Command) -> Done {
+    let output = command.output().unwrap();
+    Done {
+        out: String::from_utf8_lossy(&output.stdout).into_owned(),
+        err: String::from_utf8_lossy(&output.stderr).into_owned(),
+        status: output.status.code().unwrap(),
+    }
+}
+
+pub fn dayomlak(arguments: &[&str]) -> Done {
+    done(&mut command(&Folder::new(), arguments))
+}
+
+/// Runs a command with a text on standard input, which is given as the file `-`.
+pub fn typed(text: &str, arguments: &[&str]) -> Done {
+    let folder = Folder::new();
+    let mut child = command(&folder, arguments)
+        .stdin(Stdio::piped())
+        .stdout(Stdio::piped())
+        .stderr(Stdio::piped())
+        .spawn()
+        .unwrap();
+    child
+        .stdin
+        .take()
+        .unwrap()
+        .write_all(text.as_bytes())
+        .unwrap();
+    let output = child.wait_with_output().unwrap();
+    Done {
+        out: String::from_utf8_lossy(&output.stdout).into_owned(),
+        err: String::from_utf8_lossy(&output.stderr).into_owned(),
+        status: output.status.code().unwrap(),
+    }
+}
+
+/// Compares what was printed with a stored file. UPDATE_EXPECTED=1 stores it instead.
+pub fn expect(name: &str, done: &Done) {
+    let path = Path::new(env!("CARGO_MANIFEST_DIR"))
+        .join("tests/expected")
+        .join(name);
+    let text = match done.err.is_empty() {
+        true => format!("{}exit status {}\n", done.out, done.status),
+        false => format!(
+            "{}--- standard error\n{}exit status {}\n",
+            done.out, done.err, done.status
+        ),
+    };
+    if std::env::var_os("UPDATE_EXPECTED").is_some() {
+        fs::create_dir_all(path.parent().unwrap()).unwrap();
+        fs::write(&path, &text).unwrap();
+    }
+    let stored = fs::read_to_string(&path).unwrap_or_default();
+    assert!(
+        stored == text,
+        "{name} is stored as\n{stored}\nand came as\n{text}\nUPDATE_EXPECTED=1 stores what came"
+    );
+}

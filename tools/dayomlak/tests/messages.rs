@@ -1,0 +1,216 @@
+//! Every message: the faults of a text, warnings, and each refusal by name.
+
+mod common;
+
+use common::{dayomlak, expect, typed, Folder};
+
+/// Faults are shown all at once, and nothing is printed.
+#[test]
+fn faults_of_a_text() {
+    let text =
+        "a: COPY → b, c\nb: GT 4 -> a.1\nb: OUT\nd ADD b\n  D -> a\ninput d = 7x\npicks 70000\n";
+    let done = typed(text, &["run", "-"]);
+    assert_eq!((&done.out[..], done.status), ("", 2));
+    expect("messages/faults", &done);
+}
+
+#[test]
+fn a_byte_order_mark_is_skipped() {
+    let done = typed("\u{feff}a: OUT\r\ninput a = 3\r\n", &["run", "-"]);
+    assert_eq!(
+        done.out,
+        "completed: 0 firings, 1 token, oldest first\na[0] = 3\n"
+    );
+}
+
+#[test]
+fn cells_are_loaded() {
+    let text = "read: FETCH -> out\nout: OUT\ncell 3 = 7\ninput read = 3\n";
+    let done = typed(text, &["run", "-"]);
+    assert_eq!(
+        done.out,
+        "completed: 2 firings, 4 tokens, oldest first\nout[0] = 7\ncell 3 = 7\n"
+    );
+}
+
+#[test]
+fn warnings() {
+    let text = "a: COPY -> b.0 b.0\nb: ADD -> c\nc: SWITCH -> a a\n   SINK\ninput c.0 = 1\ninput c.1 = 1\n";
+    expect("messages/warnings", &typed(text, &["check", "-"]));
+}
+
+/// What comes back from a call is fed by its LEAVE.
+#[test]
+fn a_return_is_fed() {
+    let text = "a: ENTER site 1 -> b return c\nb: LEAVE 1\nc: OUT\nd: OUT\ninput a = 1\n";
+    let done = typed(text, &["check", "-"]);
+    assert!(
+        done.err.contains("nothing sends to `c.0`") && !done.err.contains("`d.0`"),
+        "{done:?}"
+    );
+}
+
+/// The refusals that a text and options lead to, by number.
+const REFUSED: [(u16, &str, &[&str]); 14] = [
+    (1, "", &[]),
+    (
+        2,
+        "a: raw 63 00 00 00 00 00 00 00 00 00 00 00 00 00 00 00",
+        &[],
+    ),
+    (
+        3,
+        "a: raw 02 00 00 00 00 00 00 00 01 00 00 00 00 00 00 00",
+        &[],
+    ),
+    (
+        4,
+        "a: raw 01 01 00 00 09 00 00 00 00 00 00 00 00 00 00 00",
+        &[],
+    ),
+    (
+        5,
+        "a: OUT\nb: raw 08 02 00 00 00 00 00 00 00 00 00 00 00 00 00 00",
+        &[],
+    ),
+    (
+        6,
+        "a: OUT\ninput raw 01 00 00 00 00 00 00 00 00 00 00 00 00 00 00 00 00 00 00 00",
+        &[],
+    ),
+    (
+        8,
+        "a: COPY -> b b2\nb: OUT\nb2: OUT\ninput a = 1",
+        &["--capacity", "2"],
+    ),
+    (9, "a: COPY -> b b\nb: OUT\ninput a = 1", &[]),
+    (10, "a: FETCH -> b\nb: OUT\ninput a = 5", &["--cells", "5"]),
+    (
+        11,
+        "a: STORE\nb: STORE\ninput a.0 = 5\ninput a.1 = 1\ninput b.0 = 5\ninput b.1 = 2",
+        &[],
+    ),
+    (12, "a: DIV 0 -> b\nb: OUT\ninput a = 5", &[]),
+    (13, "a: NEXT -> a\ninput a = 1", &[]),
+    (
+        14,
+        "a: ENTER site 1 -> a return b\nb: OUT\ninput a = 1",
+        &[],
+    ),
+    (
+        17,
+        "a: ENTER site 1 -> c return b\nb: OUT\nc: LEAVE 2\ninput a = 1",
+        &[],
+    ),
+];
+
+#[test]
+fn each_refusal_is_explained() {
+    for (number, text, options) in REFUSED {
+        let done = typed(text, &[&["run", "-"], options].concat());
+        assert!(
+            done.out.contains(&format!("refused by {number}, ")),
+            "{number}: {done:?}"
+        );
+        assert_eq!(done.status, 1);
+        expect(&format!("messages/refused-{number}"), &done);
+    }
+}
+
+/// Refusals of inputs, of other results, and those that need files.
+#[test]
+fn other_forms_of_refusals() {
+    let cases = [
+        ("8-inputs", "a: ADD -> b\nb: OUT\ninput a.0 = 1\ninput a.1 = 1", &["--capacity", "1"][..]),
+        ("9-inputs", "a: OUT\ninput a = 1\ninput a = 1", &[]),
+        ("9-enter", "a: ENTER site 1 -> c return d\nb: ENTER site 1 -> c return d\nc: LEAVE 0\nd: OUT\ninput a = 1\ninput b = 2", &[]),
+        ("9-leave", "a: ENTER site 1 -> b return d\nb: COPY -> c c2\nc: LEAVE 0\nc2: LEAVE 0\nd: OUT\ninput a = 1", &[]),
+        ("9-switch", "a: SWITCH -> b b\nc: COPY -> b\nb: OUT\ninput a.0 = 1\ninput a.1 = 0\ninput c = 2", &[]),
+        ("12-range", "a: MUL -> b\nb: OUT\ninput a.0 = 65536\ninput a.1 = 65536", &[]),
+    ];
+    for (name, text, options) in cases {
+        let done = typed(text, &[&["run", "-"], options].concat());
+        assert_eq!(done.status, 1);
+        expect(&format!("messages/refused-{name}"), &done);
+    }
+    let folder = Folder::new();
+    folder.write("graph", [3; 16]);
+    folder.write("inputs", [0; 7]);
+    let done = dayomlak(&["run", &folder.path("")]);
+    assert!(done.out.contains("refused by 3, fan-out"), "{done:?}");
+    folder.write("graph", [&[3][..], &[0; 15]].concat());
+    let done = dayomlak(&["run", &folder.path("")]);
+    assert!(
+        done.out
+            .contains("refused by 7, bad store, before the first firing"),
+        "{done:?}"
+    );
+}
+
+/// 20: a log of another run, one that is not whole, and one with a byte that is not zero.
+#[test]
+fn a_log_that_cannot_be_replayed() {
+    let text = "a: ADD 1 -> b\nb: OUT\ninput a = 1\n";
+    let folder = Folder::new();
+    let file = folder.write("sum.ttda", text);
+    let mut damaged = [0; 12];
+    damaged[9] = 1;
+    let cases = [
+        (
+            vec![0; 24],
+            "record 1 names `a[0]`, which is not enabled then",
+        ),
+        (vec![0; 13], "record 1 has 1 bytes instead of 12"),
+        (damaged.to_vec(), "byte 9 of record 0 is not 0"),
+    ];
+    for (bytes, words) in cases {
+        let log = folder.write("log", bytes);
+        let done = dayomlak(&["replay", &file, &log]);
+        assert!(
+            done.out.contains("refused by 20, not enabled") && done.out.contains(words),
+            "{done:?}"
+        );
+        assert_eq!(done.status, 1);
+    }
+    let log = folder.write("log", []);
+    let done = dayomlak(&["replay", &file, &log]);
+    assert!(
+        done.out.starts_with("spent: 0 firings, 1 token, as logged"),
+        "{done:?}"
+    );
+}
+
+#[test]
+fn every_number_is_explained() {
+    for number in (1..=14).chain(17..=20) {
+        let done = dayomlak(&["explain", &number.to_string()]);
+        assert_eq!((done.status, &done.err[..]), (0, ""));
+        expect(&format!("messages/explain-{number}"), &done);
+    }
+    for number in ["0", "15", "16", "21", "100"] {
+        assert_eq!(dayomlak(&["explain", number]).status, 2);
+    }
+}
+
+#[test]
+fn a_procedure_run_by_itself() {
+    let text = "n: MUL 2 -> back\nback: LEAVE 0\ninput n = 4\n";
+    let done = typed(text, &["run", "-"]);
+    assert_eq!(
+        done.out,
+        "completed: 1 firing, 2 tokens, oldest first\nback[0] = 8\n"
+    );
+}
+
+#[test]
+fn a_token_without_a_partner() {
+    let text = "a: ADD -> b\nb: OUT\ninput a.1 = 4\n";
+    let done = typed(text, &["run", "-"]);
+    assert_eq!(done.status, 1);
+    assert!(
+        done.out
+            .contains("\na[0].1 = 4 waits: no token came to port 0\n"),
+        "{done:?}"
+    );
+    assert!(done.err.contains("nothing sends to `a.0`"), "{done:?}");
+}
