@@ -32,7 +32,7 @@ use Rattle.abi.specs.declared.Unpacked.{Unpacked}
 use Rattle.abi.specs.declared.Unpacked.the-variants.{Answered, NoAnswer}
 use Rattle.abi.specs.Numbers.{packed, refusals, lookup, refusalOf, unplaced, placed, outcomeOf, unpacked, lengthOf, printAnswer, printAfter}
 
--- ---- an answer is had back from its number
+-- ---- an answer is recovered from its number
 
 refusal-back : (r : Refusal) (place : ℕ) → outcomeOf (numberOf r) place ≡ Ended (Refused r place)
 unfolding outcomeOf refusalOf

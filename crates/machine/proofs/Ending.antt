@@ -1,5 +1,5 @@
 -- R-2: where nothing is enabled a run is completed exactly if all tokens are proper, else hung (`ending-says`, `rested`), and the order of the
--- tokens is of no account (`ending-perm`). Assumes nothing.
+-- tokens does not matter (`ending-perm`). Assumes nothing.
 use mathlib.Core.Path.{_≡_, refl, sym, _∙_}
 use mathlib.Core.List.{[], _∷_, List·Permᴰ, List·Permᴰ·nil, List·Permᴰ·cons, List·Permᴰ·swap, List·Permᴰ·trans}
 use mathlib.Core.Bool.{Bool, true, false, _&&_, cond}

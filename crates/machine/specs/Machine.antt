@@ -319,7 +319,7 @@ module _ (M : Machine) where
       ifPresent (cellAt (s .cells) c) (notFired (M .secondWrite))
       (admit s (map (changed (λ k x. fill c v (spendAt τ k x))) (s .tokens)) (set (s .cells) c (present v)) (live (M .signal)) keys)
 
-  -- matching, operation, then tags and outputs. A run fires none but the enabled: what is said of the others is of no account
+  -- matching, operation, then tags and outputs. Only enabled activities fire, so that nothing depends on what is said of the others
   unfoldable pub fire : StateOf → M .Tag → FiredOf
   fire s τ = onOption (operands (look s) τ) (notFired (M .secondToken)) (λ p. commit s τ (M .effect τ (p .left) (p .right)))
 
