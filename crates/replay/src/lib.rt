@@ -45,11 +45,12 @@ fn take_record(
     requires { ⌜ Prepared (now graph) (now tables) × Running (graphOf (now graph)) (now tables) (now links) (now flags) (now ledger) (now cells) used × (firings * logWidth ≤ length (now log)) ⌝ }
     ensures { λ r. ⌜ Turned r (graphOf (now (graph .entry))) (nameOf (drop (firings * logWidth) (now (log .entry)))) firings (now (tables .entry)) (now (links .exit)) (now (flags .exit)) (now (ledger .exit)) (now (cells .exit)) used (now (ledger .entry)) (now (cells .entry)) ⌝ }
 {
+    let not_enabled = Turn::Ended(Outcome::Refused(Refusal::NotEnabled, firings));
     let Named::Activity(tag) = log::name_at(log, firings) else {
-        return Turn::Ended(Outcome::Refused(Refusal::NotEnabled, firings));
+        return not_enabled;
     };
     let Found::At(place) = store::enabled_by_tag(tables, links, ledger, used, tag) else {
-        return Turn::Ended(Outcome::Refused(Refusal::NotEnabled, firings));
+        return not_enabled;
     };
     let fired = fire::fire(graph, tables, links, flags, ledger, cells, used, place);
     match fired {
