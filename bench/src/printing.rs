@@ -28,7 +28,7 @@ impl Left {
     pub fn new((_, work, newest): Kind, size: usize) -> Left {
         let mut lent = Lent::new(work(size), size, newest);
         let answer = lent.agreed();
-        let packed = engine::packed(engine::COMPLETED, answer.firings, answer.tokens, 0);
+        let packed = engine::packed_answer(&answer);
         let mut listing = vec![0; 20 * answer.tokens];
         assert_eq!(second::list(&lent.ledger[..listing.len()], &mut listing), 0);
         Left {
