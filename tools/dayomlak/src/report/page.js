@@ -1,0 +1,378 @@
+'use strict';
+// Shows a run firing by firing. Every state is the engine's and stands in the data; nothing is fired here.
+
+const byId = (id) => document.getElementById(id);
+const data = JSON.parse(byId('data').textContent);
+// A refused firing has a position of its own, the last, and the state that it found.
+const last = data.firings.length + (data.refused ? 1 : 0);
+// More rows than anybody reads would make every step slow.
+const MOST_ROWS = 300;
+const MOST_NAMES = 20;
+
+/* The state at a position. */
+
+// The last change up to a position; undefined before the first.
+function changeAt(changes, position) {
+  let found;
+  for (const change of changes) {
+    if (change[0] <= position) found = change;
+  }
+  return found;
+}
+
+// A token or a cell with its state and value, and whether the firing of this position changed it.
+function itemAt(item, number, position) {
+  const change = changeAt(item.changes, position);
+  if (!change) return null;
+  const [since, state, value] = change;
+  return { ...item, number, state, value, fresh: since === position && position > 0 };
+}
+
+function itemsAt(items, position) {
+  return items.map((item, number) => itemAt(item, number, position)).filter(Boolean);
+}
+
+function stateAt(position) {
+  const tokens = itemsAt(data.tokens, position);
+  return {
+    position,
+    firing: firingAt(position),
+    refused: position > data.firings.length,
+    tokens: tokens.filter((token) => token.state !== 'spent'),
+    spent: tokens.filter((token) => token.state === 'spent').length,
+    cells: itemsAt(data.cells, position),
+  };
+}
+
+function firingAt(position) {
+  if (position > data.firings.length) return data.refused;
+  return data.firings[position - 1];
+}
+
+const plural = (count, noun) => `${count} ${noun}${count === 1 ? '' : 's'}`;
+
+/* The firing in words. */
+
+function showFiring(state) {
+  const { firing, position } = state;
+  const what = byId('what');
+  what.className = state.refused ? 'refused' : '';
+  what.textContent = firingWords(state);
+  byId('tag').textContent = firing ? firing.tag : '';
+  byId('slider').value = position;
+  byId('slider').setAttribute('aria-valuetext', what.textContent);
+}
+
+function firingWords({ firing, position, refused }) {
+  const done = data.firings.length;
+  if (refused) return `Firing ${position}: ${firing.name} is ${firing.words}. This is the state that it found.`;
+  if (firing) return `Firing ${position} of ${done}: ${firing.name}, ${firing.words}`;
+  if (data.tokens.length === 0) return 'There is no token: nothing fires.';
+  return `The inputs, before the first of ${plural(done, 'firing')}`;
+}
+
+/* Tables. */
+
+function row(values, numbers) {
+  const tr = document.createElement('tr');
+  values.forEach((value, column) => {
+    const td = tr.insertCell();
+    td.textContent = value;
+    if (numbers.includes(column)) td.className = 'number';
+  });
+  return tr;
+}
+
+// Fills a table, and says how many rows it does not show.
+function fillTable(id, items, rowOf) {
+  const rows = items.slice(0, MOST_ROWS).map(rowOf);
+  if (items.length > MOST_ROWS) {
+    const more = row([`and ${items.length - MOST_ROWS} more, not shown here`], []);
+    more.cells[0].colSpan = 4;
+    more.className = 'more';
+    rows.push(more);
+  }
+  byId(id).tBodies[0].replaceChildren(...rows);
+}
+
+function tokenRow(token) {
+  const deferred = token.state === 'deferred';
+  const value = deferred ? '' : token.value;
+  const state = deferred ? `deferred on cell ${token.value}` : token.state;
+  const tr = row([token.number, token.name, value, state], [0, 2]);
+  tr.dataset.record = `${token.key} ${token.value} ${token.state}`;
+  tr.classList.toggle('fresh', token.fresh);
+  return tr;
+}
+
+function cellRow(cell, reads) {
+  const value = cell.state === 'present' ? cell.value : '';
+  const tr = row([cell.cell, cell.state, value, someNames(reads)], [0, 2]);
+  tr.dataset.record = `cell ${cell.cell} ${cell.state} ${cell.value}`;
+  tr.classList.toggle('fresh', cell.fresh);
+  return tr;
+}
+
+function someNames(tokens) {
+  const names = tokens.slice(0, MOST_NAMES).map((token) => token.name);
+  if (tokens.length > MOST_NAMES) names.push(`and ${tokens.length - MOST_NAMES} more`);
+  return names.join(', ');
+}
+
+function showTables({ tokens, spent, cells }) {
+  const deferred = tokens.filter((token) => token.state === 'deferred');
+  const live = tokens.length - deferred.length;
+  byId('counts').textContent =
+    `${plural(tokens.length + spent, 'token')}: ${live} live, ${deferred.length} deferred, ${spent} spent`;
+  fillTable('tokens', tokens, tokenRow);
+  const present = cells.filter((cell) => cell.state === 'present').length;
+  byId('cell-counts').textContent =
+    `${present} present, ${cells.length - present} waiting; all others are absent`;
+  const readsOf = (cell) => deferred.filter((token) => token.value === cell.cell);
+  fillTable('cells', cells, (cell) => cellRow(cell, readsOf(cell)));
+}
+
+/* The picture. */
+
+const graph = byId('graph');
+const svg = graph.querySelector('svg');
+const badges = svg && svg.querySelector('.graph').appendChild(svgElement('g', {}));
+
+function svgElement(name, attributes) {
+  const element = document.createElementNS(svg.namespaceURI, name);
+  Object.entries(attributes).forEach(([key, value]) => element.setAttribute(key, value));
+  return element;
+}
+
+// The rows of the table of loads have no ids of their own: a heading, and two texts a row.
+function nameLoads() {
+  const texts = [...svg.querySelectorAll('#loads text')].slice(2);
+  texts.forEach((text, number) => text.classList.add(`load-${Math.floor(number / 2)}`));
+}
+
+// What is drawn by an id: an instruction, an arc, or the texts of a load.
+function drawn(id) {
+  const element = id && byId(id);
+  if (element) return [element];
+  return id ? [...svg.getElementsByClassName(id)] : [];
+}
+
+function mark(name, ids) {
+  svg.querySelectorAll(`.${name}`).forEach((element) => element.classList.remove(name));
+  ids.flatMap(drawn).forEach((element) => element.classList.add(name));
+}
+
+function showPicture(state) {
+  const { firing, refused, tokens } = state;
+  const here = firing ? [firing.at] : [];
+  mark('fires', refused ? [] : here);
+  mark('refuses', refused ? here : []);
+  mark('sends', tokens.filter((token) => token.fresh).map((token) => token.arc));
+  showBadges(tokens);
+  if (firing) keepInSight(drawn(firing.at)[0]);
+}
+
+function showBadges(tokens) {
+  const groups = new Map();
+  tokens.forEach((token) => {
+    const arc = drawn(token.arc).length > 0 ? token.arc : token.at;
+    groups.set(arc, [...(groups.get(arc) || []), token]);
+  });
+  badges.replaceChildren(...[...groups].map(([arc, group]) => badge(spot(arc), group)));
+}
+
+const spots = new Map();
+
+// Where the tokens of an arc are shown: in its middle; at a load, beside its row; else on the instruction itself.
+function spot(id) {
+  if (!spots.has(id)) spots.set(id, newSpot(id));
+  return spots.get(id);
+}
+
+function newSpot(id) {
+  const elements = drawn(id);
+  if (elements.length === 0) return { x: 0, y: 0 };
+  const path = elements[0].querySelector('path');
+  if (path && elements[0].classList.contains('edge')) {
+    return path.getPointAtLength(path.getTotalLength() / 2);
+  }
+  const box = elements[elements.length - 1].getBBox();
+  const beside = elements.length > 1 ? 16 : 0;
+  return { x: box.x + box.width + beside, y: box.y + box.height / 2 };
+}
+
+// One token shows its value, several their number; the tip names them.
+function badge({ x, y }, group) {
+  const [token] = group;
+  const deferred = token.state === 'deferred';
+  const single = deferred ? '?' : String(token.value);
+  const words = group.length > 1 ? `×${group.length}` : single;
+  const width = Math.max(13, 6 + 5.2 * words.length);
+  const element = svgElement('g', { class: 'token', transform: `translate(${x} ${y})` });
+  element.classList.toggle('deferred', group.every(({ state }) => state === 'deferred'));
+  element.classList.toggle('fresh', group.some(({ fresh }) => fresh));
+  const tip = svgElement('title', {});
+  tip.textContent = tipOf(group);
+  const text = svgElement('text', { y: 3 });
+  text.textContent = words;
+  element.append(tip, svgElement('rect', { x: -width / 2, y: -6.5, width, height: 13, rx: 6.5 }), text);
+  return element;
+}
+
+function tipOf(group) {
+  const words = ({ name, value, state }) =>
+    state === 'deferred' ? `${name} waits for cell ${value}` : `${name} = ${value}`;
+  const lines = group.slice(0, MOST_NAMES).map(words);
+  if (group.length > MOST_NAMES) lines.push(`and ${group.length - MOST_NAMES} more`);
+  return lines.join('\n');
+}
+
+// Scrolls the picture, and not the page, until an element is in sight.
+function keepInSight(element) {
+  if (!element) return;
+  const frame = graph.getBoundingClientRect();
+  const box = element.getBoundingClientRect();
+  const margin = 40;
+  if (box.left < frame.left + margin || box.right > frame.right - margin) {
+    graph.scrollLeft += (box.left + box.right - frame.left - frame.right) / 2;
+  }
+  if (box.top < frame.top + margin || box.bottom > frame.bottom - margin) {
+    graph.scrollTop += (box.top + box.bottom - frame.top - frame.bottom) / 2;
+  }
+}
+
+// Letters smaller than this are not read.
+const SMALLEST_FIT = 0.75;
+let zoom = 1;
+
+function setZoom(value) {
+  zoom = Math.min(4, Math.max(0.2, value));
+  const { width, height } = svg.viewBox.baseVal;
+  svg.setAttribute('width', width * zoom * 4 / 3);
+  svg.setAttribute('height', height * zoom * 4 / 3);
+}
+
+function fit() {
+  const { width, height } = svg.viewBox.baseVal;
+  const across = (graph.clientWidth - 4) / (width * 4 / 3);
+  const down = (graph.clientHeight - 8) / (height * 4 / 3);
+  setZoom(Math.max(SMALLEST_FIT, Math.min(across, down, 1.2)));
+}
+
+/* The curves. */
+
+function showStep({ firing, refused }) {
+  const step = firing ? firing.step : null;
+  byId('step').textContent = stepWords(firing, refused);
+  document.querySelectorAll('figure').forEach((figure) => markStep(figure, step));
+}
+
+function stepWords(firing, refused) {
+  if (!firing) return '';
+  const record = data.steps[firing.step - 1];
+  if (refused && !record) return 'The refused firing is in no whole step.';
+  if (!firing.step) return 'The profile was refused before it came to this activity.';
+  if (!record) return 'This activity fires in the step that was not finished.';
+  return `${firing.name} fires in step ${firing.step}: ${plural(record[0], 'firing')}, ` +
+    `${plural(record[1], 'token')} after it.`;
+}
+
+function markStep(figure, step) {
+  figure.querySelectorAll('.mark').forEach((old) => old.remove());
+  if (!step || step > data.steps.length) return;
+  const [left, right, top, bottom] = ['left', 'right', 'top', 'bottom'].map((side) => Number(figure.dataset[side]));
+  const width = (right - left) / data.steps.length;
+  const chart = figure.querySelector('svg');
+  const rect = document.createElementNS(chart.namespaceURI, 'rect');
+  const place = { class: 'mark', x: left + width * (step - 1), y: top, width, height: bottom - top };
+  Object.entries(place).forEach(([key, value]) => rect.setAttribute(key, value));
+  chart.append(rect);
+}
+
+/* The slider. */
+
+let position = 0;
+
+function show(wanted) {
+  position = Math.min(last, Math.max(0, Math.round(wanted) || 0));
+  const state = stateAt(position);
+  showFiring(state);
+  showTables(state);
+  if (svg) showPicture(state);
+  showStep(state);
+  ['first', 'previous'].forEach((id) => { byId(id).disabled = position === 0; });
+  ['next', 'last'].forEach((id) => { byId(id).disabled = position === last; });
+  if (position === last) stop();
+}
+
+// Where a user goes stands in the address, so that it can be passed on.
+function go(wanted) {
+  show(wanted);
+  history.replaceState(null, '', `#firing=${position}`);
+}
+
+function fromAddress() {
+  const match = /^#firing=(\d+)$/.exec(location.hash);
+  show(match ? Number(match[1]) : 0);
+}
+
+let timer = null;
+
+function stop() {
+  clearInterval(timer);
+  timer = null;
+  byId('play').textContent = 'Play';
+}
+
+function play() {
+  if (timer !== null) return stop();
+  if (position === last) show(0);
+  if (last === 0) return undefined;
+  byId('play').textContent = 'Pause';
+  timer = setInterval(() => go(position + 1), Number(byId('speed').value));
+  return undefined;
+}
+
+const KEYS = {
+  ArrowLeft: () => position - 1,
+  ArrowRight: () => position + 1,
+  Home: () => 0,
+  End: () => last,
+};
+
+// The slider and the list of speeds have keys of their own.
+function key(event) {
+  const own = event.target.closest('input, select');
+  if (own || event.ctrlKey || event.altKey || event.metaKey || !(event.key in KEYS)) return;
+  event.preventDefault();
+  go(KEYS[event.key]());
+}
+
+function onClick(actions) {
+  Object.entries(actions).forEach(([id, action]) => byId(id).addEventListener('click', action));
+}
+
+function start() {
+  byId('slider').max = last;
+  byId('slider').addEventListener('input', (event) => go(Number(event.target.value)));
+  onClick({
+    first: () => go(0),
+    previous: () => go(position - 1),
+    next: () => go(position + 1),
+    last: () => go(last),
+    play,
+  });
+  byId('speed').addEventListener('change', () => { if (timer !== null) { stop(); play(); } });
+  document.addEventListener('keydown', key);
+  window.addEventListener('hashchange', fromAddress);
+  if (svg) startPicture();
+  fromAddress();
+}
+
+function startPicture() {
+  nameLoads();
+  fit();
+  onClick({ smaller: () => setZoom(zoom / 1.25), larger: () => setZoom(zoom * 1.25), fit });
+}
+
+start();
