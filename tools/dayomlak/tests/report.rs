@@ -71,13 +71,12 @@ fn unbalanced_tags_are_found() {
     assert!(unbalanced("a</p>").is_some());
 }
 
-/// That a page needs nothing else. The names of SVG's language are no references.
+/// That a page needs nothing else. The name of SVG's language is no reference.
 fn stands_alone(page: &str) {
     assert_eq!(unbalanced(page), None);
-    for word in ["http://", "https://", "src=", "href=", "@import", "url("] {
-        let names = page.matches(word).count()
-            - page.replace("http://www.w3.org/", "").matches(word).count();
-        assert_eq!(page.matches(word).count(), names, "{word}");
+    let page = page.replace("http://www.w3.org/", "");
+    for word in ["http:", "https:", "src=", "href=", "@import", "url("] {
+        assert!(!page.contains(word), "{word}");
     }
 }
 
@@ -201,49 +200,32 @@ fn every_state_is_the_engines() {
 /// What `trace` says of a firing stands in the page, with the ideal step of its activity.
 #[test]
 fn firings_in_words() {
-    let text = "a: COPY -> c.0 b\nb: ADD 1 -> c.1\nc: SUB -> d\nd: OUT\ninput a = 4\n";
+    let text = "a: COPY -> c.0 b\nb: ADD 1 -> c.1\nc: SUB -> d\nd: OUT\nwrite: STORE\n\
+        input a = 4\ninput write.0 = 3\ninput write.1 = 9\n";
     let (_, page) = typed(text, &[]);
-    let firing = |name: &str, numbers: &str, words: &str, step: usize| {
-        format!("{{\"name\":\"{name}\",\"tag\":\"{numbers}\",\"at\":\"instruction-{step}\",\"words\":\"{words}\"")
-            .replace(&format!("instruction-{step}\""), &format!("instruction-{}\"", step - 1))
-            + &format!(",\"step\":{step}}}")
-    };
     let expected = [
-        firing(
-            "a[0]",
-            "path 0, iteration 0, instruction 0",
-            "COPY with 4 -\\u003e c[0].0 = 4, b[0] = 4",
-            1,
-        ),
-        firing(
-            "b[0]",
-            "path 0, iteration 0, instruction 1",
-            "ADD 1 with 4 -\\u003e c[0].1 = 5",
-            2,
-        ),
-        firing(
-            "c[0]",
-            "path 0, iteration 0, instruction 2",
-            "SUB with 4 and 5 -\\u003e d[0] = -1",
-            3,
-        ),
+        ("a[0]", 0, "COPY with 4 -\\u003e c[0].0 = 4, b[0] = 4", 1),
+        ("write[0]", 4, "STORE with 3 and 9: cell 3 := 9", 1),
+        ("b[0]", 1, "ADD 1 with 4 -\\u003e c[0].1 = 5", 2),
+        ("c[0]", 2, "SUB with 4 and 5 -\\u003e d[0] = -1", 3),
     ];
-    assert_eq!(
-        between(data(&page), "\"firings\":[", "],\"refused\""),
-        expected.join(",")
-    );
-    assert!(
-        data(&page).ends_with("\"steps\":[[1,2],[1,2],[1,1]]}"),
-        "{}",
-        data(&page)
-    );
+    let firings: Vec<String> = expected.map(|(name, number, words, step)| {
+        let tag = format!("path 0, iteration 0, instruction {number}");
+        // A STORE of two inputs and no arc stands in the table of loads.
+        let at = if name == "write[0]" { "load-0".to_string() } else { format!("instruction-{number}") };
+        format!("{{\"name\":\"{name}\",\"tag\":\"{tag}\",\"at\":\"{at}\",\"words\":\"{words}\",\"step\":{step}}}")
+    }).into();
+    let shown = between(data(&page), "\"firings\":[", "],\"refused\"");
+    assert_eq!(shown, firings.join(","));
+    assert!(data(&page).ends_with("\"steps\":[[2,2],[1,2],[1,1]]}"));
 }
 
 /// A token stands on the arc that it came by, where there are two to one instruction, and back from a call.
 #[test]
 fn tokens_stand_on_their_arcs() {
     let arcs = |text: &str| -> Vec<String> {
-        let (_, page) = typed(text, &[]);
+        // Graphviz writes a hyphen by its number.
+        let page = typed(text, &[]).1.replace("&#45;", "-");
         let arc = |item: &str| item.split_once('"').unwrap().0.to_string();
         let arcs: Vec<String> = data(&page).split("\"arc\":\"").skip(1).map(arc).collect();
         for arc in arcs.iter().filter(|arc| !arc.starts_with("load-")) {
@@ -314,7 +296,7 @@ fn a_refused_firing() {
     let refused = between(data(&page), "\"refused\":{", "},\"tokens\"");
     assert!(refused.starts_with("\"name\":\"new_s[0]\""), "{refused}");
     assert!(refused.contains("\"words\":\"refused by 9, second token\""));
-    assert!(refused.contains("\"operands\":[9,10]"), "{refused}");
+    assert!(refused.contains("\"operands\":[7,10]"), "{refused}");
     let words = between(&page, "<pre id=\"refusal\">", "</pre>");
     assert!(words.contains("past_next.ttda:23:16") && words.contains("had a token already"));
     assert!(page.contains(
@@ -350,17 +332,13 @@ fn refused_before_any_firing() {
 
 #[test]
 fn a_graph_too_large_is_not_drawn() {
-    let (done, page) = typed(&"SINK\n".repeat(257), &[]);
-    assert_eq!(done.status, 2, "{done:?}");
-    assert!(page.is_empty());
-    let folder = Folder::new();
-    folder.write("graph", [[2; 1].as_slice(), &[0; 15]].concat().repeat(257));
-    let (done, page) = report(&folder.path(""), &[]);
-    assert_eq!(done.status, 1);
-    assert!(
-        page.contains("Not drawn: no run takes more than 256 instructions"),
-        "{done:?}"
-    );
+    let words = "Not drawn: no run takes more than 256 instructions";
+    for (instructions, drawn) in [(256, true), (257, false)] {
+        let (done, page) = typed(&"SINK\n".repeat(instructions), &[]);
+        assert_eq!(done.status, i32::from(!drawn), "{instructions}");
+        assert_eq!(page.contains(words), !drawn, "{instructions}");
+        assert_eq!(page.contains("id=\"graph0\""), drawn, "{instructions}");
+    }
 }
 
 /// A profile that is refused is shown as far as it went.

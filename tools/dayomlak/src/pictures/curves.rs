@@ -9,6 +9,8 @@ use plotters::prelude::*;
 use crate::records::Step;
 
 const WIDTH: u32 = 900;
+/// The width of a curve beside other things.
+const NARROW: u32 = 560;
 const CHART: u32 = 210;
 const LINE: u32 = 18;
 const MARGIN: u32 = 16;
@@ -132,7 +134,7 @@ impl Curve {
     fn chart(&self, steps: &[Step]) -> Result<Chart, Box<dyn Error>> {
         let mut svg = String::new();
         let (across, down) = {
-            let backend = SVGBackend::with_string(&mut svg, (WIDTH - WIDTH / 4, CHART));
+            let backend = SVGBackend::with_string(&mut svg, (NARROW, CHART));
             let root = backend.into_drawing_area();
             let place = self.draw(&root, steps)?;
             root.present()?;

@@ -29,7 +29,7 @@ pub struct Drawing<'p> {
 }
 
 /// Room for tokens on the arcs.
-const WIDE: &str = "  graph [nodesep=0.45, ranksep=0.5];\n";
+const WIDE: &str = "  graph [nodesep=0.45, ranksep=0.6];\n";
 
 impl<'p> Drawing<'p> {
     fn new(program: &'p Program, ids: bool) -> Drawing<'p> {

@@ -60,15 +60,24 @@ impl<'d> Data<'d> {
     fn firings(&self) -> String {
         list(self.history.firings.iter().map(|firing| {
             let mut fields = self.activity(&firing.tag);
-            let operation = self.program.graph.get(firing.tag.instruction);
-            let operation = operation.map_or(String::new(), |i| i.words());
-            let operands = effects::operands(&self.history, firing).replace(' ', " and ");
-            let effects = effects::of(self.program, &self.history, firing);
-            let words = format!("{operation} with {operands} {effects}");
-            fields.push(("words", string(words.trim_end())));
+            fields.push(("words", string(&self.words(firing))));
             fields.push(("step", maybe(self.steps.of(&firing.tag))));
             object(&fields)
         }))
+    }
+
+    /// Operation, operands and what they lead to.
+    fn words(&self, firing: &Firing) -> String {
+        let operation = self.program.graph.get(firing.tag.instruction);
+        let operation = operation.map_or(String::new(), |i| i.words());
+        let operands = effects::operands(&self.history, firing).replace(' ', " and ");
+        let effects = effects::of(self.program, &self.history, firing);
+        let join = match effects.chars().next() {
+            None => "",
+            Some('-') => " ",
+            Some(_) => ": ",
+        };
+        format!("{operation} with {operands}{join}{effects}")
     }
 
     /// The name of an activity, its tag in numbers and the id of what is drawn of it.

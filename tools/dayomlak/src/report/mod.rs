@@ -98,7 +98,8 @@ pub fn page(run: &Run) -> Result<String, Failure> {
     let drawing = Drawing::with_ids(program);
     let steps = Steps::new(run.machine);
     let facts = run.facts().into_iter();
-    let facts = facts.map(|(name, words)| format!("<dt>{name}</dt><dd>{}</dd>", escaped(&words)));
+    let facts = facts
+        .map(|(name, words)| format!("<div><dt>{name}</dt><dd>{}</dd></div>", escaped(&words)));
     let left = results::lines(program, &run.end).join("\n");
     let kind = run.end.answer.words();
     let kind = kind.split(' ').next().unwrap_or_default().to_string();

@@ -33,11 +33,14 @@ function itemsAt(items, position) {
 }
 
 function stateAt(position) {
-  const tokens = itemsAt(data.tokens, position);
+  const refused = position > data.firings.length;
+  const operands = refused ? data.refused.operands : [];
+  const tokens = itemsAt(data.tokens, position)
+    .map((token) => ({ ...token, operand: operands.includes(token.number) }));
   return {
     position,
     firing: firingAt(position),
-    refused: position > data.firings.length,
+    refused,
     tokens: tokens.filter((token) => token.state !== 'spent'),
     spent: tokens.filter((token) => token.state === 'spent').length,
     cells: itemsAt(data.cells, position),
@@ -57,18 +60,28 @@ function showFiring(state) {
   const { firing, position } = state;
   const what = byId('what');
   what.className = state.refused ? 'refused' : '';
-  what.textContent = firingWords(state);
+  what.replaceChildren(...firingWords(state));
   byId('tag').textContent = firing ? firing.tag : '';
   byId('slider').value = position;
   byId('slider').setAttribute('aria-valuetext', what.textContent);
 }
 
+// The number and the name stand out.
 function firingWords({ firing, position, refused }) {
   const done = data.firings.length;
-  if (refused) return `Firing ${position}: ${firing.name} is ${firing.words}. This is the state that it found.`;
-  if (firing) return `Firing ${position} of ${done}: ${firing.name}, ${firing.words}`;
-  if (data.tokens.length === 0) return 'There is no token: nothing fires.';
-  return `The inputs, before the first of ${plural(done, 'firing')}`;
+  if (refused) {
+    const words = ` is ${firing.words}. This is the state that it found.`;
+    return [strong(`Firing ${position}: ${firing.name}`), words];
+  }
+  if (firing) return [strong(`Firing ${position} of ${done}: ${firing.name}`), `, ${firing.words}`];
+  if (data.tokens.length === 0) return ['There is no token: nothing fires.'];
+  return [`The inputs, before the first of ${plural(done, 'firing')}`];
+}
+
+function strong(words) {
+  const element = document.createElement('strong');
+  element.textContent = words;
+  return element;
 }
 
 /* Tables. */
@@ -92,6 +105,7 @@ function fillTable(id, items, rowOf) {
     more.className = 'more';
     rows.push(more);
   }
+  byId(id).classList.toggle('empty', items.length === 0);
   byId(id).tBodies[0].replaceChildren(...rows);
 }
 
@@ -102,6 +116,7 @@ function tokenRow(token) {
   const tr = row([token.number, token.name, value, state], [0, 2]);
   tr.dataset.record = `${token.key} ${token.value} ${token.state}`;
   tr.classList.toggle('fresh', token.fresh);
+  tr.classList.toggle('operand', token.operand);
   return tr;
 }
 
@@ -126,8 +141,9 @@ function showTables({ tokens, spent, cells }) {
     `${plural(tokens.length + spent, 'token')}: ${live} live, ${deferred.length} deferred, ${spent} spent`;
   fillTable('tokens', tokens, tokenRow);
   const present = cells.filter((cell) => cell.state === 'present').length;
-  byId('cell-counts').textContent =
-    `${present} present, ${cells.length - present} waiting; all others are absent`;
+  byId('cell-counts').textContent = cells.length === 0
+    ? 'All are absent'
+    : `${present} present, ${cells.length - present} waiting; all others are absent`;
   const readsOf = (cell) => deferred.filter((token) => token.value === cell.cell);
   fillTable('cells', cells, (cell) => cellRow(cell, readsOf(cell)));
 }
@@ -136,6 +152,7 @@ function showTables({ tokens, spent, cells }) {
 
 const graph = byId('graph');
 const svg = graph.querySelector('svg');
+const labels = svg ? [...svg.querySelectorAll('.edge text')].map((text) => text.getBBox()) : [];
 const badges = svg && svg.querySelector('.graph').appendChild(svgElement('g', {}));
 
 function svgElement(name, attributes) {
@@ -183,7 +200,7 @@ function showBadges(tokens) {
 
 const spots = new Map();
 
-// Where the tokens of an arc are shown: in its middle; at a load, beside its row; else on the instruction itself.
+// Where the tokens of an arc are shown: near its middle; at a load, beside its row; else on the instruction itself.
 function spot(id) {
   if (!spots.has(id)) spots.set(id, newSpot(id));
   return spots.get(id);
@@ -193,12 +210,27 @@ function newSpot(id) {
   const elements = drawn(id);
   if (elements.length === 0) return { x: 0, y: 0 };
   const path = elements[0].querySelector('path');
-  if (path && elements[0].classList.contains('edge')) {
-    return path.getPointAtLength(path.getTotalLength() / 2);
-  }
+  if (path && elements[0].classList.contains('edge')) return spotOnArc(path);
   const box = elements[elements.length - 1].getBBox();
   const beside = elements.length > 1 ? 16 : 0;
   return { x: box.x + box.width + beside, y: box.y + box.height / 2 };
+}
+
+// As near to the middle as labels, and the tokens of arcs that cross, leave room; else beside it.
+function spotOnArc(path) {
+  const length = path.getTotalLength();
+  const points = [0.5, 0.4, 0.6, 0.3, 0.7, 0.2, 0.8].map((part) => path.getPointAtLength(length * part));
+  const beside = [10, -10].flatMap((aside) => points.map(({ x, y }) => ({ x: x + aside, y })));
+  return [...points, ...beside].find(isFree) || points[0];
+}
+
+const HALF_BADGE = 7;
+
+function isFree({ x, y }) {
+  const far = (spot) => Math.hypot(spot.x - x, spot.y - y) > 2 * HALF_BADGE;
+  const beside = (box) => x + HALF_BADGE < box.x || x - HALF_BADGE > box.x + box.width ||
+    y + HALF_BADGE < box.y || y - HALF_BADGE > box.y + box.height;
+  return labels.every(beside) && [...spots.values()].every(far);
 }
 
 // One token shows its value, several their number; the tip names them.
@@ -207,10 +239,11 @@ function badge({ x, y }, group) {
   const deferred = token.state === 'deferred';
   const single = deferred ? '?' : String(token.value);
   const words = group.length > 1 ? `×${group.length}` : single;
-  const width = Math.max(13, 6 + 5.2 * words.length);
+  const width = Math.max(13, 7 + 5.4 * words.length);
   const element = svgElement('g', { class: 'token', transform: `translate(${x} ${y})` });
   element.classList.toggle('deferred', group.every(({ state }) => state === 'deferred'));
   element.classList.toggle('fresh', group.some(({ fresh }) => fresh));
+  element.classList.toggle('operand', group.some(({ operand }) => operand));
   const tip = svgElement('title', {});
   tip.textContent = tipOf(group);
   const text = svgElement('text', { y: 3 });
@@ -241,22 +274,25 @@ function keepInSight(element) {
   }
 }
 
-// Letters smaller than this are not read.
-const SMALLEST_FIT = 0.75;
+// Letters drawn smaller than this are hard to read.
+const SMALLEST = 0.75;
+// Pixels of a point, the unit of the picture.
+const POINT = 4 / 3;
 let zoom = 1;
 
 function setZoom(value) {
-  zoom = Math.min(4, Math.max(0.2, value));
+  zoom = Math.min(4, Math.max(0.1, value));
   const { width, height } = svg.viewBox.baseVal;
-  svg.setAttribute('width', width * zoom * 4 / 3);
-  svg.setAttribute('height', height * zoom * 4 / 3);
+  svg.setAttribute('width', width * zoom * POINT);
+  svg.setAttribute('height', height * zoom * POINT);
 }
 
-function fit() {
+// As large as the frame allows.
+function fit(smallest) {
   const { width, height } = svg.viewBox.baseVal;
-  const across = (graph.clientWidth - 4) / (width * 4 / 3);
-  const down = (graph.clientHeight - 8) / (height * 4 / 3);
-  setZoom(Math.max(SMALLEST_FIT, Math.min(across, down, 1.2)));
+  const across = (graph.clientWidth - 4) / (width * POINT);
+  const down = parseFloat(getComputedStyle(graph).maxHeight) / (height * POINT);
+  setZoom(Math.max(smallest, Math.min(across, down, 1.2)));
 }
 
 /* The curves. */
@@ -371,8 +407,12 @@ function start() {
 
 function startPicture() {
   nameLoads();
-  fit();
-  onClick({ smaller: () => setZoom(zoom / 1.25), larger: () => setZoom(zoom * 1.25), fit });
+  fit(SMALLEST);
+  onClick({
+    smaller: () => setZoom(zoom / 1.25),
+    larger: () => setZoom(zoom * 1.25),
+    fit: () => fit(0),
+  });
 }
 
 start();
