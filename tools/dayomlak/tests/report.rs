@@ -217,7 +217,7 @@ fn firings_in_words() {
     }).into();
     let shown = between(data(&page), "\"firings\":[", "],\"refused\"");
     assert_eq!(shown, firings.join(","));
-    assert!(data(&page).ends_with("\"steps\":[[2,2],[1,2],[1,1]]}"));
+    assert!(data(&page).contains("\"steps\":[[2,2],[1,2],[1,1]],"));
 }
 
 /// A token stands on the arc that it came by, where there are two to one instruction, and back from a call.
@@ -308,24 +308,26 @@ fn a_refused_firing() {
 #[test]
 fn refused_before_any_firing() {
     let cases = [
-        ("", "refused by 1, graph length"),
+        ("", "refused by 1, graph length", ""),
         (
             "a: OUT\ninput a = 1\ninput a = 2\n",
             "refused by 9, second token",
+            "input-1",
         ),
         (
             "a: raw 63 00 00 00 00 00 00 00 00 00 00 00 00 00 00 00\n",
             "refused by 2, unknown operation",
+            "instruction-0",
         ),
     ];
-    for (text, words) in cases {
+    for (text, words, fault) in cases {
         let (done, page) = typed(text, &[]);
         assert_eq!(done.status, 1);
         assert!(done.out.contains(words), "{done:?}");
         stands_alone(&page);
         assert!(between(&page, "<pre id=\"refusal\">", "</pre>").contains(words));
-        let empty = "{\"firings\":[],\"refused\":null,\"tokens\":[],\"cells\":[],\"steps\":[]}";
-        assert_eq!(data(&page), empty);
+        let empty = "{\"firings\":[],\"refused\":null,\"tokens\":[],\"cells\":[],\"steps\":[]";
+        assert_eq!(data(&page), format!("{empty},\"fault\":\"{fault}\"}}"));
         assert!(page.contains("<svg"));
     }
 }

@@ -11,12 +11,13 @@ use crate::graph::{Destination, LEAVE, SWITCH};
 use crate::history::{Firing, History};
 use crate::pictures::dot::{self, Drawing};
 use crate::program::Program;
-use crate::records::{Cell, Tag, Token};
+use crate::records::{self, Cell, Tag, Token};
 
 /// The data of a run. One that was refused before its inputs were written has no state.
 pub fn of(run: &Run, drawing: &Drawing, steps: &Steps) -> Result<String, Failure> {
     let whole = steps.whole.iter();
     let whole = whole.map(|step| format!("[{},{}]", step.firings, step.tokens));
+    let fault = fault(run, drawing).unwrap_or_default();
     let (firings, refused, tokens, cells) = match run.end.answer.refused_at_once() {
         true => (list([]), "null".to_string(), list([]), list([])),
         false => {
@@ -35,7 +36,22 @@ pub fn of(run: &Run, drawing: &Drawing, steps: &Steps) -> Result<String, Failure
         ("tokens", tokens),
         ("cells", cells),
         ("steps", list(whole)),
+        ("fault", string(&fault)),
     ]))
+}
+
+/// What is drawn of the instruction or the input that a run was refused for before any firing.
+fn fault(run: &Run, drawing: &Drawing) -> Option<String> {
+    let answer = &run.end.answer;
+    match answer.word {
+        Word::Refused(2..=5) => Some(drawing.instruction_id(answer.place as u16)),
+        Word::Refused(6 | 8 | 9) if answer.refused_at_once() => {
+            let inputs = records::tokens(&run.machine.program.files.inputs);
+            let instruction = inputs.get(answer.place)?.tag.instruction;
+            Some(drawing.input_id(answer.place, instruction))
+        }
+        _ => None,
+    }
 }
 
 struct Data<'d> {

@@ -100,7 +100,10 @@ pub fn page(run: &Run) -> Result<String, Failure> {
     let facts = run.facts().into_iter();
     let facts = facts
         .map(|(name, words)| format!("<div><dt>{name}</dt><dd>{}</dd></div>", escaped(&words)));
-    let left = results::lines(program, &run.end).join("\n");
+    let left = match results::lines(program, &run.end) {
+        lines if lines.is_empty() => "nothing".to_string(),
+        lines => lines.join("\n"),
+    };
     let kind = run.end.answer.words();
     let kind = kind.split(' ').next().unwrap_or_default().to_string();
     let parts = [
@@ -141,6 +144,9 @@ fn picture(run: &Run, drawing: &Drawing) -> Result<String, Failure> {
 }
 
 fn curves(steps: &Steps) -> Result<String, Failure> {
+    if steps.whole.is_empty() {
+        return Ok(String::new());
+    }
     let charts = curves::charts(&steps.whole);
     let charts = charts.map_err(|error| Failure::Inconsistent(format!("the curves: {error}")))?;
     Ok(charts.iter().map(figure).collect())

@@ -74,8 +74,13 @@ function firingWords({ firing, position, refused }) {
     return [strong(`Firing ${position}: ${firing.name}`), words];
   }
   if (firing) return [strong(`Firing ${position} of ${done}: ${firing.name}`), `, ${firing.words}`];
-  if (data.tokens.length === 0) return ['There is no token: nothing fires.'];
+  if (data.tokens.length === 0) return [nothing()];
   return [`The inputs, before the first of ${plural(done, 'firing')}`];
+}
+
+function nothing() {
+  const refused = byId('answer').classList.contains('refused');
+  return refused ? 'Refused before any firing: there is no token.' : 'There is no token: nothing fires.';
 }
 
 function strong(words) {
@@ -183,7 +188,7 @@ function showPicture(state) {
   const { firing, refused, tokens } = state;
   const here = firing ? [firing.at] : [];
   mark('fires', refused ? [] : here);
-  mark('refuses', refused ? here : []);
+  mark('refuses', refused ? here : [data.fault]);
   mark('sends', tokens.filter((token) => token.fresh).map((token) => token.arc));
   showBadges(tokens);
   if (firing) keepInSight(drawn(firing.at)[0]);
@@ -358,13 +363,15 @@ function stop() {
   clearInterval(timer);
   timer = null;
   byId('play').textContent = 'Play';
+  byId('firing').setAttribute('aria-live', 'polite');
 }
 
 function play() {
   if (timer !== null) return stop();
   if (position === last) show(0);
-  if (last === 0) return undefined;
   byId('play').textContent = 'Pause';
+  // Nobody can listen to firings at this pace.
+  byId('firing').setAttribute('aria-live', 'off');
   timer = setInterval(() => go(position + 1), Number(byId('speed').value));
   return undefined;
 }
@@ -390,6 +397,7 @@ function onClick(actions) {
 
 function start() {
   byId('slider').max = last;
+  byId('play').disabled = last === 0;
   byId('slider').addEventListener('input', (event) => go(Number(event.target.value)));
   onClick({
     first: () => go(0),
