@@ -162,38 +162,22 @@ fn a_page_carries_what_the_run_answers() {
 fn every_state_is_the_engines() {
     for name in EXAMPLES {
         let file = example(name);
-        let (_, page) = report(&file, &["--order", "random:3"]);
+        let order = ["--order", "random:3"];
+        let (_, page) = report(&file, &order);
+        let listing = |budget: usize| {
+            let options = ["--budget", &budget.to_string(), "--listing"];
+            dayomlak(&[&["run", &file], &order[..], &options].concat()).out
+        };
         let fired = between(data(&page), "\"firings\":[", ",\"refused\":");
         let firings = fired.matches("\"tag\":").count();
         for budget in 0..=firings {
-            let number = budget.to_string();
-            let run = dayomlak(&[
-                "run",
-                &file,
-                "--order",
-                "random:3",
-                "--budget",
-                &number,
-                "--listing",
-            ]);
-            let mut lines = run.out.lines();
-            let answer: Vec<&str> = lines.next().unwrap().split(' ').collect();
-            assert!(answer.contains(&&number[..]), "{name}: {answer:?}");
-            let mut lines: Vec<String> = lines.map(str::to_string).collect();
+            let listing = listing(budget);
+            let mut lines: Vec<&str> = listing.lines().skip(1).collect();
             lines.sort();
             assert_eq!(lines_at(&page, budget), lines, "{name}, {budget}");
         }
-        let next = (firings + 1).to_string();
-        let run = dayomlak(&[
-            "run",
-            &file,
-            "--order",
-            "random:3",
-            "--budget",
-            &next,
-            "--listing",
-        ]);
-        assert!(!run.out.starts_with("spent"), "{name}");
+        let more = |budget| listing(budget).starts_with("spent");
+        assert!(more(firings - 1) && !more(firings + 1), "{name}");
     }
 }
 

@@ -68,15 +68,20 @@ mod tests {
     const TEXT: &str = "read: FETCH -> out\nout: OUT\nwrite: STORE\n\
         input read = 3\ninput write.0 = 3\ninput write.1 = 7\n";
 
-    #[test]
-    fn a_deferred_read_in_three_states() {
-        let program = Program::typed("test", TEXT.as_bytes().to_vec()).unwrap();
+    /// The states that picks lead to, up to the end of a run of the text oldest first.
+    fn states(budget: u16, picks: &[u8]) -> Result<States, Failure> {
+        let program = Program::typed("test", TEXT.as_bytes().to_vec())?;
         let sizes = Sizes {
             capacity: 10,
             cells: 5,
         };
         let machine = Machine::new(&program, sizes);
-        let states = States::of(&machine, &[], &machine.run(&[], WHOLE)).unwrap();
+        States::of(&machine, picks, &machine.run(&[], budget))
+    }
+
+    #[test]
+    fn a_deferred_read_in_three_states() {
+        let states = states(WHOLE, &[]).unwrap();
         let token = |place: usize| {
             let changes = states.tokens[place].iter();
             let change = |(at, token): &(usize, Token)| (*at, token.state, token.value);
@@ -91,14 +96,7 @@ mod tests {
 
     #[test]
     fn states_of_another_run_are_noticed() {
-        let program = Program::typed("test", TEXT.as_bytes().to_vec()).unwrap();
-        let sizes = Sizes {
-            capacity: 10,
-            cells: 5,
-        };
-        let machine = Machine::new(&program, sizes);
-        let end = machine.run(&[], 1);
-        assert!(States::of(&machine, &[1, 0], &end).is_err());
-        assert!(States::of(&machine, &[0, 0], &end).is_ok());
+        assert!(states(1, &[1, 0]).is_err());
+        assert!(states(1, &[0, 0]).is_ok());
     }
 }
