@@ -415,6 +415,8 @@ function start() {
 
 function startPicture() {
   nameLoads();
+  // Each arc has its spot from the start, whatever way the slider goes.
+  new Set(data.tokens.map((token) => token.arc)).forEach(spot);
   fit(SMALLEST);
   onClick({
     smaller: () => setZoom(zoom / 1.25),
