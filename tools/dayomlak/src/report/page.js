@@ -414,6 +414,8 @@ function start() {
 }
 
 function startPicture() {
+  // Graphviz's own tips say nothing to a reader.
+  svg.querySelectorAll('title').forEach((title) => title.remove());
   nameLoads();
   // Each arc has its spot from the start, whatever way the slider goes.
   new Set(data.tokens.map((token) => token.arc)).forEach(spot);
