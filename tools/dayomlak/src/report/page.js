@@ -54,6 +54,20 @@ function firingAt(position) {
 
 const plural = (count, noun) => `${count} ${noun}${count === 1 ? '' : 's'}`;
 
+// Scrolls a frame, and not the page, until an element in it is in sight.
+function keepInSight(frame, element) {
+  if (!element) return;
+  const outer = frame.getBoundingClientRect();
+  const box = element.getBoundingClientRect();
+  const margin = 35;
+  if (box.left < outer.left + margin || box.right > outer.right - margin) {
+    frame.scrollLeft += (box.left + box.right - outer.left - outer.right) / 2;
+  }
+  if (box.top < outer.top + margin || box.bottom > outer.bottom - margin) {
+    frame.scrollTop += (box.top + box.bottom - outer.top - outer.bottom) / 2;
+  }
+}
+
 /* The firing in words. */
 
 function showFiring(state) {
@@ -112,6 +126,7 @@ function fillTable(id, items, rowOf) {
   }
   byId(id).classList.toggle('empty', items.length === 0);
   byId(id).tBodies[0].replaceChildren(...rows);
+  keepInSight(byId(id).parentElement, byId(id).querySelector('.fresh, .operand'));
 }
 
 function tokenRow(token) {
@@ -127,16 +142,22 @@ function tokenRow(token) {
 
 function cellRow(cell, reads) {
   const value = cell.state === 'present' ? cell.value : '';
-  const tr = row([cell.cell, cell.state, value, someNames(reads)], [0, 2]);
+  const tr = row([cell.cell, cell.state, value, some(reads.map(readWords)).join(', ')], [0, 2]);
   tr.dataset.record = `cell ${cell.cell} ${cell.state} ${cell.value}`;
   tr.classList.toggle('fresh', cell.fresh);
   return tr;
 }
 
-function someNames(tokens) {
-  const names = tokens.slice(0, MOST_NAMES).map((token) => token.name);
-  if (tokens.length > MOST_NAMES) names.push(`and ${tokens.length - MOST_NAMES} more`);
-  return names.join(', ');
+// A deferred token, and the FETCH that sent it when it arrived.
+function readWords(token) {
+  const [arrival] = token.changes[0];
+  return `${data.firings[arrival - 1].name} → ${token.name}`;
+}
+
+// The first words, and how many more there are.
+function some(words) {
+  if (words.length <= MOST_NAMES) return words;
+  return [...words.slice(0, MOST_NAMES), `and ${words.length - MOST_NAMES} more`];
 }
 
 function showTables({ tokens, spent, cells }) {
@@ -151,6 +172,25 @@ function showTables({ tokens, spent, cells }) {
     : `${present} present, ${cells.length - present} waiting; all others are absent`;
   const readsOf = (cell) => deferred.filter((token) => token.value === cell.cell);
   fillTable('cells', cells, (cell) => cellRow(cell, readsOf(cell)));
+}
+
+// The most tokens that are live or deferred at any position.
+function mostTokens() {
+  const arrived = new Array(last + 1).fill(0);
+  data.tokens.forEach(({ changes }) => {
+    arrived[changes[0][0]] += 1;
+    const [end, state] = changes[changes.length - 1];
+    if (state === 'spent') arrived[end] -= 1;
+  });
+  let now = 0;
+  return Math.max(...arrived.map((more) => { now += more; return now; }));
+}
+
+// Keeps the room that a table will need, as far as it may grow, so that nothing jumps while the slider moves.
+function keepRoom(id, rows) {
+  const frame = byId(id).parentElement;
+  const height = rows === 0 ? 0 : 1.75 * (rows + 1);
+  frame.style.minHeight = `min(${height}rem, ${getComputedStyle(frame).maxHeight})`;
 }
 
 /* The picture. */
@@ -191,7 +231,7 @@ function showPicture(state) {
   mark('refuses', refused ? here : [data.fault]);
   mark('sends', tokens.filter((token) => token.fresh).map((token) => token.arc));
   showBadges(tokens);
-  if (firing) keepInSight(drawn(firing.at)[0]);
+  if (firing) keepInSight(graph, drawn(firing.at)[0]);
 }
 
 function showBadges(tokens) {
@@ -260,23 +300,7 @@ function badge({ x, y }, group) {
 function tipOf(group) {
   const words = ({ name, value, state }) =>
     state === 'deferred' ? `${name} waits for cell ${value}` : `${name} = ${value}`;
-  const lines = group.slice(0, MOST_NAMES).map(words);
-  if (group.length > MOST_NAMES) lines.push(`and ${group.length - MOST_NAMES} more`);
-  return lines.join('\n');
-}
-
-// Scrolls the picture, and not the page, until an element is in sight.
-function keepInSight(element) {
-  if (!element) return;
-  const frame = graph.getBoundingClientRect();
-  const box = element.getBoundingClientRect();
-  const margin = 40;
-  if (box.left < frame.left + margin || box.right > frame.right - margin) {
-    graph.scrollLeft += (box.left + box.right - frame.left - frame.right) / 2;
-  }
-  if (box.top < frame.top + margin || box.bottom > frame.bottom - margin) {
-    graph.scrollTop += (box.top + box.bottom - frame.top - frame.bottom) / 2;
-  }
+  return some(group.map(words)).join('\n');
 }
 
 // Letters drawn smaller than this are hard to read.
@@ -409,6 +433,8 @@ function start() {
   byId('speed').addEventListener('change', () => { if (timer !== null) { stop(); play(); } });
   document.addEventListener('keydown', key);
   window.addEventListener('hashchange', fromAddress);
+  keepRoom('tokens', mostTokens());
+  keepRoom('cells', data.cells.length);
   if (svg) startPicture();
   fromAddress();
 }
