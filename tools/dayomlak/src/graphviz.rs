@@ -9,7 +9,7 @@ use crate::failure::Failure;
 pub fn svg(text: &str) -> Result<Vec<u8>, Failure> {
     let failed = |error: io::Error| match error.kind() {
         io::ErrorKind::NotFound => {
-            let words = "Graphviz is not installed (on Debian: apt-get install graphviz); --dot prints its text";
+            let words = "Graphviz is not installed (on Debian: apt-get install graphviz); `draw --dot` prints its text";
             Failure::File(
                 "dot".to_string(),
                 io::Error::new(io::ErrorKind::NotFound, words),

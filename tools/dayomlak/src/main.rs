@@ -6,6 +6,7 @@ mod cache;
 mod cli;
 mod commands;
 mod diagnostics;
+mod effects;
 mod engine;
 mod failure;
 mod graph;
@@ -21,6 +22,7 @@ mod program;
 mod records;
 mod refusals;
 mod refused;
+mod report;
 mod results;
 mod warnings;
 
@@ -38,6 +40,7 @@ fn main() -> ExitCode {
         Command::Compare(args) => commands::compare::compare(args),
         Command::Trace(args) => commands::trace::trace(args),
         Command::Profile(args) => commands::profile::profile(args),
+        Command::Report(args) => commands::report::report(args),
         Command::Draw(args) => commands::draw::draw(args),
         Command::Log(args) => commands::logs::log(args),
         Command::Replay(args) => commands::logs::replay(args),

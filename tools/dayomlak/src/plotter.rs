@@ -4,7 +4,7 @@
 //! hangs, that is enough: by demand 3 every order then leaves the same listing, and the profile takes no order. A run that
 //! is spent or refused depends on its order, so that picks and budget must be the same as well.
 
-use crate::answer::Answer;
+use crate::answer::{count, Answer};
 use crate::cache;
 use crate::failure::Failure;
 use crate::machine::{End, Machine};
@@ -82,4 +82,14 @@ pub fn plot(machine: &Machine, order: Order, budget: u16) -> Result<Plot, Failur
     };
     cache::save(&plot);
     Ok(plot)
+}
+
+/// How a profile ended, in words.
+pub fn ended(steps: &[Step], answer: &Answer) -> String {
+    let steps = count(steps.len(), "ideal step");
+    let (words, counts) = (answer.words(), answer.counts());
+    match answer.ended() {
+        true => format!("{steps}, then {words}: {counts}"),
+        false => format!("{steps}, then {words} in the next step: {counts}"),
+    }
 }

@@ -6,9 +6,9 @@ use std::fs;
 
 use common::{command, dayomlak, done, typed, Folder};
 
-const COMMANDS: [&str; 11] = [
-    "run", "check", "compare", "trace", "profile", "draw", "log", "replay", "asm", "disasm",
-    "explain",
+const COMMANDS: [&str; 12] = [
+    "run", "check", "compare", "trace", "profile", "report", "draw", "log", "replay", "asm",
+    "disasm", "explain",
 ];
 
 #[test]
@@ -81,7 +81,7 @@ fn files_that_cannot_be_read() {
 #[test]
 fn files_that_cannot_be_written() {
     let file = "examples/call/call.ttda";
-    for name in ["profile", "draw", "log"] {
+    for name in ["profile", "report", "draw", "log"] {
         let done = dayomlak(&[name, file, "-o", "no/such/folder/x"]);
         assert_eq!((done.status, &done.out[..]), (3, ""), "{name}");
     }

@@ -1,7 +1,6 @@
 //! `dayomlak profile`.
 
 use super::{answer, load, status};
-use crate::answer::count;
 use crate::cli::Profile;
 use crate::failure::Failure;
 use crate::machine::Machine;
@@ -32,25 +31,11 @@ pub fn profile(args: &Profile) -> Result<u8, Failure> {
     let order = format!("{}, {}", plot.order, pictures::date(plot.seconds));
     text += &format!(
         "{}\n{}",
-        profiled(&plot),
+        plotter::ended(&plot.steps, &plot.profiled),
         answer(&machine, &plot.end, &order)
     );
     output::print(text.as_bytes())?;
     Ok(status(&plot.end))
-}
-
-/// How the profile ended, in words.
-fn profiled(plot: &Plot) -> String {
-    let steps = count(plot.steps.len(), "ideal step");
-    let answer = &plot.profiled;
-    match answer.ended() {
-        true => format!("{steps}, then {}: {}", answer.words(), answer.counts()),
-        false => format!(
-            "{steps}, then {} in the next step: {}",
-            answer.words(),
-            answer.counts()
-        ),
-    }
 }
 
 fn picture(program: &Program, plot: &Plot) -> curves::Picture {
@@ -72,7 +57,7 @@ fn picture(program: &Program, plot: &Plot) -> curves::Picture {
                 request.capacity, request.cells
             ),
             run,
-            profiled(plot),
+            plotter::ended(&plot.steps, &plot.profiled),
         ],
         steps: plot.steps.clone(),
         left: results::lines(program, &plot.end),
