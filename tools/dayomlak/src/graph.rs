@@ -143,7 +143,7 @@ impl Graph {
     }
 
     /// The constant of a LEAVE.
-    fn leave(&self, number: u16) -> Option<i32> {
+    pub fn leave(&self, number: u16) -> Option<i32> {
         let instruction = self.get(number).filter(|i| i.code == LEAVE)?;
         Some(instruction.constant)
     }
@@ -157,12 +157,23 @@ impl Graph {
 
     /// What can be reached from an instruction within its call. An inner call is passed over: it may return by any LEAVE
     /// of the graph.
-    fn reached(&self, from: u16) -> BTreeSet<u16> {
+    pub fn reached(&self, from: u16) -> BTreeSet<u16> {
+        self.reached_by(from, |_| true)
+    }
+
+    /// What can be reached within one iteration: no further than to a NEXT.
+    pub fn reached_under_one_tag(&self, from: u16) -> BTreeSet<u16> {
+        self.reached_by(from, |instruction| instruction.code != NEXT)
+    }
+
+    /// What can be reached by way of instructions that let a token pass.
+    fn reached_by(&self, from: u16, passes: impl Fn(&Instruction) -> bool) -> BTreeSet<u16> {
         let leaves: BTreeSet<i32> = (0..self.instructions.len() as u16)
             .filter_map(|number| self.leave(number))
             .collect();
         let next = |number: u16| -> Vec<u16> {
-            match self.get(number).map(|i| (i.call(), i.arcs())) {
+            let instruction = self.get(number).filter(|i| passes(i));
+            match instruction.map(|i| (i.call(), i.arcs())) {
                 Some((Some([_, back]), _)) => {
                     let back = back.instruction;
                     let ends = leaves.iter().filter_map(|leave| self.behind(back, *leave));

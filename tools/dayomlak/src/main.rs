@@ -1,6 +1,7 @@
 //! `dayomlak`: the tagged-token dataflow machine for the people who use it. Every firing, listing, profile, log and bound
 //! that it shows is the proved engine's; what is here reads text, chooses picks, names, draws and explains.
 
+mod activity;
 mod answer;
 mod cache;
 mod cli;
@@ -24,6 +25,7 @@ mod refusals;
 mod refused;
 mod report;
 mod results;
+mod second_token;
 mod warnings;
 
 use std::process::ExitCode;
