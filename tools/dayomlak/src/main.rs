@@ -13,6 +13,7 @@ mod failure;
 mod graph;
 mod graphviz;
 mod history;
+mod loads;
 mod machine;
 mod newest;
 mod orders;

@@ -85,6 +85,11 @@ impl Program {
         }
     }
 
+    /// Whether an instruction is the STORE of a line such as `cell 3 = 7`. Its name has a space, as no typed one has.
+    pub fn is_cell_line(&self, instruction: u16) -> bool {
+        self.name(instruction).contains(' ')
+    }
+
     /// A tag by names: `start[0]/call1[0]/n[0]`, each call by an ENTER of its site.
     pub fn tag(&self, tag: &Tag) -> String {
         let mut words = String::new();

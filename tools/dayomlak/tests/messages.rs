@@ -23,13 +23,31 @@ fn a_byte_order_mark_is_skipped() {
     );
 }
 
+/// What the run wrote comes before what was typed; a cell that was not loaded yet is not counted.
 #[test]
-fn cells_are_loaded() {
-    let text = "read: FETCH -> out\nout: OUT\ncell 3 = 7\ninput read = 3\n";
+fn loaded_cells_are_counted() {
+    let text = "read: FETCH -> write.1 out\nwrite: STORE\nout: OUT\ncell 3 = 7\ncell 4 = 8\ninput read = 3\ninput write.0 = 9\n";
     let done = typed(text, &["run", "-"]);
     assert_eq!(
         done.out,
-        "completed: 2 firings, 4 tokens, oldest first\nout[0] = 7\ncell 3 = 7\n"
+        "completed: 4 firings, 8 tokens, oldest first\nout[0] = 7\ncell 9 = 7\n(2 loaded cells)\n"
+    );
+    let done = typed(text, &["run", "-", "--budget", "1"]);
+    assert!(
+        done.out.ends_with("tokens under way)\n(1 loaded cell)\n"),
+        "{done:?}"
+    );
+}
+
+/// A cell that a loading STORE came too late for is not a loaded one.
+#[test]
+fn a_cell_that_the_run_wrote_before_it_was_loaded() {
+    let text = "write: STORE\none: COPY -> write.1\ncell 3 = 7\ninput write.0 = 3\ninput one = 5\npicks 1 1\n";
+    let done = typed(text, &["run", "-"]);
+    assert!(done.out.contains("refused by 11, second write"), "{done:?}");
+    assert!(
+        done.out.contains("\ncell 3 = 5\n") && !done.out.contains("loaded"),
+        "{done:?}"
     );
 }
 

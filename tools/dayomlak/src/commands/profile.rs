@@ -27,15 +27,19 @@ pub fn profile(args: &Profile) -> Result<u8, Failure> {
         }
         None => text += &table(&plot.steps),
     }
+    text += &words(&program, &plot).join("\n");
     // The run may be an earlier one, from the cache: its date says so.
     let order = format!("{}, {}", plot.order, pictures::date(plot.seconds));
-    text += &format!(
-        "{}\n{}",
-        plotter::ended(&plot.steps, &plot.profiled),
-        answer(&machine, &plot.end, &order)
-    );
+    text += &format!("\n{}", answer(&machine, &plot.end, &order));
     output::print(text.as_bytes())?;
     Ok(status(&plot.end))
+}
+
+/// How the profile ended, and what its first step has besides.
+fn words(program: &Program, plot: &Plot) -> Vec<String> {
+    let ended = plotter::ended(&plot.steps, &plot.profiled);
+    let loading = plotter::loading(program, &plot.steps);
+    [Some(ended), loading].into_iter().flatten().collect()
 }
 
 fn picture(program: &Program, plot: &Plot) -> curves::Picture {
@@ -49,16 +53,17 @@ fn picture(program: &Program, plot: &Plot) -> curves::Picture {
     if let Some(firing) = refused::which(program, &plot.end) {
         run += &format!(", in {firing}");
     }
+    let mut facts = vec![
+        format!(
+            "graph and inputs {fingerprint}, capacity {}, {} cells",
+            request.capacity, request.cells
+        ),
+        run,
+    ];
+    facts.extend(words(program, plot));
     curves::Picture {
         title: program.label.clone(),
-        facts: vec![
-            format!(
-                "graph and inputs {fingerprint}, capacity {}, {} cells",
-                request.capacity, request.cells
-            ),
-            run,
-            plotter::ended(&plot.steps, &plot.profiled),
-        ],
+        facts,
         steps: plot.steps.clone(),
         left: results::lines(program, &plot.end),
     }
