@@ -102,10 +102,14 @@ pub fn loading(program: &Program, steps: &[Step]) -> Option<String> {
 
 /// How a profile ended, in words.
 pub fn ended(steps: &[Step], answer: &Answer) -> String {
-    let steps = count(steps.len(), "ideal step");
     let (words, counts) = (answer.words(), answer.counts());
+    if answer.refused_at_once() {
+        return format!("{words}, before the first ideal step");
+    }
+    let count = count(steps.len(), "ideal step");
     match answer.ended() {
-        true => format!("{steps}, then {words}: {counts}"),
-        false => format!("{steps}, then {words} in the next step: {counts}"),
+        true => format!("{count}, then {words}: {counts}"),
+        false if steps.is_empty() => format!("{words}, in the first ideal step: {counts}"),
+        false => format!("{count}, then {words}, in the next step: {counts}"),
     }
 }

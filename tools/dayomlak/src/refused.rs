@@ -6,7 +6,7 @@ use crate::diagnostics::Finding;
 use crate::graph::STORE;
 use crate::machine::{End, Sizes};
 use crate::program::Program;
-use crate::records::{self, State, Token};
+use crate::records::{self, State, Tag, Token};
 use crate::{refusals, second_token};
 
 /// The finding of a refused run; `None` for another one.
@@ -62,7 +62,7 @@ fn at_once(program: &Program, number: u16, answer: &Answer, sizes: Sizes) -> Fin
                 count(sizes.capacity, "record")
             )),
         9 => second_input(program, place, finding),
-        1 if program.files.graph.is_empty() => finding.note("there is no instruction"),
+        1 if program.files.graph.is_empty() => finding.note(program.emptiness()),
         _ => finding.note(meaning),
     }
 }
@@ -119,9 +119,13 @@ impl<'p> Refused<'p> {
             .note(format!("before it: {}, {order}", self.answer.counts()))
     }
 
-    /// What the table says to do.
+    /// What the table says to do, or the part of it that fits.
     fn what_to_do(&self) -> &'static str {
-        refusals::by_number(self.number).map_or("", |refusal| refusal.what_to_do)
+        match self.number {
+            12 if self.divides_by_zero() => "Guard the division by a SWITCH.",
+            12 => "Values are -2,147,483,648 to 2,147,483,647; look where the operands come from.",
+            number => refusals::by_number(number).map_or("", |refusal| refusal.what_to_do),
+        }
     }
 
     fn operand_words(&self) -> String {
@@ -140,10 +144,20 @@ impl<'p> Refused<'p> {
         if self.number == 9 {
             return second_token::explain(finding, &self.activity, &self.tokens);
         }
-        let here = self
-            .program
-            .span(usize::from(self.activity.tag.instruction));
-        finding.at(here, self.obstacle()).note(self.what_to_do())
+        let here = self.program.span(self.activity.tag.instruction.into());
+        let finding = finding.at(here, self.obstacle()).note(self.what_to_do());
+        match self.other_writer() {
+            Some(writer) => finding.also(self.program.span(writer.into()), "the first write"),
+            None => finding,
+        }
+    }
+
+    /// The instruction that made the first of two writes, if it is another one.
+    fn other_writer(&self) -> Option<u16> {
+        let cell = self.activity.operands.first();
+        let cell = cell.filter(|_| self.number == 11)?;
+        let writer = self.writer(*cell)?.instruction;
+        (writer != self.activity.tag.instruction).then_some(writer)
     }
 
     /// What stood in the way.
@@ -178,32 +192,35 @@ impl<'p> Refused<'p> {
     }
 
     fn second_write(&self, cell: i32) -> String {
-        let is_store = |t: &&Token| {
-            self.program
-                .graph
-                .get(t.tag.instruction)
-                .is_some_and(|i| i.code == STORE)
-        };
-        let spent = |t: &&Token| t.state == State::Spent && t.port == 0 && t.value == cell;
-        match self.tokens.iter().filter(is_store).find(spent) {
-            Some(writer) => format!(
-                "cell {cell} was written by `{}`",
-                self.program.tag(&writer.tag)
-            ),
+        match self.writer(cell) {
+            Some(writer) => format!("cell {cell} was written by `{}`", self.program.tag(&writer)),
             None => format!("cell {cell} has a value already"),
         }
     }
 
+    /// The STORE that wrote a cell.
+    fn writer(&self, cell: i32) -> Option<Tag> {
+        let graph = &self.program.graph;
+        let wrote = |t: &&Token| t.state == State::Spent && t.port == 0 && t.value == cell;
+        let code = |t: &Token| graph.get(t.tag.instruction).map(|i| i.code);
+        let mut stores = self.tokens.iter().filter(|t| code(t) == Some(STORE));
+        stores.find(wrote).map(|t| t.tag)
+    }
+
     fn out_of_range(&self) -> String {
-        let divides = matches!(self.activity.instruction.code, 19 | 20 | 35 | 36);
-        let divisor = match self.activity.instruction.code {
-            35 | 36 => Some(&self.activity.instruction.constant),
-            _ => self.activity.operands.get(1),
-        };
-        match divides && divisor == Some(&0) {
+        match self.divides_by_zero() {
             true => "the divisor is 0".to_string(),
             false => "the result does not fit in 32 signed bits".to_string(),
         }
+    }
+
+    fn divides_by_zero(&self) -> bool {
+        let divisor = match self.activity.instruction.code {
+            19 | 20 => self.activity.operands.get(1),
+            35 | 36 => Some(&self.activity.instruction.constant),
+            _ => None,
+        };
+        divisor == Some(&0)
     }
 
     fn no_return(&self) -> String {

@@ -210,6 +210,37 @@ fn every_number_is_explained() {
     }
 }
 
+/// A cell that two lines load: both are shown.
+#[test]
+fn two_writes_by_their_lines() {
+    let done = typed("cell 3 = 7\ncell 4 = 8\ncell 3 = 9\n", &["run", "-"]);
+    let lines = "1 | cell 3 = 7\n  | ---------- the first write\n2 | cell 4 = 8\n3 | cell 3 = 9\n";
+    assert!(done.out.contains(lines), "{done:?}");
+}
+
+/// A profile without a step has no table.
+#[test]
+fn profiles_without_a_step() {
+    let cases = [
+        (
+            "",
+            "refused by 1, graph length, before the first ideal step\nerror:",
+        ),
+        (
+            "a: COPY -> a\ninput a = 1\n",
+            "refused by 9, second token, in the first ideal step: 0 firings, 1 token\nerror:",
+        ),
+        (
+            "a: OUT\ninput a = 1\n",
+            "0 ideal steps, then completed: 0 firings, 1 token\ncompleted",
+        ),
+    ];
+    for (text, start) in cases {
+        let done = typed(text, &["profile", "-"]);
+        assert!(done.out.starts_with(start), "{done:?}");
+    }
+}
+
 #[test]
 fn a_procedure_run_by_itself() {
     let text = "n: MUL 2 -> back\nback: LEAVE 0\ninput n = 4\n";

@@ -25,6 +25,7 @@ pub fn profile(args: &Profile) -> Result<u8, Failure> {
             let svg = svg.map_err(|e| Failure::Inconsistent(format!("the picture: {e}")))?;
             output::write(path, svg.as_bytes())?;
         }
+        None if plot.steps.is_empty() => {}
         None => text += &table(&plot.steps),
     }
     text += &words(&program, &plot).join("\n");
