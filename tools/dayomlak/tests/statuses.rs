@@ -103,6 +103,25 @@ fn files_that_cannot_be_written() {
     }
 }
 
+/// A name that promises another form than SVG would mislead; the text for Graphviz may have any name.
+#[test]
+fn pictures_of_another_form() {
+    let folder = Folder::new();
+    let picture = folder.path("x.PNG");
+    let file = "examples/call/call.ttda";
+    for name in ["draw", "profile"] {
+        let done = dayomlak(&[name, file, "-o", &picture]);
+        assert_eq!((done.status, &done.out[..]), (2, ""), "{name}");
+        let words = "pictures are drawn as SVG\n  name it ";
+        assert!(
+            done.err.contains(words) && done.err.ends_with("x.svg\n"),
+            "{done:?}"
+        );
+    }
+    assert!(!std::path::Path::new(&picture).exists());
+    assert_eq!(dayomlak(&["draw", file, "--dot", "-o", &picture]).status, 0);
+}
+
 /// A folder has the files of a graph; the text beside them, or without them, is given by its own name.
 #[test]
 fn a_folder_without_files() {

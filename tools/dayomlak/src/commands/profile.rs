@@ -15,6 +15,9 @@ use crate::{refused, results};
 const BAR: usize = 30;
 
 pub fn profile(args: &Profile) -> Result<u8, Failure> {
+    if let Some(path) = &args.output {
+        pictures::check_name(path)?;
+    }
     let program = load(&args.file.file)?;
     let machine = Machine::new(&program, args.buffers.sizes());
     let plot = plotter::plot(&machine, args.firing.order, args.firing.budget)?;
