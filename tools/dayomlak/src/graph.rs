@@ -158,22 +158,11 @@ impl Graph {
     /// What can be reached from an instruction within its call. An inner call is passed over: it may return by any LEAVE
     /// of the graph.
     pub fn reached(&self, from: u16) -> BTreeSet<u16> {
-        self.reached_by(from, |_| true)
-    }
-
-    /// What can be reached within one iteration: no further than to a NEXT.
-    pub fn reached_under_one_tag(&self, from: u16) -> BTreeSet<u16> {
-        self.reached_by(from, |instruction| instruction.code != NEXT)
-    }
-
-    /// What can be reached by way of instructions that let a token pass.
-    fn reached_by(&self, from: u16, passes: impl Fn(&Instruction) -> bool) -> BTreeSet<u16> {
         let leaves: BTreeSet<i32> = (0..self.instructions.len() as u16)
             .filter_map(|number| self.leave(number))
             .collect();
-        let next = |number: u16| -> Vec<u16> {
-            let instruction = self.get(number).filter(|i| passes(i));
-            match instruction.map(|i| (i.call(), i.arcs())) {
+        closure(from, |number| {
+            match self.get(number).map(|i| (i.call(), i.arcs())) {
                 Some((Some([_, back]), _)) => {
                     let back = back.instruction;
                     let ends = leaves.iter().filter_map(|leave| self.behind(back, *leave));
@@ -182,12 +171,26 @@ impl Graph {
                 Some((None, arcs)) => arcs.iter().map(|arc| arc.instruction).collect(),
                 None => Vec::new(),
             }
-        };
-        let mut reached = BTreeSet::from([from]);
-        let mut open = vec![from];
-        while let Some(number) = open.pop() {
-            open.extend(next(number).into_iter().filter(|end| reached.insert(*end)));
-        }
-        reached
+        })
     }
+
+    /// What tokens can come to from an instruction under its own tag: no further than to a NEXT, and past the calls that
+    /// return.
+    pub fn reached_under_one_tag(&self, from: u16) -> BTreeSet<u16> {
+        closure(from, |number| match self.get(number) {
+            Some(i) if i.code == ENTER => self.returns_of(number.into()).into_iter().collect(),
+            Some(i) if i.code != NEXT => i.arcs().iter().map(|arc| arc.instruction).collect(),
+            _ => Vec::new(),
+        })
+    }
+}
+
+/// All that follows an instruction, itself included.
+fn closure(from: u16, next: impl Fn(u16) -> Vec<u16>) -> BTreeSet<u16> {
+    let mut reached = BTreeSet::from([from]);
+    let mut open = vec![from];
+    while let Some(number) = open.pop() {
+        open.extend(next(number).into_iter().filter(|end| reached.insert(*end)));
+    }
+    reached
 }

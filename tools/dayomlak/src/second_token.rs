@@ -8,6 +8,9 @@ use crate::graph::{ENTER, LEAVE, NEXT};
 use crate::program::Program;
 use crate::records::{State, Tag, Token};
 
+const ONE_TOKEN: &str =
+    "under one tag a port takes one token: let them end at two ports, or choose one by a SWITCH";
+
 /// Marks the arc of a refused activity whose end has a token already, and says what to do.
 pub fn explain(finding: Finding, activity: &Activity, tokens: &[Token]) -> Finding {
     let mut before: Vec<Port> = Vec::new();
@@ -104,7 +107,13 @@ impl Meeting<'_> {
         };
         let words = format!("`{name}` had a token already: {state}");
         let finding = finding.at(self.second.span(self.program), words);
-        let finding = match &self.first {
+        let finding = self.mark_first(finding);
+        self.notes().into_iter().fold(finding, Finding::note)
+    }
+
+    /// Marks where the first token came from, unless that is marked already.
+    fn mark_first(&self, finding: Finding) -> Finding {
+        match &self.first {
             Way::Input(number) => {
                 let span = self.program.input_span(*number);
                 finding.also(span, "the first token came by this input")
@@ -117,22 +126,33 @@ impl Meeting<'_> {
                 finding.also(arc.span(self.program), "the first token came by this arc")
             }
             Way::Unknown => finding,
-        };
-        let (cause, remedy) = self.cause_and_remedy();
-        finding.note(cause).note(remedy)
+        }
     }
 
-    fn cause_and_remedy(&self) -> (String, String) {
+    /// Why the two tokens met, and what to do.
+    fn notes(&self) -> Vec<String> {
         if let Some(arc) = self.closing() {
-            return self.loop_without_next(&arc);
+            return self.loop_without_next(&arc).into();
         }
         match &self.first {
-            Way::Arc(first) => match (self.code(first), self.code(&self.second)) {
-                (LEAVE, LEAVE) => self.two_leave(first),
-                (ENTER, ENTER) => self.two_enter(first),
-                _ => (self.two_ways(), self.one_token()),
-            },
-            _ => (self.two_ways(), self.one_token()),
+            Way::Arc(first) if self.code(first) == LEAVE && self.code(&self.second) == LEAVE => {
+                self.two_leave(first).into()
+            }
+            Way::Arc(first) if self.code(first) == ENTER && self.code(&self.second) == ENTER => {
+                self.two_enter(first).into()
+            }
+            _ => {
+                let notes = [self.two_ways(), ONE_TOKEN.to_string()];
+                notes.into_iter().chain(self.call_or_loop()).collect()
+            }
+        }
+    }
+
+    /// The arcs that the two tokens came by, the second's first.
+    fn arcs(&self) -> Vec<Arc> {
+        match &self.first {
+            Way::Arc(first) => vec![self.second, *first],
+            _ => vec![self.second],
         }
     }
 
@@ -141,58 +161,51 @@ impl Meeting<'_> {
         instruction.map_or(0, |i| i.code)
     }
 
-    /// The arc, of the two, from which a token goes round and comes to its own tag again.
+    /// The arc, of the two, by which a token goes round and comes to its own tag again.
     fn closing(&self) -> Option<Arc> {
-        let first = match &self.first {
-            Way::Arc(arc) => Some(*arc),
-            _ => None,
-        };
-        let arcs = [Some(self.second), first].into_iter().flatten();
-        let round = self
-            .program
-            .graph
-            .reached_under_one_tag(self.port.0.instruction);
+        let graph = &self.program.graph;
+        let round = graph.reached_under_one_tag(self.port.0.instruction);
         let stays = |arc: &Arc| !matches!(self.code(arc), NEXT | ENTER | LEAVE);
-        let mut arcs = arcs.filter(stays);
-        arcs.find(|arc| round.contains(&arc.from.instruction))
+        let closes = |arc: &Arc| stays(arc) && round.contains(&arc.from.instruction);
+        self.arcs().into_iter().find(closes)
     }
 
-    fn loop_without_next(&self, arc: &Arc) -> (String, String) {
+    fn loop_without_next(&self, arc: &Arc) -> [String; 2] {
         let (from, end) = (self.name(arc), self.end_words());
-        (
+        [
             format!("the arc `{from}` -> `{end}` closes a loop without NEXT, so that two passes share a tag"),
             format!("let it go by a NEXT: `{from}: ... -> n` and `n: NEXT -> {end}`"),
-        )
+        ]
     }
 
-    fn two_leave(&self, first: &Arc) -> (String, String) {
+    fn two_leave(&self, first: &Arc) -> [String; 2] {
         let (one, other, end) = (self.name(first), self.name(&self.second), self.end_words());
         if first.from.path != self.second.from.path {
-            return (
+            return [
                 format!("two calls return to `{end}`"),
                 "give each call a return of its own".to_string(),
-            );
+            ];
         }
         if one != other {
-            return (
+            return [
                 format!("`{one}` and `{other}` leave one call for `{end}`"),
                 "give each LEAVE a constant of its own".to_string(),
-            );
+            ];
         }
         let (pass, later) = (first.from.iteration, self.second.from.iteration);
-        (
+        [
             format!("`{one}` leaves one call in two iterations, {pass} and {later}"),
             "let only one pass come to it, by a SWITCH".to_string(),
-        )
+        ]
     }
 
-    fn two_enter(&self, first: &Arc) -> (String, String) {
+    fn two_enter(&self, first: &Arc) -> [String; 2] {
         let (one, other, end) = (self.name(first), self.name(&self.second), self.end_words());
         let (_, site) = self.port.0.left();
-        (
+        [
             format!("`{one}` and `{other}` enter `{end}` by one site, {site}"),
             "give each call a site of its own".to_string(),
-        )
+        ]
     }
 
     /// The two ways to the port, in a graph or a call where neither goes round.
@@ -212,23 +225,25 @@ impl Meeting<'_> {
         }
     }
 
-    /// What to do, by what the port belongs to.
-    fn one_token(&self) -> String {
+    /// What was probably forgotten, if the port may belong to a procedure or an arc to a loop.
+    fn call_or_loop(&self) -> Option<String> {
         let graph = &self.program.graph;
-        let to = self.port.0;
+        let (to, _) = self.port;
         let leaves = |number: &u16| graph.leave(*number).is_some();
         if to.path == 0 && graph.reached(to.instruction).iter().any(leaves) {
             let end = self.end_words();
-            return format!("if `{end}` belongs to a procedure, let each call come by an ENTER with a site of its own");
+            return Some(format!(
+                "if `{end}` belongs to a procedure, each call needs an ENTER with a site of its own"
+            ));
         }
         let nexts = (0..).zip(&graph.instructions);
         let nexts = nexts.filter(|(_, instruction)| instruction.code == NEXT);
-        let mut passes = nexts.map(|(number, _)| graph.reached(number));
-        match passes.any(|pass| pass.contains(&self.second.from.instruction)) {
-            true => "what goes round a loop needs a NEXT on its arc",
-            false => "under one tag a port takes one token: let them end at two ports, or choose one by a SWITCH",
-        }
-        .to_string()
+        let passes: BTreeSet<u16> = nexts
+            .flat_map(|(number, _)| graph.reached(number))
+            .collect();
+        let loops = |arc: &Arc| self.code(arc) != NEXT && passes.contains(&arc.from.instruction);
+        let words = "what goes round a loop needs a NEXT on its arc";
+        self.arcs().iter().any(loops).then(|| words.to_string())
     }
 
     /// An arc by the names of its ends; what leaves a call goes by none.

@@ -4,8 +4,8 @@ mod common;
 
 use common::{dayomlak, typed};
 
-/// The lines of the answer that say why and what to do.
-fn notes(text: &str) -> [String; 2] {
+/// The lines of the answer that say why and what to do. Behind them stand the operands, the counts and the number.
+fn notes(text: &str) -> Vec<String> {
     let done = typed(text, &["run", "-"]);
     assert!(
         done.out.starts_with("error: refused by 9, second token"),
@@ -15,8 +15,8 @@ fn notes(text: &str) -> [String; 2] {
         .out
         .lines()
         .filter_map(|line| line.trim().strip_prefix("= "));
-    let notes: Vec<String> = notes.take(2).map(str::to_string).collect();
-    notes.try_into().unwrap()
+    let notes: Vec<String> = notes.map(str::to_string).collect();
+    notes[..notes.len() - 3].to_vec()
 }
 
 const ONE_TOKEN: &str =
@@ -104,6 +104,15 @@ fn a_loop_without_next() {
     assert_eq!(notes(first), [why, what]);
 }
 
+/// A call returns by its own LEAVEs: what stands behind its return belongs to another one here.
+#[test]
+fn two_arcs_beside_a_call() {
+    let text = "p: COPY -> a\na: ENTER site 1 -> f return x\nx: OUT\ny: ADD 1 -> p\nz: ADD 2 -> p\nf: LEAVE 0\ng: LEAVE 1\n\
+        input y = 1\ninput z = 1\ninput g = 1\n";
+    let why = "two arcs end at one port: `y` -> `p` and `z` -> `p`";
+    assert_eq!(notes(text), [why, ONE_TOKEN]);
+}
+
 /// A variable that goes round and does not depend on itself.
 #[test]
 fn an_arc_of_a_loop_past_its_next() {
@@ -111,8 +120,20 @@ fn an_arc_of_a_loop_past_its_next() {
     let why = "an input and the arc `new_x` -> `x` end at one port";
     assert_eq!(
         notes(text),
-        [why, "what goes round a loop needs a NEXT on its arc"]
+        [
+            why,
+            ONE_TOKEN,
+            "what goes round a loop needs a NEXT on its arc"
+        ]
     );
+}
+
+/// Nothing is said of a NEXT where both arcs come from one.
+#[test]
+fn two_nexts_to_one_port() {
+    let text = "a: COPY -> m n\nm: NEXT -> x\nn: NEXT -> x\nx: OUT\ninput a = 1\n";
+    let why = "two arcs end at one port: `m` -> `x` and `n` -> `x`";
+    assert_eq!(notes(text), [why, ONE_TOKEN]);
 }
 
 #[test]
@@ -136,7 +157,8 @@ fn two_calls_without_enter() {
         notes(text),
         [
             "two arcs end at one port: `a` -> `f` and `b` -> `f`",
-            "if `f` belongs to a procedure, let each call come by an ENTER with a site of its own"
+            ONE_TOKEN,
+            "if `f` belongs to a procedure, each call needs an ENTER with a site of its own"
         ]
     );
 }
