@@ -1,6 +1,7 @@
 //! `dayomlak`: the tagged-token dataflow machine for the people who use it. Every firing, listing, profile, log and bound
 //! that it shows is the proved engine's; what is here reads text, chooses picks, names, draws and explains.
 
+mod activity;
 mod answer;
 mod cache;
 mod cli;
@@ -12,6 +13,7 @@ mod failure;
 mod graph;
 mod graphviz;
 mod history;
+mod loads;
 mod machine;
 mod newest;
 mod orders;
@@ -24,6 +26,7 @@ mod refusals;
 mod refused;
 mod report;
 mod results;
+mod second_token;
 mod warnings;
 
 use std::process::ExitCode;

@@ -182,3 +182,23 @@ fn log_and_replay() {
         }
     }
 }
+
+/// Up to 16 loaded cells stand below each other, more of them in columns that are as long as each other.
+#[test]
+fn loaded_cells_in_columns() {
+    let rows = |cells: usize| -> Vec<usize> {
+        let lines: String = (0..cells)
+            .map(|cell| format!("cell {cell} = 7\n"))
+            .collect();
+        let dot = common::typed(&lines, &["draw", "-", "--dot"]).out;
+        let columns = dot.split("<td>cell</td><td>loaded</td>").skip(1);
+        columns
+            .map(|column| column.matches("<tr><td align").count())
+            .collect()
+    };
+    assert_eq!(rows(0), []);
+    assert_eq!(rows(1), [1]);
+    assert_eq!(rows(16), [16]);
+    assert_eq!(rows(17), [9, 8]);
+    assert_eq!(rows(64), [16; 4]);
+}

@@ -1,11 +1,11 @@
 //! A graph as text for Graphviz.
 
-use std::collections::BTreeMap;
 use std::fmt::Write;
 
 use crate::graph::{
     Destination, Instruction, ENTER, FETCH, GATE, LEAVE, NEXT, OUT, SINK, STORE, SWITCH,
 };
+use crate::loads::Loads;
 use crate::program::Program;
 use crate::records::{self, Token};
 
@@ -27,6 +27,9 @@ pub struct Drawing<'p> {
     loads: Loads,
     ids: bool,
 }
+
+/// Loaded cells stand below each other up to this number; more of them stand in several columns.
+const MOST_ROWS: usize = 16;
 
 /// Room for tokens on the arcs.
 const WIDE: &str = "  graph [nodesep=0.45, ranksep=0.6];\n";
@@ -84,7 +87,7 @@ impl<'p> Drawing<'p> {
     }
 
     fn is_load(&self, instruction: u16) -> bool {
-        self.loads.cells.contains_key(&instruction)
+        self.loads.contains(instruction)
     }
 
     /// An id as an attribute, where ids are asked for.
@@ -113,47 +116,29 @@ fn escaped(text: &str) -> String {
         + "\\l"
 }
 
-/// The STOREs that do nothing but load a cell from two inputs. They make a picture wide, so they stand in one table.
-struct Loads {
-    /// Cell and value by instruction.
-    cells: BTreeMap<u16, (i32, i32)>,
-}
-
-impl Loads {
-    fn of(program: &Program) -> Loads {
-        let graph = &program.graph;
-        let arcs = graph.instructions.iter().flat_map(|i| &i.destinations);
-        let fed: Vec<u16> = arcs.map(|arc| arc.instruction).collect();
-        let inputs = records::tokens(&program.files.inputs);
-        let mut cells = BTreeMap::new();
-        for (number, instruction) in (0..).zip(&graph.instructions) {
-            let to = |port: u8| move |t: &&Token| t.tag.instruction == number && t.port == port;
-            let mut sent = inputs.iter().filter(to(0)).zip(inputs.iter().filter(to(1)));
-            let only = instruction.code == STORE && instruction.destinations.is_empty();
-            if let (true, Some((cell, value)), None) =
-                (only && !fed.contains(&number), sent.next(), sent.next())
-            {
-                cells.insert(number, (cell.value, value.value));
-            }
-        }
-        Loads { cells }
-    }
-}
-
 impl Drawing<'_> {
     fn loads_table(&self) -> String {
-        if self.loads.cells.is_empty() {
-            return String::new();
-        }
-        let row = |(cell, value): &(i32, i32)| {
-            format!("<tr><td align=\"right\">{cell}</td><td align=\"right\">{value}</td></tr>")
+        let cells: Vec<(i32, i32)> = self.loads.cells.values().copied().collect();
+        let columns = cells.len().div_ceil(MOST_ROWS);
+        let rows = cells.len().div_ceil(columns.max(1)).max(1);
+        let columns: Vec<String> = cells.chunks(rows).map(loads_column).collect();
+        let table = match &columns[..] {
+            [] => return String::new(),
+            [column] => column.clone(),
+            _ => self.side_by_side(&columns),
         };
-        let rows: String = self.loads.cells.values().map(row).collect();
         format!(
-            "  loads [shape=plaintext, style=\"\", fontsize=10, label=<<table border=\"0\" cellborder=\"1\" \
-             cellspacing=\"0\" bgcolor=\"#d9f2d9\"><tr><td>cell</td><td>loaded</td></tr>{rows}</table>>{}];\n",
+            "  loads [shape=plaintext, style=\"\", fontsize=10, label=<{table}>{}];\n",
             self.id("loads")
         )
+    }
+
+    /// Columns in one table. On a page there is room for tokens beside each.
+    fn side_by_side(&self, columns: &[String]) -> String {
+        let space = if self.ids { 28 } else { 4 };
+        let column = |table: &String| format!("<td valign=\"top\">{table}</td>");
+        let columns: String = columns.iter().map(column).collect();
+        format!("<table border=\"0\" cellspacing=\"{space}\" cellpadding=\"0\"><tr>{columns}</tr></table>")
     }
 
     fn node(&self, number: usize, instruction: &Instruction) -> String {
@@ -222,6 +207,18 @@ impl Drawing<'_> {
             input.value
         )
     }
+}
+
+/// Loaded cells below each other, under a heading.
+fn loads_column(cells: &[(i32, i32)]) -> String {
+    let row = |(cell, value): &(i32, i32)| {
+        format!("<tr><td align=\"right\">{cell}</td><td align=\"right\">{value}</td></tr>")
+    };
+    let rows: String = cells.iter().map(row).collect();
+    format!(
+        "<table border=\"0\" cellborder=\"1\" cellspacing=\"0\" bgcolor=\"#d9f2d9\">\
+         <tr><td>cell</td><td>loaded</td></tr>{rows}</table>"
+    )
 }
 
 /// The number of a port where there are two.

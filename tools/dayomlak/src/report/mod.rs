@@ -17,6 +17,7 @@ use crate::pictures;
 use crate::pictures::curves::{self, Chart};
 use crate::pictures::dot::Drawing;
 use crate::plotter;
+use crate::program::Program;
 use crate::records::Tag;
 use crate::results;
 use html::escaped;
@@ -113,10 +114,7 @@ pub fn page(run: &Run) -> Result<String, Failure> {
         ("facts", facts.collect()),
         ("refusal", run.refusal()),
         ("picture", picture(run, &drawing)?),
-        (
-            "profile",
-            escaped(&plotter::ended(&steps.whole, &steps.answer)),
-        ),
+        ("profile", escaped(&profile_words(program, &steps))),
         ("curves", curves(&steps)?),
         ("left", escaped(&left)),
         ("listing", escaped(&run.listing()?)),
@@ -126,6 +124,15 @@ pub fn page(run: &Run) -> Result<String, Failure> {
         ("script", SCRIPT.to_string()),
     ];
     Ok(html::fill(PAGE, &parts))
+}
+
+/// How the profile ended, and what its first step has besides.
+fn profile_words(program: &Program, steps: &Steps) -> String {
+    let ended = plotter::ended(&steps.whole, &steps.answer);
+    match plotter::loading(program, &steps.whole) {
+        Some(loading) => format!("{ended}; {loading}"),
+        None => ended,
+    }
 }
 
 /// The graph, unless it is larger than any that is run.

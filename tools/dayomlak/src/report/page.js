@@ -206,9 +206,9 @@ function svgElement(name, attributes) {
   return element;
 }
 
-// The rows of the table of loads have no ids of their own: a heading, and two texts a row.
+// The rows of the table of loads have no ids of their own: each has two numbers, and the words are headings.
 function nameLoads() {
-  const texts = [...svg.querySelectorAll('#loads text')].slice(2);
+  const texts = [...svg.querySelectorAll('#loads text')].filter((text) => !isNaN(text.textContent));
   texts.forEach((text, number) => text.classList.add(`load-${Math.floor(number / 2)}`));
 }
 
