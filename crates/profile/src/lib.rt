@@ -111,9 +111,9 @@ fn no_record(tables: &[u16; 512], flags: &[u64; 69], ledger: &[u8], used: usize)
 
 // Writes the places of the enabled activities, in order, and answers how many there are.
 fn enabled_places(flags: &[u64; 69], out: &mut [u16; 2048]) -> usize
-    requires { ⌜ Counted (now flags) ⌝ }
+    requires { ⌜ Counted (now flags) × (length (now out) ≡ 2048) ⌝ }
     ensures { λ r. ⌜ r ≡ length (places (flagsOf (now (flags .entry)))) ⌝ }
-    ensures { λ r. ⌜ ((k : ℕ) → k < r → getD (now (out .exit)) k 0 ≡ getD (places (flagsOf (now (flags .entry)))) k 0) ⌝ }
+    ensures { λ r. ⌜ ((k : ℕ) → k < r → getD (now (out .exit)) k 0 ≡ getD (places (flagsOf (now (flags .entry)))) k 0) × (length (now (out .exit)) ≡ 2048) ⌝ }
 {
     let count = store::enabled_count(flags);
     let mut k = 0;
@@ -133,14 +133,15 @@ fn step(
     flags: &mut [u64; 69],
     ledger: &mut [u8],
     cells: &mut [u8],
-    at_start: &mut [u16; 2048],
+    turns: &mut [u16; 2048],
     start: usize,
     live: usize,
 ) -> StepEnd
-    requires { ⌜ Prepared (now graph) (now tables) × Running (graphOf (now graph)) (now tables) (now links) (now flags) (now ledger) (now cells) start × (live ≡ unspentAt (graphOf (now graph)) (now ledger) (now cells) start) ⌝ }
+    requires { ⌜ Prepared (now graph) (now tables) × Running (graphOf (now graph)) (now tables) (now links) (now flags) (now ledger) (now cells) start × (live ≡ unspentAt (graphOf (now graph)) (now ledger) (now cells) start) × (length (now turns) ≡ 2048) ⌝ }
     ensures { λ r. ⌜ StepDone r (graphOf (now (graph .entry))) (now (tables .entry)) (now (links .exit)) (now (flags .exit)) (now (ledger .exit)) (now (cells .exit)) start (now (ledger .entry)) (now (cells .entry)) ⌝ }
+    ensures { λ _. ⌜ length (now (turns .exit)) ≡ 2048 ⌝ }
 {
-    let count = enabled_places(flags, at_start);
+    let count = enabled_places(flags, turns);
     if count == 0 {
         return StepEnd::Ended(ending::ending(tables, ledger, start), 0, start);
     }
@@ -148,7 +149,7 @@ fn step(
     let mut unspent = live;
     let mut k = 0;
     while k < count {
-        let place = store_chains::wide(at_start[k]);
+        let place = store_chains::wide(turns[k]);
         let arity = arity_at(tables, ledger, place);
         let fired = fire::fire(graph, tables, links, flags, ledger, cells, used, place);
         match fired {
@@ -192,7 +193,7 @@ fn proceed(
     ensures { λ r. ⌜ ProfiledTo (profileFrom (graphOf (now (graph .entry))) (length (now (profile .entry)) / stepWidth) 0 (now (ledger .entry)) (now (cells .entry)) start) r (now (ledger .entry)) (now (cells .entry)) (now (profile .entry)) (now (ledger .exit)) (now (cells .exit)) (now (profile .exit)) ⌝ }
 {
     let room = profile.len() / WIDTH;
-    let mut at_start = [0u16; 2048];
+    let mut turns = [0u16; 2048];
     let mut used = start;
     let mut unspent = start;
     let mut firings = 0;
@@ -205,7 +206,7 @@ fn proceed(
             flags,
             ledger,
             cells,
-            &mut at_start,
+            &mut turns,
             used,
             unspent,
         );
