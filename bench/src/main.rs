@@ -27,7 +27,8 @@ const CELLS: usize = 1024;
 const BUDGET: u16 = 2048;
 /// How often each emulator runs each work.
 const RUNS: usize = 400;
-/// How often it does before the next work, where works are repeated.
+/// How often it does before the next work, where works are repeated, and how often a
+/// call is made before the next.
 const BLOCK: usize = 20;
 
 /// A kind of work: its name, its graph by size, and whether the newest activity
@@ -77,8 +78,10 @@ fn compare(block: usize) {
         printings
             .iter_mut()
             .for_each(|printing| printing.runs(block));
-        calls.iter_mut().for_each(|work| work.runs(block));
         bounds.iter_mut().for_each(|graph| graph.runs(block));
+    }
+    for _ in 0..RUNS / BLOCK {
+        calls.iter_mut().for_each(calls::Calls::block);
     }
     print_works(&works);
     print_listings(&listings);
