@@ -55,7 +55,7 @@ pub fn all() -> Vec<Calls> {
 }
 
 impl Calls {
-    fn new((name, work, newest): Kind, size: usize) -> Calls {
+    pub fn new((name, work, newest): Kind, size: usize) -> Calls {
         let lent = || Lent::new(work(size), size, newest);
         let log = agreed(&mut lent());
         let profile = vec![0; 4 * usize::from(BUDGET)];
