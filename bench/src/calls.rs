@@ -1,8 +1,10 @@
 //! The calls beside a plain run: the profile of a work, its run with a log, and the
 //! replay of that log, each against the engine's own run in the same rounds; and the
-//! bounds of a graph of 256 records.
+//! bounds of a graph of 256 records. Each call is made a block of times before the next,
+//! so that what is compared is the calls, and not who finds more of its buffers in the
+//! caches.
 
-use super::{microseconds, middle, ratio, time, Kind, Lent, BUDGET, KINDS, SIZES};
+use super::{microseconds, middle, ratio, time, Kind, Lent, BLOCK, BUDGET, KINDS, SIZES};
 use crate::work::{self, Work};
 use std::time::Duration;
 
@@ -53,7 +55,7 @@ pub fn all() -> Vec<Calls> {
 }
 
 impl Calls {
-    fn new((name, work, newest): Kind, size: usize) -> Calls {
+    pub fn new((name, work, newest): Kind, size: usize) -> Calls {
         let lent = || Lent::new(work(size), size, newest);
         let log = agreed(&mut lent());
         let profile = vec![0; 4 * usize::from(BUDGET)];
@@ -67,16 +69,19 @@ impl Calls {
         }
     }
 
-    /// Calls all in turn, so that each meets the same load of the computer; each time
-    /// another one begins, and finds the caches as another work left them.
-    pub fn runs(&mut self, times: usize) {
-        for _ in 0..times {
-            let first = self.times[0].len();
-            for turn in first..first + CALLS.len() {
-                let number = turn % CALLS.len();
-                let (lent, further) = &mut self.lent[number];
-                self.times[number].push(time(|| CALLS[number].1(lent, further)));
-            }
+    /// Makes each call a block of times. Each block of calls begins with another one, so
+    /// that all meet the same load of the computer.
+    pub fn block(&mut self) {
+        let first = self.times[0].len() / BLOCK;
+        for turn in first..first + CALLS.len() {
+            self.block_of(turn % CALLS.len());
+        }
+    }
+
+    fn block_of(&mut self, number: usize) {
+        let (lent, further) = &mut self.lent[number];
+        for _ in 0..BLOCK {
+            self.times[number].push(time(|| CALLS[number].1(lent, further)));
         }
     }
 

@@ -7,8 +7,8 @@
 //! is run a block of times before the next, so that it meets the caches that it
 //! left; with `growth` only the growth is measured, of runs of one size that follow
 //! each other (growth.rs). The figures of the three differ. `program` measures the
-//! whole job of the printing program (program.rs). `once WORK` and `folders DIR` are
-//! for the script `instructions`.
+//! whole job of the printing program (program.rs). `once WORK`, `calls WORK` and
+//! `folders DIR` are for the script `instructions`.
 
 mod calls;
 mod growth;
@@ -27,7 +27,8 @@ const CELLS: usize = 1024;
 const BUDGET: u16 = 2048;
 /// How often each emulator runs each work.
 const RUNS: usize = 400;
-/// How often it does before the next work, where works are repeated.
+/// How often it does before the next work, where works are repeated, and how often a
+/// call is made before the next.
 const BLOCK: usize = 20;
 
 /// A kind of work: its name, its graph by size, and whether the newest activity
@@ -51,8 +52,9 @@ fn main() {
         ["growth"] => growth::print(),
         ["program"] => program::print(),
         ["once", work] => program::once(work),
+        ["calls", work] => program::calls_once(work),
         ["folders", folder] => program::write_folders(folder.as_ref()),
-        _ => eprintln!("repeated, growth, program, once WORK, folders DIR, or nothing"),
+        _ => eprintln!("repeated, growth, program, once WORK, calls WORK, folders DIR, or nothing"),
     }
 }
 
@@ -77,8 +79,10 @@ fn compare(block: usize) {
         printings
             .iter_mut()
             .for_each(|printing| printing.runs(block));
-        calls.iter_mut().for_each(|work| work.runs(block));
         bounds.iter_mut().for_each(|graph| graph.runs(block));
+    }
+    for _ in 0..RUNS / BLOCK {
+        calls.iter_mut().for_each(calls::Calls::block);
     }
     print_works(&works);
     print_listings(&listings);

@@ -8,9 +8,10 @@ use std::path::{Path, PathBuf};
 use std::process::Command;
 use std::time::Duration;
 
+use crate::calls::Calls;
 use crate::printing::longest;
 use crate::work::Work;
-use crate::{microseconds, middle, ratio, time, BUDGET, CELLS, KINDS};
+use crate::{microseconds, middle, ratio, time, Kind, BUDGET, CELLS, KINDS};
 
 const RECORDS: usize = 2048;
 const RUNS: usize = 200;
@@ -123,7 +124,16 @@ pub fn write_folders(folder: &Path) {
 
 /// One job of the engine on a work, for a count of its instructions.
 pub fn once(name: &str) {
-    let kind = KINDS.into_iter().find(|kind| file_name(kind.0) == name);
-    let (_, work, _) = kind.expect("the name of a work, with _ for a space");
+    let (_, work, _) = kind_of(name);
     println!("{}", engine_job(&work(RECORDS)).len());
+}
+
+/// One call of each kind beside a plain run on a work, for the same.
+pub fn calls_once(name: &str) {
+    Calls::new(kind_of(name), RECORDS);
+}
+
+fn kind_of(name: &str) -> Kind {
+    let kind = KINDS.into_iter().find(|kind| file_name(kind.0) == name);
+    kind.expect("the name of a work, with _ for a space")
 }

@@ -1,4 +1,4 @@
--- Laws of rounds that add to one table of instructions in turn: what it has is reached (`Kept`), n rounds have at least what n rounds of the definition reach
+-- Laws of rounds that add to one table of instructions in turn: what it has is reached (`ReachedSoFar`), n rounds have at least what n rounds of the definition reach
 -- (`again`), and a round that adds none has found all (`no-more`). Assumes nothing.
 use Prim.Native.Nat.{ℕ, zero, suc, _+_, _<_}
 use native.Mathlib.Omega.{arith}
@@ -20,7 +20,7 @@ use Rattle.rules.proofs.PassedGraph.{two-operands}
 use Rattle.rules.proofs.Below.{sum-same}
 use Rattle.rules.proofs.Rounds.{Within, all-more, after, round, inside, reached-least}
 use Rattle.check_fields.proofs.Turns.{or-false}
-use Rattle.bounds.specs.Reach.{entryOf, Ports, marked, given, flag, sumOver, Kept, Round}
+use Rattle.bounds.specs.Reach.{entryOf, Ports, marked, given, flag, sumOver, ReachedSoFar, Round}
 use Rattle.bounds.proofs.Ports.{InsideAll, alike, mark-all, or-assoc}
 
 -- ---- tests
@@ -101,22 +101,22 @@ module _ (ts : List Token) (g : List Instruction) where
       rw (none) (sym (or-false (any (standsAt (rootOf i) p) ts)))
 
   -- whether all ports of an instruction are reached, by the table
-  pub is-ready : {sent t : List Bool} → Kept ts g sent t → (i : ℕ) → i < 256 → allBelow (operandsAt g i) (λ p. getD sent (entryOf i p) false) ≡ allReached ts g (flag t) i
+  pub is-ready : {sent t : List Bool} → ReachedSoFar ts g sent t → (i : ℕ) → i < 256 → allBelow (operandsAt g i) (λ p. getD sent (entryOf i p) false) ≡ allReached ts g (flag t) i
   unfolding allReached operandsAt
   is-ready {sent} {t} k i h =
       all-same (operandsAt g i) (λ p. getD sent (entryOf i p) false) (portReached ts g (flag t) i) (λ p l. k .ports .says i p (record { low = h; one = omega (arith, two-operands (instructionAt g i .code)) }))
 
   -- ---- what is kept
 
-  pub start : {sent : List Bool} → Ports (given ts) sent → Kept ts g sent (replicate 256 false)
+  pub start : {sent : List Bool} → Ports (given ts) sent → ReachedSoFar ts g sent (replicate 256 false)
   start k = record {
     ports = alike k no-instruction;
     size = length-replicate 256 false;
     sound = λ i e. falseTrue (sym (no-flag 256 i) ∙ e);
   }
 
-  pub add : {sent t : List Bool} → Kept ts g sent t → (j : ℕ) → j < length g → j < 256 → flag t j ≡ false → allReached ts g (flag t) j ≡ true
-      → InsideAll (destinations (instructionAt g j)) → Kept ts g (marked sent (destinations (instructionAt g j))) (set t j true)
+  pub add : {sent t : List Bool} → ReachedSoFar ts g sent t → (j : ℕ) → j < length g → j < 256 → flag t j ≡ false → allReached ts g (flag t) j ≡ true
+      → InsideAll (destinations (instructionAt g j)) → ReachedSoFar ts g (marked sent (destinations (instructionAt g j))) (set t j true)
   unfolding sendsTo
   add {sent} {t} k j l h e ready arcs = record {
     ports = alike (mark-all (k .ports) (destinations (instructionAt g j)) arcs) (more-ports t j l (omega (arith, k .size)) e);
@@ -133,7 +133,7 @@ module _ (ts : List Token) (g : List Instruction) where
 
   -- ---- a round
 
-  pub begin : {before sent : List Bool} → Kept ts g sent before → Round ts g 0 before sent before false
+  pub begin : {before sent : List Bool} → ReachedSoFar ts g sent before → Round ts g 0 before sent before false
   begin k = record { kept = k; more = λ i e. e; adds = λ i l. absurd (omega arith); none = λ e. refl }
 
   module _ {before sent t : List Bool} {added : Bool} where
@@ -180,7 +180,7 @@ module _ (ts : List Token) (g : List Instruction) where
         same (flag t i) (reached ts g i) (r .kept .sound i) (reached-least ts g .least (flag t) (λ j l f. r .adds j l (rw still f)) i)
 
   -- as many as there are instructions
-  pub enough : {sent t : List Bool} (n : ℕ) → Kept ts g sent t → n ≡ length g → Within (after ts g n) (flag t) → (i : ℕ) → flag t i ≡ reached ts g i
+  pub enough : {sent t : List Bool} (n : ℕ) → ReachedSoFar ts g sent t → n ≡ length g → Within (after ts g n) (flag t) → (i : ℕ) → flag t i ≡ reached ts g i
   unfolding reached
   enough {sent} {t} n k e w i = same (flag t i) (reached ts g i) (k .sound i) (λ f. w i (rw e f))
 

@@ -51,14 +51,14 @@ abbrev pub sumOver : (n : ℕ) → List Instruction → List Bool → (Instructi
 sumOver n g table f = sumBelow n (λ i. cond (flag table i) (f (instructionAt g i)) 0)
 
 -- the ports that inputs and the instructions of a table send to, all of which are reached
-pub record Kept (ts : List Token) (g : List Instruction) (sent reached : List Bool) : Type 0 where
+pub record ReachedSoFar (ts : List Token) (g : List Instruction) (sent reached : List Bool) : Type 0 where
   pub ports : Ports (portReached ts g (flag reached)) sent
   pub size : length reached ≡ 256
   pub sound : (i : ℕ) → flag reached i ≡ true → Needs.reached ts g i ≡ true
 
 -- a round that came to instruction n: those before it whose ports the table reached have been added
 pub record Round (ts : List Token) (g : List Instruction) (n : ℕ) (before sent after : List Bool) (added : Bool) : Type 0 where
-  pub kept : Kept ts g sent after
+  pub kept : ReachedSoFar ts g sent after
   pub more : (i : ℕ) → flag before i ≡ true → flag after i ≡ true
   pub adds : (i : ℕ) → i < n → allReached ts g (flag before) i ≡ true → flag after i ≡ true
   pub none : added ≡ false → after ≡ before

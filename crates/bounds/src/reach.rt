@@ -18,7 +18,7 @@ ghost use Rattle.rules.specs.declared.answer.Checked.the-variants.{Passed};
 ghost use Rattle.rules.specs.Check.{operandsAt, checkGraph};
 ghost use Rattle.rules.specs.Needs.{allBelow, inputsOf};
 ghost use Rattle.rules.specs.Needs as Needs;
-ghost use Rattle.bounds.specs.Reach.{Inside, GoodToken, entryOf, Ports, marked, given, flag, Kept, Round};
+ghost use Rattle.bounds.specs.Reach.{Inside, GoodToken, entryOf, Ports, marked, given, flag, ReachedSoFar, Round};
 
 fn entry(d: Destination) -> usize
     requires { ⌜ Inside (d .instruction) (d .port) ⌝ }
@@ -98,7 +98,7 @@ fn add(graph: &[u8], sent: &mut [bool; 512], reached: &mut [bool; 256], i: usize
 // Adds each instruction that is ready; whether any was added.
 fn round(graph: &[u8], sent: &mut [bool; 512], reached: &mut [bool; 256]) -> bool
     requires { ⌜ checkGraph (now graph) ≡ Passed ⌝ }
-    ensures { λ added. ⌜ ((ts : List Token) → Kept ts (graphOf (now (graph .entry))) (now (sent .entry)) (now (reached .entry)) → Round ts (graphOf (now (graph .entry))) (length (graphOf (now (graph .entry)))) (now (reached .entry)) (now (sent .exit)) (now (reached .exit)) added) ⌝ }
+    ensures { λ added. ⌜ ((ts : List Token) → ReachedSoFar ts (graphOf (now (graph .entry))) (now (sent .entry)) (now (reached .entry)) → Round ts (graphOf (now (graph .entry))) (length (graphOf (now (graph .entry)))) (now (reached .entry)) (now (sent .exit)) (now (reached .exit)) added) ⌝ }
 {
     let mut added = false;
     let mut i = 0;

@@ -4,6 +4,7 @@ use fire_commit::Fired;
 use record::log;
 use record::tag::Tag;
 use record::token;
+use rules::answer;
 use rules::answer::Answer;
 use rules::answer::Checked;
 use rules::answer::Outcome;
@@ -120,20 +121,11 @@ fn proceed(
                 used = n;
                 firings += 1;
             }
-            Turn::Ended(outcome) => {
-                return Answer {
-                    outcome,
-                    firings,
-                    tokens: used,
-                };
-            }
+            Turn::Ended(outcome) => return answer::answered(outcome, firings, used),
         }
     }
-    Answer {
-        outcome: ending::rest(tables, flags, ledger, used),
-        firings,
-        tokens: used,
-    }
+    let outcome = ending::rest(tables, flags, ledger, used);
+    answer::answered(outcome, firings, used)
 }
 
 // A run that passed every check: all cells are set absent, the inputs go into the ledger, and it
@@ -196,11 +188,7 @@ pub fn run(
 {
     let checked = checks::check(graph, inputs, picks, ledger.len(), cells.len());
     match checked {
-        Checked::Failed(r, place) => Answer {
-            outcome: Outcome::Refused(r, place),
-            firings: 0,
-            tokens: 0,
-        },
+        Checked::Failed(r, place) => answer::refused(r, place),
         Checked::Passed => {
             let mut none = [0u8; 0];
             accepted(
@@ -239,11 +227,7 @@ pub fn run_logged(
         log.len(),
     );
     match checked {
-        Checked::Failed(r, place) => Answer {
-            outcome: Outcome::Refused(r, place),
-            firings: 0,
-            tokens: 0,
-        },
+        Checked::Failed(r, place) => answer::refused(r, place),
         Checked::Passed => accepted(graph, inputs, picks, firings, ledger, cells, log),
     }
 }

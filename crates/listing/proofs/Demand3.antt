@@ -33,7 +33,8 @@ use Rattle.rules.specs.Fits.{CellCount}
 use Rattle.rules.proofs.Fits.{result-fits}
 use Rattle.listing.specs.Listing.{records, answer}
 use Rattle.listing.specs.Sorted.{Pairwise}
-use Rattle.listing.specs.Demand3.{Lent, Left, RanOn, NotForOthers, Completed, Hung, Quiescent, Spent, Refused, used, Alike, Agree, Demand3}
+use Rattle.rules.specs.Runs.{Lent, Left, RanOn, Completed, Hung, Quiescent, Spent, Refused}
+use Rattle.listing.specs.Demand3.{NotForOthers, used, Alike, Agree, Demand3}
 use Rattle.listing.proofs.Lists.{all-of}
 use Rattle.listing.proofs.Laws.{records-joined}
 use Rattle.listing.proofs.AnyTwoOrders.{places-differ, records-differ, used-records, length-tokens, list-orders}
@@ -150,14 +151,14 @@ module _ (x y : Result) {r q : Answer} {l l′ c c′ m m′ d d′ : List ℕ} 
 
 module _ (graph inputs : List ℕ) (graphBytes : Bytes graph) (inputBytes : Bytes inputs) (l m : Lent) (a : NotForOthers graph inputs l) (b : NotForOthers graph inputs m)
     (capacities : capacityOf (length (l .ledger)) ≡ capacityOf (length (m .ledger))) (counts : length (l .cells) / cellWidth ≡ length (m .cells) / cellWidth)
-    (x y : Left) (ranX : RanOn graph inputs l x) (ranY : RanOn graph inputs m y) where
+    (x y : Left) (ranX : RanOn graph inputs 2048 l x) (ranY : RanOn graph inputs 2048 m y) where
   abbrev resultOf : Lent → Result
   resultOf k = result graph inputs (k .picks) 2048 (length (k .ledger)) (length (k .cells))
 
   agreed : Rules.Agree (resultOf l) (resultOf m)
   agreed = any-two-orders graph inputs (l .picks) (m .picks) (length (l .ledger)) (length (m .ledger)) (length (l .cells)) (length (m .cells)) a b capacities counts
 
-  ended : (k : Lent) (z : Left) → RanOn graph inputs k z → SameEnd (resultOf k) (z .answer .outcome)
+  ended : (k : Lent) (z : Left) → RanOn graph inputs 2048 k z → SameEnd (resultOf k) (z .answer .outcome)
   ended k z ran = subst (λ (r : Answer). SameEnd (resultOf k) (r .outcome)) (sym (ran .answered)) (same-end (resultOf k))
 
   -- a run that completes or hangs passed the check of its stores

@@ -27,7 +27,8 @@ use Rattle.rules.specs.Fits.{CellCount}
 use Rattle.rules.proofs.Fits.{result-fits}
 use Rattle.rules.proofs.Small.{answer-small}
 use Rattle.rules.proofs.Profile.{passes, wholes, as-every-order}
-use Rattle.listing.specs.Demand3.{Lent, Left, RanOn, Quiescent, Refused, Alike}
+use Rattle.rules.specs.Runs.{Lent, Left, RanOn, Quiescent, Refused}
+use Rattle.listing.specs.Demand3.{Alike}
 use Rattle.listing.specs.Profiles.{LentToProfile, LeftByProfile, ProfiledOn, asRun, firingsOf, sum, EndsAsRun, ProfileEndsAsRun}
 use Rattle.listing.proofs.Lists.{all-perm}
 use Rattle.listing.proofs.Demand3.{same-end, bytes-alike}
@@ -81,7 +82,7 @@ cell-count (ranTo e) (ranTo f) n h k q c = ap length q ∙ c
 
 module _ (graph inputs : List ℕ) (graphBytes : Bytes graph) (inputBytes : Bytes inputs) (l : LentToProfile) (m : Lent) (allowed : Allowed (m .picks) (length (m .ledger)) (length (m .cells)))
     (capacities : capacityOf (length (l .ledger)) ≡ capacityOf (length (m .ledger))) (counts : length (l .cells) / cellWidth ≡ length (m .cells) / cellWidth)
-    (x : LeftByProfile) (y : Left) (profiledX : ProfiledOn graph inputs l x) (ranY : RanOn graph inputs m y) (unrefused : ¬ (Refused (x .answer .answer .outcome))) where
+    (x : LeftByProfile) (y : Left) (profiledX : ProfiledOn graph inputs l x) (ranY : RanOn graph inputs 2048 m y) (unrefused : ¬ (Refused (x .answer .answer .outcome))) where
   abbrev p : ProfileResult
   p = profiled graph inputs (length (l .ledger)) (length (l .cells)) (length (l .profile))
 

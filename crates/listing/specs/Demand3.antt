@@ -9,69 +9,17 @@ use lib.ListN.{length, take}
 use Rattle.number.specs.Number.{Bytes}
 use Rattle.record.specs.TokensAndTags.{capacityOf}
 use Rattle.record.specs.Widths.{tokenWidth, cellWidth}
-use Rattle.rules.specs.declared.answer.Answer.{Answer}
-use Rattle.rules.specs.declared.answer.Outcome.{Outcome}
-use Rattle.rules.specs.declared.answer.Outcome.the-variants as Outcomes
-use Rattle.rules.specs.Run.{result, Ran}
+use Rattle.rules.specs.Runs.{Lent, Left, RanOn, Completed, Hung, Quiescent, Spent, Refused}
 use Rattle.rules.specs.Orders.{NotForOtherBuffers}
 use Rattle.listing.specs.Listing.{recordKey, records, answer, outAfter}
 use Rattle.listing.specs.Sorted.{DifferentKeys}
 
--- ---- a run
-
--- what a run is lent beside graph and inputs
-pub record Lent : Type 0 where
-  pub picks : List ℕ
-  pub ledger : List ℕ
-  pub cells : List ℕ
-
--- what it answers, and every byte of the two buffers afterwards
-pub record Left : Type 0 where
-  pub answer : Answer
-  pub ledger : List ℕ
-  pub cells : List ℕ
-
--- the promise of `run`, at "a budget of 2,048"
-abbrev pub RanOn : (graph inputs : List ℕ) → Lent → Left → Type 0
-RanOn graph inputs l x = Ran (result graph inputs (l .picks) 2048 (length (l .ledger)) (length (l .cells))) (x .answer) (l .ledger) (x .ledger) (l .cells) (x .cells)
+-- ---- two runs
 
 -- 01: "neither run is refused by 7 for a buffer other than the inputs". The demand's "picks, ledger and cells of allowed length" is a case of it; where the
 -- graph fails its check, lengths do not count, and both runs are refused
 abbrev pub NotForOthers : (graph inputs : List ℕ) → Lent → Type 0
 NotForOthers graph inputs l = NotForOtherBuffers graph inputs (l .picks) (length (l .ledger)) (length (l .cells))
-
--- ---- how it ended
-
-abbrev pub Completed : Outcome → Type 0
-Completed Outcomes.Completed = Unit {0}
-Completed Outcomes.Hung = ⊥
-Completed Outcomes.Spent = ⊥
-Completed (Outcomes.Refused r place) = ⊥
-
-abbrev pub Hung : Outcome → Type 0
-Hung Outcomes.Completed = ⊥
-Hung Outcomes.Hung = Unit {0}
-Hung Outcomes.Spent = ⊥
-Hung (Outcomes.Refused r place) = ⊥
-
--- completed or hung
-abbrev pub Quiescent : Outcome → Type 0
-Quiescent Outcomes.Completed = Unit {0}
-Quiescent Outcomes.Hung = Unit {0}
-Quiescent Outcomes.Spent = ⊥
-Quiescent (Outcomes.Refused r place) = ⊥
-
-abbrev pub Spent : Outcome → Type 0
-Spent Outcomes.Completed = ⊥
-Spent Outcomes.Hung = ⊥
-Spent Outcomes.Spent = Unit {0}
-Spent (Outcomes.Refused r place) = ⊥
-
-abbrev pub Refused : Outcome → Type 0
-Refused Outcomes.Completed = ⊥
-Refused Outcomes.Hung = ⊥
-Refused Outcomes.Spent = ⊥
-Refused (Outcomes.Refused r place) = Unit {0}
 
 -- the first t ledger records, of t tokens, which `list` is lent
 abbrev pub used : Left → List ℕ
@@ -104,8 +52,8 @@ pub record Agree (x y : Left) : Type 0 where
   pub neverSpent : ¬ (Spent (x .answer .outcome))
 
 -- 01: "two whole runs over one graph and one list of inputs, for every two lists of picks [..] Capacity and cell count are equal [..] What ledger and
--- cells held beforehand may differ."
+-- cells held beforehand may differ." They are "at a budget of 2,048"
 abbrev pub Demand3 : Type 0
 Demand3 = (graph inputs : List ℕ) → Bytes graph → Bytes inputs → (l m : Lent) → NotForOthers graph inputs l → NotForOthers graph inputs m
     → capacityOf (length (l .ledger)) ≡ capacityOf (length (m .ledger)) → length (l .cells) / cellWidth ≡ length (m .cells) / cellWidth
-    → (x y : Left) → RanOn graph inputs l x → RanOn graph inputs m y → Agree x y
+    → (x y : Left) → RanOn graph inputs 2048 l x → RanOn graph inputs 2048 m y → Agree x y

@@ -12,7 +12,8 @@ use Rattle.record.specs.Widths.{cellWidth}
 use Rattle.rules.specs.declared.answer.Profiled.{Profiled}
 use Rattle.rules.specs.Profile.{stepWidth, profiled, ProfileRan}
 use Rattle.rules.specs.Orders.{Allowed}
-use Rattle.listing.specs.Demand3.{Lent, Left, RanOn, Refused, Quiescent, Alike}
+use Rattle.rules.specs.Runs.{Lent, Left, RanOn, Refused, Quiescent}
+use Rattle.listing.specs.Demand3.{Alike}
 
 -- what a profile is lent beside graph and inputs
 pub record LentToProfile : Type 0 where
@@ -57,4 +58,4 @@ pub record EndsAsRun (x : LeftByProfile) (y : Left) : Type 0 where
 abbrev pub ProfileEndsAsRun : Type 0
 ProfileEndsAsRun = (graph inputs : List ℕ) → Bytes graph → Bytes inputs → (l : LentToProfile) (m : Lent) → Allowed (m .picks) (length (m .ledger)) (length (m .cells))
     → capacityOf (length (l .ledger)) ≡ capacityOf (length (m .ledger)) → length (l .cells) / cellWidth ≡ length (m .cells) / cellWidth
-    → (x : LeftByProfile) (y : Left) → ProfiledOn graph inputs l x → RanOn graph inputs m y → ¬ (Refused (x .answer .answer .outcome)) → EndsAsRun x y
+    → (x : LeftByProfile) (y : Left) → ProfiledOn graph inputs l x → RanOn graph inputs 2048 m y → ¬ (Refused (x .answer .answer .outcome)) → EndsAsRun x y

@@ -148,13 +148,13 @@ module _ (M : Machine) where
 
   -- ---- what a firing keeps, over the view
 
-  record Kept (v : View M) : Type 0 where
+  record HoldsIn (v : View M) : Type 0 where
     deferredWaits : (k : Key (M .Tag)) (c : ℕ) → v .tok k ≡ some (deferred c) → v .cell c ≡ waiting
     waitingDefers : (c : ℕ) → v .cell c ≡ waiting → (k : Key (M .Tag)) × (v .tok k ≡ some (deferred c))
     spentTogether : (τ : M .Tag) (p q : ℕ) → p < M .arity τ → q < M .arity τ → Spent (v .tok (at M τ p)) → Spent (v .tok (at M τ q))
     othersUnspent : (τ : M .Tag) (p : ℕ) → M .arity τ ≤ p → ¬ (Spent (v .tok (at M τ p)))
 
-  module _ (v : View M) (τ : M .Tag) (d : DeltaOf M) (shape : Shape d) (al : Allowed M v d) (ready : (k : Key (M .Tag)) → operandOf M τ k ≡ true → Live (v .tok k)) (old : Kept v) where
+  module _ (v : View M) (τ : M .Tag) (d : DeltaOf M) (shape : Shape d) (al : Allowed M v d) (ready : (k : Key (M .Tag)) → operandOf M τ k ≡ true → Live (v .tok k)) (old : HoldsIn v) where
     keptDeferred : (k : Key (M .Tag)) (c : ℕ) → apply M τ d v .tok k ≡ some (deferred c) → cellAfter d (v .cell) c ≡ waiting
     keptDeferred k c = go (v .tok k) (among M k (d .keys)) refl
       where
@@ -235,7 +235,7 @@ module _ (M : Machine) where
         no-operand : ¬ ((τ ≡ σ) × (p < M .arity τ))
         no-operand (e, l) = let z : p < M .arity σ = subst (λ x. p < M .arity x) e l in omega arith
 
-    keptAfter : Kept (apply M τ d v)
+    keptAfter : HoldsIn (apply M τ d v)
     keptAfter = record { deferredWaits = keptDeferred; waitingDefers = keptWaiting; spentTogether = together; othersUnspent = unspent }
 
   -- ---- at the start
@@ -248,7 +248,7 @@ module _ (M : Machine) where
       go (yes p) rec f = let (u, g) = h .0 in (u, someSame _ _ (sym f ∙ g))
       go (no n) rec f = rec f
 
-  keptStart : (s : StateOf M) → Start M s → Kept (view M s)
+  keptStart : (s : StateOf M) → Start M s → HoldsIn (view M s)
   keptStart s h = record {
     deferredWaits = λ k c e. let (u, f) = startLive (s .tokens) (h .allLive) k (deferred c) e in liveDeferred (sym f);
     waitingDefers = λ c e. absentWaiting (sym (absentCell (M .cellCount) c) ∙ ap (λ l. cellAt l c) (sym (h .absentCells)) ∙ e);
@@ -268,7 +268,7 @@ module _ (M : Machine) where
       good : Good M x
       count : length (x .tokens) ≡ length (s .tokens) + o
       spending : length (spentTags M (x .tokens)) ≡ length (spentTags M (s .tokens)) + f
-      kept : Kept (view M s) → Kept (view M x)
+      kept : HoldsIn (view M s) → HoldsIn (view M x)
 
     carried : (s : StateOf M) → Good M s → (f o : ℕ) (x : StateOf M) → Reached M s f o x → Carried s f o x
     carried s g zero o x (e, q) = subst (Carried s 0 o) (sym q) (record { good = g; count = omega arith; spending = omega arith; kept = λ h. h })
@@ -287,7 +287,7 @@ module _ (M : Machine) where
               good = fr .good;
               count = omega arith;
               spending = omega arith;
-              kept = λ z. subst Kept (st .result) (keptAfter (view M y) τ (st .delta)
+              kept = λ z. subst HoldsIn (st .result) (keptAfter (view M y) τ (st .delta)
                   (shapeOf (M .effect τ (st .ops .left) (st .ops .right)) (st .delta) (law .readsForSome τ (st .ops .left) (st .ops .right)) (st .known))
                   (st .allowed) (λ k. operandLive M (look M y) τ (st .ops) k (st .given)) (h .kept z));
             }
@@ -320,7 +320,7 @@ module _ (M : Machine) where
         h : Carried s f o x
         h = carried s g f o x r
 
-        k : Kept (view M x)
+        k : HoldsIn (view M x)
         k = h .kept (keptStart s st)
 
   -- ---- how a run ends

@@ -16,7 +16,8 @@ use Rattle.rules.specs.Check.{mostCells}
 use Rattle.rules.specs.Run.{Result, result, answer, ledgerAfter, cellsAfter}
 use Rattle.rules.specs.Orders.{Quiescent}
 use Rattle.listing.specs.Listing.{listing}
-use Rattle.listing.specs.Demand3.{Lent, Left, RanOn, NotForOthers, used, Alike}
+use Rattle.rules.specs.Runs.{Lent, Left, RanOn}
+use Rattle.listing.specs.Demand3.{NotForOthers, used, Alike}
 use Rattle.listing.proofs.Answers.{done}
 use Rattle.listing.proofs.Demand3.{same-end, demand3}
 use Rattle.text.specs.declared.Printed.the-variants.{Done, TooSmall}
@@ -56,7 +57,7 @@ module _ (graph inputs : List ℕ) (graphBytes : Bytes graph) (inputBytes : Byte
   abbrev leftBy : Result → Left
   leftBy x = record { answer = answer x; ledger = ledgerAfter x (replicate ledgerBytes 0); cells = cellsAfter x (replicate cellBytes 0) }
 
-  ran : (picks : List ℕ) → RanOn graph inputs (lent picks) (leftBy (ended picks))
+  ran : (picks : List ℕ) → RanOn graph inputs 2048 (lent picks) (leftBy (ended picks))
   ran picks = record { answered = refl; numbers = refl; ledgerLeft = refl; cellsLeft = refl }
 
   allowed : (picks : List ℕ) → whole pickWidth mostTokens (length picks) ≡ true → NotForOthers graph inputs (lent picks)

@@ -1,4 +1,5 @@
 -- The laws of a profile over bytes. Assumes nothing.
+pub mod Places
 pub mod Stepping
 pub mod Looping
 pub mod Accepting

@@ -9,9 +9,9 @@ use rules::answer::Checked;
 use rules::answer::Outcome;
 use rules::answer::Profiled;
 use rules::answer::Refusal;
-ghost use Prim.Native.Nat.{_/_, _<_, _≤_};
+ghost use Prim.Native.Nat.{ℕ, _/_, _<_, _≤_};
 ghost use mathlib.Core.Path.{_≡_};
-ghost use lib.ListN.{length};
+ghost use lib.ListN.{length, getD};
 ghost use Rattle.buffer.specs.Rows.{putRow};
 ghost use Rattle.record.specs.GraphRecords.{graphOf};
 ghost use Rattle.record.specs.TokensAndTags.{tokens, tokenAt};
@@ -109,8 +109,23 @@ fn no_record(tables: &[u16; 512], flags: &[u64; 69], ledger: &[u8], used: usize)
     }
 }
 
-// An ideal step from a state of `start` tokens, of which `unspent` are live or deferred. What becomes enabled within it fires in
-// the next step at the earliest, so the flags are copied first.
+// Writes the places of the enabled activities, in order, and answers how many there are.
+fn enabled_places(flags: &[u64; 69], out: &mut [u16; 2048]) -> usize
+    requires { ⌜ Counted (now flags) × (length (now out) ≡ 2048) ⌝ }
+    ensures { λ r. ⌜ r ≡ length (places (flagsOf (now (flags .entry)))) ⌝ }
+    ensures { λ r. ⌜ ((k : ℕ) → k < r → getD (now (out .exit)) k 0 ≡ getD (places (flagsOf (now (flags .entry)))) k 0) × (length (now (out .exit)) ≡ 2048) ⌝ }
+{
+    let count = store::enabled_count(flags);
+    let mut k = 0;
+    while k < count {
+        out[k] = store::enabled_at(flags, k) as u16;
+        k += 1;
+    }
+    count
+}
+
+// An ideal step from a state of `start` tokens, of which `live` are live or deferred. What becomes enabled within it fires in
+// the next step at the earliest, so the places are taken first.
 fn step(
     graph: &[u8],
     tables: &[u16; 512],
@@ -118,14 +133,15 @@ fn step(
     flags: &mut [u64; 69],
     ledger: &mut [u8],
     cells: &mut [u8],
+    turns: &mut [u16; 2048],
     start: usize,
     live: usize,
 ) -> StepEnd
-    requires { ⌜ Prepared (now graph) (now tables) × Running (graphOf (now graph)) (now tables) (now links) (now flags) (now ledger) (now cells) start × (live ≡ unspentAt (graphOf (now graph)) (now ledger) (now cells) start) ⌝ }
+    requires { ⌜ Prepared (now graph) (now tables) × Running (graphOf (now graph)) (now tables) (now links) (now flags) (now ledger) (now cells) start × (live ≡ unspentAt (graphOf (now graph)) (now ledger) (now cells) start) × (length (now turns) ≡ 2048) ⌝ }
     ensures { λ r. ⌜ StepDone r (graphOf (now (graph .entry))) (now (tables .entry)) (now (links .exit)) (now (flags .exit)) (now (ledger .exit)) (now (cells .exit)) start (now (ledger .entry)) (now (cells .entry)) ⌝ }
+    ensures { λ _. ⌜ length (now (turns .exit)) ≡ 2048 ⌝ }
 {
-    let at_start = *flags;
-    let count = store::enabled_count(&at_start);
+    let count = enabled_places(flags, turns);
     if count == 0 {
         return StepEnd::Ended(ending::ending(tables, ledger, start), 0, start);
     }
@@ -133,7 +149,7 @@ fn step(
     let mut unspent = live;
     let mut k = 0;
     while k < count {
-        let place = store::enabled_at(&at_start, k);
+        let place = store_chains::wide(turns[k]);
         let arity = arity_at(tables, ledger, place);
         let fired = fire::fire(graph, tables, links, flags, ledger, cells, used, place);
         match fired {
@@ -177,12 +193,23 @@ fn proceed(
     ensures { λ r. ⌜ ProfiledTo (profileFrom (graphOf (now (graph .entry))) (length (now (profile .entry)) / stepWidth) 0 (now (ledger .entry)) (now (cells .entry)) start) r (now (ledger .entry)) (now (cells .entry)) (now (profile .entry)) (now (ledger .exit)) (now (cells .exit)) (now (profile .exit)) ⌝ }
 {
     let room = profile.len() / WIDTH;
+    let mut turns = [0u16; 2048];
     let mut used = start;
     let mut unspent = start;
     let mut firings = 0;
     let mut records = 0;
     while records < room {
-        let ended = step(graph, tables, links, flags, ledger, cells, used, unspent);
+        let ended = step(
+            graph,
+            tables,
+            links,
+            flags,
+            ledger,
+            cells,
+            &mut turns,
+            used,
+            unspent,
+        );
         match ended {
             StepEnd::Whole(count, n, live) => {
                 put_record(profile, records, count, live);

@@ -34,7 +34,8 @@ use Rattle.rules.proofs.Log.{TagFits, names-back, log-passed}
 use Rattle.rules.proofs.Log as Logs
 use Rattle.rules.proofs.Replay as Replays
 use Rattle.rules.proofs.Replay.{tags-fit}
-use Rattle.replay.specs.Claims.{Lent, Left, LoggedOn, ReplayedOn, logIn, recordsIn, By7, Refused, Quiescent, Again, LogReplays, LogsAgree}
+use Rattle.replay.specs.Claims.{LentToLogged, LeftByLogged, LoggedOn, ReplayedOn, logIn, recordsIn, By7, Again, LogReplays, LogsAgree}
+use Rattle.rules.specs.Runs.{Refused, Quiescent}
 
 -- ---- how a run ended, by its answer
 
@@ -111,7 +112,7 @@ once-back (τ ∷ τs) fs o = (λ m. o .0 (tag-member τ τs (fs .0) (fs .1) m),
 
 -- ---- the log of a run
 
-module _ (graph inputs : List ℕ) (l : Lent) where
+module _ (graph inputs : List ℕ) (l : LentToLogged) where
   abbrev whole : LogResult
   whole = logged graph inputs (l .picks) (l .budget) (length (l .ledger)) (length (l .cells)) (length (l .log))
 
@@ -145,14 +146,14 @@ module _ (graph inputs : List ℕ) (l : Lent) where
           let h = log-passed graph inputs (l .picks) (l .budget) (length (l .ledger)) (length (l .cells)) (length (l .log)) e in
           tags-fit graph inputs capacity count (h .start) (whole-bytes cellWidth mostCells (length (l .cells)) (h .stores .wholeCells) .1) graphBytes inputBytes (l .budget) (picksOf (l .picks)) (l .log)
 
-  records-are : (x : Left) → LoggedOn graph inputs l x → recordsIn x ≡ map encode (whole .log)
+  records-are : (x : LeftByLogged) → LoggedOn graph inputs l x → recordsIn x ≡ map encode (whole .log)
   unfolding logAfter
   records-are x h =
       (λ i. rows logWidth (take logWidth) (h .answered i .firings) (h .logLeft i))
       ∙ ap (λ (n : ℕ). rows logWidth (take logWidth) n (logAfter whole (l .log))) log-counted
       ∙ records-back (whole .log) (drop (length (joined encode (whole .log))) (l .log))
 
-  ends-at-rest : (x : Left) → LoggedOn graph inputs l x → Quiescent (x .answer .outcome) → Results.Quiescent (whole .result)
+  ends-at-rest : (x : LeftByLogged) → LoggedOn graph inputs l x → Quiescent (x .answer .outcome) → Results.Quiescent (whole .result)
   ends-at-rest x h q = at-rest (whole .result) (subst (λ (a : Answer). Quiescent (a .outcome)) (h .answered) q)
 
 pub logs-agree : LogsAgree

@@ -14,12 +14,13 @@ use Rattle.rules.specs.declared.answer.Outcome.{Outcome}
 use Rattle.rules.specs.declared.answer.Outcome.the-variants as Outcomes
 use Rattle.rules.specs.declared.answer.Refusal.the-variants.{BadStore}
 use Rattle.rules.specs.Run.{Ran}
+use Rattle.rules.specs.Runs.{Refused, Quiescent}
 use Rattle.rules.specs.Log.{logged, LogRan, replayed}
 
 -- ---- a run that writes a log, and a replay
 
 -- what the run is lent beside graph and inputs
-pub record Lent : Type 0 where
+pub record LentToLogged : Type 0 where
   pub picks : List ℕ
   pub budget : ℕ
   pub ledger : List ℕ
@@ -27,14 +28,14 @@ pub record Lent : Type 0 where
   pub log : List ℕ
 
 -- what it answers, and every byte of the three buffers afterwards
-pub record Left : Type 0 where
+pub record LeftByLogged : Type 0 where
   pub answer : Answer
   pub ledger : List ℕ
   pub cells : List ℕ
   pub log : List ℕ
 
 -- the promise of `run_logged`
-abbrev pub LoggedOn : (graph inputs : List ℕ) → Lent → Left → Type 0
+abbrev pub LoggedOn : (graph inputs : List ℕ) → LentToLogged → LeftByLogged → Type 0
 LoggedOn graph inputs l x = LogRan (logged graph inputs (l .picks) (l .budget) (length (l .ledger)) (length (l .cells)) (length (l .log)))
     (x .answer) (l .ledger) (x .ledger) (l .cells) (x .cells) (l .log) (x .log)
 
@@ -43,11 +44,11 @@ abbrev pub ReplayedOn : (graph inputs log ledger cells : List ℕ) → Answer �
 ReplayedOn graph inputs log ledger cells r ledger′ cells′ = Ran (replayed graph inputs log (length ledger) (length cells)) r ledger ledger′ cells cells′
 
 -- the log of a run is its first records, as many as it has firings: bytes behind them stay as lent
-abbrev pub logIn : Left → List ℕ
+abbrev pub logIn : LeftByLogged → List ℕ
 logIn x = take (x .answer .firings * logWidth) (x .log)
 
 -- its records, in every byte of each
-abbrev pub recordsIn : Left → List (List ℕ)
+abbrev pub recordsIn : LeftByLogged → List (List ℕ)
 recordsIn x = rows logWidth (take logWidth) (x .answer .firings) (x .log)
 
 -- ---- how it ended
@@ -58,23 +59,10 @@ By7 Outcomes.Hung = ⊥
 By7 Outcomes.Spent = ⊥
 By7 (Outcomes.Refused r place) = r ≡ BadStore
 
-abbrev pub Refused : Outcome → Type 0
-Refused Outcomes.Completed = ⊥
-Refused Outcomes.Hung = ⊥
-Refused Outcomes.Spent = ⊥
-Refused (Outcomes.Refused r place) = Unit {0}
-
--- completed or hung
-abbrev pub Quiescent : Outcome → Type 0
-Quiescent Outcomes.Completed = Unit {0}
-Quiescent Outcomes.Hung = Unit {0}
-Quiescent Outcomes.Spent = ⊥
-Quiescent (Outcomes.Refused r place) = ⊥
-
 -- ---- the claims
 
 -- a replay left what the run x left
-pub record Again (x : Left) (r : Answer) (ledger′ cells′ : List ℕ) : Type 0 where
+pub record Again (x : LeftByLogged) (r : Answer) (ledger′ cells′ : List ℕ) : Type 0 where
   -- "gives the same ledger, cells and counts in every byte"
   pub ledger : ledger′ ≡ x .ledger
   pub cells : cells′ ≡ x .cells
@@ -85,13 +73,13 @@ pub record Again (x : Left) (r : Answer) (ledger′ cells′ : List ℕ) : Type 
 
 -- "Replaying the log of a run not refused by 7, buffers lent alike"
 abbrev pub LogReplays : Type 0
-LogReplays = (graph inputs : List ℕ) → Bytes graph → Bytes inputs → (l : Lent) (x : Left) → LoggedOn graph inputs l x → ¬ (By7 (x .answer .outcome))
+LogReplays = (graph inputs : List ℕ) → Bytes graph → Bytes inputs → (l : LentToLogged) (x : LeftByLogged) → LoggedOn graph inputs l x → ¬ (By7 (x .answer .outcome))
     → (r : Answer) (ledger′ cells′ : List ℕ) → ReplayedOn graph inputs (logIn x) (l .ledger) (l .cells) r ledger′ cells′ → Again x r ledger′ cells′
 
 -- "The logs of two completed runs of one graph with equal inputs, capacity and cell count hold the same records, each once.": and of two that hang;
 -- the budgets may differ
 abbrev pub LogsAgree : Type 0
-LogsAgree = (graph inputs : List ℕ) → Bytes graph → Bytes inputs → (l m : Lent)
+LogsAgree = (graph inputs : List ℕ) → Bytes graph → Bytes inputs → (l m : LentToLogged)
     → capacityOf (length (l .ledger)) ≡ capacityOf (length (m .ledger)) → length (l .cells) / cellWidth ≡ length (m .cells) / cellWidth
-    → (x y : Left) → LoggedOn graph inputs l x → LoggedOn graph inputs m y → Quiescent (x .answer .outcome) → Quiescent (y .answer .outcome)
+    → (x y : LeftByLogged) → LoggedOn graph inputs l x → LoggedOn graph inputs m y → Quiescent (x .answer .outcome) → Quiescent (y .answer .outcome)
     → List·Permᴰ (recordsIn x) (recordsIn y) × Once (recordsIn x)

@@ -2,6 +2,7 @@
 use fire_commit::Fired;
 use record::log;
 use record::log::Named;
+use rules::answer;
 use rules::answer::Answer;
 use rules::answer::Checked;
 use rules::answer::Outcome;
@@ -92,20 +93,11 @@ fn proceed(
                 used = n;
                 firings += 1;
             }
-            Turn::Ended(outcome) => {
-                return Answer {
-                    outcome,
-                    firings,
-                    tokens: used,
-                };
-            }
+            Turn::Ended(outcome) => return answer::answered(outcome, firings, used),
         }
     }
-    Answer {
-        outcome: ending::rest(tables, flags, ledger, used),
-        firings,
-        tokens: used,
-    }
+    let outcome = ending::rest(tables, flags, ledger, used);
+    answer::answered(outcome, firings, used)
 }
 
 // A replay that passed every check begins as a run does.
@@ -149,11 +141,7 @@ pub fn replay(
 {
     let checked = checks::check(graph, inputs, &log[0..0], ledger.len(), cells.len());
     match checked {
-        Checked::Failed(r, place) => Answer {
-            outcome: Outcome::Refused(r, place),
-            firings: 0,
-            tokens: 0,
-        },
+        Checked::Failed(r, place) => answer::refused(r, place),
         Checked::Passed => accepted(graph, inputs, log, ledger, cells),
     }
 }

@@ -3,6 +3,7 @@ pub mod Answer
 pub mod Check
 pub mod InstructionSet
 pub mod Run
+pub mod Runs
 pub mod Computed
 pub mod Cases
 pub mod Orders

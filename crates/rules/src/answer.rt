@@ -1,5 +1,6 @@
 // What a run answers.
 ghost use mathlib.Core.Path.{_≡_};
+ghost use Rattle.rules.specs.declared.answer.Outcome.the-variants.{Refused};
 ghost use Rattle.rules.specs.Answer.{numberOf, wordOf};
 
 // The words of 01's table of refusals in this order, 1 to 17 without 15 and 16, which R-5 and R-6 took out; then 02's.
@@ -36,6 +37,24 @@ pub struct Answer {
     pub outcome: Outcome,
     pub firings: usize,
     pub tokens: usize,
+}
+
+// The answer of a run that came to this outcome after so many firings, and left so many tokens.
+pub fn answered(outcome: Outcome, firings: usize, tokens: usize) -> Answer
+    ensures { λ r. ⌜ r ≡ record { outcome = outcome; firings = firings; tokens = tokens } ⌝ }
+{
+    Answer {
+        outcome,
+        firings,
+        tokens,
+    }
+}
+
+// The answer of a run that was refused before any firing.
+pub fn refused(r: Refusal, place: usize) -> Answer
+    ensures { λ a. ⌜ a ≡ record { outcome = Refused r place; firings = 0; tokens = 0 } ⌝ }
+{
+    answered(Outcome::Refused(r, place), 0, 0)
 }
 
 // What a profile answers, with the number of its records.

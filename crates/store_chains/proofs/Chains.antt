@@ -12,6 +12,7 @@ use lib.Seq.{getD-set-same, getD-set-other, getD-append-seam}
 use borrow.Author.Tests.{eqb-true, eqb-false, ne-eqb}
 use Rattle.record.specs.declared.token.Token.{Token}
 use Rattle.store_chains.specs.Chains.{lastBelow, part, Linked, Chained}
+use Rattle.store_chains.specs.Walks.{On}
 use Rattle.store_chains.proofs.Parts.{length-part, getD-part, part-set, part-before, part-past}
 
 -- ---- the last place of a key
@@ -172,12 +173,6 @@ key-at key (t ∷ ts) zero d h = refl
 key-at key (t ∷ ts) (suc i) d h = key-at key ts i d (le-of-suc-le-suc h)
 
 -- ---- a walk
-
--- `at` is a place + 1 of chain c, or 0 at its end
-pub record On (c : ℕ) (ks : List ℕ) (at : ℕ) : Type 0 where
-  pub below : at ≤ length ks
-  pub small : at ≤ 2048
-  pub here : at ≡ lastBelow (suc c) ks at
 
 module _ (from size : ℕ) (key : Token → ℕ) (links : List ℕ) (ts : List Token) (w : Chained from size key links ts) (c : ℕ) (low : c < size) where
   pub walk-first : getD links (c + from) 0 ≡ lastBelow (suc c) (map key ts) (length ts)

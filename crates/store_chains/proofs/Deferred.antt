@@ -16,7 +16,8 @@ use Rattle.record.specs.declared.token.Content.the-variants.{Live, Spent, Defer
 use Rattle.store_chains.specs.Chains.{lastBelow, part, Linked, Chained}
 use Rattle.store_chains.specs.Deferred.{keyOf, cellKey, Waiting, contentWoken, woken}
 use Rattle.store_chains.proofs.Parts.{part-set, part-before}
-use Rattle.store_chains.proofs.Chains.{last-same, last-none, key-at, On, walk-first, on-first, walk-next, next-below, on-next}
+use Rattle.store_chains.proofs.Chains.{last-same, last-none, key-at, walk-first, on-first, walk-next, next-below, on-next}
+use Rattle.store_chains.specs.Walks.{On}
 
 -- ---- a list whose elements from a place on are changed
 

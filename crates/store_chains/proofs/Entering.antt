@@ -10,8 +10,8 @@ use Rattle.store_chains.specs.Deferred.{cellKey, Waiting}
 use Rattle.store_chains.proofs.Chains.{chained-before, chained-past, chained-on}
 
 module _ (links : List ℕ) (t : Token) (used : ℕ) (room : used < 2048) (ts : List Token) where
-  -- by tag and port
-  module _ (b : ℕ) (e : b ≡ bucketOf (t .tag) (t .port)) (low : b < 4096) where
+  -- by tag
+  module _ (b : ℕ) (e : b ≡ bucketOf (t .tag)) (low : b < 4096) where
     abbrev at-bucket : List ℕ
     at-bucket = set (set links (used + 4096) (getD links b 0)) b (used + 1)
 

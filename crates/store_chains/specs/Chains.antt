@@ -31,13 +31,13 @@ part from size l = take size (drop from l)
 unfoldable pub Chained : (from size : ℕ) → (Token → ℕ) → (links : List ℕ) → List Token → Type 0
 Chained from size key links ts = Linked size (part from size links) (part (from + size) 2048 links) (map key ts)
 
--- ---- by tag and port: every token is in the chain of its bucket
+-- ---- by tag: every token is in the chain of its bucket
 
-unfoldable pub bucketOf : Tag → (port : ℕ) → ℕ
-bucketOf k port = (k .path % 4093 + k .iteration * 1259 + k .instruction * 341 + port * 2081) % 4096
+unfoldable pub bucketOf : Tag → ℕ
+bucketOf k = (k .path % 4093 + k .iteration * 1259 + k .instruction * 341) % 4096
 
 abbrev pub bucketKey : Token → ℕ
-bucketKey t = suc (bucketOf (t .tag) (t .port))
+bucketKey t = suc (bucketOf (t .tag))
 
 abbrev pub Indexed : (links : List ℕ) → List Token → Type 0
 Indexed links ts = Chained 0 4096 bucketKey links ts

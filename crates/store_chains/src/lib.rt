@@ -1,20 +1,22 @@
-// Chains through the tokens of a ledger: by tag and port, and by the cell that a token is deferred on. A walk
-// along one finds what a scan of the ledger finds. All chains stand in one array, `links`, by these parts.
+// Chains through the tokens of a ledger: by tag, and by the cell that a token is deferred on. A walk along
+// one finds what a scan of the ledger finds. All chains stand in one array, `links`, by these parts.
 use record::tag::Tag;
 use record::token;
 use record::token::Content;
 use record::token::Token;
 ghost use mathlib.Core.Path.{_≡_};
+ghost use mathlib.Core.Bool.{true};
 ghost use mathlib.Core.List.{List, [], _∷_, _++_};
-ghost use Prim.Native.Nat.{_+_, _/_, _≤_, _<_};
+ghost use Prim.Native.Nat.{_+_, _-_, _/_, _≤_, _<_};
 ghost use lib.ListN.{length, getD, set};
-ghost use Rattle.record.specs.TokensAndTags.{tokens, standsAt};
+ghost use Rattle.record.specs.TokensAndTags.{tokens, tokenAt, standsAt};
 ghost use Rattle.record.specs.Widths.{tokenWidth};
 ghost use Rattle.store_chains.specs.Search.{firstFrom, foundOf, Within};
 ghost use Rattle.store_chains.specs.Chains.{bucketOf, Indexed};
+ghost use Rattle.store_chains.specs.Walks.{Walk};
 ghost use Rattle.store_chains.specs.Deferred.{LowCell, Waiting};
 
-// Heads by tag and port from 0 on, and for each place the link to the one before it.
+// Heads by tag from 0 on, and for each place the link to the one before it.
 const NEXT: usize = 4096;
 
 // Heads by cell, and for each place the link to the one before it that is deferred on the cell.
@@ -34,13 +36,10 @@ pub fn wide(x: u16) -> usize
     x as usize
 }
 
-fn bucket(tag: Tag, port: u8) -> usize
-    ensures { λ r. ⌜ (r ≡ bucketOf tag port) × (r < 4096) ⌝ }
+fn bucket(tag: Tag) -> usize
+    ensures { λ r. ⌜ (r ≡ bucketOf tag) × (r < 4096) ⌝ }
 {
-    let sum = tag.path % 4093
-        + (tag.iteration as u64) * 1259
-        + (tag.instruction as u64) * 341
-        + (port as u64) * 2081;
+    let sum = tag.path % 4093 + (tag.iteration as u64) * 1259 + (tag.instruction as u64) * 341;
     (sum % 4096) as usize
 }
 
@@ -55,14 +54,13 @@ fn found_of(best: usize) -> Found
     }
 }
 
-// The first of the used records that stands at a port of a tag. A chain goes from the last record to the
-// first, so the whole chain is walked.
-pub fn find(links: &[u16; 9216], ledger: &[u8], used: usize, tag: Tag, port: u8) -> Found
-    requires { ⌜ (used ≤ length (now ledger) / tokenWidth) × Indexed (now links) (tokens used (now ledger)) ⌝ }
+// The first of the used records that stands at a port of a tag, where none does in the tag's chain before `from`. A chain
+// goes from the last record to the first, so the rest of it is walked to its end.
+fn walk(links: &[u16; 9216], ledger: &[u8], used: usize, from: usize, tag: Tag, port: u8) -> Found
+    requires { ⌜ (used ≤ length (now ledger) / tokenWidth) × Indexed (now links) (tokens used (now ledger)) × Walk (now ledger) used tag port from 0 ⌝ }
     ensures { λ r. ⌜ (r ≡ firstFrom (standsAt tag port) 0 (tokens used (now (ledger .entry)))) × Within r used ⌝ }
 {
-    let b = bucket(tag, port);
-    let mut at = wide(links[b]);
+    let mut at = from;
     let mut best: usize = 0;
     while at != 0 {
         let i = at - 1;
@@ -75,6 +73,26 @@ pub fn find(links: &[u16; 9216], ledger: &[u8], used: usize, tag: Tag, port: u8)
     found_of(best)
 }
 
+// The first of the used records that stands at a port of a tag.
+pub fn find(links: &[u16; 9216], ledger: &[u8], used: usize, tag: Tag, port: u8) -> Found
+    requires { ⌜ (used ≤ length (now ledger) / tokenWidth) × Indexed (now links) (tokens used (now ledger)) ⌝ }
+    ensures { λ r. ⌜ (r ≡ firstFrom (standsAt tag port) 0 (tokens used (now (ledger .entry)))) × Within r used ⌝ }
+{
+    let b = bucket(tag);
+    let head = wide(links[b]);
+    walk(links, ledger, used, head, tag, port)
+}
+
+// The first record on the other port of the last one's tag. The last is the head of its chain, so the walk begins behind it; where
+// it is alone there, nothing is searched.
+pub fn find_partner(links: &[u16; 9216], ledger: &[u8], last: usize, tag: Tag, port: u8) -> Found
+    requires { ⌜ (last < length (now ledger) / tokenWidth) × Indexed (now links) (tokens (last + 1) (now ledger)) × (port < 2) × (standsAt tag port (tokenAt (now ledger) last) ≡ true) ⌝ }
+    ensures { λ r. ⌜ (r ≡ firstFrom (standsAt tag (1 - port)) 0 (tokens (last + 1) (now (ledger .entry)))) × Within r (last + 1) ⌝ }
+{
+    let next = wide(links[last + NEXT]);
+    walk(links, ledger, last + 1, next, tag, 1 - port)
+}
+
 // Puts place `used` at the head of a chain: its link is at `link`, the head at `head`.
 fn link(links: &mut [u16; 9216], head: usize, link: usize, used: usize)
     requires { ⌜ (head < 9216) × (link < 9216) × (used < 2048) ⌝ }
@@ -85,7 +103,7 @@ fn link(links: &mut [u16; 9216], head: usize, link: usize, used: usize)
     links[head] = (used + 1) as u16;
 }
 
-// Enters a token that stands at place `used`, after those before it: in the chain of its tag and port and, if it is
+// Enters a token that stands at place `used`, after those before it: in the chain of its tag and, if it is
 // deferred, in that of its cell.
 pub fn enter(links: &mut [u16; 9216], used: usize, t: Token)
     requires { ⌜ (used < 2048) × LowCell (t .content) ⌝ }
@@ -93,7 +111,7 @@ pub fn enter(links: &mut [u16; 9216], used: usize, t: Token)
     ensures { λ _. ⌜ ((ts : List Token) → length ts ≡ used → Waiting (now (links .entry)) ts → Waiting (now (links .exit)) (ts ++ t ∷ [])) ⌝ }
 {
     let tag = t.tag;
-    let b = bucket(tag, t.port);
+    let b = bucket(tag);
     link(links, b, used + NEXT, used);
     let content = t.content;
     match content {

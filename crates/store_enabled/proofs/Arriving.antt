@@ -10,14 +10,17 @@ use lib.Dec.{eqb}
 use lib.ListN.{length, getD, set, length-map}
 use borrow.Author.Tests.{eqb-true, eqb-false}
 use Rattle.buffer.specs.Rows.{All}
-use Rattle.record.specs.TokensAndTags.{tokens, tokenAt, standsAt}
+use Rattle.buffer.proofs.Tables.{getD-rows}
+use Rattle.record.specs.TokensAndTags.{tokens, tokenAt, decode, standsAt}
+use Rattle.record.specs.Widths.{tokenWidth}
 use Rattle.record.specs.declared.tag.Tag.{Tag}
 use Rattle.record.specs.declared.token.Token.{Token}
 use Rattle.store_flags.specs.Marks.{bit}
 use Rattle.store_flags.proofs.Marks.{marked-past}
 use Rattle.store_chains.specs.declared.Found.{Found}
 use Rattle.store_chains.specs.declared.Found.the-variants.{At, Nothing}
-use Rattle.store_chains.specs.Search.{firstFrom}
+use Rattle.store_chains.specs.Search.{firstFrom, Within}
+use Rattle.store_chains.proofs.Search.{first-passes}
 use Rattle.store_chains.proofs.Index.{and-left, and-right}
 use Rattle.store_enabled.specs.Enabled.{isLive, liveAt, allLive, arityOf, isEnabled, tagOf, tagsOf, tagSame, placeOf}
 use Rattle.store_enabled.specs.Store.{Right, raisedIf, placeOr, lower, liveFound, readyOf, readyWith}
@@ -114,6 +117,22 @@ lower-turned a b = go (decLe (suc a) b)
 lower-own : (f : Found) (i n : ℕ) → i < n → lower i (placeOr f n) ≡ lower i (placeOr f i)
 lower-own (At j) i n h = refl
 lower-own Nothing i n h = lower-first i n h ∙ sym (lower-second i i (omega arith))
+
+-- what stands at place i or before it is no later than i
+pub partner-place : (f : Found) (i : ℕ) → Within f (i + 1) → (lower i (placeOr f i) ≡ placeOr f i) × (placeOr f i < i + 1)
+partner-place (At j) i w = (lower-second i j (omega arith), w)
+partner-place Nothing i w = (lower-second i i (omega arith), omega arith)
+
+-- what a search found stands there
+pub own-stands : (tag : Tag) (port i n : ℕ) (m : List ℕ) → i < n → firstFrom (standsAt tag port) 0 (tokens n m) ≡ At i → standsAt tag port (tokenAt m i) ≡ true
+own-stands tag port i n m h e =
+    let d = tokenAt m i in
+    rw (getD-rows tokenWidth decode n i m d h) at (first-passes (standsAt tag port) d (tokens n m) i e)
+
+-- no operands are never all live
+pub none-live : (n : ℕ) (ts : List Token) (tag : Tag) → n ≡ 0 → allLive n ts tag ≡ false
+unfolding allLive
+none-live n ts tag e = rw e
 
 -- the record at i is the first on a port of a tag, and `other` is what the other port has
 module _ (tag : Tag) (port i n : ℕ) (m : List ℕ) (h : i < n) (low : port < 2) (own : firstFrom (standsAt tag port) 0 (tokens n m) ≡ At i) (other : Found) (found : other ≡ firstFrom (standsAt tag (1 - port)) 0 (tokens n m)) where

@@ -47,7 +47,7 @@ module _ (P : Token → Type 0) where
 pub known-few : (links l : List ℕ) (used : ℕ) → Known links l used → used ≤ 2048
 known-few links l used w = omega (arith, chained-few 0 4096 bucketKey links (tokens used l) (w .index), length-rows tokenWidth decode used l)
 
--- a store of links that leaves the chains by tag and port
+-- a store of links that leaves the chains by tag
 pub stored-links : (tables links flags l : List ℕ) (used : ℕ) → Stored tables links flags l used → (links′ : List ℕ) → Indexed links′ (tokens used l) → Stored tables links′ flags l used
 stored-links tables links flags l used w links′ index = record {
   known = record { room = w .known .room; index = index; ports = w .known .ports };
@@ -105,7 +105,7 @@ module _ (tables links flags l : List ℕ) (used i : ℕ) (t : Token) (w : Store
       let at : getD ts i d ≡ d = getD-rows tokenWidth decode used i l d h in
       let tag : t .tag ≡ getD ts i d .tag = rw at a in
       let port : t .port ≡ getD ts i d .port = rw at b in
-      let key : bucketKey t ≡ bucketKey (getD ts i d) = rw (tag, port) in
+      let key : bucketKey t ≡ bucketKey (getD ts i d) = rw tag in
       let space : used * tokenWidth ≤ length l = omega (arith, w .known .room) in
       let e : tokens used m ≡ set ts i t = rw put (tokens-put t fits used i l h space) in
       let ports = w .known .ports in

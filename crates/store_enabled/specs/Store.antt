@@ -1,4 +1,4 @@
--- What is kept beside the used records of a ledger: the chains by tag and port, and the flags of the enabled activities with their counts.
+-- What is kept beside the used records of a ledger: the chains by tag, and the flags of the enabled activities with their counts.
 -- Assumes nothing.
 use Prim.Native.Nat.{ℕ, _+_, _*_, _/_, _≤_, _<_}
 use mathlib.Core.Path.{_≡_}

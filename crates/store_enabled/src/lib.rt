@@ -76,7 +76,7 @@ fn earlier(a: usize, b: usize) -> usize
 
 // Raises the flag of the activity of the token at `own`, if its operands are all live. No other token stands on that one's
 // port, so that of the operands only the other is searched for.
-fn settle(
+fn settle_changed(
     flags: &mut [u64; 69],
     links: &[u16; 9216],
     ledger: &[u8],
@@ -93,6 +93,30 @@ fn settle(
     let other = store_chains::find(links, ledger, used, tag, 1 - port);
     if ready_with(ledger, port, Found::At(own), other, operands) {
         store_flags::raise(flags, earlier(own, place_or(other, own)));
+    }
+}
+
+// The same of the token that arrived last. At a result nothing is searched for, and a token that is alone in its chain has no
+// partner. A partner is earlier.
+fn settle_arrived(
+    flags: &mut [u64; 69],
+    links: &[u16; 9216],
+    ledger: &[u8],
+    own: usize,
+    tag: Tag,
+    port: u8,
+    operands: u16,
+)
+    requires { ⌜ Counted (now flags) × Known (now links) (now ledger) (own + 1) × (port < 2) × (firstFrom (standsAt tag port) 0 (tokens (own + 1) (now ledger)) ≡ At own) ⌝ }
+    ensures { λ _. ⌜ flagsOf (now (flags .exit)) ≡ raisedIf (allLive operands (tokens (own + 1) (now (ledger .entry))) tag) (flagsOf (now (flags .entry))) (placeOf (tokens (own + 1) (now (ledger .entry))) tag) ⌝ }
+    ensures { λ _. ⌜ Counted (now (flags .exit)) ⌝ }
+{
+    if operands == 0 {
+        return;
+    }
+    let other = store_chains::find_partner(links, ledger, own, tag, port);
+    if ready_with(ledger, port, Found::At(own), other, operands) {
+        store_flags::raise(flags, place_or(other, own));
     }
 }
 
@@ -161,7 +185,7 @@ pub fn append(
     token::put_token(ledger, used, t);
     store_chains::enter(links, used, t);
     let operands = arity(tables, tag);
-    settle(flags, links, ledger, used + 1, used, tag, t.port, operands);
+    settle_arrived(flags, links, ledger, used, tag, t.port, operands);
 }
 
 // Puts t, of the same tag and port, in the place of token i. What was live stays so, and so does a flag that was raised.
@@ -182,7 +206,7 @@ pub fn change(
     let tag = t.tag;
     token::put_token(ledger, i, t);
     let operands = arity(tables, tag);
-    settle(flags, links, ledger, used, i, tag, t.port, operands);
+    settle_changed(flags, links, ledger, used, i, tag, t.port, operands);
 }
 
 // Spends the operands of an enabled activity; where one is waited for, both places are its place. The activity is

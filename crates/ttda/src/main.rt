@@ -5,6 +5,7 @@ use libc::ENAMETOOLONG;
 use libc::ENOENT;
 use libc::STDOUT_FILENO;
 use text::Printed;
+ghost use mathlib.Core.Path.{_≡_};
 ghost use Prim.Native.Nat.{_≤_};
 ghost use lib.ListN.{length};
 
@@ -32,18 +33,15 @@ fn read_file(path: &[u8], buf: &mut [u8]) -> isize {
     n as isize
 }
 
-// Reads a file of a folder, of the current one where the folder's name is empty.
-fn read_in(folder: &[u8], name: &[u8], buf: &mut [u8]) -> isize
-    requires { ⌜ (length (now folder) ≤ 4000) × (length (now name) ≤ 6) ⌝ }
+// Reads a file of the folder whose name is the first n bytes of path, of the current one where n is 0.
+fn read_in(path: &mut [u8], n: usize, name: &[u8], buf: &mut [u8]) -> isize
+    requires { ⌜ (length (now path) ≡ 4096) × (n ≤ 4000) × (length (now name) ≤ 6) ⌝ }
 {
-    let n = folder.len();
     if n == 0 {
         return read_file(name, buf);
     }
-    let mut path = io::buffer();
-    buffer::write_at(&mut path, 0, folder);
     path[n] = b'/';
-    buffer::write_at(&mut path, n + 1, name);
+    buffer::write_at(path, n + 1, name);
     read_file(&path[..n + 1 + name.len()], buf)
 }
 
@@ -80,17 +78,17 @@ fn show(graph: &[u8], inputs: &[u8], picks: &[u8], out: &mut [u8]) {
     }
 }
 
-// Reads the three files of a folder, and shows their run.
-fn show_folder(folder: &[u8])
-    requires { ⌜ length (now folder) ≤ 4000 ⌝ }
+// Reads the three files of the folder whose name is the first n bytes of path, and shows their run.
+fn show_folder(path: &mut [u8], n: usize)
+    requires { ⌜ (length (now path) ≡ 4096) × (n ≤ 4000) ⌝ }
 {
     // Each a record longer than the longest that a run accepts.
     let mut graph = [0u8; 4112];
     let mut inputs = [0u8; 40980];
     let mut picks = [0u8; 4098];
-    let g = read_in(folder, b"graph", &mut graph);
-    let i = read_in(folder, b"inputs", &mut inputs);
-    let p = read_in(folder, b"picks", &mut picks);
+    let g = read_in(path, n, b"graph", &mut graph);
+    let i = read_in(path, n, b"inputs", &mut inputs);
+    let p = read_in(path, n, b"picks", &mut picks);
     if g < 0 || i < 0 || p < 0 {
         return;
     }
@@ -103,11 +101,12 @@ fn show_folder(folder: &[u8])
 }
 
 fn main() {
-    let mut folder = [0u8; 4000];
-    let n = folder_in(&mut folder);
+    // The name of the folder, and behind it room for that of a file.
+    let mut path = io::buffer();
+    let n = folder_in(&mut path[..4000]);
     if n < 0 {
         return;
     }
-    let n = io::count(n, &folder);
-    show_folder(&folder[..n]);
+    let n = io::count(n, &path[..4000]);
+    show_folder(&mut path, n);
 }

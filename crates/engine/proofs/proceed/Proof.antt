@@ -40,19 +40,22 @@ proceed-spec =
     let a = rw (c .before .before .before .before .before .turned .given .1) at (c .before .before .before .before .before .before .before .before .before .before .before .take-turn .ensures) in
     (advanced _ _ _ _ _ _ (l .0) h _ _ _ _ _ _ a, noted-on _ _ _ _ _ _ (l .0) (l .1) h _ a _ (c .before .before .note .ensures)))
     (λ c. search needs)
+    (λ c κs. search needs)
     (λ c. search needs)
     (λ c. search needs)
     (λ c. search needs)
     (λ c.
-    let l = c .before .before .before .before .before .before .before .before .before .before .before .before .before .loop .inv in
-    let h = c .before .before .before .before .before .before .before .before .before .before .before .before .loop-test .taken in
-    let a = rw (c .before .turned2 .given .1) at (c .before .before .before .before .before .before .before .take-turn .ensures) in
-    (halted _ _ _ _ _ _ (l .0) h _ _ _ _ _ a, noted-halted _ _ _ _ _ _ (l .0) (l .1) h a))
+    let l = c .before .before .before .before .before .before .before .before .before .before .before .before .before .before .loop .inv in
+    let h = c .before .before .before .before .before .before .before .before .before .before .before .before .before .loop-test .taken in
+    let a = rw (c .before .before .turned2 .given .1) at (c .before .before .before .before .before .before .before .before .take-turn .ensures) in
+    (rw (c .answered .ensures) (halted _ _ _ _ _ _ (l .0) h _ _ _ _ _ a), noted-halted _ _ _ _ _ _ (l .0) (l .1) h a))
     (λ c κs. let m = c .before .before .before .loop .inv .0 .running .matching in (matching-counted m, matching-places m, matching-room m))
+    (λ c κs. search needs)
     (λ c. search needs)
     (λ c. search needs)
     (λ c. search needs)
     (λ c.
-    let l = c .before .before .before .before .loop .inv in
-    let h = c .before .before .before .loop-test .left in
-    (finished _ _ _ _ _ _ (l .0) h (c .before .before .before .before .before .before .before .before .before .before .pre .0 .aritiesRight) _ (c .rest .ensures), noted-finished _ _ _ _ _ _ (l .0) (l .1) h)))
+    let l = c .before .before .before .before .before .loop .inv in
+    let h = c .before .before .before .before .loop-test .left in
+    let right = c .before .before .before .before .before .before .before .before .before .before .before .pre .0 .aritiesRight in
+    (rw (c .answered2 .ensures) (finished _ _ _ _ _ _ (l .0) h right _ (c .before .rest .ensures)), noted-finished _ _ _ _ _ _ (l .0) (l .1) h)))

@@ -15,14 +15,16 @@ run-spec =
     (tie.spec
     (λ c κs. search needs)
     (λ c. search needs)
+    (λ c κs. search needs)
     (λ c. search needs)
     (λ c. search needs)
     (λ c κs.
     let a = c .before .before .before .before .before .before .before .before .before .before .before .args in
     accepted-by (a .graph .now) (a .inputs .now) (a .picks .now) (length (a .ledger .now)) (length (a .cells .now)) (sym (c .before .before .before .before .before .check .ensures) ∙ c .before .before .before .enum-told .given .1))
     (λ c.
-    let e = sym (c .before .before .before .check .ensures) ∙ c .before .checked .given .1 in
-    rw e (record { answered = refl; numbers = refl; ledgerLeft = refl; cellsLeft = refl }))
+    let e = sym (c .before .before .before .before .check .ensures) ∙ c .before .before .checked .given .1 in
+    let a = c .refused .ensures in
+    rw e (record { answered = a; numbers = ap valuesOf a; ledgerLeft = refl; cellsLeft = refl }))
     (λ c. search needs)
     (λ c. search needs)
     (λ c.

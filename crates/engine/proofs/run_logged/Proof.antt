@@ -20,13 +20,14 @@ run-logged-spec =
     (tie.spec
     (λ c κs. search needs)
     (λ c. search needs)
+    (λ c κs. search needs)
     (λ c. search needs)
     (λ c κs.
     let a = c .before .before .before .before .before .before .before .before .before .before .before .before .args in
     accepted-logged (a .graph .now) (a .inputs .now) (a .picks .now) (a .budget) (length (a .ledger .now)) (length (a .cells .now)) (length (a .log .now)) (sym (c .before .before .before .before .before .check-logged .ensures) ∙ c .before .before .before .enum-told .given .1))
     (λ c.
-    let e = sym (c .before .before .before .check-logged .ensures) ∙ c .before .checked .given .1 in
-    rw e (record { answered = refl; ledgerLeft = refl; cellsLeft = refl; logLeft = refl }))
+    let e = sym (c .before .before .before .before .check-logged .ensures) ∙ c .before .before .checked .given .1 in
+    rw e (record { answered = c .refused .ensures; ledgerLeft = refl; cellsLeft = refl; logLeft = refl }))
     (λ c. search needs)
     (λ c. search needs)
     (λ c. search needs)

@@ -33,10 +33,17 @@ proceed-spec =
     (λ c. omega (arith, c .before .before .before .before .before .before .before .before .before .before .before .before .loop-test .taken))
     (λ c. advanced _ _ _ _ _ (c .before .before .before .before .before .before .before .before .before .before .before .before .before .loop .inv) (c .before .before .before .before .before .before .before .before .before .before .before .before .loop-test .taken) _ _ _ _ _ (rw (c .before .turned .given .1) at (c .before .before .before .before .before .before .before .take-record .ensures)))
     (λ c. search needs)
+    (λ c κs. search needs)
     (λ c. search needs)
     (λ c. search needs)
-    (λ c. halted _ _ _ _ _ (c .before .before .before .before .before .before .before .before .before .before .before .before .before .loop .inv) (c .before .before .before .before .before .before .before .before .before .before .before .before .loop-test .taken) _ _ _ _ _ (rw (c .before .turned2 .given .1) at (c .before .before .before .before .before .before .before .take-record .ensures)))
+    (λ c.
+    let l = c .before .before .before .before .before .before .before .before .before .before .before .before .before .before .loop .inv in
+    let h = c .before .before .before .before .before .before .before .before .before .before .before .before .before .loop-test .taken in
+    rw (c .answered .ensures) (halted _ _ _ _ _ l h _ _ _ _ _ (rw (c .before .before .turned2 .given .1) at (c .before .before .before .before .before .before .before .before .take-record .ensures))))
     (λ c κs. let m = c .before .before .before .loop .inv .running .matching in (matching-counted m, matching-places m, matching-room m))
+    (λ c κs. search needs)
     (λ c. search needs)
     (λ c. search needs)
-    (λ c. finished _ _ _ _ _ (c .before .before .before .before .loop .inv) (c .before .before .before .loop-test .left) (c .before .before .before .before .before .before .before .before .before .pre .0 .aritiesRight) _ (c .rest .ensures)))
+    (λ c.
+    let right = c .before .before .before .before .before .before .before .before .before .before .pre .0 .aritiesRight in
+    rw (c .answered2 .ensures) (finished _ _ _ _ _ (c .before .before .before .before .before .loop .inv) (c .before .before .before .before .loop-test .left) right _ (c .before .rest .ensures))))

@@ -17,11 +17,13 @@ replay-spec =
     (λ c. search needs)
     (λ c κs. search needs)
     (λ c. search needs)
+    (λ c κs. search needs)
     (λ c. search needs)
     (λ c κs. sym (c .before .before .before .before .check .ensures) ∙ c .before .before .enum-told .given .1)
     (λ c.
-    let e = sym (c .before .before .before .check .ensures) ∙ c .before .checked .given .1 in
-    rw e (record { answered = refl; numbers = refl; ledgerLeft = refl; cellsLeft = refl }))
+    let e = sym (c .before .before .before .before .check .ensures) ∙ c .before .before .checked .given .1 in
+    let a = c .refused .ensures in
+    rw e (record { answered = a; numbers = ap valuesOf a; ledgerLeft = refl; cellsLeft = refl }))
     (λ c. search needs)
     (λ c. search needs)
     (λ c.

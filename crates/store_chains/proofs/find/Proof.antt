@@ -1,64 +1,18 @@
--- `store_chains::find` meets its contract. The loop's invariant: `at` is on the chain of the bucket, and `best` is what the places past it have found.
--- The measure is `at`, since a chain goes back. Assumes nothing.
-use Prim.Native.Nat.{_<_}
-use mathlib.Core.Path.{_≡_, _∙_}
-use mathlib.Core.Bool.{cond}
-use mathlib.Core.Logic.{⊎-elim}
+-- `store_chains::find` meets its contract: a walk from the head of the tag's chain misses nothing. Assumes nothing.
 use native.Mathlib.Omega.{arith}
 use borrow.Author.Needs.{needs}
-use Rattle.record.specs.TokensAndTags.{standsAt}
-use Rattle.store_chains.proofs.Index.{Walk, walk-start, walk-step, walk-end, found-within}
+use Rattle.store_chains.proofs.Index.{walk-start}
 use Rattle.store_chains.proofs.find.Statement.{statement}
 use Rattle.store_chains.proofs.find.Tie as tie
 
-abbrev Inv-loop : tie.InvT-loop
-Inv-loop links ledger used tag port b at₀ best₀ at best = Walk ledger used tag port b at best
-
-abbrev μ-loop : tie.MeasureT-loop
-μ-loop links ledger used tag port b at₀ best₀ at best = at
-
--- the step along the chain, where `best` is not yet looked at
-stepped : (c : tie.After-wide2 Inv-loop μ-loop) → let d = c .before .before .before in
-    let l = d .before .before .before .loop in
-    let a = d .before .before .before .before .before .before .before .before .args in
-    (c .wide2 .result < l .at) × Walk (a .ledger .now) (a .used) (a .tag) (a .port) (d .before .before .before .before .before .before .bucket .result) (c .wide2 .result) (cond (d .stands-at .result) (l .at) (l .best))
-stepped c =
-    let d = c .before .before .before in
-    let l = d .before .before .before .loop in
-    let b = d .before .before .before .before .before .before .bucket in
-    let s = d .before .before .before .before .before .before .before .before in
-    let a = s .args in
-    rw (c .wide2 .ensures, d .stands-at .ensures, d .before .token-at .ensures)
-    (walk-step (a .ledger .now) (a .used) (a .tag) (a .port) (a .links .now) (s .pre .1) (b .result) (b .ensures .0) (b .ensures .1) (l .at) (l .best) (d .before .before .loop-test .taken) (l .inv))
-
 pub find-spec : {M : Type 1} → statement M
 find-spec = tie.close (tie.spec
-    Inv-loop
-    μ-loop
     (λ c κs. search needs)
     (λ c. search needs)
     (λ c. search needs)
     (λ c κs. search needs)
-    (λ c.
+    (λ c κs.
     let s = c .before .before .before .before in
     let a = s .args in
-    let b = c .before .before .bucket in
-    rw (c .wide .ensures) (walk-start (a .ledger .now) (a .used) (a .tag) (a .port) (a .links .now) (s .pre .1) (b .result) (b .ensures .0) (b .ensures .1)))
-    (λ c. search needs)
-    (λ c κs. omega (arith, c .before .loop .inv .low))
-    (λ c κs. search needs)
-    (λ c. omega (arith, c .before .before .before .before .loop .inv .on .small))
-    (λ c. search needs)
-    (λ c. omega (arith, c .before .before .before .before .loop .inv .on .small))
-    (λ c κs. search needs)
-    (λ c. stepped c .0)
-    (λ c.
-    let s = stepped c .1 in
-    ⊎-elim (λ w. rw (w .1) (rw (w .0 .taken) at s)) (λ w. rw (w .1) (rw (w .0 .left) at s)) (c .before .before .if1 .came))
-    (λ c κs. search needs)
-    (λ c.
-    let l = c .before .before .loop in
-    let a = c .before .before .before .before .before .before .before .args in
-    let z : l .at ≡ 0 = c .before .loop-test .left in
-    let e = c .found-of .ensures ∙ walk-end (a .ledger .now) (a .used) (a .tag) (a .port) (c .before .before .before .before .before .bucket .result) (l .best) (rw z at (l .inv)) in
-    (e, rw e (found-within (standsAt (a .tag) (a .port)) (a .used) (a .ledger .now)))))
+    (s .pre .0, s .pre .1, rw (c .wide .ensures, c .before .before .bucket .ensures .0) (walk-start (a .ledger .now) (a .used) (a .tag) (a .port) (a .links .now) (s .pre .1))))
+    (λ c. c .walk .ensures))

@@ -33,11 +33,10 @@ append-spec = tie.close (tie.spec
     (λ c κs. search needs)
     (λ c κs. search needs)
     (λ c κs. search needs)
-    (λ c. search needs)
     (λ c κs.
     let s = c .before .before .before .before .before .before .before .before .before .before .before .before .before in
     let e = entered (c .before .before .before .before .before) in
-    (s .pre .0 .counted, e .known, omega arith, s .pre .3, e .own))
+    (s .pre .0 .counted, e .known, s .pre .3, e .own))
     (λ c. search needs)
     (λ c.
     let s = c .before .before .before .before .before .before .before .before .before .before .before .before .before .before in
@@ -46,5 +45,5 @@ append-spec = tie.close (tie.spec
     let ts = tokens (a .used) (a .ledger .now) in
     let us = ts ++ a .t ∷ [] in
     let once = raised-only (isEnabled (a .tables .now) us (a .t .tag)) (flagsOf (a .flags .now)) (placeOf us (a .t .tag)) (right-wait (a .tables .now) ts (a .t) (flagsOf (a .flags .now)) (s .pre .0 .right)) in
-    let flags = c .settle .ensures .0 ∙ rw (c .before .before .before .before .arity .ensures, e .more) once in
-    (c .before .before .before .before .before .before .before .before .before .before .put-token .ensures .0, (e .more, (e .stored (c .settle .last .0) flags (c .settle .ensures .1), λ w. rw (e .more) (c .before .before .before .before .before .before .enter .ensures .1 ts (length-rows tokenWidth decode (a .used) (a .ledger .now)) w))))))
+    let flags = c .settle-arrived .ensures .0 ∙ rw (c .before .before .before .before .arity .ensures, e .more) once in
+    (c .before .before .before .before .before .before .before .before .before .before .put-token .ensures .0, (e .more, (e .stored (c .settle-arrived .last .0) flags (c .settle-arrived .ensures .1), λ w. rw (e .more) (c .before .before .before .before .before .before .enter .ensures .1 ts (length-rows tokenWidth decode (a .used) (a .ledger .now)) w))))))

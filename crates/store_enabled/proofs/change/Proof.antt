@@ -55,5 +55,5 @@ change-spec = tie.close (tie.spec
     let d = tokenAt (a .ledger .now) (a .i) in
     let still = right-still (a .tables .now) ts (a .i) (a .t) d (flagsOf (a .flags .now)) (omega (arith, size s, s .pre .1)) (rw (before s) (s .pre .2)) (rw (before s) (s .pre .3)) (rw (before s) (s .pre .4)) (s .pre .0 .right) in
     let once = raised-only (isEnabled (a .tables .now) us (a .t .tag)) (flagsOf (a .flags .now)) (placeOf us (a .t .tag)) still in
-    let flags = c .settle .ensures .0 ∙ rw (c .before .before .before .arity .ensures, e .more) once in
-    (c .before .before .before .before .before .before .before .put-token .ensures .0, (e .more, e .stored (c .settle .last .0) flags (c .settle .ensures .1)))))
+    let flags = c .settle-changed .ensures .0 ∙ rw (c .before .before .before .arity .ensures, e .more) once in
+    (c .before .before .before .before .before .before .before .put-token .ensures .0, (e .more, e .stored (c .settle-changed .last .0) flags (c .settle-changed .ensures .1)))))

@@ -1,83 +1,34 @@
--- A path is within its room. Assumes nothing.
-use borrow.Author.Needs.{needs}
+-- `ttda::read_in` meets its contract: a path is within its room. Assumes nothing.
+use Prim.Native.Nat.{_+_, _≤_}
+use mathlib.Core.Path.{_≡_, sym}
 use native.Mathlib.Omega.{arith}
-use mathlib.Core.Path.{sym}
 use lib.ListN.{length, length-set}
 use lib.Seq.{length-take-le}
+use borrow.Author.Needs.{needs}
 use Rattle.ttda.proofs.read_in.Statement.{statement}
 use Rattle.ttda.proofs.read_in.Tie as tie
 
-read-file-requires : tie.Need-read-file-requires
-read-file-requires c κs = search needs
-
-same-length : tie.Need-same-length
-same-length c = search needs
-
-returns : tie.Need-returns
-returns c = search needs
-
-buffer-requires : tie.Need-buffer-requires
-buffer-requires c κs = search needs
-
-slice-aggregate-write-at : tie.Need-slice-aggregate-write-at
-slice-aggregate-write-at c = search needs
-
-write-at-requires : tie.Need-write-at-requires
-write-at-requires c κs = search needs
-
-array-write-path : tie.Need-array-write-path
-array-write-path c = search needs
-
-slice-aggregate-write-at-2 : tie.Need-slice-aggregate-write-at-2
-slice-aggregate-write-at-2 c = search needs
-
-add-write-at : tie.Need-add-write-at
-add-write-at c = search needs
-
-write-at-requires-2 : tie.Need-write-at-requires-2
-write-at-requires-2 c κs =
-    let n = length (c .before .before .before .before .before .before .before .before .before .args .folder .now) in
-    omega (arith, length-set (c .before .before .write-at .last .0) n 47)
-
-add-path : tie.Need-add-path
-add-path c = search needs
-
-add-path-2 : tie.Need-add-path-2
-add-path-2 c = search needs
-
-array-share-prefix-path : tie.Need-array-share-prefix-path
-array-share-prefix-path c = search needs
-
-slice-aggregate-read-file : tie.Need-slice-aggregate-read-file
-slice-aggregate-read-file c = sym (length-take-le _ _ (search needs))
-
-read-file-requires-2 : tie.Need-read-file-requires-2
-read-file-requires-2 c κs = search needs
-
-same-length-2 : tie.Need-same-length-2
-same-length-2 c = search needs
-
-returns-2 : tie.Need-returns-2
-returns-2 c = search needs
+-- the path with the name of a file behind it is as long as it was
+whole : (c : tie.After-write-at) → length (c .write-at .last .0) ≡ 4096
+whole c =
+    let s = c .before .before .before .before .before .before in
+    omega (arith, c .write-at .kept .0, length-set (s .args .path .now) (s .args .n) 47, s .pre .0)
 
 pub read-in-spec : {M : Type 1} → statement M
-read-in-spec =
-    tie.close
-    (tie.spec
-    read-file-requires
-    same-length
-    returns
-    buffer-requires
-    slice-aggregate-write-at
-    write-at-requires
-    array-write-path
-    slice-aggregate-write-at-2
-    add-write-at
-    write-at-requires-2
-    add-path
-    add-path-2
-    array-share-prefix-path
-    slice-aggregate-read-file
-    read-file-requires-2
-    same-length-2
-    returns-2)
+read-in-spec = tie.close (tie.spec
+    (λ c κs. search needs)
+    (λ c. search needs)
+    (λ c. search needs)
+    (λ c. search needs)
+    (λ c. search needs)
+    (λ c κs.
+    let s = c .before .before .before .before .before in
+    omega (arith, length-set (s .args .path .now) (s .args .n) 47, s .pre .0, s .pre .1, s .pre .2))
+    (λ c. search needs)
+    (λ c. search needs)
+    (λ c. omega (arith, whole (c .before .before)))
+    (λ c. sym (length-take-le _ _ (omega (arith, whole (c .before .before .before)))))
+    (λ c κs. search needs)
+    (λ c. omega (arith, whole (c .before .before .before .before .before .before .before)))
+    (λ c. search needs)
+    (λ c. search needs))

@@ -12,14 +12,14 @@ use Rattle.record.specs.Widths.{graphWidth}
 use Rattle.rules.proofs.Lists.{or-right}
 use Rattle.check_fields.proofs.Turns.{or-false}
 use Rattle.check_fields.proofs.Graphs.{length-graph}
-use Rattle.bounds.specs.Reach.{Kept, Round}
+use Rattle.bounds.specs.Reach.{ReachedSoFar, Round}
 use Rattle.bounds.proofs.Rounds.{begin}
 use Rattle.bounds.proofs.reach.round.Statement.{statement}
 use Rattle.bounds.proofs.reach.round.Tie as tie
 
 abbrev Inv-loop : tie.InvT-loop
 Inv-loop graph sent₀ reached₀ added₀ i₀ sent reached added i =
-    (i ≤ length graph / graphWidth) × ((ts : List Token) → Kept ts (graphOf graph) sent₀ reached₀ → Round ts (graphOf graph) i reached₀ sent reached added)
+    (i ≤ length graph / graphWidth) × ((ts : List Token) → ReachedSoFar ts (graphOf graph) sent₀ reached₀ → Round ts (graphOf graph) i reached₀ sent reached added)
 
 abbrev μ-loop : tie.MeasureT-loop
 μ-loop graph sent₀ reached₀ added₀ i₀ sent reached added i = length graph / graphWidth - i

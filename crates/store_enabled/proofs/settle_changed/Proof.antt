@@ -1,4 +1,4 @@
--- `store_enabled::settle` meets its contract: what was found on the other port says both where the tag's activity stands and whether it is ready. Assumes nothing.
+-- `store_enabled::settle_changed` meets its contract: what was found on the other port says both where the tag's activity stands and whether it is ready. Assumes nothing.
 use mathlib.Core.Path.{_≡_, sym, _∙_}
 use native.Mathlib.Omega.{arith}
 use borrow.Author.Needs.{needs}
@@ -9,8 +9,8 @@ use Rattle.store_enabled.specs.Store.{placeOr, lower}
 use Rattle.store_enabled.proofs.Store.{known-few}
 use Rattle.store_enabled.proofs.Places.{lower-below}
 use Rattle.store_enabled.proofs.Arriving.{own-place, own-ready}
-use Rattle.store_enabled.proofs.settle.Statement.{statement}
-use Rattle.store_enabled.proofs.settle.Tie as tie
+use Rattle.store_enabled.proofs.settle_changed.Statement.{statement}
+use Rattle.store_enabled.proofs.settle_changed.Tie as tie
 
 -- the place of the tag
 here : (c : tie.After-find) → let a = c .before .before .args in placeOf (tokens (a .used) (a .ledger .now)) (a .tag) ≡ lower (a .own) (placeOr (c .find .result) (a .own))
@@ -27,8 +27,8 @@ whole c =
     let f = c .before .find in
     c .ready-with .ensures ∙ own-ready (a .tag) (a .port) (a .own) (a .used) (a .ledger .now) (s .pre .2) (s .pre .3) (s .pre .4) (f .result) (f .ensures .0) (a .operands)
 
-pub settle-spec : {M : Type 1} → statement M
-settle-spec = tie.close (tie.spec
+pub settle-changed-spec : {M : Type 1} → statement M
+settle-changed-spec = tie.close (tie.spec
     (λ c. omega (arith, c .before .pre .3))
     (λ c κs. let s = c .before in (s .pre .1 .room, s .pre .1 .index))
     (λ c κs.
