@@ -2,6 +2,9 @@
 
 use crate::operations::names;
 
+/// The words that begin a line which is no instruction.
+const LINES: [&str; 3] = ["input", "picks", "cell"];
+
 /// Words of the memos and of other machines, and what is written here.
 const KNOWN: [(&[&str], &str); 14] = [
     (&["D"], "the memo's D is written NEXT here"),
@@ -54,8 +57,16 @@ pub fn operation(word: &str) -> Option<String> {
         .find(|(words, _)| words.iter().any(|w| w.eq_ignore_ascii_case(word)));
     match known {
         Some((_, hint)) => Some((*hint).to_string()),
-        None => nearest(word, names()).map(|name| format!("did you mean {name}?")),
+        None => nearest(word, names().chain(LINES)).map(|name| format!("did you mean {name}?")),
     }
+}
+
+/// What to do where a number stands behind an operation that takes none.
+pub fn constant(operation: &str, words: &[&str]) -> Option<String> {
+    let number: i32 = words.join(" ").parse().ok()?;
+    Some(format!(
+        "{operation} has no constant; {number} comes by an arc, or by `input name = {number}`"
+    ))
 }
 
 /// What to write for a name that is not defined.
@@ -84,20 +95,30 @@ fn nearest<'n>(word: &str, names: impl Iterator<Item = &'n str>) -> Option<&'n s
         .map(|(_, name)| name)
 }
 
-/// The number of letters to add, drop or change (Levenshtein).
+/// The number of letters to add, drop or change, or of neighbours to swap (Damerau and Levenshtein).
 fn distance(one: &str, other: &str) -> usize {
-    let other: Vec<char> = other.chars().collect();
-    let mut row: Vec<usize> = (0..=other.len()).collect();
-    for (i, a) in one.chars().enumerate() {
-        let mut corner = row[0];
-        row[0] = i + 1;
-        for (j, b) in other.iter().enumerate() {
-            let change = corner + usize::from(a != *b);
-            corner = row[j + 1];
-            row[j + 1] = change.min(corner + 1).min(row[j] + 1);
-        }
+    let [one, other] = [one, other].map(|word| word.chars().collect::<Vec<char>>());
+    let mut rows: Vec<Vec<usize>> = vec![(0..=other.len()).collect()];
+    for i in 1..=one.len() {
+        rows.push(next_row(&rows, &one[..i], &other));
     }
-    row[other.len()]
+    rows[one.len()][other.len()]
+}
+
+/// How far the letters of one word so far are from each beginning of the other.
+fn next_row(rows: &[Vec<usize>], one: &[char], other: &[char]) -> Vec<usize> {
+    let i = one.len();
+    let mut row = vec![i];
+    for j in 1..=other.len() {
+        let change = rows[i - 1][j - 1] + usize::from(one[i - 1] != other[j - 1]);
+        let nearest = change.min(rows[i - 1][j] + 1).min(row[j - 1] + 1);
+        let swapped = i > 1 && j > 1 && one[i - 2..] == [other[j - 1], other[j - 2]];
+        row.push(match swapped {
+            true => nearest.min(rows[i - 2][j - 2] + 1),
+            false => nearest,
+        });
+    }
+    row
 }
 
 #[cfg(test)]
@@ -106,11 +127,13 @@ mod tests {
 
     #[test]
     fn the_nearest_name_is_near() {
-        assert_eq!((distance("tests", "testss"), distance("ab", "ba")), (1, 2));
+        assert_eq!((distance("tests", "testss"), distance("ab", "ba")), (1, 1));
+        assert_eq!((distance("", "abc"), distance("abcd", "bdca")), (3, 3));
         let names = ["tests", "total"];
         let hint = |word| name(word, names.into_iter());
         assert_eq!(hint("testss").as_deref(), Some("did you mean `tests`?"));
         assert_eq!(hint("Total").as_deref(), Some("did you mean `total`?"));
+        assert_eq!(hint("tetss").as_deref(), Some("did you mean `tests`?"));
         assert_eq!((hint("pass"), hint("t")), (None, None));
     }
 }

@@ -230,7 +230,8 @@ fn parse_bytes<const N: usize>(first: Word, words: &[Word]) -> Result<[u8; N], F
     let count = bytes.len();
     bytes.try_into().map_err(|_| {
         let span = first.start..words.last().map_or(first.span(), Word::span).end;
-        Fault::new(span, format!("{count} bytes instead of {N}"))
+        let s = if count == 1 { "" } else { "s" };
+        Fault::new(span, format!("{count} byte{s} instead of {N}"))
     })
 }
 
@@ -263,10 +264,11 @@ fn check_fan_out(
         return Ok(());
     }
     let (low, high) = operation.fan_outs().into_inner();
-    let allowed = if low == high {
-        low.to_string()
-    } else {
-        format!("{low} to {high}")
+    let allowed = match (low, high) {
+        (0, 0) => "no".to_string(),
+        (0, _) => format!("at most {high}"),
+        _ if low == high => low.to_string(),
+        _ => format!("{low} or {high}"),
     };
     let span = if tail.is_empty() {
         first.span()
@@ -309,7 +311,8 @@ fn parse_constant(
         }
         (Constant::Unused, _) => {
             let text = format!("{name} is followed by `{}`", texts.join(" "));
-            Err(Fault::new(span_of(words), text).maybe(arrow()))
+            let hint = arrow().or_else(|| hints::constant(name, &texts));
+            Err(Fault::new(span_of(words), text).maybe(hint))
         }
         (Constant::Value, _) => {
             let fault = Fault::new(first.span(), format!("{name} needs one constant"));

@@ -17,9 +17,12 @@ type Case = (
 );
 
 #[rustfmt::skip]
-const OPERATIONS: [Case; 24] = [
+const OPERATIONS: [Case; 28] = [
     ("\n\nx: FROB -> x.0", 3, "FROB", "`FROB` is no operation", None),
     ("x: COPPY -> x.0", 1, "COPPY", "`COPPY` is no operation", Some("did you mean COPY?")),
+    ("x: OUT\ninputs x = 3", 2, "inputs", "`inputs` is no operation", Some("did you mean input?")),
+    ("cells 3 = 4", 1, "cells", "`cells` is no operation", Some("did you mean cell?")),
+    ("pick 3", 1, "pick", "`pick` is no operation", Some("did you mean picks?")),
     ("x: D -> x.0", 1, "D", "`D` is no operation", Some("the memo's D is written NEXT here")),
     ("x: D-reset", 1, "D-reset", "`D-reset` is no operation", Some("LEAVE drops the iteration here")),
     ("x: L -> x", 1, "L", "`L` is no operation", Some("the memo's L is written ENTER here")),
@@ -35,18 +38,19 @@ const OPERATIONS: [Case; 24] = [
     ("x: READ -> x", 1, "READ", "`READ` is no operation", Some("a cell is read by FETCH")),
     ("x: WRITE", 1, "WRITE", "`WRITE` is no operation", Some("a cell is written by STORE")),
     ("x ADD -> x", 1, "x", "`x` is no operation", Some("a colon behind the name: `x: ADD`")),
-    ("x: OUT -> x.0", 1, "x.0", "OUT has 0 destinations, not 1", Some("an arc ends here")),
-    ("x: COPY", 1, "COPY", "COPY has 1 to 2 destinations, not 0", Some("where does its token go? `-> name.port`")),
+    ("x: OUT -> x.0", 1, "x.0", "OUT has no destinations, not 1", Some("an arc ends here")),
+    ("x: COPY", 1, "COPY", "COPY has 1 or 2 destinations, not 0", Some("where does its token go? `-> name.port`")),
     ("x: SWITCH -> x.0", 1, "x.0", "SWITCH has 2 destinations, not 1", Some("the second one is taken if port 1 is 0; a SINK swallows it")),
-    ("x: COPY -> x x x", 1, "x x x", "COPY has 1 to 2 destinations, not 3", Some("a COPY has two more")),
-    ("x: raw 00", 1, "raw 00", "1 bytes instead of 16", None),
+    ("x: COPY -> x x x", 1, "x x x", "COPY has 1 or 2 destinations, not 3", Some("a COPY has two more")),
+    ("x: STORE -> x x x", 1, "x x x", "STORE has at most 2 destinations, not 3", Some("a COPY has two more")),
+    ("x: raw 00", 1, "raw 00", "1 byte instead of 16", None),
     ("x: raw 0g", 1, "0g", "`0g` is not a byte of two hexadecimal digits", None),
     ("x:", 1, "x:", "x has no instruction", Some("for example `x: COPY -> other.0`")),
 ];
 
 #[rustfmt::skip]
 const CONSTANTS: [Case; 14] = [
-    ("x: COPY 4 -> x", 1, "4", "COPY is followed by `4`", None),
+    ("x: COPY 4 -> x", 1, "4", "COPY is followed by `4`", Some("COPY has no constant; 4 comes by an arc, or by `input name = 4`")),
     ("x: COPY x y", 1, "x y", "COPY is followed by `x y`", Some("an arrow before the targets: `COPY -> x y`")),
     ("x: ADD x", 1, "x", "`x` is not a signed number of 32 bits", Some("an arrow before the targets: `ADD -> x`")),
     ("x: CONST -> x", 1, "CONST", "CONST needs one constant", Some("for example `CONST 5 -> name.port`")),
@@ -63,9 +67,10 @@ const CONSTANTS: [Case; 14] = [
 ];
 
 #[rustfmt::skip]
-const NAMES: [Case; 17] = [
+const NAMES: [Case; 18] = [
     ("x: COPY -> y.0", 1, "y", "`y` is not defined", None),
     ("tests: COPY -> testss.0", 1, "testss", "`testss` is not defined", Some("did you mean `tests`?")),
+    ("prod: COPY -> pord", 1, "pord", "`pord` is not defined", Some("did you mean `prod`?")),
     ("x: OUT\nx: SINK", 2, "x", "`x` is defined twice", Some("the first is in line 1")),
     ("x: OUT\ny: COPY -> x.1", 2, "x.1", "`x` has no port 1, its operand count is 1", Some("its only port is `x.0`")),
     ("x: ADD -> x.2", 1, "x.2", "`x` has no port 2, its operand count is 2", Some("its ports are `x.0` and `x.1`")),

@@ -32,6 +32,8 @@ pub enum Command {
     Trace(Trace),
     /// Firings and tokens by ideal steps (Memo 280), as a table or a picture
     Profile(Profile),
+    /// One page for a browser: the graph firing by firing, curves and listing
+    Report(Report),
     /// Draw the graph (Graphviz)
     Draw(Draw),
     /// Write the log of a run, for others to replay
@@ -129,6 +131,23 @@ pub struct Profile {
     /// Draw the curves to an SVG file
     #[arg(short, value_name = "X.svg")]
     pub output: Option<PathBuf>,
+    #[command(flatten)]
+    pub firing: Firing,
+    #[command(flatten)]
+    pub buffers: Buffers,
+}
+
+#[derive(Debug, Args)]
+#[command(
+    after_help = "The page needs no other file and no network. It opens at firing 12 by X.html#firing=12. A refused run has \
+    a page too.\nThe seconds since 1970 in SOURCE_DATE_EPOCH stand in for the clock, so that a page comes out the same again."
+)]
+pub struct Report {
+    #[command(flatten)]
+    pub file: File,
+    /// Where the page goes
+    #[arg(short, value_name = "X.html")]
+    pub output: PathBuf,
     #[command(flatten)]
     pub firing: Firing,
     #[command(flatten)]

@@ -13,6 +13,8 @@ pub struct Finding {
     pub title: String,
     /// A part of the text, with what is to be said of it.
     pub at: Option<(Span, String)>,
+    /// Another part that has to do with it.
+    pub also: Option<(Span, String)>,
     pub notes: Vec<String>,
 }
 
@@ -22,6 +24,7 @@ impl Finding {
             severity,
             title: title.into(),
             at: None,
+            also: None,
             notes: Vec::new(),
         }
     }
@@ -40,19 +43,25 @@ impl Finding {
         self
     }
 
+    /// Marks another part that has to do with it, if there is one.
+    pub fn also(mut self, span: Option<Span>, words: impl Into<String>) -> Finding {
+        self.also = span.map(|span| (span, words.into()));
+        self
+    }
+
     pub fn note(mut self, note: impl Into<String>) -> Finding {
         self.notes.push(note.into());
         self
     }
 
     fn diagnostic(&self) -> Diagnostic<()> {
-        let labels = self
-            .at
-            .iter()
-            .map(|(span, words)| Label::primary((), span.clone()).with_message(words));
+        let at = self.at.iter();
+        let at = at.map(|(span, words)| Label::primary((), span.clone()).with_message(words));
+        let also = self.also.iter();
+        let also = also.map(|(span, words)| Label::secondary((), span.clone()).with_message(words));
         Diagnostic::new(self.severity)
             .with_message(&self.title)
-            .with_labels(labels.collect())
+            .with_labels(at.chain(also).collect())
             .with_notes(self.notes.clone())
     }
 }

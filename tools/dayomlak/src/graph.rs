@@ -143,7 +143,7 @@ impl Graph {
     }
 
     /// The constant of a LEAVE.
-    fn leave(&self, number: u16) -> Option<i32> {
+    pub fn leave(&self, number: u16) -> Option<i32> {
         let instruction = self.get(number).filter(|i| i.code == LEAVE)?;
         Some(instruction.constant)
     }
@@ -157,11 +157,11 @@ impl Graph {
 
     /// What can be reached from an instruction within its call. An inner call is passed over: it may return by any LEAVE
     /// of the graph.
-    fn reached(&self, from: u16) -> BTreeSet<u16> {
+    pub fn reached(&self, from: u16) -> BTreeSet<u16> {
         let leaves: BTreeSet<i32> = (0..self.instructions.len() as u16)
             .filter_map(|number| self.leave(number))
             .collect();
-        let next = |number: u16| -> Vec<u16> {
+        closure(from, |number| {
             match self.get(number).map(|i| (i.call(), i.arcs())) {
                 Some((Some([_, back]), _)) => {
                     let back = back.instruction;
@@ -171,12 +171,26 @@ impl Graph {
                 Some((None, arcs)) => arcs.iter().map(|arc| arc.instruction).collect(),
                 None => Vec::new(),
             }
-        };
-        let mut reached = BTreeSet::from([from]);
-        let mut open = vec![from];
-        while let Some(number) = open.pop() {
-            open.extend(next(number).into_iter().filter(|end| reached.insert(*end)));
-        }
-        reached
+        })
     }
+
+    /// What tokens can come to from an instruction under its own tag: no further than to a NEXT, and past the calls that
+    /// return.
+    pub fn reached_under_one_tag(&self, from: u16) -> BTreeSet<u16> {
+        closure(from, |number| match self.get(number) {
+            Some(i) if i.code == ENTER => self.returns_of(number.into()).into_iter().collect(),
+            Some(i) if i.code != NEXT => i.arcs().iter().map(|arc| arc.instruction).collect(),
+            _ => Vec::new(),
+        })
+    }
+}
+
+/// All that follows an instruction, itself included.
+fn closure(from: u16, next: impl Fn(u16) -> Vec<u16>) -> BTreeSet<u16> {
+    let mut reached = BTreeSet::from([from]);
+    let mut open = vec![from];
+    while let Some(number) = open.pop() {
+        open.extend(next(number).into_iter().filter(|end| reached.insert(*end)));
+    }
+    reached
 }

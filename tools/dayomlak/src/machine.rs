@@ -106,7 +106,12 @@ impl<'p> Machine<'p> {
     }
 
     pub fn profile(&self) -> (End, Vec<Step>) {
-        let mut profile = vec![0; STEP * MOST_RECORDS];
+        self.profile_within(MOST_RECORDS)
+    }
+
+    /// The profile with room for so many steps; before the next one it is refused by 18.
+    pub fn profile_within(&self, most: usize) -> (End, Vec<Step>) {
+        let mut profile = vec![0; STEP * most];
         let mut records = 0;
         let end = self.call(|lent| {
             let (answer, written) = engine::profile(lent, &mut profile);

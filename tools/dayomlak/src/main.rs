@@ -1,16 +1,19 @@
 //! `dayomlak`: the tagged-token dataflow machine for the people who use it. Every firing, listing, profile, log and bound
 //! that it shows is the proved engine's; what is here reads text, chooses picks, names, draws and explains.
 
+mod activity;
 mod answer;
 mod cache;
 mod cli;
 mod commands;
 mod diagnostics;
+mod effects;
 mod engine;
 mod failure;
 mod graph;
 mod graphviz;
 mod history;
+mod loads;
 mod machine;
 mod newest;
 mod orders;
@@ -21,7 +24,9 @@ mod program;
 mod records;
 mod refusals;
 mod refused;
+mod report;
 mod results;
+mod second_token;
 mod warnings;
 
 use std::process::ExitCode;
@@ -38,6 +43,7 @@ fn main() -> ExitCode {
         Command::Compare(args) => commands::compare::compare(args),
         Command::Trace(args) => commands::trace::trace(args),
         Command::Profile(args) => commands::profile::profile(args),
+        Command::Report(args) => commands::report::report(args),
         Command::Draw(args) => commands::draw::draw(args),
         Command::Log(args) => commands::logs::log(args),
         Command::Replay(args) => commands::logs::replay(args),

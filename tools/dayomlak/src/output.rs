@@ -31,8 +31,17 @@ pub fn write(path: &Path, bytes: &[u8]) -> Result<(), Failure> {
         .map_err(|error| {
             // What is left of it is of no use; the failure itself is reported.
             let _ = fs::remove_file(&part);
-            Failure::file(path, error)
+            Failure::file(path, without_folder(path).unwrap_or(error))
         })
+}
+
+/// The error of a file whose folder is not there.
+fn without_folder(path: &Path) -> Option<io::Error> {
+    let folder = path
+        .parent()
+        .filter(|folder| !folder.as_os_str().is_empty())?;
+    let words = format!("there is no folder {}", folder.display());
+    (!folder.exists()).then(|| io::Error::new(io::ErrorKind::NotFound, words))
 }
 
 /// Writes a file where one is named, else to standard output.

@@ -4,12 +4,14 @@
 //! hangs, that is enough: by demand 3 every order then leaves the same listing, and the profile takes no order. A run that
 //! is spent or refused depends on its order, so that picks and budget must be the same as well.
 
-use crate::answer::Answer;
+use crate::answer::{count, Answer};
 use crate::cache;
 use crate::failure::Failure;
+use crate::loads::Loads;
 use crate::machine::{End, Machine};
 use crate::orders::Order;
 use crate::pictures;
+use crate::program::Program;
 use crate::records::Step;
 
 /// All that a run depends on.
@@ -82,4 +84,32 @@ pub fn plot(machine: &Machine, order: Order, budget: u16) -> Result<Plot, Failur
     };
     cache::save(&plot);
     Ok(plot)
+}
+
+/// What the first step has besides, in words: cells are loaded in it, which makes it higher than what is computed.
+pub fn loading(program: &Program, steps: &[Step]) -> Option<String> {
+    let loads = Loads::of(program).cells.len();
+    let (_, later) = steps.split_first().filter(|_| loads > 0)?;
+    let loading = format!("step 1 loads {}", count(loads, "cell"));
+    match later.iter().map(|step| step.firings).max() {
+        Some(most) => Some(format!(
+            "{loading}; after it a step has at most {}",
+            count(most.into(), "firing")
+        )),
+        None => Some(loading),
+    }
+}
+
+/// How a profile ended, in words.
+pub fn ended(steps: &[Step], answer: &Answer) -> String {
+    let (words, counts) = (answer.words(), answer.counts());
+    if answer.refused_at_once() {
+        return format!("{words}, before the first ideal step");
+    }
+    let count = count(steps.len(), "ideal step");
+    match answer.ended() {
+        true => format!("{count}, then {words}: {counts}"),
+        false if steps.is_empty() => format!("{words}, in the first ideal step: {counts}"),
+        false => format!("{count}, then {words}, in the next step: {counts}"),
+    }
 }

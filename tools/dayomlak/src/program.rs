@@ -2,7 +2,7 @@
 
 use std::fs;
 use std::io::{self, Read};
-use std::path::Path;
+use std::path::{Path, PathBuf};
 
 use asm::{disassemble, read, Files, Place, Span};
 
@@ -41,11 +41,7 @@ impl Program {
 
     /// A typed graph. Its faults are shown.
     pub fn typed(label: &str, bytes: Vec<u8>) -> Result<Program, Failure> {
-        let text = String::from_utf8(bytes).map_err(|_| {
-            Failure::Wrong(format!(
-                "{label} is no text (UTF-8)\n  for the files of a graph give their folder, for a log `dayomlak replay`"
-            ))
-        })?;
+        let text = String::from_utf8(bytes).map_err(|error| no_text(label, error.as_bytes()))?;
         match read(&text) {
             Ok(program) => Ok(Program {
                 label: label.to_string(),
@@ -77,12 +73,30 @@ impl Program {
         })
     }
 
+    /// Why there is no instruction, and what was probably meant.
+    pub fn emptiness(&self) -> String {
+        let folder = Path::new(&self.label);
+        if !folder.is_dir() {
+            return "there is no instruction".to_string();
+        }
+        let empty = "the folder has no file `graph`, or an empty one";
+        match typed_graph(folder) {
+            Some(file) => format!("{empty}; did you mean {}?", file.display()),
+            None => empty.to_string(),
+        }
+    }
+
     /// An instruction's name; its number where it has none.
     pub fn name(&self, instruction: u16) -> String {
         match self.instructions.get(usize::from(instruction)) {
             Some(instruction) => instruction.name.clone(),
             None => format!("#{instruction}"),
         }
+    }
+
+    /// Whether an instruction is the STORE of a line such as `cell 3 = 7`. Its name has a space, as no typed one has.
+    pub fn is_cell_line(&self, instruction: u16) -> bool {
+        self.name(instruction).contains(' ')
     }
 
     /// A tag by names: `start[0]/call1[0]/n[0]`, each call by an ENTER of its site.
@@ -131,8 +145,37 @@ impl Program {
     }
 }
 
+fn no_text(label: &str, bytes: &[u8]) -> Failure {
+    let hint = match bytes {
+        [0xff, 0xfe, ..] | [0xfe, 0xff, ..] => "it begins as UTF-16 does: save it as UTF-8",
+        _ => "for the files of a graph give their folder, for a log `dayomlak replay`",
+    };
+    Failure::Wrong(format!("{label} is no text (UTF-8)\n  {hint}"))
+}
+
+/// The error of a file where a folder is needed.
+pub fn no_folder() -> io::Error {
+    io::Error::new(
+        io::ErrorKind::NotADirectory,
+        "it is a file, and the folder of a graph's files is needed",
+    )
+}
+
+/// The first typed graph in a folder.
+fn typed_graph(folder: &Path) -> Option<PathBuf> {
+    let entries = fs::read_dir(folder)
+        .ok()?
+        .flatten()
+        .map(|entry| entry.path());
+    let is_typed = |path: &PathBuf| path.extension().is_some_and(|word| word == "ttda");
+    entries.filter(is_typed).min()
+}
+
 /// The files of a folder; a missing one counts as empty, as it does for the printing program.
 pub fn files(folder: &Path) -> Result<Files, Failure> {
+    if folder.is_file() {
+        return Err(Failure::file(folder, no_folder()));
+    }
     if !folder.is_dir() {
         let error = io::Error::new(io::ErrorKind::NotFound, "no such folder");
         return Err(Failure::file(folder, error));

@@ -54,7 +54,8 @@ pub const TABLE: [Refusal; 18] = [
         "Two tokens came to one port under one tag. A tag takes one token on each port in a whole run, and a spent one \
          counts: otherwise which tokens meet would depend on the order of firing.",
         "A loop needs a NEXT on every arc that goes round; a procedure that is called twice needs an ENTER with another \
-         site for each call; the two destinations of one instruction must differ. `dayomlak check` looks for such arcs."),
+         site for each call; of two arcs to one port, or an arc and an input, only one may send under a tag, as the arms of \
+         a SWITCH do. `dayomlak check` looks for loops without NEXT and for instructions that send twice to one port."),
     refusal(10, "no such cell",
         "FETCH or STORE got a cell number that is negative or not below the number of cells.",
         "Look where the number comes from; --cells gives up to 1,024 cells, counted from 0."),

@@ -2,12 +2,14 @@
 
 use crate::answer::{count, Word};
 use crate::graph::{LEAVE, OUT};
+use crate::loads::Loads;
 use crate::machine::End;
 use crate::program::Program;
 use crate::records::{self, Cell, State, Token};
 
-/// Results, tokens that wait and cells, a line each. The tokens are those of the listing, so that equal listings give
-/// equal lines.
+/// Results, tokens that wait and cells, a line each. What the run itself wrote comes before what inputs alone wrote, and
+/// the cells of lines such as `cell 3 = 7` are only counted: they hold what was typed. The tokens are those of the
+/// listing, so that equal listings give equal lines.
 pub fn lines(program: &Program, end: &End) -> Vec<String> {
     let tokens = records::tokens(&end.listing());
     let left: Vec<&Token> = tokens.iter().filter(|t| t.state != State::Spent).collect();
@@ -25,7 +27,22 @@ pub fn lines(program: &Program, end: &End) -> Vec<String> {
         // Some of them may be enabled: they are under way and do not wait.
         lines.push(format!("({} under way)", count(others.len(), "token")));
     }
-    lines.extend(cells(end));
+    lines.extend(cell_lines(program, end, &tokens));
+    lines
+}
+
+fn cell_lines(program: &Program, end: &End, tokens: &[Token]) -> Vec<String> {
+    let loaded = Loads::of(program).done(tokens);
+    let is_typed = |cell: i32| {
+        let store = loaded.get(&cell);
+        store.is_some_and(|store| program.is_cell_line(*store))
+    };
+    let (typed, mut cells): (Vec<_>, Vec<_>) = cells(end).partition(|(cell, _)| is_typed(*cell));
+    cells.sort_by_key(|(cell, _)| loaded.contains_key(cell));
+    let mut lines: Vec<String> = cells.into_iter().map(|(_, line)| line).collect();
+    if !typed.is_empty() {
+        lines.push(format!("({})", count(typed.len(), "loaded cell")));
+    }
     lines
 }
 
@@ -50,17 +67,14 @@ fn waiting(program: &Program, token: &Token) -> String {
     }
 }
 
-fn cells(end: &End) -> Vec<String> {
-    let line = |(number, cell): (usize, Cell)| match cell {
+/// The cells that are not absent, with a line for each.
+fn cells(end: &End) -> impl Iterator<Item = (i32, String)> {
+    let line = |(number, cell): (i32, Cell)| match cell {
         Cell::Absent => None,
-        Cell::Waiting => Some(format!("cell {number} is read and not written")),
-        Cell::Present(value) => Some(format!("cell {number} = {value}")),
+        Cell::Waiting => Some((number, format!("cell {number} is read and not written"))),
+        Cell::Present(value) => Some((number, format!("cell {number} = {value}"))),
     };
-    end.cells()
-        .into_iter()
-        .enumerate()
-        .filter_map(line)
-        .collect()
+    (0..).zip(end.cells()).filter_map(line)
 }
 
 /// The first line of an answer.

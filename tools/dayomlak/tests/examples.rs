@@ -1,9 +1,23 @@
-//! Each command on every example, against a stored output.
+//! Each command on some examples, against a stored output; what needs none, on every example.
 
 mod common;
 
 use common::{command, dayomlak, done, expect, Folder, ROOT};
 use std::fs;
+
+/// The examples with stored outputs: loops, calls, deferred reads, a run that hangs and one that is refused. The gallery's
+/// other graphs would bring no new kind of line; their listings, bounds, profiles and pictures have tests of their own.
+const STORED: [&str; 9] = [
+    "call",
+    "conditional",
+    "deferred_read",
+    "factorial_alone",
+    "inner_product",
+    "inner_product_280",
+    "past_next",
+    "recursion",
+    "vector_sum",
+];
 
 /// The folders of examples, sorted.
 fn examples() -> Vec<String> {
@@ -14,7 +28,7 @@ fn examples() -> Vec<String> {
         .map(|entry| entry.file_name().into_string().unwrap())
         .collect();
     names.sort();
-    assert!(names.len() >= 7);
+    assert!(STORED.iter().all(|name| names.iter().any(|n| n == name)));
     names
 }
 
@@ -22,9 +36,9 @@ fn file(example: &str) -> String {
     format!("examples/{example}/{example}.ttda")
 }
 
-/// Every example, with the words of a command in which `FILE` stands for it.
+/// Every example with stored outputs, with the words of a command in which `FILE` stands for it.
 fn on_every_example(name: &str, words: &[&str]) {
-    for example in &examples() {
+    for example in STORED {
         let file = file(example);
         let words: Vec<&str> = words
             .iter()
@@ -130,7 +144,9 @@ fn asm_and_back() {
         let made = dayomlak(&["asm", &file, &files]);
         assert_eq!((&made.out[..], made.status), ("", 0));
         let text = dayomlak(&["disasm", &files]);
-        expect(&format!("{example}/disasm"), &text);
+        if STORED.contains(&&example[..]) {
+            expect(&format!("{example}/disasm"), &text);
+        }
         let typed = folder.write("again.ttda", &text.out);
         let listing = |file: &str| dayomlak(&["run", file, "--listing"]).out;
         assert_eq!(listing(&files), listing(&file));
@@ -160,9 +176,29 @@ fn log_and_replay() {
                 assert_eq!(replayed.out, run.out);
             }
         }
-        expect(
-            &format!("{example}/replay"),
-            &dayomlak(&["replay", &file, &log]),
-        );
+        if STORED.contains(&&example[..]) {
+            let replayed = dayomlak(&["replay", &file, &log]);
+            expect(&format!("{example}/replay"), &replayed);
+        }
     }
+}
+
+/// Up to 16 loaded cells stand below each other, more of them in columns that are as long as each other.
+#[test]
+fn loaded_cells_in_columns() {
+    let rows = |cells: usize| -> Vec<usize> {
+        let lines: String = (0..cells)
+            .map(|cell| format!("cell {cell} = 7\n"))
+            .collect();
+        let dot = common::typed(&lines, &["draw", "-", "--dot"]).out;
+        let columns = dot.split("<td>cell</td><td>loaded</td>").skip(1);
+        columns
+            .map(|column| column.matches("<tr><td align").count())
+            .collect()
+    };
+    assert_eq!(rows(0), []);
+    assert_eq!(rows(1), [1]);
+    assert_eq!(rows(16), [16]);
+    assert_eq!(rows(17), [9, 8]);
+    assert_eq!(rows(64), [16; 4]);
 }

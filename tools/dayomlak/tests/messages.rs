@@ -23,13 +23,31 @@ fn a_byte_order_mark_is_skipped() {
     );
 }
 
+/// What the run wrote comes before what was typed; a cell that was not loaded yet is not counted.
 #[test]
-fn cells_are_loaded() {
-    let text = "read: FETCH -> out\nout: OUT\ncell 3 = 7\ninput read = 3\n";
+fn loaded_cells_are_counted() {
+    let text = "read: FETCH -> write.1 out\nwrite: STORE\nout: OUT\ncell 3 = 7\ncell 4 = 8\ninput read = 3\ninput write.0 = 9\n";
     let done = typed(text, &["run", "-"]);
     assert_eq!(
         done.out,
-        "completed: 2 firings, 4 tokens, oldest first\nout[0] = 7\ncell 3 = 7\n"
+        "completed: 4 firings, 8 tokens, oldest first\nout[0] = 7\ncell 9 = 7\n(2 loaded cells)\n"
+    );
+    let done = typed(text, &["run", "-", "--budget", "1"]);
+    assert!(
+        done.out.ends_with("tokens under way)\n(1 loaded cell)\n"),
+        "{done:?}"
+    );
+}
+
+/// A cell that a loading STORE came too late for is not a loaded one.
+#[test]
+fn a_cell_that_the_run_wrote_before_it_was_loaded() {
+    let text = "write: STORE\none: COPY -> write.1\ncell 3 = 7\ninput write.0 = 3\ninput one = 5\npicks 1 1\n";
+    let done = typed(text, &["run", "-"]);
+    assert!(done.out.contains("refused by 11, second write"), "{done:?}");
+    assert!(
+        done.out.contains("\ncell 3 = 5\n") && !done.out.contains("loaded"),
+        "{done:?}"
     );
 }
 
@@ -189,6 +207,37 @@ fn every_number_is_explained() {
     }
     for number in ["0", "15", "16", "21", "100"] {
         assert_eq!(dayomlak(&["explain", number]).status, 2);
+    }
+}
+
+/// A cell that two lines load: both are shown.
+#[test]
+fn two_writes_by_their_lines() {
+    let done = typed("cell 3 = 7\ncell 4 = 8\ncell 3 = 9\n", &["run", "-"]);
+    let lines = "1 | cell 3 = 7\n  | ---------- the first write\n2 | cell 4 = 8\n3 | cell 3 = 9\n";
+    assert!(done.out.contains(lines), "{done:?}");
+}
+
+/// A profile without a step has no table.
+#[test]
+fn profiles_without_a_step() {
+    let cases = [
+        (
+            "",
+            "refused by 1, graph length, before the first ideal step\nerror:",
+        ),
+        (
+            "a: COPY -> a\ninput a = 1\n",
+            "refused by 9, second token, in the first ideal step: 0 firings, 1 token\nerror:",
+        ),
+        (
+            "a: OUT\ninput a = 1\n",
+            "0 ideal steps, then completed: 0 firings, 1 token\ncompleted",
+        ),
+    ];
+    for (text, start) in cases {
+        let done = typed(text, &["profile", "-"]);
+        assert!(done.out.starts_with(start), "{done:?}");
     }
 }
 

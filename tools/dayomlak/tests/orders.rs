@@ -86,9 +86,11 @@ fn a_full_ledger_takes_no_time() {
         next_j: ADD 1 -> d_j\nd_j: NEXT -> j\nnew_s: ADD -> d_s\nd_s: NEXT -> s\ninput j = 1\ninput s = 0\n";
     let folder = Folder::new();
     let (file, picture) = (folder.write("full.ttda", text), folder.path("x.svg"));
+    let page = folder.path("x.html");
     let commands = [
         &["trace", &file, "--order", "newest"][..],
         &["profile", &file, "-o", &picture],
+        &["report", &file, "-o", &page],
         &["compare", &file, "--orders", "1000"],
     ];
     for arguments in commands {
@@ -99,4 +101,6 @@ fn a_full_ledger_takes_no_time() {
         assert_eq!(done.status, 0, "{done:?}");
         assert!(took < Duration::from_secs(10), "{}: {took:?}", arguments[0]);
     }
+    let bytes = std::fs::metadata(&page).unwrap().len();
+    assert!(bytes < 2_000_000, "{bytes}");
 }

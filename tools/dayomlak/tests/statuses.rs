@@ -3,12 +3,13 @@
 mod common;
 
 use std::fs;
+use std::process::Stdio;
 
 use common::{command, dayomlak, done, typed, Folder};
 
-const COMMANDS: [&str; 11] = [
-    "run", "check", "compare", "trace", "profile", "draw", "log", "replay", "asm", "disasm",
-    "explain",
+const COMMANDS: [&str; 12] = [
+    "run", "check", "compare", "trace", "profile", "report", "draw", "log", "replay", "asm",
+    "disasm", "explain",
 ];
 
 #[test]
@@ -81,14 +82,19 @@ fn files_that_cannot_be_read() {
 #[test]
 fn files_that_cannot_be_written() {
     let file = "examples/call/call.ttda";
-    for name in ["profile", "draw", "log"] {
+    for name in ["profile", "report", "draw", "log"] {
         let done = dayomlak(&[name, file, "-o", "no/such/folder/x"]);
         assert_eq!((done.status, &done.out[..]), (3, ""), "{name}");
+        let words = "error: no/such/folder/x: there is no folder no/such/folder\n";
+        assert_eq!(done.err, words, "{name}");
     }
     assert_eq!(
         dayomlak(&["asm", file, "examples/call/call.ttda/x"]).status,
         3
     );
+    let asm = dayomlak(&["asm", file, file]);
+    assert_eq!(asm.status, 3);
+    assert!(asm.err.contains("it is a file, and the folder"), "{asm:?}");
     if fs::metadata("/dev/full").is_ok() {
         let full = fs::File::create("/dev/full").unwrap();
         let done = done(command(&Folder::new(), &["run", file, "--listing"]).stdout(full));
@@ -97,13 +103,77 @@ fn files_that_cannot_be_written() {
     }
 }
 
+/// A name that promises another form than SVG would mislead; the text for Graphviz may have any name.
+#[test]
+fn pictures_of_another_form() {
+    let folder = Folder::new();
+    let picture = folder.path("x.PNG");
+    let file = "examples/call/call.ttda";
+    for name in ["draw", "profile"] {
+        let done = dayomlak(&[name, file, "-o", &picture]);
+        assert_eq!((done.status, &done.out[..]), (2, ""), "{name}");
+        let words = "pictures are drawn as SVG\n  name it ";
+        assert!(
+            done.err.contains(words) && done.err.ends_with("x.svg\n"),
+            "{done:?}"
+        );
+    }
+    assert!(!std::path::Path::new(&picture).exists());
+    assert_eq!(dayomlak(&["draw", file, "--dot", "-o", &picture]).status, 0);
+}
+
+/// A folder has the files of a graph; the text beside them, or without them, is given by its own name.
+#[test]
+fn a_folder_without_files() {
+    let done = dayomlak(&["run", "examples/call"]);
+    assert_eq!(done.status, 1);
+    let words =
+        "the folder has no file `graph`, or an empty one; did you mean examples/call/call.ttda?";
+    assert!(done.out.contains(words), "{done:?}");
+    let done = dayomlak(&["run", "examples"]);
+    assert!(done.out.contains("or an empty one\n"), "{done:?}");
+    let done = dayomlak(&["disasm", "examples/call/call.ttda"]);
+    assert_eq!(done.status, 3);
+    assert!(
+        done.err.contains("it is a file, and the folder"),
+        "{done:?}"
+    );
+}
+
+/// As `dayomlak trace ... | head -1`: more is printed than a pipe holds, and its reader is gone.
+#[test]
+fn a_reader_that_has_seen_enough() {
+    let arguments = ["trace", "examples/matrix_multiply/matrix_multiply.ttda"];
+    assert!(dayomlak(&arguments).out.len() > 65_536);
+    let folder = Folder::new();
+    let mut command = command(&folder, &arguments);
+    let mut child = command
+        .stdout(Stdio::piped())
+        .stderr(Stdio::piped())
+        .spawn()
+        .unwrap();
+    drop(child.stdout.take());
+    let output = child.wait_with_output().unwrap();
+    assert_eq!((output.status.code(), output.stderr), (Some(0), Vec::new()));
+}
+
 #[test]
 fn no_text() {
     let folder = Folder::new();
     let file = folder.write("x.ttda", [0xff, 0xfe, 0x00]);
     let done = dayomlak(&["run", &file]);
     assert_eq!((done.status, &done.out[..]), (2, ""));
-    assert!(done.err.contains("is no text"), "{done:?}");
+    assert!(
+        done.err
+            .contains("is no text (UTF-8)\n  it begins as UTF-16 does"),
+        "{done:?}"
+    );
+    let file = folder.write("x.ttda", [0x61, 0xff]);
+    let done = dayomlak(&["run", &file]);
+    assert!(
+        done.err.contains("is no text (UTF-8)\n  for the files"),
+        "{done:?}"
+    );
 }
 
 /// Without Graphviz there is no picture, but its text.

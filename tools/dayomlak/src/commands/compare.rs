@@ -4,7 +4,7 @@ use std::time::{Duration, Instant};
 
 use indicatif::{ProgressBar, ProgressStyle};
 
-use super::{load, report, status};
+use super::{load, status, summary};
 use crate::answer::Word;
 use crate::cli::Compare;
 use crate::failure::{self, Failure};
@@ -36,7 +36,7 @@ pub fn compare(args: &Compare) -> Result<u8, Failure> {
     }
     text += &format!("{}\n\n", verdict(&kinds));
     let first = kinds[0].orders[0].words(!program.files.picks.is_empty());
-    text += &report(&machine, &kinds[0].end, &first);
+    text += &summary(&machine, &kinds[0].end, &first);
     output::print(text.as_bytes())?;
     match agrees(&kinds) {
         true => Ok(status(&kinds[0].end)),

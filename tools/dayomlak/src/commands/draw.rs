@@ -7,6 +7,9 @@ use crate::pictures::{self, dot};
 use crate::{graphviz, output};
 
 pub fn draw(args: &Draw) -> Result<u8, Failure> {
+    if let (Some(path), false) = (&args.output, args.dot) {
+        pictures::check_name(path)?;
+    }
     let program = load(&args.file.file)?;
     let caption = format!(
         "{}\ngraph and inputs {}, not run\n{}",

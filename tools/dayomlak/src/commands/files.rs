@@ -12,6 +12,9 @@ use crate::{output, program};
 pub fn asm(args: &Asm) -> Result<u8, Failure> {
     let files = load(&args.file.file)?.files;
     let folder = &args.folder;
+    if folder.is_file() {
+        return Err(Failure::file(folder, program::no_folder()));
+    }
     fs::create_dir_all(folder).map_err(|error| Failure::file(folder, error))?;
     output::write(&folder.join("graph"), &files.graph)?;
     output::write(&folder.join("inputs"), &files.inputs)?;

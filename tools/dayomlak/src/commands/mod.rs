@@ -7,6 +7,7 @@ pub mod explain;
 pub mod files;
 pub mod logs;
 pub mod profile;
+pub mod report;
 pub mod run;
 pub mod trace;
 
@@ -24,7 +25,7 @@ fn load(file: &str) -> Result<Program, Failure> {
 }
 
 /// The answer of a run in words: why it was refused, or its first line.
-fn answer(machine: &Machine, end: &End, order: &str) -> String {
+pub fn answer(machine: &Machine, end: &End, order: &str) -> String {
     let program = machine.program;
     match refused::explain(program, end, machine.sizes, order) {
         Some(finding) => diagnostics::plain(&program.label, &program.text, &[finding]),
@@ -33,7 +34,7 @@ fn answer(machine: &Machine, end: &End, order: &str) -> String {
 }
 
 /// The answer and what the run left.
-fn report(machine: &Machine, end: &End, order: &str) -> String {
+fn summary(machine: &Machine, end: &End, order: &str) -> String {
     answer(machine, end, order) + &left(machine, end)
 }
 

@@ -1,7 +1,6 @@
 //! `dayomlak profile`.
 
 use super::{answer, load, status};
-use crate::answer::count;
 use crate::cli::Profile;
 use crate::failure::Failure;
 use crate::machine::Machine;
@@ -16,6 +15,9 @@ use crate::{refused, results};
 const BAR: usize = 30;
 
 pub fn profile(args: &Profile) -> Result<u8, Failure> {
+    if let Some(path) = &args.output {
+        pictures::check_name(path)?;
+    }
     let program = load(&args.file.file)?;
     let machine = Machine::new(&program, args.buffers.sizes());
     let plot = plotter::plot(&machine, args.firing.order, args.firing.budget)?;
@@ -26,31 +28,22 @@ pub fn profile(args: &Profile) -> Result<u8, Failure> {
             let svg = svg.map_err(|e| Failure::Inconsistent(format!("the picture: {e}")))?;
             output::write(path, svg.as_bytes())?;
         }
+        None if plot.steps.is_empty() => {}
         None => text += &table(&plot.steps),
     }
+    text += &words(&program, &plot).join("\n");
     // The run may be an earlier one, from the cache: its date says so.
     let order = format!("{}, {}", plot.order, pictures::date(plot.seconds));
-    text += &format!(
-        "{}\n{}",
-        profiled(&plot),
-        answer(&machine, &plot.end, &order)
-    );
+    text += &format!("\n{}", answer(&machine, &plot.end, &order));
     output::print(text.as_bytes())?;
     Ok(status(&plot.end))
 }
 
-/// How the profile ended, in words.
-fn profiled(plot: &Plot) -> String {
-    let steps = count(plot.steps.len(), "ideal step");
-    let answer = &plot.profiled;
-    match answer.ended() {
-        true => format!("{steps}, then {}: {}", answer.words(), answer.counts()),
-        false => format!(
-            "{steps}, then {} in the next step: {}",
-            answer.words(),
-            answer.counts()
-        ),
-    }
+/// How the profile ended, and what its first step has besides.
+fn words(program: &Program, plot: &Plot) -> Vec<String> {
+    let ended = plotter::ended(&plot.steps, &plot.profiled);
+    let loading = plotter::loading(program, &plot.steps);
+    [Some(ended), loading].into_iter().flatten().collect()
 }
 
 fn picture(program: &Program, plot: &Plot) -> curves::Picture {
@@ -64,16 +57,17 @@ fn picture(program: &Program, plot: &Plot) -> curves::Picture {
     if let Some(firing) = refused::which(program, &plot.end) {
         run += &format!(", in {firing}");
     }
+    let mut facts = vec![
+        format!(
+            "graph and inputs {fingerprint}, capacity {}, {} cells",
+            request.capacity, request.cells
+        ),
+        run,
+    ];
+    facts.extend(words(program, plot));
     curves::Picture {
         title: program.label.clone(),
-        facts: vec![
-            format!(
-                "graph and inputs {fingerprint}, capacity {}, {} cells",
-                request.capacity, request.cells
-            ),
-            run,
-            profiled(plot),
-        ],
+        facts,
         steps: plot.steps.clone(),
         left: results::lines(program, &plot.end),
     }

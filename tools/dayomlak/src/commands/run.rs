@@ -1,6 +1,6 @@
 //! `dayomlak run`.
 
-use super::{load, report, status};
+use super::{load, status, summary};
 use crate::cli::Run;
 use crate::failure::Failure;
 use crate::machine::Machine;
@@ -15,7 +15,7 @@ pub fn run(args: &Run) -> Result<u8, Failure> {
         output::print(&end.text()?)?;
     } else {
         let order = args.firing.order.words(!program.files.picks.is_empty());
-        output::print(report(&machine, &end, &order).as_bytes())?;
+        output::print(summary(&machine, &end, &order).as_bytes())?;
     }
     Ok(status(&end))
 }

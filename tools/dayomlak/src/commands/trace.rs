@@ -4,8 +4,9 @@ use std::ops::Range;
 
 use super::{answer, load, status};
 use crate::cli::Trace;
+use crate::effects;
 use crate::failure::Failure;
-use crate::history::{Firing, History, Touch};
+use crate::history::{Firing, History};
 use crate::machine::Machine;
 use crate::output;
 use crate::program::Program;
@@ -35,7 +36,7 @@ fn lines(program: &Program, history: &History, shown: Range<usize>) -> String {
     let row = |number: usize| {
         let firing = &history.firings[number];
         let columns = columns(program, history, number, firing);
-        (columns, effects(program, history, firing))
+        (columns, effects::of(program, history, firing))
     };
     let rows: Vec<([String; 4], String)> = shown.map(row).collect();
     let width = |column: usize| {
@@ -55,49 +56,11 @@ fn lines(program: &Program, history: &History, shown: Range<usize>) -> String {
 
 /// Number, activity, operation and operands.
 fn columns(program: &Program, history: &History, number: usize, firing: &Firing) -> [String; 4] {
-    let operand = |place: &usize| history.tokens[*place].value.to_string();
-    let operands: Vec<String> = firing.operands.iter().map(operand).collect();
     let instruction = program.graph.get(firing.tag.instruction);
     [
         (number + 1).to_string(),
         program.tag(&firing.tag),
         instruction.map_or(String::new(), |i| i.words()),
-        operands.join(" "),
+        effects::operands(history, firing),
     ]
-}
-
-/// What the firing does: its outputs, and the cell that it touches.
-fn effects(program: &Program, history: &History, firing: &Firing) -> String {
-    let name = |place: usize| {
-        let token = &history.tokens[place];
-        program.port(&token.tag, token.port)
-    };
-    let names =
-        |places: &mut dyn Iterator<Item = usize>| places.map(name).collect::<Vec<_>>().join(", ");
-    // A deferred output has its value later; by now the ledger may hold it.
-    if let Some(Touch::Deferred(cell)) = firing.touch {
-        let outputs = names(&mut firing.outputs.clone());
-        return format!("-> {outputs} deferred: cell {cell} has no value yet");
-    }
-    let sent = |place: usize| format!("{} = {}", name(place), history.tokens[place].value);
-    let outputs: Vec<String> = firing.outputs.clone().map(sent).collect();
-    let mut parts = Vec::new();
-    if !outputs.is_empty() {
-        parts.push(format!("-> {}", outputs.join(", ")));
-    }
-    match &firing.touch {
-        Some(Touch::Read(cell)) => parts.push(format!("reads cell {cell}")),
-        Some(Touch::Written(cell, woken)) => {
-            let value = firing
-                .operands
-                .get(1)
-                .map_or(0, |place| history.tokens[*place].value);
-            parts.push(format!("cell {cell} := {value}"));
-            if !woken.is_empty() {
-                parts.push(format!("wakes {}", names(&mut woken.iter().copied())));
-            }
-        }
-        _ => {}
-    }
-    parts.join("; ")
 }

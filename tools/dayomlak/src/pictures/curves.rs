@@ -1,6 +1,7 @@
 //! The two curves of Memo 280 as SVG.
 
 use std::error::Error;
+use std::ops::Range;
 
 use plotters::coord::Shift;
 use plotters::prelude::*;
@@ -8,6 +9,8 @@ use plotters::prelude::*;
 use crate::records::Step;
 
 const WIDTH: u32 = 900;
+/// The width of a curve beside other things.
+const NARROW: u32 = 560;
 const CHART: u32 = 210;
 const LINE: u32 = 18;
 const MARGIN: u32 = 16;
@@ -27,6 +30,7 @@ pub struct Picture {
     pub left: Vec<String>,
 }
 
+type Place = (Range<i32>, Range<i32>);
 type Area<'a> = DrawingArea<SVGBackend<'a>, Shift>;
 
 /// A curve over the steps.
@@ -77,6 +81,19 @@ pub fn svg(picture: &Picture) -> Result<String, Box<dyn Error>> {
     Ok(svg)
 }
 
+/// A curve by itself.
+pub struct Chart {
+    pub svg: String,
+    /// Where the first step begins and the last one ends, and where the curve has its top and its foot.
+    pub across: Range<i32>,
+    pub down: Range<i32>,
+}
+
+/// The curves one by one, without a background, for a page.
+pub fn charts(steps: &[Step]) -> Result<Vec<Chart>, Box<dyn Error>> {
+    CURVES.iter().map(|curve| curve.chart(steps)).collect()
+}
+
 fn write(area: &Area, text: &str, size: u32, at: (u32, u32)) -> Result<(), Box<dyn Error>> {
     let style = ("sans-serif", size as i32).into_text_style(area);
     area.draw_text(text, &style, (at.0 as i32, at.1 as i32))?;
@@ -114,7 +131,20 @@ fn write_columns(area: &Area, columns: &[Vec<String>]) -> Result<(), Box<dyn Err
 }
 
 impl Curve {
-    fn draw(&self, area: &Area, steps: &[Step]) -> Result<(), Box<dyn Error>> {
+    fn chart(&self, steps: &[Step]) -> Result<Chart, Box<dyn Error>> {
+        let mut svg = String::new();
+        let (across, down) = {
+            let backend = SVGBackend::with_string(&mut svg, (NARROW, CHART));
+            let root = backend.into_drawing_area();
+            let place = self.draw(&root, steps)?;
+            root.present()?;
+            place
+        };
+        Ok(Chart { svg, across, down })
+    }
+
+    /// Draws the curve and answers where its steps stand, across and down.
+    fn draw(&self, area: &Area, steps: &[Step]) -> Result<Place, Box<dyn Error>> {
         let most = steps.iter().map(self.part).max().unwrap_or(0);
         let end = steps.len().max(1) as u32;
         let caption = format!("{}: at most {most}", self.name);
@@ -137,7 +167,7 @@ impl Curve {
         let border = self.colour.stroke_width(width);
         let series = AreaSeries::new(self.points(steps), 0, self.colour.mix(0.18));
         chart.draw_series(series.border_style(border))?;
-        Ok(())
+        Ok(chart.plotting_area().get_pixel_range())
     }
 
     /// The corners of the curve: a step is as wide as another.

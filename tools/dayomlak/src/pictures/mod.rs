@@ -3,9 +3,28 @@
 pub mod curves;
 pub mod dot;
 
+use std::path::Path;
 use std::time::{SystemTime, UNIX_EPOCH};
 
 use asm::Files;
+
+use crate::failure::Failure;
+
+/// Forms of pictures that are not drawn.
+const OTHER_FORMS: [&str; 7] = ["png", "jpg", "jpeg", "gif", "pdf", "ps", "eps"];
+
+/// Refuses a name that promises another form than SVG.
+pub fn check_name(path: &Path) -> Result<(), Failure> {
+    let form = path.extension().and_then(|form| form.to_str());
+    match form.filter(|form| OTHER_FORMS.contains(&form.to_lowercase().as_str())) {
+        Some(_) => Err(Failure::Wrong(format!(
+            "{}: pictures are drawn as SVG\n  name it {}",
+            path.display(),
+            path.with_extension("svg").display()
+        ))),
+        None => Ok(()),
+    }
+}
 
 /// A fingerprint of graph and inputs, for a reader to tell two pictures apart (FNV-1a in 64 bits). Nothing is decided by
 /// it: where equality matters, all bytes are compared.

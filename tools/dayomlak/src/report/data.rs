@@ -1,0 +1,213 @@
+//! What the page shows at each position of its slider, as JSON: the firings, and tokens and cells by their changes.
+
+use super::json::{list, maybe, object, string};
+use super::states::{Changes, States};
+use super::steps::Steps;
+use super::Run;
+use crate::answer::Word;
+use crate::effects;
+use crate::failure::Failure;
+use crate::graph::{Destination, LEAVE, SWITCH};
+use crate::history::{Firing, History};
+use crate::pictures::dot::{self, Drawing};
+use crate::program::Program;
+use crate::records::{self, Cell, Tag, Token};
+
+/// The data of a run. One that was refused before its inputs were written has no state.
+pub fn of(run: &Run, drawing: &Drawing, steps: &Steps) -> Result<String, Failure> {
+    let whole = steps.whole.iter();
+    let whole = whole.map(|step| format!("[{},{}]", step.firings, step.tokens));
+    let fault = fault(run, drawing).unwrap_or_default();
+    let (firings, refused, tokens, cells) = match run.end.answer.refused_at_once() {
+        true => (list([]), "null".to_string(), list([]), list([])),
+        false => {
+            let data = Data::new(run, drawing, steps)?;
+            (
+                data.firings(),
+                data.refused(run),
+                data.tokens(),
+                data.cells(),
+            )
+        }
+    };
+    Ok(object(&[
+        ("firings", firings),
+        ("refused", refused),
+        ("tokens", tokens),
+        ("cells", cells),
+        ("steps", list(whole)),
+        ("fault", string(&fault)),
+    ]))
+}
+
+/// What is drawn of the instruction or the input that a run was refused for before any firing.
+fn fault(run: &Run, drawing: &Drawing) -> Option<String> {
+    let answer = &run.end.answer;
+    match answer.word {
+        Word::Refused(2..=5) => Some(drawing.instruction_id(answer.place as u16)),
+        Word::Refused(6 | 8 | 9) if answer.refused_at_once() => {
+            let inputs = records::tokens(&run.machine.program.files.inputs);
+            let instruction = inputs.get(answer.place)?.tag.instruction;
+            Some(drawing.input_id(answer.place, instruction))
+        }
+        _ => None,
+    }
+}
+
+struct Data<'d> {
+    program: &'d Program,
+    drawing: &'d Drawing<'d>,
+    steps: &'d Steps,
+    history: History,
+    states: States,
+}
+
+impl<'d> Data<'d> {
+    fn new(run: &Run<'d>, drawing: &'d Drawing, steps: &'d Steps) -> Result<Data<'d>, Failure> {
+        Ok(Data {
+            program: run.machine.program,
+            drawing,
+            steps,
+            history: History::of(run.machine, &run.end, &run.log)?,
+            states: States::of(run.machine, &run.picks, &run.end)?,
+        })
+    }
+
+    fn firings(&self) -> String {
+        list(self.history.firings.iter().map(|firing| {
+            let mut fields = self.activity(&firing.tag);
+            fields.push(("words", string(&self.words(firing))));
+            fields.push(("step", maybe(self.steps.of(&firing.tag))));
+            object(&fields)
+        }))
+    }
+
+    /// Operation, operands and what they lead to.
+    fn words(&self, firing: &Firing) -> String {
+        let operation = self.program.graph.get(firing.tag.instruction);
+        let operation = operation.map_or(String::new(), |i| i.words());
+        let operands = effects::operands(&self.history, firing).replace(' ', " and ");
+        let effects = effects::of(self.program, &self.history, firing);
+        let join = match effects.chars().next() {
+            None => "",
+            Some('-') => " ",
+            Some(_) => ": ",
+        };
+        format!("{operation} with {operands}{join}{effects}")
+    }
+
+    /// The name of an activity, its tag in numbers and the id of what is drawn of it.
+    fn activity(&self, tag: &Tag) -> Vec<(&'static str, String)> {
+        let numbers = format!(
+            "path {}, iteration {}, instruction {}",
+            tag.path, tag.iteration, tag.instruction
+        );
+        vec![
+            ("name", string(&self.program.tag(tag))),
+            ("tag", string(&numbers)),
+            ("at", string(&self.drawing.instruction_id(tag.instruction))),
+        ]
+    }
+
+    /// The refused activity, with the places of its operands.
+    fn refused(&self, run: &Run) -> String {
+        let answer = &run.end.answer;
+        let token = self.history.tokens.get(answer.place);
+        let (Word::Refused(_), Some(token)) = (answer.word, token) else {
+            return "null".to_string();
+        };
+        let operands = (0..).zip(&self.history.tokens);
+        let operands = operands.filter(|(_, operand)| operand.tag == token.tag);
+        let operands = operands.map(|(place, _): (usize, _)| place.to_string());
+        let mut fields = self.activity(&token.tag);
+        fields.push(("words", string(&answer.words())));
+        fields.push(("operands", list(operands)));
+        fields.push(("step", maybe(self.steps.of(&token.tag))));
+        object(&fields)
+    }
+
+    fn tokens(&self) -> String {
+        let arcs = self.arcs();
+        let states = self.states.tokens.iter();
+        list(states.zip(arcs).map(|(changes, arc)| {
+            let token = &changes[0].1;
+            let tag = &token.tag;
+            let name = self.program.port(tag, token.port);
+            let key = format!(
+                "{} {} {} {}",
+                tag.path, tag.iteration, tag.instruction, token.port
+            );
+            object(&[
+                ("name", string(&name)),
+                ("key", string(&key)),
+                ("at", string(&self.drawing.instruction_id(tag.instruction))),
+                ("arc", string(&arc)),
+                ("changes", token_changes(changes)),
+            ])
+        }))
+    }
+
+    /// The arc that each token came by, by place; inputs come first.
+    fn arcs(&self) -> Vec<String> {
+        let tokens = &self.history.tokens;
+        let inputs = tokens[..self.history.inputs].iter().enumerate();
+        let inputs = inputs.map(|(number, t)| self.drawing.input_id(number, t.tag.instruction));
+        let sent = self.history.firings.iter().flat_map(|firing| {
+            let outputs = firing.outputs.clone();
+            outputs.map(move |place| self.arc(firing, &tokens[place]))
+        });
+        inputs.chain(sent).collect()
+    }
+
+    /// The arc that an output of a firing went along. What leaves a call comes by the line of its ENTER.
+    fn arc(&self, firing: &Firing, output: &Token) -> String {
+        let graph = &self.program.graph;
+        let number = firing.tag.instruction;
+        let Some(instruction) = graph.get(number) else {
+            return String::new();
+        };
+        let to = output.tag.instruction;
+        if instruction.code == LEAVE {
+            let enter = graph.enter(firing.tag.left().1);
+            return enter.map_or(String::new(), |enter| dot::return_id(enter.into(), to));
+        }
+        let ends = |arc: &Destination| arc.instruction == to && arc.port == output.port;
+        let side = match instruction.code {
+            SWITCH => Some(self.side(firing)),
+            _ => instruction.arcs().iter().position(ends),
+        };
+        side.map_or(String::new(), |side| dot::arc_id(number.into(), side))
+    }
+
+    /// The destination that a SWITCH sent to: its control says so, also where both are one port.
+    fn side(&self, firing: &Firing) -> usize {
+        let control = firing.operands.get(1);
+        usize::from(control.is_some_and(|place| self.history.tokens[*place].value == 0))
+    }
+
+    fn cells(&self) -> String {
+        list(self.states.cells.iter().map(|(number, changes)| {
+            object(&[
+                ("cell", number.to_string()),
+                ("changes", cell_changes(changes)),
+            ])
+        }))
+    }
+}
+
+fn token_changes(changes: &Changes<Token>) -> String {
+    let change = |(from, token): &(usize, Token)| {
+        format!("[{from},\"{}\",{}]", token.state.word(), token.value)
+    };
+    list(changes.iter().map(change))
+}
+
+/// A cell that waits has the value 0, as in its record.
+fn cell_changes(changes: &Changes<Cell>) -> String {
+    let change = |(from, cell): &(usize, Cell)| match cell {
+        Cell::Absent => format!("[{from},\"absent\",0]"),
+        Cell::Waiting => format!("[{from},\"waiting\",0]"),
+        Cell::Present(value) => format!("[{from},\"present\",{value}]"),
+    };
+    list(changes.iter().map(change))
+}

@@ -1,0 +1,456 @@
+'use strict';
+// Shows a run firing by firing. Every state is the engine's and stands in the data; nothing is fired here.
+
+const byId = (id) => document.getElementById(id);
+const data = JSON.parse(byId('data').textContent);
+// A refused firing has a position of its own, the last, and the state that it found.
+const last = data.firings.length + (data.refused ? 1 : 0);
+// More rows than anybody reads would make every step slow.
+const MOST_ROWS = 300;
+const MOST_NAMES = 20;
+
+/* The state at a position. */
+
+// The last change up to a position; undefined before the first.
+function changeAt(changes, position) {
+  let found;
+  for (const change of changes) {
+    if (change[0] <= position) found = change;
+  }
+  return found;
+}
+
+// A token or a cell with its state and value, and whether the firing of this position changed it.
+function itemAt(item, number, position) {
+  const change = changeAt(item.changes, position);
+  if (!change) return null;
+  const [since, state, value] = change;
+  return { ...item, number, state, value, fresh: since === position && position > 0 };
+}
+
+function itemsAt(items, position) {
+  return items.map((item, number) => itemAt(item, number, position)).filter(Boolean);
+}
+
+function stateAt(position) {
+  const refused = position > data.firings.length;
+  const operands = refused ? data.refused.operands : [];
+  const tokens = itemsAt(data.tokens, position)
+    .map((token) => ({ ...token, operand: operands.includes(token.number) }));
+  return {
+    position,
+    firing: firingAt(position),
+    refused,
+    tokens: tokens.filter((token) => token.state !== 'spent'),
+    spent: tokens.filter((token) => token.state === 'spent').length,
+    cells: itemsAt(data.cells, position),
+  };
+}
+
+function firingAt(position) {
+  if (position > data.firings.length) return data.refused;
+  return data.firings[position - 1];
+}
+
+const plural = (count, noun) => `${count} ${noun}${count === 1 ? '' : 's'}`;
+
+// Scrolls a frame, and not the page, until an element in it is in sight.
+function keepInSight(frame, element) {
+  if (!element) return;
+  const outer = frame.getBoundingClientRect();
+  const box = element.getBoundingClientRect();
+  const margin = 35;
+  if (box.left < outer.left + margin || box.right > outer.right - margin) {
+    frame.scrollLeft += (box.left + box.right - outer.left - outer.right) / 2;
+  }
+  if (box.top < outer.top + margin || box.bottom > outer.bottom - margin) {
+    frame.scrollTop += (box.top + box.bottom - outer.top - outer.bottom) / 2;
+  }
+}
+
+/* The firing in words. */
+
+function showFiring(state) {
+  const { firing, position } = state;
+  const what = byId('what');
+  what.className = state.refused ? 'refused' : '';
+  what.replaceChildren(...firingWords(state));
+  byId('tag').textContent = firing ? firing.tag : '';
+  byId('slider').value = position;
+  byId('slider').setAttribute('aria-valuetext', what.textContent);
+}
+
+// The number and the name stand out.
+function firingWords({ firing, position, refused }) {
+  const done = data.firings.length;
+  if (refused) {
+    const words = ` is ${firing.words}. This is the state that it found.`;
+    return [strong(`Firing ${position}: ${firing.name}`), words];
+  }
+  if (firing) return [strong(`Firing ${position} of ${done}: ${firing.name}`), `, ${firing.words}`];
+  if (data.tokens.length === 0) return [nothing()];
+  return [`The inputs, before the first of ${plural(done, 'firing')}`];
+}
+
+function nothing() {
+  const refused = byId('answer').classList.contains('refused');
+  return refused ? 'Refused before any firing: there is no token.' : 'There is no token: nothing fires.';
+}
+
+function strong(words) {
+  const element = document.createElement('strong');
+  element.textContent = words;
+  return element;
+}
+
+/* Tables. */
+
+function row(values, numbers) {
+  const tr = document.createElement('tr');
+  values.forEach((value, column) => {
+    const td = tr.insertCell();
+    td.textContent = value;
+    if (numbers.includes(column)) td.className = 'number';
+  });
+  return tr;
+}
+
+// Fills a table, and says how many rows it does not show.
+function fillTable(id, items, rowOf) {
+  const rows = items.slice(0, MOST_ROWS).map(rowOf);
+  if (items.length > MOST_ROWS) {
+    const more = row([`and ${items.length - MOST_ROWS} more, not shown here`], []);
+    more.cells[0].colSpan = 4;
+    more.className = 'more';
+    rows.push(more);
+  }
+  byId(id).classList.toggle('empty', items.length === 0);
+  byId(id).tBodies[0].replaceChildren(...rows);
+  keepInSight(byId(id).parentElement, byId(id).querySelector('.fresh, .operand'));
+}
+
+function tokenRow(token) {
+  const deferred = token.state === 'deferred';
+  const value = deferred ? '' : token.value;
+  const state = deferred ? `deferred on cell ${token.value}` : token.state;
+  const tr = row([token.number, token.name, value, state], [0, 2]);
+  tr.dataset.record = `${token.key} ${token.value} ${token.state}`;
+  tr.classList.toggle('fresh', token.fresh);
+  tr.classList.toggle('operand', token.operand);
+  return tr;
+}
+
+function cellRow(cell, reads) {
+  const value = cell.state === 'present' ? cell.value : '';
+  const tr = row([cell.cell, cell.state, value, some(reads.map(readWords)).join(', ')], [0, 2]);
+  tr.dataset.record = `cell ${cell.cell} ${cell.state} ${cell.value}`;
+  tr.classList.toggle('fresh', cell.fresh);
+  return tr;
+}
+
+// A deferred token, and the FETCH that sent it when it arrived.
+function readWords(token) {
+  const [arrival] = token.changes[0];
+  return `${data.firings[arrival - 1].name} → ${token.name}`;
+}
+
+// The first words, and how many more there are.
+function some(words) {
+  if (words.length <= MOST_NAMES) return words;
+  return [...words.slice(0, MOST_NAMES), `and ${words.length - MOST_NAMES} more`];
+}
+
+function showTables({ tokens, spent, cells }) {
+  const deferred = tokens.filter((token) => token.state === 'deferred');
+  const live = tokens.length - deferred.length;
+  byId('counts').textContent =
+    `${plural(tokens.length + spent, 'token')}: ${live} live, ${deferred.length} deferred, ${spent} spent`;
+  fillTable('tokens', tokens, tokenRow);
+  const present = cells.filter((cell) => cell.state === 'present').length;
+  byId('cell-counts').textContent = cells.length === 0
+    ? 'All are absent'
+    : `${present} present, ${cells.length - present} waiting; all others are absent`;
+  const readsOf = (cell) => deferred.filter((token) => token.value === cell.cell);
+  fillTable('cells', cells, (cell) => cellRow(cell, readsOf(cell)));
+}
+
+// The most tokens that are live or deferred at any position.
+function mostTokens() {
+  const arrived = new Array(last + 1).fill(0);
+  data.tokens.forEach(({ changes }) => {
+    arrived[changes[0][0]] += 1;
+    const [end, state] = changes[changes.length - 1];
+    if (state === 'spent') arrived[end] -= 1;
+  });
+  let now = 0;
+  return Math.max(...arrived.map((more) => { now += more; return now; }));
+}
+
+// Keeps the room that a table will need, as far as it may grow, so that nothing jumps while the slider moves.
+function keepRoom(id, rows) {
+  const frame = byId(id).parentElement;
+  const height = rows === 0 ? 0 : 1.75 * (rows + 1);
+  frame.style.minHeight = `min(${height}rem, ${getComputedStyle(frame).maxHeight})`;
+}
+
+/* The picture. */
+
+const graph = byId('graph');
+const svg = graph.querySelector('svg');
+const labels = svg ? [...svg.querySelectorAll('.edge text')].map((text) => text.getBBox()) : [];
+const badges = svg && svg.querySelector('.graph').appendChild(svgElement('g', {}));
+
+function svgElement(name, attributes) {
+  const element = document.createElementNS(svg.namespaceURI, name);
+  Object.entries(attributes).forEach(([key, value]) => element.setAttribute(key, value));
+  return element;
+}
+
+// The rows of the table of loads have no ids of their own: each has two numbers, and the words are headings.
+function nameLoads() {
+  const texts = [...svg.querySelectorAll('#loads text')].filter((text) => !isNaN(text.textContent));
+  texts.forEach((text, number) => text.classList.add(`load-${Math.floor(number / 2)}`));
+}
+
+// What is drawn by an id: an instruction, an arc, or the texts of a load.
+function drawn(id) {
+  const element = id && byId(id);
+  if (element) return [element];
+  return id ? [...svg.getElementsByClassName(id)] : [];
+}
+
+function mark(name, ids) {
+  svg.querySelectorAll(`.${name}`).forEach((element) => element.classList.remove(name));
+  ids.flatMap(drawn).forEach((element) => element.classList.add(name));
+}
+
+function showPicture(state) {
+  const { firing, refused, tokens } = state;
+  const here = firing ? [firing.at] : [];
+  mark('fires', refused ? [] : here);
+  mark('refuses', refused ? here : [data.fault]);
+  mark('sends', tokens.filter((token) => token.fresh).map((token) => token.arc));
+  showBadges(tokens);
+  if (firing) keepInSight(graph, drawn(firing.at)[0]);
+}
+
+function showBadges(tokens) {
+  const groups = new Map();
+  tokens.forEach((token) => {
+    const arc = drawn(token.arc).length > 0 ? token.arc : token.at;
+    groups.set(arc, [...(groups.get(arc) || []), token]);
+  });
+  badges.replaceChildren(...[...groups].map(([arc, group]) => badge(spot(arc), group)));
+}
+
+const spots = new Map();
+
+// Where the tokens of an arc are shown: near its middle; at a load, beside its row; else on the instruction itself.
+function spot(id) {
+  if (!spots.has(id)) spots.set(id, newSpot(id));
+  return spots.get(id);
+}
+
+function newSpot(id) {
+  const elements = drawn(id);
+  if (elements.length === 0) return { x: 0, y: 0 };
+  const path = elements[0].querySelector('path');
+  if (path && elements[0].classList.contains('edge')) return spotOnArc(path);
+  const box = elements[elements.length - 1].getBBox();
+  const beside = elements.length > 1 ? 16 : 0;
+  return { x: box.x + box.width + beside, y: box.y + box.height / 2 };
+}
+
+// As near to the middle as labels, and the tokens of arcs that cross, leave room; else beside it.
+function spotOnArc(path) {
+  const length = path.getTotalLength();
+  const points = [0.5, 0.4, 0.6, 0.3, 0.7, 0.2, 0.8].map((part) => path.getPointAtLength(length * part));
+  const beside = [10, -10].flatMap((aside) => points.map(({ x, y }) => ({ x: x + aside, y })));
+  return [...points, ...beside].find(isFree) || points[0];
+}
+
+const HALF_BADGE = 7;
+
+function isFree({ x, y }) {
+  const far = (spot) => Math.hypot(spot.x - x, spot.y - y) > 2 * HALF_BADGE;
+  const beside = (box) => x + HALF_BADGE < box.x || x - HALF_BADGE > box.x + box.width ||
+    y + HALF_BADGE < box.y || y - HALF_BADGE > box.y + box.height;
+  return labels.every(beside) && [...spots.values()].every(far);
+}
+
+// One token shows its value, several their number; the tip names them.
+function badge({ x, y }, group) {
+  const [token] = group;
+  const deferred = token.state === 'deferred';
+  const single = deferred ? '?' : String(token.value);
+  const words = group.length > 1 ? `×${group.length}` : single;
+  const width = Math.max(13, 7 + 5.4 * words.length);
+  const element = svgElement('g', { class: 'token', transform: `translate(${x} ${y})` });
+  element.classList.toggle('deferred', group.every(({ state }) => state === 'deferred'));
+  element.classList.toggle('fresh', group.some(({ fresh }) => fresh));
+  element.classList.toggle('operand', group.some(({ operand }) => operand));
+  const tip = svgElement('title', {});
+  tip.textContent = tipOf(group);
+  const text = svgElement('text', { y: 3 });
+  text.textContent = words;
+  element.append(tip, svgElement('rect', { x: -width / 2, y: -6.5, width, height: 13, rx: 6.5 }), text);
+  return element;
+}
+
+function tipOf(group) {
+  const words = ({ name, value, state }) =>
+    state === 'deferred' ? `${name} waits for cell ${value}` : `${name} = ${value}`;
+  return some(group.map(words)).join('\n');
+}
+
+// Letters drawn smaller than this are hard to read.
+const SMALLEST = 0.75;
+// Pixels of a point, the unit of the picture.
+const POINT = 4 / 3;
+let zoom = 1;
+
+function setZoom(value) {
+  zoom = Math.min(4, Math.max(0.1, value));
+  const { width, height } = svg.viewBox.baseVal;
+  svg.setAttribute('width', width * zoom * POINT);
+  svg.setAttribute('height', height * zoom * POINT);
+}
+
+// As large as the frame allows.
+function fit(smallest) {
+  const { width, height } = svg.viewBox.baseVal;
+  const across = (graph.clientWidth - 4) / (width * POINT);
+  const down = parseFloat(getComputedStyle(graph).maxHeight) / (height * POINT);
+  setZoom(Math.max(smallest, Math.min(across, down, 1.2)));
+}
+
+/* The curves. */
+
+function showStep({ firing, refused }) {
+  const step = firing ? firing.step : null;
+  byId('step').textContent = stepWords(firing, refused);
+  document.querySelectorAll('figure').forEach((figure) => markStep(figure, step));
+}
+
+function stepWords(firing, refused) {
+  if (!firing) return '';
+  const record = data.steps[firing.step - 1];
+  if (refused && !record) return 'The refused firing is in no whole step.';
+  if (!firing.step) return 'The profile was refused before it came to this activity.';
+  if (!record) return 'This activity fires in the step that was not finished.';
+  return `${firing.name} fires in step ${firing.step}: ${plural(record[0], 'firing')}, ` +
+    `${plural(record[1], 'token')} after it.`;
+}
+
+function markStep(figure, step) {
+  figure.querySelectorAll('.mark').forEach((old) => old.remove());
+  if (!step || step > data.steps.length) return;
+  const [left, right, top, bottom] = ['left', 'right', 'top', 'bottom'].map((side) => Number(figure.dataset[side]));
+  const width = (right - left) / data.steps.length;
+  const chart = figure.querySelector('svg');
+  const rect = document.createElementNS(chart.namespaceURI, 'rect');
+  const place = { class: 'mark', x: left + width * (step - 1), y: top, width, height: bottom - top };
+  Object.entries(place).forEach(([key, value]) => rect.setAttribute(key, value));
+  chart.append(rect);
+}
+
+/* The slider. */
+
+let position = 0;
+
+function show(wanted) {
+  position = Math.min(last, Math.max(0, Math.round(wanted) || 0));
+  const state = stateAt(position);
+  showFiring(state);
+  showTables(state);
+  if (svg) showPicture(state);
+  showStep(state);
+  ['first', 'previous'].forEach((id) => { byId(id).disabled = position === 0; });
+  ['next', 'last'].forEach((id) => { byId(id).disabled = position === last; });
+  if (position === last) stop();
+}
+
+// Where a user goes stands in the address, so that it can be passed on.
+function go(wanted) {
+  show(wanted);
+  history.replaceState(null, '', `#firing=${position}`);
+}
+
+function fromAddress() {
+  const match = /^#firing=(\d+)$/.exec(location.hash);
+  show(match ? Number(match[1]) : 0);
+}
+
+let timer = null;
+
+function stop() {
+  clearInterval(timer);
+  timer = null;
+  byId('play').textContent = 'Play';
+  byId('firing').setAttribute('aria-live', 'polite');
+}
+
+function play() {
+  if (timer !== null) return stop();
+  if (position === last) show(0);
+  byId('play').textContent = 'Pause';
+  // Nobody can listen to firings at this pace.
+  byId('firing').setAttribute('aria-live', 'off');
+  timer = setInterval(() => go(position + 1), Number(byId('speed').value));
+  return undefined;
+}
+
+const KEYS = {
+  ArrowLeft: () => position - 1,
+  ArrowRight: () => position + 1,
+  Home: () => 0,
+  End: () => last,
+};
+
+// The slider and the list of speeds have keys of their own.
+function key(event) {
+  const own = event.target.closest('input, select');
+  if (own || event.ctrlKey || event.altKey || event.metaKey || !(event.key in KEYS)) return;
+  event.preventDefault();
+  go(KEYS[event.key]());
+}
+
+function onClick(actions) {
+  Object.entries(actions).forEach(([id, action]) => byId(id).addEventListener('click', action));
+}
+
+function start() {
+  byId('slider').max = last;
+  byId('play').disabled = last === 0;
+  byId('slider').addEventListener('input', (event) => go(Number(event.target.value)));
+  onClick({
+    first: () => go(0),
+    previous: () => go(position - 1),
+    next: () => go(position + 1),
+    last: () => go(last),
+    play,
+  });
+  byId('speed').addEventListener('change', () => { if (timer !== null) { stop(); play(); } });
+  document.addEventListener('keydown', key);
+  window.addEventListener('hashchange', fromAddress);
+  keepRoom('tokens', mostTokens());
+  keepRoom('cells', data.cells.length);
+  if (svg) startPicture();
+  fromAddress();
+}
+
+function startPicture() {
+  // Graphviz's own tips say nothing to a reader.
+  svg.querySelectorAll('title').forEach((title) => title.remove());
+  nameLoads();
+  // Each arc has its spot from the start, whatever way the slider goes.
+  new Set(data.tokens.map((token) => token.arc)).forEach(spot);
+  fit(SMALLEST);
+  onClick({
+    smaller: () => setZoom(zoom / 1.25),
+    larger: () => setZoom(zoom * 1.25),
+    fit: () => fit(0),
+  });
+}
+
+start();
