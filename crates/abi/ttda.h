@@ -1,6 +1,6 @@
 /* The functions of target/staticlib/libabi.a, which `rt staticlib abi` makes. Numbers and
    records are little-endian; README.md gives the formats. No function keeps a pointer, and each may be called from any
-   thread. No pointer is NULL, even with length 0, and a buffer that is written overlaps no other of the same call. */
+   thread. No pointer may be NULL, even with length 0, and a buffer that is written must overlap no other of the same call. */
 #ifndef TTDA_H
 #define TTDA_H
 
@@ -27,7 +27,7 @@ uint64_t ttda_run_logged(const uint8_t *graph, size_t graph_len,
                          uint8_t *cells, size_t cells_len,
                          uint8_t *log, size_t log_len);
 
-/* Replays a log: fires the activities that its records name, in turn. The log of a run is its first records, as many as
+/* Replays a log: fires the activities that its records name, in turn, and answers as ttda_run does. The log of a run is its first records, as many as
    the run's answer has firings. A record that names no enabled activity, lacks its zero byte or is not whole is refused
    by 20, with the record's number as the place. */
 uint64_t ttda_replay(const uint8_t *graph, size_t graph_len,
@@ -36,7 +36,7 @@ uint64_t ttda_replay(const uint8_t *graph, size_t graph_len,
                      uint8_t *ledger, size_t ledger_len,
                      uint8_t *cells, size_t cells_len);
 
-/* Runs a graph in ideal steps, each of which fires every activity that is enabled at its start. Writes a record of 4 bytes
+/* Runs a graph in ideal steps, each of which fires every activity that is enabled at its start, and answers as ttda_run does. Writes a record of 4 bytes
    for each whole step to the start of profile (its firings, and the live plus deferred tokens after it, 16 bits each), and
    the number of records to *records, also where the call is refused. 18 if a step has no record left. */
 uint64_t ttda_profile(const uint8_t *graph, size_t graph_len,
@@ -52,7 +52,7 @@ uint64_t ttda_profile(const uint8_t *graph, size_t graph_len,
 uint64_t ttda_bounds(const uint8_t *graph, size_t graph_len,
                      const uint8_t *inputs, size_t inputs_len);
 
-/* Sorts the used records of a ledger, so many as the answer has tokens, into out of the same length. 0, or 7 with out
+/* Sorts the used records of a ledger, as many as the answer has tokens, into out of the same length. 0, or 7 with out
    untouched. */
 uint64_t ttda_list(const uint8_t *ledger, size_t ledger_len,
                    uint8_t *out, size_t out_len);
@@ -61,8 +61,8 @@ uint64_t ttda_list(const uint8_t *ledger, size_t ledger_len,
 #define TTDA_TOO_SMALL 0
 #define TTDA_NO_ANSWER 1
 
-/* Prints an answer of one of the functions above, a listing of ttda_list and the cells to the start of out, as the program does: the number
-   of bytes, with the bytes of out behind them untouched. TTDA_TOO_SMALL if the text does not fit, TTDA_NO_ANSWER if the
+/* Prints an answer of one of the functions above, a listing of ttda_list and the cells to the start of out, as the program
+   does. Answers the number of bytes; the bytes of out behind them stay untouched. TTDA_TOO_SMALL if the text does not fit, TTDA_NO_ANSWER if the
    number is no answer's (another word, or a place though nothing is refused), both with out untouched. 74 bytes, 56 for
    each token and 46 for each cell are room enough. Bytes past the last whole record are passed over. */
 uint64_t ttda_print(uint64_t answer,
