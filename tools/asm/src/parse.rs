@@ -265,17 +265,17 @@ fn check_fan_out(
     }
     let (low, high) = operation.fan_outs().into_inner();
     let allowed = match (low, high) {
-        (0, 0) => "no".to_string(),
-        (0, _) => format!("at most {high}"),
-        _ if low == high => low.to_string(),
-        _ => format!("{low} or {high}"),
+        (0, 0) => "no destinations".to_string(),
+        (0, _) => format!("at most {high} destinations, not {count}"),
+        _ if low == high => format!("{low} destinations, not {count}"),
+        _ => format!("{low} or {high} destinations, not {count}"),
     };
     let span = if tail.is_empty() {
         first.span()
     } else {
         span_of(tail)
     };
-    let text = format!("{} has {allowed} destinations, not {count}", operation.name);
+    let text = format!("{} has {allowed}", operation.name);
     let hint = match (operation.name, count) {
         ("OUT" | "SINK" | "LEAVE", _) => "an arc ends here",
         ("SWITCH", 0 | 1) => "the second one is taken if port 1 is 0; a SINK swallows it",

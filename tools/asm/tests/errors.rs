@@ -38,7 +38,7 @@ const OPERATIONS: [Case; 28] = [
     ("x: READ -> x", 1, "READ", "`READ` is no operation", Some("a cell is read by FETCH")),
     ("x: WRITE", 1, "WRITE", "`WRITE` is no operation", Some("a cell is written by STORE")),
     ("x ADD -> x", 1, "x", "`x` is no operation", Some("a colon behind the name: `x: ADD`")),
-    ("x: OUT -> x.0", 1, "x.0", "OUT has no destinations, not 1", Some("an arc ends here")),
+    ("x: OUT -> x.0", 1, "x.0", "OUT has no destinations", Some("an arc ends here")),
     ("x: COPY", 1, "COPY", "COPY has 1 or 2 destinations, not 0", Some("where does its token go? `-> name.port`")),
     ("x: SWITCH -> x.0", 1, "x.0", "SWITCH has 2 destinations, not 1", Some("the second one is taken if port 1 is 0; a SINK swallows it")),
     ("x: COPY -> x x x", 1, "x x x", "COPY has 1 or 2 destinations, not 3", Some("a COPY has two more")),

@@ -44,8 +44,8 @@ pub const TABLE: [Refusal; 18] = [
         "An input does not have path, iteration and state 0, or its instruction or port is not there.",
         "Mend the input; inputs go to the root, at iteration 0."),
     refusal(7, "bad store",
-        "Inputs, picks, ledger, cells, profile or log are not in whole records, or are too many: at most 2,048, and 1,024 \
-         cells.",
+        "Inputs, picks, ledger, cells, profile or log are not in whole records; or there are more than 2,048 inputs, picks or \
+         ledger records or 1,024 cells; or a log has no record for each firing of the budget.",
         "Use whole records; type at most 2,048 inputs and picks."),
     refusal(8, "ledger full",
         "The tokens of the run do not fit in the ledger. It keeps every token, spent ones too.",
@@ -79,7 +79,7 @@ pub const TABLE: [Refusal; 18] = [
         "Lend a longer profile; 2,048 records are always enough."),
     refusal(19, "not loop-free",
         "The graph has a NEXT, an ENTER or a LEAVE, so that no bound of its firings is known before it runs.",
-        "Run it: firings and tokens of a completed run are the same in every order."),
+        "Run it: if it completes or hangs, its firings and tokens are the same in every order."),
     refusal(20, "not enabled",
         "A record of the log names an activity that is not enabled, has no zero byte or is not whole.",
         "Replay a log with the graph and inputs it was made with; `dayomlak log` writes one."),
