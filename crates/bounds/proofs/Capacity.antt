@@ -33,7 +33,7 @@ use Rattle.rules.proofs.Accepted.{whole-bytes, accepted, stores-whole}
 use Rattle.rules.proofs.Invariants.{result-invariants}
 use Rattle.rules.specs.Fits.{CellCount}
 use Rattle.rules.proofs.Capacity as Laws
-use Rattle.rules.specs.Runs.{Lent, Left, RanOn}
+use Rattle.rules.specs.Runs.{LentToRun, LeftByRun, RanOn}
 use Rattle.rules.specs.Runs as Runs
 use Rattle.bounds.specs.Capacity.{used, SameEnd, EnoughRoom, RefusedBy8, TooSmall}
 use Rattle.bounds.proofs.Runs.{quiescent}
@@ -95,9 +95,9 @@ same-place p q e = cc
 
 -- ---- two runs
 
-module _ (graph inputs : List ℕ) (l m : Lent) (x y : Left) (ranX : RanOn graph inputs 2048 l x) (rest : Runs.Quiescent (x .answer .outcome)) (ranY : RanOn graph inputs 2048 m y)
+module _ (graph inputs : List ℕ) (l m : LentToRun) (x y : LeftByRun) (ranX : RanOn graph inputs 2048 l x) (rest : Runs.Quiescent (x .answer .outcome)) (ranY : RanOn graph inputs 2048 m y)
     (cells : length (m .cells) ≡ length (l .cells)) where
-  abbrev resultOf : Lent → Result
+  abbrev resultOf : LentToRun → Result
   resultOf k = result graph inputs (k .picks) 2048 (length (k .ledger)) (length (k .cells))
 
   rests : Quiescent (resultOf l)

@@ -11,7 +11,7 @@ use Rattle.record.specs.Widths.{tokenWidth}
 use Rattle.rules.specs.declared.answer.Refusal.the-variants.{LedgerFull}
 use Rattle.rules.specs.declared.answer.Outcome.the-variants.{Refused}
 use Rattle.rules.specs.Orders.{Allowed}
-use Rattle.rules.specs.Runs.{Lent, Left, RanOn, Quiescent}
+use Rattle.rules.specs.Runs.{LentToRun, LeftByRun, RanOn, Quiescent}
 
 -- ---- "with any capacity from t to 2,048 and equal picks the end is the same apart from unused bytes"
 
@@ -19,20 +19,20 @@ use Rattle.rules.specs.Runs.{Lent, Left, RanOn, Quiescent}
 abbrev pub used : (t : ℕ) → List ℕ → List ℕ
 used t ledger = take (t * tokenWidth) ledger
 
-pub record SameEnd (x y : Left) (lent : List ℕ) : Type 0 where
+pub record SameEnd (x y : LeftByRun) (lent : List ℕ) : Type 0 where
   pub answers : y .answer ≡ x .answer
   pub cells : y .cells ≡ x .cells
   -- the used records are the same, and bytes past them stay as lent
   pub ledger : y .ledger ≡ used (x .answer .tokens) (x .ledger) ++ drop (x .answer .tokens * tokenWidth) lent
 
 abbrev pub EnoughRoom : Type 0
-EnoughRoom = (graph inputs : List ℕ) (l m : Lent) (x y : Left) → RanOn graph inputs 2048 l x → Quiescent (x .answer .outcome)
+EnoughRoom = (graph inputs : List ℕ) (l m : LentToRun) (x y : LeftByRun) → RanOn graph inputs 2048 l x → Quiescent (x .answer .outcome)
     → m .picks ≡ l .picks → length (m .cells) ≡ length (l .cells) → whole tokenWidth mostTokens (length (m .ledger)) ≡ true → x .answer .tokens ≤ capacityOf (length (m .ledger))
     → RanOn graph inputs 2048 m y → SameEnd x y (m .ledger)
 
 -- ---- "with any smaller one every order is refused by 8"
 
-pub record RefusedBy8 (inputs capacity : ℕ) (lent : Lent) (y : Left) : Type 0 where
+pub record RefusedBy8 (inputs capacity : ℕ) (lent : LentToRun) (y : LeftByRun) : Type 0 where
   pub place : ℕ
   pub by8 : y .answer .outcome ≡ Refused LedgerFull place
   -- inputs that do not fit are refused before any firing, at the first that does not, and nothing is written
@@ -41,6 +41,6 @@ pub record RefusedBy8 (inputs capacity : ℕ) (lent : Lent) (y : Left) : Type 0 
   pub inFiring : inputs ≤ capacity → inputs ≤ y .answer .tokens
 
 abbrev pub TooSmall : Type 0
-TooSmall = (graph inputs : List ℕ) (l m : Lent) (x y : Left) → RanOn graph inputs 2048 l x → Quiescent (x .answer .outcome)
+TooSmall = (graph inputs : List ℕ) (l m : LentToRun) (x y : LeftByRun) → RanOn graph inputs 2048 l x → Quiescent (x .answer .outcome)
     → Allowed (m .picks) (length (m .ledger)) (length (m .cells)) → length (m .cells) ≡ length (l .cells) → capacityOf (length (m .ledger)) < x .answer .tokens
     → RanOn graph inputs 2048 m y → RefusedBy8 (length inputs / tokenWidth) (capacityOf (length (m .ledger))) m y

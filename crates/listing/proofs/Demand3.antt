@@ -33,7 +33,7 @@ use Rattle.rules.specs.Fits.{CellCount}
 use Rattle.rules.proofs.Fits.{result-fits}
 use Rattle.listing.specs.Listing.{records, answer}
 use Rattle.listing.specs.Sorted.{Pairwise}
-use Rattle.rules.specs.Runs.{Lent, Left, RanOn, Completed, Hung, Quiescent, Spent, Refused}
+use Rattle.rules.specs.Runs.{LentToRun, LeftByRun, RanOn, Completed, Hung, Quiescent, Spent, Refused}
 use Rattle.listing.specs.Demand3.{NotForOthers, used, Alike, Agree, Demand3}
 use Rattle.listing.proofs.Lists.{all-of}
 use Rattle.listing.proofs.Laws.{records-joined}
@@ -121,10 +121,10 @@ abbrev CellsLent : Result → List ℕ → Type 0
 CellsLent x lent = (length lent % cellWidth ≡ 0) × CellCount x (length lent / cellWidth)
 
 module _ (x y : Result) {r q : Answer} {l l′ c c′ m m′ d d′ : List ℕ} (ranX : Ran x r l l′ c c′) (ranY : Ran y q m m′ d d′) (cx : Rules.Quiescent x) (cy : Rules.Quiescent y) where
-  abbrev left : Left
+  abbrev left : LeftByRun
   left = record { answer = r; ledger = l′; cells = c′ }
 
-  abbrev other : Left
+  abbrev other : LeftByRun
   other = record { answer = q; ledger = m′; cells = d′ }
 
   pub bytes-alike : r .outcome ≡ q .outcome → Rules.Alike x y → All TokenFits (tokensOf x) → length (tokensOf x) ≤ mostTokens → CellsLent x c → CellsLent y d → Alike left other
@@ -149,20 +149,20 @@ module _ (x y : Result) {r q : Answer} {l l′ c c′ m m′ d d′ : List ℕ} 
 
 -- ---- two runs
 
-module _ (graph inputs : List ℕ) (graphBytes : Bytes graph) (inputBytes : Bytes inputs) (l m : Lent) (a : NotForOthers graph inputs l) (b : NotForOthers graph inputs m)
+module _ (graph inputs : List ℕ) (graphBytes : Bytes graph) (inputBytes : Bytes inputs) (l m : LentToRun) (a : NotForOthers graph inputs l) (b : NotForOthers graph inputs m)
     (capacities : capacityOf (length (l .ledger)) ≡ capacityOf (length (m .ledger))) (counts : length (l .cells) / cellWidth ≡ length (m .cells) / cellWidth)
-    (x y : Left) (ranX : RanOn graph inputs 2048 l x) (ranY : RanOn graph inputs 2048 m y) where
-  abbrev resultOf : Lent → Result
+    (x y : LeftByRun) (ranX : RanOn graph inputs 2048 l x) (ranY : RanOn graph inputs 2048 m y) where
+  abbrev resultOf : LentToRun → Result
   resultOf k = result graph inputs (k .picks) 2048 (length (k .ledger)) (length (k .cells))
 
   agreed : Rules.Agree (resultOf l) (resultOf m)
   agreed = any-two-orders graph inputs (l .picks) (m .picks) (length (l .ledger)) (length (m .ledger)) (length (l .cells)) (length (m .cells)) a b capacities counts
 
-  ended : (k : Lent) (z : Left) → RanOn graph inputs 2048 k z → SameEnd (resultOf k) (z .answer .outcome)
+  ended : (k : LentToRun) (z : LeftByRun) → RanOn graph inputs 2048 k z → SameEnd (resultOf k) (z .answer .outcome)
   ended k z ran = subst (λ (r : Answer). SameEnd (resultOf k) (r .outcome)) (sym (ran .answered)) (same-end (resultOf k))
 
   -- a run that completes or hangs passed the check of its stores
-  stores-of : (k : Lent) → Rules.Quiescent (resultOf k) → Whole (length inputs) (length (k .picks)) (length (k .ledger)) (length (k .cells))
+  stores-of : (k : LentToRun) → Rules.Quiescent (resultOf k) → Whole (length inputs) (length (k .picks)) (length (k .ledger)) (length (k .cells))
   stores-of k c = stores-whole (length inputs) (length (k .picks)) (length (k .ledger)) (length (k .cells)) (begun-stores graph inputs (k .picks) 2048 (length (k .ledger)) (length (k .cells)) (quiescent-begun (resultOf k) c))
 
   completing : Completed (x .answer .outcome) ↔ Completed (y .answer .outcome)

@@ -27,7 +27,7 @@ use Rattle.rules.specs.Fits.{CellCount}
 use Rattle.rules.proofs.Fits.{result-fits}
 use Rattle.rules.proofs.Small.{answer-small}
 use Rattle.rules.proofs.Profile.{passes, wholes, as-every-order}
-use Rattle.rules.specs.Runs.{Lent, Left, RanOn, Quiescent, Refused}
+use Rattle.rules.specs.Runs.{LentToRun, LeftByRun, RanOn, Quiescent, Refused}
 use Rattle.listing.specs.Demand3.{Alike}
 use Rattle.listing.specs.Profiles.{LentToProfile, LeftByProfile, ProfiledOn, asRun, firingsOf, sum, EndsAsRun, ProfileEndsAsRun}
 use Rattle.listing.proofs.Lists.{all-perm}
@@ -80,9 +80,9 @@ cell-count (ranTo e) (ranTo f) n h k q c = ap length q ∙ c
 
 -- ---- a profile and a run
 
-module _ (graph inputs : List ℕ) (graphBytes : Bytes graph) (inputBytes : Bytes inputs) (l : LentToProfile) (m : Lent) (allowed : Allowed (m .picks) (length (m .ledger)) (length (m .cells)))
+module _ (graph inputs : List ℕ) (graphBytes : Bytes graph) (inputBytes : Bytes inputs) (l : LentToProfile) (m : LentToRun) (allowed : Allowed (m .picks) (length (m .ledger)) (length (m .cells)))
     (capacities : capacityOf (length (l .ledger)) ≡ capacityOf (length (m .ledger))) (counts : length (l .cells) / cellWidth ≡ length (m .cells) / cellWidth)
-    (x : LeftByProfile) (y : Left) (profiledX : ProfiledOn graph inputs l x) (ranY : RanOn graph inputs 2048 m y) (unrefused : ¬ (Refused (x .answer .answer .outcome))) where
+    (x : LeftByProfile) (y : LeftByRun) (profiledX : ProfiledOn graph inputs l x) (ranY : RanOn graph inputs 2048 m y) (unrefused : ¬ (Refused (x .answer .answer .outcome))) where
   abbrev p : ProfileResult
   p = profiled graph inputs (length (l .ledger)) (length (l .cells)) (length (l .profile))
 

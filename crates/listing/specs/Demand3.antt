@@ -9,7 +9,7 @@ use lib.ListN.{length, take}
 use Rattle.number.specs.Number.{Bytes}
 use Rattle.record.specs.TokensAndTags.{capacityOf}
 use Rattle.record.specs.Widths.{tokenWidth, cellWidth}
-use Rattle.rules.specs.Runs.{Lent, Left, RanOn, Completed, Hung, Quiescent, Spent, Refused}
+use Rattle.rules.specs.Runs.{LentToRun, LeftByRun, RanOn, Completed, Hung, Quiescent, Spent, Refused}
 use Rattle.rules.specs.Orders.{NotForOtherBuffers}
 use Rattle.listing.specs.Listing.{recordKey, records, answer, outAfter}
 use Rattle.listing.specs.Sorted.{DifferentKeys}
@@ -18,17 +18,17 @@ use Rattle.listing.specs.Sorted.{DifferentKeys}
 
 -- 01: "neither run is refused by 7 for a buffer other than the inputs". The demand's "picks, ledger and cells of allowed length" is a case of it; where the
 -- graph fails its check, lengths do not count, and both runs are refused
-abbrev pub NotForOthers : (graph inputs : List ℕ) → Lent → Type 0
+abbrev pub NotForOthers : (graph inputs : List ℕ) → LentToRun → Type 0
 NotForOthers graph inputs l = NotForOtherBuffers graph inputs (l .picks) (length (l .ledger)) (length (l .cells))
 
 -- the first t ledger records, of t tokens, which `list` is lent
-abbrev pub used : Left → List ℕ
+abbrev pub used : LeftByRun → List ℕ
 used x = take (x .answer .tokens * tokenWidth) (x .ledger)
 
 -- ---- the claim
 
 -- of two runs that complete or hang. R-2: "completed or hung alike in all, with everything else equal"
-pub record Alike (x y : Left) : Type 0 where
+pub record Alike (x y : LeftByRun) : Type 0 where
   -- 01: "If one run completes with f firings and t tokens, so does the other.", and if one hangs, so does the other
   pub answers : x .answer ≡ y .answer
   -- 01: "All cell bytes are equal."
@@ -41,7 +41,7 @@ pub record Alike (x y : Left) : Type 0 where
   pub listings : (out out′ : List ℕ) → length out ≡ length (used x) → length out′ ≡ length (used y)
       → (answer (used x) out ≡ 0) × (answer (used y) out′ ≡ 0) × (outAfter (used x) out ≡ outAfter (used y) out′)
 
-pub record Agree (x y : Left) : Type 0 where
+pub record Agree (x y : LeftByRun) : Type 0 where
   -- the demand: "one run completes exactly when the other does"
   pub completes : Completed (x .answer .outcome) ↔ Completed (y .answer .outcome)
   pub hangs : Hung (x .answer .outcome) ↔ Hung (y .answer .outcome)
@@ -54,6 +54,6 @@ pub record Agree (x y : Left) : Type 0 where
 -- 01: "two whole runs over one graph and one list of inputs, for every two lists of picks [..] Capacity and cell count are equal [..] What ledger and
 -- cells held beforehand may differ." They are "at a budget of 2,048"
 abbrev pub Demand3 : Type 0
-Demand3 = (graph inputs : List ℕ) → Bytes graph → Bytes inputs → (l m : Lent) → NotForOthers graph inputs l → NotForOthers graph inputs m
+Demand3 = (graph inputs : List ℕ) → Bytes graph → Bytes inputs → (l m : LentToRun) → NotForOthers graph inputs l → NotForOthers graph inputs m
     → capacityOf (length (l .ledger)) ≡ capacityOf (length (m .ledger)) → length (l .cells) / cellWidth ≡ length (m .cells) / cellWidth
-    → (x y : Left) → RanOn graph inputs 2048 l x → RanOn graph inputs 2048 m y → Agree x y
+    → (x y : LeftByRun) → RanOn graph inputs 2048 l x → RanOn graph inputs 2048 m y → Agree x y

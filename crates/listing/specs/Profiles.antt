@@ -12,7 +12,7 @@ use Rattle.record.specs.Widths.{cellWidth}
 use Rattle.rules.specs.declared.answer.Profiled.{Profiled}
 use Rattle.rules.specs.Profile.{stepWidth, profiled, ProfileRan}
 use Rattle.rules.specs.Orders.{Allowed}
-use Rattle.rules.specs.Runs.{Lent, Left, RanOn, Refused, Quiescent}
+use Rattle.rules.specs.Runs.{LentToRun, LeftByRun, RanOn, Refused, Quiescent}
 use Rattle.listing.specs.Demand3.{Alike}
 
 -- what a profile is lent beside graph and inputs
@@ -35,7 +35,7 @@ ProfiledOn graph inputs l x =
     (l .ledger) (x .ledger) (l .cells) (x .cells) (l .profile) (x .profile)
 
 -- what a run has too
-abbrev pub asRun : LeftByProfile → Left
+abbrev pub asRun : LeftByProfile → LeftByRun
 asRun x = record { answer = x .answer .answer; ledger = x .ledger; cells = x .cells }
 
 -- "firings in it", 16 bits, of each record
@@ -46,7 +46,7 @@ abbrev pub sum : List ℕ → ℕ
 sum [] = 0
 sum (n ∷ ns) = n + sum ns
 
-pub record EndsAsRun (x : LeftByProfile) (y : Left) : Type 0 where
+pub record EndsAsRun (x : LeftByProfile) (y : LeftByRun) : Type 0 where
   -- completed or hung
   pub rests : Quiescent (x .answer .answer .outcome)
   -- the answer, every byte of the cells, the same tokens, equal listings
@@ -56,6 +56,6 @@ pub record EndsAsRun (x : LeftByProfile) (y : Left) : Type 0 where
   pub eachFires : All (λ n. 0 < n) (firingsOf x)
 
 abbrev pub ProfileEndsAsRun : Type 0
-ProfileEndsAsRun = (graph inputs : List ℕ) → Bytes graph → Bytes inputs → (l : LentToProfile) (m : Lent) → Allowed (m .picks) (length (m .ledger)) (length (m .cells))
+ProfileEndsAsRun = (graph inputs : List ℕ) → Bytes graph → Bytes inputs → (l : LentToProfile) (m : LentToRun) → Allowed (m .picks) (length (m .ledger)) (length (m .cells))
     → capacityOf (length (l .ledger)) ≡ capacityOf (length (m .ledger)) → length (l .cells) / cellWidth ≡ length (m .cells) / cellWidth
-    → (x : LeftByProfile) (y : Left) → ProfiledOn graph inputs l x → RanOn graph inputs 2048 m y → ¬ (Refused (x .answer .answer .outcome)) → EndsAsRun x y
+    → (x : LeftByProfile) (y : LeftByRun) → ProfiledOn graph inputs l x → RanOn graph inputs 2048 m y → ¬ (Refused (x .answer .answer .outcome)) → EndsAsRun x y

@@ -16,7 +16,7 @@ use Rattle.rules.specs.Check.{mostCells}
 use Rattle.rules.specs.Run.{Result, result, answer, ledgerAfter, cellsAfter}
 use Rattle.rules.specs.Orders.{Quiescent}
 use Rattle.listing.specs.Listing.{listing}
-use Rattle.rules.specs.Runs.{Lent, Left, RanOn}
+use Rattle.rules.specs.Runs.{LentToRun, LeftByRun, RanOn}
 use Rattle.listing.specs.Demand3.{NotForOthers, used, Alike}
 use Rattle.listing.proofs.Answers.{done}
 use Rattle.listing.proofs.Demand3.{same-end, demand3}
@@ -43,7 +43,7 @@ same-answer text out out′ e = rw e
 -- ---- two runs
 
 module _ (graph inputs : List ℕ) (graphBytes : Bytes graph) (inputBytes : Bytes inputs) where
-  abbrev lent : List ℕ → Lent
+  abbrev lent : List ℕ → LentToRun
   lent picks = record { picks = picks; ledger = replicate ledgerBytes 0; cells = replicate cellBytes 0 }
 
   abbrev ended : List ℕ → Result
@@ -54,7 +54,7 @@ module _ (graph inputs : List ℕ) (graphBytes : Bytes graph) (inputBytes : Byte
   unfolding runOf
   same-run picks = rw (length-replicate {A = ℕ} ledgerBytes 0, length-replicate {A = ℕ} cellBytes 0)
 
-  abbrev leftBy : Result → Left
+  abbrev leftBy : Result → LeftByRun
   leftBy x = record { answer = answer x; ledger = ledgerAfter x (replicate ledgerBytes 0); cells = cellsAfter x (replicate cellBytes 0) }
 
   ran : (picks : List ℕ) → RanOn graph inputs 2048 (lent picks) (leftBy (ended picks))

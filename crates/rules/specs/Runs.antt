@@ -8,19 +8,19 @@ use Rattle.rules.specs.declared.answer.Outcome.the-variants as Outcomes
 use Rattle.rules.specs.Run.{result, Ran}
 
 -- what a run is lent beside graph and inputs
-pub record Lent : Type 0 where
+pub record LentToRun : Type 0 where
   pub picks : List ℕ
   pub ledger : List ℕ
   pub cells : List ℕ
 
 -- what it answers, and every byte of the two buffers afterwards
-pub record Left : Type 0 where
+pub record LeftByRun : Type 0 where
   pub answer : Answer
   pub ledger : List ℕ
   pub cells : List ℕ
 
 -- the promise of `run` (crate engine)
-abbrev pub RanOn : (graph inputs : List ℕ) → (budget : ℕ) → Lent → Left → Type 0
+abbrev pub RanOn : (graph inputs : List ℕ) → (budget : ℕ) → LentToRun → LeftByRun → Type 0
 RanOn graph inputs budget l x = Ran (result graph inputs (l .picks) budget (length (l .ledger)) (length (l .cells))) (x .answer) (l .ledger) (x .ledger) (l .cells) (x .cells)
 
 -- ---- how it ended
