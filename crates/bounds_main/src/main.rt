@@ -87,22 +87,26 @@ fn put_input(inputs: &mut [u8], i: usize, instruction: u16, port: u8, value: i32
 
 // ADD to OUT.
 fn say_sums() {
-    let mut graph = [0u8; 32];
-    let mut inputs = [0u8; 40];
+    let mut graph = [0u8; 2 * instruction::WIDTH];
+    let mut inputs = [0u8; 2 * token::WIDTH];
     put(&mut graph, 0, 16, 1, 0);
     put(&mut graph, 1, 3, 0, 0);
     put_input(&mut inputs, 0, 0, 0, 7);
     put_input(&mut inputs, 1, 0, 1, -9);
     say_bounds(b"ADD", &graph, &inputs);
-    say_bounds(b"ADD with one operand", &graph, &inputs[0..20]);
-    say_bounds(b"inputs not whole", &graph, &inputs[0..39]);
+    say_bounds(b"ADD with one operand", &graph, &inputs[0..token::WIDTH]);
+    say_bounds(
+        b"inputs not whole",
+        &graph,
+        &inputs[0..2 * token::WIDTH - 1],
+    );
     say_bounds(b"no graph", &graph[0..0], &inputs);
 }
 
 // SWITCH to two COPYs to one OUT.
 fn say_switch() {
-    let mut graph = [0u8; 64];
-    let mut inputs = [0u8; 40];
+    let mut graph = [0u8; 4 * instruction::WIDTH];
+    let mut inputs = [0u8; 2 * token::WIDTH];
     put(&mut graph, 0, 5, 1, 2);
     put(&mut graph, 1, 1, 3, 0);
     put(&mut graph, 2, 1, 3, 0);
@@ -114,8 +118,8 @@ fn say_switch() {
 
 // COPY to an operation of that code to OUT, with an input to this instruction.
 fn say_through(name: &[u8], code: u8, to: u16) {
-    let mut graph = [0u8; 48];
-    let mut inputs = [0u8; 20];
+    let mut graph = [0u8; 3 * instruction::WIDTH];
+    let mut inputs = [0u8; token::WIDTH];
     put(&mut graph, 0, 1, 1, 0);
     put(&mut graph, 1, code, 2, 0);
     put(&mut graph, 2, 3, 0, 0);
@@ -125,8 +129,8 @@ fn say_through(name: &[u8], code: u8, to: u16) {
 
 // COPY to LEAVE.
 fn say_leave() {
-    let mut graph = [0u8; 32];
-    let mut inputs = [0u8; 20];
+    let mut graph = [0u8; 2 * instruction::WIDTH];
+    let mut inputs = [0u8; token::WIDTH];
     put(&mut graph, 0, 1, 1, 0);
     put(&mut graph, 1, 9, 0, 0);
     put_input(&mut inputs, 0, 0, 0, 7);
@@ -150,8 +154,8 @@ fn put_chain(graph: &mut [u8])
 
 // A round adds one of 256 records.
 fn say_chain() {
-    let mut graph = [0u8; 4096];
-    let mut inputs = [0u8; 20];
+    let mut graph = [0u8; 256 * instruction::WIDTH];
+    let mut inputs = [0u8; token::WIDTH];
     put_chain(&mut graph);
     put_input(&mut inputs, 0, 255, 0, 7);
     say_bounds(b"chain in falling order", &graph, &inputs);

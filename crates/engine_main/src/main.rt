@@ -8,6 +8,10 @@
 // that are lent, and the bytes that follow; the rest of those lent are zeros.
 use libc::STDIN_FILENO;
 use libc::STDOUT_FILENO;
+use record::cell;
+use record::instruction;
+use record::pick;
+use record::token;
 use rules::answer::Answer;
 use text::Printed;
 ghost use mathlib.Core.Path.{_≡_};
@@ -108,8 +112,8 @@ fn say_run(answer: Answer, records: &[u8], cells: &[u8]) {
 fn used_bytes(tokens: usize, ledger: &[u8]) -> usize
     ensures { λ r. ⌜ r ≤ length (now (ledger .entry)) ⌝ }
 {
-    if tokens <= ledger.len() / 20 {
-        tokens * 20
+    if tokens <= ledger.len() / token::WIDTH {
+        tokens * token::WIDTH
     } else {
         ledger.len()
     }
@@ -170,8 +174,8 @@ fn show(
 // Reads ledger, cells and numbers of a case, and shows its run.
 fn show_lent(graph: &[u8], inputs: &[u8], picks: &[u8]) {
     // These too are longer than the longest that a run accepts.
-    let mut ledger = [0u8; 41000];
-    let mut cells = [0u8; 8208];
+    let mut ledger = [0u8; 2050 * token::WIDTH];
+    let mut cells = [0u8; 1026 * cell::WIDTH];
     let mut numbers = [0u8; 4];
     let l = read_part(&mut ledger);
     let c = read_part(&mut cells);
@@ -194,9 +198,9 @@ fn show_lent(graph: &[u8], inputs: &[u8], picks: &[u8]) {
 // Reads the parts of a case behind its name, and shows its run.
 fn show_parts() {
     // Each is longer than the longest that a run accepts.
-    let mut graph = [0u8; 4128];
-    let mut inputs = [0u8; 41000];
-    let mut picks = [0u8; 4112];
+    let mut graph = [0u8; 258 * instruction::WIDTH];
+    let mut inputs = [0u8; 2050 * token::WIDTH];
+    let mut picks = [0u8; 2056 * pick::WIDTH];
     let g = read_part(&mut graph);
     let i = read_part(&mut inputs);
     let p = read_part(&mut picks);

@@ -2,14 +2,16 @@
 // other lengths, with the output where it is small. A line is a record, two digits to each byte. Each
 // field decides between some two of the records, and two keys stand there more than once.
 use listing::Listed;
-ghost use Prim.Native.Nat.{_≤_};
+use record::token;
+ghost use Prim.Native.Nat.{_*_, _≤_};
+ghost use Rattle.record.specs.Widths.{tokenWidth};
 
 fn print_bytes(s: &[u8]) {
     let mut i = 0;
     while i < s.len() {
         io::print_hex(1, s[i] as u64, 2);
         i += 1;
-        if i % 20 == 0 || i == s.len() {
+        if i % token::WIDTH == 0 || i == s.len() {
             io::write_all(1, b"\n");
         }
     }
@@ -33,9 +35,9 @@ fn print_listing(ledger: &[u8], out: &mut [u8]) {
 
 // The same with an output of so many bytes, all 170.
 fn print_lent(ledger: &[u8], bytes: usize)
-    requires { ⌜ bytes ≤ 240 ⌝ }
+    requires { ⌜ bytes ≤ 12 * tokenWidth ⌝ }
 {
-    let mut out = [170u8; 240];
+    let mut out = [170u8; 12 * token::WIDTH];
     print_listing(ledger, &mut out[0..bytes]);
 }
 
@@ -49,16 +51,16 @@ fn print_limit(bytes: usize)
 }
 
 fn main() {
-    let mut ledger = [0u8; 240];
+    let mut ledger = [0u8; 12 * token::WIDTH];
     io::read_full(0, &mut ledger);
     print_bytes(&ledger);
-    print_lent(&ledger, 240);
+    print_lent(&ledger, 12 * token::WIDTH);
     // An output that is shorter or longer, and a ledger that is not whole records.
-    print_lent(&ledger, 20);
-    print_lent(&ledger[0..20], 40);
-    print_lent(&ledger[0..30], 30);
+    print_lent(&ledger, token::WIDTH);
+    print_lent(&ledger[0..token::WIDTH], 2 * token::WIDTH);
+    print_lent(&ledger[0..token::WIDTH + 10], token::WIDTH + 10);
     // No record, 2,048 records and 2,049.
     print_limit(0);
-    print_limit(40960);
-    print_limit(40980);
+    print_limit(2048 * token::WIDTH);
+    print_limit(2049 * token::WIDTH);
 }

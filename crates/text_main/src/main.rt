@@ -11,8 +11,9 @@ use rules::answer::Outcome;
 use rules::answer::Refusal;
 use text::Printed;
 ghost use mathlib.Core.Path.{_≡_};
-ghost use Prim.Native.Nat.{_≤_};
+ghost use Prim.Native.Nat.{_*_, _≤_};
 ghost use lib.ListN.{length};
+ghost use Rattle.record.specs.Widths.{tokenWidth, cellWidth};
 
 fn show(answer: Answer, listing: &[u8], cells: &[u8], out: &mut [u8]) {
     match text::print(answer, listing, cells, out) {
@@ -48,7 +49,7 @@ fn token_of(path: u64, iteration: u8, instruction: u16, port: u8, content: Conte
 
 // The tokens of 01's printed example.
 fn put_example(listing: &mut [u8])
-    requires { ⌜ length (now listing) ≡ 60 ⌝ }
+    requires { ⌜ length (now listing) ≡ 3 * tokenWidth ⌝ }
 {
     token::put_token(listing, 0, token_of(0, 0, 0, 0, Content::Spent(7)));
     token::put_token(listing, 1, token_of(0, 0, 0, 1, Content::Spent(-9)));
@@ -57,7 +58,7 @@ fn put_example(listing: &mut [u8])
 
 // Fields at their least, a deferred token, and the greatest path.
 fn put_least(listing: &mut [u8])
-    requires { ⌜ length (now listing) ≡ 100 ⌝ }
+    requires { ⌜ length (now listing) ≡ 5 * tokenWidth ⌝ }
 {
     token::put_token(listing, 0, token_of(0, 0, 0, 0, Content::Live(0)));
     token::put_token(listing, 1, token_of(770, 2, 1, 1, Content::Deferred(1023)));
@@ -70,7 +71,7 @@ fn put_least(listing: &mut [u8])
 
 // Every field at its greatest, and the ends of a value.
 fn put_greatest(listing: &mut [u8])
-    requires { ⌜ length (now listing) ≡ 100 ⌝ }
+    requires { ⌜ length (now listing) ≡ 5 * tokenWidth ⌝ }
 {
     let least = Content::Spent(-2147483648);
     let greatest = Content::Live(2147483647);
@@ -88,7 +89,7 @@ fn put_greatest(listing: &mut [u8])
 
 // The first cell stays absent, and so does one between others.
 fn put_cells(cells: &mut [u8])
-    requires { ⌜ length (now cells) ≡ 96 ⌝ }
+    requires { ⌜ length (now cells) ≡ 12 * cellWidth ⌝ }
 {
     cell::put_cell(cells, 1, Cell::Waiting);
     cell::put_cell(cells, 2, Cell::Present(0));
@@ -100,23 +101,23 @@ fn put_cells(cells: &mut [u8])
 fn show_example(bytes: usize)
     requires { ⌜ bytes ≤ 512 ⌝ }
 {
-    let mut listing = [0u8; 60];
+    let mut listing = [0u8; 3 * token::WIDTH];
     put_example(&mut listing);
     let answer = Answer {
         outcome: Outcome::Completed,
         firings: 1,
         tokens: 3,
     };
-    show_in(answer, &listing, &[0u8; 16], bytes);
+    show_in(answer, &listing, &[0u8; 2 * cell::WIDTH], bytes);
 }
 
 fn show_ends(outcome: Outcome, bytes: usize)
     requires { ⌜ bytes ≤ 512 ⌝ }
 {
-    let mut listing = [0u8; 100];
+    let mut listing = [0u8; 5 * token::WIDTH];
     put_least(&mut listing);
     put_greatest(&mut listing);
-    let mut cells = [0u8; 96];
+    let mut cells = [0u8; 12 * cell::WIDTH];
     put_cells(&mut cells);
     let answer = Answer {
         outcome,

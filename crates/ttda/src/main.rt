@@ -4,6 +4,9 @@
 use libc::ENAMETOOLONG;
 use libc::ENOENT;
 use libc::STDOUT_FILENO;
+use record::instruction;
+use record::pick;
+use record::token;
 use text::Printed;
 ghost use mathlib.Core.Path.{_≡_};
 ghost use Prim.Native.Nat.{_≤_};
@@ -83,9 +86,9 @@ fn show_folder(path: &mut [u8], n: usize)
     requires { ⌜ (length (now path) ≡ 4096) × (n ≤ 4000) ⌝ }
 {
     // Each a record longer than the longest that a run accepts.
-    let mut graph = [0u8; 4112];
-    let mut inputs = [0u8; 40980];
-    let mut picks = [0u8; 4098];
+    let mut graph = [0u8; 257 * instruction::WIDTH];
+    let mut inputs = [0u8; 2049 * token::WIDTH];
+    let mut picks = [0u8; 2049 * pick::WIDTH];
     let g = read_in(path, n, b"graph", &mut graph);
     let i = read_in(path, n, b"inputs", &mut inputs);
     let p = read_in(path, n, b"picks", &mut picks);

@@ -1,4 +1,4 @@
--- Writes what was printed: it is within the buffer. Assumes nothing.
+-- `ttda::show` meets its contract: what was printed is within the buffer. Assumes nothing.
 use borrow.Author.Needs.{needs}
 use native.Mathlib.Omega.{arith}
 use mathlib.Core.Path.{sym, _∙_}
