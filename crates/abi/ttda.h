@@ -16,7 +16,7 @@ uint64_t ttda_run(const uint8_t *graph, size_t graph_len,
                   uint8_t *ledger, size_t ledger_len,
                   uint8_t *cells, size_t cells_len);
 
-/* The same run, which also writes a log: a record of 12 bytes for each firing, from the start of log, with the bytes
+/* The same run, which also writes a log: a record of 20 bytes for each firing, from the start of log, with the bytes
    behind them untouched. A log that is not whole records, or has fewer than the budget and fewer than 2,048, is refused
    by 7. */
 uint64_t ttda_run_logged(const uint8_t *graph, size_t graph_len,
@@ -56,6 +56,11 @@ uint64_t ttda_bounds(const uint8_t *graph, size_t graph_len,
    untouched. */
 uint64_t ttda_list(const uint8_t *ledger, size_t ledger_len,
                    uint8_t *out, size_t out_len);
+
+/* Makes token records of 20 bytes, as inputs and listings had them before paths of eight levels, records of 28: the new
+   bytes are zero. 0, or 7 with out untouched unless old is whole records, 2,048 at most, and out has the length of as many. */
+uint64_t ttda_convert(const uint8_t *old, size_t old_len,
+                      uint8_t *out, size_t out_len);
 
 /* What ttda_print answers where it writes nothing. A text has 11 bytes at least, so neither is a length. */
 #define TTDA_TOO_SMALL 0

@@ -1,5 +1,6 @@
 // What Rust and C link: the run, with and without a log, the replay, the profile, the bounds, the listing and the
 // printed lines over numbers and byte slices, with the promises of the crates behind them.
+use convert::Converted;
 use listing::Listed;
 use rules::answer;
 use rules::answer::Answer;
@@ -15,6 +16,7 @@ ghost use Rattle.rules.specs.Run.{result, ledgerAfter, cellsAfter};
 ghost use Rattle.rules.specs.Run.{answer as Run·answer};
 ghost use Rattle.rules.specs.Log.{logged, logAfter, replayed};
 ghost use Rattle.rules.specs.Profile.{profiled, profileAnswer, profileAfter};
+ghost use Rattle.convert.specs.Convert.{answer as Convert·answer, outAfter as Convert·outAfter};
 ghost use Rattle.listing.specs.Listing.{outAfter};
 ghost use Rattle.listing.specs.Listing.{answer as Listing·answer};
 ghost use Rattle.abi.specs.Numbers.{packed, boundsOf, refusalOf, unplaced, outcomeOf, unpacked, printAnswer, printAfter};
@@ -231,6 +233,17 @@ pub extern "C" fn ttda_list(ledger: &[u8], out: &mut [u8]) -> u64
     match listed {
         Listed::Done => 0,
         Listed::BadStore => 7,
+    }
+}
+
+#[no_mangle]
+pub extern "C" fn ttda_convert(old: &[u8], out: &mut [u8]) -> u64
+    ensures { λ r. ⌜ (r ≡ Convert·answer (now (old .entry)) (now (out .entry))) × (now (out .exit) ≡ Convert·outAfter (now (old .entry)) (now (out .entry))) ⌝ }
+{
+    let converted = convert::convert(old, out);
+    match converted {
+        Converted::Done => 0,
+        Converted::BadStore => 7,
     }
 }
 

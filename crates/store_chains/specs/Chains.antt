@@ -34,7 +34,7 @@ Chained from size key links ts = Linked size (part from size links) (part (from 
 -- ---- by tag: every token is in the chain of its bucket
 
 unfoldable pub bucketOf : Tag → ℕ
-bucketOf k = (k .path % 4093 + k .iteration * 1259 + k .instruction * 341) % 4096
+bucketOf k = (k .path .low % 4093 + k .path .high % 4093 * 641 + k .iteration * 1259 + k .instruction * 341) % 4096
 
 abbrev pub bucketKey : Token → ℕ
 bucketKey t = suc (bucketOf (t .tag))
