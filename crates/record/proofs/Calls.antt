@@ -8,7 +8,7 @@ use native.Mathlib.Nat.{pow-suc, pow-le-pow-right}
 use borrow.Author.Tests.{ne-eqb, lt-ltb, le-ltb}
 use lib.ListN.{length}
 use Rattle.buffer.specs.Rows.{All}
-use Rattle.record.specs.Paths.{pathNumber, pathWords, isRoot, PathFits}
+use Rattle.record.specs.Paths.{pathNumber, pathWords, isRoot}
 use Rattle.record.specs.Calls.{entered, enterWithin, leaveOf, Call, CallFits, pathOf, CallLaws}
 use Rattle.record.proofs.Paths.{number-words, words-number}
 use Rattle.record.specs.declared.tag.Tag.{Tag}
@@ -26,9 +26,9 @@ parts : (path site iteration : ℕ) → site < 256 → iteration < 256 → SiteP
 parts path site iteration s i = record { back-site = omega arith; back-path = omega arith; back-iteration = omega arith }
 
 -- leave inverts enter: site, iteration and parent come back
-pub leave-entered : (k : Tag) (site : ℕ) → PathFits (k .path) → k .iteration < 256 → 0 < site → site < 256 → leaveOf (entered k site) ≡ To site k
+pub leave-entered : (k : Tag) (site : ℕ) → k .path .low < 2 ^ 64 → k .iteration < 256 → 0 < site → site < 256 → leaveOf (entered k site) ≡ To site k
 unfolding leaveOf isRoot
-leave-entered k site fits low some small =
+leave-entered k site word low some small =
     let path = pathNumber (k .path) in
     let p = parts path site (k .iteration) small low in
     rw (
@@ -37,7 +37,7 @@ leave-entered k site fits low some small =
       p .back-site,
       p .back-path,
       p .back-iteration,
-      words-number (k .path) (fits .low),
+      words-number (k .path) word,
     )
 
 -- ---- calls within calls

@@ -6,7 +6,7 @@ use mathlib.Core.List.{List, [], _∷_}
 use lib.Dec.{ltb, eqb}
 use lib.ListN.{length}
 use Rattle.buffer.specs.Rows.{All}
-use Rattle.record.specs.Paths.{pathNumber, pathWords, isRoot, PathFits}
+use Rattle.record.specs.Paths.{pathNumber, pathWords, isRoot}
 use Rattle.record.specs.declared.tag.Tag.{Tag}
 use Rattle.record.specs.declared.tag.Entered.{Entered}
 use Rattle.record.specs.declared.tag.Entered.the-variants.{In, TooDeep}
@@ -65,8 +65,8 @@ pathOf (c ∷ cs) = pathOf cs * 65536 + c .site * 256 + c .iteration
 -- ---- what is stated of calls; it is proved in proofs/Calls
 
 pub record CallLaws : Type 0 where
-  -- LEAVE inverts ENTER, at any depth
-  pub leaveInverts : (k : Tag) (site : ℕ) → PathFits (k .path) → k .iteration < 256 → 0 < site → site < 256 → leaveOf (entered k site) ≡ To site k
+  -- LEAVE inverts ENTER, at any depth: the lower word is one of 64 bits, and the higher one any number
+  pub leaveInverts : (k : Tag) (site : ℕ) → k .path .low < 2 ^ 64 → k .iteration < 256 → 0 < site → site < 256 → leaveOf (entered k site) ≡ To site k
   -- different calls have different paths
   pub different : (cs ds : List Call) → All CallFits cs → All CallFits ds → pathOf cs ≡ pathOf ds → cs ≡ ds
   -- ENTER adds its call to those of the path, and LEAVE takes the newest away

@@ -1,6 +1,7 @@
 // Token records of 28 bytes: a token read from its bytes, and written as bytes.
 use crate::tag;
-use crate::tag::{Path, Tag};
+use crate::tag::Path;
+use crate::tag::Tag;
 ghost use mathlib.Core.Path.{_≡_};
 ghost use Prim.Native.Nat.{_/_, _≤_, _<_};
 ghost use lib.ListN.{length};

@@ -2,7 +2,8 @@
 // and then the whole buffer, which was lent as points.
 use record::cell;
 use record::cell::Cell;
-use record::tag::{Path, Tag};
+use record::tag::Path;
+use record::tag::Tag;
 use record::token;
 use record::token::Content;
 use record::token::Token;
@@ -57,7 +58,11 @@ fn put_example(listing: &mut [u8])
     requires { ⌜ length (now listing) ≡ 3 * tokenWidth ⌝ }
 {
     token::put_token(listing, 0, token_of(Path::ROOT, 0, 0, 0, Content::Spent(7)));
-    token::put_token(listing, 1, token_of(Path::ROOT, 0, 0, 1, Content::Spent(-9)));
+    token::put_token(
+        listing,
+        1,
+        token_of(Path::ROOT, 0, 0, 1, Content::Spent(-9)),
+    );
     token::put_token(listing, 2, token_of(Path::ROOT, 0, 1, 0, Content::Live(-2)));
 }
 
@@ -67,7 +72,11 @@ fn put_least(listing: &mut [u8])
 {
     token::put_token(listing, 0, token_of(Path::ROOT, 0, 0, 0, Content::Live(0)));
     let entered = Path { low: 770, high: 0 };
-    token::put_token(listing, 1, token_of(entered, 2, 1, 1, Content::Deferred(1023)));
+    token::put_token(
+        listing,
+        1,
+        token_of(entered, 2, 1, 1, Content::Deferred(1023)),
+    );
     token::put_token(listing, 2, token_of(GREATEST, 0, 9, 0, Content::Live(-1)));
 }
 
