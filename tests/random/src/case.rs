@@ -2,7 +2,7 @@
 
 use std::time::{Duration, Instant};
 
-use second::{Answer, Outcome, Refusal};
+use second::{Answer, Outcome, Refusal, LOG_RECORD, TOKEN_RECORD};
 
 use crate::prng::Prng;
 
@@ -59,12 +59,12 @@ pub struct Left {
 impl Left {
     /// The used records of the ledger.
     pub fn used(&self) -> &[u8] {
-        &self.ledger[..20 * self.answer.tokens]
+        &self.ledger[..TOKEN_RECORD * self.answer.tokens]
     }
 
     /// The log of a logged run: a record for each firing.
     pub fn log(&self) -> &[u8] {
-        &self.further[..12 * self.answer.firings]
+        &self.further[..LOG_RECORD * self.answer.firings]
     }
 }
 
@@ -146,8 +146,8 @@ impl Case {
     /// Whether inputs, ledger and cells are whole records and not too many.
     pub fn stores_fit(&self) -> bool {
         [
-            (self.inputs.len(), 20, 2048),
-            (self.ledger_bytes, 20, 2048),
+            (self.inputs.len(), TOKEN_RECORD, 2048),
+            (self.ledger_bytes, TOKEN_RECORD, 2048),
             (self.cells_bytes, 8, 1024),
         ]
         .iter()
@@ -224,8 +224,8 @@ pub fn compare(case: &Case, clock: &mut Clock) -> (Left, Result<(), String>) {
     let engine_answer = case.engine(&mut found);
     clock.engine += start.elapsed();
 
-    let mut listing = vec![0; 20 * answer.tokens];
-    let code = second::list(&due.ledger[..20 * answer.tokens], &mut listing);
+    let mut listing = vec![0; TOKEN_RECORD * answer.tokens];
+    let code = second::list(&due.ledger[..TOKEN_RECORD * answer.tokens], &mut listing);
     assert_eq!(code, 0, "the second emulator lists its own ledger");
     let left = Left {
         answer,

@@ -25,6 +25,8 @@ use std::fs;
 use std::path::Path;
 use std::process::ExitCode;
 
+use second::{LOG_RECORD, TOKEN_RECORD};
+
 use case::{compare, compare_listing, Call, Case, Clock, Left};
 use orders::End;
 use prng::Prng;
@@ -159,7 +161,7 @@ impl Harness {
             case.picks = picks;
             case.garbage = prng.word();
             if ends.len() % 3 != 2 {
-                case.call = Call::Logged(12 * (2048 + prng.below(2)));
+                case.call = Call::Logged(LOG_RECORD * (2048 + prng.below(2)));
             }
             let left = self.call(&case);
             match ends.first() {
@@ -181,7 +183,7 @@ impl Harness {
     fn short_budget(&mut self, mut case: Case, left: &Left, prng: &mut Prng) {
         let exact = left.answer.firings as u16;
         case.budget = exact.saturating_sub(prng.below(2) as u16);
-        case.call = Call::Logged(12 * usize::from(case.budget));
+        case.call = Call::Logged(LOG_RECORD * usize::from(case.budget));
         let left = self.call(&case);
         self.replay_of(&case, &left);
     }
@@ -218,12 +220,12 @@ impl Harness {
         } else {
             prng.below(40)
         };
-        let mut records = vec![0; 20 * count];
+        let mut records = vec![0; TOKEN_RECORD * count];
         prng.fill(&mut records);
-        for record in records.chunks_exact_mut(20) {
+        for record in records.chunks_exact_mut(TOKEN_RECORD) {
             if prng.one_in(2) {
-                record[..12].fill(0);
-                let key = [0, 1, 7, 8, 9, 10, 11][prng.below(7)];
+                record[..20].fill(0);
+                let key = [0, 1, 7, 8, 15, 16, 17, 18, 19][prng.below(9)];
                 record[key] = prng.below(3) as u8;
             }
         }
@@ -232,7 +234,11 @@ impl Harness {
         }
         let mut out = records.len();
         if prng.one_in(10) {
-            out = [out + 20, out.saturating_sub(20), out + 1][prng.below(3)];
+            out = [
+                out + TOKEN_RECORD,
+                out.saturating_sub(TOKEN_RECORD),
+                out + 1,
+            ][prng.below(3)];
         }
         if let Err(reason) = compare_listing(&records, out, prng) {
             self.fail(case, &format!("of arbitrary records: {reason}"));
@@ -273,7 +279,7 @@ fn first_case(prng: &mut Prng) -> Case {
         inputs: subject.inputs,
         picks: Vec::new(),
         budget: 2048,
-        ledger_bytes: 2048 * 20,
+        ledger_bytes: 2048 * TOKEN_RECORD,
         cells_bytes: 8 * cells.min(1024),
         garbage: prng.word(),
     };
@@ -288,7 +294,7 @@ fn first_case(prng: &mut Prng) -> Case {
         4 => prng.below(used + 1),
         _ => used + prng.below(20),
     };
-    case.ledger_bytes = 20 * capacity.min(2048);
+    case.ledger_bytes = TOKEN_RECORD * capacity.min(2048);
     if prng.one_in(50) {
         case.inputs.clear();
     }

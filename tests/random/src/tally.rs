@@ -1,7 +1,7 @@
 //! How often each answer, refusal and operation came up.
 
 use layout::{LEAVE, OUT};
-use second::Outcome;
+use second::{Outcome, TOKEN_RECORD};
 
 use crate::case::{Call, Case, Left};
 use crate::{bounds, capacities, logs, profiles};
@@ -147,7 +147,7 @@ impl Tally {
             }
         }
         self.largest = self.largest.max(left.answer.tokens);
-        for record in left.used().chunks_exact(20) {
+        for record in left.used().chunks_exact(TOKEN_RECORD) {
             self.count_token(case, record);
         }
     }
@@ -158,9 +158,9 @@ impl Tally {
         if one.answer.outcome != Outcome::Hung || one.used() == other.used() {
             return;
         }
-        let records = || one.used().chunks_exact(20);
-        let waiting = records().any(|record| record[16] == LIVE && !is_result(case, record));
-        let deferred = records().any(|record| record[16] == DEFERRED);
+        let records = || one.used().chunks_exact(TOKEN_RECORD);
+        let waiting = records().any(|record| record[24] == LIVE && !is_result(case, record));
+        let deferred = records().any(|record| record[24] == DEFERRED);
         self.hung_waiting += u64::from(waiting);
         self.hung_deferred += u64::from(deferred);
     }
@@ -168,18 +168,18 @@ impl Tally {
     /// A firing spends exactly one token on port 0.
     fn count_token(&mut self, case: &Case, record: &[u8]) {
         let code = code_at(case, record);
-        match record[16] {
-            SPENT if record[9] == 0 => self.fired[usize::from(code)] += 1,
+        match record[24] {
+            SPENT if record[17] == 0 => self.fired[usize::from(code)] += 1,
             DEFERRED => self.deferred += 1,
             _ => {}
         }
         if code == OUT {
             self.results += 1;
         } else if is_result(case, record) {
-            self.root_leaves += u64::from(record[16] == LIVE);
-            self.root_leaves_deferred += u64::from(record[16] == DEFERRED);
+            self.root_leaves += u64::from(record[24] == LIVE);
+            self.root_leaves_deferred += u64::from(record[24] == DEFERRED);
         }
-        let levels = (0..4).filter(|level| record[2 * level + 1] != 0).count() as u64;
+        let levels = (0..8).filter(|level| record[2 * level + 1] != 0).count() as u64;
         self.deepest = self.deepest.max(levels);
     }
 
@@ -237,7 +237,7 @@ impl Tally {
 
 /// The operation code of a token's instruction.
 fn code_at(case: &Case, record: &[u8]) -> u8 {
-    let instruction = usize::from(u16::from_le_bytes([record[10], record[11]]));
+    let instruction = usize::from(u16::from_le_bytes([record[18], record[19]]));
     case.graph[16 * instruction]
 }
 
@@ -246,7 +246,7 @@ fn code_at(case: &Case, record: &[u8]) -> u8 {
 fn is_result(case: &Case, record: &[u8]) -> bool {
     match code_at(case, record) {
         OUT => true,
-        LEAVE => record[..8] == [0; 8],
+        LEAVE => record[..16] == [0; 16],
         _ => false,
     }
 }
