@@ -7,9 +7,9 @@ use std::process::Stdio;
 
 use common::{command, dayomlak, done, typed, Folder};
 
-const COMMANDS: [&str; 12] = [
+const COMMANDS: [&str; 13] = [
     "run", "check", "compare", "trace", "profile", "report", "draw", "log", "replay", "asm",
-    "disasm", "explain",
+    "disasm", "convert", "explain",
 ];
 
 #[test]

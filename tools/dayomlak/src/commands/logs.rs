@@ -9,7 +9,7 @@ use crate::failure::Failure;
 use crate::machine::{End, Machine};
 use crate::program::Program;
 use crate::records::{Tag, LOGGED};
-use crate::{diagnostics, output, refused};
+use crate::{diagnostics, forms, output, refused};
 
 pub fn log(args: &Log) -> Result<u8, Failure> {
     let program = load(&args.file.file)?;
@@ -44,6 +44,11 @@ fn replayed(machine: &Machine, end: &End, log: &[u8]) -> String {
         Some(mut finding) if end.answer.word == Word::Refused(20) => {
             let named = named(program, log, end.answer.place);
             finding.notes.insert(0, named);
+            if let Some(advice) = forms::advice(log, &forms::LOGS) {
+                finding
+                    .notes
+                    .insert(1, format!("look at the log's records: {advice}"));
+            }
             diagnostics::plain(&program.label, &program.text, &[finding])
         }
         _ => answer(machine, end, order),
