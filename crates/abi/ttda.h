@@ -62,6 +62,10 @@ uint64_t ttda_list(const uint8_t *ledger, size_t ledger_len,
 uint64_t ttda_convert(const uint8_t *old, size_t old_len,
                       uint8_t *out, size_t out_len);
 
+/* The same for logs: records of 12 bytes a firing become records of 20. */
+uint64_t ttda_convert_log(const uint8_t *old, size_t old_len,
+                          uint8_t *out, size_t out_len);
+
 /* What ttda_print answers where it writes nothing. A text has 11 bytes at least, so neither is a length. */
 #define TTDA_TOO_SMALL 0
 #define TTDA_NO_ANSWER 1

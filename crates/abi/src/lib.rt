@@ -16,7 +16,7 @@ ghost use Rattle.rules.specs.Run.{result, ledgerAfter, cellsAfter};
 ghost use Rattle.rules.specs.Run.{answer as Run·answer};
 ghost use Rattle.rules.specs.Log.{logged, logAfter, replayed};
 ghost use Rattle.rules.specs.Profile.{profiled, profileAnswer, profileAfter};
-ghost use Rattle.convert.specs.Convert.{answer as Convert·answer, outAfter as Convert·outAfter};
+ghost use Rattle.convert.specs.Convert.{tokenRest, logRest, numberOf as Convert·numberOf, answer as Convert·answer, outAfter as Convert·outAfter};
 ghost use Rattle.listing.specs.Listing.{outAfter};
 ghost use Rattle.listing.specs.Listing.{answer as Listing·answer};
 ghost use Rattle.abi.specs.Numbers.{packed, boundsOf, refusalOf, unplaced, outcomeOf, unpacked, printAnswer, printAfter};
@@ -236,15 +236,29 @@ pub extern "C" fn ttda_list(ledger: &[u8], out: &mut [u8]) -> u64
     }
 }
 
-#[no_mangle]
-pub extern "C" fn ttda_convert(old: &[u8], out: &mut [u8]) -> u64
-    ensures { λ r. ⌜ (r ≡ Convert·answer (now (old .entry)) (now (out .entry))) × (now (out .exit) ≡ Convert·outAfter (now (old .entry)) (now (out .entry))) ⌝ }
+fn converted_number(converted: Converted) -> u64
+    ensures { λ r. ⌜ r ≡ Convert·numberOf converted ⌝ }
 {
-    let converted = convert::convert(old, out);
     match converted {
         Converted::Done => 0,
         Converted::BadStore => 7,
     }
+}
+
+#[no_mangle]
+pub extern "C" fn ttda_convert(old: &[u8], out: &mut [u8]) -> u64
+    ensures { λ r. ⌜ r ≡ Convert·answer tokenRest (now (old .entry)) (now (out .entry)) ⌝ }
+    ensures { λ _. ⌜ now (out .exit) ≡ Convert·outAfter tokenRest (now (old .entry)) (now (out .entry)) ⌝ }
+{
+    converted_number(convert::convert(old, out))
+}
+
+#[no_mangle]
+pub extern "C" fn ttda_convert_log(old: &[u8], out: &mut [u8]) -> u64
+    ensures { λ r. ⌜ r ≡ Convert·answer logRest (now (old .entry)) (now (out .entry)) ⌝ }
+    ensures { λ _. ⌜ now (out .exit) ≡ Convert·outAfter logRest (now (old .entry)) (now (out .entry)) ⌝ }
+{
+    converted_number(convert::convert_log(old, out))
 }
 
 #[no_mangle]

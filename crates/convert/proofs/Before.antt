@@ -51,8 +51,8 @@ use Rattle.rules.proofs.PassedGraph.{past-operation, of-graph, enter-code, ente
 use Rattle.rules.proofs.Effects.{later, Asked, effect-asked}
 use Rattle.rules.proofs.Inputs.{start-keys}
 use Rattle.rules.proofs.Invariants.{result-invariants}
-use Rattle.convert.specs.Convert.{oldWidth, widened, converted}
-use Rattle.convert.specs.Before.{decodeBefore, encodeBefore, isInputBefore, goodInputBefore, checkStoresBefore, checkInputsBefore, checkBefore, atFourLevels, effectBefore, machineBefore, firstStateBefore, resultBefore, ledgerBefore, Neither7Nor14, asMany, KeepsResult, KeepsLedger, encodeTagBefore, oldLogWidth, logSufficesBefore, checkLogStoresBefore, checkLoggedBefore, loggedBefore, logBefore, widenedTag, convertedLog, asManyLogs, KeepsLogged, KeepsLog}
+use Rattle.convert.specs.Convert.{tokenRest, logRest, widened, converted}
+use Rattle.convert.specs.Before.{oldWidth, decodeBefore, encodeBefore, isInputBefore, goodInputBefore, checkStoresBefore, checkInputsBefore, checkBefore, atFourLevels, effectBefore, machineBefore, firstStateBefore, resultBefore, ledgerBefore, Neither7Nor14, asMany, KeepsResult, KeepsLedger, encodeTagBefore, oldLogWidth, logSufficesBefore, checkLogStoresBefore, checkLoggedBefore, loggedBefore, logBefore, asManyLogs, KeepsLogged, KeepsLog}
 use Rattle.convert.proofs.Records.{wide, together, length-widened, length-wide, wide-written, rows-wide}
 use Rattle.convert.proofs.Stricter.{as-freely}
 use Rattle.convert.proofs.Fired.{log-keeps}
@@ -67,28 +67,28 @@ good-wide : (g : List Instruction) (l r : List ℕ) → goodInput g (wide l ++ r
 unfolding goodInput isInput isRoot pathNumber goodInputBefore isInputBefore
 good-wide g l r = rw (add-zero (number64 l 0))
 
-converted-length : (l : List ℕ) → length (converted l) ≡ asMany (length l)
+converted-length : (l : List ℕ) → length (converted tokenRest l) ≡ asMany (length l)
 unfolding converted
-converted-length l = length-wide oldWidth tokenWidth widened length-widened (length l / oldWidth) l (omega arith)
+converted-length l = length-wide oldWidth tokenWidth (widened tokenRest) (length-widened tokenRest) (length l / oldWidth) l (omega arith)
 
 -- as many records as there were
 records-count : (n : ℕ) → asMany n / tokenWidth ≡ n / oldWidth
 records-count n = omega arith
 
 module _ {A : Type 0} (f h : List ℕ → A) (reads : (l r : List ℕ) → f (wide l ++ r) ≡ h l) where
-  all-wide : (l : List ℕ) → allRows tokenWidth f (converted l) ≡ allRows oldWidth h l
+  all-wide : (l : List ℕ) → allRows tokenWidth f (converted tokenRest l) ≡ allRows oldWidth h l
   unfolding converted
   all-wide l =
-      let n : length (together (rows oldWidth widened (length l / oldWidth) l)) / tokenWidth ≡ length l / oldWidth = omega (arith, length-wide oldWidth tokenWidth widened length-widened (length l / oldWidth) l (omega arith)) in
+      let n : length (together (rows oldWidth (widened tokenRest) (length l / oldWidth) l)) / tokenWidth ≡ length l / oldWidth = omega (arith, length-wide oldWidth tokenWidth (widened tokenRest) (length-widened tokenRest) (length l / oldWidth) l (omega arith)) in
       rw n (rows-wide f h reads (length l / oldWidth) l (omega arith))
 
 -- ---- the check
 
-same-inputs : (g : List Instruction) (capacity : ℕ) (inputs : List ℕ) → checkInputs g capacity (converted inputs) ≡ checkInputsBefore g capacity inputs
+same-inputs : (g : List Instruction) (capacity : ℕ) (inputs : List ℕ) → checkInputs g capacity (converted tokenRest inputs) ≡ checkInputsBefore g capacity inputs
 unfolding checkInputs checkInputsBefore
 same-inputs g capacity inputs = rw (all-wide Tokens.decode decodeBefore decode-wide inputs, all-wide (goodInput g) (goodInputBefore g) (good-wide g) inputs)
 
-same-first : (inputs : List ℕ) (cells : ℕ) → firstState (converted inputs) cells ≡ firstStateBefore inputs cells
+same-first : (inputs : List ℕ) (cells : ℕ) → firstState (converted tokenRest inputs) cells ≡ firstStateBefore inputs cells
 unfolding firstState firstStateBefore
 same-first inputs cells = rw (all-wide Tokens.decode decodeBefore decode-wide inputs)
 
@@ -119,7 +119,7 @@ by-stores inputs picks ledger cells =
 
 -- the whole check, by what it says of the stores
 same-checks : (graph inputs : List ℕ) (ledger : ℕ) (before after : Checked) → (checkGraph graph ≡ Passed → before ≡ Passed) → (before ≡ Passed → after ≡ Passed)
-    → (checkGraph graph andThen after andThen checkInputs (graphOf graph) (capacityOf (asMany ledger)) (converted inputs))
+    → (checkGraph graph andThen after andThen checkInputs (graphOf graph) (capacityOf (asMany ledger)) (converted tokenRest inputs))
     ≡ (checkGraph graph andThen before andThen checkInputsBefore (graphOf graph) (ledger / oldWidth) inputs)
 same-checks graph inputs ledger before after passes also = go (checkGraph graph) refl
   where
@@ -127,7 +127,7 @@ same-checks graph inputs ledger before after passes also = go (checkGraph graph)
     g = graphOf graph
 
     go : (c : Checked) → checkGraph graph ≡ c
-        → (c andThen after andThen checkInputs g (capacityOf (asMany ledger)) (converted inputs)) ≡ (c andThen before andThen checkInputsBefore g (ledger / oldWidth) inputs)
+        → (c andThen after andThen checkInputs g (capacityOf (asMany ledger)) (converted tokenRest inputs)) ≡ (c andThen before andThen checkInputsBefore g (ledger / oldWidth) inputs)
     go (Failed r p) e = refl
     go Passed e = let stores = passes e in rw (also stores, stores, records-count ledger, same-inputs g (ledger / oldWidth) inputs)
 
@@ -171,13 +171,13 @@ module _ (graph inputs picks : List ℕ) (budget ledger cells : ℕ) where
         go (inl e) = e
         go (inr e) = absurd (allowed .not7 0 (rw (p, e)))
 
-    same-check : check graph (converted inputs) picks (asMany ledger) cells ≡ checkBefore graph inputs picks ledger cells
+    same-check : check graph (converted tokenRest inputs) picks (asMany ledger) cells ≡ checkBefore graph inputs picks ledger cells
     unfolding check checkBefore
     same-check =
         rw (converted-length inputs) (same-checks graph inputs ledger (checkStoresBefore (length inputs) (length picks) ledger cells) (checkStores (asMany (length inputs)) (length picks) (asMany ledger) cells)
         stores-passed (same-stores (length inputs) (length picks) ledger cells))
 
-    same-result : result graph (converted inputs) picks budget (asMany ledger) cells ≡ resultBefore graph inputs picks budget ledger cells
+    same-result : result graph (converted tokenRest inputs) picks budget (asMany ledger) cells ≡ resultBefore graph inputs picks budget ledger cells
     unfolding result resultBefore unlessFailed answer
     same-result = rw (same-check, records-count ledger, same-first inputs (cells / cellWidth)) (go (checkBefore graph inputs picks ledger cells) refl)
       where
@@ -269,9 +269,9 @@ module _ (graph : List ℕ) (passed : checkGraph graph ≡ Passed) (capacity cel
       by τ v w h true e = tt
       by τ v w h false e = effect-asked gr capacity cells Shallow Any Any τ (asked τ h e) v w tt tt
 
-  first-shallow : (inputs : List ℕ) → checkInputs gr capacity (converted inputs) ≡ Passed → OfState N Shallow Any Any (firstStateBefore inputs cells)
+  first-shallow : (inputs : List ℕ) → checkInputs gr capacity (converted tokenRest inputs) ≡ Passed → OfState N Shallow Any Any (firstStateBefore inputs cells)
   first-shallow inputs e =
-      let o = rw (same-first inputs cells) at (start-keys gr capacity cells Shallow Any (converted inputs) (λ t root l h. rw (root, root-number) (omega arith, omega arith)) e) in
+      let o = rw (same-first inputs cells) at (start-keys gr capacity cells Shallow Any (converted tokenRest inputs) (λ t root l h. rw (root, root-number) (omega arith, omega arith)) e) in
       record { tokens = o .tokens; cells = o .cells }
 
   -- every token that a run leaves
@@ -286,7 +286,7 @@ unfolding encodeBefore
 length-before t = refl
 
 -- the record of a token of four levels at most, converted
-encode-wide : (t : Record.Token) → pathNumber (t .tag .path) < 65536 ^ 4 → (r : List ℕ) → widened (encodeBefore t ++ r) ≡ Tokens.encode t
+encode-wide : (t : Record.Token) → pathNumber (t .tag .path) < 65536 ^ 4 → (r : List ℕ) → widened tokenRest (encodeBefore t ++ r) ≡ Tokens.encode t
 unfolding pathNumber widened encodeBefore Tokens.encode
 encode-wide t h r = let high : t .tag .path .high ≡ 0 = omega arith in rw high
 
@@ -302,7 +302,7 @@ keeps-ledger graph inputs picks budget ledger cells allowed =
     e = run M budget (picksOf picks) (firstStateBefore inputs (cells / cellWidth))
 
     go : (c : Checked) → checkBefore graph inputs picks (length ledger) cells ≡ c
-        → ledgerAfter (unlessFailed c (ranTo e)) (converted ledger) ≡ converted (ledgerBefore (unlessFailed c (ranTo e)) ledger)
+        → ledgerAfter (unlessFailed c (ranTo e)) (converted tokenRest ledger) ≡ converted tokenRest (ledgerBefore (unlessFailed c (ranTo e)) ledger)
     go (Failed r p) q = refl
     go Passed q =
         let g = graphOf graph in
@@ -314,10 +314,10 @@ keeps-ledger graph inputs picks budget ledger cells allowed =
         let first = first-shallow graph (parts .0) capacity count inputs inputsPassed in
         let shallow = run-keeps M Shallow Any Any (keeps-shallow graph (parts .0) capacity count) (firstStateBefore inputs count) first budget (picksOf picks) in
         let ran : resultBefore graph inputs picks budget (length ledger) cells ≡ ranTo e = rw q in
-        let lawful = subst (LawfulResult graph (converted inputs) (asMany (length ledger)) cells) (same-result graph inputs picks budget (length ledger) cells allowed ∙ ran)
-        (result-invariants graph (converted inputs) picks budget (asMany (length ledger)) cells) in
+        let lawful = subst (LawfulResult graph (converted tokenRest inputs) (asMany (length ledger)) cells) (same-result graph inputs picks budget (length ledger) cells allowed ∙ ran)
+        (result-invariants graph (converted tokenRest inputs) picks budget (asMany (length ledger)) cells) in
         let room : length ts ≤ capacity = subst (λ (k : ℕ). k ≤ capacity) (sym (length-map (e .state .tokens) tokenRecord)) (subst (λ (k : ℕ). length (e .state .tokens) ≤ k) (records-count (length ledger)) (lawful .invariants .room)) in
-        wide-written oldWidth tokenWidth widened length-widened (λ t. pathNumber (t .tag .path) < 65536 ^ 4) encodeBefore Tokens.encode length-before length-token encode-wide
+        wide-written oldWidth tokenWidth (widened tokenRest) (length-widened tokenRest) (λ t. pathNumber (t .tag .path) < 65536 ^ 4) encodeBefore Tokens.encode length-before length-token encode-wide
         ts (left-paths graph (parts .0) capacity count (e .state .tokens) (shallow .tokens)) ledger room (omega arith) (omega (arith, length-joined oldWidth encodeBefore length-before ts))
 
 -- ---- a run that writes a log
@@ -362,13 +362,13 @@ module _ (graph inputs picks : List ℕ) (budget ledger cells lent : ℕ) (allow
       go (inl e) = e
       go (inr e) = absurd (allowed .not7 0 (rw (p, e)))
 
-  same-log-check : checkLogged graph (converted inputs) picks budget (asMany ledger) cells (asManyLogs lent) ≡ checkLoggedBefore graph inputs picks budget ledger cells lent
+  same-log-check : checkLogged graph (converted tokenRest inputs) picks budget (asMany ledger) cells (asManyLogs lent) ≡ checkLoggedBefore graph inputs picks budget ledger cells lent
   unfolding checkLogged checkLoggedBefore
   same-log-check =
       rw (converted-length inputs) (same-checks graph inputs ledger (checkLogStoresBefore (length inputs) (length picks) ledger cells budget lent)
       (checkLogStores (asMany (length inputs)) (length picks) (asMany ledger) cells budget (asManyLogs lent)) log-stores-passed (same-log-stores (length inputs) (length picks) ledger cells budget lent))
 
-  same-logged : logged graph (converted inputs) picks budget (asMany ledger) cells (asManyLogs lent) ≡ loggedBefore graph inputs picks budget ledger cells lent
+  same-logged : logged graph (converted tokenRest inputs) picks budget (asMany ledger) cells (asManyLogs lent) ≡ loggedBefore graph inputs picks budget ledger cells lent
   unfolding logged loggedBefore logUnlessFailed answer
   same-logged = rw (same-log-check, records-count ledger, same-first inputs (cells / cellWidth)) (go (checkLoggedBefore graph inputs picks budget ledger cells lent) refl)
     where
@@ -391,21 +391,16 @@ keeps-logged = same-logged
 
 -- ---- its bytes
 
-length-widened-tag : (l : List ℕ) → oldLogWidth ≤ length l → length (widenedTag l) ≡ logWidth
-unfolding widenedTag
-length-widened-tag l h =
-    omega (arith, length-append (take 8 l ++ replicate 8 0) (take 4 (drop 8 l)), length-append (take 8 l) (replicate 8 0), length-take-le 8 l (omega arith), length-take-le 4 (drop 8 l) (omega (arith, length-drop 8 l)))
-
 length-tag-before : (τ : Tag) → length (encodeTagBefore τ) ≡ oldLogWidth
 unfolding encodeTagBefore
 length-tag-before τ = refl
 
-tag-wide : (τ : Tag) → ShallowTag τ → (r : List ℕ) → widenedTag (encodeTagBefore τ ++ r) ≡ Logs.encode τ
-unfolding pathNumber widenedTag encodeTagBefore Logs.encode
+tag-wide : (τ : Tag) → ShallowTag τ → (r : List ℕ) → widened logRest (encodeTagBefore τ ++ r) ≡ Logs.encode τ
+unfolding pathNumber widened encodeTagBefore Logs.encode
 tag-wide τ h r = let p = h .0 in let high : τ .path .high ≡ 0 = omega arith in rw high
 
 pub keeps-log : KeepsLog
-unfolding loggedBefore checkLoggedBefore logUnlessFailed logAfter logBefore convertedLog
+unfolding loggedBefore checkLoggedBefore logUnlessFailed logAfter logBefore converted
 keeps-log graph inputs picks budget ledger cells log allowed =
     rw (same-logged graph inputs picks budget ledger cells (length log) allowed) (go (checkLoggedBefore graph inputs picks budget ledger cells (length log)) refl)
   where
@@ -422,7 +417,7 @@ keeps-log graph inputs picks budget ledger cells log allowed =
     τs = logOf N (byPicks N) budget (picksOf picks) s
 
     go : (c : Checked) → checkLoggedBefore graph inputs picks budget ledger cells (length log) ≡ c
-        → logAfter (logUnlessFailed c e τs) (convertedLog log) ≡ convertedLog (logBefore (logUnlessFailed c e τs) log)
+        → logAfter (logUnlessFailed c e τs) (converted logRest log) ≡ converted logRest (logBefore (logUnlessFailed c e τs) log)
     go (Failed r p) q = refl
     go Passed q =
         let capacity = ledger / oldWidth in
@@ -432,7 +427,7 @@ keeps-log graph inputs picks budget ledger cells log allowed =
         let shallow = log-keeps N Shallow Any Any (keeps-shallow graph (parts .0) capacity count) (byPicks N) budget (picksOf picks) s (first-shallow graph (parts .0) capacity count inputs inputsPassed) in
         let ran : loggedBefore graph inputs picks budget ledger cells (length log) .log ≡ τs = rw q in
         let fits = subst (λ (x : List Tag). length x * logWidth ≤ asManyLogs (length log)) (ap (λ (x : LogResult). x .log) (same-logged graph inputs picks budget ledger cells (length log) allowed) ∙ ran)
-        (log-fits graph (converted inputs) picks budget (asMany ledger) cells (asManyLogs (length log))) in
+        (log-fits graph (converted tokenRest inputs) picks budget (asMany ledger) cells (asManyLogs (length log))) in
         let room : length τs ≤ length log / oldLogWidth = omega arith in
-        wide-written oldLogWidth logWidth widenedTag length-widened-tag ShallowTag encodeTagBefore Logs.encode length-tag-before length-record tag-wide
+        wide-written oldLogWidth logWidth (widened logRest) (length-widened logRest) ShallowTag encodeTagBefore Logs.encode length-tag-before length-record tag-wide
         τs shallow log room (omega arith) (omega (arith, length-joined oldLogWidth encodeTagBefore length-tag-before τs))

@@ -1,15 +1,16 @@
 -- Old records made new ones: byte by byte, one more at the end of those before it, and what is read from them. Assumes nothing.
-use Prim.Native.Nat.{ℕ, zero, suc, _+_, _*_, _/_, _≤_, _<_}
+use Prim.Native.Nat.{ℕ, zero, suc, _+_, _-_, _*_, _/_, _≤_, _<_}
 use mathlib.Core.Path.{_≡_, refl, sym, ap, _∙_}
 use mathlib.Core.List.{List, [], _∷_, _++_, append-assoc, append-nil}
 use native.Mathlib.Omega.{arith}
-use native.Mathlib.Nat.{suc-mul, zero-mul, add-comm, not-suc-le-zero, le-of-suc-le-suc}
+use native.Mathlib.Nat.{suc-mul, zero-mul, add-comm, not-suc-le-zero, le-of-suc-le-suc, mul-le-mul-right, div-mul-le-self}
 use lib.ListN.{length, getD, take, drop, replicate, length-append, length-drop}
 use lib.Seq.{getD-drop, length-take-le, take-at, take-append-add, drop-at, drop-append-add, drop-drop}
 use Rattle.number.specs.Number.{byteAt}
-use Rattle.buffer.specs.Rows.{rows, allRows, joined, writtenOver, putRow, All}
+use Rattle.buffer.specs.Rows.{rows, allRows, joined, writtenOver, written, putRow, All}
 use Rattle.record.specs.Widths.{tokenWidth}
-use Rattle.convert.specs.Convert.{oldWidth, widened, converted}
+use Rattle.convert.specs.Convert.{tokenRest, widened}
+use Rattle.convert.specs.Before.{oldWidth}
 
 -- ---- a record, byte by byte
 
@@ -30,15 +31,17 @@ firsts-same (suc n) f g e = λ i. e 0 i ∷ firsts-same n (λ k. f (suc k)) (λ 
 abbrev pub wide : List ℕ → List ℕ
 wide l = firsts 8 (byteAt l) ++ replicate 8 0 ++ firsts 12 (λ k. byteAt l (8 + k))
 
-pub widened-is : (l : List ℕ) → oldWidth ≤ length l → widened l ≡ wide l
+pub widened-is : (l : List ℕ) → oldWidth ≤ length l → widened tokenRest l ≡ wide l
 unfolding widened
 widened-is l h =
     let first = take-firsts 8 l (omega arith) in
     let later = take-firsts 12 (drop 8 l) (omega (arith, length-drop 8 l)) ∙ firsts-same 12 (byteAt (drop 8 l)) (λ k. byteAt l (8 + k)) (λ k. getD-drop 8 l k 0) in
     λ i. first i ++ replicate 8 0 ++ later i
 
-pub length-widened : (l : List ℕ) → oldWidth ≤ length l → length (widened l) ≡ tokenWidth
-length-widened l h = rw (widened-is l h)
+pub length-widened : (rest : ℕ) (l : List ℕ) → 8 + rest ≤ length l → length (widened rest l) ≡ 16 + rest
+unfolding widened
+length-widened rest l h =
+    omega (arith, length-append (take 8 l ++ replicate 8 0) (take rest (drop 8 l)), length-append (take 8 l) (replicate 8 0), length-take-le 8 l (omega arith), length-take-le rest (drop 8 l) (omega (arith, length-drop 8 l)))
 
 -- ---- the records of a list
 
@@ -103,24 +106,81 @@ take-put w out b k h e =
     let q = take-append-add (take (k * w) out) (b ++ r) w in
     (rw (length-take-le (k * w) out h) at q) ∙ ap (λ (m : List ℕ). take (k * w) out ++ m) (take-at b r w e)
 
-pub one-more : (old out : List ℕ) (i : ℕ) → i < length old / oldWidth → length out ≡ length old / oldWidth * tokenWidth
-    → take (i * tokenWidth) out ≡ together (rows oldWidth widened i old)
-    → take ((i + 1) * tokenWidth) (putRow tokenWidth out i (widened (drop (i * oldWidth) old))) ≡ together (rows oldWidth widened (i + 1) old)
-one-more old out i h e before =
-    let b = widened (drop (i * oldWidth) old) in
-    let q : (i + 1) * tokenWidth ≡ i * tokenWidth + tokenWidth = omega arith in
+pub one-more : (rest : ℕ) (old out : List ℕ) (i : ℕ) → i * (8 + rest) + (8 + rest) ≤ length old → i * (16 + rest) ≤ length out
+    → take (i * (16 + rest)) out ≡ together (rows (8 + rest) (widened rest) i old)
+    → take ((i + 1) * (16 + rest)) (putRow (16 + rest) out i (widened rest (drop (i * (8 + rest)) old))) ≡ together (rows (8 + rest) (widened rest) (i + 1) old)
+one-more rest old out i h e before =
+    let w = 8 + rest in
+    let v = 16 + rest in
+    let b = widened rest (drop (i * w) old) in
     let r : i + 1 ≡ suc i = omega arith in
-    let more : together (rows oldWidth widened (i + 1) old) ≡ together (rows oldWidth widened i old) ++ b =
-    ap (λ (n : ℕ). together (rows oldWidth widened n old)) r ∙ ap together (rows-more oldWidth widened i old)
-    ∙ together-append (rows oldWidth widened i old) (b ∷ []) ∙ ap (λ (l : List ℕ). together (rows oldWidth widened i old) ++ l) (append-nil b) in
-    rw (q, take-put tokenWidth out b i (omega arith) (length-widened (drop (i * oldWidth) old) (omega (arith, length-drop (i * oldWidth) old))), before) (sym more)
+    let q : (i + 1) * v ≡ i * v + v = ap (λ (n : ℕ). n * v) r ∙ suc-mul i v in
+    let more : together (rows w (widened rest) (i + 1) old) ≡ together (rows w (widened rest) i old) ++ b =
+    ap (λ (n : ℕ). together (rows w (widened rest) n old)) r ∙ ap together (rows-more w (widened rest) i old)
+    ∙ together-append (rows w (widened rest) i old) (b ∷ []) ∙ ap (λ (l : List ℕ). together (rows w (widened rest) i old) ++ l) (append-nil b) in
+    rw (q, take-put v out b i e (length-widened rest (drop (i * w) old) (omega (arith, length-drop (i * w) old))), before) (sym more)
+
+-- record i of as many as there are stands within both buffers
+pub inside-old : (rest : ℕ) (old : List ℕ) (i : ℕ) → i < length old / (8 + rest) → i * (8 + rest) + (8 + rest) ≤ length old
+inside-old rest old i h = omega (arith, suc-mul i (8 + rest), mul-le-mul-right {m = suc i} (8 + rest) h, div-mul-le-self (length old) (8 + rest))
+
+pub inside-new : (rest : ℕ) (old out : List ℕ) (i : ℕ) → length out ≡ length old / (8 + rest) * (16 + rest) → i < length old / (8 + rest) → i * (16 + rest) + (16 + rest) ≤ length out
+inside-new rest old out i e h = omega (arith, suc-mul i (16 + rest), mul-le-mul-right {m = suc i} (16 + rest) h)
+
+-- ---- a record written in parts
+
+-- what is written right behind what was written
+write-on : (l a b : List ℕ) (at : ℕ) → at + length a ≤ length l → written (written l at a) (at + length a) b ≡ written l at (a ++ b)
+unfolding written
+write-on l a b at h =
+    let front = take at l in
+    let rest = drop (at + length a) l in
+    let n : length front ≡ at = length-take-le at l (omega arith) in
+    let s : length (front ++ a) ≡ at + length a = length-append front a ∙ ap (λ (m : ℕ). m + length a) n in
+    let same : front ++ (a ++ rest) ≡ (front ++ a) ++ rest = sym (append-assoc front a rest) in
+    let taken : take (at + length a) (front ++ (a ++ rest)) ≡ front ++ a = ap (take (at + length a)) same ∙ take-at (front ++ a) rest (at + length a) s in
+    let end : at + length a + length b ≡ at + length (a ++ b) = omega (arith, length-append a b) in
+    let dropped : drop (at + length a + length b) (front ++ (a ++ rest)) ≡ drop (at + length (a ++ b)) l =
+    ap (drop (at + length a + length b)) same
+    ∙ ap (λ (m : ℕ). drop (m + length b) ((front ++ a) ++ rest)) (sym s)
+    ∙ drop-append-add (front ++ a) rest (length b)
+    ∙ drop-drop (length b) (at + length a) l
+    ∙ ap (λ (m : ℕ). drop m l) end in
+    (λ i. taken i ++ (b ++ dropped i)) ∙ append-assoc front a (b ++ drop (at + length (a ++ b)) l) ∙ ap (λ (m : List ℕ). front ++ m) (sym (append-assoc a b (drop (at + length (a ++ b)) l)))
+
+as-row : (l b : List ℕ) (i w : ℕ) → length b ≡ w → written l (i * w) b ≡ putRow w l i b
+unfolding written putRow
+as-row l b i w e = ap (λ (n : ℕ). take (i * w) l ++ (b ++ drop (i * w + n) l)) e
+
+-- the three parts of a record, written in turn, are the record
+pub parts-put : (rest : ℕ) (old row out a b c : List ℕ) (i : ℕ) → i * (8 + rest) + (8 + rest) ≤ length old → i * (16 + rest) + (16 + rest) ≤ length out
+    → row ≡ drop (i * (8 + rest)) old
+    → a ≡ written out (i * (16 + rest)) (take 8 row)
+    → b ≡ written a (i * (16 + rest) + 8) (replicate 8 0)
+    → c ≡ written b (i * (16 + rest) + 16) (take (8 + rest - 8) (drop 8 row))
+    → c ≡ putRow (16 + rest) out i (widened rest (drop (i * (8 + rest)) old))
+unfolding widened
+parts-put rest old row out a b c i h k from first zeros last =
+    let at = i * (16 + rest) in
+    let path = take 8 row in
+    let z : List ℕ = replicate 8 0 in
+    let behind = take rest (drop 8 row) in
+    let long : 8 + rest ≤ length row = rw from (omega (arith, length-drop (i * (8 + rest)) old)) in
+    let n : length path ≡ 8 = length-take-le 8 row (omega arith) in
+    let m : length (path ++ z) ≡ 16 = length-append path z ∙ rw n in
+    let o : length (path ++ z ++ behind) ≡ 16 + rest = length-append (path ++ z) behind ∙ rw (m, length-take-le rest (drop 8 row) (omega (arith, length-drop 8 row))) in
+    let two : b ≡ written out at (path ++ z) = zeros ∙ ap (λ (l : List ℕ). written l (at + 8) z) first ∙ (rw n at (write-on out path z at (omega arith))) in
+    let less : 8 + rest - 8 ≡ rest = omega arith in
+    let all : c ≡ written out at (path ++ z ++ behind) =
+    last ∙ (λ j. written (two j) (at + 16) (take (less j) (drop 8 row))) ∙ (rw m at (write-on out (path ++ z) behind at (omega arith))) in
+    all ∙ as-row out (path ++ z ++ behind) i (16 + rest) o ∙ ap (λ (l : List ℕ). putRow (16 + rest) out i (take 8 l ++ z ++ take rest (drop 8 l))) from
 
 -- ---- what is read from the new records
 
 module _ {A : Type 0} (f h : List ℕ → A) (reads : (l r : List ℕ) → f (wide l ++ r) ≡ h l) where
-  pub rows-wide : (n : ℕ) (l : List ℕ) → n * oldWidth ≤ length l → rows tokenWidth f n (together (rows oldWidth widened n l)) ≡ rows oldWidth h n l
+  pub rows-wide : (n : ℕ) (l : List ℕ) → n * oldWidth ≤ length l → rows tokenWidth f n (together (rows oldWidth (widened tokenRest) n l)) ≡ rows oldWidth h n l
   rows-wide zero l e = refl
   rows-wide (suc n) l e =
-      let rest = together (rows oldWidth widened n (drop oldWidth l)) in
+      let rest = together (rows oldWidth (widened tokenRest) n (drop oldWidth l)) in
       let w = widened-is l (omega arith) in
       rw (w, reads l rest, rows-wide n (drop oldWidth l) (omega (arith, length-drop oldWidth l)))

@@ -27,9 +27,12 @@ use Rattle.rules.specs.Check.{demand, _andThen_, inTurn, instructionAt, operand
 use Rattle.rules.specs.InstructionSet.{EffectHere, effectIn, arityIn, machineOf}
 use Rattle.rules.specs.Run.{tokenHeld, tokenRecord, picksOf, Result, refusedAtOnce, ranTo, unlessFailed, result, answer, ledgerAfter}
 use Rattle.rules.specs.Log.{LogResult, logUnlessFailed, logged, logAfter}
-use Rattle.convert.specs.Convert.{oldWidth, converted}
+use Rattle.convert.specs.Convert.{tokenRest, logRest, converted}
 
 -- ---- records: "A token record has 20 bytes: path (0-7), iteration (8), port (9), instruction (10-11), signed value (12-15), state (16), zeros (17-19)."
+
+abbrev pub oldWidth : ℕ
+oldWidth = 20
 
 unfoldable pub decodeBefore : List ℕ → Record.Token
 decodeBefore l = record {
@@ -124,13 +127,6 @@ loggedBefore graph inputs picks budget ledger cells lent =
 unfoldable pub logBefore : LogResult → (lent : List ℕ) → List ℕ
 logBefore x lent = writtenOver encodeTagBefore (x .log) lent
 
--- "Log records grow to 20 bytes likewise": 8 bytes of the path, 8 new ones, and the other 4
-unfoldable pub widenedTag : List ℕ → List ℕ
-widenedTag l = take 8 l ++ replicate 8 0 ++ take 4 (drop 8 l)
-
-unfoldable pub convertedLog : List ℕ → List ℕ
-convertedLog log = joined (λ (r : List ℕ). r) (allRows oldLogWidth widenedTag log)
-
 -- ---- the claims
 
 -- "A run that gave neither 7 nor 14"
@@ -145,13 +141,13 @@ asMany old = old / oldWidth * tokenWidth
 -- "answers as it did, with its inputs converted and buffers of as many records": its end is the same one, so that the answer and the bytes of the cells are
 abbrev pub KeepsResult : Type 0
 KeepsResult = (graph inputs picks : List ℕ) (budget ledger cells : ℕ) → Neither7Nor14 (answer (resultBefore graph inputs picks budget ledger cells))
-    → result graph (converted inputs) picks budget (asMany ledger) cells ≡ resultBefore graph inputs picks budget ledger cells
+    → result graph (converted tokenRest inputs) picks budget (asMany ledger) cells ≡ resultBefore graph inputs picks budget ledger cells
 
 -- and a converted ledger is left as what was left, converted, in every byte
 abbrev pub KeepsLedger : Type 0
 KeepsLedger = (graph inputs picks : List ℕ) (budget : ℕ) (ledger : List ℕ) (cells : ℕ) → Neither7Nor14 (answer (resultBefore graph inputs picks budget (length ledger) cells))
-    → ledgerAfter (result graph (converted inputs) picks budget (asMany (length ledger)) cells) (converted ledger)
-    ≡ converted (ledgerBefore (resultBefore graph inputs picks budget (length ledger) cells) ledger)
+    → ledgerAfter (result graph (converted tokenRest inputs) picks budget (asMany (length ledger)) cells) (converted tokenRest ledger)
+    ≡ converted tokenRest (ledgerBefore (resultBefore graph inputs picks budget (length ledger) cells) ledger)
 
 -- the same of a run that writes a log: its end and the tags of its firings are the same ones
 abbrev pub asManyLogs : (old : ℕ) → ℕ
@@ -159,10 +155,10 @@ asManyLogs old = old / oldLogWidth * logWidth
 
 abbrev pub KeepsLogged : Type 0
 KeepsLogged = (graph inputs picks : List ℕ) (budget ledger cells lent : ℕ) → Neither7Nor14 (answer (loggedBefore graph inputs picks budget ledger cells lent .result))
-    → logged graph (converted inputs) picks budget (asMany ledger) cells (asManyLogs lent) ≡ loggedBefore graph inputs picks budget ledger cells lent
+    → logged graph (converted tokenRest inputs) picks budget (asMany ledger) cells (asManyLogs lent) ≡ loggedBefore graph inputs picks budget ledger cells lent
 
 -- and a log is left as what was left, its records widened, in every byte
 abbrev pub KeepsLog : Type 0
 KeepsLog = (graph inputs picks : List ℕ) (budget ledger cells : ℕ) (log : List ℕ) → Neither7Nor14 (answer (loggedBefore graph inputs picks budget ledger cells (length log) .result))
-    → logAfter (logged graph (converted inputs) picks budget (asMany ledger) cells (asManyLogs (length log))) (convertedLog log)
-    ≡ convertedLog (logBefore (loggedBefore graph inputs picks budget ledger cells (length log)) log)
+    → logAfter (logged graph (converted tokenRest inputs) picks budget (asMany ledger) cells (asManyLogs (length log))) (converted logRest log)
+    ≡ converted logRest (logBefore (loggedBefore graph inputs picks budget ledger cells (length log)) log)

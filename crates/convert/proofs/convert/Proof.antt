@@ -1,32 +1,11 @@
 -- `convert::convert` meets its contract. Assumes nothing.
-use Prim.Native.Nat.{_*_, _/_}
 use borrow.Author.Needs.{needs}
-use borrow.Author.Tests.{eqb-true}
-use mathlib.Core.Path.{_≡_, sym, _∙_}
-use mathlib.Core.Bool.{true}
-use lib.ListN.{length}
-use Rattle.buffer.specs.Rows.{whole}
-use Rattle.record.specs.TokensAndTags.{mostTokens}
-use Rattle.rules.proofs.Passed.{both}
-use Rattle.convert.specs.Convert.{oldWidth, accepted, answer, outAfter}
+use native.Mathlib.Omega.{arith}
 use Rattle.convert.proofs.convert.Statement.{statement}
 use Rattle.convert.proofs.convert.Tie as tie
 
 pub convert-spec : {M : Type 1} → statement M
-unfolding answer outAfter accepted
-convert-spec =
-    tie.close
-    (tie.spec
-    (λ c κs. search needs)
-    (λ c κs.
-    let a = c .before .before .before .before .before .args in
-    let e = sym (c .before .before .accepts .ensures) ∙ c .before .if1 .taken in
-    eqb-true _ _ (both (whole oldWidth mostTokens (length (a .old .now))) _ e .1))
+convert-spec = tie.close (tie.spec
+    (λ c κs. omega arith)
     (λ c. search needs)
-    (λ c.
-    let d = c .before .before .before .before in
-    let e = sym (d .before .accepts .ensures) ∙ d .if1 .taken in
-    (rw e, rw e (c .before .before .put-records .ensures)))
-    (λ c.
-    let e = sym (c .before .accepts .ensures) ∙ c .if1 .left in
-    (rw e, rw e)))
+    (λ c. c .before .before .convert-records .ensures))
