@@ -4,6 +4,7 @@ use std::time::{Duration, Instant};
 
 use second::{Answer, Outcome, Refusal, LOG_RECORD, TOKEN_RECORD};
 
+use crate::conversions::Records;
 use crate::prng::Prng;
 
 /// What is called.
@@ -300,6 +301,35 @@ pub fn compare_listing(records: &[u8], out_bytes: usize, prng: &mut Prng) -> Res
         return Err("listing: bytes outside the output were written".to_string());
     }
     equal("listing", found.contents(), &due)
+}
+
+/// Compares what both converters make of any bytes, with an output of any length.
+pub fn compare_conversion(
+    records: Records,
+    old: &[u8],
+    out_bytes: usize,
+    prng: &mut Prng,
+) -> Result<(), String> {
+    let mut due = vec![0; out_bytes];
+    prng.fill(&mut due);
+    let mut found = Guarded::new(&due, 16 + prng.below(8));
+    let (due_code, code) = match records {
+        Records::Tokens => (
+            second::convert(old, &mut due),
+            engine::convert(old, found.lent()),
+        ),
+        Records::Log => (
+            second::convert_log(old, &mut due),
+            engine::convert_log(old, found.lent()),
+        ),
+    };
+    if code != due_code {
+        return Err(format!("answer {code}, due {due_code}"));
+    }
+    if !found.intact() {
+        return Err("bytes outside the output were written".to_string());
+    }
+    equal("output", found.contents(), &due)
 }
 
 /// Compares the lines that both print of a run, and now and then those of another

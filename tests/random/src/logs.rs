@@ -118,7 +118,7 @@ fn damaged(left: &Left, prng: &mut Prng) -> Vec<u8> {
         4 => log.extend(vec![0; 1 + prng.below(24)]),
         // The whole buffer, as it is after the run.
         5 => log = left.further.clone(),
-        6 => damage::set_field(&mut log, 12, 9, 1 + prng.below(255) as u8, prng),
+        6 => damage::set_field(&mut log, LOG_RECORD, 17, 1 + prng.below(255) as u8, prng),
         7 if count > 1 => {
             let (one, other) = (prng.below(count), prng.below(count));
             for byte in 0..LOG_RECORD {

@@ -11,6 +11,7 @@
 mod bounds;
 mod capacities;
 mod case;
+mod conversions;
 mod damage;
 mod generate;
 mod logs;
@@ -48,6 +49,7 @@ struct Harness {
     bounds: u64,
     groups: u64,
     listings: u64,
+    conversions: u64,
     agreements: u64,
     profile_ends: u64,
     logs_compared: u64,
@@ -119,6 +121,7 @@ impl Harness {
         self.all_logs(&ends, prng);
         self.compare_bounds(&case, &ends);
         self.all_capacities(&ends, prng);
+        self.all_conversions(&case, &ends[0].left);
         for _ in 0..2 {
             let mut case = case.clone();
             case.budget = [0, 1, 2, prng.below(40) as u16, 65_535][prng.below(5)];
@@ -339,6 +342,7 @@ fn main() -> ExitCode {
         bounds: 0,
         groups: 0,
         listings: 0,
+        conversions: 0,
         agreements: 0,
         profile_ends: 0,
         logs_compared: 0,
@@ -369,6 +373,7 @@ fn report(harness: &Harness) -> ExitCode {
     );
     println!("bounds: {}", harness.bounds);
     println!("listings of arbitrary records: {}", harness.listings);
+    println!("conversions: {}", harness.conversions);
     println!(
         "time in the engine {:.2?}, in the second {:.2?}",
         harness.clock.engine, harness.clock.second

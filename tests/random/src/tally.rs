@@ -4,7 +4,7 @@ use layout::{LEAVE, OUT};
 use second::{Outcome, TOKEN_RECORD};
 
 use crate::case::{Call, Case, Left};
-use crate::{bounds, capacities, logs, profiles};
+use crate::{bounds, capacities, conversions, logs, profiles};
 
 const NAMES: [(u8, &str); 27] = [
     (1, "COPY"),
@@ -54,6 +54,9 @@ const REFUSALS: [(usize, &str); 15] = [
     (17, "no return"),
 ];
 
+/// Most levels of a path (02, R-8), each of two bytes, the site in the second.
+const MOST_LEVELS: usize = 8;
+
 /// Token states in a record (01, "Tokens and tags").
 const LIVE: u8 = 0;
 const SPENT: u8 = 1;
@@ -78,13 +81,15 @@ pub struct Tally {
     root_leaves: u64,
     root_leaves_deferred: u64,
     deferred: u64,
-    deepest: u64,
+    /// Tokens by the levels of their paths.
+    levels: [u64; MOST_LEVELS + 1],
     largest: usize,
     profiles: Named,
     logged: Named,
     replays: Named,
     bounds: Named,
     capacities: Named,
+    conversions: Named,
 }
 
 impl Tally {
@@ -103,13 +108,14 @@ impl Tally {
             root_leaves: 0,
             root_leaves_deferred: 0,
             deferred: 0,
-            deepest: 0,
+            levels: [0; MOST_LEVELS + 1],
             largest: 0,
             profiles: Named::new(&profiles::NAMES),
             logged: Named::new(&logs::RUN_NAMES),
             replays: Named::new(&logs::REPLAY_NAMES),
             bounds: Named::new(&bounds::NAMES),
             capacities: Named::new(&capacities::NAMES),
+            conversions: Named::new(&conversions::NAMES),
         }
     }
 
@@ -131,6 +137,10 @@ impl Tally {
 
     pub fn count_capacity(&mut self, name: &'static str) {
         self.capacities.count(vec![name]);
+    }
+
+    pub fn count_conversion(&mut self, name: &'static str) {
+        self.conversions.count(vec![name]);
     }
 
     fn count_run(&mut self, case: &Case, left: &Left) {
@@ -179,8 +189,8 @@ impl Tally {
             self.root_leaves += u64::from(record[24] == LIVE);
             self.root_leaves_deferred += u64::from(record[24] == DEFERRED);
         }
-        let levels = (0..8).filter(|level| record[2 * level + 1] != 0).count() as u64;
-        self.deepest = self.deepest.max(levels);
+        let sites = (0..MOST_LEVELS).map(|level| record[2 * level + 1]);
+        self.levels[sites.filter(|site| *site != 0).count()] += 1;
     }
 
     /// Prints all counts; answers how many that can be reached are 0.
@@ -212,11 +222,15 @@ impl Tally {
         self.bounds.print(&mut lines);
         println!("capacities of runs that completed or hung:");
         self.capacities.print(&mut lines);
+        println!("conversions of old records:");
+        self.conversions.print(&mut lines);
         println!("further:");
         lines.count("results at a LEAVE", self.root_leaves);
         lines.count("deferred at such a LEAVE", self.root_leaves_deferred);
         lines.count("tokens left deferred", self.deferred);
-        lines.count("most levels of a path", self.deepest);
+        for (levels, count) in self.levels.iter().enumerate() {
+            lines.count(&format!("tokens at level {levels}"), *count);
+        }
         lines.count("most tokens of a run", self.largest as u64);
         lines.missing
     }

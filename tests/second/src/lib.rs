@@ -8,6 +8,7 @@
 
 mod arithmetic;
 mod bounds;
+mod convert;
 mod graph;
 mod listing;
 mod log;
@@ -18,6 +19,7 @@ mod profile;
 mod token;
 
 pub use bounds::{bounds, Bounds};
+pub use convert::{convert, convert_log};
 pub use graph::{operand_count, Graph};
 pub use listing::list;
 pub use log::{replay, run_logged};
