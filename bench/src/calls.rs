@@ -59,7 +59,7 @@ impl Calls {
         let lent = || Lent::new(work(size), size, newest);
         let log = agreed(&mut lent());
         let profile = vec![0; 4 * usize::from(BUDGET)];
-        let room = vec![0; 12 * usize::from(BUDGET)];
+        let room = vec![0; second::LOG_RECORD * usize::from(BUDGET)];
         let further = [Vec::new(), profile, room, log];
         Calls {
             name,
@@ -115,7 +115,7 @@ fn agreed(lent: &mut Lent) -> Vec<u8> {
     assert!(found == due && ledger == lent.ledger && cells == lent.cells);
 
     let (graph, inputs, picks) = (&lent.work.graph, &lent.work.inputs, &lent.picks);
-    let mut due = vec![0; 12 * usize::from(BUDGET)];
+    let mut due = vec![0; second::LOG_RECORD * usize::from(BUDGET)];
     let mut found = due.clone();
     let (ledger, cells) = (&mut ledger, &mut cells);
     let answer = second::run_logged(graph, inputs, picks, BUDGET, ledger, cells, &mut due);
@@ -123,7 +123,7 @@ fn agreed(lent: &mut Lent) -> Vec<u8> {
     assert_eq!(run_logged(lent, &mut found), packed, "run with a log");
     assert!(found == due && *ledger == lent.ledger && *cells == lent.cells);
 
-    found.truncate(12 * answer.firings);
+    found.truncate(second::LOG_RECORD * answer.firings);
     assert_eq!(replay(lent, &mut found), packed, "replay");
     assert!(*ledger == lent.ledger && *cells == lent.cells);
     found

@@ -165,8 +165,8 @@ fn renumbered(work: &Work, number: usize) -> Work {
         }
     }
     let mut inputs = work.inputs.clone();
-    for token in inputs.chunks_exact_mut(20) {
-        moved(&mut token[10..12]);
+    for token in inputs.chunks_exact_mut(second::TOKEN_RECORD) {
+        moved(&mut token[18..20]);
     }
     Work { graph, inputs }
 }

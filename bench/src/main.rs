@@ -142,7 +142,7 @@ impl Lent {
         Lent {
             work,
             picks,
-            ledger: vec![0xa5; 20 * size],
+            ledger: vec![0xa5; second::TOKEN_RECORD * size],
             cells: vec![0xa5; 8 * CELLS],
         }
     }
@@ -280,7 +280,7 @@ fn ratio(one: Duration, other: Duration) -> String {
 }
 
 /// How the records lie before they are listed.
-type Arrangement = (&'static str, fn(&mut [[u8; 20]]));
+type Arrangement = (&'static str, fn(&mut [[u8; second::TOKEN_RECORD]]));
 
 const ARRANGEMENTS: [Arrangement; 3] = [
     ("in order of arrival", |_| {}),
@@ -289,7 +289,7 @@ const ARRANGEMENTS: [Arrangement; 3] = [
 ];
 
 /// A fixed mixture: swaps by a linear congruential generator.
-fn mix(records: &mut [[u8; 20]]) {
+fn mix(records: &mut [[u8; second::TOKEN_RECORD]]) {
     let mut state: u64 = 1;
     for end in (1..records.len()).rev() {
         state = stepped(state);
@@ -317,8 +317,8 @@ impl Listing {
         let mut lent = Lent::new(work::vector_sum(size), size, false);
         lent.agreed();
         let mut records = Vec::new();
-        for record in lent.ledger.chunks_exact(20) {
-            records.push(<[u8; 20]>::try_from(record).expect("20 bytes"));
+        for record in lent.ledger.chunks_exact(second::TOKEN_RECORD) {
+            records.push(<[u8; second::TOKEN_RECORD]>::try_from(record).expect("a whole record"));
         }
         arrange(&mut records);
         let ledger = records.concat();
@@ -351,7 +351,7 @@ impl Listing {
         println!(
             "| {} | {} | {} | {} | {} |",
             self.name,
-            self.ledger.len() / 20,
+            self.ledger.len() / second::TOKEN_RECORD,
             microseconds(engine_time),
             microseconds(sorted_time),
             ratio(engine_time, sorted_time),

@@ -29,7 +29,7 @@ impl Left {
         let mut lent = Lent::new(work(size), size, newest);
         let answer = lent.agreed();
         let packed = engine::packed_answer(&answer);
-        let mut listing = vec![0; 20 * answer.tokens];
+        let mut listing = vec![0; second::TOKEN_RECORD * answer.tokens];
         assert_eq!(second::list(&lent.ledger[..listing.len()], &mut listing), 0);
         Left {
             answer,
@@ -50,7 +50,7 @@ impl Left {
 
 /// The bytes of the longest text of so many tokens (`text-within` of the crate text).
 pub fn longest(tokens: usize) -> usize {
-    74 + 56 * tokens + 46 * CELLS
+    74 + 75 * tokens + 46 * CELLS
 }
 
 impl Printing {

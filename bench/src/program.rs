@@ -51,7 +51,7 @@ fn print_job(name: &str, work: &Work, folder: &Path) {
 }
 
 fn engine_job(work: &Work) -> Vec<u8> {
-    let mut ledger = vec![0; 20 * RECORDS];
+    let mut ledger = vec![0; second::TOKEN_RECORD * RECORDS];
     let mut cells = vec![0; 8 * CELLS];
     let answer = engine::run(
         &work.graph,
@@ -61,7 +61,7 @@ fn engine_job(work: &Work) -> Vec<u8> {
         &mut ledger,
         &mut cells,
     );
-    let used = 20 * engine::unpacked(answer).2 as usize;
+    let used = second::TOKEN_RECORD * engine::unpacked(answer).2 as usize;
     let mut listing = vec![0; used];
     engine::list(&ledger[..used], &mut listing);
     let mut text = vec![0; longest(RECORDS)];
@@ -71,7 +71,7 @@ fn engine_job(work: &Work) -> Vec<u8> {
 }
 
 fn second_job(work: &Work) -> Vec<u8> {
-    let mut ledger = vec![0; 20 * RECORDS];
+    let mut ledger = vec![0; second::TOKEN_RECORD * RECORDS];
     let mut cells = vec![0; 8 * CELLS];
     let answer = second::run(
         &work.graph,
@@ -81,7 +81,7 @@ fn second_job(work: &Work) -> Vec<u8> {
         &mut ledger,
         &mut cells,
     );
-    let used = 20 * answer.tokens;
+    let used = second::TOKEN_RECORD * answer.tokens;
     let mut listing = vec![0; used];
     second::list(&ledger[..used], &mut listing);
     second::print(&answer, &listing, &cells)

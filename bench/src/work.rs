@@ -239,7 +239,7 @@ mod tests {
 
     /// The answer, and the number of records in a state.
     fn counted(work: &Work, size: usize, budget: u16, state: u8) -> (Answer, usize) {
-        let mut ledger = vec![0; 20 * size];
+        let mut ledger = vec![0; second::TOKEN_RECORD * size];
         let mut cells = vec![0; 8 * 1024];
         let answer = run(
             &work.graph,
@@ -249,10 +249,10 @@ mod tests {
             &mut ledger,
             &mut cells,
         );
-        let used = &ledger[..20 * answer.tokens];
+        let used = &ledger[..second::TOKEN_RECORD * answer.tokens];
         (
             answer,
-            used.chunks(20).filter(|record| record[16] == state).count(),
+            used.chunks(second::TOKEN_RECORD).filter(|record| record[24] == state).count(),
         )
     }
 

@@ -16,7 +16,7 @@ uint64_t ttda_run(const uint8_t *graph, size_t graph_len,
                   uint8_t *ledger, size_t ledger_len,
                   uint8_t *cells, size_t cells_len);
 
-/* The same run, which also writes a log: a record of 12 bytes for each firing, from the start of log, with the bytes
+/* The same run, which also writes a log: a record of 20 bytes for each firing, from the start of log, with the bytes
    behind them untouched. A log that is not whole records, or has fewer than the budget and fewer than 2,048, is refused
    by 7. */
 uint64_t ttda_run_logged(const uint8_t *graph, size_t graph_len,
@@ -57,13 +57,22 @@ uint64_t ttda_bounds(const uint8_t *graph, size_t graph_len,
 uint64_t ttda_list(const uint8_t *ledger, size_t ledger_len,
                    uint8_t *out, size_t out_len);
 
+/* Makes token records of 20 bytes, as inputs and listings had them before paths of eight levels, records of 28: the new
+   bytes are zero. 0, or 7 with out untouched unless old is whole records, 2,048 at most, and out has the length of as many. */
+uint64_t ttda_convert(const uint8_t *old, size_t old_len,
+                      uint8_t *out, size_t out_len);
+
+/* The same for logs: records of 12 bytes a firing become records of 20. */
+uint64_t ttda_convert_log(const uint8_t *old, size_t old_len,
+                          uint8_t *out, size_t out_len);
+
 /* What ttda_print answers where it writes nothing. A text has 11 bytes at least, so neither is a length. */
 #define TTDA_TOO_SMALL 0
 #define TTDA_NO_ANSWER 1
 
 /* Prints an answer of one of the functions above, a listing of ttda_list and the cells to the start of out, as the program
    does. Answers the number of bytes; the bytes of out behind them stay untouched. TTDA_TOO_SMALL if the text does not fit, TTDA_NO_ANSWER if the
-   number is no answer's (another word, or a place though nothing is refused), both with out untouched. 74 bytes, 56 for
+   number is no answer's (another word, or a place though nothing is refused), both with out untouched. 74 bytes, 75 for
    each token and 46 for each cell are room enough. Bytes past the last whole record are passed over. */
 uint64_t ttda_print(uint64_t answer,
                     const uint8_t *listing, size_t listing_len,

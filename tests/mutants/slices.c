@@ -24,6 +24,8 @@ uint64_t unproved_replay(const struct slice *graph, const struct slice *inputs, 
                          const struct slice *ledger, const struct slice *cells);
 uint64_t unproved_bounds(const struct slice *graph, const struct slice *inputs);
 uint64_t unproved_list(const struct slice *ledger, const struct slice *out);
+uint64_t unproved_convert(const struct slice *old, const struct slice *out);
+uint64_t unproved_convert_log(const struct slice *old, const struct slice *out);
 uint64_t unproved_print(uint64_t answer, const struct slice *listing, const struct slice *cells, const struct slice *out);
 
 static unsigned long calls;
@@ -86,6 +88,16 @@ uint64_t ttda_bounds(const uint8_t *graph, size_t graph_len, const uint8_t *inpu
 uint64_t ttda_list(const uint8_t *ledger, size_t ledger_len, uint8_t *out, size_t out_len) {
     const struct slice l = {ledger, ledger_len}, o = {out, out_len};
     return unproved_list(&l, &o);
+}
+
+uint64_t ttda_convert(const uint8_t *old, size_t old_len, uint8_t *out, size_t out_len) {
+    const struct slice l = {old, old_len}, o = {out, out_len};
+    return unproved_convert(&l, &o);
+}
+
+uint64_t ttda_convert_log(const uint8_t *old, size_t old_len, uint8_t *out, size_t out_len) {
+    const struct slice l = {old, old_len}, o = {out, out_len};
+    return unproved_convert_log(&l, &o);
 }
 
 uint64_t ttda_print(uint64_t answer, const uint8_t *listing, size_t listing_len, const uint8_t *cells, size_t cells_len,

@@ -1,5 +1,6 @@
 // What Rust and C link: the run, with and without a log, the replay, the profile, the bounds, the listing and the
 // printed lines over numbers and byte slices, with the promises of the crates behind them.
+use convert::Converted;
 use listing::Listed;
 use rules::answer;
 use rules::answer::Answer;
@@ -15,6 +16,7 @@ ghost use Rattle.rules.specs.Run.{result, ledgerAfter, cellsAfter};
 ghost use Rattle.rules.specs.Run.{answer as Run·answer};
 ghost use Rattle.rules.specs.Log.{logged, logAfter, replayed};
 ghost use Rattle.rules.specs.Profile.{profiled, profileAnswer, profileAfter};
+ghost use Rattle.convert.specs.Convert.{tokenRest, logRest, numberOf as Convert·numberOf, answer as Convert·answer, outAfter as Convert·outAfter};
 ghost use Rattle.listing.specs.Listing.{outAfter};
 ghost use Rattle.listing.specs.Listing.{answer as Listing·answer};
 ghost use Rattle.abi.specs.Numbers.{packed, boundsOf, refusalOf, unplaced, outcomeOf, unpacked, printAnswer, printAfter};
@@ -232,6 +234,31 @@ pub extern "C" fn ttda_list(ledger: &[u8], out: &mut [u8]) -> u64
         Listed::Done => 0,
         Listed::BadStore => 7,
     }
+}
+
+fn converted_number(converted: Converted) -> u64
+    ensures { λ r. ⌜ r ≡ Convert·numberOf converted ⌝ }
+{
+    match converted {
+        Converted::Done => 0,
+        Converted::BadStore => 7,
+    }
+}
+
+#[no_mangle]
+pub extern "C" fn ttda_convert(old: &[u8], out: &mut [u8]) -> u64
+    ensures { λ r. ⌜ r ≡ Convert·answer tokenRest (now (old .entry)) (now (out .entry)) ⌝ }
+    ensures { λ _. ⌜ now (out .exit) ≡ Convert·outAfter tokenRest (now (old .entry)) (now (out .entry)) ⌝ }
+{
+    converted_number(convert::convert(old, out))
+}
+
+#[no_mangle]
+pub extern "C" fn ttda_convert_log(old: &[u8], out: &mut [u8]) -> u64
+    ensures { λ r. ⌜ r ≡ Convert·answer logRest (now (old .entry)) (now (out .entry)) ⌝ }
+    ensures { λ _. ⌜ now (out .exit) ≡ Convert·outAfter logRest (now (old .entry)) (now (out .entry)) ⌝ }
+{
+    converted_number(convert::convert_log(old, out))
 }
 
 #[no_mangle]

@@ -13,10 +13,12 @@ use Rattle.record.specs.declared.token.Token.{Token}
 use Rattle.record.specs.declared.instruction.Destination.{Destination}
 use Rattle.record.specs.declared.instruction.Instruction.{Instruction}
 use Rattle.buffer.specs.Rows.{All, allRows}
+use Rattle.record.specs.Paths.{rootPath}
 use Rattle.record.specs.TokensAndTags.{rootOf, sameTag, standsAt, tokenAt}
 use Rattle.record.specs.TokensAndTags as Tokens
 use Rattle.record.specs.GraphRecords.{graphOf, inUse, destinations}
 use Rattle.record.specs.Widths.{tokenWidth}
+use Rattle.record.proofs.Paths.{path-same}
 use Rattle.rules.specs.declared.answer.Refusal.the-variants.{BadInput}
 use Rattle.rules.specs.declared.answer.Checked.the-variants.{Passed}
 use Rattle.rules.specs.Check.{demand, any, all, inTurn, goodArc, goodInput, operandsAt, instructionAt, checkGraph}
@@ -115,4 +117,4 @@ module _ (graph : List ℕ) (passed : checkGraph graph ≡ Passed) where
 
 pub stands : (t : Token) → GoodToken t → (i p : ℕ) → standsAt (rootOf i) p t ≡ eqb (t .tag .instruction) i && eqb (t .port) p
 unfolding standsAt sameTag
-stands t good i p = rw (good .root) (and-swap (eqb (t .port) p) (eqb (t .tag .instruction) i))
+stands t good i p = rw (good .root, path-same rootPath rootPath refl) (and-swap (eqb (t .port) p) (eqb (t .tag .instruction) i))

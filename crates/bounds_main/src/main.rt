@@ -72,11 +72,7 @@ fn put(graph: &mut [u8], i: usize, code: u8, first: u16, second: u16)
 fn put_input(inputs: &mut [u8], i: usize, instruction: u16, port: u8, value: i32)
     requires { ⌜ i < length (now inputs) / tokenWidth ⌝ }
 {
-    let tag = Tag {
-        path: 0,
-        iteration: 0,
-        instruction,
-    };
+    let tag = Tag::root(instruction);
     let t = Token {
         tag,
         port,

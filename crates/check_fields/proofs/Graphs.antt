@@ -11,6 +11,7 @@ use lib.Seq.{getD-drop}
 use Rattle.record.specs.declared.tag.Tag.{Tag}
 use Rattle.record.specs.declared.instruction.Destination.{Destination}
 use Rattle.record.specs.declared.instruction.Instruction.{Instruction}
+use Rattle.record.specs.Paths.{isRoot}
 use Rattle.record.specs.GraphRecords.{decode, graphOf, instructionIn, inUse, rowOf, operandsOf}
 use Rattle.buffer.proofs.Tables.{length-rows, getD-rows}
 use Rattle.record.specs.Widths.{graphWidth}
@@ -62,7 +63,7 @@ one-up n h = omega arith
 
 -- what an activity waits for, by its instruction's code
 abbrev pub arityBy : (code : ℕ) → Tag → ℕ
-arityBy c τ = cond (eqb c 3 || eqb c 9 && eqb (τ .path) 0) 0 (operandsOf c)
+arityBy c τ = cond (eqb c 3 || eqb c 9 && isRoot (τ .path)) 0 (operandsOf c)
 
 module _ (l : List ℕ) (τ : Tag) where
   pub arity-in : τ .instruction < length l / graphWidth → arityIn (graphOf l) τ ≡ arityBy (getD l (τ .instruction * graphWidth) 0) τ

@@ -10,6 +10,7 @@ use lib.Dec.{eqb}
 use borrow.Author.Tests.{eqb-true, eqb-false}
 use Rattle.record.specs.declared.tag.Tag.{Tag}
 use Rattle.record.specs.declared.token.Token.{Token}
+use Rattle.record.specs.Paths.{samePath}
 use Rattle.record.specs.TokensAndTags.{decode, tokenAt, sameTag, standsAt}
 use Rattle.buffer.proofs.Tables.{length-rows, getD-rows}
 use Rattle.record.specs.Widths.{tokenWidth}
@@ -38,7 +39,7 @@ unfolding standsAt sameTag
 same-entry tag port t e =
     let p = eqb-true (t .port) port (and-true-left (eqb (t .port) port) _ e) in
     let q = and-true-right (eqb (t .port) port) _ e in
-    let i = eqb-true (t .tag .instruction) (tag .instruction) (and-true-right (eqb (t .tag .iteration) (tag .iteration)) _ (and-true-right (eqb (t .tag .path) (tag .path)) _ q)) in
+    let i = eqb-true (t .tag .instruction) (tag .instruction) (and-true-right (eqb (t .tag .iteration) (tag .iteration)) _ (and-true-right (samePath (t .tag .path) (tag .path)) _ q)) in
     rw (p, i)
 
 pub see : (ts : List Token) (table : List ℕ) (t : Token) → Seen ts table → length table ≡ 512 → Seen (ts ++ t ∷ []) (set table (entryOf (t .tag) (t .port)) 1)

@@ -1,5 +1,6 @@
 // Refusals 6, 8 and 9: the inputs.
 use check_fields::arc;
+use record::tag;
 use record::tag::Tag;
 use record::token;
 use record::token::Token;
@@ -20,8 +21,9 @@ fn is_input(s: &[u8]) -> bool
     requires { ⌜ tokenWidth ≤ length (now s) ⌝ }
     ensures { λ r. ⌜ r ≡ isInput (now (s .entry)) ⌝ }
 {
-    let root = Tag::root(0);
-    number::u64_at(s, 0) == root.path && (s[8] == root.iteration && number::u32_at(s, 16) == 0)
+    let tag = tag::decode(s);
+    let path = tag.path;
+    path.is_root() && (tag.iteration == 0 && number::u32_at(s, token::STATE) == 0)
 }
 
 // 6, of the record that s starts with.
@@ -29,7 +31,7 @@ fn good(graph: &[u8], s: &[u8]) -> bool
     requires { ⌜ tokenWidth ≤ length (now s) ⌝ }
     ensures { λ r. ⌜ r ≡ goodInput (graphOf (now (graph .entry))) (now (s .entry)) ⌝ }
 {
-    is_input(s) && s[9] < arc::operands_at(graph, number::u16_at(s, 10))
+    is_input(s) && s[token::PORT] < arc::operands_at(graph, number::u16_at(s, token::INSTRUCTION))
 }
 
 // 6, the inputs in turn.

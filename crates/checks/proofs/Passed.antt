@@ -12,12 +12,14 @@ use borrow.Author.Tests.{eqb-true, leb-true, ltb-true, ltb-false, not-true}
 use Rattle.record.specs.declared.instruction.Destination.{Destination}
 use Rattle.record.specs.declared.instruction.Instruction.{Instruction}
 use Rattle.record.specs.GraphRecords.{decode, isGraphLength, graphOf, destinations, operandsOf}
-use Rattle.number.specs.Number.{byteAt, number16, number32, number64}
+use Rattle.number.specs.Number.{byteAt, number32}
 use Rattle.buffer.specs.Rows.{whole, allRows}
-use Rattle.record.specs.TokensAndTags.{isInput}
+use Rattle.record.specs.Paths.{rootPath, isRoot}
+use Rattle.record.specs.TokensAndTags.{pathIn, tagIn, portIn, isInput}
 use Rattle.buffer.proofs.Tables.{length-rows, getD-rows}
 use Rattle.record.specs.TokensAndTags as Tokens
-use Rattle.record.specs.Widths.{tokenWidth, cellWidth, graphWidth, pickWidth}
+use Rattle.record.specs.Widths.{tokenWidth, stateOffset, cellWidth, graphWidth, pickWidth}
+use Rattle.record.proofs.Paths.{root-words}
 use Rattle.rules.specs.declared.answer.Refusal.the-variants.{GraphLength, BadInput, SecondToken}
 use Rattle.rules.specs.declared.answer.Checked.the-variants.{Passed}
 use Rattle.rules.specs.Check.{demand, all, instructionAt, operandsAt, fanOutAllowed, unusedAreZero, goodArc, within, goodSite, checkRecord, checkGraph, checkStores, goodInput, secondInput, checkInputs, check}
@@ -120,26 +122,26 @@ passed-stores inputs picks ledger cells e =
 
 -- an input record that passed
 pub record GoodInput (g : List Instruction) (l : List ℕ) : Type 0 where
-  pub path : number64 l 0 ≡ 0
-  pub iteration : byteAt l 8 ≡ 0
-  pub state : byteAt l 16 ≡ 0
-  pub zeros : (byteAt l 17 ≡ 0) × (byteAt l 18 ≡ 0) × (byteAt l 19 ≡ 0)
-  pub instruction : number16 l 10 < length g
-  pub port : byteAt l 9 < operandsAt g (number16 l 10)
+  pub path : pathIn l ≡ rootPath
+  pub iteration : tagIn l .iteration ≡ 0
+  pub state : byteAt l stateOffset ≡ 0
+  pub zeros : (byteAt l 25 ≡ 0) × (byteAt l 26 ≡ 0) × (byteAt l 27 ≡ 0)
+  pub instruction : tagIn l .instruction < length g
+  pub port : portIn l < operandsAt g (tagIn l .instruction)
 
 pub passed-input : (g : List Instruction) (l : List ℕ) → goodInput g l ≡ true → GoodInput g l
 unfolding goodInput isInput
 passed-input g l e =
     let a = and-true-left (isInput l) _ e in
-    let b = and-true-right (eqb (number64 l 0) 0) _ a in
-    let z = eqb-true (number32 l 16) 0 (and-true-right (eqb (byteAt l 8) 0) _ b) in
-    let p = ltb-true (byteAt l 9) (operandsAt g (number16 l 10)) (and-true-right (isInput l) _ e) in
+    let b = and-true-right (isRoot (pathIn l)) _ a in
+    let z = eqb-true (number32 l stateOffset) 0 (and-true-right (eqb (tagIn l .iteration) 0) _ b) in
+    let p = ltb-true (portIn l) (operandsAt g (tagIn l .instruction)) (and-true-right (isInput l) _ e) in
     record {
-      path = eqb-true (number64 l 0) 0 (and-true-left (eqb (number64 l 0) 0) _ a);
-      iteration = eqb-true (byteAt l 8) 0 (and-true-left (eqb (byteAt l 8) 0) _ b);
+      path = root-words (pathIn l) (and-true-left (isRoot (pathIn l)) _ a);
+      iteration = eqb-true (tagIn l .iteration) 0 (and-true-left (eqb (tagIn l .iteration) 0) _ b);
       state = omega arith;
       zeros = (omega arith, omega arith, omega arith);
-      instruction = inside g (number16 l 10) (byteAt l 9) p;
+      instruction = inside g (tagIn l .instruction) (portIn l) p;
       port = p;
     }
 

@@ -12,7 +12,7 @@ use Rattle.record.specs.declared.token.Token.{Token}
 use Rattle.record.specs.declared.cell.Cell.{Cell}
 use Rattle.record.specs.declared.instruction.Instruction.{Instruction}
 use Rattle.record.specs.TokensAndTags.{tokens, tokenAt, contentOf, decode}
-use Rattle.record.specs.Widths.{tokenWidth}
+use Rattle.record.specs.Widths.{tokenWidth, stateOffset, valueOffset}
 use Rattle.buffer.proofs.Tables.{length-rows, getD-rows}
 use Rattle.machine.specs.Machine.{Machine, StateOf, Activity, budgetSpent, isProper, allProper, ending, enabled, Choice, runBy, end}
 use Rattle.machine.proofs.Runs.{runEmpty, runZero}
@@ -50,10 +50,10 @@ spent-content : (n bits state : ℕ) → state ≡ 1 → isProper n (contentHeld
 unfolding contentOf
 spent-content n bits state e = rw e
 
-pub proper-spent : (tables ledger : List ℕ) (i : ℕ) → getD ledger (i * tokenWidth + 16) 0 ≡ 1 → properBy tables (tokenAt ledger i) ≡ true
+pub proper-spent : (tables ledger : List ℕ) (i : ℕ) → getD ledger (i * tokenWidth + stateOffset) 0 ≡ 1 → properBy tables (tokenAt ledger i) ≡ true
 unfolding decode
 proper-spent tables ledger i e =
-    spent-content (arityOf tables (tokenAt ledger i .tag)) (number32 (drop (i * tokenWidth) ledger) 12) (byteAt (drop (i * tokenWidth) ledger) 16) (rw (getD-drop (i * tokenWidth) ledger 16 0) e)
+    spent-content (arityOf tables (tokenAt ledger i .tag)) (number32 (drop (i * tokenWidth) ledger) valueOffset) (byteAt (drop (i * tokenWidth) ledger) stateOffset) (rw (getD-drop (i * tokenWidth) ledger stateOffset 0) e)
 
 and-false : (a : Bool) → (a && false) ≡ false
 and-false true = refl

@@ -101,7 +101,7 @@ fn say_buffer(word: &[u8], left: &[u8], lent: &[u8], from: usize)
 
 // The lines of an answer, records of the ledger and cells.
 fn say_run(answer: Answer, records: &[u8], cells: &[u8]) {
-    let mut out = [0u8; 161866];
+    let mut out = [0u8; 200778];
     match text::print(answer, records, cells, &mut out) {
         Printed::Done(n) => say(&out[..n]),
         Printed::TooSmall => say(b"no room\n"),

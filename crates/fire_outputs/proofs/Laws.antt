@@ -26,7 +26,7 @@ use Rattle.record.proofs.cell.Cell.{the-type}
 use Rattle.fire_effect.proofs.operate.Action as Actions
 use Rattle.buffer.proofs.Tables.{length-joined, put-joined, length-rows, getD-rows}
 use Rattle.record.proofs.Records.{length-token, length-cell, cells-put}
-use Rattle.record.specs.Widths.{tokenWidth, cellWidth}
+use Rattle.record.specs.Widths.{tokenWidth, cellWidth, stateOffset}
 use Rattle.store_chains.specs.Search.{firstFrom, Free}
 use Rattle.store_chains.specs.Deferred.{LowCell, woken}
 use Rattle.store_chains.proofs.Search.{first-set, first-map, first-none-added}
@@ -124,12 +124,12 @@ module _ {tables links flags l : List ℕ} {used : ℕ} (m : Matching tables lin
       → Matching tables links flags′ l′ used
       → Kept tables links flags′ l′ used (spentAt i j (tokens used l)) l
   kept-spent {i} {j} o put e n =
-      let m = set l (i * tokenWidth + 16) 1 in
+      let m = set l (i * tokenWidth + stateOffset) 1 in
       record {
         matching = n;
         held = e ∙ spent-both used i j l (o .firstWithin) (o .secondWithin);
-        size = rw put (length-set m (j * tokenWidth + 16) 1 ∙ length-set l (i * tokenWidth + 16) 1);
-        rest = rw put (drop-set-lt (used * tokenWidth) m (j * tokenWidth + 16) 1 (omega (arith, o .secondWithin)) ∙ drop-set-lt (used * tokenWidth) l (i * tokenWidth + 16) 1 (omega (arith, o .firstWithin)));
+        size = rw put (length-set m (j * tokenWidth + stateOffset) 1 ∙ length-set l (i * tokenWidth + stateOffset) 1);
+        rest = rw put (drop-set-lt (used * tokenWidth) m (j * tokenWidth + stateOffset) 1 (omega (arith, o .secondWithin)) ∙ drop-set-lt (used * tokenWidth) l (i * tokenWidth + stateOffset) 1 (omega (arith, o .firstWithin)));
       }
 
   -- a token arrives

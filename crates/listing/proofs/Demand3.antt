@@ -135,7 +135,7 @@ module _ (x y : Result) {r q : Answer} {l l′ c c′ m m′ d d′ : List ℕ} 
       let uy : used other ≡ joined encode us = rw (ranY .answered, ranY .ledgerLeft) (used-bytes y m) in
       let firings : r .firings ≡ q .firings = rw (ranX .answered, ranY .answered) (same .firings) in
       let tokens : r .tokens ≡ q .tokens = rw (ranX .answered, ranY .answered) (same .tokens) in
-      let apart = places-differ ts (once-apart ts (same .eachOnce)) in
+      let apart = places-differ ts fits (once-apart ts (same .eachOnce)) in
       record {
         answers = λ i. record { outcome = outcomes i; firings = firings i; tokens = tokens i };
         cells = ranX .cellsLeft ∙ cell-bytes x cx c (cellsX .0) (cellsX .1) ∙ ap (joined Cells.encode) (same .cells) ∙ sym (ranY .cellsLeft ∙ cell-bytes y cy d (cellsY .0) (cellsY .1));

@@ -41,7 +41,7 @@ pub record PrintedRun (graph inputs picks : List ℕ) (r : Printed) (out out′ 
 
 -- an output of so many bytes has room for every text; it is proved in proofs/Room
 abbrev pub mostBytes : ℕ
-mostBytes = 161866
+mostBytes = 200778
 
 abbrev pub EveryTextFits : Type 0
 EveryTextFits = (graph inputs picks : List ℕ) → Bytes graph → Bytes inputs → length (printedRun graph inputs picks) ≤ mostBytes

@@ -8,7 +8,9 @@ use native.Mathlib.Nat.{pow-suc, pow-le-pow-right}
 use borrow.Author.Tests.{ne-eqb, lt-ltb, le-ltb}
 use lib.ListN.{length}
 use Rattle.buffer.specs.Rows.{All}
-use Rattle.record.specs.Calls.{mostLevels, entered, enterOf, leaveOf, Call, CallFits, pathOf, CallLaws}
+use Rattle.record.specs.Paths.{pathNumber, pathWords, isRoot}
+use Rattle.record.specs.Calls.{entered, enterWithin, leaveOf, Call, CallFits, pathOf, CallLaws}
+use Rattle.record.proofs.Paths.{number-words, words-number}
 use Rattle.record.specs.declared.tag.Tag.{Tag}
 use Rattle.record.specs.declared.tag.Entered.the-variants.{In, TooDeep}
 use Rattle.record.specs.declared.tag.Left.the-variants.{To}
@@ -24,11 +26,19 @@ parts : (path site iteration : ℕ) → site < 256 → iteration < 256 → SiteP
 parts path site iteration s i = record { back-site = omega arith; back-path = omega arith; back-iteration = omega arith }
 
 -- leave inverts enter: site, iteration and parent come back
-pub leave-entered : (k : Tag) (site : ℕ) → k .iteration < 256 → 0 < site → site < 256 → leaveOf (entered k site) ≡ To site k
-unfolding leaveOf
-leave-entered k site low some small =
-    let p = parts (k .path) site (k .iteration) small low in
-    rw (ne-eqb (entered k site .path) 0 (λ e. omega arith), p .back-site, p .back-path, p .back-iteration)
+pub leave-entered : (k : Tag) (site : ℕ) → k .path .low < 2 ^ 64 → k .iteration < 256 → 0 < site → site < 256 → leaveOf (entered k site) ≡ To site k
+unfolding leaveOf isRoot
+leave-entered k site word low some small =
+    let path = pathNumber (k .path) in
+    let p = parts path site (k .iteration) small low in
+    rw (
+      number-words (path * 65536 + site * 256 + k .iteration),
+      ne-eqb (path * 65536 + site * 256 + k .iteration) 0 (λ e. omega arith),
+      p .back-site,
+      p .back-path,
+      p .back-iteration,
+      words-number (k .path) word,
+    )
 
 -- ---- calls within calls
 
@@ -62,32 +72,44 @@ pub at-least : (c : Call) (cs : List Call) → All CallFits (c ∷ cs) → 65536
 at-least c [] f = omega (arith, f .0 .some)
 at-least c (d ∷ ds) f = rw (pow-suc 65536 (length ds)) (omega (arith, at-least d ds (f .1)))
 
--- ENTER goes in from fewer levels than the most, and from no others
-pub enters : (k : Tag) (site : ℕ) (cs : List Call) → All CallFits cs → k .path ≡ pathOf cs → length cs < mostLevels → enterOf k site ≡ In (entered k site)
-unfolding enterOf
-enters k site cs f e h =
-    let powers : 65536 ^ length cs ≤ 65536 ^ (mostLevels - 1) = pow-le-pow-right {n = 65536} (omega arith) {i = length cs} {j = mostLevels - 1} (omega arith) in
-    rw (lt-ltb (k .path) (65536 ^ (mostLevels - 1)) (omega (arith, below cs f)))
+-- where there may be so many levels, ENTER goes in from fewer, and from no others
+pub enters : (levels : ℕ) (k : Tag) (site : ℕ) (cs : List Call) → All CallFits cs → pathNumber (k .path) ≡ pathOf cs → length cs < levels
+    → enterWithin levels k site ≡ In (entered k site)
+unfolding enterWithin
+enters levels k site cs f e h =
+    let powers : 65536 ^ length cs ≤ 65536 ^ (levels - 1) = pow-le-pow-right {n = 65536} (omega arith) {i = length cs} {j = levels - 1} (omega arith) in
+    rw (lt-ltb (pathNumber (k .path)) (65536 ^ (levels - 1)) (omega (arith, below cs f)))
 
-pub too-deep : (k : Tag) (site : ℕ) (cs : List Call) → All CallFits cs → k .path ≡ pathOf cs → mostLevels ≤ length cs → enterOf k site ≡ TooDeep
-unfolding enterOf
-too-deep k site [] f e h = absurd (omega arith)
-too-deep k site (c ∷ cs) f e h =
-    let powers : 65536 ^ (mostLevels - 1) ≤ 65536 ^ length cs = pow-le-pow-right {n = 65536} (omega arith) {i = mostLevels - 1} {j = length cs} (omega arith) in
-    rw (le-ltb (k .path) (65536 ^ (mostLevels - 1)) (omega (arith, at-least c cs f)))
+pub too-deep : (levels : ℕ) (k : Tag) (site : ℕ) (cs : List Call) → All CallFits cs → pathNumber (k .path) ≡ pathOf cs → 0 < levels → levels ≤ length cs
+    → enterWithin levels k site ≡ TooDeep
+unfolding enterWithin
+too-deep levels k site [] f e s h = absurd (omega arith)
+too-deep levels k site (c ∷ cs) f e s h =
+    let powers : 65536 ^ (levels - 1) ≤ 65536 ^ length cs = pow-le-pow-right {n = 65536} (omega arith) {i = levels - 1} {j = length cs} (omega arith) in
+    rw (le-ltb (pathNumber (k .path)) (65536 ^ (levels - 1)) (omega (arith, at-least c cs f)))
 
 -- where the calls of a path are cs, those of the path that ENTER gives are one more
-pub entered-path : (k : Tag) (site : ℕ) (cs : List Call) → k .path ≡ pathOf cs → entered k site .path ≡ pathOf (record { site = site; iteration = k .iteration } ∷ cs)
-entered-path k site cs e = ap (λ (n : ℕ). n * 65536 + site * 256 + k .iteration) e
+pub entered-path : (k : Tag) (site : ℕ) (cs : List Call) → pathNumber (k .path) ≡ pathOf cs
+    → pathNumber (entered k site .path) ≡ pathOf (record { site = site; iteration = k .iteration } ∷ cs)
+entered-path k site cs e = number-words (pathNumber (k .path) * 65536 + site * 256 + k .iteration) ∙ ap (λ (n : ℕ). n * 65536 + site * 256 + k .iteration) e
 
 -- and LEAVE gives back the newest of them, with the path of the others
-pub left-path : (k : Tag) (c : Call) (cs : List Call) → CallFits c → k .path ≡ pathOf (c ∷ cs)
-    → leaveOf k ≡ To (c .site) (record { path = pathOf cs; iteration = c .iteration; instruction = k .instruction })
-unfolding leaveOf
+pub left-path : (k : Tag) (c : Call) (cs : List Call) → CallFits c → pathNumber (k .path) ≡ pathOf (c ∷ cs)
+    → leaveOf k ≡ To (c .site) (record { path = pathWords (pathOf cs); iteration = c .iteration; instruction = k .instruction })
+unfolding leaveOf isRoot
 left-path k c cs f e =
-    rw e (leave-entered (record { path = pathOf cs; iteration = c .iteration; instruction = k .instruction }) (c .site) (f .iteration) (f .some) (f .site))
+    let p = parts (pathOf cs) (c .site) (c .iteration) (f .site) (f .iteration) in
+    rw (e, ne-eqb (pathOf (c ∷ cs)) 0 (λ z. some-path c cs f z), p .back-site, p .back-path, p .back-iteration)
 
 -- ---- the statement
 
 pub calls : CallLaws
-calls = record { leaveInverts = leave-entered; different = different; enters = enters; tooDeep = too-deep }
+calls = record {
+  leaveInverts = leave-entered;
+  different = different;
+  enteredPath = entered-path;
+  leftPath = left-path;
+  enters = enters;
+  tooDeep = too-deep;
+  within = below;
+}

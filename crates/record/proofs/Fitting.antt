@@ -9,11 +9,12 @@ use lib.Dec.{eqb}
 use mir.Syntax.{w32}
 use mir.Val.{SFits}
 use mir.Facts.{sfits-toZ}
-use Rattle.number.specs.Number.{Bytes, byteAt, number32, signedOf}
+use Rattle.number.specs.Number.{Bytes, byteAt, number32, number64, signedOf}
 use Rattle.buffer.specs.Rows.{rows, All}
 use Rattle.record.specs.GraphRecords as Graph
 use Rattle.record.specs.TokensAndTags as Tokens
-use Rattle.record.specs.TokensAndTags.{contentOf, ContentFits, TokenFits}
+use Rattle.record.specs.TokensAndTags.{pathIn, contentOf, ContentFits, TokenFits}
+use Rattle.record.specs.Paths.{PathFits}
 use Rattle.record.specs.Cells as Cells
 use Rattle.record.specs.Cells.{cellOf, CellFits}
 use Rattle.record.specs.declared.token.Content.the-variants.{Live, Spent, Deferred}
@@ -36,14 +37,20 @@ content-fits bits state h = go (eqb state 0) (eqb state 1)
     go false true = signed-fits bits h
     go false false = h
 
+number64-small : (l : List ℕ) → Bytes l → (k : ℕ) → number64 l k < 2 ^ 64
+number64-small l b k = omega (arith, number32-small l b k, number32-small l b (k + 4))
+
+pub path-fits : (l : List ℕ) → Bytes l → PathFits (pathIn l)
+path-fits l b = record { low = number64-small l b 0; high = number64-small l b 8 }
+
 pub token-fits : (l : List ℕ) → Bytes l → TokenFits (Tokens.decode l)
 unfolding Tokens.decode
 token-fits l b = record {
-  path = omega (arith, number32-small l b 0, number32-small l b 4);
-  iteration = b 8;
-  instruction = number16-small l b 10;
-  port = b 9;
-  content = content-fits (number32 l 12) (byteAt l 16) (number32-small l b 12);
+  path = path-fits l b;
+  iteration = b 16;
+  instruction = number16-small l b 18;
+  port = b 17;
+  content = content-fits (number32 l 20) (byteAt l 24) (number32-small l b 20);
 }
 
 pub cell-fits : (l : List ℕ) → Bytes l → CellFits (Cells.decode l)

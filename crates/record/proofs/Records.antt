@@ -8,7 +8,7 @@ use native.Mathlib.Nat.{suc-inj}
 use lib.ListN.{length, getD, take, set}
 use lib.Seq.{getD-take}
 use lib.Dec.{T, ltb, ltb→lt}
-use Rattle.number.specs.Number.{byteAt, number32, bitsOf, bytes32}
+use Rattle.number.specs.Number.{byteAt, number32, number64, bitsOf, bytes32, bytes64}
 use Rattle.buffer.specs.Rows.{putRow, joined, All}
 use Rattle.record.specs.GraphRecords as Graph
 use Rattle.record.specs.TokensAndTags as Tokens
@@ -87,8 +87,10 @@ pub token-back : (t : Token) (rest : List ℕ) → TokenFits t → Tokens.decode
 unfolding Tokens.encode Tokens.decode
 token-back t rest f =
     rw (
-      number64-bytes (t .tag .path) [],
-      fits64 _ (f .path),
+      number64-bytes (t .tag .path .low) [],
+      fits64 _ (f .path .low),
+      number64-bytes (t .tag .path .high) [],
+      fits64 _ (f .path .high),
       number16-bytes (t .tag .instruction) [],
       fits16 _ (f .instruction),
       number32-bytes (valueOf (t .content)) [],
@@ -114,10 +116,10 @@ unfolding Tokens.encode Tokens.decode
 token-bytes-back l p =
     let bytes = p .small in
     let z = p .zeros in
-    let path = bytes64-number l bytes 0 ∙ (λ i. bytes32-number l bytes 0 i ++ bytes32-number l bytes 4 i) in
-    let value = ap (λ (n : ℕ). bytes32 n) (value-back (number32 l 12) (byteAt l 16) (p .state) (number32-small l bytes 12)) ∙ bytes32-number l bytes 12 in
-    let state = state-back (number32 l 12) (byteAt l 16) (p .state) in
-    (λ i. path i ++ byteAt l 8 ∷ byteAt l 9 ∷ bytes16-number l bytes 10 i ++ value i ++ state i ∷ sym (z .0) i ∷ sym (z .1) i ∷ sym (z .2) i ∷ [])
+    let word : (k : ℕ) → bytes64 (number64 l k) ≡ _ = λ k. bytes64-number l bytes k ∙ (λ i. bytes32-number l bytes k i ++ bytes32-number l bytes (k + 4) i) in
+    let value = ap (λ (n : ℕ). bytes32 n) (value-back (number32 l 20) (byteAt l 24) (p .state) (number32-small l bytes 20)) ∙ bytes32-number l bytes 20 in
+    let state = state-back (number32 l 20) (byteAt l 24) (p .state) in
+    (λ i. word 0 i ++ word 8 i ++ byteAt l 16 ∷ byteAt l 17 ∷ bytes16-number l bytes 18 i ++ value i ++ state i ∷ sym (z .0) i ∷ sym (z .1) i ∷ sym (z .2) i ∷ [])
     ∙ elements tokenWidth l (p .size)
 
 -- ---- cells
@@ -173,6 +175,14 @@ module _ (l : List ℕ) where
         front tokenWidth l 14 tt,
         front tokenWidth l 15 tt,
         front tokenWidth l 16 tt,
+        front tokenWidth l 17 tt,
+        front tokenWidth l 18 tt,
+        front tokenWidth l 19 tt,
+        front tokenWidth l 20 tt,
+        front tokenWidth l 21 tt,
+        front tokenWidth l 22 tt,
+        front tokenWidth l 23 tt,
+        front tokenWidth l 24 tt,
       )
 
   cell-front : Cells.decode (take 8 l) ≡ Cells.decode l

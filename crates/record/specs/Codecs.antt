@@ -17,8 +17,8 @@ use Rattle.record.specs.Widths.{tokenWidth, cellWidth, graphWidth}
 pub record ProperToken (l : List ℕ) : Type 0 where
   pub size : length l ≡ tokenWidth
   pub small : (k : ℕ) → byteAt l k < 256
-  pub state : byteAt l 16 < 3
-  pub zeros : (byteAt l 17 ≡ 0) × (byteAt l 18 ≡ 0) × (byteAt l 19 ≡ 0)
+  pub state : byteAt l 24 < 3
+  pub zeros : (byteAt l 25 ≡ 0) × (byteAt l 26 ≡ 0) × (byteAt l 27 ≡ 0)
 
 -- what a record may hold whose bytes are written back: a state of the three, zeros, and the value 0 until present
 pub record ProperCell (l : List ℕ) : Type 0 where

@@ -1,5 +1,6 @@
 -- 01, "Graph records", "Tokens and tags", and of "Firing" the cells and the tags of calls; and the records of 02's logs. Assumes nothing.
 pub mod Widths
+pub mod Paths
 pub mod GraphRecords
 pub mod TokensAndTags
 pub mod Calls

@@ -8,32 +8,41 @@ use mir.Syntax.{w32}
 use mir.Val.{SFits}
 use Rattle.number.specs.Number.{byteAt, number16, number32, number64, signedOf, bitsOf, bytes16, bytes32, bytes64}
 use Rattle.buffer.specs.Rows.{rows, writtenOver}
+use Rattle.record.specs.declared.tag.Path.{Path}
 use Rattle.record.specs.declared.tag.Tag.{Tag}
 use Rattle.record.specs.declared.token.Token.{Token}
 use Rattle.record.specs.declared.token.Content.{Content}
 use Rattle.record.specs.declared.token.Content.the-variants.{Live, Spent, Deferred}
-use Rattle.record.specs.Widths.{tokenWidth}
+use Rattle.record.specs.Paths.{rootPath, isRoot, samePath, PathFits}
+use Rattle.record.specs.Widths.{tokenWidth, valueOffset, stateOffset}
 
--- ---- "A token record has 20 bytes: path (0-7), iteration (8), port (9), instruction (10-11), signed value (12-15), state (16), zeros (17-19).
--- States: 0 live, 1 spent, 2 deferred."
+-- ---- "A token record has [..]: path [..], iteration [..], port [..], instruction [..], signed value [..], state [..], zeros [..]. States: 0 live, 1 spent,
+-- 2 deferred." With R-8 of 02, "later fields moved by 8": path 0-15, iteration 16, port 17, instruction 18-19, value 20-23, state 24, zeros 25-27.
 
 -- the content of a value and a state; a state past 2, which no rule writes, reads as deferred
 unfoldable pub contentOf : (bits state : ℕ) → Content
 contentOf bits state = cond (eqb state 0) (Live (signedOf bits)) (cond (eqb state 1) (Spent (signedOf bits)) (Deferred bits))
 
--- the tag of the record that l starts with, and its bytes with that of a port: a log's records have them too
-abbrev pub tagIn : List ℕ → Tag
-tagIn l = record { path = number64 l 0; iteration = byteAt l 8; instruction = number16 l 10 }
+-- the path of the record that l starts with: the newest four levels first
+abbrev pub pathIn : List ℕ → Path
+pathIn l = record { low = number64 l 0; high = number64 l 8 }
 
-abbrev pub tagBytes : (path iteration port instruction : ℕ) → List ℕ
-tagBytes path iteration port instruction = bytes64 path ++ iteration ∷ port ∷ bytes16 instruction
+-- the tag and the port of the record that l starts with, and their bytes: a log's records have them too, 0 for the port
+abbrev pub tagIn : List ℕ → Tag
+tagIn l = record { path = pathIn l; iteration = byteAt l 16; instruction = number16 l 18 }
+
+abbrev pub portIn : List ℕ → ℕ
+portIn l = byteAt l 17
+
+abbrev pub tagBytes : (path : Path) → (iteration port instruction : ℕ) → List ℕ
+tagBytes path iteration port instruction = bytes64 (path .low) ++ bytes64 (path .high) ++ iteration ∷ port ∷ bytes16 instruction
 
 -- the token of the record that l starts with
 unfoldable pub decode : List ℕ → Token
 decode l = record {
   tag = tagIn l;
-  port = byteAt l 9;
-  content = contentOf (number32 l 12) (byteAt l 16);
+  port = portIn l;
+  content = contentOf (number32 l valueOffset) (byteAt l stateOffset);
 }
 
 abbrev pub stateOf : Content → ℕ
@@ -46,7 +55,7 @@ valueOf (Live v) = bitsOf v
 valueOf (Spent v) = bitsOf v
 valueOf (Deferred cell) = cell
 
-abbrev pub tokenBytes : (path iteration port instruction value state : ℕ) → List ℕ
+abbrev pub tokenBytes : (path : Path) → (iteration port instruction value state : ℕ) → List ℕ
 tokenBytes path iteration port instruction value state =
     tagBytes path iteration port instruction ++ bytes32 value ++ state ∷ 0 ∷ 0 ∷ 0 ∷ []
 
@@ -60,7 +69,7 @@ ContentFits (Spent v) = SFits w32 v
 ContentFits (Deferred cell) = cell < 2 ^ 32
 
 pub record TokenFits (t : Token) : Type 0 where
-  pub path : t .tag .path < 2 ^ 64
+  pub path : PathFits (t .tag .path)
   pub iteration : t .tag .iteration < 2 ^ 8
   pub instruction : t .tag .instruction < 2 ^ 16
   pub port : t .port < 2 ^ 8
@@ -69,20 +78,20 @@ pub record TokenFits (t : Token) : Type 0 where
 -- ---- "A tag is path, iteration and instruction; the root tag has path 0 and iteration 0."
 
 abbrev pub rootOf : (instruction : ℕ) → Tag
-rootOf i = record { path = 0; iteration = 0; instruction = i }
+rootOf i = record { path = rootPath; iteration = 0; instruction = i }
 
 -- the same path and iteration at another instruction
 abbrev pub toOf : Tag → (instruction : ℕ) → Tag
 toOf k i = record { path = k .path; iteration = k .iteration; instruction = i }
 
 unfoldable pub sameTag : Tag → Tag → Bool
-sameTag a b = eqb (a .path) (b .path) && (eqb (a .iteration) (b .iteration) && eqb (a .instruction) (b .instruction))
+sameTag a b = samePath (a .path) (b .path) && (eqb (a .iteration) (b .iteration) && eqb (a .instruction) (b .instruction))
 
 -- ---- "Input tokens carry the root path and iteration, and state 0."
 
 -- of the record that l starts with; its zeros are zero
 unfoldable pub isInput : List ℕ → Bool
-isInput l = eqb (number64 l 0) 0 && (eqb (byteAt l 8) 0 && eqb (number32 l 16) 0)
+isInput l = isRoot (pathIn l) && (eqb (byteAt l 16) 0 && eqb (number32 l stateOffset) 0)
 
 -- ---- "In a whole run a tag receives at most one token on each port."
 
@@ -90,8 +99,8 @@ isInput l = eqb (number64 l 0) 0 && (eqb (byteAt l 8) 0 && eqb (number32 l 16) 0
 unfoldable pub standsAt : Tag → (port : ℕ) → Token → Bool
 standsAt tag port t = eqb (t .port) port && sameTag (t .tag) tag
 
--- ---- "The ledger takes every token in order of arrival, up to 2,048 records, and never drops one. Its capacity is the lent length divided by 20.
--- Here and in every other buffer, bytes past what is written stay as lent."
+-- ---- "The ledger takes every token in order of arrival, up to 2,048 records, and never drops one. Its capacity is the lent length divided by" 28.
+-- "Here and in every other buffer, bytes past what is written stay as lent."
 
 abbrev pub mostTokens : ℕ
 mostTokens = 2048

@@ -1,13 +1,20 @@
--- The widths of the records that a user lends, in bytes: each is one number, here, and `WIDTH` of its module in the code. Assumes nothing.
+-- The widths of the records that a user lends, in bytes: each is one number, here, and `WIDTH` of its module in the code. So are the offsets that more than a codec uses. Assumes nothing.
 use Prim.Native.Nat.{ℕ}
 
 -- 01, "Graph records": "records of 16 bytes"
 abbrev pub graphWidth : ℕ
 graphWidth = 16
 
--- 01, "Tokens and tags": "A token record has 20 bytes"
+-- 01, "Tokens and tags": a token record, which R-8 of 02 widened: "every token record to 28 bytes"
 abbrev pub tokenWidth : ℕ
-tokenWidth = 20
+tokenWidth = 28
+
+-- where its value and its state stand
+abbrev pub valueOffset : ℕ
+valueOffset = 20
+
+abbrev pub stateOffset : ℕ
+stateOffset = 24
 
 -- 01, "Firing": "A cell record has 8 bytes"
 abbrev pub cellWidth : ℕ
@@ -17,6 +24,6 @@ cellWidth = 8
 abbrev pub pickWidth : ℕ
 pickWidth = 2
 
--- 02, R-7: "one 12-byte record a firing"
+-- 02, R-7, a record a firing, and R-8: "Log records grow to 20 bytes likewise"
 abbrev pub logWidth : ℕ
-logWidth = 12
+logWidth = 20

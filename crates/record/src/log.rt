@@ -1,4 +1,4 @@
-// Log records of 12 bytes: the tag of an activity that fired, with a zero byte where a token record has its port.
+// Log records of 20 bytes: the tag of an activity that fired, with a zero byte where a token record has its port.
 use crate::tag;
 use crate::tag::Tag;
 use crate::token;
@@ -12,9 +12,9 @@ ghost use Rattle.record.specs.Logs.{encode, nameOf, tagNamed};
 ghost use Rattle.record.specs.Widths.{logWidth};
 
 // The bytes of a log record, and where its zero byte stands.
-pub const WIDTH: usize = 12;
+pub const WIDTH: usize = 20;
 
-const ZERO: usize = 9;
+const ZERO: usize = 17;
 
 // What a record names.
 pub enum Named {

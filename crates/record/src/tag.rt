@@ -2,13 +2,20 @@
 ghost use mathlib.Core.Path.{_≡_};
 ghost use Prim.Native.Nat.{_≤_};
 ghost use lib.ListN.{length};
+ghost use Rattle.record.specs.Paths.{isRoot, samePath};
 ghost use Rattle.record.specs.TokensAndTags.{tagIn, rootOf, toOf, sameTag};
 ghost use Rattle.record.specs.Widths.{logWidth};
 ghost use Rattle.record.specs.Calls.{enterOf, leaveOf, nextOf};
 
+// 02, R-8: a path is a number of 128 bits, 16 to a level, the newest four levels in its lower word.
+pub struct Path {
+    pub low: u64,
+    pub high: u64,
+}
+
 // 01, "Tokens and tags": a tag is path, iteration and instruction.
 pub struct Tag {
-    pub path: u64,
+    pub path: Path,
     pub iteration: u8,
     pub instruction: u16,
 }
@@ -28,8 +35,8 @@ pub enum Next {
     Last,
 }
 
-// A path at or above this one has as many levels as there may be: 65,536 to the number of levels
-// less 1.
+// A path whose higher word is this or above has as many levels as there may be: 65,536 to the number
+// of levels in that word less 1. The newest of the levels in a lower word stand below it too.
 const DEEPEST: u64 = 281474976710656;
 
 // The tag of the record, of a token or of a log, that s starts with.
@@ -37,17 +44,37 @@ pub fn decode(s: &[u8]) -> Tag
     requires { ⌜ logWidth ≤ length (now s) ⌝ }
     ensures { λ r. ⌜ r ≡ tagIn (now (s .entry)) ⌝ }
 {
+    let path = Path {
+        low: number::u64_at(s, 0),
+        high: number::u64_at(s, 8),
+    };
     Tag {
-        path: number::u64_at(s, 0),
-        iteration: s[8],
-        instruction: number::u16_at(s, 10),
+        path,
+        iteration: s[16],
+        instruction: number::u16_at(s, 18),
+    }
+}
+
+impl Path {
+    pub const ROOT: Path = Path { low: 0, high: 0 };
+
+    pub fn is_root(self) -> bool
+        ensures { λ r. ⌜ r ≡ isRoot self ⌝ }
+    {
+        self.low == 0 && self.high == 0
+    }
+
+    pub fn same(self, other: Path) -> bool
+        ensures { λ r. ⌜ r ≡ samePath self other ⌝ }
+    {
+        self.low == other.low && self.high == other.high
     }
 }
 
 impl Tag {
     // The root tag of instruction 0.
     pub const ROOT: Tag = Tag {
-        path: 0,
+        path: Path::ROOT,
         iteration: 0,
         instruction: 0,
     };
@@ -64,8 +91,9 @@ impl Tag {
     pub fn to(self, instruction: u16) -> Self
         ensures { λ r. ⌜ r ≡ toOf self instruction ⌝ }
     {
+        let path = self.path;
         Tag {
-            path: self.path,
+            path,
             iteration: self.iteration,
             instruction,
         }
@@ -75,10 +103,14 @@ impl Tag {
     pub fn enter(self, site: u8) -> Entered
         ensures { λ r. ⌜ r ≡ enterOf self site ⌝ }
     {
-        let path = self.path;
-        if path < DEEPEST {
+        let low = self.path.low;
+        let high = self.path.high;
+        if high < DEEPEST {
             Entered::In(Tag {
-                path: path * 65536 + (site as u64) * 256 + (self.iteration as u64),
+                path: Path {
+                    low: low % DEEPEST * 65536 + (site as u64) * 256 + (self.iteration as u64),
+                    high: high * 65536 + low / DEEPEST,
+                },
                 iteration: 0,
                 instruction: self.instruction,
             })
@@ -92,14 +124,19 @@ impl Tag {
         ensures { λ r. ⌜ r ≡ leaveOf self ⌝ }
     {
         let path = self.path;
-        if path == 0 {
+        if path.is_root() {
             Left::NoCaller
         } else {
+            let low = path.low;
+            let high = path.high;
             Left::To {
-                site: (path / 256 % 256) as u8,
+                site: (low / 256 % 256) as u8,
                 tag: Tag {
-                    path: path / 65536,
-                    iteration: (path % 256) as u8,
+                    path: Path {
+                        low: low / 65536 + high % 65536 * DEEPEST,
+                        high: high / 65536,
+                    },
+                    iteration: (low % 256) as u8,
                     instruction: self.instruction,
                 },
             }
@@ -110,10 +147,11 @@ impl Tag {
     pub fn next(self) -> Next
         ensures { λ r. ⌜ r ≡ nextOf self ⌝ }
     {
+        let path = self.path;
         let iteration = self.iteration;
         if iteration < 255 {
             Next::Is(Tag {
-                path: self.path,
+                path,
                 iteration: iteration + 1,
                 instruction: self.instruction,
             })
@@ -126,7 +164,8 @@ impl Tag {
     pub fn same(self, other: Tag) -> bool
         ensures { λ r. ⌜ r ≡ sameTag self other ⌝ }
     {
-        self.path == other.path
+        let path = self.path;
+        path.same(other.path)
             && (self.iteration == other.iteration && self.instruction == other.instruction)
     }
 }

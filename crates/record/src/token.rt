@@ -1,5 +1,6 @@
-// Token records of 20 bytes: a token read from its bytes, and written as bytes.
+// Token records of 28 bytes: a token read from its bytes, and written as bytes.
 use crate::tag;
+use crate::tag::Path;
 use crate::tag::Tag;
 ghost use mathlib.Core.Path.{_≡_};
 ghost use Prim.Native.Nat.{_/_, _≤_, _<_};
@@ -9,10 +10,14 @@ ghost use Rattle.record.specs.TokensAndTags as Tokens;
 ghost use Rattle.record.specs.TokensAndTags.{contentOf, stateOf, valueOf, tokenBytes, tokenAt, standsAt, ContentFits, TokenFits};
 ghost use Rattle.record.specs.Widths.{tokenWidth};
 
-// The bytes of a token record, and where its state stands.
-pub const WIDTH: usize = 20;
+// The bytes of a token record, and where its port, its instruction and its state stand.
+pub const WIDTH: usize = 28;
 
-pub const STATE: usize = 16;
+pub const PORT: usize = 17;
+
+pub const INSTRUCTION: usize = 18;
+
+pub const STATE: usize = 24;
 
 // The value of a live or a spent token; of a deferred one the number of the cell that it waits for.
 pub enum Content {
@@ -46,8 +51,8 @@ pub fn decode(s: &[u8]) -> Token
     let tag = tag::decode(s);
     Token {
         tag,
-        port: s[9],
-        content: content_of(number::u32_at(s, 12), s[16]),
+        port: s[PORT],
+        content: content_of(number::u32_at(s, 20), s[STATE]),
     }
 }
 
@@ -73,7 +78,7 @@ fn value_of(content: Content) -> u32
 
 // The bytes of a record's fields.
 fn bytes_of(
-    path: u64,
+    path: Path,
     iteration: u8,
     port: u8,
     instruction: u16,
@@ -82,16 +87,27 @@ fn bytes_of(
 ) -> [u8; WIDTH]
     ensures { λ r. ⌜ r ≡ tokenBytes path iteration port instruction value state ⌝ }
 {
-    let high = path / 4294967296;
+    let a = path.low;
+    let b = a / 4294967296;
+    let c = path.high;
+    let d = c / 4294967296;
     [
-        (path % 256) as u8,
-        (path / 256 % 256) as u8,
-        (path / 65536 % 256) as u8,
-        (path / 65536 / 256 % 256) as u8,
-        (high % 256) as u8,
-        (high / 256 % 256) as u8,
-        (high / 65536 % 256) as u8,
-        (high / 65536 / 256 % 256) as u8,
+        (a % 256) as u8,
+        (a / 256 % 256) as u8,
+        (a / 65536 % 256) as u8,
+        (a / 65536 / 256 % 256) as u8,
+        (b % 256) as u8,
+        (b / 256 % 256) as u8,
+        (b / 65536 % 256) as u8,
+        (b / 65536 / 256 % 256) as u8,
+        (c % 256) as u8,
+        (c / 256 % 256) as u8,
+        (c / 65536 % 256) as u8,
+        (c / 65536 / 256 % 256) as u8,
+        (d % 256) as u8,
+        (d / 256 % 256) as u8,
+        (d / 65536 % 256) as u8,
+        (d / 65536 / 256 % 256) as u8,
         iteration,
         port,
         (instruction % 256) as u8,
@@ -111,9 +127,10 @@ pub fn encode(t: Token) -> [u8; WIDTH]
     ensures { λ r. ⌜ (r ≡ Tokens.encode t) × TokenFits t ⌝ }
 {
     let tag = t.tag;
+    let path = tag.path;
     let content = t.content;
     bytes_of(
-        tag.path,
+        path,
         tag.iteration,
         t.port,
         tag.instruction,

@@ -8,6 +8,7 @@ use record::operation;
 use record::tag::Entered;
 use record::tag::Left;
 use record::tag::Next;
+use record::tag::Path;
 use record::tag::Tag;
 use record::token;
 use record::token::Content;
@@ -46,7 +47,9 @@ fn say_bytes(bytes: &[u8]) {
 }
 
 fn say_tag(tag: Tag) {
-    say_number(tag.path);
+    let path = tag.path;
+    say_number(path.high);
+    say_number(path.low);
     say_number(tag.iteration as u64);
     say_number(tag.instruction as u64);
 }
@@ -180,7 +183,10 @@ fn show_records() {
     show_tokens(Tag::root(0), 0);
     show_tokens(
         Tag {
-            path: 18446744073709551615,
+            path: Path {
+                low: 18446744073709551615,
+                high: 72623859790382856,
+            },
             iteration: 255,
             instruction: 65535,
         },
@@ -219,7 +225,7 @@ fn show_records() {
 
 fn show_calls() {
     let start = Tag {
-        path: 0,
+        path: Path::ROOT,
         iteration: 2,
         instruction: 7,
     };
@@ -227,17 +233,23 @@ fn show_calls() {
     let two = call(one, 255);
     let three = call(two, 1);
     let four = call(three, 128);
-    call(four, 1);
+    let five = call(four, 5);
+    let six = call(five, 6);
+    let seven = call(six, 7);
+    let eight = call(seven, 255);
+    call(eight, 1);
+    show_leave(eight);
+    show_leave(five);
     show_leave(four);
     show_leave(one);
     show_leave(start);
     show_next(Tag {
-        path: 9,
+        path: Path { low: 9, high: 8 },
         iteration: 254,
         instruction: 7,
     });
     show_next(Tag {
-        path: 9,
+        path: Path { low: 9, high: 8 },
         iteration: 255,
         instruction: 7,
     });

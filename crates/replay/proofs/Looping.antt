@@ -12,11 +12,10 @@ use lib.ListN.{length, drop, length-drop, drop-of-length-le}
 use lib.Seq.{drop-cons}
 use lib.IntN.{ℤ}
 use borrow.Author.Tests.{leb-true}
-use Rattle.number.specs.Number.{byteAt}
 use Rattle.buffer.proofs.Tables.{length-rows, getD-rows}
 use Rattle.record.specs.declared.tag.Tag.{Tag}
 use Rattle.record.specs.declared.instruction.Instruction.{Instruction}
-use Rattle.record.specs.TokensAndTags.{tokens, tagIn}
+use Rattle.record.specs.TokensAndTags.{tokens, tagIn, portIn}
 use Rattle.record.specs.Logs.{nameOf}
 use Rattle.record.specs.Widths.{tokenWidth, cellWidth, logWidth}
 use Rattle.machine.specs.Machine.{Machine, StateOf, Outcome, End, enabled, byPicks, runBy, end}
@@ -62,7 +61,7 @@ whole-name : (l : List ℕ) (τ : Tag) → nameOf l ≡ some τ → logWidth ≤
 unfolding nameOf
 whole-name l τ = go (leb logWidth (length l)) refl
   where
-    go : (b : Bool) → leb logWidth (length l) ≡ b → cond (b && eqb (byteAt l 9) 0) (some (tagIn l)) none ≡ some τ → logWidth ≤ length l
+    go : (b : Bool) → leb logWidth (length l) ≡ b → cond (b && eqb (portIn l) 0) (some (tagIn l)) none ≡ some τ → logWidth ≤ length l
     go true e q = leb-true logWidth (length l) e
     go false e q = let z : _≡_ {A = ℕ} 0 1 = cc in absurd (omega arith)
 

@@ -18,9 +18,11 @@ use Rattle.record.specs.declared.instruction.Destination.{Destination}
 use Rattle.record.specs.declared.instruction.Instruction.{Instruction}
 use Rattle.record.specs.declared.operation.Operation.the-variants.{Enter, Unknown}
 use Rattle.buffer.specs.Rows.{All}
+use Rattle.record.specs.Paths.{pathNumber, pathWords, isRoot}
 use Rattle.record.specs.Calls.{mostLevels, entered, leaveOf, Call, CallFits, pathOf}
 use Rattle.record.specs.GraphRecords.{operationOf, destinations, graphOf}
 use Rattle.record.specs.GraphRecords as Graph
+use Rattle.record.proofs.Paths.{number-words, root-number}
 use Rattle.record.proofs.Calls.{at-least, entered-path, left-path}
 use Rattle.arithmetic.proofs.Ranged.{eq-eqZ, eqZ-true}
 use Rattle.machine.specs.Machine.{Key, Content, live, spent, deferred, Token, Cell, absent, waiting, present, State, Machine, fire, fired}
@@ -77,7 +79,7 @@ module _ (g : List Instruction) where
           absurd (omega (arith, at-least c cs f))
 
   -- ENTER makes a call more, of its site
-  enter-path : (τ : Tag) (site : ℕ) → PathIn g (τ .path) → CallIn g (record { site = site; iteration = τ .iteration }) → τ .path < 65536 ^ (mostLevels - 1) → PathIn g (entered τ site .path)
+  enter-path : (τ : Tag) (site : ℕ) → PathIn g (pathNumber (τ .path)) → CallIn g (record { site = site; iteration = τ .iteration }) → pathNumber (τ .path) < 65536 ^ (mostLevels - 1) → PathIn g (pathNumber (entered τ site .path))
   enter-path τ site p c h = record {
     calls = record { site = site; iteration = τ .iteration } ∷ p .calls;
     each = (c, p .each);
@@ -87,26 +89,26 @@ module _ (g : List Instruction) where
 
   -- what LEAVE finds is the newest call
   record Found (site : ℕ) (caller : Tag) : Type 0 where
-    path : PathIn g (caller .path)
+    path : PathIn g (pathNumber (caller .path))
     low : caller .iteration < 256
     enter : HasEnter g site
 
-  found : (τ : Tag) (site : ℕ) (caller : Tag) → PathIn g (τ .path) → leaveOf τ ≡ To site caller → Found site caller
-  unfolding leaveOf
+  found : (τ : Tag) (site : ℕ) (caller : Tag) → PathIn g (pathNumber (τ .path)) → leaveOf τ ≡ To site caller → Found site caller
+  unfolding leaveOf isRoot
   found τ site caller p e = go (p .calls) (p .each) (p .levels) (p .made)
     where
-      no-caller : τ .path ≡ 0 → leaveOf τ ≡ NoCaller
+      no-caller : pathNumber (τ .path) ≡ 0 → leaveOf τ ≡ NoCaller
       no-caller h = rw h
 
-      go : (cs : List Call) → All (CallIn g) cs → length cs ≤ mostLevels → τ .path ≡ pathOf cs → Found site caller
+      go : (cs : List Call) → All (CallIn g) cs → length cs ≤ mostLevels → pathNumber (τ .path) ≡ pathOf cs → Found site caller
       go [] each levels made = let z : _≡_ {A = ℕ} 0 1 = cc (no-caller made, e) in absurd (omega arith)
       go (c ∷ cs) each levels made =
-          let parent : Tag = record { path = pathOf cs; iteration = c .iteration; instruction = τ .instruction } in
+          let parent : Tag = record { path = pathWords (pathOf cs); iteration = c .iteration; instruction = τ .instruction } in
           let f = left-path τ c cs (each .0 .fits) made in
           let sites : c .site ≡ site = cc (f, e) in
           let tags : parent ≡ caller = cc (f, e) in
           subst (λ (t : Tag). Found site t) tags
-          (record { path = record { calls = cs; each = each .1; levels = omega arith; made = refl }; low = each .0 .fits .iteration; enter = rw (← sites) (each .0 .enter) })
+          (record { path = record { calls = cs; each = each .1; levels = omega arith; made = number-words (pathOf cs) }; low = each .0 .fits .iteration; enter = rw (← sites) (each .0 .enter) })
 
 -- ---- of a graph that passed
 
@@ -159,7 +161,7 @@ module _ (graph : List ℕ) (passed : checkGraph graph ≡ Passed) where
 
   -- ENTER makes a call of the iteration, so that is a byte too
   abbrev Called : Key Tag → Type 0
-  Called k = PathIn g (k .tag .path) × (k .tag .iteration < 256)
+  Called k = PathIn g (pathNumber (k .tag .path)) × (k .tag .iteration < 256)
 
   abbrev Any : {A : Type 0} → A → Type 0
   Any x = Unit {0}
@@ -168,10 +170,10 @@ module _ (graph : List ℕ) (passed : checkGraph graph ≡ Passed) where
     abbrev M : Machine
     M = machineOf g capacity cells
 
-    under-all : (τ : Tag) → PathIn g (τ .path) × (τ .iteration < 256) → (ds : List Destination) → Each Called (map (keyUnder τ) ds)
+    under-all : (τ : Tag) → PathIn g (pathNumber (τ .path)) × (τ .iteration < 256) → (ds : List Destination) → Each Called (map (keyUnder τ) ds)
     under-all τ h ds = each-map (λ d. Unit {0}) Called (keyUnder τ) (λ d k. h) ds (each-all (λ d. Unit {0}) (λ d. tt) ds)
 
-    asked : (τ : Tag) → PathIn g (τ .path) → τ .iteration < 256 → Asked g capacity cells Called Any Any τ (instructionAt g (τ .instruction))
+    asked : (τ : Tag) → PathIn g (pathNumber (τ .path)) → τ .iteration < 256 → Asked g capacity cells Called Any Any τ (instructionAt g (τ .instruction))
     asked τ p low =
         let r = instructionAt g (τ .instruction) in
         record {
@@ -230,5 +232,5 @@ caller-found graph passed t h = found-known graph passed t h
 pub callers-known : CallersKnown
 callers-known graph inputs capacity cells passed accepted f o x r =
     let g = graphOf graph in
-    let first = start-keys g capacity cells (Called graph passed) (λ c. Unit {0}) inputs (λ t e l h. rw e (root-path g, omega arith)) accepted in
+    let first = start-keys g capacity cells (Called graph passed) (λ c. Unit {0}) inputs (λ t e l h. rw (e, root-number) (root-path g, omega arith)) accepted in
     known graph passed capacity cells (x .tokens) (reached-keeps (machineOf g capacity cells) (Called graph passed) (λ v. Unit {0}) (λ c. Unit {0}) (keeps graph passed capacity cells) _ first f o x r .tokens)

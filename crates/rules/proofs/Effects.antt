@@ -19,8 +19,9 @@ use Rattle.record.specs.declared.instruction.Instruction.{Instruction}
 use Rattle.record.specs.declared.operation.Arithmetic.{Arithmetic}
 use Rattle.record.specs.declared.operation.Operation.{Operation}
 use Rattle.record.specs.declared.operation.Operation.the-variants as Operations
+use Rattle.record.specs.Paths.{pathNumber}
 use Rattle.record.specs.TokensAndTags.{toOf}
-use Rattle.record.specs.Calls.{mostLevels, entered, nextOf, enterOf, leaveOf}
+use Rattle.record.specs.Calls.{mostLevels, entered, nextOf, enterWithin, enterOf, leaveOf}
 use Rattle.record.specs.GraphRecords.{inUse, operationOf}
 use Rattle.arithmetic.specs.declared.Computed.{Computed}
 use Rattle.arithmetic.specs.declared.Computed.the-variants.{Value, OutOfRange}
@@ -53,7 +54,7 @@ module _ (g : List Instruction) (capacity cells : ℕ) (P : Key Tag → Type 0) 
     pub all : Each P (allUnder τ r)
     pub sides : operationOf (r .code) ≡ Operations.Switch → P (keyUnder τ (r .first)) × P (keyUnder τ (r .second))
     pub next : operationOf (r .code) ≡ Operations.Next → τ .iteration < 255 → Each P (allUnder (later τ) r)
-    pub enter : operationOf (r .code) ≡ Operations.Enter → τ .path < 65536 ^ (mostLevels - 1) → P (keyUnder (entered τ (natAbs (r .constant))) (r .first))
+    pub enter : operationOf (r .code) ≡ Operations.Enter → pathNumber (τ .path) < 65536 ^ (mostLevels - 1) → P (keyUnder (entered τ (natAbs (r .constant))) (r .first))
     pub leave : operationOf (r .code) ≡ Operations.Leave → (site : ℕ) (caller : Tag) → leaveOf τ ≡ To site caller → (i : ℕ) → i < length g → P (record { tag = toOf caller i; port = 0 })
     pub fetch : operationOf (r .code) ≡ Operations.Fetch → (c : ℕ) → c < cells → R c
     pub constant : Q (r .constant)
@@ -93,11 +94,11 @@ module _ (g : List Instruction) (capacity cells : ℕ) (P : Key Tag → Type 0) 
         go false f = tt
 
     of-enter : (v : ℤ) → Q v → operationOf (r .code) ≡ Operations.Enter → Holds (sendEntered (enterOf τ (natAbs (r .constant))) r v)
-    unfolding enterOf sendEntered
-    of-enter v h e = go (ltb (τ .path) (65536 ^ (mostLevels - 1))) refl
+    unfolding enterWithin sendEntered
+    of-enter v h e = go (ltb (pathNumber (τ .path)) (65536 ^ (mostLevels - 1))) refl
       where
-        go : (b : Bool) → ltb (τ .path) (65536 ^ (mostLevels - 1)) ≡ b → Holds (sendEntered (cond b (In (entered τ (natAbs (r .constant)))) TooDeep) r v)
-        go true f = (h, (asked .enter e (ltb-true (τ .path) (65536 ^ (mostLevels - 1)) f), tt))
+        go : (b : Bool) → ltb (pathNumber (τ .path)) (65536 ^ (mostLevels - 1)) ≡ b → Holds (sendEntered (cond b (In (entered τ (natAbs (r .constant)))) TooDeep) r v)
+        go true f = (h, (asked .enter e (ltb-true (pathNumber (τ .path)) (65536 ^ (mostLevels - 1)) f), tt))
         go false f = tt
 
     of-leave : (v : ℤ) → Q v → operationOf (r .code) ≡ Operations.Leave → (l : Left) → leaveOf τ ≡ l → Holds (sendLeft g l r v)
@@ -127,9 +128,9 @@ module _ (g : List Instruction) (capacity cells : ℕ) (P : Key Tag → Type 0) 
 
   -- ---- of the machine
 
-  pub keeps-asked : ((τ : Tag) → OfOperands M P Q R τ → Asked τ (instructionAt g (τ .instruction))) → Q (pos 0) → Keeps M P Q R
+  pub effect-asked : (τ : Tag) → Asked τ (instructionAt g (τ .instruction)) → (v w : ℤ) → Q v → Q w → Holds (effectIn g cells τ v w)
   unfolding effectIn
-  keeps-asked ask signal = record {
-    effect = λ τ v w keys qv qw. let r = instructionAt g (τ .instruction) in of-operation τ r (ask τ keys) (operationOf (r .code)) refl v w qv qw;
-    signal = signal;
-  }
+  effect-asked τ ask v w qv qw = let r = instructionAt g (τ .instruction) in of-operation τ r ask (operationOf (r .code)) refl v w qv qw
+
+  pub keeps-asked : ((τ : Tag) → OfOperands M P Q R τ → Asked τ (instructionAt g (τ .instruction))) → Q (pos 0) → Keeps M P Q R
+  keeps-asked ask signal = record { effect = λ τ v w keys qv qw. effect-asked τ (ask τ keys) v w qv qw; signal = signal }

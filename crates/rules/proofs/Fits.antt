@@ -26,9 +26,11 @@ use Rattle.buffer.specs.Rows.{All, allRows}
 use Rattle.record.specs.TokensAndTags as Tokens
 use Rattle.record.specs.TokensAndTags.{ContentFits, TokenFits, capacityOf}
 use Rattle.record.specs.Cells.{CellFits}
+use Rattle.record.specs.Paths.{pathNumber, pathWords, isRoot, PathFits}
 use Rattle.record.specs.Calls.{entered, leaveOf}
 use Rattle.record.specs.GraphRecords.{inUse, operationOf, graphOf, InstructionFits}
 use Rattle.record.specs.GraphRecords as Graph
+use Rattle.record.proofs.Paths.{entered-fits, left-fits}
 use Rattle.record.proofs.Fitting.{token-fits, instruction-fits, rows-fit}
 use Rattle.buffer.proofs.Tables.{length-rows}
 use Rattle.record.specs.Widths.{tokenWidth, cellWidth, graphWidth}
@@ -63,7 +65,7 @@ use Rattle.rules.proofs.Invariants.{result-invariants, profile-invarian
 
 -- path and iteration, which an output has of its activity
 abbrev Path : Tag → Type 0
-Path τ = (τ .path < 2 ^ 64) × (τ .iteration < 2 ^ 8)
+Path τ = PathFits (τ .path) × (τ .iteration < 2 ^ 8)
 
 abbrev KeyFits : Key Tag → Type 0
 KeyFits k = Path (k .tag) × (k .tag .instruction < 2 ^ 16) × (k .port < 2 ^ 8)
@@ -92,11 +94,17 @@ module _ (r : Instruction) (f : InstructionFits r) where
 -- LEAVE's caller
 left : (τ : Tag) (site : ℕ) (caller : Tag) → Path τ → leaveOf τ ≡ To site caller → Path caller
 unfolding leaveOf
-left τ site caller p e = go (eqb (τ .path) 0) e
+left τ site caller p e = go (isRoot (τ .path)) e
   where
-    go : (b : Bool) → cond b NoCaller (To (τ .path / 256 % 256) (record { path = τ .path / 65536; iteration = τ .path % 256; instruction = τ .instruction })) ≡ To site caller → Path caller
+    n : ℕ
+    n = pathNumber (τ .path)
+
+    parent : Tag
+    parent = record { path = pathWords (n / 65536); iteration = n % 256; instruction = τ .instruction }
+
+    go : (b : Bool) → cond b NoCaller (To (n / 256 % 256) parent) ≡ To site caller → Path caller
     go true f = let z : _≡_ {A = ℕ} 0 1 = cc in absurd (omega arith)
-    go false f = let z : record { path = τ .path / 65536; iteration = τ .path % 256; instruction = τ .instruction } ≡ caller = cc in subst Path z (omega (arith, p .0), omega arith)
+    go false f = let z : parent ≡ caller = cc in subst Path z (left-fits (τ .path) (p .0), omega arith)
 
 -- ---- of a graph that passed
 
@@ -139,7 +147,7 @@ module _ (graph : List ℕ) (bytes : Bytes graph) (passed : checkGraph graph ≡
             all = all-fit r f τ p;
             sides = λ e. (under τ p (r .first) (first-fits r f), under τ p (r .second) (second-fits r f));
             next = λ e h. all-fit r f (later τ) (p .0, omega arith);
-            enter = λ e h. under (entered τ (natAbs (r .constant))) (omega (arith, p .1, enters-site (τ .instruction) e), omega arith) (r .first) (first-fits r f);
+            enter = λ e h. under (entered τ (natAbs (r .constant))) (entered-fits (τ .path) (p .0) h (natAbs (r .constant)) (τ .iteration) (enters-site (τ .instruction) e) (p .1), omega arith) (r .first) (first-fits r f);
             leave = λ e site caller h i l. (left τ site caller p h, omega (arith, few), omega arith);
             fetch = λ e c h. h;
             constant = f .constant;

@@ -14,11 +14,13 @@ use borrow.Author.Tests.{ltb-true, leb-true, eqb-true, eq-eqb, not-true}
 use Rattle.record.specs.declared.tag.Tag.{Tag}
 use Rattle.record.specs.declared.token.Token.{Token}
 use Rattle.record.specs.declared.instruction.Instruction.{Instruction}
-use Rattle.number.specs.Number.{byteAt, number16, number32, number64, signedOf}
+use Rattle.number.specs.Number.{byteAt, number32, signedOf}
 use Rattle.buffer.specs.Rows.{rows, allRows}
-use Rattle.record.specs.TokensAndTags.{isInput, standsAt, sameTag, contentOf, rootOf}
+use Rattle.record.specs.Paths.{isRoot}
+use Rattle.record.specs.TokensAndTags.{pathIn, tagIn, portIn, isInput, standsAt, sameTag, contentOf, rootOf}
 use Rattle.record.specs.TokensAndTags as Tokens
 use Rattle.record.specs.Widths.{tokenWidth}
+use Rattle.record.proofs.Paths.{root-words, path-same}
 use Rattle.machine.specs.Machine.{Key, live, absent, Machine, find, sameKey}
 use Rattle.machine.specs.Orders.{Live, Distinct, AllLive, Start}
 use Rattle.machine.proofs.View.{when-no, falseTrue}
@@ -40,10 +42,10 @@ tokens-first inputs cells = length-map (allRows tokenWidth Tokens.decode inputs)
 input-live : (l : List ℕ) → isInput l ≡ true → Live (some (contentHeld (Tokens.decode l .content)))
 unfolding isInput Tokens.decode contentOf
 input-live l e =
-    let rest = both (eqb (number64 l 0) 0) _ e .1 in
-    let zeros : number32 l 16 ≡ 0 = eqb-true (number32 l 16) 0 (both (eqb (byteAt l 8) 0) (eqb (number32 l 16) 0) rest .1) in
-    let state : byteAt l 16 ≡ 0 = omega arith in
-    (signedOf (number32 l 12), rw state)
+    let rest = both (isRoot (pathIn l)) _ e .1 in
+    let zeros : number32 l 24 ≡ 0 = eqb-true (number32 l 24) 0 (both (eqb (byteAt l 16) 0) (eqb (number32 l 24) 0) rest .1) in
+    let state : byteAt l 24 ≡ 0 = omega arith in
+    (signedOf (number32 l 20), rw state)
 
 -- what each good input has, all have
 inputs-each : (g : List Instruction) (P : Token → Type 0) → ((l : List ℕ) → goodInput g l ≡ true → P (Tokens.decode l))
@@ -57,16 +59,16 @@ inputs-each g P h (suc n) i l e =
 input-root : (g : List Instruction) (l : List ℕ) → goodInput g l ≡ true → Tokens.decode l .tag ≡ rootOf (Tokens.decode l .tag .instruction)
 unfolding goodInput isInput Tokens.decode
 input-root g l e =
-    let good = both (isInput l) (ltb (byteAt l 9) (operandsAt g (number16 l 10))) e .0 in
-    let parts = both (eqb (number64 l 0) 0) _ good in
-    let path = eqb-true (number64 l 0) 0 (parts .0) in
-    let iteration = eqb-true (byteAt l 8) 0 (both (eqb (byteAt l 8) 0) _ (parts .1) .0) in
-    λ j. record { path = path j; iteration = iteration j; instruction = number16 l 10 }
+    let good = both (isInput l) (ltb (portIn l) (operandsAt g (tagIn l .instruction))) e .0 in
+    let parts = both (isRoot (pathIn l)) _ good in
+    let path = root-words (pathIn l) (parts .0) in
+    let iteration = eqb-true (byteAt l 16) 0 (both (eqb (byteAt l 16) 0) _ (parts .1) .0) in
+    λ j. record { path = path j; iteration = iteration j; instruction = tagIn l .instruction }
 
 -- at a port of an instruction
 input-port : (g : List Instruction) (l : List ℕ) → goodInput g l ≡ true → Tokens.decode l .port < operandsAt g (Tokens.decode l .tag .instruction)
 unfolding goodInput Tokens.decode
-input-port g l e = ltb-true (byteAt l 9) (operandsAt g (number16 l 10)) (both (isInput l) (ltb (byteAt l 9) (operandsAt g (number16 l 10))) e .1)
+input-port g l e = ltb-true (portIn l) (operandsAt g (tagIn l .instruction)) (both (isInput l) (ltb (portIn l) (operandsAt g (tagIn l .instruction))) e .1)
 
 -- of one key
 stands-there : (t u : Token) → tokenHeld t .key ≡ tokenHeld u .key → standsAt (u .tag) (u .port) t ≡ true
@@ -74,7 +76,7 @@ unfolding standsAt sameTag
 stands-there t u e =
     rw (
       eq-eqb (t .port) (u .port) (ap (λ (k : Key Tag). k .port) e),
-      eq-eqb (t .tag .path) (u .tag .path) (ap (λ (k : Key Tag). k .tag .path) e),
+      path-same (t .tag .path) (u .tag .path) (ap (λ (k : Key Tag). k .tag .path) e),
       eq-eqb (t .tag .iteration) (u .tag .iteration) (ap (λ (k : Key Tag). k .tag .iteration) e),
       eq-eqb (t .tag .instruction) (u .tag .instruction) (ap (λ (k : Key Tag). k .tag .instruction) e),
     )
@@ -89,7 +91,7 @@ module _ (g : List Instruction) (capacity cells : ℕ) where
   inputs-live (suc n) i l e =
       let parts = andThen-passed (demand (goodInput g l) Refusals.BadInput i) _ e in
       let good = demand-passed (goodInput g l) Refusals.BadInput i (parts .0) in
-      (input-live l (both (isInput l) (ltb (byteAt l 9) (operandsAt g (number16 l 10))) good .0), inputs-live n (suc i) (drop tokenWidth l) (parts .1))
+      (input-live l (both (isInput l) (ltb (portIn l) (operandsAt g (tagIn l .instruction))) good .0), inputs-live n (suc i) (drop tokenWidth l) (parts .1))
 
   pub absent-of : (P : Key Tag → Type 0) (Q : ℤ → Type 0) (R : ℕ → Type 0) (n : ℕ) → Each (OfCell M P Q R) (replicate n absent)
   absent-of P Q R zero = tt

@@ -18,10 +18,11 @@ use Rattle.record.specs.declared.token.Token as Record
 use Rattle.record.specs.declared.token.Content.the-variants.{Live, Spent, Deferred}
 use Rattle.record.specs.declared.token.Content as RecordContent
 use Rattle.record.specs.declared.instruction.Instruction.{Instruction}
-use Rattle.number.specs.Number.{Bytes, byteAt, number16, number32, number64}
+use Rattle.number.specs.Number.{Bytes, byteAt, number32}
 use Rattle.buffer.specs.Rows.{rows, allRows, joined, writtenOver}
 use Rattle.record.specs.GraphRecords.{graphOf}
-use Rattle.record.specs.TokensAndTags.{isInput, mostTokens, capacityOf, ledgerOf}
+use Rattle.record.specs.Paths.{isRoot}
+use Rattle.record.specs.TokensAndTags.{pathIn, tagIn, portIn, isInput, mostTokens, capacityOf, ledgerOf}
 use Rattle.record.specs.TokensAndTags as Tokens
 use Rattle.record.specs.Cells as Cells
 use Rattle.record.proofs.Records.{token-bytes-back, token-front, length-token}
@@ -96,15 +97,15 @@ refused-firing graph inputs picks budget ledger cells passed r place refusing =
 input-back : (l : List ℕ) → Bytes l → tokenWidth ≤ length l → isInput l ≡ true → Tokens.encode (Tokens.decode l) ≡ take tokenWidth l
 unfolding isInput
 input-back l b long good =
-    let rest = both (eqb (number64 l 0) 0) _ good .1 in
-    let zeros : number32 l 16 ≡ 0 = eqb-true (number32 l 16) 0 (both (eqb (byteAt l 8) 0) _ rest .1) in
+    let rest = both (isRoot (pathIn l)) _ good .1 in
+    let zeros : number32 l 24 ≡ 0 = eqb-true (number32 l 24) 0 (both (eqb (byteAt l 16) 0) _ rest .1) in
     let front : (k : ℕ) → k < tokenWidth → byteAt (take tokenWidth l) k ≡ byteAt l k = λ k h. getD-take tokenWidth l k 0 h in
     ap Tokens.encode (sym (token-front l))
     ∙ token-bytes-back (take tokenWidth l) (record {
       size = length-take-le tokenWidth l long;
       small = λ k. small k (decLe (suc k) tokenWidth);
-      state = rw (front 16 (omega arith)) (omega arith);
-      zeros = (rw (front 17 (omega arith)) (omega arith), rw (front 18 (omega arith)) (omega arith), rw (front 19 (omega arith)) (omega arith));
+      state = rw (front 24 (omega arith)) (omega arith);
+      zeros = (rw (front 25 (omega arith)) (omega arith), rw (front 26 (omega arith)) (omega arith), rw (front 27 (omega arith)) (omega arith));
     })
   where
     small : (k : ℕ) → Dec (suc k ≤ tokenWidth) → byteAt (take tokenWidth l) k < 256
@@ -117,7 +118,7 @@ unfolding goodInput
 inputs-back g zero i l b long e = refl
 inputs-back g (suc n) i l b long e =
     let parts = andThen-passed (demand (goodInput g l) Refusals.BadInput i) _ e in
-    let good = both (isInput l) (ltb (byteAt l 9) (operandsAt g (number16 l 10))) (demand-passed (goodInput g l) Refusals.BadInput i (parts .0)) .0 in
+    let good = both (isInput l) (ltb (portIn l) (operandsAt g (tagIn l .instruction))) (demand-passed (goodInput g l) Refusals.BadInput i (parts .0)) .0 in
     let later = inputs-back g n (suc i) (drop tokenWidth l) (bytes-drop tokenWidth l b) (omega (arith, length-drop tokenWidth l, suc-mul n tokenWidth)) (parts .1) in
     λ j. input-back l b (omega (arith, suc-mul n tokenWidth)) good j ++ later j
 

@@ -16,6 +16,7 @@ use Rattle.buffer.specs.Rows.{rows, joined, All}
 use Rattle.buffer.proofs.Tables.{length-joined}
 use Rattle.record.specs.GraphRecords.{graphOf}
 use Rattle.record.specs.TokensAndTags.{mostTokens, capacityOf}
+use Rattle.record.specs.Paths.{PathFits}
 use Rattle.record.specs.Logs.{encode, nameOf}
 use Rattle.record.specs.Widths.{tokenWidth, cellWidth, logWidth}
 use Rattle.machine.specs.Machine.{Machine, End, byPicks, run}
@@ -39,7 +40,7 @@ use Rattle.rules.proofs.Accepted.{whole-bytes, Whole, stores-whole, Acc
 -- ---- records
 
 pub record TagFits (τ : Tag) : Type 0 where
-  pub path : τ .path < 2 ^ 64
+  pub path : PathFits (τ .path)
   pub iteration : τ .iteration < 2 ^ 8
   pub instruction : τ .instruction < 2 ^ 16
 
@@ -55,8 +56,10 @@ unfolding encode nameOf
 name-back τ rest f =
     rw (
       whole-record τ rest,
-      number64-bytes (τ .path) [],
-      fits64 _ (f .path),
+      number64-bytes (τ .path .low) [],
+      fits64 _ (f .path .low),
+      number64-bytes (τ .path .high) [],
+      fits64 _ (f .path .high),
       number16-bytes (τ .instruction) [],
       fits16 _ (f .instruction),
     )

@@ -19,9 +19,11 @@ use Rattle.record.specs.declared.instruction.Destination.{Destination}
 use Rattle.record.specs.declared.instruction.Instruction.{Instruction}
 use Rattle.record.specs.declared.operation.Operation.the-variants.{Fetch}
 use Rattle.buffer.specs.Rows.{allRows}
+use Rattle.record.specs.Paths.{rootPath, samePath}
 use Rattle.record.specs.TokensAndTags.{rootOf, sameTag, standsAt, capacityOf}
 use Rattle.record.specs.GraphRecords.{destinations, operationOf, operandsOf, rowOf, graphOf}
 use Rattle.record.specs.GraphRecords as Graph
+use Rattle.record.proofs.Paths.{is-root, same-path}
 use Rattle.record.specs.Widths.{tokenWidth, cellWidth}
 use Rattle.machine.specs.Machine.{Key, Content, spent, deferred, Machine, State, End, isThere, when, at, find, look, among, sameKey, enabled, run}
 use Rattle.machine.specs.Orders.{Lawful, Spent, Start, Reached, Invariants, Ended, outputs}
@@ -72,9 +74,9 @@ stands-key : (t : Token) (tag : Tag) (port : ℕ) → standsAt tag port t ≡ tr
 unfolding standsAt sameTag
 stands-key t tag port e =
     let p = both (eqb (t .port) port) _ e in
-    let q = both (eqb (t .tag .path) (tag .path)) _ (p .1) in
+    let q = both (samePath (t .tag .path) (tag .path)) _ (p .1) in
     let s = both (eqb (t .tag .iteration) (tag .iteration)) _ (q .1) in
-    let path = eqb-true _ _ (q .0) in
+    let path = same-path _ _ (q .0) in
     let iteration = eqb-true _ _ (s .0) in
     let instruction = eqb-true _ _ (s .1) in
     let ports = eqb-true _ _ (p .0) in
@@ -162,7 +164,7 @@ module _ (graph inputs : List ℕ) (capacity cells : ℕ) (passed : checkGraph g
 
   one-result : (i : ℕ) → i < length g → eqb (instructionAt g i .code) 3 ≡ false → isResult (instructionAt g i) (rootOf i) ≡ false
   unfolding isResult
-  one-result i l e = rw e (go (eqb (instructionAt g i .code) 9) refl)
+  one-result i l e = rw (e, is-root rootPath refl) (go (eqb (instructionAt g i .code) 9) refl)
     where
       go : (b : Bool) → eqb (instructionAt g i .code) 9 ≡ b → b && true ≡ false
       go false h = refl

@@ -11,6 +11,7 @@ use Rattle.record.specs.declared.tag.Left.{Left}
 use Rattle.record.specs.declared.tag.Left.the-variants.{To, NoCaller}
 use Rattle.record.specs.declared.instruction.Instruction.{Instruction}
 use Rattle.buffer.specs.Rows.{All}
+use Rattle.record.specs.Paths.{pathNumber}
 use Rattle.record.specs.Calls.{mostLevels, leaveOf, Call, CallFits, pathOf}
 use Rattle.record.specs.GraphRecords.{graphOf}
 use Rattle.machine.specs.Machine.{Token, State, fire, fired}
@@ -30,7 +31,7 @@ pub record CallIn (g : List Instruction) (c : Call) : Type 0 where
   pub fits : CallFits c
   pub enter : HasEnter g (c .site)
 
--- the calls of a path, the newest first, each from a site that has an ENTER; "Four levels at most"
+-- the calls of a path, the newest first, each from a site that has an ENTER; at most as many as there may be
 pub record PathIn (g : List Instruction) (path : ℕ) : Type 0 where
   pub calls : List Call
   pub each : All (CallIn g) calls
@@ -52,7 +53,7 @@ CallerIn g NoCaller = Unit {0}
 
 -- a token whose path is of calls; its iteration is a byte, as that of a call has to be that ENTER makes in it
 pub record TokenIn (g : List Instruction) (t : Token Tag ℤ) : Type 0 where
-  pub path : PathIn g (t .key .tag .path)
+  pub path : PathIn g (pathNumber (t .key .tag .path))
   pub iteration : t .key .tag .iteration < 256
 
 -- a firing keeps it of all tokens, from any state that has it

@@ -7,6 +7,7 @@ use lib.IntN.{ℤ, pos, negsuc}
 use Rattle.record.specs.declared.tag.Tag.{Tag}
 use Rattle.number.specs.Number.{bitsOf, bytes16, bytes32}
 use Rattle.record.specs.GraphRecords.{graphOf}
+use Rattle.record.specs.Paths.{pathWords, rootPath}
 use Rattle.record.specs.TokensAndTags as Tokens
 use Rattle.record.specs.Widths.{tokenWidth, cellWidth}
 use Rattle.machine.specs.Steps.{StepRecord}
@@ -36,7 +37,7 @@ abbrev pub to2 : (code : ℕ) → ℤ → (port1 instruction1 port2 instruction2
 to2 code k p i q j = code ∷ 2 ∷ p ∷ q ∷ bytes16 i ++ bytes16 j ++ bytes32 (bitsOf k) ++ bytes32 0
 
 abbrev pub key : (path iteration instruction port : ℕ) → Key Tag
-key path n i p = record { tag = record { path = path; iteration = n; instruction = i }; port = p }
+key path n i p = record { tag = record { path = pathWords path; iteration = n; instruction = i }; port = p }
 
 abbrev pub token : (path iteration instruction port : ℕ) → Content ℤ → Token Tag ℤ
 token path n i p x = record { key = key path n i p; content = x }
@@ -113,8 +114,8 @@ seenLog x = wrote (valuesOf (answer (x .result))) (logAfter x [])
 unfoldable pub seen : Case → Seen
 seen (running graph inputs picks budget capacity cells a ts cs) = seenIn (result graph inputs picks budget (tokenWidth * capacity) (cellWidth * cells))
 seen (profiling graph inputs capacity cells lent a rs ts) = seenSteps (profiled graph inputs (tokenWidth * capacity) (cellWidth * cells) lent)
-seen (logging graph inputs picks budget lent a l) = seenLog (logged graph inputs picks budget 40960 64 lent)
-seen (replaying graph inputs log a) = again (valuesOf (answer (replayed graph inputs log 40960 64)))
+seen (logging graph inputs picks budget lent a l) = seenLog (logged graph inputs picks budget (tokenWidth * 2048) 64 lent)
+seen (replaying graph inputs log a) = again (valuesOf (answer (replayed graph inputs log (tokenWidth * 2048) 64)))
 seen (needing graph inputs n) = needed (needs graph inputs)
 seen (firing graph cells τ a b e) = did (effectIn (graphOf graph) cells τ a b)
 
@@ -190,8 +191,8 @@ starred =
     ∷ gives 19 (pos 7) (negsuc 1) (negsuc 2)
     ∷ refuses 19 (negsuc 2147483647) (negsuc 0) 12
     -- ENTER site 3 at path 0, iteration 2; NEXT at 254
-    ∷ firing (to2 8 (pos 3) 0 1 0 1 ++ to0 3 (pos 0)) 8 (record { path = 0; iteration = 2; instruction = 0 }) (pos 7) (pos 0) (send (pos 7) (key 770 0 1 0 ∷ []))
-    ∷ firing (to1 7 (pos 0) 0 1 ++ to0 3 (pos 0)) 8 (record { path = 0; iteration = 254; instruction = 0 }) (pos 7) (pos 0) (send (pos 7) (key 0 255 1 0 ∷ []))
+    ∷ firing (to2 8 (pos 3) 0 1 0 1 ++ to0 3 (pos 0)) 8 (record { path = rootPath; iteration = 2; instruction = 0 }) (pos 7) (pos 0) (send (pos 7) (key 770 0 1 0 ∷ []))
+    ∷ firing (to1 7 (pos 0) 0 1 ++ to0 3 (pos 0)) 8 (record { path = rootPath; iteration = 254; instruction = 0 }) (pos 7) (pos 0) (send (pos 7) (key 0 255 1 0 ∷ []))
     ∷ []
 
 -- ---- rows that tell the rules from plausible errors
@@ -281,16 +282,20 @@ countedWithout =
     (root 0 0 (live (pos 7)) ∷ root 1 0 (live (pos 8)) ∷ root 2 0 (spent (pos 9)) ∷ root 3 0 (live (pos 9)) ∷ [])
     []
 
--- 0 enters site 1 at 0: four levels, and the fifth is refused
+-- R-8: 0 enters site 1 at 0: eight levels, and the ninth is refused
 abbrev pub callsItself : Case
 callsItself =
     running (to2 8 (pos 1) 0 0 0 1 ++ to0 3 (pos 0)) (input 0 0 (pos 7)) [] 2048 2048 8
-    (values 14 4 5 4)
+    (values 14 8 9 8)
     (root 0 0 (spent (pos 7))
     ∷ token 256 0 0 0 (spent (pos 7))
     ∷ token 16777472 0 0 0 (spent (pos 7))
     ∷ token 1099528405248 0 0 0 (spent (pos 7))
-    ∷ token 72058693566333184 0 0 0 (live (pos 7))
+    ∷ token 72058693566333184 0 0 0 (spent (pos 7))
+    ∷ token 4722438541563211546880 0 0 0 (spent (pos 7))
+    ∷ token 309489732259886631936327936 0 0 0 (spent (pos 7))
+    ∷ token 20282719093383930310579187613952 0 0 0 (spent (pos 7))
+    ∷ token 1329248278504009256834117639467958528 0 0 0 (live (pos 7))
     ∷ [])
     []
 
@@ -467,7 +472,7 @@ distinguishing =
     ∷ badLent lostInput [] 2049 8 7 0
     ∷ badLent (input 0 0 (pos 7) ++ lostInput) [] 0 8 6 1
     -- 13, 17
-    ∷ firing (to1 7 (pos 0) 0 1 ++ to0 3 (pos 0)) 8 (record { path = 0; iteration = 255; instruction = 0 }) (pos 7) (pos 0) (refuse Refusals.Iteration)
+    ∷ firing (to1 7 (pos 0) 0 1 ++ to0 3 (pos 0)) 8 (record { path = rootPath; iteration = 255; instruction = 0 }) (pos 7) (pos 0) (refuse Refusals.Iteration)
     ∷ returnsPast
     ∷ []
 
@@ -504,7 +509,7 @@ profiles =
 
 -- the log of ADD at the root: its bytes are all zero, and so are those of a record of no firing
 abbrev pub addLog : List ℕ
-addLog = replicate 12 0
+addLog = replicate 20 0
 
 abbrev pub replaysAdd : (log : List ℕ) → Values → Case
 replaysAdd log a = replaying (binary 16) (operands (pos 7) (negsuc 8)) log a
@@ -514,27 +519,27 @@ abbrev pub twoCopies : List ℕ
 twoCopies = to1 1 (pos 0) 0 2 ++ to1 1 (pos 0) 0 3 ++ to0 3 (pos 0) ++ to0 3 (pos 0)
 
 abbrev pub secondFirst : List ℕ
-secondFirst = replicate 10 0 ++ bytes16 1
+secondFirst = replicate 18 0 ++ bytes16 1
 
 abbrev pub logs : List Case
 logs =
-    logging (binary 16) (operands (pos 7) (negsuc 8)) [] 2 24 (values completed 1 3 0) addLog
-    -- one record is fewer than the budget; 2,048 are enough for every budget; 25 bytes are not whole
-    ∷ logging (binary 16) (operands (pos 7) (negsuc 8)) [] 2 12 (values 7 0 0 0) []
-    ∷ logging (binary 16) (operands (pos 7) (negsuc 8)) [] 65535 24576 (values completed 1 3 0) addLog
-    ∷ logging (binary 16) (operands (pos 7) (negsuc 8)) [] 2 25 (values 7 0 0 0) []
-    ∷ logging twoCopies (input 0 0 (pos 7) ++ input 1 0 (pos 8)) (bytes16 1) 1 12 (values spentWord 1 3 0) secondFirst
+    logging (binary 16) (operands (pos 7) (negsuc 8)) [] 2 40 (values completed 1 3 0) addLog
+    -- one record is fewer than the budget; 2,048 are enough for every budget; 45 bytes are not whole
+    ∷ logging (binary 16) (operands (pos 7) (negsuc 8)) [] 2 20 (values 7 0 0 0) []
+    ∷ logging (binary 16) (operands (pos 7) (negsuc 8)) [] 65535 40960 (values completed 1 3 0) addLog
+    ∷ logging (binary 16) (operands (pos 7) (negsuc 8)) [] 2 45 (values 7 0 0 0) []
+    ∷ logging twoCopies (input 0 0 (pos 7) ++ input 1 0 (pos 8)) (bytes16 1) 1 20 (values spentWord 1 3 0) secondFirst
     ∷ replaysAdd addLog (values completed 1 3 0)
     ∷ replaysAdd [] (values spentWord 0 2 0)
-    -- an activity fires once; byte 9 is not zero; OUT never fires; 5 bytes are not whole
+    -- an activity fires once; byte 17 is not zero; OUT never fires; 5 bytes are not whole
     ∷ replaysAdd (addLog ++ addLog) (values 20 1 3 1)
-    ∷ replaysAdd (replicate 9 0 ++ 1 ∷ 0 ∷ 0 ∷ []) (values 20 0 2 0)
+    ∷ replaysAdd (replicate 17 0 ++ 1 ∷ 0 ∷ 0 ∷ []) (values 20 0 2 0)
     ∷ replaysAdd secondFirst (values 20 0 2 0)
     ∷ replaysAdd (addLog ++ replicate 5 0) (values 20 1 3 1)
     ∷ replaysAdd (replicate 5 0) (values 20 0 2 0)
     -- the log of a run is its first records: as many as it has firings
     ∷ replaying twoCopies (input 0 0 (pos 7) ++ input 1 0 (pos 8)) secondFirst (values spentWord 1 3 0)
-    ∷ replaying twoCopies (input 0 0 (pos 7) ++ input 1 0 (pos 8)) (secondFirst ++ replicate 24 0) (values 20 2 4 2)
+    ∷ replaying twoCopies (input 0 0 (pos 7) ++ input 1 0 (pos 8)) (secondFirst ++ replicate 40 0) (values 20 2 4 2)
     ∷ []
 
 -- ---- R-3, what graphs will need: firings and tokens

@@ -11,11 +11,10 @@ use Rattle.record.specs.declared.tag.Tag.{Tag}
 use Rattle.record.specs.declared.token.Token.{Token}
 use Rattle.record.specs.declared.instruction.Destination.{Destination}
 use Rattle.record.specs.declared.instruction.Instruction.{Instruction}
-use Rattle.number.specs.Number.{byteAt, number16}
 use Rattle.buffer.specs.Rows.{whole, allRows}
 use Rattle.record.specs.GraphRecords.{isGraphLength, graphOf, destinations, rowOf, operandsOf, usesConstant}
 use Rattle.record.specs.GraphRecords as Graph
-use Rattle.record.specs.TokensAndTags.{isInput, standsAt, mostTokens, capacityOf}
+use Rattle.record.specs.TokensAndTags.{tagIn, portIn, isInput, standsAt, mostTokens, capacityOf}
 use Rattle.record.specs.TokensAndTags as Tokens
 use Rattle.record.specs.Widths.{tokenWidth, cellWidth, pickWidth}
 use Rattle.arithmetic.specs.Arithmetic.{eqZ}
@@ -120,7 +119,7 @@ checkStores inputs picks ledger cells =
 
 -- 6: "an input field not as above, instruction or port absent", of the record that l starts with
 unfoldable pub goodInput : List Instruction → List ℕ → Bool
-goodInput g l = isInput l && ltb (byteAt l 9) (operandsAt g (number16 l 10))
+goodInput g l = isInput l && ltb (portIn l) (operandsAt g (tagIn l .instruction))
 
 -- 9: a token stands there already
 unfoldable pub secondInput : (earlier : List Token) → Token → Bool

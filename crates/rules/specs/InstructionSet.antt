@@ -8,6 +8,7 @@ use mathlib.Core.List.{List, [], _∷_, map}
 use lib.ListN.{length}
 use lib.IntN.{ℤ, pos, negsuc, natAbs}
 use lib.Dec.{eqb, ltb}
+use Rattle.record.specs.declared.tag.Path.{Path}
 use Rattle.record.specs.declared.tag.Tag.{Tag}
 use Rattle.record.specs.declared.tag.Entered.{Entered}
 use Rattle.record.specs.declared.tag.Entered.the-variants.{In, TooDeep}
@@ -19,6 +20,7 @@ use Rattle.record.specs.declared.instruction.Destination.{Destination}
 use Rattle.record.specs.declared.instruction.Instruction.{Instruction}
 use Rattle.record.specs.declared.operation.Operation.{Operation}
 use Rattle.record.specs.declared.operation.Operation.the-variants as Operations
+use Rattle.record.specs.Paths.{isRoot}
 use Rattle.record.specs.TokensAndTags.{toOf}
 use Rattle.record.specs.Calls.{nextOf, enterOf, leaveOf}
 use Rattle.record.specs.GraphRecords.{destinations, operationOf, operandsOf}
@@ -57,7 +59,7 @@ unfoldable pub sendNext : Next → Instruction → ℤ → EffectHere
 sendNext (Is τ) r v = send v (allUnder τ r)
 sendNext Last r v = refuse Refusals.Iteration
 
--- ENTER "sends its value, one token, to destination 1". 14: "ENTER at four levels"
+-- ENTER "sends its value, one token, to destination 1". 14: "ENTER at four levels", with R-8 of 02 at eight
 unfoldable pub sendEntered : Entered → Instruction → ℤ → EffectHere
 sendEntered (In τ) r v = send v (keyUnder τ (r .first) ∷ [])
 sendEntered TooDeep r v = refuse Refusals.TooDeep
@@ -109,11 +111,17 @@ effectIn g cells τ a b =
 
 -- "OUT, a result; never fires" (code 3). R-5: "A token at a LEAVE under path 0 now counts as a result like one at an OUT" (code 9)
 unfoldable pub isResult : Instruction → Tag → Bool
-isResult r τ = eqb (r .code) 3 || eqb (r .code) 9 && eqb (τ .path) 0
+isResult r τ = eqb (r .code) 3 || eqb (r .code) 9 && isRoot (τ .path)
 
 -- a result waits for no operand
 unfoldable pub arityIn : List Instruction → Tag → ℕ
 arityIn g τ = let r = instructionAt g (τ .instruction) in cond (isResult r τ) 0 (operandsOf (r .code))
+
+-- paths are equal if both words are
+unfoldable pub decidePath : Discrete Path
+decidePath a b =
+    decideBoth (λ p q. λ i. record { low = p i; high = q i }) (λ e. ap (λ p. p .low) e) (λ e. ap (λ p. p .high) e)
+    (ℕ-discrete (a .low) (b .low)) (ℕ-discrete (a .high) (b .high))
 
 -- tags are equal if instruction, iteration and path are; the instruction, which differs most often, is compared first
 unfoldable pub decideTag : Discrete Tag
@@ -123,7 +131,7 @@ decideTag a b =
     (λ e. ap (λ k. k .instruction) e)
     (λ e. (ap (λ k. k .iteration) e, ap (λ k. k .path) e))
     (ℕ-discrete (a .instruction) (b .instruction))
-    (decideBoth (λ p q. (p, q)) (λ e. e .0) (λ e. e .1) (ℕ-discrete (a .iteration) (b .iteration)) (ℕ-discrete (a .path) (b .path)))
+    (decideBoth (λ p q. (p, q)) (λ e. e .0) (λ e. e .1) (ℕ-discrete (a .iteration) (b .iteration)) (decidePath (a .path) (b .path)))
 
 -- "signals of value 0"
 abbrev pub machineOf : List Instruction → (capacity cells : ℕ) → Machine

@@ -10,6 +10,7 @@ use lib.Dec.{eqb}
 use Rattle.record.specs.declared.tag.Tag.{Tag}
 use Rattle.record.specs.declared.instruction.Instruction.{Instruction}
 use Rattle.buffer.specs.Rows.{All}
+use Rattle.record.specs.Paths.{isRoot}
 use Rattle.record.specs.GraphRecords.{operandsOf, graphOf}
 use Rattle.machine.specs.Machine.{Token, refuse, Machine, run}
 use Rattle.machine.specs.Agreement.{withInstructions}
@@ -21,7 +22,7 @@ use Rattle.rules.specs.Run.{firstState}
 
 -- a LEAVE (code 9) under path 0
 unfoldable pub isRootLeave : List Instruction → Tag → Bool
-isRootLeave g τ = eqb (instructionAt g (τ .instruction) .code) 9 && eqb (τ .path) 0
+isRootLeave g τ = eqb (instructionAt g (τ .instruction) .code) 9 && isRoot (τ .path)
 
 -- ---- before R-5: only OUT (code 3) was a result, and a LEAVE under path 0 was refused when it fired, by 15. No word of it is left, so it is any
 

@@ -9,10 +9,12 @@ use lib.ListN.{length, getD, drop, length-map}
 use borrow.Author.Tests.{eqb-true, eqb-false}
 use store.Seg.{eqb-same}
 use native.Mathlib.Numerals.{add-one}
+use Rattle.record.specs.Paths.{samePath}
 use Rattle.record.specs.TokensAndTags.{tokens, tokenAt, decode, standsAt, sameTag}
 use Rattle.buffer.proofs.Tables.{getD-rows, length-rows}
 use Rattle.record.specs.declared.tag.Tag.{Tag}
 use Rattle.record.specs.declared.token.Token.{Token}
+use Rattle.record.proofs.Paths.{same-path}
 use Rattle.record.specs.Widths.{tokenWidth}
 use Rattle.store_chains.specs.Search.{firstFrom, foundOf, Within}
 use Rattle.store_chains.specs.Chains.{bucketOf, bucketKey, lastBelow, Indexed}
@@ -63,12 +65,12 @@ and-right false false e = e
 pub stands-key : (tag : Tag) (port : ℕ) (t : Token) → standsAt tag port t ≡ true → bucketKey t ≡ suc (bucketOf tag)
 unfolding standsAt sameTag bucketOf
 stands-key tag port t e =
-    let p = eqb (t .tag .path) (tag .path) in
+    let p = samePath (t .tag .path) (tag .path) in
     let i = eqb (t .tag .iteration) (tag .iteration) in
     let n = eqb (t .tag .instruction) (tag .instruction) in
     let s = and-right (eqb (t .port) port) (p && (i && n)) e in
     let y = and-right p (i && n) s in
-    let x : t .tag .path ≡ tag .path = eqb-true _ _ (and-left p (i && n) s) in
+    let x : t .tag .path ≡ tag .path = same-path _ _ (and-left p (i && n) s) in
     let u : t .tag .iteration ≡ tag .iteration = eqb-true _ _ (and-left i n y) in
     let v : t .tag .instruction ≡ tag .instruction = eqb-true _ _ (and-right i n y) in
     rw (x, u, v)

@@ -14,7 +14,7 @@ use Rattle.buffer.proofs.Tables.{length-joined, put-joined, put-end, length-row
 use Rattle.record.proofs.Records.{length-token, tokens-put, tokens-end}
 use Rattle.record.specs.declared.token.Token.{Token}
 use Rattle.record.specs.declared.token.Content.the-variants.{Live}
-use Rattle.record.specs.Widths.{tokenWidth}
+use Rattle.record.specs.Widths.{tokenWidth, stateOffset}
 use Rattle.store_enabled.specs.Enabled.{spentToken}
 
 -- ---- the state byte
@@ -24,19 +24,19 @@ set-later [] l k v = ap (λ (n : ℕ). set l n v) (zero-add k)
 set-later (y ∷ x) l k v = ap (λ (n : ℕ). set (y ∷ (x ++ l)) n v) (suc-add (length x) k) ∙ ap (λ (r : List ℕ). y ∷ r) (set-later x l k v)
 
 -- a live token is spent by its state byte alone
-spent-record : (t : Token) (v : ℤ) (r : List ℕ) → t .content ≡ Live v → set (encode t ++ r) 16 1 ≡ encode (spentToken t) ++ r
+spent-record : (t : Token) (v : ℤ) (r : List ℕ) → t .content ≡ Live v → set (encode t ++ r) stateOffset 1 ≡ encode (spentToken t) ++ r
 unfolding encode
 spent-record t v r e = rw e
 
 spent-joined : (ts : List Token) (r : List ℕ) (i : ℕ) (d : Token) (v : ℤ) → i < length ts → getD ts i d .content ≡ Live v
-    → set (joined encode ts ++ r) (i * tokenWidth + 16) 1 ≡ joined encode (set ts i (spentToken (getD ts i d))) ++ r
+    → set (joined encode ts ++ r) (i * tokenWidth + stateOffset) 1 ≡ joined encode (set ts i (spentToken (getD ts i d))) ++ r
 spent-joined [] r i d v h e = absurd (not-suc-le-zero h)
 spent-joined (t ∷ ts) r zero d v h e =
     rw (append-assoc (encode t) (joined encode ts) r, append-assoc (encode (spentToken t)) (joined encode ts) r) (spent-record t v (joined encode ts ++ r) e)
 spent-joined (t ∷ ts) r (suc i) d v h e =
     let us = set ts i (spentToken (getD ts i d)) in
-    let k : suc i * tokenWidth + 16 ≡ length (encode t) + (i * tokenWidth + 16) = omega (arith, length-token t) in
-    rw (append-assoc (encode t) (joined encode ts) r, append-assoc (encode t) (joined encode us) r, k, set-later (encode t) (joined encode ts ++ r) (i * tokenWidth + 16) 1)
+    let k : suc i * tokenWidth + stateOffset ≡ length (encode t) + (i * tokenWidth + stateOffset) = omega (arith, length-token t) in
+    rw (append-assoc (encode t) (joined encode ts) r, append-assoc (encode t) (joined encode us) r, k, set-later (encode t) (joined encode ts ++ r) (i * tokenWidth + stateOffset) 1)
     (ap (λ (m : List ℕ). encode t ++ m) (spent-joined ts r i d v (le-of-suc-le-suc h) e))
 
 -- ---- the bytes of the used records
@@ -85,14 +85,14 @@ module _ (n : ℕ) (l : List ℕ) (e : take (n * tokenWidth) l ≡ joined encode
     rest-put = ap (drop (n * tokenWidth)) replaced ∙ past n (set (tokens n l) i t) (drop (n * tokenWidth) l) same-count
 
   -- a live token is spent
-  pub spent-byte : (i : ℕ) (v : ℤ) → i < n → tokenAt l i .content ≡ Live v → set l (i * tokenWidth + 16) 1 ≡ putRow tokenWidth l i (encode (spentToken (tokenAt l i)))
+  pub spent-byte : (i : ℕ) (v : ℤ) → i < n → tokenAt l i .content ≡ Live v → set l (i * tokenWidth + stateOffset) 1 ≡ putRow tokenWidth l i (encode (spentToken (tokenAt l i)))
   spent-byte i v h live =
       let t = tokenAt l i in
       let ts = tokens n l in
       let r = drop (n * tokenWidth) l in
       let at : getD ts i t ≡ t = getD-rows tokenWidth decode n i l t h in
       let k : i < length ts = omega (arith, count) in
-      ap (λ (m : List ℕ). set m (i * tokenWidth + 16) 1) split
+      ap (λ (m : List ℕ). set m (i * tokenWidth + stateOffset) 1) split
       ∙ spent-joined ts r i t v k (ap (λ (x : Token). x .content) at ∙ live)
       ∙ ap (λ (x : Token). joined encode (set ts i (spentToken x)) ++ r) at
       ∙ sym (replaced (spentToken t) i h)

@@ -16,7 +16,7 @@ use Rattle.buffer.proofs.Tables.{getD-rows, length-rows}
 use Rattle.record.specs.declared.tag.Tag.{Tag}
 use Rattle.record.specs.declared.token.Token.{Token}
 use Rattle.record.specs.declared.token.Content.the-variants.{Live, Spent, Deferred}
-use Rattle.record.specs.Widths.{tokenWidth}
+use Rattle.record.specs.Widths.{tokenWidth, stateOffset, valueOffset}
 use Rattle.store_chains.specs.declared.Found.{Found}
 use Rattle.store_chains.specs.declared.Found.the-variants.{At, Nothing}
 use Rattle.store_chains.specs.Search.{firstFrom, Within}
@@ -36,9 +36,9 @@ live-content bits state = go (eqb state 0) (eqb state 1)
     go false true = refl
     go false false = refl
 
-pub live-state : (l : List ℕ) (i : ℕ) → isLive (tokenAt l i .content) ≡ eqb (getD l (i * tokenWidth + 16) 0) 0
+pub live-state : (l : List ℕ) (i : ℕ) → isLive (tokenAt l i .content) ≡ eqb (getD l (i * tokenWidth + stateOffset) 0) 0
 unfolding decode
-live-state l i = live-content (number32 (drop (i * tokenWidth) l) 12) (byteAt (drop (i * tokenWidth) l) 16) ∙ rw (getD-drop (i * tokenWidth) l 16 0)
+live-state l i = live-content (number32 (drop (i * tokenWidth) l) valueOffset) (byteAt (drop (i * tokenWidth) l) stateOffset) ∙ rw (getD-drop (i * tokenWidth) l stateOffset 0)
 
 -- ---- the token at a port of a tag
 

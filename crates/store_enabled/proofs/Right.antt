@@ -9,7 +9,9 @@ use lib.Dec.{eqb}
 use lib.ListN.{length, getD, set, replicate, length-map}
 use lib.Seq.{map-set-same, set-getD}
 use borrow.Author.Tests.{eqb-true, eq-eqb}
+use Rattle.record.specs.Paths.{samePath}
 use Rattle.record.specs.TokensAndTags.{sameTag}
+use Rattle.record.proofs.Paths.{same-path, path-same}
 use Rattle.record.specs.declared.tag.Tag.{Tag}
 use Rattle.record.specs.declared.token.Token.{Token}
 use Rattle.store_flags.specs.Flags.{places}
@@ -26,18 +28,18 @@ use Rattle.store_enabled.proofs.Places.{stands-other}
 pub tag-equal : (a b : Tag) → tagSame a b ≡ true → a ≡ b
 unfolding sameTag
 tag-equal a b e =
-    let p = eqb (b .path) (a .path) in
+    let p = samePath (b .path) (a .path) in
     let i = eqb (b .iteration) (a .iteration) in
     let n = eqb (b .instruction) (a .instruction) in
     let y = and-right p (i && n) e in
-    let x : a .path ≡ b .path = sym (eqb-true _ _ (and-left p (i && n) e)) in
+    let x : a .path ≡ b .path = sym (same-path _ _ (and-left p (i && n) e)) in
     let u : a .iteration ≡ b .iteration = sym (eqb-true _ _ (and-left i n y)) in
     let v : a .instruction ≡ b .instruction = sym (eqb-true _ _ (and-right i n y)) in
     λ k. record { path = x k; iteration = u k; instruction = v k }
 
 pub tag-own : (a : Tag) → tagSame a a ≡ true
 unfolding sameTag
-tag-own a = rw (eq-eqb (a .path) (a .path) refl, eq-eqb (a .iteration) (a .iteration) refl, eq-eqb (a .instruction) (a .instruction) refl)
+tag-own a = rw (path-same (a .path) (a .path) refl, eq-eqb (a .iteration) (a .iteration) refl, eq-eqb (a .instruction) (a .instruction) refl)
 
 tag-apart : (a b : Tag) → tagSame a b ≡ false → tagSame b a ≡ false
 tag-apart a b e = go (tagSame b a) refl

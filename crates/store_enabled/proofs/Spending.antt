@@ -17,7 +17,7 @@ use Rattle.record.specs.declared.tag.Tag.{Tag}
 use Rattle.record.specs.declared.token.Token.{Token}
 use Rattle.record.specs.declared.token.Content.{Content}
 use Rattle.record.specs.declared.token.Content.the-variants.{Live, Spent, Deferred}
-use Rattle.record.specs.Widths.{tokenWidth}
+use Rattle.record.specs.Widths.{tokenWidth, stateOffset, valueOffset}
 use Rattle.store_flags.specs.Flags.{flagsOf, Counted}
 use Rattle.store_chains.specs.declared.Found.the-variants.{At}
 use Rattle.store_chains.specs.Search.{firstFrom}
@@ -57,12 +57,12 @@ unfolding contentOf
 content-live bits state e = rw e
 
 module _ (l : List ℕ) (i : ℕ) where
-  record-live : getD l (i * tokenWidth + 16) 0 ≡ 0 → tokenAt l i .content ≡ Live (signedOf (number32 (drop (i * tokenWidth) l) 12))
+  record-live : getD l (i * tokenWidth + stateOffset) 0 ≡ 0 → tokenAt l i .content ≡ Live (signedOf (number32 (drop (i * tokenWidth) l) valueOffset))
   unfolding decode
-  record-live e = content-live (number32 (drop (i * tokenWidth) l) 12) (byteAt (drop (i * tokenWidth) l) 16) (getD-drop (i * tokenWidth) l 16 0 ∙ e)
+  record-live e = content-live (number32 (drop (i * tokenWidth) l) valueOffset) (byteAt (drop (i * tokenWidth) l) stateOffset) (getD-drop (i * tokenWidth) l stateOffset 0 ∙ e)
 
-  state-live : isLive (tokenAt l i .content) ≡ true → getD l (i * tokenWidth + 16) 0 ≡ 0
-  state-live e = eqb-true (getD l (i * tokenWidth + 16) 0) 0 (sym (live-state l i) ∙ e)
+  state-live : isLive (tokenAt l i .content) ≡ true → getD l (i * tokenWidth + stateOffset) 0 ≡ 0
+  state-live e = eqb-true (getD l (i * tokenWidth + stateOffset) 0) 0 (sym (live-state l i) ∙ e)
 
 -- ---- one token is spent, and its tag is then not enabled
 
@@ -70,7 +70,7 @@ first-spent : (tag : Tag) (ts : List Token) (i : ℕ) (t : Token) → getD ts i 
 unfolding standsAt
 first-spent tag ts i t e = first-set (standsAt tag 0) ts i (spentToken t) t (rw e) 0
 
-module _ (tables links flags l : List ℕ) (used i : ℕ) (w : Stored tables links flags l used) (h : i < used) (live : getD l (i * tokenWidth + 16) 0 ≡ 0) where
+module _ (tables links flags l : List ℕ) (used i : ℕ) (w : Stored tables links flags l used) (h : i < used) (live : getD l (i * tokenWidth + stateOffset) 0 ≡ 0) where
   abbrev t : Token
   t = tokenAt l i
 
@@ -80,15 +80,15 @@ module _ (tables links flags l : List ℕ) (used i : ℕ) (w : Stored tables lin
   held : getD (tokens used l) i (tokenAt l i) ≡ tokenAt l i
   held = getD-rows tokenWidth decode used i l (tokenAt l i) h
 
-  moved : Moved tables links flags (set l (i * tokenWidth + 16) 1) used i us (spentToken (tokenAt l i))
+  moved : Moved tables links flags (set l (i * tokenWidth + stateOffset) 1) used i us (spentToken (tokenAt l i))
   moved =
-      let m = set l (i * tokenWidth + 16) 1 in
-      let put : m ≡ putRow tokenWidth l i (encode (spentToken t)) = spent-byte used l (w .bytes) i (signedOf (number32 (drop (i * tokenWidth) l) 12)) h (record-live l i live) in
+      let m = set l (i * tokenWidth + stateOffset) 1 in
+      let put : m ≡ putRow tokenWidth l i (encode (spentToken t)) = spent-byte used l (w .bytes) i (signedOf (number32 (drop (i * tokenWidth) l) valueOffset)) h (record-live l i live) in
       let f : TokenFits t = rw held at (all-at TokenFits (tokens used l) i t (omega (arith, length-rows tokenWidth decode used l)) (w .fits)) in
-      changed tables links flags l used i (spentToken t) w h refl refl (spent-fits t f) m put (length-set l (i * tokenWidth + 16) 1)
+      changed tables links flags l used i (spentToken t) w h refl refl (spent-fits t f) m put (length-set l (i * tokenWidth + stateOffset) 1)
 
   spent : (tag : Tag) → t .tag ≡ tag → (p : ℕ) → placeOf (tokens used l) tag ≡ p → liveAt us tag 0 ≡ false → (flags′ : List ℕ) → flagsOf flags′ ≡ set (flagsOf flags) p 0 → Counted flags′
-      → (tokens used (set l (i * tokenWidth + 16) 1) ≡ us) × Stored tables links flags′ (set l (i * tokenWidth + 16) 1) used
+      → (tokens used (set l (i * tokenWidth + stateOffset) 1) ≡ us) × Stored tables links flags′ (set l (i * tokenWidth + stateOffset) 1) used
   spent tag e p lead off flags′ put c =
       let place = place-kept (tokens used l) i (spentToken t) t (ap (λ (x : Token). x .tag) (sym held)) (t .tag) ∙ ap (placeOf (tokens used l)) e ∙ lead in
       let down = all-off (arityOf tables (t .tag)) us (t .tag) (ap (λ (k : Tag). liveAt us k 0) e ∙ off) in
@@ -101,7 +101,7 @@ module _ (tables links flags l : List ℕ) (used i j : ℕ) (w : Stored tables l
   ts = tokens used l
 
   abbrev m : List ℕ
-  m = set l (i * tokenWidth + 16) 1
+  m = set l (i * tokenWidth + stateOffset) 1
 
   abbrev u : Token
   u = spentToken (tokenAt l i)
@@ -134,7 +134,7 @@ module _ (tables links flags l : List ℕ) (used i j : ℕ) (w : Stored tables l
       let v = spentToken (tokenAt l j) in
       let there : getD vs j u ≡ tokenAt l j = getD-set-other ts i j u u apart ∙ read j u (o .secondWithin) in
       let same : tokenAt m j ≡ tokenAt l j = sym (getD-rows tokenWidth decode used j m u (o .secondWithin)) ∙ ap (λ (ws : List Token). getD ws j u) (once .0) ∙ there in
-      let live : getD m (j * tokenWidth + 16) 0 ≡ 0 = getD-set-other l (i * tokenWidth + 16) (j * tokenWidth + 16) 1 0 (λ e. apart (omega arith)) ∙ state-live l j (o .secondLive) in
+      let live : getD m (j * tokenWidth + stateOffset) 0 ≡ 0 = getD-set-other l (i * tokenWidth + stateOffset) (j * tokenWidth + stateOffset) 1 0 (λ e. apart (omega arith)) ∙ state-live l j (o .secondLive) in
       let lead : placeOf (tokens used m) tag ≡ p = rw (once .0) (place-kept ts i u (tokenAt l i) (ap (λ (x : Token). x .tag) (sym (read i (tokenAt l i) (o .firstWithin)))) tag ∙ o .place) in
       let dead : isLive (getD (set vs j v) i u .content) ≡ false = ap (λ (x : Token). isLive (x .content)) (getD-set-other vs j i v u (λ e. apart (sym e)) ∙ gone u) ∙ spent-dead (tokenAt l i .content) in
       let off = live-off tag 0 u (set vs j v) i (first-spent tag vs j (tokenAt l j) (getD-set-other ts i j u (tokenAt l j) apart ∙ read j (tokenAt l j) (o .secondWithin)) ∙ found) dead in
@@ -147,5 +147,5 @@ module _ (tables links flags l : List ℕ) (used i j : ℕ) (w : Stored tables l
   both-spent = go (ℕ-discrete j i)
     where
       go : Dec (j ≡ i) → (tokens used (statesSpent l i j) ≡ tokensSpent used l i j) × Stored tables links flags′ (statesSpent l i j) used
-      go (yes e) = rw (e, set-set l (i * tokenWidth + 16) 1 1, set-set ts i u u) once
+      go (yes e) = rw (e, set-set l (i * tokenWidth + stateOffset) 1 1, set-set ts i u u) once
       go (no apart) = twice apart

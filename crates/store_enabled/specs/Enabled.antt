@@ -5,6 +5,7 @@ use mathlib.Core.Bool.{Bool, true, false, _&&_, cond}
 use mathlib.Core.List.{List, [], _∷_, map}
 use lib.ListN.{getD}
 use lib.Dec.{eqb}
+use Rattle.record.specs.Paths.{isRoot}
 use Rattle.record.specs.TokensAndTags.{sameTag, standsAt}
 use Rattle.record.specs.declared.tag.Tag.{Tag}
 use Rattle.record.specs.declared.token.Token.{Token}
@@ -34,7 +35,7 @@ abbrev pub leaveEntry : ℕ
 leaveEntry = 3
 
 unfoldable pub waitedFor : (entry : ℕ) → Tag → ℕ
-waitedFor entry tag = cond (eqb entry leaveEntry) (cond (eqb (tag .path) 0) 0 1) entry
+waitedFor entry tag = cond (eqb entry leaveEntry) (cond (isRoot (tag .path)) 0 1) entry
 
 -- the entries stand in the second half of a graph's tables
 abbrev pub arityOf : (tables : List ℕ) → Tag → ℕ

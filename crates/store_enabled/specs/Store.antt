@@ -10,7 +10,7 @@ use Rattle.buffer.specs.Rows.{joined, All}
 use Rattle.record.specs.TokensAndTags.{encode, tokens, tokenAt, standsAt, TokenFits}
 use Rattle.record.specs.declared.tag.Tag.{Tag}
 use Rattle.record.specs.declared.token.Token.{Token}
-use Rattle.record.specs.Widths.{tokenWidth}
+use Rattle.record.specs.Widths.{tokenWidth, stateOffset}
 use Rattle.store_flags.specs.Flags.{flagsOf, Counted}
 use Rattle.store_flags.specs.Marks.{Marked}
 use Rattle.store_chains.specs.declared.Found.{Found}
@@ -86,7 +86,7 @@ pub record Operands (ledger : List ℕ) (used first second : ℕ) : Type 0 where
 
 -- the bytes and the tokens of a ledger, where the tokens at two places are spent: a live one is spent by its state byte
 abbrev pub statesSpent : List ℕ → (first second : ℕ) → List ℕ
-statesSpent l i j = set (set l (i * tokenWidth + 16) 1) (j * tokenWidth + 16) 1
+statesSpent l i j = set (set l (i * tokenWidth + stateOffset) 1) (j * tokenWidth + stateOffset) 1
 
 abbrev pub tokensSpent : (used : ℕ) → List ℕ → (first second : ℕ) → List Token
 tokensSpent used l i j = set (set (tokens used l) i (spentToken (tokenAt l i))) j (spentToken (tokenAt l j))

@@ -131,7 +131,8 @@ fn waited_for(entry: u16, tag: Tag) -> u16
     if entry != LEAVE_ENTRY {
         return entry;
     }
-    if tag.path == 0 { 0 } else { 1 }
+    let path = tag.path;
+    if path.is_root() { 0 } else { 1 }
 }
 
 // The same by the tables of a graph, whose second half has the entries.

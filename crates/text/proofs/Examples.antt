@@ -5,6 +5,7 @@ use mathlib.Core.List.{List, [], _∷_, _++_}
 use lib.IntN.{pos, negsuc}
 use lib.ListN.{replicate}
 use Rattle.number.specs.Number.{signedOf}
+use Rattle.record.specs.Paths.{pathNumber, pathWords, rootPath}
 use Rattle.record.specs.TokensAndTags as Tokens
 use Rattle.record.specs.TokensAndTags.{tokenBytes, contentOf}
 use Rattle.record.specs.Cells as Cells
@@ -19,7 +20,7 @@ use Rattle.text.specs.Text.{decimal, signedDecimal, answerLine, tokenLin
 
 -- ---- numbers at the ends of their ranges
 
-pub largest-path : decimal 18446744073709551615 ≡ bytes "18446744073709551615"
+pub largest-path : decimal 340282366920938463463374607431768211455 ≡ bytes "340282366920938463463374607431768211455"
 unfolding decimal
 largest-path = refl
 
@@ -65,27 +66,27 @@ last-refusal = refl
 -- ---- the whole output of 01, "The printed listing", with two absent cells
 
 abbrev listing01 : List ℕ
-listing01 = tokenBytes 0 0 0 0 7 1 ++ tokenBytes 0 0 1 0 4294967287 1 ++ tokenBytes 0 0 0 1 4294967294 0
+listing01 = tokenBytes rootPath 0 0 0 7 1 ++ tokenBytes rootPath 0 1 0 4294967287 1 ++ tokenBytes rootPath 0 0 1 4294967294 0
 
 abbrev text01 : List ℕ
 text01 = bytes "completed 1 3 0\n0 0 0 0 7 spent\n0 0 0 1 -9 spent\n0 0 1 0 -2 live\n"
 
 pub printed01 : printed (answer Completed 1 3) listing01 (replicate 16 0) ≡ text01
-unfolding decimal answerLine tokenLine cellLine printed Tokens.decode Cells.decode contentOf cellOf signedOf
+unfolding decimal answerLine tokenLine cellLine printed pathNumber pathWords Tokens.decode Cells.decode contentOf cellOf signedOf
 printed01 = refl
 
 -- ---- tokens and cells at the ends of their ranges: every field has its place, a deferred token shows its cell number, a cell keeps its number where an
 -- absent one stands before it, and bytes that are no whole record are left out
 
 abbrev listingEnds : List ℕ
-listingEnds = tokenBytes 18446744073709551615 255 1 65535 2147483648 0 ++ tokenBytes 770 2 0 1 1023 2 ++ 1 ∷ []
+listingEnds = tokenBytes (pathWords 340282366920938463463374607431768211455) 255 1 65535 2147483648 0 ++ tokenBytes (pathWords 770) 2 0 1 1023 2 ++ 1 ∷ []
 
 abbrev cellsEnds : List ℕ
 cellsEnds = cellBytes 0 0 ++ cellBytes 2147483648 2 ++ cellBytes 0 1 ++ cellBytes 2147483647 2 ++ 1 ∷ []
 
 pub printed-ends : printed (answer Spent 2 2) listingEnds cellsEnds
-    ≡ bytes "spent 2 2 0\n18446744073709551615 255 65535 1 -2147483648 live\n770 2 1 0 1023 deferred\ncell 1 present -2147483648\ncell 2 waiting 0\ncell 3 present 2147483647\n"
-unfolding decimal answerLine tokenLine cellLine printed Tokens.decode Cells.decode contentOf cellOf signedOf
+    ≡ bytes "spent 2 2 0\n340282366920938463463374607431768211455 255 65535 1 -2147483648 live\n770 2 1 0 1023 deferred\ncell 1 present -2147483648\ncell 2 waiting 0\ncell 3 present 2147483647\n"
+unfolding decimal answerLine tokenLine cellLine printed pathNumber pathWords Tokens.decode Cells.decode contentOf cellOf signedOf
 printed-ends = refl
 
 -- ---- a buffer as long as the text, one byte shorter, and one byte longer

@@ -1,5 +1,6 @@
 -- The lemmas, and the laws of the printed text: Laws and Examples are for a reader and for crates above. Assumes nothing.
 pub mod Decimals
+pub mod Paths
 pub mod Lines
 pub mod Whole
 pub mod Room

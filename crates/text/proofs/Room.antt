@@ -1,4 +1,4 @@
--- How long a text is at most, so that a buffer can be lent in which every text fits: 74 bytes for the answer, 56 a token and 46 a cell. Assumes nothing.
+-- How long a text is at most, so that a buffer can be lent in which every text fits: 74 bytes for the answer, 75 a token and 46 a cell. Assumes nothing.
 use Prim.Native.Nat.{ℕ, zero, suc, _+_, _-_, _*_, _/_, _^_, _≤_, _<_}
 use native.Mathlib.Omega.{arith}
 use native.Mathlib.Nat.{suc-mul, le-trans}
@@ -13,6 +13,7 @@ use mir.Syntax.{w32}
 use mir.Val.{SFits}
 use Rattle.number.specs.Number.{Bytes, signedOf}
 use Rattle.buffer.specs.Rows.{All, allRows, joined}
+use Rattle.record.specs.Paths.{pathNumber}
 use Rattle.record.specs.TokensAndTags as Tokens
 use Rattle.record.specs.Cells as Cells
 use Rattle.record.specs.Cells.{CellFits}
@@ -34,6 +35,7 @@ use Rattle.text.specs.Words.{bytes}
 use Rattle.text.specs.Text.{decimal, signedDecimal, line, outcomeFields, stateWord, valueIn, answerLine, tokenLine, statedLine, cellLine, cellLines, lines, printed, printedOf}
 use Rattle.text.specs.declared.Printed.the-variants.{Done, TooSmall}
 use Rattle.text.specs.Room.{AnswerFits, mostBytes}
+use Rattle.text.proofs.Paths.{path-short}
 use Rattle.text.proofs.Decimals.{at-most, short}
 use Rattle.text.proofs.Whole.{joined-append, line-token, line-cell}
 
@@ -127,14 +129,14 @@ value-short (Live v) h = signed-short v h
 value-short (Spent v) h = signed-short v h
 value-short (Deferred cell) h = signed-short (signedOf cell) (signed-fits cell h)
 
-pub token-short : (t : Token) → Tokens.TokenFits t → length (tokenLine t) ≤ 56
+pub token-short : (t : Token) → Tokens.TokenFits t → length (tokenLine t) ≤ 75
 unfolding tokenLine
 token-short t h =
     let i = decimal (t .tag .iteration) in
     let j = decimal (t .tag .instruction) in
-    line-within (decimal (t .tag .path)) (i ∷ j ∷ decimal (t .port) ∷ signedDecimal (valueIn (t .content)) ∷ stateWord (t .content) ∷ [])
-    20 (3 ∷ 5 ∷ 3 ∷ 11 ∷ 8 ∷ [])
-    (short (t .tag .path) (h .path)) (
+    line-within (decimal (pathNumber (t .tag .path))) (i ∷ j ∷ decimal (t .port) ∷ signedDecimal (valueIn (t .content)) ∷ stateWord (t .content) ∷ [])
+    39 (3 ∷ 5 ∷ 3 ∷ 11 ∷ 8 ∷ [])
+    (path-short (t .tag .path) (h .path)) (
       at-most 2 (t .tag .iteration) (omega (arith, h .iteration)),
       (
         at-most 4 (t .tag .instruction) (omega (arith, h .instruction)),
@@ -156,10 +158,10 @@ cell-short k (Present v) h f = stated-short k (bytes "present") v h (omega arith
 
 -- ---- the lines of tokens and of cells that fit their records
 
-tokens-within : (ts : List Token) → All Tokens.TokenFits ts → length (joined (λ (x : List ℕ). x) (map tokenLine ts)) ≤ length ts * 56
+tokens-within : (ts : List Token) → All Tokens.TokenFits ts → length (joined (λ (x : List ℕ). x) (map tokenLine ts)) ≤ length ts * 75
 tokens-within [] f = omega arith
 tokens-within (t ∷ ts) f =
-    omega (arith, length-append (tokenLine t) (joined (λ (x : List ℕ). x) (map tokenLine ts)), token-short t (f .0), tokens-within ts (f .1), suc-mul (length ts) 56)
+    omega (arith, length-append (tokenLine t) (joined (λ (x : List ℕ). x) (map tokenLine ts)), token-short t (f .0), tokens-within ts (f .1), suc-mul (length ts) 75)
 
 cells-within : (k : ℕ) (xs : List Cell) → k + length xs ≤ 2 ^ 64 → All CellFits xs → length (joined (λ (x : List ℕ). x) (cellLines k xs)) ≤ length xs * 46
 cells-within k [] h f = omega arith
@@ -182,7 +184,7 @@ lines-within a listing cells ft fc h =
     let many : length ts ≡ n = length-rows tokenWidth Tokens.decode n listing in
     let more : length cs ≡ m = length-rows cellWidth Cells.decode m cells in
     let e : length (joined (λ (x : List ℕ). x) (map tokenLine ts ++ cellLines 0 cs)) ≡ length jt + length jc = ap length (joined-append (map tokenLine ts) (cellLines 0 cs)) ∙ length-append jt jc in
-    let wt : length jt ≤ n * 56 = subst (λ (k : ℕ). length jt ≤ k * 56) many (tokens-within ts ft) in
+    let wt : length jt ≤ n * 75 = subst (λ (k : ℕ). length jt ≤ k * 75) many (tokens-within ts ft) in
     let wc : length jc ≤ m * 46 = subst (λ (k : ℕ). length jc ≤ k * 46) more (cells-within 0 cs (omega arith) fc) in
     omega (arith, length-append (answerLine a) (joined (λ (x : List ℕ). x) (map tokenLine ts ++ cellLines 0 cs)), e)
 
@@ -201,11 +203,11 @@ pub text-within : (a : Answer) (listing cells : List ℕ) → AnswerFits a → B
 text-within a listing cells f bl bc h = omega (arith, bytes-within a listing cells bl bc h, answer-short a f)
 
 pub line-short : (a : Answer) (listing cells : List ℕ) → length (answerLine a) ≤ 74 → Bytes listing → Bytes cells → length cells < 2 ^ 64
-    → (j : ℕ) → j < 1 + (length listing / tokenWidth + length cells / cellWidth) → length (getD (lines a listing cells) j []) ≤ 74
-line-short a listing cells f bl bc h zero lt = f
+    → (j : ℕ) → j < 1 + (length listing / tokenWidth + length cells / cellWidth) → length (getD (lines a listing cells) j []) ≤ 75
+line-short a listing cells f bl bc h zero lt = omega arith
 line-short a listing cells f bl bc h (suc i) lt = go (leb (suc i) (length listing / tokenWidth)) refl
   where
-    go : (b : Bool) → leb (suc i) (length listing / tokenWidth) ≡ b → length (getD (lines a listing cells) (suc i) []) ≤ 74
+    go : (b : Bool) → leb (suc i) (length listing / tokenWidth) ≡ b → length (getD (lines a listing cells) (suc i) []) ≤ 75
     go true e =
         let k = (suc i - 1) * tokenWidth in
         let s = token-short (Tokens.tokenAt listing (suc i - 1)) (token-fits (drop k listing) (bytes-drop k listing bl)) in

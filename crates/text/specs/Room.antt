@@ -11,6 +11,6 @@ pub record AnswerFits (a : Answer) : Type 0 where
   pub tokens : a .tokens < 2 ^ 64
   pub place : placeIn (a .outcome) < 2 ^ 64
 
--- the lines of so many tokens and cells: 56 bytes a token and 46 a cell at most, with 20 digits to a number of 64 bits
+-- the lines of so many tokens and cells: 75 bytes a token and 46 a cell at most, with 39 digits to a path and 20 to a number of 64 bits
 abbrev pub mostBytes : (listing cells : List ℕ) → ℕ
-mostBytes listing cells = length listing / tokenWidth * 56 + length cells / cellWidth * 46
+mostBytes listing cells = length listing / tokenWidth * 75 + length cells / cellWidth * 46

@@ -8,6 +8,7 @@ use lib.Dec.{ltb, leb}
 use lib.IntN.{ℤ, pos, negsuc}
 use Rattle.number.specs.Number.{signedOf}
 use Rattle.buffer.specs.Rows.{allRows, joined}
+use Rattle.record.specs.Paths.{pathNumber}
 use Rattle.record.specs.TokensAndTags as Tokens
 use Rattle.record.specs.Cells as Cells
 use Rattle.record.specs.declared.token.Token.{Token}
@@ -63,7 +64,8 @@ outcomeFields (Outcomes.Refused r place) = bytes "refused" ∷ decimal (numberOf
 unfoldable pub answerLine : Answer → List ℕ
 answerLine a = line (outcomeFields (a .outcome) ++ decimal (a .firings) ∷ decimal (a .tokens) ∷ decimal (placeIn (a .outcome)) ∷ [])
 
--- ---- "Then per token: path, iteration, instruction, port, value, state word (`live`, `spent`, `deferred`)."
+-- ---- "Then per token: path, iteration, instruction, port, value, state word (`live`, `spent`, `deferred`)." R-8 of 02: "A path prints as the decimal of the
+-- whole 128-bit number."
 
 abbrev pub stateWord : Content → List ℕ
 stateWord (Live v) = bytes "live"
@@ -78,7 +80,7 @@ valueIn (Deferred cell) = signedOf cell
 
 unfoldable pub tokenLine : Token → List ℕ
 tokenLine t =
-    line (decimal (t .tag .path) ∷ decimal (t .tag .iteration) ∷ decimal (t .tag .instruction) ∷ decimal (t .port) ∷ signedDecimal (valueIn (t .content)) ∷ stateWord (t .content) ∷ [])
+    line (decimal (pathNumber (t .tag .path)) ∷ decimal (t .tag .iteration) ∷ decimal (t .tag .instruction) ∷ decimal (t .port) ∷ signedDecimal (valueIn (t .content)) ∷ stateWord (t .content) ∷ [])
 
 -- ---- "Then per cell not absent: `cell`, its number, state word, value." "The value is 0 until present." ("Firing")
 

@@ -21,11 +21,11 @@ pub enum Printed {
     TooSmall,
 }
 
-// The bytes of the longest lines, with 20 digits to a number of 64 bits: of a refused answer, which is
-// the longest of all, of a token and of a cell.
+// The bytes of the longest lines, with 39 digits to a path and 20 to a number of 64 bits: of a refused
+// answer, of a token, which is the longest of all, and of a cell.
 const ANSWER: usize = 74;
 
-const TOKEN: usize = 56;
+const TOKEN: usize = 75;
 
 const CELL: usize = 46;
 
@@ -96,7 +96,7 @@ fn fits(answer: Answer, listing: &[u8], cells: &[u8], room: usize) -> bool
         return true;
     }
     let n = count(listing, cells);
-    let mut line = [0u8; ANSWER];
+    let mut line = [0u8; TOKEN];
     let mut left = room;
     let mut j = 0;
     while j < n {

@@ -1,15 +1,17 @@
 // Printed lines, made in place: each function puts a text into a buffer from `at` on, answers where it
 // ends, and leaves every other byte as it was. It asks for room for just that text.
 use record::cell::Cell;
+use record::tag::Path;
 use record::token::Content;
 use record::token::Token;
 use rules::answer;
 use rules::answer::Answer;
 use rules::answer::Outcome;
 ghost use mathlib.Core.Path.{_≡_};
-ghost use Prim.Native.Nat.{_<_, _≤_, _+_};
+ghost use Prim.Native.Nat.{_<_, _≤_, _+_, _/_, _%_};
 ghost use mathlib.Core.List.{[], _∷_, _++_};
 ghost use lib.ListN.{length};
+ghost use Rattle.record.specs.Paths.{pathNumber, pathWords};
 ghost use Rattle.rules.specs.Answer.{placeIn};
 ghost use Rattle.text.specs.Text.{decimal, signedDecimal, stateWord, valueIn, outcomeFields, answerLine, tokenLine, statedLine, cellLine};
 ghost use Rattle.text.specs.Lines.{RoomFor, Added, lastDigits, spaced};
@@ -85,6 +87,73 @@ fn put_number(out: &mut [u8], at: usize, n: u64, end: u8) -> usize
     put_byte(out, k, end)
 }
 
+// A path divided by ten: the quotient, and the digit that is left.
+struct Divided {
+    quotient: Path,
+    digit: u8,
+}
+
+// By the higher word, and then by the halves of the lower one, as on paper.
+fn by_ten(path: Path) -> Divided
+    ensures { λ r. ⌜ (r .quotient ≡ pathWords (pathNumber path / 10)) × (r .digit ≡ pathNumber path % 10) × (r .quotient .high ≡ path .high / 10) ⌝ }
+{
+    let high = path.high;
+    let low = path.low;
+    let upper = high % 10 * 4294967296 + low / 4294967296;
+    let lower = upper % 10 * 4294967296 + low % 4294967296;
+    let quotient = Path {
+        low: upper / 10 * 4294967296 + lower / 10,
+        high: high / 10,
+    };
+    Divided {
+        quotient,
+        digit: (lower % 10) as u8,
+    }
+}
+
+// How many digits a path has.
+fn path_digits(path: Path) -> usize
+    ensures { λ r. ⌜ r ≡ length (decimal (pathNumber path)) ⌝ }
+{
+    let mut rest = path;
+    let mut k = 0;
+    while rest.high != 0 {
+        let d = by_ten(rest);
+        rest = d.quotient;
+        k += 1;
+    }
+    k + digits(rest.low)
+}
+
+// Puts the last k digits of a path, the last one first.
+fn put_path_digits(out: &mut [u8], at: usize, k: usize, path: Path) -> usize
+    requires { ⌜ at + k ≤ length (now out) ⌝ }
+    ensures { λ r. ⌜ Added (now (out .entry)) (now (out .exit)) at r (lastDigits k (pathNumber path)) ⌝ }
+{
+    let mut rest = path;
+    let mut left = k;
+    while 0 < left {
+        left -= 1;
+        let d = by_ten(rest);
+        out[at + left] = 48 + d.digit;
+        rest = d.quotient;
+    }
+    at + k
+}
+
+// Puts a path, and the byte that ends the field. Most paths have four levels at most, and these are
+// numbers of 64 bits.
+fn put_path(out: &mut [u8], at: usize, path: Path, end: u8) -> usize
+    requires { ⌜ RoomFor (now out) at (decimal (pathNumber path) ++ end ∷ []) ⌝ }
+    ensures { λ r. ⌜ Added (now (out .entry)) (now (out .exit)) at r (decimal (pathNumber path) ++ end ∷ []) ⌝ }
+{
+    if path.high == 0 {
+        return put_number(out, at, path.low, end);
+    }
+    let k = put_path_digits(out, at, path_digits(path), path);
+    put_byte(out, k, end)
+}
+
 // Puts a signed number, and the byte that ends the field. The magnitude of a number below 0 is what its
 // bits lack of 2 to the 32, so the least number needs no case of its own.
 fn put_signed(out: &mut [u8], at: usize, value: i32, end: u8) -> usize
@@ -139,7 +208,8 @@ pub fn put_token(out: &mut [u8], at: usize, t: Token) -> usize
 {
     let tag = t.tag;
     let content = t.content;
-    let path = put_number(out, at, tag.path, b' ');
+    let calls = tag.path;
+    let path = put_path(out, at, calls, b' ');
     let iteration = put_number(out, path, tag.iteration as u64, b' ');
     let instruction = put_number(out, iteration, tag.instruction as u64, b' ');
     let port = put_number(out, instruction, t.port as u64, b' ');

@@ -2,6 +2,7 @@
 // and then the whole buffer, which was lent as points.
 use record::cell;
 use record::cell::Cell;
+use record::tag::Path;
 use record::tag::Tag;
 use record::token;
 use record::token::Content;
@@ -38,7 +39,12 @@ fn show_in(answer: Answer, listing: &[u8], cells: &[u8], bytes: usize)
     show(answer, listing, cells, &mut out[0..bytes]);
 }
 
-fn token_of(path: u64, iteration: u8, instruction: u16, port: u8, content: Content) -> Token {
+const GREATEST: Path = Path {
+    low: 18446744073709551615,
+    high: 18446744073709551615,
+};
+
+fn token_of(path: Path, iteration: u8, instruction: u16, port: u8, content: Content) -> Token {
     let tag = Tag {
         path,
         iteration,
@@ -51,22 +57,27 @@ fn token_of(path: u64, iteration: u8, instruction: u16, port: u8, content: Conte
 fn put_example(listing: &mut [u8])
     requires { ⌜ length (now listing) ≡ 3 * tokenWidth ⌝ }
 {
-    token::put_token(listing, 0, token_of(0, 0, 0, 0, Content::Spent(7)));
-    token::put_token(listing, 1, token_of(0, 0, 0, 1, Content::Spent(-9)));
-    token::put_token(listing, 2, token_of(0, 0, 1, 0, Content::Live(-2)));
+    token::put_token(listing, 0, token_of(Path::ROOT, 0, 0, 0, Content::Spent(7)));
+    token::put_token(
+        listing,
+        1,
+        token_of(Path::ROOT, 0, 0, 1, Content::Spent(-9)),
+    );
+    token::put_token(listing, 2, token_of(Path::ROOT, 0, 1, 0, Content::Live(-2)));
 }
 
 // Fields at their least, a deferred token, and the greatest path.
 fn put_least(listing: &mut [u8])
     requires { ⌜ length (now listing) ≡ 5 * tokenWidth ⌝ }
 {
-    token::put_token(listing, 0, token_of(0, 0, 0, 0, Content::Live(0)));
-    token::put_token(listing, 1, token_of(770, 2, 1, 1, Content::Deferred(1023)));
+    token::put_token(listing, 0, token_of(Path::ROOT, 0, 0, 0, Content::Live(0)));
+    let entered = Path { low: 770, high: 0 };
     token::put_token(
         listing,
-        2,
-        token_of(18446744073709551615, 0, 9, 0, Content::Live(-1)),
+        1,
+        token_of(entered, 2, 1, 1, Content::Deferred(1023)),
     );
+    token::put_token(listing, 2, token_of(GREATEST, 0, 9, 0, Content::Live(-1)));
 }
 
 // Every field at its greatest, and the ends of a value.
@@ -75,16 +86,8 @@ fn put_greatest(listing: &mut [u8])
 {
     let least = Content::Spent(-2147483648);
     let greatest = Content::Live(2147483647);
-    token::put_token(
-        listing,
-        3,
-        token_of(18446744073709551615, 255, 65535, 255, least),
-    );
-    token::put_token(
-        listing,
-        4,
-        token_of(18446744073709551615, 255, 65535, 255, greatest),
-    );
+    token::put_token(listing, 3, token_of(GREATEST, 255, 65535, 255, least));
+    token::put_token(listing, 4, token_of(GREATEST, 255, 65535, 255, greatest));
 }
 
 // The first cell stays absent, and so does one between others.
@@ -146,5 +149,5 @@ fn main() {
     };
     // No records, and bytes that are no whole record.
     show_in(refused, &[0u8; 0], &[0u8; 0], 16);
-    show_in(refused, &[1u8; 19], &[2u8; 7], 15);
+    show_in(refused, &[1u8; token::WIDTH - 1], &[2u8; 7], 15);
 }

@@ -99,7 +99,7 @@ fn show_folder(path: &mut [u8], n: usize)
     let i = io::count(i, &inputs);
     let p = io::count(p, &picks);
     // Room for every text (`EveryTextFits` of the crate printing).
-    let mut out = [0u8; 161866];
+    let mut out = [0u8; 200778];
     show(&graph[..g], &inputs[..i], &picks[..p], &mut out);
 }
 

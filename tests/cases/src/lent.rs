@@ -6,7 +6,8 @@ pub use layout::{
 };
 
 pub const GRAPH_RECORD: usize = 16;
-pub const TOKEN_RECORD: usize = 20;
+pub const TOKEN_RECORD: usize = 28;
+pub const LOG_RECORD: usize = 20;
 pub const CELL_RECORD: usize = 8;
 pub const PICK_RECORD: usize = 2;
 

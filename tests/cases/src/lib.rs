@@ -12,6 +12,7 @@
 //! - `hung`: runs with nothing enabled that are not completed (02, R-2);
 //! - `procedures`: a LEAVE under path 0 is a result (02, R-5);
 //! - `sites`: every LEAVE in an entered path has its caller (02, R-6);
+//! - `levels`: calls nest eight levels deep (02, R-8);
 //! - `profiles`, `logs`, `bounds`: profiles in ideal steps (02, R-1), logs and replays
 //!   and bounds, which the tests of these names call through the C
 //!   functions, apart from the program;
@@ -21,6 +22,7 @@ pub mod apart;
 pub mod bounds;
 mod hung;
 pub mod lent;
+mod levels;
 mod limits;
 pub mod logs;
 mod orders;
@@ -58,6 +60,7 @@ pub fn all() -> Vec<Case> {
     cases.extend(hung::cases());
     cases.extend(procedures::cases());
     cases.extend(sites::cases());
+    cases.extend(levels::cases());
     cases
 }
 

@@ -172,7 +172,7 @@ fn full() -> Vec<Case> {
         inputs.extend((12..12 + outs).map(|number| token(number, 0, -1)));
         lend(&graph, &inputs).capacity(capacity).from(capacity - 6)
     };
-    let alike = lend(&[op(SINK, &[])], &[]).input_bytes(2048 * 20);
+    let alike = lend(&[op(SINK, &[])], &[]).input_bytes(2048 * TOKEN_RECORD);
     vec![
         case(
             "2048 tokens, capacity 2048",
@@ -418,7 +418,9 @@ fn beforehand() -> Vec<Case> {
         ),
         case(
             "beforehand: zeros",
-            sum().ledger_of(&[[0; 20]; 5]).cells_of(&[[0; 8]; 2]),
+            sum()
+                .ledger_of(&[[0; TOKEN_RECORD]; 5])
+                .cells_of(&[[0; 8]; 2]),
             "completed 1 3 0",
         ),
     ]

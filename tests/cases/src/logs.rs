@@ -5,16 +5,16 @@ use crate::lent::*;
 use crate::paper::{sum, two_stores};
 
 /// A log record: path, iteration, a zero byte, instruction.
-pub fn firing(path: u64, iteration: u8, instruction: u16) -> [u8; 12] {
-    let mut record = [0; 12];
-    record[..8].copy_from_slice(&path.to_le_bytes());
-    record[8] = iteration;
-    record[10..].copy_from_slice(&instruction.to_le_bytes());
+pub fn firing(path: u128, iteration: u8, instruction: u16) -> [u8; LOG_RECORD] {
+    let mut record = [0; LOG_RECORD];
+    record[..16].copy_from_slice(&path.to_le_bytes());
+    record[16] = iteration;
+    record[18..].copy_from_slice(&instruction.to_le_bytes());
     record
 }
 
 /// A firing at the root tag's path and iteration.
-fn root(instruction: u16) -> [u8; 12] {
+fn root(instruction: u16) -> [u8; LOG_RECORD] {
     firing(0, 0, instruction)
 }
 
@@ -42,12 +42,12 @@ fn logged(
     lent: Lent,
     records: usize,
     says: &'static str,
-    log: &[[u8; 12]],
+    log: &[[u8; LOG_RECORD]],
 ) -> LoggedCase {
     LoggedCase {
         name,
         lent,
-        bytes: 12 * records,
+        bytes: LOG_RECORD * records,
         says,
         log: log.concat(),
     }
@@ -61,7 +61,12 @@ fn not_logged(name: &'static str, lent: Lent, bytes: usize, says: &'static str) 
     }
 }
 
-fn replay(name: &'static str, lent: Lent, log: &[[u8; 12]], says: &'static str) -> ReplayCase {
+fn replay(
+    name: &'static str,
+    lent: Lent,
+    log: &[[u8; LOG_RECORD]],
+    says: &'static str,
+) -> ReplayCase {
     ReplayCase {
         name,
         lent,
@@ -131,18 +136,23 @@ fn logged_lengths() -> Vec<LoggedCase> {
             "completed 1 3 0",
             &[root(0)],
         ),
-        not_logged("budget 2, a log of one record", sum().budget(2), 12, seven),
+        not_logged(
+            "budget 2, a log of one record",
+            sum().budget(2),
+            LOG_RECORD,
+            seven,
+        ),
         not_logged("budget 1, no log", sum().budget(1), 0, seven),
-        not_logged("a log of 13 bytes", sum().budget(1), 13, seven),
-        not_logged("budget 2048, 2047 records", sum(), 12 * 2047, seven),
+        not_logged("a log of 21 bytes", sum().budget(1), 21, seven),
+        not_logged("budget 2048, 2047 records", sum(), LOG_RECORD * 2047, seven),
         not_logged(
             "budget 65535, 2047 records",
             sum().budget(65535),
-            12 * 2047,
+            LOG_RECORD * 2047,
             seven,
         ),
         not_logged("7 of the log before 6", bad_input(), 1, seven),
-        not_logged("6 with a log", bad_input(), 12, "refused 6 0 0 0"),
+        not_logged("6 with a log", bad_input(), LOG_RECORD, "refused 6 0 0 0"),
         not_logged(
             "1 before 7 of the log",
             sum().graph_bytes(0),
@@ -215,13 +225,13 @@ fn replay_bytes(name: &'static str, bytes: usize, says: &'static str) -> ReplayC
 }
 
 fn replays_of_the_sum() -> Vec<ReplayCase> {
-    let marked = byte(root(0), 9, 1);
+    let marked = byte(root(0), 17, 1);
     vec![
         replay("the sum's log", sum(), &[root(0)], "completed 1 3 0"),
         replay("no record", sum(), &[], "spent 0 2 0"),
         replay("the record twice", sum(), &[root(0); 2], "refused 20 1 3 1"),
         replay("3000 records", sum(), &[root(0); 3000], "refused 20 1 3 1"),
-        replay("byte 9 is 1", sum(), &[marked], "refused 20 0 2 0"),
+        replay("byte 17 is 1", sum(), &[marked], "refused 20 0 2 0"),
         replay(
             "instruction 1, an OUT",
             sum(),
@@ -247,7 +257,7 @@ fn replays_of_the_sum() -> Vec<ReplayCase> {
             &[firing(256, 0, 0)],
             "refused 20 0 2 0",
         ),
-        replay_bytes("a record and 5 bytes", 17, "refused 20 1 3 1"),
+        replay_bytes("a record and 5 bytes", 25, "refused 20 1 3 1"),
         replay_bytes("5 bytes", 5, "refused 20 0 2 0"),
         replay(
             "picks and budget are not looked at",

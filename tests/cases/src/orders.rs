@@ -296,8 +296,8 @@ fn firings() -> Vec<Case> {
             turning().capacity(255).from(254),
             "refused 8 254 255 254",
         ),
-        case("order: 14 before 8", deep(5), "refused 14 4 5 4"),
-        case("order: 8 at three levels", deep(4), "refused 8 3 4 3"),
+        case("order: 14 before 8", deep(9), "refused 14 8 9 8"),
+        case("order: 8 at seven levels", deep(8), "refused 8 7 8 7"),
         case("order: 17 before 8", past(2), "refused 17 1 2 1"),
         case(
             "order: 8 before 9 at COPY",

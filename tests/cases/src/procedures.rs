@@ -112,13 +112,13 @@ fn factorial() -> Vec<Case> {
         ),
         case(
             "procedure: by itself it goes one level deeper",
-            of(&[token(0, 0, 4)]).from(36),
-            "completed 36 46 0",
+            of(&[token(0, 0, 8)]).from(76),
+            "completed 68 86 0",
         ),
         case(
-            "procedure: called with 4, it is too deep",
-            of(&[token(9, 0, 4)]).from(24),
-            "refused 14 24 33 32",
+            "procedure: called with 8, it is too deep",
+            of(&[token(9, 0, 8)]).from(56),
+            "refused 14 48 65 64",
         ),
     ]
 }

@@ -260,14 +260,16 @@ fn bad_input() -> Vec<Case> {
     let fields = [
         (0, 1, "path 1"),
         (7, 128, "path of 64 bits"),
-        (8, 1, "iteration 1"),
-        (8, 255, "iteration 255"),
-        (16, 1, "state 1"),
-        (16, 2, "state 2"),
-        (16, 3, "state 3"),
-        (17, 1, "byte 17"),
-        (18, 1, "byte 18"),
-        (19, 255, "byte 19"),
+        (8, 1, "path of 65 bits"),
+        (15, 128, "path of 128 bits"),
+        (16, 1, "iteration 1"),
+        (16, 255, "iteration 255"),
+        (24, 1, "state 1"),
+        (24, 2, "state 2"),
+        (24, 3, "state 3"),
+        (25, 1, "byte 25"),
+        (26, 1, "byte 26"),
+        (27, 255, "byte 27"),
     ];
     let mut cases = Vec::new();
     for (at, value, word) in fields {
@@ -296,7 +298,7 @@ fn bad_input() -> Vec<Case> {
 fn bad_store() -> Vec<Case> {
     let lent = || lend(&plain(), &[token(0, 0, 1)]).capacity(3).cells(1);
     let mut cases = Vec::new();
-    for bytes in [1, 19, 21, 2048 * 20 + 1, 2049 * 20] {
+    for bytes in [1, 20, 27, 29, 2048 * TOKEN_RECORD + 1, 2049 * TOKEN_RECORD] {
         cases.push(case(
             format!("7 inputs of {bytes} bytes"),
             lent().input_bytes(bytes),
@@ -310,7 +312,7 @@ fn bad_store() -> Vec<Case> {
             at_once(7, 0),
         ));
     }
-    for bytes in [1, 59, 61, 2048 * 20 + 1, 2049 * 20] {
+    for bytes in [1, 60, 83, 85, 2048 * TOKEN_RECORD + 1, 2049 * TOKEN_RECORD] {
         cases.push(case(
             format!("7 ledger of {bytes} bytes"),
             lent().ledger_bytes(bytes),
@@ -529,7 +531,7 @@ fn cell_refusals() -> Vec<Case> {
         "11 the same value again",
         {
             let mut lent = two_stores();
-            lent.inputs.given[72] = 10;
+            lent.inputs.given[3 * TOKEN_RECORD + 20] = 10;
             lent
         },
         "refused 11 1 4 2",
@@ -556,14 +558,14 @@ fn tag_refusals() -> Vec<Case> {
             "refused 13 255 256 255",
         ),
         case(
-            "14 ENTER at four levels",
-            lend(&deep, &[token(0, 0, 1)]),
-            "refused 14 4 5 4",
+            "14 ENTER at eight levels",
+            lend(&deep, &[token(0, 0, 1)]).capacity(9),
+            "refused 14 8 9 8",
         ),
         case(
-            "14 not: four levels",
-            lend(&deep, &[token(0, 0, 1)]).budget(4),
-            "spent 4 5 0",
+            "14 not: eight levels",
+            lend(&deep, &[token(0, 0, 1)]).capacity(9).budget(8),
+            "spent 8 9 0",
         ),
         case(
             "17 return 2 plus 2 of 4 instructions",

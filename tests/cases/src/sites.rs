@@ -16,6 +16,21 @@ pub fn cases() -> Vec<Case> {
         with(ADD + WITH_CONSTANT, 100, &[(4, 0)]),
         with(ADD + WITH_CONSTANT, 1000, &[(4, 0)]),
     ];
+    // Eight procedures, each of which enters the next, with a site of its own; the last leaves.
+    let mut eight = Vec::new();
+    for level in 0..8 {
+        let site = 11 + 30 * level;
+        eight.push(with(
+            ENTER,
+            site,
+            &[(level as u16 + 1, 0), (level as u16 + 9, 0)],
+        ));
+    }
+    eight.push(op(LEAVE, &[]));
+    eight.push(op(OUT, &[]));
+    for level in 1..8 {
+        eight.push(with(ADD + WITH_CONSTANT, 1 << (3 * level), &[(8, 0)]));
+    }
     // The outer procedure calls the inner one, x + 1, at sites 4 and 6.
     let inner = with(ADD + WITH_CONSTANT, 1, &[(8, 0)]);
     let twice = [
@@ -34,6 +49,11 @@ pub fn cases() -> Vec<Case> {
             "sites: four levels, and each LEAVE returns by its own site",
             lend(&deep, &[token(0, 0, 1)]).capacity(12),
             "completed 11 12 0",
+        ),
+        case(
+            "sites: eight levels, and each LEAVE returns by its own site",
+            lend(&eight, &[token(0, 0, 1)]).capacity(24),
+            "completed 23 24 0",
         ),
         case(
             "sites: one procedure called from two sites of another",

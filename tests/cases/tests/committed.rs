@@ -68,3 +68,24 @@ fn every_refusal_is_reached_at_once_or_in_a_firing() {
         assert_eq!(firing(number), fires, "{number} in a firing");
     }
 }
+
+/// The engine through its C function; the program is another build of it.
+#[test]
+fn the_committed_output_is_that_of_the_library() {
+    for case in cases::all() {
+        let lent = &case.lent;
+        let (mut ledger, mut cells) = (lent.ledger.bytes(), lent.cells.bytes());
+        let (graph, inputs, picks) = (lent.graph.bytes(), lent.inputs.bytes(), lent.picks.bytes());
+        let answer = engine::run(
+            &graph,
+            &inputs,
+            &picks,
+            lent.budget,
+            &mut ledger,
+            &mut cells,
+        );
+        let due = cases::run(lent);
+        assert_eq!(answer, engine::packed_answer(&due.answer), "{}", case.name);
+        assert!(ledger == due.ledger && cells == due.cells, "{}", case.name);
+    }
+}

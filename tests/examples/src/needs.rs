@@ -81,7 +81,7 @@ fn step(record: &[u8]) -> String {
 }
 
 fn second_profile(files: &Files) -> Profile {
-    let mut ledger = vec![0; 20 * RECORDS];
+    let mut ledger = vec![0; asm::TOKEN_RECORD * RECORDS];
     let mut cells = vec![0; 8 * CELLS];
     let mut records = vec![0; 4 * RECORDS];
     let (graph, inputs) = (&files.graph, &files.inputs);
@@ -110,7 +110,7 @@ fn bounds_agree(files: &Files, bounds: &Bounds, run: &Left) -> Result<(), String
 }
 
 fn profile_agrees(files: &Files, profile: &Profile, run: &Left) -> Result<(), String> {
-    let mut ledger = vec![0; 20 * RECORDS];
+    let mut ledger = vec![0; asm::TOKEN_RECORD * RECORDS];
     let mut cells = vec![0; 8 * CELLS];
     let mut records = vec![0; 4 * RECORDS];
     let (graph, inputs) = (&files.graph, &files.inputs);

@@ -21,7 +21,7 @@ impl Left {
     /// What the engine left in ledger and cells.
     pub fn of_engine(answer: u64, ledger: &[u8], cells: Vec<u8>) -> Left {
         let (_, _, tokens, _) = engine::unpacked(answer);
-        let used = &ledger[..20 * (tokens as usize).min(RECORDS)];
+        let used = &ledger[..asm::TOKEN_RECORD * (tokens as usize).min(RECORDS)];
         let mut listing = vec![0; used.len()];
         engine::list(used, &mut listing);
         Left {
@@ -70,7 +70,7 @@ pub fn other_orders(files: &Files, first: &Left) -> Result<usize, String> {
 
 /// Runs and lists as the program does.
 fn engine_run(files: &Files, picks: &[u8]) -> Left {
-    let mut ledger = vec![0; 20 * RECORDS];
+    let mut ledger = vec![0; asm::TOKEN_RECORD * RECORDS];
     let mut cells = vec![0; 8 * CELLS];
     let (graph, inputs) = (&files.graph, &files.inputs);
     let answer = engine::run(graph, inputs, picks, BUDGET, &mut ledger, &mut cells);
@@ -130,7 +130,7 @@ impl Second {
 
 /// Runs the second emulator with the picks of the files.
 pub fn second_run(files: &Files) -> Second {
-    let mut ledger = vec![0; 20 * RECORDS];
+    let mut ledger = vec![0; asm::TOKEN_RECORD * RECORDS];
     let mut cells = vec![0; 8 * CELLS];
     let Files {
         graph,
@@ -138,7 +138,7 @@ pub fn second_run(files: &Files) -> Second {
         picks,
     } = files;
     let answer = second::run(graph, inputs, picks, BUDGET, &mut ledger, &mut cells);
-    let used = &ledger[..20 * answer.tokens];
+    let used = &ledger[..asm::TOKEN_RECORD * answer.tokens];
     let mut listing = vec![0; used.len()];
     second::list(used, &mut listing);
     Second {

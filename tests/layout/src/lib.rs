@@ -38,24 +38,24 @@ pub fn instruction(code: u8, arcs: &[(u16, u8)], constant: i32) -> [u8; 16] {
 
 /// A token record.
 pub fn token(
-    path: u64,
+    path: u128,
     iteration: u8,
     instruction: u16,
     port: u8,
     value: i32,
     state: u8,
-) -> [u8; 20] {
-    let mut record = [0; 20];
-    record[0..8].copy_from_slice(&path.to_le_bytes());
-    record[8] = iteration;
-    record[9] = port;
-    record[10..12].copy_from_slice(&instruction.to_le_bytes());
-    record[12..16].copy_from_slice(&value.to_le_bytes());
-    record[16] = state;
+) -> [u8; 28] {
+    let mut record = [0; 28];
+    record[0..16].copy_from_slice(&path.to_le_bytes());
+    record[16] = iteration;
+    record[17] = port;
+    record[18..20].copy_from_slice(&instruction.to_le_bytes());
+    record[20..24].copy_from_slice(&value.to_le_bytes());
+    record[24] = state;
     record
 }
 
 /// An input: a live token of the root tag.
-pub fn input(instruction: u16, port: u8, value: i32) -> [u8; 20] {
+pub fn input(instruction: u16, port: u8, value: i32) -> [u8; 28] {
     token(0, 0, instruction, port, value, 0)
 }

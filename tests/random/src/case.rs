@@ -2,8 +2,9 @@
 
 use std::time::{Duration, Instant};
 
-use second::{Answer, Outcome, Refusal};
+use second::{Answer, Outcome, Refusal, LOG_RECORD, TOKEN_RECORD};
 
+use crate::conversions::Records;
 use crate::prng::Prng;
 
 /// What is called.
@@ -59,12 +60,12 @@ pub struct Left {
 impl Left {
     /// The used records of the ledger.
     pub fn used(&self) -> &[u8] {
-        &self.ledger[..20 * self.answer.tokens]
+        &self.ledger[..TOKEN_RECORD * self.answer.tokens]
     }
 
     /// The log of a logged run: a record for each firing.
     pub fn log(&self) -> &[u8] {
-        &self.further[..12 * self.answer.firings]
+        &self.further[..LOG_RECORD * self.answer.firings]
     }
 }
 
@@ -146,8 +147,8 @@ impl Case {
     /// Whether inputs, ledger and cells are whole records and not too many.
     pub fn stores_fit(&self) -> bool {
         [
-            (self.inputs.len(), 20, 2048),
-            (self.ledger_bytes, 20, 2048),
+            (self.inputs.len(), TOKEN_RECORD, 2048),
+            (self.ledger_bytes, TOKEN_RECORD, 2048),
             (self.cells_bytes, 8, 1024),
         ]
         .iter()
@@ -224,8 +225,8 @@ pub fn compare(case: &Case, clock: &mut Clock) -> (Left, Result<(), String>) {
     let engine_answer = case.engine(&mut found);
     clock.engine += start.elapsed();
 
-    let mut listing = vec![0; 20 * answer.tokens];
-    let code = second::list(&due.ledger[..20 * answer.tokens], &mut listing);
+    let mut listing = vec![0; TOKEN_RECORD * answer.tokens];
+    let code = second::list(&due.ledger[..TOKEN_RECORD * answer.tokens], &mut listing);
     assert_eq!(code, 0, "the second emulator lists its own ledger");
     let left = Left {
         answer,
@@ -300,6 +301,35 @@ pub fn compare_listing(records: &[u8], out_bytes: usize, prng: &mut Prng) -> Res
         return Err("listing: bytes outside the output were written".to_string());
     }
     equal("listing", found.contents(), &due)
+}
+
+/// Compares what both converters make of any bytes, with an output of any length.
+pub fn compare_conversion(
+    records: Records,
+    old: &[u8],
+    out_bytes: usize,
+    prng: &mut Prng,
+) -> Result<(), String> {
+    let mut due = vec![0; out_bytes];
+    prng.fill(&mut due);
+    let mut found = Guarded::new(&due, 16 + prng.below(8));
+    let (due_code, code) = match records {
+        Records::Tokens => (
+            second::convert(old, &mut due),
+            engine::convert(old, found.lent()),
+        ),
+        Records::Log => (
+            second::convert_log(old, &mut due),
+            engine::convert_log(old, found.lent()),
+        ),
+    };
+    if code != due_code {
+        return Err(format!("answer {code}, due {due_code}"));
+    }
+    if !found.intact() {
+        return Err("bytes outside the output were written".to_string());
+    }
+    equal("output", found.contents(), &due)
 }
 
 /// Compares the lines that both print of a run, and now and then those of another

@@ -1,5 +1,7 @@
 //! Damaged bytes and lengths.
 
+use second::TOKEN_RECORD;
+
 use crate::case::Case;
 use crate::prng::Prng;
 
@@ -12,7 +14,7 @@ pub fn damage(case: &mut Case, prng: &mut Prng) {
             0..=3 => damage_graph(&mut case.graph, prng),
             4..=6 => damage_inputs(&mut case.inputs, prng),
             7 => damage_picks(&mut case.picks, prng),
-            8 | 9 => case.ledger_bytes = length(case.ledger_bytes, 20, 2048, prng),
+            8 | 9 => case.ledger_bytes = length(case.ledger_bytes, TOKEN_RECORD, 2048, prng),
             10 => case.cells_bytes = length(case.cells_bytes, 8, 1024, prng),
             _ => case.budget = prng.word() as u16,
         }
@@ -74,19 +76,33 @@ fn damage_inputs(inputs: &mut Vec<u8>, prng: &mut Prng) {
     match prng.below(10) {
         0 | 1 => flip(inputs, prng),
         2 | 3 => overwrite(inputs, prng),
-        4 => set_field(inputs, 20, 8 + prng.below(4), prng.below(3) as u8, prng),
-        5 => set_field(inputs, 20, 16 + prng.below(4), prng.below(4) as u8, prng),
+        4 => set_field(
+            inputs,
+            TOKEN_RECORD,
+            16 + prng.below(4),
+            prng.below(3) as u8,
+            prng,
+        ),
+        5 => set_field(
+            inputs,
+            TOKEN_RECORD,
+            24 + prng.below(4),
+            prng.below(4) as u8,
+            prng,
+        ),
         6 => inputs.truncate(prng.below(inputs.len() + 1)),
-        7 => inputs.resize(20 * (2047 + prng.below(3)), 0),
+        7 => inputs.resize(TOKEN_RECORD * (2047 + prng.below(3)), 0),
         8 => {
             // The same token once more.
-            let count = inputs.len() / 20;
+            let count = inputs.len() / TOKEN_RECORD;
             if count > 0 {
                 let number = prng.below(count);
-                inputs.extend_from_within(20 * number..20 * number + 20);
+                inputs.extend_from_within(
+                    TOKEN_RECORD * number..TOKEN_RECORD * number + TOKEN_RECORD,
+                );
             }
         }
-        _ => inputs.extend([0; 20]),
+        _ => inputs.extend([0; TOKEN_RECORD]),
     }
 }
 

@@ -449,7 +449,7 @@ impl<'a> Generator<'a> {
     /// ENTERs of one new site, and the return instructions side by side.
     fn call_function(&mut self, function: &Function, arguments: Vec<Source>) -> Vec<Source> {
         self.sites += 1;
-        // An odd factor gives every site once, and half of all paths of four levels
+        // An odd factor gives every site once, and half of all paths of four or of eight levels
         // have their uppermost bit set.
         let site = self.sites * 37 % 256;
         let context = arguments[0].context;
@@ -502,7 +502,7 @@ impl<'a> Generator<'a> {
             results: results.max(1),
             levels,
         };
-        if levels < 3 {
+        if levels < 7 {
             self.functions.push(function.clone());
         }
         function
@@ -514,7 +514,7 @@ impl<'a> Generator<'a> {
         let outside = self.functions.clone();
         let nested = self.prng.one_in(3);
         let levels = outside.iter().map(|f| f.levels).max().unwrap_or(0);
-        if nested && levels < 3 {
+        if nested && levels < 7 {
             self.grow(steps, base);
         } else {
             for _ in 0..steps {
@@ -532,7 +532,7 @@ impl<'a> Generator<'a> {
     }
 
     /// f(n) is a constant if n <= 0, else f(n - 1) plus or times n. Called from the
-    /// root, it is too deep for n above 3.
+    /// root, it is too deep for n above 7.
     fn recursion(&mut self, base: usize) {
         if self.sites >= 200 {
             return;
@@ -574,9 +574,9 @@ impl<'a> Generator<'a> {
     /// A depth for a recursion, now and then one too deep.
     fn depth(&mut self) -> i32 {
         if self.prng.one_in(8) {
-            4
+            8
         } else {
-            self.prng.between(0, 3)
+            self.prng.between(0, 7)
         }
     }
 

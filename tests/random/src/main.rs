@@ -11,6 +11,7 @@
 mod bounds;
 mod capacities;
 mod case;
+mod conversions;
 mod damage;
 mod generate;
 mod logs;
@@ -24,6 +25,8 @@ mod tally;
 use std::fs;
 use std::path::Path;
 use std::process::ExitCode;
+
+use second::{LOG_RECORD, TOKEN_RECORD};
 
 use case::{compare, compare_listing, Call, Case, Clock, Left};
 use orders::End;
@@ -46,6 +49,7 @@ struct Harness {
     bounds: u64,
     groups: u64,
     listings: u64,
+    conversions: u64,
     agreements: u64,
     profile_ends: u64,
     logs_compared: u64,
@@ -117,6 +121,7 @@ impl Harness {
         self.all_logs(&ends, prng);
         self.compare_bounds(&case, &ends);
         self.all_capacities(&ends, prng);
+        self.all_conversions(&case, &ends[0].left);
         for _ in 0..2 {
             let mut case = case.clone();
             case.budget = [0, 1, 2, prng.below(40) as u16, 65_535][prng.below(5)];
@@ -159,7 +164,7 @@ impl Harness {
             case.picks = picks;
             case.garbage = prng.word();
             if ends.len() % 3 != 2 {
-                case.call = Call::Logged(12 * (2048 + prng.below(2)));
+                case.call = Call::Logged(LOG_RECORD * (2048 + prng.below(2)));
             }
             let left = self.call(&case);
             match ends.first() {
@@ -181,7 +186,7 @@ impl Harness {
     fn short_budget(&mut self, mut case: Case, left: &Left, prng: &mut Prng) {
         let exact = left.answer.firings as u16;
         case.budget = exact.saturating_sub(prng.below(2) as u16);
-        case.call = Call::Logged(12 * usize::from(case.budget));
+        case.call = Call::Logged(LOG_RECORD * usize::from(case.budget));
         let left = self.call(&case);
         self.replay_of(&case, &left);
     }
@@ -218,12 +223,12 @@ impl Harness {
         } else {
             prng.below(40)
         };
-        let mut records = vec![0; 20 * count];
+        let mut records = vec![0; TOKEN_RECORD * count];
         prng.fill(&mut records);
-        for record in records.chunks_exact_mut(20) {
+        for record in records.chunks_exact_mut(TOKEN_RECORD) {
             if prng.one_in(2) {
-                record[..12].fill(0);
-                let key = [0, 1, 7, 8, 9, 10, 11][prng.below(7)];
+                record[..20].fill(0);
+                let key = [0, 1, 7, 8, 15, 16, 17, 18, 19][prng.below(9)];
                 record[key] = prng.below(3) as u8;
             }
         }
@@ -232,7 +237,11 @@ impl Harness {
         }
         let mut out = records.len();
         if prng.one_in(10) {
-            out = [out + 20, out.saturating_sub(20), out + 1][prng.below(3)];
+            out = [
+                out + TOKEN_RECORD,
+                out.saturating_sub(TOKEN_RECORD),
+                out + 1,
+            ][prng.below(3)];
         }
         if let Err(reason) = compare_listing(&records, out, prng) {
             self.fail(case, &format!("of arbitrary records: {reason}"));
@@ -273,7 +282,7 @@ fn first_case(prng: &mut Prng) -> Case {
         inputs: subject.inputs,
         picks: Vec::new(),
         budget: 2048,
-        ledger_bytes: 2048 * 20,
+        ledger_bytes: 2048 * TOKEN_RECORD,
         cells_bytes: 8 * cells.min(1024),
         garbage: prng.word(),
     };
@@ -288,7 +297,7 @@ fn first_case(prng: &mut Prng) -> Case {
         4 => prng.below(used + 1),
         _ => used + prng.below(20),
     };
-    case.ledger_bytes = 20 * capacity.min(2048);
+    case.ledger_bytes = TOKEN_RECORD * capacity.min(2048);
     if prng.one_in(50) {
         case.inputs.clear();
     }
@@ -333,6 +342,7 @@ fn main() -> ExitCode {
         bounds: 0,
         groups: 0,
         listings: 0,
+        conversions: 0,
         agreements: 0,
         profile_ends: 0,
         logs_compared: 0,
@@ -363,6 +373,7 @@ fn report(harness: &Harness) -> ExitCode {
     );
     println!("bounds: {}", harness.bounds);
     println!("listings of arbitrary records: {}", harness.listings);
+    println!("conversions: {}", harness.conversions);
     println!(
         "time in the engine {:.2?}, in the second {:.2?}",
         harness.clock.engine, harness.clock.second

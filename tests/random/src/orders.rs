@@ -1,6 +1,6 @@
 //! Lists of picks for one graph, and what any two of them have to agree on.
 
-use second::{Answer, Outcome};
+use second::{Answer, Outcome, TOKEN_RECORD};
 
 use crate::case::{Case, Left};
 use crate::prng::Prng;
@@ -13,7 +13,7 @@ pub struct End {
 
 /// At least eight lists of picks, oldest first and newest first among them.
 pub fn pick_lists(case: &Case, prng: &mut Prng) -> Vec<Vec<u8>> {
-    let (capacity, cells) = (case.ledger_bytes / 20, case.cells_bytes / 8);
+    let (capacity, cells) = (case.ledger_bytes / TOKEN_RECORD, case.cells_bytes / 8);
     let chosen = |choose: &mut dyn FnMut(usize, usize) -> u16| {
         second::picks_of(&case.graph, &case.inputs, capacity, cells, |f, e| {
             choose(f, e)
@@ -73,7 +73,7 @@ fn agree_at_rest(one: &Left, other: &Left) -> Result<(), String> {
 /// The records by all their bytes, so that equality means the same records in
 /// some order.
 fn sorted_records(left: &Left) -> Vec<&[u8]> {
-    let mut records: Vec<&[u8]> = left.used().chunks_exact(20).collect();
+    let mut records: Vec<&[u8]> = left.used().chunks_exact(TOKEN_RECORD).collect();
     records.sort_unstable();
     records
 }

@@ -1,10 +1,10 @@
 //! How often each answer, refusal and operation came up.
 
 use layout::{LEAVE, OUT};
-use second::Outcome;
+use second::{Outcome, TOKEN_RECORD};
 
 use crate::case::{Call, Case, Left};
-use crate::{bounds, capacities, logs, profiles};
+use crate::{bounds, capacities, conversions, logs, profiles};
 
 const NAMES: [(u8, &str); 27] = [
     (1, "COPY"),
@@ -54,6 +54,9 @@ const REFUSALS: [(usize, &str); 15] = [
     (17, "no return"),
 ];
 
+/// Most levels of a path (02, R-8), each of two bytes, the site in the second.
+const MOST_LEVELS: usize = 8;
+
 /// Token states in a record (01, "Tokens and tags").
 const LIVE: u8 = 0;
 const SPENT: u8 = 1;
@@ -78,13 +81,15 @@ pub struct Tally {
     root_leaves: u64,
     root_leaves_deferred: u64,
     deferred: u64,
-    deepest: u64,
+    /// Tokens by the levels of their paths.
+    levels: [u64; MOST_LEVELS + 1],
     largest: usize,
     profiles: Named,
     logged: Named,
     replays: Named,
     bounds: Named,
     capacities: Named,
+    conversions: Named,
 }
 
 impl Tally {
@@ -103,13 +108,14 @@ impl Tally {
             root_leaves: 0,
             root_leaves_deferred: 0,
             deferred: 0,
-            deepest: 0,
+            levels: [0; MOST_LEVELS + 1],
             largest: 0,
             profiles: Named::new(&profiles::NAMES),
             logged: Named::new(&logs::RUN_NAMES),
             replays: Named::new(&logs::REPLAY_NAMES),
             bounds: Named::new(&bounds::NAMES),
             capacities: Named::new(&capacities::NAMES),
+            conversions: Named::new(&conversions::NAMES),
         }
     }
 
@@ -133,6 +139,10 @@ impl Tally {
         self.capacities.count(vec![name]);
     }
 
+    pub fn count_conversion(&mut self, name: &'static str) {
+        self.conversions.count(vec![name]);
+    }
+
     fn count_run(&mut self, case: &Case, left: &Left) {
         match left.answer.outcome {
             Outcome::Completed => self.completed += 1,
@@ -147,7 +157,7 @@ impl Tally {
             }
         }
         self.largest = self.largest.max(left.answer.tokens);
-        for record in left.used().chunks_exact(20) {
+        for record in left.used().chunks_exact(TOKEN_RECORD) {
             self.count_token(case, record);
         }
     }
@@ -158,9 +168,9 @@ impl Tally {
         if one.answer.outcome != Outcome::Hung || one.used() == other.used() {
             return;
         }
-        let records = || one.used().chunks_exact(20);
-        let waiting = records().any(|record| record[16] == LIVE && !is_result(case, record));
-        let deferred = records().any(|record| record[16] == DEFERRED);
+        let records = || one.used().chunks_exact(TOKEN_RECORD);
+        let waiting = records().any(|record| record[24] == LIVE && !is_result(case, record));
+        let deferred = records().any(|record| record[24] == DEFERRED);
         self.hung_waiting += u64::from(waiting);
         self.hung_deferred += u64::from(deferred);
     }
@@ -168,19 +178,19 @@ impl Tally {
     /// A firing spends exactly one token on port 0.
     fn count_token(&mut self, case: &Case, record: &[u8]) {
         let code = code_at(case, record);
-        match record[16] {
-            SPENT if record[9] == 0 => self.fired[usize::from(code)] += 1,
+        match record[24] {
+            SPENT if record[17] == 0 => self.fired[usize::from(code)] += 1,
             DEFERRED => self.deferred += 1,
             _ => {}
         }
         if code == OUT {
             self.results += 1;
         } else if is_result(case, record) {
-            self.root_leaves += u64::from(record[16] == LIVE);
-            self.root_leaves_deferred += u64::from(record[16] == DEFERRED);
+            self.root_leaves += u64::from(record[24] == LIVE);
+            self.root_leaves_deferred += u64::from(record[24] == DEFERRED);
         }
-        let levels = (0..4).filter(|level| record[2 * level + 1] != 0).count() as u64;
-        self.deepest = self.deepest.max(levels);
+        let sites = (0..MOST_LEVELS).map(|level| record[2 * level + 1]);
+        self.levels[sites.filter(|site| *site != 0).count()] += 1;
     }
 
     /// Prints all counts; answers how many that can be reached are 0.
@@ -212,11 +222,15 @@ impl Tally {
         self.bounds.print(&mut lines);
         println!("capacities of runs that completed or hung:");
         self.capacities.print(&mut lines);
+        println!("conversions of old records:");
+        self.conversions.print(&mut lines);
         println!("further:");
         lines.count("results at a LEAVE", self.root_leaves);
         lines.count("deferred at such a LEAVE", self.root_leaves_deferred);
         lines.count("tokens left deferred", self.deferred);
-        lines.count("most levels of a path", self.deepest);
+        for (levels, count) in self.levels.iter().enumerate() {
+            lines.count(&format!("tokens at level {levels}"), *count);
+        }
         lines.count("most tokens of a run", self.largest as u64);
         lines.missing
     }
@@ -237,7 +251,7 @@ impl Tally {
 
 /// The operation code of a token's instruction.
 fn code_at(case: &Case, record: &[u8]) -> u8 {
-    let instruction = usize::from(u16::from_le_bytes([record[10], record[11]]));
+    let instruction = usize::from(u16::from_le_bytes([record[18], record[19]]));
     case.graph[16 * instruction]
 }
 
@@ -246,7 +260,7 @@ fn code_at(case: &Case, record: &[u8]) -> u8 {
 fn is_result(case: &Case, record: &[u8]) -> bool {
     match code_at(case, record) {
         OUT => true,
-        LEAVE => record[..8] == [0; 8],
+        LEAVE => record[..16] == [0; 16],
         _ => false,
     }
 }

@@ -8,6 +8,7 @@
 
 mod arithmetic;
 mod bounds;
+mod convert;
 mod graph;
 mod listing;
 mod log;
@@ -18,6 +19,7 @@ mod profile;
 mod token;
 
 pub use bounds::{bounds, Bounds};
+pub use convert::{convert, convert_log};
 pub use graph::{operand_count, Graph};
 pub use listing::list;
 pub use log::{replay, run_logged};
@@ -32,7 +34,7 @@ use token::{KeyHashing, State, Token};
 /// Bytes of a graph record (01, "Graph records").
 pub const GRAPH_RECORD: usize = 16;
 /// Bytes of a token record (01, "Tokens and tags").
-pub const TOKEN_RECORD: usize = 20;
+pub const TOKEN_RECORD: usize = 28;
 /// Bytes of a cell record (01, "Firing").
 pub const CELL_RECORD: usize = 8;
 /// Bytes of a pick (01, "The printed listing").
@@ -40,7 +42,7 @@ pub const PICK_RECORD: usize = 2;
 /// Bytes of a profile record (02, R-1).
 pub const PROFILE_RECORD: usize = 4;
 /// Bytes of a log record (02, R-7).
-pub const LOG_RECORD: usize = 12;
+pub const LOG_RECORD: usize = 20;
 /// Most records of inputs, picks or ledger (01, refusal 7).
 pub const MOST_RECORDS: usize = 2048;
 /// Most cells (01, refusal 7).

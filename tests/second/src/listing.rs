@@ -23,12 +23,12 @@ pub fn list(ledger: &[u8], out: &mut [u8]) -> u64 {
 }
 
 fn key_of(record: &[u8]) -> Key {
-    let mut path = [0; 8];
-    path.copy_from_slice(&record[0..8]);
+    let mut path = [0; 16];
+    path.copy_from_slice(&record[0..16]);
     Key {
-        path: u64::from_le_bytes(path),
-        iteration: record[8],
-        instruction: u16::from_le_bytes([record[10], record[11]]),
-        port: record[9],
+        path: u128::from_le_bytes(path),
+        iteration: record[16],
+        instruction: u16::from_le_bytes([record[18], record[19]]),
+        port: record[17],
     }
 }

@@ -7,9 +7,9 @@ use crate::places::Places;
 use crate::token::{Cell, Key, KeyHashing, State, Tag, Token};
 use crate::{Answer, Outcome, Refusal, CELL_RECORD, TOKEN_RECORD};
 
-/// A path of at least this has four levels: a site is at least 1, so every
+/// A path of at least this has eight levels (02, R-8): a site is at least 1, so every
 /// level is a factor of 65,536 with a part that is not 0.
-const FOUR_LEVELS: u64 = 65_536 * 65_536 * 65_536;
+const EIGHT_LEVELS: u128 = 65_536u128.pow(7);
 
 /// The machine between two firings.
 pub struct Machine<'a> {
@@ -27,7 +27,7 @@ pub struct Machine<'a> {
 /// An activity that is enabled: its tag with the positions and values of its
 /// operands. The right one is that on port 1.
 struct Activity {
-    path: u64,
+    path: u128,
     iteration: u8,
     instruction: Instruction,
     left: usize,
@@ -410,14 +410,14 @@ impl Activity {
         Ok(effect)
     }
 
-    /// ENTER: 14 at four levels; one token, to destination 1.
+    /// ENTER: 14 at eight levels; one token, to destination 1.
     fn enter(&self) -> Result<Effect, u8> {
-        if self.path >= FOUR_LEVELS {
+        if self.path >= EIGHT_LEVELS {
             return Err(14);
         }
-        let site = self.instruction.constant as u64;
+        let site = self.instruction.constant as u128;
         let mut token = self.output(0, self.left_value);
-        token.path = self.path * 65_536 + site * 256 + u64::from(self.iteration);
+        token.path = self.path * 65_536 + site * 256 + u128::from(self.iteration);
         token.iteration = 0;
         Ok(Effect::of([Some(token), None]))
     }

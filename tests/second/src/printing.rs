@@ -46,14 +46,14 @@ fn print_lines(
 }
 
 fn print_token(lines: &mut Vec<u8>, record: &[u8]) -> std::io::Result<()> {
-    let path = record[0..8]
+    let path = record[0..16]
         .iter()
         .rev()
-        .fold(0, |path, &byte| path << 8 | u64::from(byte));
-    let (iteration, port) = (record[8], record[9]);
-    let instruction = u16::from_le_bytes([record[10], record[11]]);
-    let value = signed(&record[12..16]);
-    let word = match record[16] {
+        .fold(0, |path, &byte| path << 8 | u128::from(byte));
+    let (iteration, port) = (record[16], record[17]);
+    let instruction = u16::from_le_bytes([record[18], record[19]]);
+    let value = signed(&record[20..24]);
+    let word = match record[24] {
         0 => "live",
         1 => "spent",
         _ => "deferred",

@@ -15,7 +15,7 @@ pub enum State {
 /// A token; path, iteration and instruction are its tag.
 #[derive(Clone, Copy, Debug, PartialEq, Eq)]
 pub struct Token {
-    pub path: u64,
+    pub path: u128,
     pub iteration: u8,
     pub port: u8,
     pub instruction: u16,
@@ -24,36 +24,36 @@ pub struct Token {
 }
 
 impl Token {
-    /// The token of a record, or `None` for an unknown state or bytes 17-19 that
+    /// The token of a record, or `None` for an unknown state or bytes 25-27 that
     /// are not zero.
     pub fn parse(record: &[u8]) -> Option<Token> {
-        let state = match record[16] {
+        let state = match record[24] {
             0 => State::Live,
             1 => State::Spent,
             2 => State::Deferred,
             _ => return None,
         };
-        if record[17..TOKEN_RECORD] != [0; 3] {
+        if record[25..TOKEN_RECORD] != [0; 3] {
             return None;
         }
         Some(Token {
-            path: u64::from_le_bytes(record[0..8].try_into().ok()?),
-            iteration: record[8],
-            port: record[9],
-            instruction: u16::from_le_bytes([record[10], record[11]]),
-            value: i32::from_le_bytes(record[12..16].try_into().ok()?),
+            path: u128::from_le_bytes(record[0..16].try_into().ok()?),
+            iteration: record[16],
+            port: record[17],
+            instruction: u16::from_le_bytes([record[18], record[19]]),
+            value: i32::from_le_bytes(record[20..24].try_into().ok()?),
             state,
         })
     }
 
     pub fn record(&self) -> [u8; TOKEN_RECORD] {
         let mut record = [0; TOKEN_RECORD];
-        record[0..8].copy_from_slice(&self.path.to_le_bytes());
-        record[8] = self.iteration;
-        record[9] = self.port;
-        record[10..12].copy_from_slice(&self.instruction.to_le_bytes());
-        record[12..16].copy_from_slice(&self.value.to_le_bytes());
-        record[16] = self.state as u8;
+        record[0..16].copy_from_slice(&self.path.to_le_bytes());
+        record[16] = self.iteration;
+        record[17] = self.port;
+        record[18..20].copy_from_slice(&self.instruction.to_le_bytes());
+        record[20..24].copy_from_slice(&self.value.to_le_bytes());
+        record[24] = self.state as u8;
         record
     }
 
@@ -73,7 +73,7 @@ impl Token {
 /// What names an activity.
 #[derive(Clone, Copy, Debug, PartialEq, Eq)]
 pub struct Tag {
-    pub path: u64,
+    pub path: u128,
     pub iteration: u8,
     pub instruction: u16,
 }
@@ -91,19 +91,19 @@ impl Tag {
     /// Path, iteration, a zero byte, instruction (02, R-7).
     pub fn log_record(self) -> [u8; LOG_RECORD] {
         let mut record = [0; LOG_RECORD];
-        record[0..8].copy_from_slice(&self.path.to_le_bytes());
-        record[8] = self.iteration;
-        record[10..12].copy_from_slice(&self.instruction.to_le_bytes());
+        record[0..16].copy_from_slice(&self.path.to_le_bytes());
+        record[16] = self.iteration;
+        record[18..20].copy_from_slice(&self.instruction.to_le_bytes());
         record
     }
 
     /// The tag of a log record, or `None` if it isn't whole or lacks its zero byte.
     pub fn of_log_record(record: &[u8]) -> Option<Tag> {
         let record: &[u8; LOG_RECORD] = record.try_into().ok()?;
-        (record[9] == 0).then_some(Tag {
-            path: u64::from_le_bytes(record[0..8].try_into().ok()?),
-            iteration: record[8],
-            instruction: u16::from_le_bytes([record[10], record[11]]),
+        (record[17] == 0).then_some(Tag {
+            path: u128::from_le_bytes(record[0..16].try_into().ok()?),
+            iteration: record[16],
+            instruction: u16::from_le_bytes([record[18], record[19]]),
         })
     }
 }
@@ -112,7 +112,7 @@ impl Tag {
 /// of the listing.
 #[derive(Clone, Copy, Debug, PartialEq, Eq, PartialOrd, Ord)]
 pub struct Key {
-    pub path: u64,
+    pub path: u128,
     pub iteration: u8,
     pub instruction: u16,
     pub port: u8,
@@ -120,7 +120,8 @@ pub struct Key {
 
 impl Hash for Key {
     fn hash<H: Hasher>(&self, hasher: &mut H) {
-        hasher.write_u64(self.path);
+        hasher.write_u64(self.path as u64);
+        hasher.write_u64((self.path >> 64) as u64);
         let [low, high] = self.instruction.to_le_bytes();
         hasher.write_u32(u32::from_le_bytes([self.iteration, self.port, low, high]));
     }

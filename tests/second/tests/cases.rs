@@ -137,7 +137,7 @@ fn arithmetic(code: u8, left: i32, right: i32) -> Result<i32, u8> {
         None => {
             assert_eq!(both.record(2), one.record(1));
             Ok(i32::from_le_bytes(
-                both.record(2)[12..16].try_into().unwrap(),
+                both.record(2)[20..24].try_into().unwrap(),
             ))
         }
     }
@@ -247,7 +247,7 @@ fn a_two_operand_activity_counts_once_at_its_earliest_operand() {
     assert_eq!(left.record(3), token(0, 0, 2, 0, 2, 1));
     let left = lend(&records, &tokens).budget(1).run();
     assert_eq!(left.record(4), token(0, 0, 3, 0, 8, 0));
-    assert_eq!((left.record(0)[16], left.record(2)[16]), (1, 1));
+    assert_eq!((left.record(0)[24], left.record(2)[24]), (1, 1));
 }
 
 #[test]
@@ -326,18 +326,18 @@ fn the_listing_is_a_stable_sort_by_four_fields() {
 #[test]
 fn lengths_of_the_listing() {
     for (ledger, out) in [
-        (20, 40),
-        (40, 20),
-        (19, 19),
-        (0, 20),
-        (20 * 2049, 20 * 2049),
+        (28, 56),
+        (56, 28),
+        (27, 27),
+        (0, 28),
+        (28 * 2049, 28 * 2049),
     ] {
         let mut buffer = vec![0xee; out];
         assert_eq!(second::list(&vec![1; ledger], &mut buffer), 7);
         assert!(buffer.iter().all(|&byte| byte == 0xee));
     }
-    let mut buffer = vec![0xee; 20 * 2048];
-    assert_eq!(second::list(&vec![1; 20 * 2048], &mut buffer), 0);
+    let mut buffer = vec![0xee; 28 * 2048];
+    assert_eq!(second::list(&vec![1; 28 * 2048], &mut buffer), 0);
 }
 
 #[test]

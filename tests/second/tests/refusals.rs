@@ -170,7 +170,7 @@ fn bad_site() {
 #[test]
 fn bad_input() {
     let good = input(0, 0, -1);
-    for byte in [0, 3, 7, 8, 16, 17, 18, 19] {
+    for byte in [0, 3, 7, 8, 15, 16, 24, 25, 26, 27] {
         let mut record = input(1, 0, 5);
         record[byte] = 1;
         assert_eq!(
@@ -190,15 +190,15 @@ fn bad_store() {
     let lent = lend(&plain(), &[input(0, 0, 1)]);
     let mut cases = Vec::new();
     for (inputs, picks, ledger, cells) in [
-        (21, 0, 40, 8),
-        (20, 1, 40, 8),
-        (20, 0, 41, 8),
-        (20, 0, 40, 9),
-        (2049 * 20, 0, 40, 8),
-        (20, 2049 * 2, 40, 8),
-        (20, 0, 2049 * 20, 8),
-        (20, 0, 40, 1025 * 8),
-        (2048 * 20 + 1, 0, 40, 8),
+        (29, 0, 56, 8),
+        (28, 1, 56, 8),
+        (28, 0, 57, 8),
+        (28, 0, 56, 9),
+        (2049 * 28, 0, 56, 8),
+        (28, 2049 * 2, 56, 8),
+        (28, 0, 2049 * 28, 8),
+        (28, 0, 56, 1025 * 8),
+        (2048 * 28 + 1, 0, 56, 8),
     ] {
         let mut case = lent.clone();
         case.inputs.resize(inputs, 0);
@@ -317,8 +317,9 @@ fn too_deep() {
         instruction(LEAVE, &[], 0),
     ];
     let left = lend(&records, &[input(0, 0, 1)]).run();
-    assert_eq!(left.answer, refused(14, 4, 5, 4));
-    assert_eq!(left.record(4), token(0xff00_ff00_ff00_ff00, 0, 0, 0, 1, 0));
+    assert_eq!(left.answer, refused(14, 8, 9, 8));
+    let path = 0xff00_ff00_ff00_ff00_ff00_ff00_ff00_ff00;
+    assert_eq!(left.record(8), token(path, 0, 0, 0, 1, 0));
 }
 
 #[test]
@@ -433,8 +434,8 @@ fn levels_before_room() {
     // 14 before 8.
     let records = [instruction(ENTER, &[(0, 0), (0, 0)], 1)];
     let lent = lend(&records, &[input(0, 0, 0)]);
-    assert_eq!(lent.clone().capacity(5).answer(), refused(14, 4, 5, 4));
-    assert_eq!(lent.capacity(4).answer(), refused(8, 3, 4, 3));
+    assert_eq!(lent.clone().capacity(9).answer(), refused(14, 8, 9, 8));
+    assert_eq!(lent.capacity(8).answer(), refused(8, 7, 8, 7));
 }
 
 #[test]
@@ -463,7 +464,7 @@ fn a_full_ledger_of_2048_inputs() {
     }
     assert_eq!(lend(&records, &tokens).capacity(256).answer(), hung(0, 256));
     let mut lent = lend(&records, &tokens);
-    lent.inputs.resize(20 * 2048, 0);
+    lent.inputs.resize(28 * 2048, 0);
     // 2,048 records are allowed; the rest of them are alike, at instruction 0, port 0.
     assert_eq!(lent.answer(), at_once(9, 257));
 }

@@ -176,8 +176,8 @@ fn graph_record(code: u8, arcs: &[(u16, u8)], constant: i32) -> [u8; GRAPH_RECOR
 /// A live token of the root tag.
 fn input_record(instruction: u16, port: u8, value: i32) -> [u8; TOKEN_RECORD] {
     let mut record = [0; TOKEN_RECORD];
-    record[9] = port;
-    record[10..12].copy_from_slice(&instruction.to_le_bytes());
-    record[12..16].copy_from_slice(&value.to_le_bytes());
+    record[17] = port;
+    record[18..20].copy_from_slice(&instruction.to_le_bytes());
+    record[20..24].copy_from_slice(&value.to_le_bytes());
     record
 }

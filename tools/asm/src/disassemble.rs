@@ -126,12 +126,12 @@ fn target(instruction: u16, port: u8, records: &[&[u8]]) -> Option<String> {
 }
 
 fn typed_input(record: &[u8], records: &[&[u8]]) -> Option<String> {
-    let zeros = record[..9]
+    let zeros = record[..17]
         .iter()
-        .chain(&record[16..])
+        .chain(&record[24..])
         .all(|&byte| byte == 0);
-    let instruction = u16::from_le_bytes([record[10], record[11]]);
-    let target = target(instruction, record[9], records)?;
-    let value = i32::from_le_bytes([record[12], record[13], record[14], record[15]]);
+    let instruction = u16::from_le_bytes([record[18], record[19]]);
+    let target = target(instruction, record[17], records)?;
+    let value = i32::from_le_bytes([record[20], record[21], record[22], record[23]]);
     zeros.then(|| format!("{target} = {value}"))
 }

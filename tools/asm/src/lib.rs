@@ -19,7 +19,7 @@ pub use operations::{by_code, Constant, Operation};
 /// Bytes of a graph record.
 pub const GRAPH_RECORD: usize = 16;
 /// Bytes of an input record.
-pub const TOKEN_RECORD: usize = 20;
+pub const TOKEN_RECORD: usize = 28;
 /// Bytes of a pick.
 pub const PICK_RECORD: usize = 2;
 

@@ -71,12 +71,12 @@ fn random_files(prng: &mut Prng) -> Files {
         files.graph.extend(record(prng, count));
     }
     for _ in 0..prng.below(10) {
-        let mut input = [0; 20];
-        input[9] = prng.below(2) as u8;
-        input[10] = prng.below(count + 1) as u8;
-        input[12..16].copy_from_slice(&(prng.word() as i32).to_le_bytes());
+        let mut input = [0; asm::TOKEN_RECORD];
+        input[17] = prng.below(2) as u8;
+        input[18] = prng.below(count + 1) as u8;
+        input[20..24].copy_from_slice(&(prng.word() as i32).to_le_bytes());
         if prng.below(6) == 0 {
-            input[prng.below(20)] = prng.word() as u8;
+            input[prng.below(asm::TOKEN_RECORD)] = prng.word() as u8;
         }
         files.inputs.extend(input);
     }
@@ -105,7 +105,7 @@ fn arbitrary_bytes() {
         let mut bytes = |length: usize| (0..length).map(|_| prng.word() as u8).collect();
         let files = Files {
             graph: bytes(16 * 20),
-            inputs: bytes(20 * 10),
+            inputs: bytes(asm::TOKEN_RECORD * 10),
             picks: bytes(2 * 40),
         };
         round_trip(&files);
@@ -113,7 +113,7 @@ fn arbitrary_bytes() {
     round_trip(&Files::default());
     round_trip(&Files {
         graph: vec![2; 16 * 300],
-        inputs: vec![0; 20 * 3000],
+        inputs: vec![0; asm::TOKEN_RECORD * 3000],
         picks: vec![9; 9000],
     });
 }

@@ -18,10 +18,10 @@ fn a_text_gives_the_records() {
     graph.push(3);
     graph.extend([0; 15]);
     assert_eq!(files.graph, graph);
-    let mut inputs = vec![0; 40];
-    inputs[12] = 7;
-    inputs[29] = 1;
-    inputs[32..36].copy_from_slice(&(-9i32).to_le_bytes());
+    let mut inputs = vec![0; 56];
+    inputs[20] = 7;
+    inputs[45] = 1;
+    inputs[48..52].copy_from_slice(&(-9i32).to_le_bytes());
     assert_eq!(files.inputs, inputs);
     assert_eq!(files.picks, [0, 0, 2, 1]);
 }
@@ -78,7 +78,7 @@ fn the_text_of_files() {
 
 #[test]
 fn files_that_are_not_whole_records_have_no_text() {
-    for (graph, inputs, picks) in [(17, 0, 0), (16, 21, 0), (16, 20, 1)] {
+    for (graph, inputs, picks) in [(17, 0, 0), (16, 29, 0), (16, 28, 1)] {
         let files = asm::Files {
             graph: vec![0; graph],
             inputs: vec![0; inputs],

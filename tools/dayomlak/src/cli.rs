@@ -2,7 +2,7 @@
 
 use std::path::PathBuf;
 
-use clap::{Args, Parser, Subcommand};
+use clap::{Args, Parser, Subcommand, ValueEnum};
 
 use crate::machine::Sizes;
 use crate::orders::Order;
@@ -44,6 +44,8 @@ pub enum Command {
     Asm(Asm),
     /// Print the text of the files in a folder
     Disasm(Disasm),
+    /// Widen files of before paths of eight levels: inputs, listings, logs
+    Convert(Convert),
     /// What a refusal means and what to do
     Explain(Explain),
 }
@@ -207,6 +209,34 @@ pub struct Disasm {
     /// The folder with the files; a missing one counts as empty
     #[arg(value_name = "FOLDER")]
     pub folder: PathBuf,
+}
+
+#[derive(Debug, Args)]
+#[command(
+    after_help = "Token records grow from 20 to 28 bytes, log records from 12 to 20. Of a folder the files graph and picks are \
+    copied, and inputs is widened. What OLD is, is seen by its length, and by its bytes where several kinds have that length."
+)]
+pub struct Convert {
+    /// Inputs, a listing or a log, or a folder with the files of a graph
+    #[arg(value_name = "OLD")]
+    pub old: PathBuf,
+    /// Where the new records go; a folder for a folder
+    #[arg(value_name = "NEW")]
+    pub new: PathBuf,
+    /// What OLD is, where that is in doubt
+    #[arg(long = "as", value_name = "KIND")]
+    pub kind: Option<Kind>,
+    /// Overwrite what is there
+    #[arg(long)]
+    pub force: bool,
+}
+
+/// A file in records of before.
+#[derive(Clone, Copy, Debug, ValueEnum)]
+pub enum Kind {
+    Inputs,
+    Listing,
+    Log,
 }
 
 #[derive(Debug, Args)]

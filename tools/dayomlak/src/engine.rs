@@ -64,6 +64,10 @@ extern "C" {
 
     fn ttda_list(ledger: *const u8, ledger_len: usize, out: *mut u8, out_len: usize) -> u64;
 
+    fn ttda_convert(old: *const u8, old_len: usize, out: *mut u8, out_len: usize) -> u64;
+
+    fn ttda_convert_log(old: *const u8, old_len: usize, out: *mut u8, out_len: usize) -> u64;
+
     fn ttda_print(
         answer: u64,
         listing: *const u8,
@@ -176,6 +180,18 @@ pub fn bounds(graph: &[u8], inputs: &[u8]) -> u64 {
 pub fn list(ledger: &[u8], out: &mut [u8]) -> u64 {
     // SAFETY: as in `run`.
     unsafe { ttda_list(ledger.as_ptr(), ledger.len(), out.as_mut_ptr(), out.len()) }
+}
+
+/// Makes token records of paths of four levels those of eight; answers 0 or 7.
+pub fn convert(old: &[u8], out: &mut [u8]) -> u64 {
+    // SAFETY: as in `run`.
+    unsafe { ttda_convert(old.as_ptr(), old.len(), out.as_mut_ptr(), out.len()) }
+}
+
+/// The same of log records.
+pub fn convert_log(old: &[u8], out: &mut [u8]) -> u64 {
+    // SAFETY: as in `run`.
+    unsafe { ttda_convert_log(old.as_ptr(), old.len(), out.as_mut_ptr(), out.len()) }
 }
 
 /// Prints an answer, a listing and cells to the start of `out`; answers the number of bytes, 0 if they do not fit and 1

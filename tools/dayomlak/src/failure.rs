@@ -16,6 +16,8 @@ pub enum Failure {
     Wrong(String),
     /// A text with faults, which are shown already.
     Shown,
+    /// What the engine refuses, by number and word, and why.
+    Refused(String),
     /// A file that cannot be read or written.
     File(String, io::Error),
     /// What the engine gave and what was made of it do not fit together.
@@ -31,7 +33,7 @@ impl Failure {
         match self {
             Failure::Wrong(_) | Failure::Shown => WRONG,
             Failure::File(..) => NO_FILE,
-            Failure::Inconsistent(_) => NOT_COMPLETED,
+            Failure::Refused(_) | Failure::Inconsistent(_) => NOT_COMPLETED,
         }
     }
 }
@@ -39,7 +41,7 @@ impl Failure {
 impl fmt::Display for Failure {
     fn fmt(&self, f: &mut fmt::Formatter<'_>) -> fmt::Result {
         match self {
-            Failure::Wrong(text) => write!(f, "error: {text}"),
+            Failure::Wrong(text) | Failure::Refused(text) => write!(f, "error: {text}"),
             Failure::Shown => Ok(()),
             Failure::File(path, error) => write!(f, "error: {path}: {error}"),
             Failure::Inconsistent(text) => write!(

@@ -10,6 +10,7 @@ mod diagnostics;
 mod effects;
 mod engine;
 mod failure;
+mod forms;
 mod graph;
 mod graphviz;
 mod history;
@@ -49,6 +50,7 @@ fn main() -> ExitCode {
         Command::Replay(args) => commands::logs::replay(args),
         Command::Asm(args) => commands::files::asm(args),
         Command::Disasm(args) => commands::files::disasm(args),
+        Command::Convert(args) => commands::convert::convert(args),
         Command::Explain(args) => commands::explain::explain(args),
     };
     match result {

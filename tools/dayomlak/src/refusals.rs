@@ -69,7 +69,7 @@ pub const TABLE: [Refusal; 18] = [
         "NEXT would go past iteration 255.",
         "Let the loop go round 255 times at most, or split it into two loops, one called from the other."),
     refusal(14, "too deep",
-        "ENTER would nest calls deeper than the machine allows.",
+        "ENTER came in a call that is eight levels deep; calls nest no deeper.",
         "Call less deep: turn the recursion into a loop."),
     refusal(17, "no return",
         "LEAVE's constant, added to the return instruction of the call, points past the graph.",

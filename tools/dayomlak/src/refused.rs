@@ -7,7 +7,7 @@ use crate::graph::STORE;
 use crate::machine::{End, Sizes};
 use crate::program::Program;
 use crate::records::{self, State, Tag, Token};
-use crate::{refusals, second_token};
+use crate::{forms, refusals, second_token};
 
 /// The finding of a refused run; `None` for another one.
 pub fn explain(program: &Program, end: &End, sizes: Sizes, order: &str) -> Option<Finding> {
@@ -45,6 +45,9 @@ fn at_once(program: &Program, number: u16, answer: &Answer, sizes: Sizes) -> Fin
     let place = answer.place;
     let finding = Finding::error(format!("{}, before the first firing", answer.words()));
     let meaning = refusals::by_number(number).map_or("", |refusal| refusal.given_when);
+    if let (6 | 7, Some(advice)) = (number, forms::advice(&program.files.inputs, &forms::TOKENS)) {
+        return finding.note(format!("look at the inputs: {advice}"));
+    }
     match number {
         2..=5 => finding
             .at(program.span(place), format!("instruction {place}"))

@@ -7,9 +7,9 @@ use std::process::Stdio;
 
 use common::{command, dayomlak, done, typed, Folder};
 
-const COMMANDS: [&str; 12] = [
+const COMMANDS: [&str; 13] = [
     "run", "check", "compare", "trace", "profile", "report", "draw", "log", "replay", "asm",
-    "disasm", "explain",
+    "disasm", "convert", "explain",
 ];
 
 #[test]
@@ -198,5 +198,5 @@ fn no_file_is_left_half_written() {
         .map(|entry| entry.unwrap().file_name())
         .collect();
     assert_eq!(names, ["log"]);
-    assert_eq!(fs::metadata(&log).unwrap().len(), 12 * 17);
+    assert_eq!(fs::metadata(&log).unwrap().len(), 20 * 17);
 }

@@ -3,6 +3,7 @@ use mathlib.Core.Path.{sym, ap, _∙_}
 use borrow.Author.Tests.{eq-eqb, ne-eqb}
 use borrow.Author.Needs.{needs}
 use Rattle.record.specs.declared.tag.Tag.{Tag}
+use Rattle.record.specs.Paths.{isRoot}
 use Rattle.record.specs.TokensAndTags.{isInput}
 use Rattle.check_inputs.proofs.is_input.Statement.{statement}
 use Rattle.check_inputs.proofs.is_input.Tie as tie
@@ -12,20 +13,18 @@ unfolding isInput
 is-input-spec = tie.close (tie.spec
     (λ c κs. search needs)
     (λ c κs. search needs)
-    (λ c. search needs)
     (λ c κs. search needs)
     (λ c.
-    let u = c .before .before .before .before .before .before in
-    let root = u .before .root .ensures in
-    let path = c .before .before .before .before .if1 .taken ∙ ap (λ (t : Tag). t .path) root in
-    let iteration = c .before .if2 .taken ∙ ap (λ (t : Tag). t .iteration) root in
-    rw (c .u32-at .ensures, eq-eqb _ _ iteration, ← u .u64-at .ensures, eq-eqb _ _ path))
+    let d = c .before .before .before in
+    let tag = sym (d .before .before .before .decode .ensures) in
+    let root = ap (λ (t : Tag). isRoot (t .path)) tag ∙ sym (d .before .is-root .ensures) ∙ d .if1 .taken in
+    rw (c .u32-at .ensures, root, eq-eqb _ _ (ap (λ (t : Tag). t .iteration) tag ∙ c .before .if2 .taken)))
     (λ c.
-    let u = c .before .before .before .before .before in
-    let root = u .before .root .ensures in
-    let path = c .before .before .before .if1 .taken ∙ ap (λ (t : Tag). t .path) root in
-    rw (root, ne-eqb _ 0 (λ e. c .if2 .left (e ∙ sym (ap (λ (t : Tag). t .iteration) root))), ← u .u64-at .ensures, eq-eqb _ _ path))
+    let d = c .before .before in
+    let tag = sym (d .before .before .before .decode .ensures) in
+    let root = ap (λ (t : Tag). isRoot (t .path)) tag ∙ sym (d .before .is-root .ensures) ∙ d .if1 .taken in
+    rw (root, ne-eqb _ _ (c .if2 .left), ne-eqb _ 0 (λ e. c .if2 .left (sym (ap (λ (t : Tag). t .iteration) tag) ∙ e))))
     (λ c.
-    let u = c .before .before in
-    let root = u .before .root .ensures in
-    rw (root, ← u .u64-at .ensures, ne-eqb (u .u64-at .result) 0 (λ e. c .if1 .left (e ∙ sym (ap (λ (t : Tag). t .path) root))))))
+    let tag = sym (c .before .before .before .decode .ensures) in
+    let root = ap (λ (t : Tag). isRoot (t .path)) tag ∙ sym (c .before .is-root .ensures) in
+    rw (root, c .if1 .left)))

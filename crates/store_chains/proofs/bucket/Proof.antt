@@ -15,4 +15,5 @@ bucket-spec = tie.close (tie.spec
     (λ c. search needs)
     (λ c. search needs)
     (λ c. search needs)
+    (λ c. search needs)
     (λ c. (refl, omega arith)))

@@ -8,7 +8,7 @@ use Rattle.store_enabled.proofs.Places.{lower-below}
 use Rattle.store_enabled.proofs.Spending.{both-spent}
 use Rattle.store_enabled.proofs.spend_operands.Statement.{statement}
 use Rattle.store_enabled.proofs.spend_operands.Tie as tie
-use Rattle.record.specs.Widths.{tokenWidth}
+use Rattle.record.specs.Widths.{tokenWidth, stateOffset}
 
 pub spend-operands-spec : {M : Type 1} → statement M
 spend-operands-spec = tie.close (tie.spec
@@ -17,7 +17,7 @@ spend-operands-spec = tie.close (tie.spec
     (λ c. search needs)
     (λ c. search needs)
     (λ c. search needs)
-    (λ c. let a = c .before .args in omega (arith, length-set (a .ledger .now) (a .first * tokenWidth + 16) 1, c .before .pre .4))
+    (λ c. let a = c .before .args in omega (arith, length-set (a .ledger .now) (a .first * tokenWidth + stateOffset) 1, c .before .pre .4))
     (λ c κs. search needs)
     (λ c κs.
     let s = c .before .before .before in

@@ -17,7 +17,7 @@ use Rattle.record.specs.Widths.{tokenWidth, cellWidth}
 
 abbrev Inv-loop : tie.InvT-loop
 Inv-loop answer listing cells room n line₀ left₀ j₀ line left j =
-    (j ≤ n) × (length line ≡ 74) × (length (made (lines answer listing cells) j) + left ≡ room)
+    (j ≤ n) × (length line ≡ 75) × (length (made (lines answer listing cells) j) + left ≡ room)
 
 abbrev μ-loop : tie.MeasureT-loop
 μ-loop answer listing cells room n line₀ left₀ j₀ line left j = n - j

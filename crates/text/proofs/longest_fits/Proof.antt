@@ -33,5 +33,5 @@ longest-fits-spec =
     (λ c.
     let a = c .before .before .args in
     let m = length (a .cells .now) / cellWidth in
-    let left = (a .room - a .first - length (a .listing .now) / tokenWidth * 56) / 46 in
+    let left = (a .room - a .first - length (a .listing .now) / tokenWidth * 75) / 46 in
     both-ways m left (a .first + mostBytes (a .listing .now) (a .cells .now)) (a .room) (λ h. omega arith) (λ h. omega arith)))

@@ -16,7 +16,7 @@ enum State {
 
 #[derive(Clone, Copy)]
 struct Arrived {
-    path: u64,
+    path: u128,
     iteration: u8,
     instruction: u16,
     port: u8,
@@ -25,7 +25,7 @@ struct Arrived {
 }
 
 impl Arrived {
-    fn tag(&self) -> (u64, u8, u16) {
+    fn tag(&self) -> (u128, u8, u16) {
         (self.path, self.iteration, self.instruction)
     }
 
@@ -35,9 +35,9 @@ impl Arrived {
 
     fn record(&self) -> [u8; TOKEN_RECORD] {
         let mut record = token(self.instruction, self.port, self.value);
-        record[..8].copy_from_slice(&self.path.to_le_bytes());
-        record[8] = self.iteration;
-        record[16] = self.state as u8;
+        record[..16].copy_from_slice(&self.path.to_le_bytes());
+        record[16] = self.iteration;
+        record[24] = self.state as u8;
         record
     }
 }
@@ -90,9 +90,9 @@ fn inputs(bytes: &[u8]) -> Vec<Arrived> {
     let input = |record: &[u8]| Arrived {
         path: 0,
         iteration: 0,
-        instruction: u16::from_le_bytes([record[10], record[11]]),
-        port: record[9],
-        value: signed(&record[12..16]),
+        instruction: u16::from_le_bytes([record[18], record[19]]),
+        port: record[17],
+        value: signed(&record[20..24]),
         state: State::Live,
     };
     bytes.chunks(TOKEN_RECORD).map(input).collect()
@@ -242,9 +242,10 @@ impl Machine<'_> {
                 let iteration = left.iteration.checked_add(1).ok_or(13)?;
                 self.send(&record, Arrived { iteration, ..left }, value)
             }
-            ENTER if left.path >> 48 > 0 => Err(14),
+            ENTER if left.path >> 112 > 0 => Err(14),
             ENTER => {
-                let path = (left.path << 16) + ((constant as u64) << 8) + u64::from(left.iteration);
+                let path =
+                    (left.path << 16) + ((constant as u128) << 8) + u128::from(left.iteration);
                 let inner = Arrived {
                     path,
                     iteration: 0,

@@ -9,7 +9,7 @@ pub fn graph(records: &[[u8; 16]]) -> Vec<u8> {
     records.concat()
 }
 
-pub fn inputs(records: &[[u8; 20]]) -> Vec<u8> {
+pub fn inputs(records: &[[u8; 28]]) -> Vec<u8> {
     records.concat()
 }
 
@@ -70,13 +70,13 @@ pub struct Left {
     pub cells: Vec<u8>,
 }
 
-pub fn lend(records: &[[u8; 16]], tokens: &[[u8; 20]]) -> Lent {
+pub fn lend(records: &[[u8; 16]], tokens: &[[u8; 28]]) -> Lent {
     Lent {
         graph: graph(records),
         inputs: inputs(tokens),
         picks: Vec::new(),
         budget: 2048,
-        ledger_bytes: 2048 * 20,
+        ledger_bytes: 2048 * 28,
         cells_bytes: 1024 * 8,
     }
 }
@@ -93,7 +93,7 @@ impl Lent {
     }
 
     pub fn capacity(mut self, records: usize) -> Lent {
-        self.ledger_bytes = 20 * records;
+        self.ledger_bytes = 28 * records;
         self
     }
 
@@ -108,7 +108,7 @@ impl Lent {
     pub fn run(&self) -> Left {
         let left = self.run_over(0xa5);
         let other = self.run_over(0x3c);
-        let used = 20 * left.answer.tokens;
+        let used = 28 * left.answer.tokens;
         assert_eq!(left.answer, other.answer);
         assert_eq!(left.ledger[..used], other.ledger[..used]);
         assert!(left.ledger[used..].iter().all(|&byte| byte == 0xa5));
@@ -148,7 +148,7 @@ impl Left {
     /// The printed text; the cells of a run that was refused at once are those
     /// of the printing program, which start as zeros.
     pub fn text(&self) -> String {
-        let used = &self.ledger[..20 * self.answer.tokens];
+        let used = &self.ledger[..28 * self.answer.tokens];
         let mut listing = vec![0; used.len()];
         assert_eq!(list(used, &mut listing), 0);
         let zeros = vec![0; self.cells.len()];
@@ -161,7 +161,7 @@ impl Left {
     }
 
     pub fn record(&self, position: usize) -> &[u8] {
-        &self.ledger[20 * position..20 * position + 20]
+        &self.ledger[28 * position..28 * position + 28]
     }
 
     pub fn cell(&self, number: usize) -> &[u8] {

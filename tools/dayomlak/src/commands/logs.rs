@@ -9,7 +9,7 @@ use crate::failure::Failure;
 use crate::machine::{End, Machine};
 use crate::program::Program;
 use crate::records::{Tag, LOGGED};
-use crate::{diagnostics, output, refused};
+use crate::{diagnostics, forms, output, refused};
 
 pub fn log(args: &Log) -> Result<u8, Failure> {
     let program = load(&args.file.file)?;
@@ -44,6 +44,11 @@ fn replayed(machine: &Machine, end: &End, log: &[u8]) -> String {
         Some(mut finding) if end.answer.word == Word::Refused(20) => {
             let named = named(program, log, end.answer.place);
             finding.notes.insert(0, named);
+            if let Some(advice) = forms::advice(log, &forms::LOGS) {
+                finding
+                    .notes
+                    .insert(1, format!("look at the log's records: {advice}"));
+            }
             diagnostics::plain(&program.label, &program.text, &[finding])
         }
         _ => answer(machine, end, order),
@@ -59,9 +64,9 @@ fn named(program: &Program, log: &[u8], record: usize) -> String {
                 bytes.len()
             )
         }
-        Some(bytes) if bytes[9] != 0 => format!("byte 9 of record {record} is not 0"),
+        Some(bytes) if bytes[17] != 0 => format!("byte 17 of record {record} is not 0"),
         Some(bytes) => {
-            let tag = Tag::logged(bytes);
+            let tag = Tag::of(bytes);
             format!(
                 "record {record} names `{}`, which is not enabled then",
                 program.tag(&tag)

@@ -84,10 +84,10 @@ function showFiring(state) {
 function firingWords({ firing, position, refused }) {
   const done = data.firings.length;
   if (refused) {
-    const words = ` is ${firing.words}. This is the state that it found.`;
-    return [strong(`Firing ${position}: ${firing.name}`), words];
+    const words = breakable(` is ${firing.words}. This is the state that it found.`);
+    return [strong(`Firing ${position}: ${firing.name}`), ...words];
   }
-  if (firing) return [strong(`Firing ${position} of ${done}: ${firing.name}`), `, ${firing.words}`];
+  if (firing) return [strong(`Firing ${position} of ${done}: ${firing.name}`), ...breakable(`, ${firing.words}`)];
   if (data.tokens.length === 0) return [nothing()];
   return [`The inputs, before the first of ${plural(done, 'firing')}`];
 }
@@ -99,8 +99,13 @@ function nothing() {
 
 function strong(words) {
   const element = document.createElement('strong');
-  element.textContent = words;
+  element.append(...breakable(words));
   return element;
+}
+
+// Words whose names may be broken between two calls, and a long one nowhere else.
+function breakable(words) {
+  return String(words).split(/(?<=\/)/).flatMap((part) => [part, document.createElement('wbr')]);
 }
 
 /* Tables. */
@@ -109,7 +114,7 @@ function row(values, numbers) {
   const tr = document.createElement('tr');
   values.forEach((value, column) => {
     const td = tr.insertCell();
-    td.textContent = value;
+    td.append(...breakable(value));
     if (numbers.includes(column)) td.className = 'number';
   });
   return tr;
@@ -328,7 +333,7 @@ function fit(smallest) {
 
 function showStep({ firing, refused }) {
   const step = firing ? firing.step : null;
-  byId('step').textContent = stepWords(firing, refused);
+  byId('step').replaceChildren(...breakable(stepWords(firing, refused)));
   document.querySelectorAll('figure').forEach((figure) => markStep(figure, step));
 }
 

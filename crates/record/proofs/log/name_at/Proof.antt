@@ -26,14 +26,14 @@ name-at-spec = tie.close (tie.spec
     (λ c. search needs)
     (λ c.
     let a = c .before .before .before .before .args in
-    rw (le-leb logWidth (length (drop (a .i * logWidth) (a .log .now))) (rw length-drop (omega arith)), getD-drop (a .i * logWidth) (a .log .now) 9 0, ne-eqb _ _ (c .if2 .taken)))
+    rw (le-leb logWidth (length (drop (a .i * logWidth) (a .log .now))) (rw length-drop (omega arith)), getD-drop (a .i * logWidth) (a .log .now) 17 0, ne-eqb _ _ (c .if2 .taken)))
     (λ c κs. search needs)
     (λ c κs. rw (c .row-at .ensures, length-drop) (omega arith))
     (λ c.
     let a = c .before .before .before .before .before .before .args in
     rw (
       le-leb logWidth (length (drop (a .i * logWidth) (a .log .now))) (rw length-drop (omega arith)),
-      getD-drop (a .i * logWidth) (a .log .now) 9 0,
+      getD-drop (a .i * logWidth) (a .log .now) 17 0,
       eq-eqb _ _ (c .before .before .if2 .left),
       c .decode .ensures,
       c .before .row-at .ensures,

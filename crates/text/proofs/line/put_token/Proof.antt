@@ -6,6 +6,7 @@ use mir.Facts.{toZ-ofZ}
 use mir.Syntax.{w32}
 use mir.Val.{SFits}
 use Rattle.record.specs.declared.token.Token.{Token}
+use Rattle.record.specs.Paths.{pathNumber}
 use Rattle.text.specs.Text.{decimal, signedDecimal, stateWord, valueIn, tokenLine}
 use Rattle.text.proofs.Lines.{field-room, rest-room, with-rest}
 use Rattle.text.proofs.line.put_token.Statement.{statement}
@@ -33,35 +34,35 @@ put-token-spec =
     tie.close
     (tie.spec
     (λ c κs.
-    let s = c .before .before .before in
+    let s = c .before .before .before .before in
     let t = s .args .t in
-    field-room (decimal (t .tag .iteration)) (instruction t) (decimal (t .tag .path)) (s .pre))
+    field-room (decimal (t .tag .iteration)) (instruction t) (decimal (pathNumber (t .tag .path))) (s .pre))
     (λ c. search needs)
     (λ c κs.
     let ca = c .before .before .before .before in
-    let s = ca .before .before .before .before in
+    let s = ca .before .before .before .before .before in
     let t = s .args .t in
-    let r1 = rest-room (decimal (t .tag .iteration)) (instruction t) (decimal (t .tag .path)) (ca .put-number .ensures) (s .pre) in
+    let r1 = rest-room (decimal (t .tag .iteration)) (instruction t) (decimal (pathNumber (t .tag .path))) (ca .put-path .ensures) (s .pre) in
     field-room (decimal (t .tag .instruction)) (port t) (decimal (t .tag .iteration)) r1)
     (λ c. search needs)
     (λ c κs.
     let cb = c .before .before .before .before in
     let ca = cb .before .before .before .before .before in
-    let s = ca .before .before .before .before in
+    let s = ca .before .before .before .before .before in
     let t = s .args .t in
-    let r1 = rest-room (decimal (t .tag .iteration)) (instruction t) (decimal (t .tag .path)) (ca .put-number .ensures) (s .pre) in
-    let r2 = rest-room (decimal (t .tag .instruction)) (port t) (decimal (t .tag .iteration)) (cb .put-number2 .ensures) r1 in
+    let r1 = rest-room (decimal (t .tag .iteration)) (instruction t) (decimal (pathNumber (t .tag .path))) (ca .put-path .ensures) (s .pre) in
+    let r2 = rest-room (decimal (t .tag .instruction)) (port t) (decimal (t .tag .iteration)) (cb .put-number .ensures) r1 in
     field-room (decimal (t .port)) (value t) (decimal (t .tag .instruction)) r2)
     (λ c. search needs)
     (λ c κs.
     let cd = c .before .before .before .before in
     let cb = cd .before .before .before .before .before in
     let ca = cb .before .before .before .before .before in
-    let s = ca .before .before .before .before in
+    let s = ca .before .before .before .before .before in
     let t = s .args .t in
-    let r1 = rest-room (decimal (t .tag .iteration)) (instruction t) (decimal (t .tag .path)) (ca .put-number .ensures) (s .pre) in
-    let r2 = rest-room (decimal (t .tag .instruction)) (port t) (decimal (t .tag .iteration)) (cb .put-number2 .ensures) r1 in
-    let r3 = rest-room (decimal (t .port)) (value t) (decimal (t .tag .instruction)) (cd .put-number3 .ensures) r2 in
+    let r1 = rest-room (decimal (t .tag .iteration)) (instruction t) (decimal (pathNumber (t .tag .path))) (ca .put-path .ensures) (s .pre) in
+    let r2 = rest-room (decimal (t .tag .instruction)) (port t) (decimal (t .tag .iteration)) (cb .put-number .ensures) r1 in
+    let r3 = rest-room (decimal (t .port)) (value t) (decimal (t .tag .instruction)) (cd .put-number2 .ensures) r2 in
     field-room (signedDecimal (valueIn (t .content))) (word t) (decimal (t .port)) r3)
     (λ c κs. search needs)
     (λ c κs.
@@ -69,12 +70,12 @@ put-token-spec =
     let cd = ce .before .before .before .before .before in
     let cb = cd .before .before .before .before .before in
     let ca = cb .before .before .before .before .before in
-    let s = ca .before .before .before .before in
+    let s = ca .before .before .before .before .before in
     let t = s .args .t in
-    let r1 = rest-room (decimal (t .tag .iteration)) (instruction t) (decimal (t .tag .path)) (ca .put-number .ensures) (s .pre) in
-    let r2 = rest-room (decimal (t .tag .instruction)) (port t) (decimal (t .tag .iteration)) (cb .put-number2 .ensures) r1 in
-    let r3 = rest-room (decimal (t .port)) (value t) (decimal (t .tag .instruction)) (cd .put-number3 .ensures) r2 in
-    let r4 = rest-room (signedDecimal (valueIn (t .content))) (word t) (decimal (t .port)) (ce .put-number4 .ensures) r3 in
+    let r1 = rest-room (decimal (t .tag .iteration)) (instruction t) (decimal (pathNumber (t .tag .path))) (ca .put-path .ensures) (s .pre) in
+    let r2 = rest-room (decimal (t .tag .instruction)) (port t) (decimal (t .tag .iteration)) (cb .put-number .ensures) r1 in
+    let r3 = rest-room (decimal (t .port)) (value t) (decimal (t .tag .instruction)) (cd .put-number2 .ensures) r2 in
+    let r4 = rest-room (signedDecimal (valueIn (t .content))) (word t) (decimal (t .port)) (ce .put-number3 .ensures) r3 in
     let z = c .value-in in
     let f : SFits w32 (z .result) = record { sfits = z .ok } in
     rw (toZ-ofZ f, z .ensures) (field-room (stateWord (t .content)) ([]) (signedDecimal (valueIn (t .content))) r4))
@@ -83,12 +84,12 @@ put-token-spec =
     let cd = ce .before .before .before .before .before in
     let cb = cd .before .before .before .before .before in
     let ca = cb .before .before .before .before .before in
-    let s = ca .before .before .before .before in
+    let s = ca .before .before .before .before .before in
     let t = s .args .t in
-    let r1 = rest-room (decimal (t .tag .iteration)) (instruction t) (decimal (t .tag .path)) (ca .put-number .ensures) (s .pre) in
-    let r2 = rest-room (decimal (t .tag .instruction)) (port t) (decimal (t .tag .iteration)) (cb .put-number2 .ensures) r1 in
-    let r3 = rest-room (decimal (t .port)) (value t) (decimal (t .tag .instruction)) (cd .put-number3 .ensures) r2 in
-    let r4 = rest-room (signedDecimal (valueIn (t .content))) (word t) (decimal (t .port)) (ce .put-number4 .ensures) r3 in
+    let r1 = rest-room (decimal (t .tag .iteration)) (instruction t) (decimal (pathNumber (t .tag .path))) (ca .put-path .ensures) (s .pre) in
+    let r2 = rest-room (decimal (t .tag .instruction)) (port t) (decimal (t .tag .iteration)) (cb .put-number .ensures) r1 in
+    let r3 = rest-room (decimal (t .port)) (value t) (decimal (t .tag .instruction)) (cd .put-number2 .ensures) r2 in
+    let r4 = rest-room (signedDecimal (valueIn (t .content))) (word t) (decimal (t .port)) (ce .put-number3 .ensures) r3 in
     let z = c .before .before .before .before .value-in in
     let f : SFits w32 (z .result) = record { sfits = z .ok } in
     let v = rw (toZ-ofZ f, z .ensures) at (c .before .before .before .put-signed .ensures) in
@@ -99,12 +100,12 @@ put-token-spec =
     let cd = ce .before .before .before .before .before in
     let cb = cd .before .before .before .before .before in
     let ca = cb .before .before .before .before .before in
-    let t = ca .before .before .before .before .args .t in
+    let t = ca .before .before .before .before .before .args .t in
     let z = c .before .before .before .before .before .before .before .value-in in
     let f : SFits w32 (z .result) = record { sfits = z .ok } in
     let v = rw (toZ-ofZ f, z .ensures) at (c .before .before .before .before .before .before .put-signed .ensures) in
     let a4 = with-rest (stateWord (t .content)) ([]) (signedDecimal (valueIn (t .content))) (v) (c .before .before .put-state .ensures) in
-    let a3 = with-rest (signedDecimal (valueIn (t .content))) (word t) (decimal (t .port)) (ce .put-number4 .ensures) a4 in
-    let a2 = with-rest (decimal (t .port)) (value t) (decimal (t .tag .instruction)) (cd .put-number3 .ensures) a3 in
-    let a1 = with-rest (decimal (t .tag .instruction)) (port t) (decimal (t .tag .iteration)) (cb .put-number2 .ensures) a2 in
-    with-rest (decimal (t .tag .iteration)) (instruction t) (decimal (t .tag .path)) (ca .put-number .ensures) a1))
+    let a3 = with-rest (signedDecimal (valueIn (t .content))) (word t) (decimal (t .port)) (ce .put-number3 .ensures) a4 in
+    let a2 = with-rest (decimal (t .port)) (value t) (decimal (t .tag .instruction)) (cd .put-number2 .ensures) a3 in
+    let a1 = with-rest (decimal (t .tag .instruction)) (port t) (decimal (t .tag .iteration)) (cb .put-number .ensures) a2 in
+    with-rest (decimal (t .tag .iteration)) (instruction t) (decimal (pathNumber (t .tag .path))) (ca .put-path .ensures) a1))

@@ -1,14 +1,20 @@
 -- `record::tag::Tag::leave` meets its contract. Assumes nothing.
-use borrow.Author.Tests.{eq-eqb, ne-eqb}
-use Rattle.record.specs.Calls.{leaveOf}
+use mathlib.Core.Path.{sym, _∙_}
 use borrow.Author.Needs.{needs}
+use Rattle.record.specs.Calls.{leaveOf}
+use Rattle.record.proofs.Paths.{lowered-fits, left-words, left-site, left-iteration}
 use Rattle.record.proofs.tag.Tag.leave.Statement.{statement}
 use Rattle.record.proofs.tag.Tag.leave.Tie as tie
 
 pub leave-spec : {M : Type 1} → statement M
 unfolding leaveOf
 leave-spec = tie.close (tie.spec
+    (λ c κs. search needs)
     (λ c. search needs)
     (λ c. search needs)
-    (λ c. rw (eq-eqb _ _ (c .if1 .taken)))
-    (λ c. rw (ne-eqb _ _ (c .if1 .left))))
+    (λ c. record { fits = lowered-fits (c .before .before .before .args .self .path) (search needs) })
+    (λ c. search needs)
+    (λ c. rw (sym (c .before .is-root .ensures) ∙ c .if1 .taken))
+    (λ c.
+    let path = c .before .before .before .args .self .path in
+    rw (sym (c .before .is-root .ensures) ∙ c .if1 .left, left-words path (search needs), left-site path, left-iteration path)))

@@ -1,0 +1,11 @@
+-- `convert::convert_log` meets its contract. Assumes nothing.
+use borrow.Author.Needs.{needs}
+use native.Mathlib.Omega.{arith}
+use Rattle.convert.proofs.convert_log.Statement.{statement}
+use Rattle.convert.proofs.convert_log.Tie as tie
+
+pub convert-log-spec : {M : Type 1} → statement M
+convert-log-spec = tie.close (tie.spec
+    (λ c κs. omega arith)
+    (λ c. search needs)
+    (λ c. c .before .before .convert-records .ensures))

@@ -1,0 +1,17 @@
+-- `text::line::by_ten` meets its contract. Assumes nothing.
+use borrow.Author.Needs.{needs}
+use mathlib.Core.Path.{refl, sym}
+use Rattle.text.proofs.Paths.{tenth-words, tenth-digit, upper-fits}
+use Rattle.text.proofs.line.by_ten.Statement.{statement}
+use Rattle.text.proofs.line.by_ten.Tie as tie
+
+pub by-ten-spec : {M : Type 1} → statement M
+by-ten-spec = tie.close (tie.spec
+    (λ c. search needs)
+    (λ c. record { fits = upper-fits (c .args .path) (search needs) })
+    (λ c. search needs)
+    (λ c. search needs)
+    (λ c. search needs)
+    (λ c. search needs)
+    (λ c. search needs)
+    (λ c. let p = c .args .path in (sym (tenth-words p (search needs)), sym (tenth-digit p (search needs)), refl)))
