@@ -4,7 +4,7 @@ mod common;
 
 use std::fs;
 
-use common::{dayomlak, expect, Done, Folder};
+use common::{dayomlak, expect, Done, Folder, ROOT};
 
 fn expression(text: &str, words: &[&str]) -> Done {
     dayomlak(&[&["expression", text], words].concat())
@@ -92,6 +92,17 @@ input n3.0 = 3
     assert!(dot.out.contains("product"), "{dot:?}");
     let svg = dayomlak(&["draw", &file]);
     assert!(svg.out.contains("remainder"), "{svg:?}");
+}
+
+/// The gallery's example is what the command makes.
+#[test]
+fn the_example() {
+    let folder = Folder::new();
+    let file = folder.path("discriminant.ttda");
+    let words = ["a=2", "b=-10", "c=12", "-o", &file];
+    assert_eq!(expression("b * b - 4 * a * c", &words).status, 0);
+    let example = format!("{ROOT}/examples/discriminant/discriminant.ttda");
+    assert_eq!(fs::read(file).unwrap(), fs::read(example).unwrap());
 }
 
 /// Names of the expression, those that the graph needs and the words of a typed graph do not meet.
