@@ -52,6 +52,19 @@ uint64_t ttda_profile(const uint8_t *graph, size_t graph_len,
 uint64_t ttda_bounds(const uint8_t *graph, size_t graph_len,
                      const uint8_t *inputs, size_t inputs_len);
 
+/* Makes the graph of an expression: 1 to 100 records of 8 bytes, each a variable (8 zeros) or an operation (its code, the numbers of
+   its left and right record, 5 zeros). Writes 16 bytes for each record, and 16 for OUT, to the start of graph, with the bytes
+   behind them untouched. The answer has 16 bits each, lowest first: the word (0, or 25 or 26 refused, with graph untouched), the
+   records of the graph, 0, place. */
+uint64_t ttda_expression(const uint8_t *expression, size_t expression_len,
+                         uint8_t *graph, size_t graph_len);
+
+/* The value of an expression, of the values of its variables in record order, 4 bytes each: what OUT receives in a run of its graph. The
+   answer has, lowest first: 16 bits of the word (0, or refused: 25; 7 if there are more or fewer values than variables; 12 if an operation is out of
+   range), 32 bits of the value, 16 of the place. */
+uint64_t ttda_expression_value(const uint8_t *expression, size_t expression_len,
+                               const uint8_t *values, size_t values_len);
+
 /* Sorts the used records of a ledger, as many as the answer has tokens, into out of the same length. 0, or 7 with out
    untouched. */
 uint64_t ttda_list(const uint8_t *ledger, size_t ledger_len,

@@ -3,13 +3,18 @@ use Prim.Native.Nat.{ℕ, _+_, _*_, _/_, _%_}
 use mathlib.Core.Bool.{cond}
 use mathlib.Core.List.{List, [], _∷_}
 use lib.Dec.{eqb}
+use Rattle.number.specs.Number.{bitsOf}
 use Rattle.rules.specs.Answer.{Values, numberOf}
 use Rattle.rules.specs.declared.answer.Refusal.{Refusal}
-use Rattle.rules.specs.declared.answer.Refusal.the-variants.{GraphLength, UnknownOperation, FanOut, BadArc, BadSite, BadInput, BadStore, LedgerFull, SecondToken, NoSuchCell, SecondWrite, OutOfRange, Iteration, TooDeep, NoReturn, ProfileFull, NotLoopFree, NotEnabled}
+use Rattle.rules.specs.declared.answer.Refusal.the-variants.{GraphLength, UnknownOperation, FanOut, BadArc, BadSite, BadInput, BadStore, LedgerFull, SecondToken, NoSuchCell, SecondWrite, OutOfRange, Iteration, TooDeep, NoReturn, ProfileFull, NotLoopFree, NotEnabled, BadExpression, GraphTooLong}
 use Rattle.rules.specs.declared.answer.Outcome.{Outcome}
 use Rattle.rules.specs.declared.answer.Outcome.the-variants.{Completed, Hung, Spent, Refused}
 use Rattle.rules.specs.declared.answer.Needs.{Needs}
 use Rattle.rules.specs.declared.answer.Needs.the-variants as Bounds
+use Rattle.rules.specs.declared.answer.Made.{Made}
+use Rattle.rules.specs.declared.answer.Made.the-variants as Making
+use Rattle.rules.specs.declared.answer.Evaluated.{Evaluated}
+use Rattle.rules.specs.declared.answer.Evaluated.the-variants as Evaluation
 use Rattle.text.specs.Text.{printed, printedOf, outAfter}
 use Rattle.text.specs.declared.Printed.{Printed}
 use Rattle.text.specs.declared.Printed.the-variants.{Done, TooSmall}
@@ -29,6 +34,16 @@ packed v = v .word + v .firings % 65536 * 65536 + v .tokens % 65536 * 4294967296
 abbrev pub boundsOf : Needs → Values
 boundsOf (Bounds.AtMost firings tokens) = record { word = 0; firings = firings; tokens = tokens; place = 0 }
 boundsOf (Bounds.Refused r place) = record { word = numberOf r; firings = 0; tokens = 0; place = place }
+
+-- what becomes of an expression of 02, R-14: word 0 and the number of records in the place of the firings, or the refusal's number with its place
+abbrev pub madeNumber : Made → Values
+madeNumber (Making.Records n) = record { word = 0; firings = n; tokens = 0; place = 0 }
+madeNumber (Making.Refused r place) = record { word = numberOf r; firings = 0; tokens = 0; place = place }
+
+-- the value of an expression: word 0 and its 32 bits in the place of firings and tokens, or the refusal's number with its place
+abbrev pub valueNumber : Evaluated → Values
+valueNumber (Evaluation.Value v) = record { word = 0; firings = bitsOf v % 65536; tokens = bitsOf v / 65536; place = 0 }
+valueNumber (Evaluation.Refused r place) = record { word = numberOf r; firings = 0; tokens = 0; place = place }
 
 -- ---- the way back
 
@@ -53,6 +68,8 @@ refusals =
     ∷ ProfileFull
     ∷ NotLoopFree
     ∷ NotEnabled
+    ∷ BadExpression
+    ∷ GraphTooLong
     ∷ []
 
 -- the one of some with a number

@@ -1,9 +1,11 @@
-// What Rust and C link: the run, with and without a log, the replay, the profile, the bounds, the listing and the
+// What Rust and C link: the run, with and without a log, the replay, the profile, the bounds, expressions, the listing and the
 // printed lines over numbers and byte slices, with the promises of the crates behind them.
 use convert::Converted;
 use listing::Listed;
 use rules::answer;
 use rules::answer::Answer;
+use rules::answer::Evaluated;
+use rules::answer::Made;
 use rules::answer::Needs;
 use rules::answer::Outcome;
 use rules::answer::Refusal;
@@ -12,6 +14,9 @@ ghost use mathlib.Core.Path.{_≡_};
 ghost use lib.ListN.{length};
 ghost use Rattle.rules.specs.Answer.{placeIn, valuesOf};
 ghost use Rattle.rules.specs.Needs.{needs};
+ghost use Rattle.record.specs.ExpressionRecords.{expressionOf};
+ghost use Rattle.rules.specs.Expression.{graphFor, checkMade, madeOf, outputOf, evaluated};
+ghost use Prim.Native.Nat.{suc};
 ghost use Rattle.rules.specs.Run.{result, ledgerAfter, cellsAfter};
 ghost use Rattle.rules.specs.Run.{answer as Run·answer};
 ghost use Rattle.rules.specs.Log.{logged, logAfter, replayed};
@@ -19,7 +24,7 @@ ghost use Rattle.rules.specs.Profile.{profiled, profileAnswer, profileAfter};
 ghost use Rattle.convert.specs.Convert.{tokenRest, logRest, numberOf as Convert·numberOf, answer as Convert·answer, outAfter as Convert·outAfter};
 ghost use Rattle.listing.specs.Listing.{outAfter};
 ghost use Rattle.listing.specs.Listing.{answer as Listing·answer};
-ghost use Rattle.abi.specs.Numbers.{packed, boundsOf, refusalOf, unplaced, outcomeOf, unpacked, printAnswer, printAfter};
+ghost use Rattle.abi.specs.Numbers.{packed, boundsOf, madeNumber, valueNumber, refusalOf, unplaced, outcomeOf, unpacked, printAnswer, printAfter};
 
 // What a word says of a refusal.
 enum Numbered {
@@ -84,6 +89,8 @@ fn refusal_of(word: u64) -> Numbered
         18 => Numbered::One(Refusal::ProfileFull),
         19 => Numbered::One(Refusal::NotLoopFree),
         20 => Numbered::One(Refusal::NotEnabled),
+        25 => Numbered::One(Refusal::BadExpression),
+        26 => Numbered::One(Refusal::GraphTooLong),
         _ => Numbered::NoRefusal,
     }
 }
@@ -222,6 +229,40 @@ pub extern "C" fn ttda_bounds(graph: &[u8], inputs: &[u8]) -> u64
             firings: 0,
             tokens: 0,
         }),
+    }
+}
+
+#[no_mangle]
+pub extern "C" fn ttda_expression(expression: &[u8], graph: &mut [u8]) -> u64
+    ensures { λ r. ⌜ r ≡ packed (madeNumber (madeOf (checkMade (now (expression .entry)) (length (now (graph .entry)))) (suc (length (expressionOf (now (expression .entry))))))) ⌝ }
+    ensures { λ _. ⌜ now (graph .exit) ≡ outputOf (checkMade (now (expression .entry)) (length (now (graph .entry)))) (graphFor (expressionOf (now (expression .entry)))) (now (graph .entry)) ⌝ }
+{
+    let made = expression::to_graph(expression, graph);
+    match made {
+        Made::Records(records) => number_of(Answer {
+            outcome: Outcome::Completed,
+            firings: records,
+            tokens: 0,
+        }),
+        Made::Refused(r, place) => number_of(answer::refused(r, place)),
+    }
+}
+
+#[no_mangle]
+pub extern "C" fn ttda_expression_value(expression: &[u8], values: &[u8]) -> u64
+    ensures { λ r. ⌜ r ≡ packed (valueNumber (evaluated (now (expression .entry)) (now (values .entry)))) ⌝ }
+{
+    let evaluated = expression::value(expression, values);
+    match evaluated {
+        Evaluated::Value(v) => {
+            let bits = number::bits(v);
+            number_of(Answer {
+                outcome: Outcome::Completed,
+                firings: (bits % 65536) as usize,
+                tokens: (bits / 65536) as usize,
+            })
+        }
+        Evaluated::Refused(r, place) => number_of(answer::refused(r, place)),
     }
 }
 

@@ -1,5 +1,5 @@
--- The theorems (Enabled, Sequences, Ending, Runs, Orders, Reached, Fired, Steps, Replay, Capacity, Agreement, Kept, Refused, Bounds),
--- what they are proved from (Lists, Swap, View, Store, Tags, Perm), and a computed example. Assumes nothing.
+-- The theorems (Enabled, Sequences, Ending, Runs, Orders, Reached, Fired, Steps, Replay, Capacity, Agreement, Kept, Refused, Bounds,
+-- Trees), what they are proved from (Lists, Swap, View, Store, Tags, Perm, Sets), and a computed example. Assumes nothing.
 pub mod Lists
 pub mod Swap
 pub mod View
@@ -23,3 +23,5 @@ pub mod Refused
 pub mod Parts
 pub mod Bounds
 pub mod Example
+pub mod Sets
+pub mod Trees

@@ -171,7 +171,7 @@ liveOf (some (spent u)) v e = noneSome e
 liveOf (some (deferred c)) v e = noneSome e
 
 module _ {W : Type 0} where
-  bothParts : {p : Operands W} (b : Bool) (x : Option (Operands W)) → cond b x none ≡ some p → (b ≡ true) × (x ≡ some p)
+  pub bothParts : {p : Operands W} (b : Bool) (x : Option (Operands W)) → cond b x none ≡ some p → (b ≡ true) × (x ≡ some p)
   bothParts true x e = (refl, e)
   bothParts false x e = noneSome e
 
@@ -191,7 +191,7 @@ module _ {W : Type 0} where
   belowAll f zero h = refl
   belowAll f (suc n) h = let (v, e) = h n (omega arith) in rw e (belowAll f n (λ q l. h q (omega arith)))
 
-  twoKept : {p : Operands W} (n : ℕ) (x y x′ y′ : Option W) → twoValues n x y ≡ some p → (0 < n → (v : W) → x ≡ some v → x′ ≡ some v) → (1 < n → (v : W) → y ≡ some v → y′ ≡ some v)
+  pub twoKept : {p : Operands W} (n : ℕ) (x y x′ y′ : Option W) → twoValues n x y ≡ some p → (0 < n → (v : W) → x ≡ some v → x′ ≡ some v) → (1 < n → (v : W) → y ≡ some v → y′ ≡ some v)
       → twoValues n x′ y′ ≡ some p
   twoKept zero x y x′ y′ e h k = noneSome e
   twoKept (suc zero) none y x′ y′ e h k = noneSome e

@@ -27,3 +27,11 @@ pickWidth = 2
 -- 02, R-7, a record a firing, and R-8: "Log records grow to 20 bytes likewise"
 abbrev pub logWidth : ℕ
 logWidth = 20
+
+-- 02, R-14: "records of 8 bytes"
+abbrev pub termWidth : ℕ
+termWidth = 8
+
+-- the values of an expression's variables: 32 signed bits, as in a token
+abbrev pub valueWidth : ℕ
+valueWidth = 4

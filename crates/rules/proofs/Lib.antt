@@ -23,3 +23,11 @@ pub mod Needs
 pub mod Capacity
 pub mod Left
 pub mod Small
+pub mod ExpressionCases
+pub mod ExpressionPassed
+pub mod ExpressionGraph
+pub mod ExpressionTree
+pub mod ExpressionAccepted
+pub mod Expression
+pub mod ExpressionPut
+pub mod ExpressionSizes

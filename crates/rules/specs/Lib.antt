@@ -19,3 +19,5 @@ pub mod Profile
 pub mod Log
 pub mod Needs
 pub mod Capacity
+pub mod Expression
+pub mod ExpressionCases

@@ -23,6 +23,8 @@ pub enum Refusal {
     ProfileFull,
     NotLoopFree,
     NotEnabled,
+    BadExpression,
+    GraphTooLong,
 }
 
 // A refusal comes with its place.
@@ -75,6 +77,18 @@ pub enum Needs {
     Refused(Refusal, usize),
 }
 
+// What becomes of an expression: a graph of so many records.
+pub enum Made {
+    Records(usize),
+    Refused(Refusal, usize),
+}
+
+// What an expression gives.
+pub enum Evaluated {
+    Value(i32),
+    Refused(Refusal, usize),
+}
+
 // The papers' number of a refusal.
 pub fn number(r: Refusal) -> u8
     ensures { λ n. ⌜ n ≡ numberOf r ⌝ }
@@ -98,6 +112,8 @@ pub fn number(r: Refusal) -> u8
         Refusal::ProfileFull => 18,
         Refusal::NotLoopFree => 19,
         Refusal::NotEnabled => 20,
+        Refusal::BadExpression => 25,
+        Refusal::GraphTooLong => 26,
     }
 }
 

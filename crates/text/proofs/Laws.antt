@@ -9,7 +9,7 @@ use borrow.Author.Tests.{ltb-true, ltb-false}
 use lib.Dec.{eqb, ltb}
 use Rattle.rules.specs.Answer.{Values, numberOf, wordOf, valuesOf}
 use Rattle.rules.specs.declared.answer.Refusal.{Refusal}
-use Rattle.rules.specs.declared.answer.Refusal.the-variants.{GraphLength, UnknownOperation, FanOut, BadArc, BadSite, BadInput, BadStore, LedgerFull, SecondToken, NoSuchCell, SecondWrite, OutOfRange, Iteration, TooDeep, NoReturn, ProfileFull, NotLoopFree, NotEnabled}
+use Rattle.rules.specs.declared.answer.Refusal.the-variants.{GraphLength, UnknownOperation, FanOut, BadArc, BadSite, BadInput, BadStore, LedgerFull, SecondToken, NoSuchCell, SecondWrite, OutOfRange, Iteration, TooDeep, NoReturn, ProfileFull, NotLoopFree, NotEnabled, BadExpression, GraphTooLong}
 use Rattle.rules.specs.declared.answer.Outcome.{Outcome}
 use Rattle.rules.specs.declared.answer.Outcome.the-variants.{Completed, Hung, Spent, Refused}
 use Rattle.rules.specs.declared.answer.Answer.{Answer}
@@ -44,6 +44,8 @@ refusal-fields NoReturn = refl
 refusal-fields ProfileFull = refl
 refusal-fields NotLoopFree = refl
 refusal-fields NotEnabled = refl
+refusal-fields BadExpression = refl
+refusal-fields GraphTooLong = refl
 
 fields-by-word : (o : Outcome) → outcomeFields o ≡ wordFields (wordOf o)
 fields-by-word Completed = refl

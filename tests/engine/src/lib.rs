@@ -76,6 +76,20 @@ extern "C" {
     fn ttda_bounds(graph: *const u8, graph_len: usize, inputs: *const u8, inputs_len: usize)
         -> u64;
 
+    fn ttda_expression(
+        expression: *const u8,
+        expression_len: usize,
+        graph: *mut u8,
+        graph_len: usize,
+    ) -> u64;
+
+    fn ttda_expression_value(
+        expression: *const u8,
+        expression_len: usize,
+        values: *const u8,
+        values_len: usize,
+    ) -> u64;
+
     fn ttda_list(ledger: *const u8, ledger_len: usize, out: *mut u8, out_len: usize) -> u64;
 
     fn ttda_convert(old: *const u8, old_len: usize, out: *mut u8, out_len: usize) -> u64;
@@ -237,6 +251,49 @@ pub fn bounds(graph: &[u8], inputs: &[u8]) -> u64 {
 pub fn packed_bounds(bounds: &Result<Bounds, Refusal>) -> u64 {
     match bounds {
         Ok(bounds) => packed(0, bounds.firings, bounds.tokens, 0),
+        Err(refusal) => packed(u64::from(refusal.number), 0, 0, refusal.place),
+    }
+}
+
+/// Makes the graph of an expression at the start of `graph`; packed as an answer: word 0
+/// or a refusal, records made, 0, place.
+pub fn expression(expression: &[u8], graph: &mut [u8]) -> u64 {
+    // SAFETY: as in `run`.
+    unsafe {
+        ttda_expression(
+            expression.as_ptr(),
+            expression.len(),
+            graph.as_mut_ptr(),
+            graph.len(),
+        )
+    }
+}
+
+/// The packed form of the second emulator's answer to an expression.
+pub fn packed_expression(records: &Result<usize, Refusal>) -> u64 {
+    match records {
+        Ok(records) => packed(0, *records, 0, 0),
+        Err(refusal) => packed(u64::from(refusal.number), 0, 0, refusal.place),
+    }
+}
+
+/// The value of an expression, packed: word 0 or a refusal, 32 bits of the value, place.
+pub fn expression_value(expression: &[u8], values: &[u8]) -> u64 {
+    // SAFETY: as in `run`.
+    unsafe {
+        ttda_expression_value(
+            expression.as_ptr(),
+            expression.len(),
+            values.as_ptr(),
+            values.len(),
+        )
+    }
+}
+
+/// The packed form of the second emulator's value of an expression.
+pub fn packed_value(value: &Result<i32, Refusal>) -> u64 {
+    match value {
+        Ok(value) => u64::from(*value as u32) << 16,
         Err(refusal) => packed(u64::from(refusal.number), 0, 0, refusal.place),
     }
 }

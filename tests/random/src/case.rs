@@ -77,7 +77,7 @@ pub struct Clock {
 }
 
 /// A buffer with bytes around it that the engine has to leave alone.
-struct Guarded {
+pub struct Guarded {
     bytes: Vec<u8>,
     front: usize,
     length: usize,
@@ -87,7 +87,7 @@ const GUARD: u8 = 0xc3;
 
 impl Guarded {
     /// The front varies, so that the engine meets every alignment.
-    fn new(contents: &[u8], front: usize) -> Guarded {
+    pub fn new(contents: &[u8], front: usize) -> Guarded {
         let mut bytes = vec![GUARD; front];
         bytes.extend_from_slice(contents);
         bytes.extend([GUARD; 32]);
@@ -98,7 +98,7 @@ impl Guarded {
         }
     }
 
-    fn lent(&mut self) -> &mut [u8] {
+    pub fn lent(&mut self) -> &mut [u8] {
         &mut self.bytes[self.front..self.front + self.length]
     }
 
@@ -112,6 +112,14 @@ impl Guarded {
             .iter()
             .chain(behind)
             .all(|&byte| byte == GUARD)
+    }
+
+    /// The bytes are those that are due, and those around them are untouched.
+    pub fn holds(&self, name: &str, due: &[u8]) -> Result<(), String> {
+        if !self.intact() {
+            return Err(format!("{name}: bytes outside the buffer were written"));
+        }
+        equal(name, self.contents(), due)
     }
 }
 
@@ -263,10 +271,7 @@ fn check_call(
         ("cells", &found.cells, &left.cells),
         ("profile or log", &found.further, &left.further),
     ] {
-        if !found.intact() {
-            return Err(format!("{name}: bytes outside the buffer were written"));
-        }
-        equal(name, found.contents(), due)?;
+        found.holds(name, due)?;
     }
     Ok(())
 }
@@ -297,10 +302,7 @@ pub fn compare_listing(records: &[u8], out_bytes: usize, prng: &mut Prng) -> Res
     if code != due_code {
         return Err(format!("listing: answer {code}, due {due_code}"));
     }
-    if !found.intact() {
-        return Err("listing: bytes outside the output were written".to_string());
-    }
-    equal("listing", found.contents(), &due)
+    found.holds("listing", &due)
 }
 
 /// Compares what both converters make of any bytes, with an output of any length.
@@ -377,8 +379,5 @@ fn compare_text(number: u64, listing: &[u8], cells: &[u8], prng: &mut Prng) -> R
     if code != due_code {
         return Err(format!("printing {number}: answer {code}, due {due_code}"));
     }
-    if !found.intact() {
-        return Err("printing: bytes outside the output were written".to_string());
-    }
-    equal("printed text", found.contents(), &due)
+    found.holds("printed text", &due)
 }

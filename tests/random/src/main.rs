@@ -13,6 +13,7 @@ mod capacities;
 mod case;
 mod conversions;
 mod damage;
+mod expressions;
 mod generate;
 mod logs;
 mod orders;
@@ -47,6 +48,7 @@ struct Harness {
     profiles: u64,
     replays: u64,
     bounds: u64,
+    expressions: u64,
     groups: u64,
     listings: u64,
     conversions: u64,
@@ -79,7 +81,7 @@ impl Harness {
 
     /// All calls that were compared.
     fn calls(&self) -> u64 {
-        self.runs + self.profiles + self.replays + self.bounds
+        self.runs + self.profiles + self.replays + self.bounds + self.expressions
     }
 
     fn fail(&mut self, case: &Case, reason: &str) {
@@ -152,12 +154,15 @@ impl Harness {
         if prng.one_in(4) {
             self.arbitrary_listing(&case, prng);
         }
+        if prng.one_in(8) {
+            self.all_expressions(prng);
+        }
     }
 
     /// Every list of picks, then demand 3 between the first order and each other
     /// one, and the budget that is just enough or one too small. Answers what each
     /// order left.
-    fn all_orders(&mut self, case: &Case, prng: &mut Prng) -> Vec<End> {
+    pub fn all_orders(&mut self, case: &Case, prng: &mut Prng) -> Vec<End> {
         let mut ends: Vec<End> = Vec::new();
         for picks in orders::pick_lists(case, prng) {
             let mut case = case.clone();
@@ -340,6 +345,7 @@ fn main() -> ExitCode {
         profiles: 0,
         replays: 0,
         bounds: 0,
+        expressions: 0,
         groups: 0,
         listings: 0,
         conversions: 0,
@@ -372,6 +378,7 @@ fn report(harness: &Harness) -> ExitCode {
         harness.replays, harness.logs_compared
     );
     println!("bounds: {}", harness.bounds);
+    println!("expressions: {}", harness.expressions);
     println!("listings of arbitrary records: {}", harness.listings);
     println!("conversions: {}", harness.conversions);
     println!(

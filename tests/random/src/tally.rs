@@ -4,7 +4,7 @@ use layout::{LEAVE, OUT};
 use second::{Outcome, TOKEN_RECORD};
 
 use crate::case::{Call, Case, Left};
-use crate::{bounds, capacities, conversions, logs, profiles};
+use crate::{bounds, capacities, conversions, expressions, logs, profiles};
 
 const NAMES: [(u8, &str); 27] = [
     (1, "COPY"),
@@ -90,6 +90,7 @@ pub struct Tally {
     bounds: Named,
     capacities: Named,
     conversions: Named,
+    expressions: Named,
 }
 
 impl Tally {
@@ -116,6 +117,7 @@ impl Tally {
             bounds: Named::new(&bounds::NAMES),
             capacities: Named::new(&capacities::NAMES),
             conversions: Named::new(&conversions::NAMES),
+            expressions: Named::new(&expressions::NAMES),
         }
     }
 
@@ -141,6 +143,10 @@ impl Tally {
 
     pub fn count_conversion(&mut self, name: &'static str) {
         self.conversions.count(vec![name]);
+    }
+
+    pub fn count_expression(&mut self, names: Vec<&'static str>) {
+        self.expressions.count(names);
     }
 
     fn count_run(&mut self, case: &Case, left: &Left) {
@@ -224,6 +230,8 @@ impl Tally {
         self.capacities.print(&mut lines);
         println!("conversions of old records:");
         self.conversions.print(&mut lines);
+        println!("expressions:");
+        self.expressions.print(&mut lines);
         println!("further:");
         lines.count("results at a LEAVE", self.root_leaves);
         lines.count("deferred at such a LEAVE", self.root_leaves_deferred);

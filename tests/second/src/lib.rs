@@ -9,6 +9,7 @@
 mod arithmetic;
 mod bounds;
 mod convert;
+mod expression;
 mod graph;
 mod listing;
 mod log;
@@ -20,6 +21,7 @@ mod token;
 
 pub use bounds::{bounds, Bounds};
 pub use convert::{convert, convert_log};
+pub use expression::{expression, expression_value, EXPRESSION_RECORD, MOST_EXPRESSION_RECORDS};
 pub use graph::{operand_count, Graph};
 pub use listing::list;
 pub use log::{replay, run_logged};

@@ -1,6 +1,7 @@
 //! The command line.
 
 use std::path::PathBuf;
+use std::str::FromStr;
 
 use clap::{Args, Parser, Subcommand, ValueEnum};
 
@@ -44,6 +45,8 @@ pub enum Command {
     Asm(Asm),
     /// Print the text of the files in a folder
     Disasm(Disasm),
+    /// The value and the graph of an expression such as 'a * (b + c) % 3'
+    Expression(Expression),
     /// Widen files of before paths of eight levels: inputs, listings, logs
     Convert(Convert),
     /// What a refusal means and what to do
@@ -209,6 +212,48 @@ pub struct Disasm {
     /// The folder with the files; a missing one counts as empty
     #[arg(value_name = "FOLDER")]
     pub folder: PathBuf,
+}
+
+#[derive(Debug, Args)]
+#[command(
+    after_help = "Operations, the tightest first: * / %, then + -, then < <=, then ==; those in one group go from the left. A \
+    comparison gives 1 or 0. Values are whole numbers of 32 signed bits.\nThe graph is drawn, traced and profiled as any \
+    other: dayomlak draw X.ttda.\n\nTry: dayomlak expression 'a * (b + c) % 3' a=2 b=5 c=-1 -o X.ttda"
+)]
+pub struct Expression {
+    /// Names, constants, + - * / % < <= == and parentheses
+    #[arg(value_name = "EXPRESSION", allow_hyphen_values = true)]
+    pub text: String,
+    /// The value of each name
+    #[arg(value_name = "NAME=VALUE")]
+    pub values: Vec<Value>,
+    /// Where the typed graph goes
+    #[arg(short, value_name = "X.ttda")]
+    pub output: Option<PathBuf>,
+}
+
+/// A name with its value.
+#[derive(Clone, Debug, PartialEq, Eq)]
+pub struct Value {
+    pub name: String,
+    pub value: i32,
+}
+
+impl FromStr for Value {
+    type Err = String;
+
+    fn from_str(text: &str) -> Result<Value, String> {
+        let Some((name, value)) = text.split_once('=') else {
+            return Err("a value is given as NAME=VALUE, such as a=5".to_string());
+        };
+        let value = value.parse().map_err(|_| {
+            format!("`{value}` is no whole number from -2,147,483,648 to 2,147,483,647")
+        })?;
+        Ok(Value {
+            name: name.to_string(),
+            value,
+        })
+    }
 }
 
 #[derive(Debug, Args)]

@@ -62,6 +62,20 @@ extern "C" {
     fn ttda_bounds(graph: *const u8, graph_len: usize, inputs: *const u8, inputs_len: usize)
         -> u64;
 
+    fn ttda_expression(
+        expression: *const u8,
+        expression_len: usize,
+        graph: *mut u8,
+        graph_len: usize,
+    ) -> u64;
+
+    fn ttda_expression_value(
+        expression: *const u8,
+        expression_len: usize,
+        values: *const u8,
+        values_len: usize,
+    ) -> u64;
+
     fn ttda_list(ledger: *const u8, ledger_len: usize, out: *mut u8, out_len: usize) -> u64;
 
     fn ttda_convert(old: *const u8, old_len: usize, out: *mut u8, out_len: usize) -> u64;
@@ -174,6 +188,32 @@ pub fn profile(lent: Lent, profile: &mut [u8]) -> (u64, u64) {
 pub fn bounds(graph: &[u8], inputs: &[u8]) -> u64 {
     // SAFETY: as in `run`.
     unsafe { ttda_bounds(graph.as_ptr(), graph.len(), inputs.as_ptr(), inputs.len()) }
+}
+
+/// Writes the graph of an expression; answers the records of the graph in the place of firings.
+pub fn expression(expression: &[u8], graph: &mut [u8]) -> u64 {
+    // SAFETY: as in `run`.
+    unsafe {
+        ttda_expression(
+            expression.as_ptr(),
+            expression.len(),
+            graph.as_mut_ptr(),
+            graph.len(),
+        )
+    }
+}
+
+/// The value of an expression: 16 bits of the word, 32 of the value, 16 of the place, lowest first.
+pub fn expression_value(expression: &[u8], values: &[u8]) -> u64 {
+    // SAFETY: as in `run`.
+    unsafe {
+        ttda_expression_value(
+            expression.as_ptr(),
+            expression.len(),
+            values.as_ptr(),
+            values.len(),
+        )
+    }
 }
 
 /// Sorts the used records of a ledger into `out`; answers 0 or 7.

@@ -9,6 +9,7 @@ mod commands;
 mod diagnostics;
 mod effects;
 mod engine;
+mod expression;
 mod failure;
 mod forms;
 mod graph;
@@ -50,6 +51,7 @@ fn main() -> ExitCode {
         Command::Replay(args) => commands::logs::replay(args),
         Command::Asm(args) => commands::files::asm(args),
         Command::Disasm(args) => commands::files::disasm(args),
+        Command::Expression(args) => commands::expression::expression(args),
         Command::Convert(args) => commands::convert::convert(args),
         Command::Explain(args) => commands::explain::explain(args),
     };

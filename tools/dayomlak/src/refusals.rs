@@ -23,7 +23,7 @@ const fn refusal(
 }
 
 #[rustfmt::skip]
-pub const TABLE: [Refusal; 18] = [
+pub const TABLE: [Refusal; 20] = [
     refusal(1, "graph length",
         "The graph has no instruction, more than 256, or its file is not in whole records of 16 bytes.",
         "Give 1 to 256 instructions."),
@@ -83,6 +83,13 @@ pub const TABLE: [Refusal; 18] = [
     refusal(20, "not enabled",
         "A record of the log names an activity that is not enabled, has no zero byte or is not whole.",
         "Replay a log with the graph and inputs it was made with; `dayomlak log` writes one."),
+    refusal(25, "bad expression",
+        "An expression is not 1 to 100 records of 8 bytes; or a record has a bad field, names a record that is not before it or that \
+         was named already; or one that is not the last is never named.",
+        "Mend the record at the place; let every record but the last be named exactly once, by a later one."),
+    refusal(26, "graph too long",
+        "The graph of an expression does not fit in the output.",
+        "Lend 16 bytes for each record of the expression and 16 more."),
 ];
 
 /// The line of a number.

@@ -7,9 +7,21 @@ use std::process::Stdio;
 
 use common::{command, dayomlak, done, typed, Folder};
 
-const COMMANDS: [&str; 13] = [
-    "run", "check", "compare", "trace", "profile", "report", "draw", "log", "replay", "asm",
-    "disasm", "convert", "explain",
+const COMMANDS: [&str; 14] = [
+    "run",
+    "check",
+    "compare",
+    "trace",
+    "profile",
+    "report",
+    "draw",
+    "log",
+    "replay",
+    "asm",
+    "disasm",
+    "expression",
+    "convert",
+    "explain",
 ];
 
 #[test]

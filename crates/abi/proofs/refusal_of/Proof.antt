@@ -55,4 +55,6 @@ refusal-of-spec =
     (λ c. rw (c .match .keys16))
     (λ c. rw (c .match .keys17))
     (λ c. rw (c .match .keys18))
+    (λ c. rw (c .match .keys19))
+    (λ c. rw (c .match .keys20))
     (λ c. sym (absent refusals (c .before .args .word) (turned (onto refusals []) [] (c .before .args .word) (c .match .rest) tt))))

@@ -5,6 +5,7 @@ pub mod compare;
 pub mod convert;
 pub mod draw;
 pub mod explain;
+pub mod expression;
 pub mod files;
 pub mod logs;
 pub mod profile;

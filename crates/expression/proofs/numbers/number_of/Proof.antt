@@ -1,0 +1,13 @@
+-- `expression::numbers::number_of` meets its contract. Assumes nothing.
+use native.Mathlib.Omega.{arith}
+use borrow.Author.Needs.{needs}
+use borrow.Author.Tests.{eq-eqb, ne-eqb}
+use Rattle.expression.proofs.numbers.number_of.Statement.{statement}
+use Rattle.expression.proofs.numbers.number_of.Tie as tie
+
+pub number-of-spec : {M : Type 1} → statement M
+number-of-spec = tie.close (tie.spec
+    (λ c. search needs)
+    (λ c. search needs)
+    (λ c. (rw (eq-eqb (c .before .before .args .t .kind) 0 (c .if1 .taken)), omega arith))
+    (λ c. (rw (ne-eqb (c .before .before .args .t .kind) 0 (c .if1 .left)), omega arith)))

@@ -1,0 +1,10 @@
+-- The table of worked cases of R-14 holds: what the definitions give is what the table says, in one fact over all rows. Assumes nothing.
+use mathlib.Core.Path.{_≡_, refl}
+use mathlib.Core.List.{map}
+use Rattle.rules.specs.Computed.{rules}
+use Rattle.rules.specs.Expression.{expressions}
+use Rattle.rules.specs.ExpressionCases.{seen, expected, cases}
+
+pub expression-cases-hold : map seen cases ≡ map expected cases
+unfolding rules expressions seen expected
+expression-cases-hold = refl
