@@ -89,6 +89,7 @@ fn refusal_of(word: u64) -> Numbered
         18 => Numbered::One(Refusal::ProfileFull),
         19 => Numbered::One(Refusal::NotLoopFree),
         20 => Numbered::One(Refusal::NotEnabled),
+        24 => Numbered::One(Refusal::DamagedState),
         25 => Numbered::One(Refusal::BadExpression),
         26 => Numbered::One(Refusal::GraphTooLong),
         _ => Numbered::NoRefusal,

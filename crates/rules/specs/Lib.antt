@@ -21,3 +21,5 @@ pub mod Needs
 pub mod Capacity
 pub mod Expression
 pub mod ExpressionCases
+pub mod Saved
+pub mod Parts
