@@ -139,3 +139,11 @@ pub fn wake(
     }
     links[head] = 0;
 }
+
+// Whether a token is deferred on a cell.
+pub fn any_deferred(links: &[u16; 9216], cell: usize) -> bool
+    requires { ⌜ cell < 1024 ⌝ }
+    ensures { λ r. ⌜ ((tables flags ledger : List ℕ) (used : ℕ) → Matching tables (now (links .entry)) flags ledger used → r ≡ Deferred.anyOn cell (tokens used ledger)) ⌝ }
+{
+    links[cell + store_chains::WAITING] != 0
+}

@@ -1,0 +1,4 @@
+-- The laws of the check of a saved state. Assumes nothing.
+pub mod Exactly
+pub mod Laws
+pub mod Taking
