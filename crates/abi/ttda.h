@@ -16,8 +16,9 @@ uint64_t ttda_run(const uint8_t *graph, size_t graph_len,
                   uint8_t *ledger, size_t ledger_len,
                   uint8_t *cells, size_t cells_len);
 
-/* Goes on from a saved state: ledger and cells as a run left them, and the firings and tokens of its answer. Budget and picks are those of this part; the
-   answer counts all firings. A state that no run can have left is refused by 24, with nothing written. */
+/* Goes on from a saved state: the first `tokens` records of the ledger, all cells, and the firings and tokens of the answer that came with
+   them. Budget and picks are those of this part; the answer counts all firings. A state is taken exactly if it meets the conditions that
+   docs/RULES.md lists, whether or not a run left it. Any other is refused by 24, with nothing written. */
 uint64_t ttda_carry_on(const uint8_t *graph, size_t graph_len,
                        const uint8_t *picks, size_t picks_len,
                        uint16_t budget, uint16_t firings, uint16_t tokens,
