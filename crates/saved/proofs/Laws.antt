@@ -30,7 +30,10 @@ use Rattle.record.proofs.Allowed.{token-proper, allowed-front, cell-proper}
 use Rattle.machine.specs.Saved.{allUpTo}
 use Rattle.machine.proofs.View.{falseTrue}
 use Rattle.machine.proofs.Taken.{upTo}
+use Rattle.record.specs.GraphRecords.{operandsOf}
 use Rattle.rules.specs.Check.{instructionAt, operandsAt, entersSite}
+use Rattle.rules.specs.InstructionSet.{isResult, arityIn}
+use Rattle.abstraction.specs.Tables.{Arities}
 use Rattle.rules.specs.Saved.{tokenAllowed, cellAllowed, onLeft, pathMade}
 use Rattle.rules.proofs.Passed.{both}
 use Rattle.check_fields.specs.Sites.{atSite}
@@ -42,7 +45,7 @@ use Rattle.store_chains.specs.declared.Found.the-variants.{At, Nothing}
 use Rattle.store_chains.specs.Search.{firstFrom, Free}
 use Rattle.store_chains.specs.Deferred.{LowCell}
 use Rattle.store_enabled.specs.Enabled.{arityOf}
-use Rattle.saved.specs.Passes.{Entered, contentOn, contentAllowed, isNothing, arrivesAt}
+use Rattle.saved.specs.Passes.{Entered, contentOn, contentAllowed, isNothing, arrivesAt, countUpTo}
 
 -- ---- records
 
@@ -168,3 +171,42 @@ arrives-parts g tables ledger count i h e =
     let (content, free) = both (contentAllowed tables count t) (isNothing (firstFrom (standsAt (t .tag) (t .port)) 0 (Tokens.tokens i ledger))) e2 in
     let port = ltb-true (t .port) (operandsAt g (t .tag .instruction)) (both (ltb (t .port) (operandsAt g (t .tag .instruction))) (Tokens.stateAllowed (drop (i * tokenWidth) ledger)) fields .0) in
     (omega (arith, two-operands (instructionAt g (t .tag .instruction) .code)), low-content (ltb (t .port) (arityOf tables (t .tag))) count (t .content) h content, nothing-free _ free)
+
+-- ---- the port of a token
+
+-- an activity that waits for operands waits for all of its instruction's
+pub operands-of : (g : List Instruction) (tables : List ℕ) → Arities g tables → (τ : Tag) → ¬ (arityOf tables τ ≡ 0) → operandsAt g (τ .instruction) ≡ arityOf tables τ
+unfolding operandsAt arityIn
+operands-of g tables right τ some = rw (right τ) (go (isResult (instructionAt g (τ .instruction)) τ) (rw (right τ) at some))
+  where
+    go : (b : Bool) → ¬ (cond b 0 (operandsOf (instructionAt g (τ .instruction) .code)) ≡ 0)
+        → operandsOf (instructionAt g (τ .instruction) .code) ≡ cond b 0 (operandsOf (instructionAt g (τ .instruction) .code))
+    go true h = absurd (h refl)
+    go false h = refl
+
+-- so where one operand is waited for, a token that can arrive is on port 0
+pub arrives-alone : (g : List Instruction) (tables ledger : List ℕ) (count i : ℕ) → Arities g tables → arrivesAt g tables ledger count i ≡ true
+    → arityOf tables (Tokens.tokenAt ledger i .tag) ≡ 1 → Tokens.tokenAt ledger i .port ≡ 0
+unfolding arrivesAt tokenAllowed
+arrives-alone g tables ledger count i right e one =
+    let t = Tokens.tokenAt ledger i in
+    let fields = both (tokenAllowed g (drop (i * tokenWidth) ledger)) _ e .0 in
+    let port = ltb-true (t .port) (operandsAt g (t .tag .instruction)) (both (ltb (t .port) (operandsAt g (t .tag .instruction))) (Tokens.stateAllowed (drop (i * tokenWidth) ledger)) fields .0) in
+    omega (arith, operands-of g tables right (t .tag) (λ z. omega (arith, one)))
+
+-- ---- counts
+
+-- n of the first i pass a test
+pub record Counts (test : ℕ → Bool) (i n : ℕ) : Type 0 where
+  pub few : n ≤ i
+  pub number : n ≡ countUpTo test i
+
+pub counts-none : (test : ℕ → Bool) → Counts test 0 0
+counts-none test = record { few = omega arith; number = refl }
+
+pub counts-more : (test : ℕ → Bool) (i n r : ℕ) → Counts test i n → r ≡ cond (test i) 1 0 → Counts test (i + 1) (n + r)
+counts-more test i n r c f = rw (add-one i) (go (test i) refl f)
+  where
+    go : (b : Bool) → test i ≡ b → r ≡ cond b 1 0 → Counts test (suc i) (n + r)
+    go true e h = record { few = omega (arith, c .few); number = rw e (omega (arith, c .number)) }
+    go false e h = record { few = omega (arith, c .few); number = rw e (omega (arith, c .number)) }

@@ -1,4 +1,4 @@
--- 02, R-13: what is asked of a saved state, record by record, as three passes ask it: all conditions give one answer. Assumes nothing.
+-- 02, R-13: what is asked of a saved state, record by record, as a pass over its tokens and one over its cells ask it: all conditions give one answer. Assumes nothing.
 use Prim.Native.Nat.{ℕ, zero, suc, _-_, _*_, _/_, _<_}
 use mathlib.Core.Path.{_≡_}
 use mathlib.Core.Bool.{Bool, true, false, not, _&&_, _||_, cond}
@@ -30,7 +30,7 @@ use Rattle.store_enabled.specs.Enabled.{arityOf}
 abbrev pub Entered : List Instruction → (sites : List ℕ) → Type 0
 Entered g sites = (site : ℕ) → site < 256 → any (entersSite (pos site)) g ≡ not (eqb (getD sites site 0) 0)
 
--- ---- the first pass
+-- ---- each token as it arrives
 
 -- "results never spent": what is spent was an operand; "each deferred token naming a cell of the store"
 abbrev pub contentOn : (operand : Bool) → (count : ℕ) → Content → Bool
@@ -53,7 +53,7 @@ arrivesAt g tables ledger count i =
     && (contentAllowed tables count (tokenAt ledger i)
     && isNothing (firstFrom (standsAt (tokenAt ledger i .tag) (tokenAt ledger i .port)) 0 (tokens i ledger))))
 
--- ---- the second
+-- ---- operands spent together, and the firings
 
 abbrev pub isSpent : Content → Bool
 isSpent (Live v) = false
@@ -71,6 +71,15 @@ partneredAt tables ledger used i =
     || (not (eqb (arityOf tables (tokenAt ledger i .tag)) 2)
     || spentFound (tokenAt ledger) (firstFrom (standsAt (tokenAt ledger i .tag) (1 - tokenAt ledger i .port)) 0 (tokens used ledger)))
 
+-- record i is a spent operand of a tag that waits for two
+unfoldable pub spentOfTwo : (tables ledger : List ℕ) → (i : ℕ) → Bool
+spentOfTwo tables ledger i = isSpent (tokenAt ledger i .content) && eqb (arityOf tables (tokenAt ledger i .tag)) 2
+
+-- and the other one came before it, and is spent too. Operands are spent together exactly if half of those above are such
+unfoldable pub closesAt : (tables ledger : List ℕ) → (i : ℕ) → Bool
+closesAt tables ledger i =
+    spentOfTwo tables ledger i && spentFound (tokenAt ledger) (firstFrom (standsAt (tokenAt ledger i .tag) (1 - tokenAt ledger i .port)) 0 (tokens i ledger))
+
 -- how many of the first n pass a test
 abbrev pub countUpTo : (ℕ → Bool) → (n : ℕ) → ℕ
 countUpTo test zero = 0
@@ -80,7 +89,14 @@ countUpTo test (suc n) = cond (test n) (suc (countUpTo test n)) (countUpTo test 
 abbrev pub firstSpent : (ledger : List ℕ) → (i : ℕ) → Bool
 firstSpent ledger i = eqb (tokenAt ledger i .port) 0 && isSpent (tokenAt ledger i .content)
 
--- ---- the third
+-- all that one pass over the tokens asks
+unfoldable pub entersAll : List Instruction → (tables ledger : List ℕ) → (count firings used : ℕ) → Bool
+entersAll g tables ledger count firings used =
+    allUpTo (arrivesAt g tables ledger count) used
+    && (eqb (countUpTo (closesAt tables ledger) used * 2) (countUpTo (spentOfTwo tables ledger) used)
+    && eqb (countUpTo (firstSpent ledger) used) firings)
+
+-- ---- the cells
 
 abbrev pub isWaiting : Cell → Bool
 isWaiting Absent = false

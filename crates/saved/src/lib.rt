@@ -1,5 +1,5 @@
-// The check of a saved state (02, R-13), and its matching store: three passes over ledger and cells. All conditions give one
-// answer, so they may be asked in any order.
+// The check of a saved state (02, R-13), and its matching store: a pass over its tokens and one over its cells. All conditions give
+// one answer, so they may be asked in any order.
 use check_fields::arc;
 use check_fields::site;
 use record::cell;
@@ -16,21 +16,22 @@ ghost use mathlib.Core.Path.{_≡_};
 ghost use mathlib.Core.Bool.{true, cond};
 ghost use mathlib.Core.List.{List};
 ghost use lib.ListN.{length, take, drop, replicate};
+ghost use lib.Dec.{eqb, ltb};
 ghost use Rattle.record.specs.declared.instruction.Instruction.{Instruction};
 ghost use Rattle.record.specs.GraphRecords.{graphOf};
-ghost use Rattle.record.specs.TokensAndTags.{encode, decode, tokens, tokenAt};
+ghost use Rattle.record.specs.TokensAndTags.{encode, decode, tokens, tokenAt, TokenFits};
 ghost use Rattle.record.specs.Calls.{mostLevels};
 ghost use Rattle.record.specs.Cells as Cells;
 ghost use Rattle.record.specs.Widths.{tokenWidth, cellWidth};
 ghost use Rattle.machine.specs.Saved.{allUpTo};
-ghost use Rattle.rules.specs.declared.answer.Checked.the-variants.{Passed};
-ghost use Rattle.rules.specs.Check.{checkGraph};
+ghost use Rattle.abstraction.specs.Tables.{Arities};
+ghost use Rattle.rules.specs.Check.{operandsAt};
 ghost use Rattle.rules.specs.Saved.{tokenAllowed, cellAllowed, pathMade, taken};
 ghost use Rattle.store_chains.specs.Search.{Within};
 ghost use Rattle.store_enabled.specs.Store.{Known};
 ghost use Rattle.store.specs.Matching.{Matching};
 ghost use Rattle.fire.specs.Running.{Prepared, Running};
-ghost use Rattle.saved.specs.Passes.{Entered, contentAllowed, isNothing, arrivesAt, isSpent, spentFound, partneredAt, countUpTo, firstSpent, isWaiting, CellBytes, cellRight};
+ghost use Rattle.saved.specs.Passes.{Entered, contentAllowed, isNothing, arrivesAt, isSpent, spentFound, spentOfTwo, closesAt, firstSpent, entersAll, isWaiting, CellBytes, cellRight};
 
 // The most levels of calls.
 const LEVELS: usize = 8;
@@ -99,15 +100,26 @@ fn content_allowed(tables: &[u16; 512], count: usize, t: Token) -> bool
     }
 }
 
-// Whether fields and state of the record that s starts with are allowed; then its bytes are those of its token.
-fn token_allowed(graph: &[u8], s: &[u8]) -> bool
-    requires { ⌜ tokenWidth ≤ length (now s) ⌝ }
-    ensures { λ r. ⌜ r ≡ tokenAllowed (graphOf (now (graph .entry))) (now (s .entry)) ⌝ }
-    ensures { λ r. ⌜ (r ≡ true → encode (decode (now (s .entry))) ≡ take tokenWidth (now (s .entry))) ⌝ }
+// Whether the port of a token is one of its instruction's. Where operands are waited for, the tables have their number.
+fn port_allowed(graph: &[u8], tables: &[u16; 512], t: Token) -> bool
+    requires { ⌜ Arities (graphOf (now graph)) (now tables) ⌝ }
+    ensures { λ r. ⌜ r ≡ ltb (t .port) (operandsAt (graphOf (now (graph .entry))) (t .tag .instruction)) ⌝ }
 {
-    let t = token::decode(s);
     let tag = t.tag;
-    t.port < arc::operands_at(graph, tag.instruction) && token::state_allowed(s)
+    let operands = store_enabled::arity(tables, tag);
+    if operands == 0 {
+        return t.port < arc::operands_at(graph, tag.instruction);
+    }
+    wide16(t.port) < operands
+}
+
+// Whether fields and state of the record that s starts with are allowed; then its bytes are those of its token.
+fn token_allowed(graph: &[u8], tables: &[u16; 512], s: &[u8]) -> bool
+    requires { ⌜ (tokenWidth ≤ length (now s)) × Arities (graphOf (now graph)) (now tables) ⌝ }
+    ensures { λ r. ⌜ r ≡ tokenAllowed (graphOf (now (graph .entry))) (now (s .entry)) ⌝ }
+    ensures { λ r. ⌜ (r ≡ true → (encode (decode (now (s .entry))) ≡ take tokenWidth (now (s .entry))) × TokenFits (decode (now (s .entry)))) ⌝ }
+{
+    port_allowed(graph, tables, token::decode(s)) && token::state_allowed(s)
 }
 
 fn is_nothing(f: Found) -> bool
@@ -129,11 +141,11 @@ fn arrives(
     count: usize,
     i: usize,
 ) -> bool
-    requires { ⌜ (i < length (now ledger) / tokenWidth) × Known (now links) (now ledger) i × Entered (graphOf (now graph)) (now sites) ⌝ }
+    requires { ⌜ (i < length (now ledger) / tokenWidth) × Known (now links) (now ledger) i × Entered (graphOf (now graph)) (now sites) × Arities (graphOf (now graph)) (now tables) ⌝ }
     ensures { λ r. ⌜ r ≡ arrivesAt (graphOf (now (graph .entry))) (now (tables .entry)) (now (ledger .entry)) count i ⌝ }
-    ensures { λ r. ⌜ (r ≡ true → encode (tokenAt (now (ledger .entry)) i) ≡ take tokenWidth (drop (i * tokenWidth) (now (ledger .entry)))) ⌝ }
+    ensures { λ r. ⌜ (r ≡ true → (encode (tokenAt (now (ledger .entry)) i) ≡ take tokenWidth (drop (i * tokenWidth) (now (ledger .entry)))) × TokenFits (tokenAt (now (ledger .entry)) i)) ⌝ }
 {
-    if !token_allowed(graph, buffer::row_at(ledger, token::WIDTH, i)) {
+    if !token_allowed(graph, tables, buffer::row_at(ledger, token::WIDTH, i)) {
         return false;
     }
     let t = token::token_at(ledger, i);
@@ -145,34 +157,6 @@ fn arrives(
         return false;
     }
     is_nothing(store::find(links, ledger, i, tag, t.port))
-}
-
-// The first pass: the tokens arrive in an empty matching store, each writing its own bytes again.
-fn enter(
-    graph: &[u8],
-    tables: &[u16; 512],
-    sites: &[u32; 256],
-    links: &mut [u16; 9216],
-    flags: &mut [u64; 69],
-    ledger: &mut [u8],
-    count: usize,
-    used: usize,
-) -> bool
-    requires { ⌜ Matching (now tables) (now links) (now flags) (now ledger) 0 × (used ≤ length (now ledger) / tokenWidth) × (length (now ledger) / tokenWidth ≤ 2048) × (count ≤ 1024) × Entered (graphOf (now graph)) (now sites) ⌝ }
-    ensures { λ _. ⌜ now (ledger .exit) ≡ now (ledger .entry) ⌝ }
-    ensures { λ r. ⌜ r ≡ allUpTo (arrivesAt (graphOf (now (graph .entry))) (now (tables .entry)) (now (ledger .entry)) count) used ⌝ }
-    ensures { λ r. ⌜ (r ≡ true → Matching (now (tables .entry)) (now (links .exit)) (now (flags .exit)) (now (ledger .entry)) used) ⌝ }
-{
-    let mut i = 0;
-    while i < used {
-        if !arrives(graph, tables, sites, links, ledger, count, i) {
-            return false;
-        }
-        let t = token::token_at(ledger, i);
-        store::arrive(tables, links, flags, ledger, i, t);
-        i += 1;
-    }
-    true
 }
 
 fn is_spent(content: Content) -> bool
@@ -199,48 +183,31 @@ fn spent_found(ledger: &[u8], used: usize, f: Found) -> bool
     }
 }
 
-// Whether the other operand of record i is spent too, where record i is and there are two.
-fn partnered(tables: &[u16; 512], links: &[u16; 9216], ledger: &[u8], used: usize, i: usize) -> bool
-    requires { ⌜ (i < used) × Known (now links) (now ledger) used ⌝ }
-    ensures { λ r. ⌜ r ≡ partneredAt (now (tables .entry)) (now (ledger .entry)) used i ⌝ }
+// Whether t is a spent operand of a tag that waits for two.
+fn spent_of_two(tables: &[u16; 512], t: Token) -> bool
+    ensures { λ r. ⌜ ((ledger : List ℕ) (i : ℕ) → t ≡ tokenAt ledger i → r ≡ spentOfTwo (now (tables .entry)) ledger i) ⌝ }
 {
-    let t = token::token_at(ledger, i);
     let tag = t.tag;
     let content = t.content;
-    if !is_spent(content) {
-        return true;
-    }
-    if store_enabled::arity(tables, tag) != 2 {
-        return true;
-    }
-    spent_found(
-        ledger,
-        used,
-        store::find(links, ledger, used, tag, 1 - t.port),
-    )
+    is_spent(content) && store_enabled::arity(tables, tag) == 2
 }
 
-// The second pass: operands are spent together.
-fn together(tables: &[u16; 512], links: &[u16; 9216], ledger: &[u8], used: usize) -> bool
-    requires { ⌜ Known (now links) (now ledger) used ⌝ }
-    ensures { λ r. ⌜ r ≡ allUpTo (partneredAt (now (tables .entry)) (now (ledger .entry)) used) used ⌝ }
+// Whether record i, which is t, is such an operand and the other one came before it, spent too.
+fn closes(tables: &[u16; 512], links: &[u16; 9216], ledger: &[u8], i: usize, t: Token) -> bool
+    requires { ⌜ (t ≡ tokenAt (now ledger) i) × (t .port < 2) × Known (now links) (now ledger) i ⌝ }
+    ensures { λ r. ⌜ r ≡ closesAt (now (tables .entry)) (now (ledger .entry)) i ⌝ }
 {
-    let mut i = 0;
-    while i < used {
-        if !partnered(tables, links, ledger, used, i) {
-            return false;
-        }
-        i += 1;
+    if !spent_of_two(tables, t) {
+        return false;
     }
-    true
+    let tag = t.tag;
+    spent_found(ledger, i, store::find(links, ledger, i, tag, 1 - t.port))
 }
 
-// Whether record i is a spent token on port 0.
-fn first_spent(ledger: &[u8], i: usize) -> bool
-    requires { ⌜ i < length (now ledger) / tokenWidth ⌝ }
-    ensures { λ r. ⌜ r ≡ firstSpent (now (ledger .entry)) i ⌝ }
+// Whether t is a spent token on port 0: it stands for its tag's firing.
+fn first_spent(t: Token) -> bool
+    ensures { λ r. ⌜ ((ledger : List ℕ) (i : ℕ) → t ≡ tokenAt ledger i → r ≡ firstSpent ledger i) ⌝ }
 {
-    let t = token::token_at(ledger, i);
     let content = t.content;
     t.port == 0 && is_spent(content)
 }
@@ -251,18 +218,45 @@ fn one_if(b: bool) -> usize
     if b { 1 } else { 0 }
 }
 
-// How many tags have spent operands: the one on port 0 stands for its tag.
-fn fired(ledger: &[u8], used: usize) -> usize
-    requires { ⌜ used ≤ length (now ledger) / tokenWidth ⌝ }
-    ensures { λ r. ⌜ r ≡ countUpTo (firstSpent (now (ledger .entry))) used ⌝ }
+fn same(a: usize, b: usize) -> bool
+    ensures { λ r. ⌜ r ≡ eqb a b ⌝ }
+{
+    a == b
+}
+
+// The pass over the tokens: each arrives in the matching store of those before it. Operands are spent together if half of those
+// that are spent, of two, close a pair.
+fn enter(
+    graph: &[u8],
+    tables: &[u16; 512],
+    sites: &[u32; 256],
+    links: &mut [u16; 9216],
+    flags: &mut [u64; 69],
+    ledger: &[u8],
+    count: usize,
+    firings: usize,
+    used: usize,
+) -> bool
+    requires { ⌜ Matching (now tables) (now links) (now flags) (now ledger) 0 × (used ≤ length (now ledger) / tokenWidth) × (length (now ledger) / tokenWidth ≤ 2048) × (count ≤ 1024) × Entered (graphOf (now graph)) (now sites) × Arities (graphOf (now graph)) (now tables) ⌝ }
+    ensures { λ r. ⌜ r ≡ entersAll (graphOf (now (graph .entry))) (now (tables .entry)) (now (ledger .entry)) count firings used ⌝ }
+    ensures { λ r. ⌜ (r ≡ true → Matching (now (tables .entry)) (now (links .exit)) (now (flags .exit)) (now (ledger .entry)) used) ⌝ }
 {
     let mut i = 0;
-    let mut n = 0;
+    let mut fired = 0;
+    let mut of_two = 0;
+    let mut closed = 0;
     while i < used {
-        n += one_if(first_spent(ledger, i));
+        if !arrives(graph, tables, sites, links, ledger, count, i) {
+            return false;
+        }
+        let t = token::token_at(ledger, i);
+        fired += one_if(first_spent(t));
+        of_two += one_if(spent_of_two(tables, t));
+        closed += one_if(closes(tables, links, ledger, i, t));
+        store::enter(tables, links, flags, ledger, i, t);
         i += 1;
     }
-    n
+    same(closed * 2, of_two) && same(fired, firings)
 }
 
 fn is_waiting(cell: Cell) -> bool
@@ -301,7 +295,7 @@ fn cell_right(links: &[u16; 9216], cells: &[u8], c: usize) -> bool
     }
 }
 
-// The third pass: the cells.
+// The pass over the cells.
 fn cells_right(links: &[u16; 9216], cells: &[u8]) -> bool
     requires { ⌜ length (now cells) / cellWidth ≤ 1024 ⌝ }
     ensures { λ r. ⌜ ((tables flags ledger : List ℕ) (used : ℕ) → Matching tables (now (links .entry)) flags ledger used → r ≡ allUpTo (cellRight (tokens used ledger) (now (cells .entry))) (length (now (cells .entry)) / cellWidth)) ⌝ }
@@ -323,13 +317,12 @@ pub fn take(
     tables: &[u16; 512],
     links: &mut [u16; 9216],
     flags: &mut [u64; 69],
-    ledger: &mut [u8],
+    ledger: &[u8],
     cells: &[u8],
     firings: usize,
     used: usize,
 ) -> bool
     requires { ⌜ Prepared (now graph) (now tables) × (length (now ledger) / tokenWidth ≤ 2048) × (length (now cells) % cellWidth ≡ 0) × (length (now cells) / cellWidth ≤ 1024) × (now links ≡ replicate 9216 0) × (now flags ≡ replicate 69 0) ⌝ }
-    ensures { λ _. ⌜ now (ledger .exit) ≡ now (ledger .entry) ⌝ }
     ensures { λ r. ⌜ r ≡ taken (now (graph .entry)) (now (ledger .entry)) (now (cells .entry)) firings used ⌝ }
     ensures { λ r. ⌜ (r ≡ true → Running (graphOf (now (graph .entry))) (now (tables .entry)) (now (links .exit)) (now (flags .exit)) (now (ledger .entry)) (now (cells .entry)) used) ⌝ }
 {
@@ -339,13 +332,17 @@ pub fn take(
     let mut sites = [0u32; 256];
     find_sites(graph, &mut sites);
     let count = cells.len() / cell::WIDTH;
-    if !enter(graph, tables, &sites, links, flags, ledger, count, used) {
-        return false;
-    }
-    if !together(tables, links, ledger, used) {
-        return false;
-    }
-    if fired(ledger, used) != firings {
+    if !enter(
+        graph,
+        tables,
+        &sites,
+        links,
+        flags,
+        ledger,
+        count,
+        firings,
+        used,
+    ) {
         return false;
     }
     cells_right(links, cells)

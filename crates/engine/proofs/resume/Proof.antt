@@ -25,27 +25,27 @@ resume-spec = tie.close (tie.spec
     (λ c. search needs)
     (λ c. search needs)
     (λ c.
-    let k = c .before .before .before .before in
+    let k = c .before .before in
     let a = k .before .before .before .before .before .before .before .before .before .before .before .before .args in
     refuses (a .graph .now) (a .picks .now) (a .ledger .now) (a .cells .now) (a .budget) (a .firings) (a .used)
-    (sym (not-true (k .take .result) (c .before .if1 .taken)) ∙ k .take .ensures .1 .0) _ _ (c .refused .ensures) (k .take .ensures .0))
+    (sym (not-true (k .take .result) (c .before .if1 .taken)) ∙ k .take .ensures .0) _ _ (c .refused .ensures) refl)
     (λ c. search needs)
     (λ c κs.
-    let k = c .before .before .before .before .before .before .before .before .before in
-    (prepared (k .before .before .before .before .before .before), rw (k .take .ensures .0) (k .take .ensures .1 .1 (not-false (k .take .result) (c .before .before .before .before .before .before .if1 .left)))))
+    let k = c .before .before .before .before .before .before .before in
+    (prepared (k .before .before .before .before .before .before), k .take .ensures .1 (not-false (k .take .result) (c .before .before .before .before .before .before .if1 .left))))
     (λ c.
     let p = c .before .before .before .before .before .before in
-    let k = p .before .before .before .before .before .before .before .before .before .before in
+    let k = p .before .before .before .before .before .before .before .before in
     let s = k .before .before .before .before .before .before .before .before .before .before .before .before in
     let a = s .args in
-    omega (arith, own-few (a .graph .now) (a .picks .now) (a .ledger .now) (a .cells .now) (a .budget) (a .firings) (a .used) _ _ _ (rw (k .take .ensures .0) at (p .proceed .ensures .0)), s .pre .1, s .pre .2))
+    omega (arith, own-few (a .graph .now) (a .picks .now) (a .ledger .now) (a .cells .now) (a .budget) (a .firings) (a .used) _ _ _ (p .proceed .ensures .0), s .pre .1, s .pre .2))
     (λ c κs. search needs)
     (λ c. search needs)
     (λ c. search needs)
     (λ c.
     let p = c .before .before .before .before .before .before .before in
-    let k = p .before .before .before .before .before .before .before .before .before .before in
+    let k = p .before .before .before .before .before .before .before .before in
     let a = k .before .before .before .before .before .before .before .before .before .before .before .before .args in
     goes-on (a .graph .now) (a .picks .now) (a .ledger .now) (a .cells .now) (a .budget) (a .firings) (a .used)
-    (sym (not-false (k .take .result) (p .before .before .before .before .before .before .before .if1 .left)) ∙ k .take .ensures .1 .0)
-    (p .proceed .result) _ _ _ (rw (k .take .ensures .0) at (p .proceed .ensures .0)) (c .answered .ensures)))
+    (sym (not-false (k .take .result) (p .before .before .before .before .before .before .before .if1 .left)) ∙ k .take .ensures .0)
+    (p .proceed .result) _ _ _ (p .proceed .ensures .0) (c .answered .ensures)))

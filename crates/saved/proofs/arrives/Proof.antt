@@ -7,7 +7,7 @@ use borrow.Author.Needs.{needs}
 use borrow.Author.Tests.{not-true, not-false}
 use lib.ListN.{take, drop, length-drop}
 use Rattle.record.specs.GraphRecords.{graphOf}
-use Rattle.record.specs.TokensAndTags.{encode, tokenAt}
+use Rattle.record.specs.TokensAndTags.{encode, tokenAt, TokenFits}
 use Rattle.record.specs.Widths.{tokenWidth}
 use Rattle.machine.proofs.View.{falseTrue}
 use Rattle.rules.specs.Saved.{tokenAllowed}
@@ -18,14 +18,15 @@ use Rattle.saved.proofs.arrives.Tie as tie
 allowed : (c : tie.After-token-allowed) → let a = c .before .before .before .before .args in tokenAllowed (graphOf (a .graph .now)) (drop (a .i * tokenWidth) (a .ledger .now)) ≡ c .token-allowed .result
 allowed c = ap (tokenAllowed (graphOf (c .before .before .before .before .args .graph .now))) (sym (c .before .row-at .ensures)) ∙ sym (c .token-allowed .ensures .0)
 
-bytes : (c : tie.After-token-allowed) → c .token-allowed .result ≡ true → let a = c .before .before .before .before .args in encode (tokenAt (a .ledger .now) (a .i)) ≡ take tokenWidth (drop (a .i * tokenWidth) (a .ledger .now))
+bytes : (c : tie.After-token-allowed) → c .token-allowed .result ≡ true → let a = c .before .before .before .before .args in
+    (encode (tokenAt (a .ledger .now) (a .i)) ≡ take tokenWidth (drop (a .i * tokenWidth) (a .ledger .now))) × TokenFits (tokenAt (a .ledger .now) (a .i))
 bytes c h = rw (c .before .row-at .ensures) at (c .token-allowed .ensures .1 h)
 
 pub arrives-spec : {M : Type 1} → statement M
 unfolding arrivesAt
 arrives-spec = tie.close (tie.spec
     (λ c κs. omega (arith, c .before .before .pre .0))
-    (λ c κs. rw (c .row-at .ensures, length-drop) (omega (arith, c .before .before .before .pre .0)))
+    (λ c κs. (rw (c .row-at .ensures, length-drop) (omega (arith, c .before .before .before .pre .0)), c .before .before .before .pre .3))
     (λ c. (rw (allowed (c .before), not-true (c .before .token-allowed .result) (c .if1 .taken)), λ h. falseTrue h))
     (λ c κs. search needs)
     (λ c κs. search needs)

@@ -7,6 +7,5 @@ use Rattle.saved.proofs.first_spent.Tie as tie
 pub first-spent-spec : {M : Type 1} → statement M
 first-spent-spec = tie.close (tie.spec
     (λ c κs. search needs)
-    (λ c κs. search needs)
-    (λ c. rw (← c .before .before .before .token-at .ensures, eq-eqb _ 0 (c .before .if1 .taken)) (c .is-spent .ensures))
-    (λ c. rw (← c .before .before .token-at .ensures, ne-eqb _ 0 (c .if1 .left))))
+    (λ c ledger i e. rw (← e, eq-eqb _ 0 (c .before .if1 .taken)) (c .is-spent .ensures))
+    (λ c ledger i e. rw (← e, ne-eqb _ 0 (c .if1 .left))))
