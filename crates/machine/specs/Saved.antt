@@ -61,7 +61,7 @@ module _ (M : Machine) where
   pub record Saved (f : ℕ) (s : StateOf M) : Type 0 where
     -- "tag and port never twice", "tokens within the capacity", and as many cells as the store has. This alone the orders theorem asks for
     pub good : Good M s
-    -- the rest excludes states that no run leaves. "a tag's operands all present and spent or none spent"
+    -- the rest of 02's list, which no run breaks. "a tag's operands all present and spent or none spent"
     pub spentTogether : (τ : M .Tag) (p q : ℕ) → p < M .arity τ → q < M .arity τ → Spent (find M (at M τ p) (s .tokens)) → Spent (find M (at M τ q) (s .tokens))
     -- "results never spent", nor anything else that is no operand
     pub othersUnspent : (τ : M .Tag) (p : ℕ) → M .arity τ ≤ p → ¬ (Spent (find M (at M τ p) (s .tokens)))

@@ -220,7 +220,7 @@ ended-fits graph graphBytes passed capacity cells few inputs inputBytes begun e 
       cellCount = length-map (x .cells) cellRecord ∙ good .cellCount;
     }
 
-none-fits : (r : Refusal) (p capacity count : ℕ) → AllFit (refusedAtOnce r p) capacity count
+pub none-fits : (r : Refusal) (p capacity count : ℕ) → AllFit (refusedAtOnce r p) capacity count
 none-fits r p capacity count = record { tokens = tt; cells = tt; room = omega arith; cellCount = tt }
 
 module _ (graph inputs : List ℕ) (ledger cells : ℕ) (graphBytes : Bytes graph) (inputBytes : Bytes inputs) where

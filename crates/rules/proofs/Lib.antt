@@ -37,3 +37,4 @@ pub mod Written
 pub mod Saved
 pub mod Parts
 pub mod Resumed
+pub mod SavedCases

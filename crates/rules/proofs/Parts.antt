@@ -1,4 +1,4 @@
--- 02, R-13, proved in bytes: a run in parts ends as the uncut run (`cut-runs`, `cut-again`), and what a run leaves is taken (`leaves-taken`). Assumes nothing.
+-- 02, R-13, proved in bytes: a run in parts ends as the uncut run (`cut-runs`, `cut-again`), and what a run leaves is taken (`leaves-taken`) and fits its records (`carried-fits`). Assumes nothing.
 use Prim.Native.Nat.{ℕ, _+_, _*_, _/_, _%_, _≤_}
 use mathlib.Core.Path.{_≡_, refl, sym, ap, _∙_, subst}
 use mathlib.Core.Bool.{true}
@@ -33,13 +33,15 @@ use Rattle.rules.specs.InstructionSet.{machineOf}
 use Rattle.rules.specs.Run.{tokenRecord, cellRecord, firstState, picksOf, Result, refusedAtOnce, ranTo, unlessFailed, result, outcomeOf, answer, ledgerAfter, cellsAfter}
 use Rattle.rules.specs.Runs.{LeftByRun}
 use Rattle.rules.specs.Saved.{stateSaved, machineSaved, taken, checkSaved, carried}
+use Rattle.rules.specs.Fits.{AllFit, CarriedFit}
 use Rattle.rules.specs.Parts.{leftBy, nextPart, unlessRefused, laterParts, CutRuns, CutAgain, Began, TakenAfter, LeavesTaken}
 use Rattle.rules.proofs.Passed.{demand-passed, andThen-passed}
 use Rattle.rules.proofs.Lawful.{lawful}
-use Rattle.rules.proofs.Accepted.{whole-bytes, stores-whole, accepted, by-check}
+use Rattle.rules.proofs.Accepted.{whole-bytes, Whole, stores-whole, accepted, by-check}
+use Rattle.rules.proofs.Fits.{none-fits}
 use Rattle.rules.proofs.Rows.{picks-take, picks-drop}
 use Rattle.rules.proofs.Written.{Rooms, ledger-size, cells-size, over-over}
-use Rattle.rules.proofs.Saved.{Resumable, resumable-reached, resumable-start, resumable-saved, resumed, taken-again}
+use Rattle.rules.proofs.Saved.{Resumable, resumable-reached, resumable-start, resumable-saved, tokens-fit, cells-fit, resumed, taken-again}
 
 -- ---- picks divided are whole
 
@@ -170,6 +172,17 @@ module _ (graph : List ℕ) (bytes : Bytes graph) (passed : checkGraph graph ≡
   unfolding answer ledgerAfter cellsAfter
   taken-left b ps f s h = is-taken (goesTo b ps f s .firings) (goesTo b ps f s .state) (goes-on b ps f s h)
 
+  pub left-fits : (b : ℕ) (ps : List ℕ) (f : ℕ) (s : State Tag ℤ) → Goes f s → AllFit (ranTo (goesTo b ps f s)) capacity count
+  left-fits b ps f s h =
+      let x = goesTo b ps f s .state in
+      let k = goes-on b ps f s h in
+      record {
+        tokens = tokens-fit graph bytes passed capacity count few (goesTo b ps f s .firings) x k;
+        cells = cells-fit graph bytes passed capacity count few (goesTo b ps f s .firings) x k;
+        room = rw (length-map (x .tokens) tokenRecord) (k .saved .good .room);
+        cellCount = length-map (x .cells) cellRecord ∙ k .saved .good .cellCount;
+      }
+
 -- ---- a part that was refused before any firing
 
 ends-there : (graph : List ℕ) (later picks : List ℕ) (r : Refusal) (p : ℕ) (ledger cells : List ℕ) → laterParts graph later picks (leftBy (refusedAtOnce r p) ledger cells) ≡ leftBy (refusedAtOnce r p) ledger cells
@@ -260,3 +273,19 @@ leaves-taken = record {
       let (passed, wl, wc, h) = goes graph ledger cells graphBytes ledgerBytes cellBytes picks firings n e in
       taken-left graph graphBytes passed ledger cells wl wc budget (picksOf picks) firings (stateSaved ledger cells n) h);
 }
+
+-- ---- and fits its records
+
+pub carried-fits : CarriedFit
+unfolding carried
+carried-fits graph picks ledger cells budget firings n graphBytes ledgerBytes cellBytes =
+    by-check (checkSaved graph picks ledger cells firings n) _ (λ x. AllFit x (capacityOf (length ledger)) (length cells / cellWidth)) (λ r p e. none-fits r p (capacityOf (length ledger)) (length cells / cellWidth)) (λ e.
+    let (passed, wl, wc, h) = goes graph ledger cells graphBytes ledgerBytes cellBytes picks firings n e in
+    left-fits graph graphBytes passed ledger cells wl wc budget (picksOf picks) firings (stateSaved ledger cells n) h)
+
+-- one that began passed the check of its stores
+pub carried-stores : (graph picks ledger cells : List ℕ) (budget firings n : ℕ) → Began (carried graph picks budget ledger cells firings n) → Whole 0 (length picks) (length ledger) (length cells)
+unfolding carried checkSaved
+carried-stores graph picks ledger cells budget firings n =
+    by-check (checkSaved graph picks ledger cells firings n) _ (λ x. Began x → Whole 0 (length picks) (length ledger) (length cells)) (λ r p e b. absurd b) (λ e b.
+    stores-whole 0 (length picks) (length ledger) (length cells) (andThen-passed (checkStores 0 (length picks) (length ledger) (length cells)) _ (andThen-passed (checkGraph graph) _ e .1) .0))

@@ -94,10 +94,10 @@ module _ (graph : List ℕ) (bytes : Bytes graph) (passed : checkGraph graph ≡
   -- ---- it is taken again
 
   module _ (few : count ≤ mostCells) (f : ℕ) (s : State Tag ℤ) (h : Resumable f s) where
-    tokens-fit : All TokenFits (map tokenRecord (s .tokens))
+    pub tokens-fit : All TokenFits (map tokenRecord (s .tokens))
     tokens-fit = token-records graph bytes passed capacity count few (s .tokens) (h .fits .tokens)
 
-    cells-fit : All CellFits (map cellRecord (s .cells))
+    pub cells-fit : All CellFits (map cellRecord (s .cells))
     cells-fit = cell-records graph bytes passed capacity count (s .cells) (h .fits .cells)
 
     at-ports : (ts : List (Token Tag ℤ)) → Each (OfToken M (AtPort g) Any Any) ts → All TokenFits (map tokenRecord ts)

@@ -23,3 +23,4 @@ pub mod Expression
 pub mod ExpressionCases
 pub mod Saved
 pub mod Parts
+pub mod SavedCases
