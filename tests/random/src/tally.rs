@@ -4,7 +4,7 @@ use layout::{LEAVE, OUT};
 use second::{Outcome, TOKEN_RECORD};
 
 use crate::case::{Call, Case, Left};
-use crate::{bounds, capacities, conversions, expressions, logs, profiles};
+use crate::{bounds, capacities, conversions, expressions, logs, profiles, saved};
 
 const NAMES: [(u8, &str); 27] = [
     (1, "COPY"),
@@ -91,6 +91,7 @@ pub struct Tally {
     capacities: Named,
     conversions: Named,
     expressions: Named,
+    saved: Named,
 }
 
 impl Tally {
@@ -118,6 +119,7 @@ impl Tally {
             capacities: Named::new(&capacities::NAMES),
             conversions: Named::new(&conversions::NAMES),
             expressions: Named::new(&expressions::NAMES),
+            saved: Named::new(&saved::NAMES),
         }
     }
 
@@ -130,6 +132,7 @@ impl Tally {
             }
             Call::Profile(_) => self.profiles.count(profiles::names(case, left)),
             Call::Replay(log) => self.replays.count(logs::replay_names(case, log, left)),
+            Call::CarryOn(_) => {}
         }
     }
 
@@ -143,6 +146,10 @@ impl Tally {
 
     pub fn count_conversion(&mut self, name: &'static str) {
         self.conversions.count(vec![name]);
+    }
+
+    pub fn count_saved(&mut self, names: Vec<&'static str>) {
+        self.saved.count(names);
     }
 
     pub fn count_expression(&mut self, names: Vec<&'static str>) {
@@ -230,6 +237,8 @@ impl Tally {
         self.capacities.print(&mut lines);
         println!("conversions of old records:");
         self.conversions.print(&mut lines);
+        println!("saved states:");
+        self.saved.print(&mut lines);
         println!("expressions:");
         self.expressions.print(&mut lines);
         println!("further:");
