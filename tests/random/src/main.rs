@@ -16,6 +16,7 @@ mod damage;
 mod expressions;
 mod generate;
 mod logs;
+mod meetings;
 mod orders;
 mod prng;
 mod profiles;

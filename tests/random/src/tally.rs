@@ -4,7 +4,7 @@ use layout::{LEAVE, OUT};
 use second::{Outcome, TOKEN_RECORD};
 
 use crate::case::{Call, Case, Left};
-use crate::{bounds, capacities, conversions, expressions, logs, profiles, saved};
+use crate::{bounds, capacities, conversions, expressions, logs, meetings, profiles, saved};
 
 const NAMES: [(u8, &str); 27] = [
     (1, "COPY"),
@@ -83,6 +83,8 @@ pub struct Tally {
     deferred: u64,
     /// Tokens by the levels of their paths.
     levels: [u64; MOST_LEVELS + 1],
+    /// Runs refused by 9 where the token that has the port is deferred.
+    met_deferred: u64,
     largest: usize,
     profiles: Named,
     logged: Named,
@@ -111,6 +113,7 @@ impl Tally {
             root_leaves_deferred: 0,
             deferred: 0,
             levels: [0; MOST_LEVELS + 1],
+            met_deferred: 0,
             largest: 0,
             profiles: Named::new(&profiles::NAMES),
             logged: Named::new(&logs::RUN_NAMES),
@@ -169,6 +172,7 @@ impl Tally {
                 }
             }
         }
+        self.met_deferred += u64::from(meetings::meets_deferred(case, left));
         self.largest = self.largest.max(left.answer.tokens);
         for record in left.used().chunks_exact(TOKEN_RECORD) {
             self.count_token(case, record);
@@ -248,6 +252,7 @@ impl Tally {
         for (levels, count) in self.levels.iter().enumerate() {
             lines.count(&format!("tokens at level {levels}"), *count);
         }
+        lines.count("9 at a deferred token", self.met_deferred);
         lines.count("most tokens of a run", self.largest as u64);
         lines.missing
     }
