@@ -16,6 +16,15 @@ uint64_t ttda_run(const uint8_t *graph, size_t graph_len,
                   uint8_t *ledger, size_t ledger_len,
                   uint8_t *cells, size_t cells_len);
 
+/* Goes on from a saved state: the first `tokens` records of the ledger, all cells, and the firings and tokens of the answer that came with
+   them. Budget and picks are those of this part; the answer counts all firings. A state is taken exactly if it meets the conditions that
+   docs/RULES.md lists, whether or not a run left it. Any other is refused by 24, with nothing written. */
+uint64_t ttda_carry_on(const uint8_t *graph, size_t graph_len,
+                       const uint8_t *picks, size_t picks_len,
+                       uint16_t budget, uint16_t firings, uint16_t tokens,
+                       uint8_t *ledger, size_t ledger_len,
+                       uint8_t *cells, size_t cells_len);
+
 /* The same run, which also writes a log: a record of 20 bytes for each firing, from the start of log, with the bytes
    behind them untouched. A log that is not whole records, or has fewer than the budget and fewer than 2,048, is refused
    by 7. */

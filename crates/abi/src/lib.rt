@@ -19,6 +19,7 @@ ghost use Rattle.rules.specs.Expression.{graphFor, checkMade, madeOf, outputOf,
 ghost use Prim.Native.Nat.{suc};
 ghost use Rattle.rules.specs.Run.{result, ledgerAfter, cellsAfter};
 ghost use Rattle.rules.specs.Run.{answer as Run·answer};
+ghost use Rattle.rules.specs.Saved.{carried};
 ghost use Rattle.rules.specs.Log.{logged, logAfter, replayed};
 ghost use Rattle.rules.specs.Profile.{profiled, profileAnswer, profileAfter};
 ghost use Rattle.convert.specs.Convert.{tokenRest, logRest, numberOf as Convert·numberOf, answer as Convert·answer, outAfter as Convert·outAfter};
@@ -89,6 +90,7 @@ fn refusal_of(word: u64) -> Numbered
         18 => Numbered::One(Refusal::ProfileFull),
         19 => Numbered::One(Refusal::NotLoopFree),
         20 => Numbered::One(Refusal::NotEnabled),
+        24 => Numbered::One(Refusal::DamagedState),
         25 => Numbered::One(Refusal::BadExpression),
         26 => Numbered::One(Refusal::GraphTooLong),
         _ => Numbered::NoRefusal,
@@ -156,6 +158,23 @@ pub extern "C" fn ttda_run(
     ensures { λ _. ⌜ now (cells .exit) ≡ cellsAfter (result (now (graph .entry)) (now (inputs .entry)) (now (picks .entry)) budget (length (now (ledger .entry))) (length (now (cells .entry)))) (now (cells .entry)) ⌝ }
 {
     number_of(engine::run(graph, inputs, picks, budget, ledger, cells))
+}
+
+#[no_mangle]
+pub extern "C" fn ttda_carry_on(
+    graph: &[u8],
+    picks: &[u8],
+    budget: u16,
+    firings: u16,
+    tokens: u16,
+    ledger: &mut [u8],
+    cells: &mut [u8],
+) -> u64
+    ensures { λ r. ⌜ r ≡ packed (valuesOf (Run·answer (carried (now (graph .entry)) (now (picks .entry)) budget (now (ledger .entry)) (now (cells .entry)) firings tokens))) ⌝ }
+    ensures { λ _. ⌜ now (ledger .exit) ≡ ledgerAfter (carried (now (graph .entry)) (now (picks .entry)) budget (now (ledger .entry)) (now (cells .entry)) firings tokens) (now (ledger .entry)) ⌝ }
+    ensures { λ _. ⌜ now (cells .exit) ≡ cellsAfter (carried (now (graph .entry)) (now (picks .entry)) budget (now (ledger .entry)) (now (cells .entry)) firings tokens) (now (cells .entry)) ⌝ }
+{
+    number_of(engine::carry_on(graph, picks, budget, firings, tokens, ledger, cells))
 }
 
 #[no_mangle]

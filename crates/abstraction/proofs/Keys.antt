@@ -119,7 +119,7 @@ pub none-stands : (tag : Tag) (port : ℕ) (ts : List Record.Token) (d : Record.
     → (j : ℕ) → j < length ts → standsAt tag port (getD ts j d) ≡ false
 none-stands tag port ts d e = search-nothing (standsAt tag port) d ts e
 
-any-nothing : {A : Type 0} (p : A → Bool) (i : ℕ) (ts : List A) → any p ts ≡ false → firstFrom p i ts ≡ Nothing
+pub any-nothing : {A : Type 0} (p : A → Bool) (i : ℕ) (ts : List A) → any p ts ≡ false → firstFrom p i ts ≡ Nothing
 any-nothing p i [] e = refl
 any-nothing p i (t ∷ ts) e = go (p t) e (any-nothing p (suc i) ts)
   where

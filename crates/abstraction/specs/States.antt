@@ -6,22 +6,17 @@ use lib.IntN.{ℤ}
 use Rattle.record.specs.declared.tag.Tag.{Tag}
 use Rattle.record.specs.declared.token.Token as Record
 use Rattle.record.specs.declared.cell.Cell as RecordCell
-use Rattle.record.specs.declared.cell.Cell.the-variants.{Absent, Waiting, Present}
 use Rattle.record.specs.declared.instruction.Instruction.{Instruction}
 use Rattle.buffer.specs.Rows.{All}
 use Rattle.record.specs.TokensAndTags.{decode}
-use Rattle.machine.specs.Machine.{Cell, absent, waiting, present, State}
+use Rattle.machine.specs.Machine.{State}
 use Rattle.rules.specs.InstructionSet.{arityIn}
 use Rattle.rules.specs.Run.{tokenHeld}
+pub use Rattle.rules.specs.Run.{cellHeld}
 
 -- what stands where no token does; it is never looked at
 abbrev pub noToken : Record.Token
 noToken = decode []
-
-abbrev pub cellHeld : RecordCell.Cell → Cell ℤ
-cellHeld Absent = absent
-cellHeld Waiting = waiting
-cellHeld (Present v) = present v
 
 abbrev pub stateHeld : List Record.Token → List RecordCell.Cell → State Tag ℤ
 stateHeld ts cs = record { tokens = map tokenHeld ts; cells = map cellHeld cs }

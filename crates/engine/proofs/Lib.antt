@@ -3,3 +3,4 @@ pub mod Turning
 pub mod Recording
 pub mod Looping
 pub mod Accepting
+pub mod Resuming

@@ -1,2 +1,3 @@
--- The definitions of the turns of a run. Assumes nothing.
+-- The definitions of the turns of a run, and of a run that goes on from a saved state. Assumes nothing.
 pub mod Turns
+pub mod Resumed

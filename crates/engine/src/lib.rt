@@ -1,5 +1,6 @@
 // The engine: a graph and its inputs are checked, and fired under picks. A run may write a log.
 use checks::graph;
+use checks::stores;
 use fire_commit::Fired;
 use record::log;
 use record::tag::Tag;
@@ -8,6 +9,7 @@ use rules::answer;
 use rules::answer::Answer;
 use rules::answer::Checked;
 use rules::answer::Outcome;
+use rules::answer::Refusal;
 ghost use Prim.Native.Nat.{_/_, _%_, _<_};
 ghost use mathlib.Core.Path.{_≡_};
 ghost use lib.ListN.{length, drop};
@@ -17,12 +19,14 @@ ghost use Rattle.machine.specs.Machine.{byPicks};
 ghost use Rattle.machine.specs.Machine.{run as Machine·run};
 ghost use Rattle.machine.specs.Sequences.{logOf};
 ghost use Rattle.rules.specs.Answer.{valuesChecked};
-ghost use Rattle.rules.specs.Check.{checkGraph};
+ghost use Rattle.rules.specs.Check.{_andThen_, checkGraph, checkStores};
 ghost use Rattle.rules.specs.Run.{picksOf, firstState, result, Ran};
 ghost use Rattle.rules.specs.Log.{logged, LogRan};
+ghost use Rattle.rules.specs.Saved.{CarriedOn};
 ghost use Rattle.fire.specs.Running.{machineFor, Prepared, Running};
 ghost use Rattle.start.specs.Begun.{Accepted};
 ghost use Rattle.start.specs.Ended.{EndedAt};
+ghost use Rattle.engine.specs.Resumed.{Lent, resumed};
 ghost use Rattle.engine.specs.Turns.{Turned, endOf, firedBy, noted, recorded};
 
 // What a turn of a run comes to: the activity of a tag fired and left so many tokens, or the run is at its end.
@@ -168,6 +172,62 @@ fn accepted(
     )
 }
 
+// The check of what is lent beside a saved state: the graph, then picks, ledger and cells by their lengths in bytes.
+fn check_lent(graph: &[u8], picks: usize, ledger: usize, cells: usize) -> Checked
+    ensures { λ r. ⌜ r ≡ (checkGraph (now (graph .entry)) andThen checkStores 0 picks ledger cells) ⌝ }
+{
+    let of_graph = graph::check(graph);
+    let Checked::Passed = of_graph else {
+        return of_graph;
+    };
+    stores::check(0, picks, ledger, cells)
+}
+
+// 02, R-13: a saved state is taken, and the run goes on from it; or it is refused by 24.
+fn resume(
+    graph: &[u8],
+    picks: &[u8],
+    budget: usize,
+    firings: usize,
+    used: usize,
+    ledger: &mut [u8],
+    cells: &mut [u8],
+) -> Answer
+    requires { ⌜ Lent (now graph) (length (now ledger)) (length (now cells)) × (budget < 65536) × (firings < 65536) ⌝ }
+    ensures { λ r. ⌜ Ran (resumed (now (graph .entry)) (now (picks .entry)) budget (now (ledger .entry)) (now (cells .entry)) firings used) r (now (ledger .entry)) (now (ledger .exit)) (now (cells .entry)) (now (cells .exit)) ⌝ }
+{
+    let mut tables = [0u16; 512];
+    let mut links = [0u16; 9216];
+    let mut flags = [0u64; 69];
+    graph_tables::make(graph, &mut tables);
+    if !saved::take(
+        graph,
+        &tables,
+        &mut links,
+        &mut flags,
+        ledger,
+        cells,
+        firings,
+        used,
+    ) {
+        return answer::refused(Refusal::DamagedState, 0);
+    }
+    let mut none = [0u8; 0];
+    let own = proceed(
+        graph,
+        &tables,
+        picks,
+        &mut links,
+        &mut flags,
+        ledger,
+        cells,
+        &mut none,
+        Going { used, budget },
+    );
+    let outcome = own.outcome;
+    answer::answered(outcome, firings + own.firings, own.tokens)
+}
+
 // Refusals 1 to 5, without a run.
 pub fn check_graph(graph: &[u8]) -> Checked
     ensures { λ r. ⌜ (r ≡ checkGraph (now (graph .entry))) × (valuesChecked r ≡ valuesChecked (checkGraph (now (graph .entry)))) ⌝ }
@@ -229,5 +289,33 @@ pub fn run_logged(
     match checked {
         Checked::Failed(r, place) => answer::refused(r, place),
         Checked::Passed => accepted(graph, inputs, picks, firings, ledger, cells, log),
+    }
+}
+
+// 02, R-13: a run goes on from a saved state, the first tokens of the ledger, the cells and the two counts of the answer so far.
+// The budget and the picks are those of this part; the answer counts all firings.
+pub fn carry_on(
+    graph: &[u8],
+    picks: &[u8],
+    budget: u16,
+    firings: u16,
+    tokens: u16,
+    ledger: &mut [u8],
+    cells: &mut [u8],
+) -> Answer
+    ensures { λ r. ⌜ CarriedOn (now (graph .entry)) (now (picks .entry)) budget firings tokens r (now (ledger .entry)) (now (ledger .exit)) (now (cells .entry)) (now (cells .exit)) ⌝ }
+{
+    let checked = check_lent(graph, picks.len(), ledger.len(), cells.len());
+    match checked {
+        Checked::Failed(r, place) => answer::refused(r, place),
+        Checked::Passed => resume(
+            graph,
+            picks,
+            budget as usize,
+            firings as usize,
+            tokens as usize,
+            ledger,
+            cells,
+        ),
     }
 }

@@ -29,12 +29,12 @@ use Rattle.rules.specs.Orders.{tokensOf, cellsOf, EachOnce}
 use Rattle.rules.specs.Orders as Rules
 use Rattle.rules.proofs.Accepted.{whole-bytes, Whole, stores-whole, Begun, begun-stores}
 use Rattle.rules.proofs.Orders.{any-two-orders, perm-map}
-use Rattle.rules.specs.Fits.{CellCount}
+use Rattle.rules.specs.Fits.{CellCount, AllFit}
 use Rattle.rules.proofs.Fits.{result-fits}
 use Rattle.listing.specs.Listing.{records, answer}
 use Rattle.listing.specs.Sorted.{Pairwise}
-use Rattle.rules.specs.Runs.{LentToRun, LeftByRun, RanOn, Completed, Hung, Quiescent, Spent, Refused}
-use Rattle.listing.specs.Demand3.{NotForOthers, used, Alike, Agree, Demand3}
+use Rattle.rules.specs.Runs.{LentToRun, LeftByRun, Completed, Hung, Quiescent, Spent, Refused}
+use Rattle.listing.specs.Demand3.{used, Alike, Agree, Demand3}
 use Rattle.listing.proofs.Lists.{all-of}
 use Rattle.listing.proofs.Laws.{records-joined}
 use Rattle.listing.proofs.AnyTwoOrders.{places-differ, records-differ, used-records, length-tokens, list-orders}
@@ -147,58 +147,66 @@ module _ (x y : Result) {r q : Answer} {l l′ c c′ m m′ d d′ : List ℕ} 
             (e ∙ ap length ux ∙ length-tokens ts) (e′ ∙ ap length uy ∙ length-tokens us));
       }
 
--- ---- two runs
+-- ---- two runs that agree by the rules agree in every byte
 
-module _ (graph inputs : List ℕ) (graphBytes : Bytes graph) (inputBytes : Bytes inputs) (l m : LentToRun) (a : NotForOthers graph inputs l) (b : NotForOthers graph inputs m)
-    (capacities : capacityOf (length (l .ledger)) ≡ capacityOf (length (m .ledger))) (counts : length (l .cells) / cellWidth ≡ length (m .cells) / cellWidth)
-    (x y : LeftByRun) (ranX : RanOn graph inputs 2048 l x) (ranY : RanOn graph inputs 2048 m y) where
-  abbrev resultOf : LentToRun → Result
-  resultOf k = result graph inputs (k .picks) 2048 (length (k .ledger)) (length (k .cells))
+-- of what a run left: its tokens fit their records, and its cells those that were lent
+pub record Held (x : Result) (cells : List ℕ) : Type 0 where
+  pub fits : All TokenFits (tokensOf x)
+  pub few : length (tokensOf x) ≤ mostTokens
+  pub cellsLent : CellsLent x cells
 
-  agreed : Rules.Agree (resultOf l) (resultOf m)
-  agreed = any-two-orders graph inputs (l .picks) (m .picks) (length (l .ledger)) (length (m .ledger)) (length (l .cells)) (length (m .cells)) a b capacities counts
+module _ (left right : Result) (l m : LentToRun) (x y : LeftByRun)
+    (ranX : Ran left (x .answer) (l .ledger) (x .ledger) (l .cells) (x .cells)) (ranY : Ran right (y .answer) (m .ledger) (y .ledger) (m .cells) (y .cells))
+    (agreed : Rules.Agree left right) (heldX : Rules.Quiescent left → Held left (l .cells)) (heldY : Rules.Quiescent right → Held right (m .cells)) where
+  endedX : SameEnd left (x .answer .outcome)
+  endedX = subst (λ (r : Answer). SameEnd left (r .outcome)) (sym (ranX .answered)) (same-end left)
 
-  ended : (k : LentToRun) (z : LeftByRun) → RanOn graph inputs 2048 k z → SameEnd (resultOf k) (z .answer .outcome)
-  ended k z ran = subst (λ (r : Answer). SameEnd (resultOf k) (r .outcome)) (sym (ran .answered)) (same-end (resultOf k))
-
-  -- a run that completes or hangs passed the check of its stores
-  stores-of : (k : LentToRun) → Rules.Quiescent (resultOf k) → Whole (length inputs) (length (k .picks)) (length (k .ledger)) (length (k .cells))
-  stores-of k c = stores-whole (length inputs) (length (k .picks)) (length (k .ledger)) (length (k .cells)) (begun-stores graph inputs (k .picks) 2048 (length (k .ledger)) (length (k .cells)) (quiescent-begun (resultOf k) c))
+  endedY : SameEnd right (y .answer .outcome)
+  endedY = subst (λ (r : Answer). SameEnd right (r .outcome)) (sym (ranY .answered)) (same-end right)
 
   completing : Completed (x .answer .outcome) ↔ Completed (y .answer .outcome)
-  completing =
-      let ex = ended l x ranX in
-      let ey = ended m y ranY in
-      (λ h. ey .completes .0 (agreed .completes .0 (ex .completes .1 h)), λ h. ex .completes .0 (agreed .completes .1 (ey .completes .1 h)))
+  completing = (λ h. endedY .completes .0 (agreed .completes .0 (endedX .completes .1 h)), λ h. endedX .completes .0 (agreed .completes .1 (endedY .completes .1 h)))
 
   hanging : Hung (x .answer .outcome) ↔ Hung (y .answer .outcome)
-  hanging =
-      let ex = ended l x ranX in
-      let ey = ended m y ranY in
-      (λ h. ey .hangs .0 (agreed .hangs .0 (ex .hangs .1 h)), λ h. ex .hangs .0 (agreed .hangs .1 (ey .hangs .1 h)))
+  hanging = (λ h. endedY .hangs .0 (agreed .hangs .0 (endedX .hangs .1 h)), λ h. endedX .hangs .0 (agreed .hangs .1 (endedY .hangs .1 h)))
 
   alike : Quiescent (x .answer .outcome) → Alike x y
   alike done =
       let outcomes = same-outcome (x .answer .outcome) (y .answer .outcome) done (completing .0) (hanging .0) in
-      let cx = ended l x ranX .rests .1 done in
-      let cy = ended m y ranY .rests .1 (subst Quiescent outcomes done) in
-      let fits = result-fits graph inputs (l .picks) 2048 (length (l .ledger)) (length (l .cells)) graphBytes inputBytes in
-      let others = result-fits graph inputs (m .picks) 2048 (length (m .ledger)) (length (m .cells)) graphBytes inputBytes in
-      let few = whole-bytes tokenWidth mostTokens (length (l .ledger)) (stores-of l cx .wholeLedger) .1 in
-      bytes-alike (resultOf l) (resultOf m) ranX ranY cx cy outcomes (agreed .alike cx) (fits .tokens) (omega (arith, fits .room, few))
-      (whole-bytes cellWidth mostCells (length (l .cells)) (stores-of l cx .wholeCells) .0, fits .cellCount) (whole-bytes cellWidth mostCells (length (m .cells)) (stores-of m cy .wholeCells) .0, others .cellCount)
+      let cx = endedX .rests .1 done in
+      let cy = endedY .rests .1 (subst Quiescent outcomes done) in
+      let hx = heldX cx in
+      bytes-alike left right ranX ranY cx cy outcomes (agreed .alike cx) (hx .fits) (hx .few) (hx .cellsLent) (heldY cy .cellsLent)
 
-  agree : Agree x y
-  agree =
-      let ex = ended l x ranX in
-      let ey = ended m y ranY in
-      record {
-        completes = completing;
-        hangs = hanging;
-        alike = alike;
-        refused = (λ h. ey .refuses .0 (agreed .refused .0 (ex .refuses .1 h)), λ h. ex .refuses .0 (agreed .refused .1 (ey .refuses .1 h)));
-        neverSpent = λ h. agreed .neverSpent (ex .spends h);
-      }
+  pub agree-in-bytes : Agree x y
+  agree-in-bytes = record {
+    completes = completing;
+    hangs = hanging;
+    alike = alike;
+    refused = (λ h. endedY .refuses .0 (agreed .refused .0 (endedX .refuses .1 h)), λ h. endedX .refuses .0 (agreed .refused .1 (endedY .refuses .1 h)));
+    neverSpent = λ h. agreed .neverSpent (endedX .spends h);
+  }
+
+-- where its stores were whole, it held what fits
+pub held : (x : Result) (inputs picks : ℕ) (ledger cells : List ℕ) → Whole inputs picks (length ledger) (length cells) → AllFit x (capacityOf (length ledger)) (length cells / cellWidth) → Held x cells
+held x inputs picks ledger cells stores f =
+    let few = whole-bytes tokenWidth mostTokens (length ledger) (stores .wholeLedger) .1 in
+    record { fits = f .tokens; few = omega (arith, f .room, few); cellsLent = (whole-bytes cellWidth mostCells (length cells) (stores .wholeCells) .0, f .cellCount) }
+
+-- ---- from inputs
 
 pub demand3 : Demand3
-demand3 graph inputs bg bi l m a b c d x y rx ry = agree graph inputs bg bi l m a b c d x y rx ry
+demand3 graph inputs graphBytes inputBytes l m a b capacities counts x y ranX ranY =
+    agree-in-bytes (resultOf l) (resultOf m) l m x y ranX ranY
+    (any-two-orders graph inputs (l .picks) (m .picks) (length (l .ledger)) (length (m .ledger)) (length (l .cells)) (length (m .cells)) a b capacities counts)
+    (holds l) (holds m)
+  where
+    resultOf : LentToRun → Result
+    resultOf k = result graph inputs (k .picks) 2048 (length (k .ledger)) (length (k .cells))
+
+    -- a run that completes or hangs passed the check of its stores
+    holds : (k : LentToRun) → Rules.Quiescent (resultOf k) → Held (resultOf k) (k .cells)
+    holds k c =
+        held (resultOf k) (length inputs) (length (k .picks)) (k .ledger) (k .cells)
+        (stores-whole (length inputs) (length (k .picks)) (length (k .ledger)) (length (k .cells)) (begun-stores graph inputs (k .picks) 2048 (length (k .ledger)) (length (k .cells)) (quiescent-begun (resultOf k) c)))
+        (result-fits graph inputs (k .picks) 2048 (length (k .ledger)) (length (k .cells)) graphBytes inputBytes)

@@ -10,7 +10,7 @@ use Rattle.machine.specs.Orders.{Quiescent, Proper, AllProper, Says}
 use Rattle.machine.specs.Sequences.{NothingEnabled}
 use Rattle.machine.proofs.View.{falseTrue}
 
-bothTrue : (a b : Bool) → a && b ≡ true → (a ≡ true) × (b ≡ true)
+pub bothTrue : (a b : Bool) → a && b ≡ true → (a ≡ true) × (b ≡ true)
 bothTrue true b e = (refl, e)
 bothTrue false b e = falseTrue e
 

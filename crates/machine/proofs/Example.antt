@@ -1,8 +1,9 @@
 -- A small program under two orders, computed: the runs end alike, and their ledgers are different lists; a run that hangs; its
--- ideal steps, logs and replays, a smaller ledger; and how the theorems are cited for it. Assumes nothing.
+-- ideal steps, logs and replays, a smaller ledger, a run in parts; and how the theorems are cited for it. Assumes nothing.
 use mathlib.Core.Path.{_≡_, refl}
 use mathlib.Core.List.{[], _∷_}
 use mathlib.Core.Option.{none, some}
+use mathlib.Core.Bool.{true, false}
 use Prim.Native.Nat.{ℕ, zero, suc, _+_}
 use native.Mathlib.Decide.{ℕ-discrete}
 use native.Mathlib.Omega.{arith}
@@ -13,7 +14,9 @@ use Rattle.machine.specs.Sequences.{logOf}
 use Rattle.machine.specs.Steps.{profile}
 use Rattle.machine.specs.Replay.{replay}
 use Rattle.machine.specs.Capacity.{withCapacity}
+use Rattle.machine.specs.Saved.{inParts, isSaved}
 use Rattle.machine.proofs.Orders.{startGood, orders}
+use Rattle.machine.proofs.Cut.{cut-runs}
 use Rattle.machine.proofs.Reached.{reached-invariants, reached-picks}
 
 abbrev key : ℕ → ℕ → Key ℕ
@@ -130,6 +133,21 @@ fits = refl
 overflows : run (withCapacity small 4) 65535 [] start .outcome ≡ refused 8 2
 unfolding machine
 overflows = refl
+
+-- ---- R-13: a run in parts, and a state that can be saved
+
+-- in three parts
+cut : inParts small (byPicks small) 1 (1 ∷ 5 ∷ []) (1 ∷ []) 0 start ≡ run small 7 (1 ∷ []) start
+cut = cut-runs small (byPicks small) 1 (1 ∷ 5 ∷ []) (1 ∷ []) 0 start
+
+-- what is left can be saved with its three firings, and with no other number
+takes : isSaved small 3 (run small 65535 [] start .state) ≡ true
+unfolding machine isSaved
+takes = refl
+
+refusesOthers : isSaved small 4 (run small 65535 [] start .state) ≡ false
+unfolding machine isSaved
+refusesOthers = refl
 
 -- ---- the theorems' hypotheses hold here
 

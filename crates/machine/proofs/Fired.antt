@@ -11,7 +11,7 @@ use lib.ListN.{length}
 use Rattle.machine.specs.Machine.{Key, Content, live, spent, deferred, refuse, send, read, write, Machine, fired}
 use Rattle.machine.specs.Machine.{onOption, liveValue, isThere, allBelow, StateOf, EffectOf, at, look, operandOf, liveAt, allLive, placeOf, among, enabled, fire}
 use Rattle.machine.specs.Orders.{Lawful, Live, Spent, Good, Start, keysOf, outputs, Reached}
-use Rattle.machine.specs.Sequences.{isSpent}
+use Rattle.machine.specs.Sequences.{isSpentThere}
 use Rattle.machine.proofs.View.{noneSome, falseTrue, omap, orElse, given, resolve, cellAfter}
 use Rattle.machine.proofs.View.{View, DeltaOf, deltaOf, change, apply, operandKey, operandLive, operandZero}
 use Rattle.machine.proofs.Store.{view}
@@ -24,10 +24,6 @@ use Rattle.machine.proofs.Reached.{keysKnown, startLive, outputsKnown, 
 -- ---- contents
 
 module _ {W : Type 0} where
-  abbrev pub isSpentThere : Option (Content W) → Bool
-  isSpentThere none = false
-  isSpentThere (some x) = isSpent x
-
   pub spent-is : (x : Option (Content W)) → isSpentThere x ≡ true → Spent x
   spent-is none e = falseTrue e
   spent-is (some (live v)) e = falseTrue e

@@ -1,4 +1,4 @@
--- The theorems (Enabled, Sequences, Ending, Runs, Orders, Reached, Fired, Steps, Replay, Capacity, Agreement, Kept, Refused, Bounds,
+-- The theorems (Enabled, Sequences, Ending, Runs, Orders, Reached, Fired, Steps, Replay, Capacity, Agreement, Cut, Saved, Taken, Kept, Refused, Bounds,
 -- Trees), what they are proved from (Lists, Swap, View, Store, Tags, Perm, Sets), and a computed example. Assumes nothing.
 pub mod Lists
 pub mod Swap
@@ -19,6 +19,9 @@ pub mod Steps
 pub mod Replay
 pub mod Capacity
 pub mod Agreement
+pub mod Cut
+pub mod Saved
+pub mod Taken
 pub mod Refused
 pub mod Parts
 pub mod Bounds

@@ -37,10 +37,10 @@ liveSpent p = absurd (let z : _≡_ {A = ℕ} 0 1 = cc in omega arith)
 deferredSpent {ℓ} : {W : Type 0} {B : Type ℓ} {c : ℕ} {v : W} → deferred c ≡ spent v → B
 deferredSpent p = absurd (let z : _≡_ {A = ℕ} 0 1 = cc in omega arith)
 
-absentWaiting {ℓ} : {W : Type 0} {B : Type ℓ} → _≡_ {A = Cell W} absent waiting → B
+pub absentWaiting {ℓ} : {W : Type 0} {B : Type ℓ} → _≡_ {A = Cell W} absent waiting → B
 absentWaiting p = absurd (let z : _≡_ {A = ℕ} 0 1 = cc in omega arith)
 
-presentWaiting {ℓ} : {W : Type 0} {B : Type ℓ} {v : W} → present v ≡ waiting → B
+pub presentWaiting {ℓ} : {W : Type 0} {B : Type ℓ} {v : W} → present v ≡ waiting → B
 presentWaiting p = absurd (let z : _≡_ {A = ℕ} 0 1 = cc in omega arith)
 
 module _ {W : Type 0} where
@@ -148,11 +148,11 @@ module _ (M : Machine) where
 
   -- ---- what a firing keeps, over the view
 
-  record HoldsIn (v : View M) : Type 0 where
-    deferredWaits : (k : Key (M .Tag)) (c : ℕ) → v .tok k ≡ some (deferred c) → v .cell c ≡ waiting
-    waitingDefers : (c : ℕ) → v .cell c ≡ waiting → (k : Key (M .Tag)) × (v .tok k ≡ some (deferred c))
-    spentTogether : (τ : M .Tag) (p q : ℕ) → p < M .arity τ → q < M .arity τ → Spent (v .tok (at M τ p)) → Spent (v .tok (at M τ q))
-    othersUnspent : (τ : M .Tag) (p : ℕ) → M .arity τ ≤ p → ¬ (Spent (v .tok (at M τ p)))
+  pub record HoldsIn (v : View M) : Type 0 where
+    pub deferredWaits : (k : Key (M .Tag)) (c : ℕ) → v .tok k ≡ some (deferred c) → v .cell c ≡ waiting
+    pub waitingDefers : (c : ℕ) → v .cell c ≡ waiting → (k : Key (M .Tag)) × (v .tok k ≡ some (deferred c))
+    pub spentTogether : (τ : M .Tag) (p q : ℕ) → p < M .arity τ → q < M .arity τ → Spent (v .tok (at M τ p)) → Spent (v .tok (at M τ q))
+    pub othersUnspent : (τ : M .Tag) (p : ℕ) → M .arity τ ≤ p → ¬ (Spent (v .tok (at M τ p)))
 
   module _ (v : View M) (τ : M .Tag) (d : DeltaOf M) (shape : Shape d) (al : Allowed M v d) (ready : (k : Key (M .Tag)) → operandOf M τ k ≡ true → Live (v .tok k)) (old : HoldsIn v) where
     keptDeferred : (k : Key (M .Tag)) (c : ℕ) → apply M τ d v .tok k ≡ some (deferred c) → cellAfter d (v .cell) c ≡ waiting
@@ -248,7 +248,7 @@ module _ (M : Machine) where
       go (yes p) rec f = let (u, g) = h .0 in (u, someSame _ _ (sym f ∙ g))
       go (no n) rec f = rec f
 
-  keptStart : (s : StateOf M) → Start M s → HoldsIn (view M s)
+  pub keptStart : (s : StateOf M) → Start M s → HoldsIn (view M s)
   keptStart s h = record {
     deferredWaits = λ k c e. let (u, f) = startLive (s .tokens) (h .allLive) k (deferred c) e in liveDeferred (sym f);
     waitingDefers = λ c e. absentWaiting (sym (absentCell (M .cellCount) c) ∙ ap (λ l. cellAt l c) (sym (h .absentCells)) ∙ e);
@@ -264,13 +264,13 @@ module _ (M : Machine) where
 
   module _ (law : Lawful M) where
     -- what a state that is reached keeps of the state s that it is reached from
-    record Carried (s : StateOf M) (f o : ℕ) (x : StateOf M) : Type 0 where
-      good : Good M x
-      count : length (x .tokens) ≡ length (s .tokens) + o
-      spending : length (spentTags M (x .tokens)) ≡ length (spentTags M (s .tokens)) + f
-      kept : HoldsIn (view M s) → HoldsIn (view M x)
+    pub record Carried (s : StateOf M) (f o : ℕ) (x : StateOf M) : Type 0 where
+      pub good : Good M x
+      pub count : length (x .tokens) ≡ length (s .tokens) + o
+      pub spending : length (spentTags M (x .tokens)) ≡ length (spentTags M (s .tokens)) + f
+      pub kept : HoldsIn (view M s) → HoldsIn (view M x)
 
-    carried : (s : StateOf M) → Good M s → (f o : ℕ) (x : StateOf M) → Reached M s f o x → Carried s f o x
+    pub carried : (s : StateOf M) → Good M s → (f o : ℕ) (x : StateOf M) → Reached M s f o x → Carried s f o x
     carried s g zero o x (e, q) = subst (Carried s 0 o) (sym q) (record { good = g; count = omega arith; spending = omega arith; kept = λ h. h })
     carried s g (suc f) o x (y, n, τ, r, e, q) = next (carried s g f n y r)
       where

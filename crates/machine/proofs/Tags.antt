@@ -1,19 +1,21 @@
--- The tags with spent operands: a firing adds its own (`tagsAfter`), and each is there once (`tagsOnce`). Assumes nothing.
+-- The tags with spent operands: a firing adds its own (`tagsAfter`), and each is there once (`tagsOnce`, `tags-once`). Assumes nothing.
 use mathlib.Core.Path.{_≡_, refl, sym, ap, _∙_}
-use mathlib.Core.List.{List, [], _∷_, _++_, map, append-nil, List·Memᴰ, List·Memᴰ·cases-cons, List·Memᴰ·not-nil}
+use mathlib.Core.List.{List, [], _∷_, _++_, map, append-nil, List·Memᴰ, List·Memᴰ·head, List·Memᴰ·tail, List·Memᴰ·cases-cons, List·Memᴰ·not-nil}
 use mathlib.Core.List.{List·Permᴰ, List·Permᴰ·cons, List·Permᴰ·swap, List·Permᴰ·trans, Permᴰ·refl}
 use mathlib.Core.Option.{Option, none, some}
 use mathlib.Core.Logic.{_⊎_, inl, inr}
 use mathlib.Core.Bool.{Bool, true, false, _&&_, cond}
 use Prim.Native.Nat.{ℕ, suc, _≤_, _<_}
+use native.Mathlib.Decide.{decLt}
 use native.Mathlib.Omega.{arith}
 use lib.Dec.{eqb, ltb}
 use lib.ListN.{length}
 use borrow.Author.Tests.{eqb-true}
 use Rattle.machine.specs.Machine.{Key, Content, live, spent, deferred, Token, Cell, absent, waiting, present, Machine, when, onOption, cellAt, contentRead, changed, output, Operands}
 use Rattle.machine.specs.Machine.{Ledger, StateOf, sameKey, at, find, look, operandOf, operands}
-use Rattle.machine.specs.Orders.{Spent, Distinct}
+use Rattle.machine.specs.Orders.{Spent, Distinct, AllLive}
 use Rattle.machine.specs.Sequences.{Once, isSpent, isSpentFirst, spentTags}
+use Rattle.machine.specs.Saved.{SpentTagsOnce}
 use Rattle.machine.proofs.View.{when-yes, when-no, noneSome, falseTrue, keyPath, Source, value, fetched, resolve, settle, cellAfter}
 use Rattle.machine.proofs.View.{DeltaOf, change, operandLive, operandZero}
 use Rattle.machine.proofs.Store.{After}
@@ -115,6 +117,22 @@ module _ (M : Machine) where
           either (inr n) = later (rec n)
       go false e rec h = later (rec h)
 
+  spentFirst : (τ : M .Tag) (ts : Ledger M) → Spent (find M (at M τ 0) ts) → List·Memᴰ τ (spentTags M ts)
+  spentFirst τ [] (v, e) = noneSome e
+  spentFirst τ (t ∷ ts) (v, e) = go (sameKey M (at M τ 0) (t .key)) (λ h. spentFirst τ ts (v, h)) e
+    where
+      own : (k : Key (M .Tag)) (x : Content (M .Value)) → at M τ 0 ≡ k → x ≡ spent v → eqb (k .port) 0 && isSpent x ≡ true
+      own k x p h = rw (h, ← p)
+
+      skip : (b : Bool) → List·Memᴰ τ (spentTags M ts) → List·Memᴰ τ (cond b (t .key .tag ∷ spentTags M ts) (spentTags M ts))
+      skip true m = List·Memᴰ·tail m
+      skip false m = m
+
+      go : (q : Dec (at M τ 0 ≡ t .key)) → (find M (at M τ 0) ts ≡ some (spent v) → List·Memᴰ τ (spentTags M ts)) → when q (some (t .content)) (find M (at M τ 0) ts) ≡ some (spent v)
+          → List·Memᴰ τ (spentTags M (t ∷ ts))
+      go (yes p) rec h = rw (own (t .key) (t .content) p (cc)) (List·Memᴰ·head (ap (λ k. k .tag) p))
+      go (no n) rec h = skip (isSpentFirst t) (rec h)
+
   pub tagsOnce : (ts : Ledger M) → Distinct M ts → Once (spentTags M ts)
   tagsOnce [] ds = tt
   tagsOnce (t ∷ ts) ds = go (isSpentFirst t) refl (tagsOnce ts (ds .1))
@@ -128,6 +146,27 @@ module _ (M : Machine) where
       go : (b : Bool) → isSpentFirst t ≡ b → Once (spentTags M ts) → Once (cond b (t .key .tag ∷ spentTags M ts) (spentTags M ts))
       go true e h = (notLater e, h)
       go false e h = h
+
+  pub tags-once : (ts : Ledger M) → Distinct M ts → ((τ : M .Tag) (p q : ℕ) → p < M .arity τ → q < M .arity τ → Spent (find M (at M τ p) ts) → Spent (find M (at M τ q) ts))
+      → ((τ : M .Tag) (p : ℕ) → M .arity τ ≤ p → ¬ (Spent (find M (at M τ p) ts))) → SpentTagsOnce M ts
+  tags-once ts ds together others = record {
+    exactly = λ τ. (λ m. (0, firstSpent τ ts ds m), λ (p, w). spentFirst τ ts (onZero τ p w));
+    once = tagsOnce ts ds;
+  }
+    where
+      onZero : (τ : M .Tag) (p : ℕ) → Spent (find M (at M τ p) ts) → Spent (find M (at M τ 0) ts)
+      onZero τ p w = go (decLt p (M .arity τ))
+        where
+          go : Dec (p < M .arity τ) → Spent (find M (at M τ 0) ts)
+          go (yes l) = together τ p 0 l (omega arith) w
+          go (no n) = absurd (others τ p (omega arith) w)
+
+  -- none at the start
+  pub startUnspent : (ts : Ledger M) → AllLive M ts → spentTags M ts ≡ []
+  startUnspent [] h = refl
+  startUnspent (t ∷ ts) ((v, e), h) =
+      let c : t .content ≡ live v = cc in
+      rw (c, andFalse) (startUnspent ts h)
 
   -- ---- a firing
 

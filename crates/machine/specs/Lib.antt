@@ -1,5 +1,5 @@
 -- The definitions that a reader must believe: the machine, what is stated of its orders and of its firing sequences, the runs by
--- ideal steps, the replay of a log, another capacity, another instruction set, and trees of activities. Assumes nothing.
+-- ideal steps, the replay of a log, another capacity, another instruction set, trees of activities, and runs in parts. Assumes nothing.
 pub mod Machine
 pub mod Orders
 pub mod Sequences
@@ -8,3 +8,4 @@ pub mod Replay
 pub mod Capacity
 pub mod Agreement
 pub mod Trees
+pub mod Saved

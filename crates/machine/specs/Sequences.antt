@@ -2,6 +2,7 @@
 -- one, its log. Proved in proofs/: Sequences and Runs. Assumes nothing.
 use mathlib.Core.Path.{_≡_}
 use mathlib.Core.List.{List, [], _∷_, _++_, List·Memᴰ, List·Permᴰ}
+use mathlib.Core.Option.{Option, none, some}
 use mathlib.Core.Bool.{Bool, true, false, _&&_, cond}
 use Prim.Native.Nat.{ℕ, zero, suc, _+_, _≤_, _<_}
 use lib.Dec.{eqb}
@@ -25,6 +26,10 @@ abbrev pub isSpent : {W : Type 0} → Content W → Bool
 isSpent (live v) = false
 isSpent (spent v) = true
 isSpent (deferred c) = false
+
+abbrev pub isSpentThere : {W : Type 0} → Option (Content W) → Bool
+isSpentThere none = false
+isSpentThere (some x) = isSpent x
 
 -- a spent token on port 0
 abbrev pub isSpentFirst : {T W : Type 0} → Token T W → Bool

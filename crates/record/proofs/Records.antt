@@ -40,7 +40,7 @@ elements (suc n) [] e = let z : _≡_ {A = ℕ} 0 1 = omega arith in absurd (ome
 elements (suc n) (x ∷ l) e = ap (λ (m : List ℕ). x ∷ m) (elements n l (suc-inj e))
 
 -- a byte of the first w is that of the whole
-front : (w : ℕ) (l : List ℕ) (k : ℕ) → T (ltb k w) → getD (take w l) k 0 ≡ getD l k 0
+pub front : (w : ℕ) (l : List ℕ) (k : ℕ) → T (ltb k w) → getD (take w l) k 0 ≡ getD l k 0
 front w l k t = getD-take w l k 0 (ltb→lt k w t)
 
 -- ---- instructions
@@ -189,7 +189,7 @@ module _ (l : List ℕ) where
   unfolding Cells.decode
   cell-front = rw (front 8 l 0 tt, front 8 l 1 tt, front 8 l 2 tt, front 8 l 3 tt, front 8 l 4 tt)
 
-own : {A : Type 0} (w : ℕ) (read : List ℕ → A) → ((l : List ℕ) → read (take w l) ≡ read l) → (l m : List ℕ) → take w l ≡ take w m → read l ≡ read m
+pub own : {A : Type 0} (w : ℕ) (read : List ℕ → A) → ((l : List ℕ) → read (take w l) ≡ read l) → (l m : List ℕ) → take w l ≡ take w m → read l ≡ read m
 own w read front l m e = sym (front l) ∙ ap read e ∙ front m
 
 -- ---- tables of tokens and of cells

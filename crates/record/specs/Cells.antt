@@ -1,10 +1,10 @@
 -- 01, "Firing": "A cell is absent, waiting or present." "A cell record has 8 bytes: value (0-3), state (4: 0 absent, 1 waiting, 2 present), zeros.
 -- The value is 0 until present." Assumes nothing.
 use Prim.Native.Nat.{ℕ, _*_}
-use mathlib.Core.Bool.{cond}
+use mathlib.Core.Bool.{Bool, _||_, cond}
 use mathlib.Core.List.{List, [], _∷_, _++_}
 use lib.ListN.{drop}
-use lib.Dec.{eqb}
+use lib.Dec.{eqb, leb}
 use mir.Syntax.{w32}
 use mir.Val.{SFits}
 use Rattle.number.specs.Number.{byteAt, number32, signedOf, bitsOf, bytes32}
@@ -34,6 +34,14 @@ abbrev pub CellFits : Cell → Type 0
 CellFits Absent = Unit {0}
 CellFits Waiting = Unit {0}
 CellFits (Present v) = SFits w32 v
+
+-- 02, R-13: "fields and states allowed", of the record that l starts with: a state of the three, and zeros behind it
+unfoldable pub stateAllowed : List ℕ → Bool
+stateAllowed l = leb (number32 l 4) 2
+
+-- 02, R-13: "cell values 0 until present"
+unfoldable pub zeroUntilPresent : List ℕ → Bool
+zeroUntilPresent l = eqb (byteAt l 4) 2 || eqb (number32 l 0) 0
 
 -- the cell of record i
 abbrev pub cellAt : List ℕ → ℕ → Cell

@@ -3,7 +3,7 @@ use Prim.Native.Nat.{ℕ, _+_, _*_, _/_, _^_, _<_}
 use mathlib.Core.Bool.{Bool, _&&_, cond}
 use mathlib.Core.List.{List, [], _∷_, _++_}
 use lib.ListN.{length, drop}
-use lib.Dec.{eqb}
+use lib.Dec.{eqb, leb}
 use mir.Syntax.{w32}
 use mir.Val.{SFits}
 use Rattle.number.specs.Number.{byteAt, number16, number32, number64, signedOf, bitsOf, bytes16, bytes32, bytes64}
@@ -92,6 +92,12 @@ sameTag a b = samePath (a .path) (b .path) && (eqb (a .iteration) (b .iteration)
 -- of the record that l starts with; its zeros are zero
 unfoldable pub isInput : List ℕ → Bool
 isInput l = isRoot (pathIn l) && (eqb (byteAt l 16) 0 && eqb (number32 l stateOffset) 0)
+
+-- ---- 02, R-13: "fields and states allowed"
+
+-- of the record that l starts with: a state of the three, and zeros behind it
+unfoldable pub stateAllowed : List ℕ → Bool
+stateAllowed l = leb (number32 l stateOffset) 2
 
 -- ---- "In a whole run a tag receives at most one token on each port."
 

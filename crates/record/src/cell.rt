@@ -61,6 +61,22 @@ pub fn encode(cell: Cell) -> [u8; WIDTH]
     }
 }
 
+// Whether the record that s starts with has a state of the three, and zeros behind it.
+pub fn state_allowed(s: &[u8]) -> bool
+    requires { ⌜ 8 ≤ length (now s) ⌝ }
+    ensures { λ r. ⌜ r ≡ Cells.stateAllowed (now (s .entry)) ⌝ }
+{
+    number::u32_at(s, 4) <= 2
+}
+
+// Whether its value is 0 until it is present.
+pub fn zero_until_present(s: &[u8]) -> bool
+    requires { ⌜ 8 ≤ length (now s) ⌝ }
+    ensures { λ r. ⌜ r ≡ Cells.zeroUntilPresent (now (s .entry)) ⌝ }
+{
+    s[4] == 2 || number::u32_at(s, 0) == 0
+}
+
 // The cell of record i.
 pub fn cell_at(cells: &[u8], i: usize) -> Cell
     requires { ⌜ i < length (now cells) / cellWidth ⌝ }

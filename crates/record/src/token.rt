@@ -139,6 +139,14 @@ pub fn encode(t: Token) -> [u8; WIDTH]
     )
 }
 
+// Whether the record that s starts with has a state of the three, and zeros behind it.
+pub fn state_allowed(s: &[u8]) -> bool
+    requires { ⌜ tokenWidth ≤ length (now s) ⌝ }
+    ensures { λ r. ⌜ r ≡ Tokens.stateAllowed (now (s .entry)) ⌝ }
+{
+    number::u32_at(s, STATE) <= 2
+}
+
 // The token of record i of a ledger.
 pub fn token_at(ledger: &[u8], i: usize) -> Token
     requires { ⌜ i < length (now ledger) / tokenWidth ⌝ }

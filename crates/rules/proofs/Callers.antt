@@ -64,7 +64,7 @@ module _ (g : List Instruction) where
   fitting [] h = tt
   fitting (c ∷ cs) h = (h .0 .fits, fitting cs (h .1))
 
-  root-path : PathIn g 0
+  pub root-path : PathIn g 0
   root-path = record { calls = []; each = tt; levels = omega arith; made = refl }
 
   -- a path below 65,536 to the most levels less 1 has a level to spare
@@ -160,7 +160,7 @@ module _ (graph : List ℕ) (passed : checkGraph graph ≡ Passed) where
   -- ---- what a run keeps
 
   -- ENTER makes a call of the iteration, so that is a byte too
-  abbrev Called : Key Tag → Type 0
+  abbrev pub Called : Key Tag → Type 0
   Called k = PathIn g (pathNumber (k .tag .path)) × (k .tag .iteration < 256)
 
   abbrev Any : {A : Type 0} → A → Type 0
@@ -187,12 +187,12 @@ module _ (graph : List ℕ) (passed : checkGraph graph ≡ Passed) where
           computed = λ o a b v e. tt;
         }
 
-    keeps : Keeps M Called Any Any
+    pub keeps : Keeps M Called Any Any
     keeps = keeps-asked g capacity cells Called Any Any (λ τ (waits, keys). asked τ (keys 0 waits .0) (keys 0 waits .1)) tt
 
     -- ---- of every token
 
-    known : (ts : List (Token Tag ℤ)) → Each (OfToken M Called Any Any) ts → All (TokenIn g) ts
+    pub known : (ts : List (Token Tag ℤ)) → Each (OfToken M Called Any Any) ts → All (TokenIn g) ts
     known [] h = tt
     known (t ∷ ts) h = (record { path = h .0 .0 .0; iteration = h .0 .0 .1 }, known ts (h .1))
 

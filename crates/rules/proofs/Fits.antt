@@ -64,10 +64,10 @@ use Rattle.rules.proofs.Invariants.{result-invariants, profile-invarian
 -- ---- keys
 
 -- path and iteration, which an output has of its activity
-abbrev Path : Tag → Type 0
+abbrev pub Path : Tag → Type 0
 Path τ = PathFits (τ .path) × (τ .iteration < 2 ^ 8)
 
-abbrev KeyFits : Key Tag → Type 0
+abbrev pub KeyFits : Key Tag → Type 0
 KeyFits k = Path (k .tag) × (k .tag .instruction < 2 ^ 16) × (k .port < 2 ^ 8)
 
 abbrev DestinationFits : Destination → Type 0
@@ -136,7 +136,7 @@ module _ (graph : List ℕ) (bytes : Bytes graph) (passed : checkGraph graph ≡
       go (yes h) = byte-site _ (enter-site (of-graph graph passed i h) e)
       go (no n) = let z : Operations.Enter ≡ Operations.Unknown = sym e ∙ past-operation g i (omega arith) in let y : _≡_ {A = ℕ} 0 1 = cc in absurd (omega arith)
 
-  keeps : Keeps (machineOf g capacity cells) KeyFits (SFits w32) (λ c. c < cells)
+  pub keeps : Keeps (machineOf g capacity cells) KeyFits (SFits w32) (λ c. c < cells)
   keeps = keeps-asked g capacity cells KeyFits (SFits w32) (λ c. c < cells) (λ τ (waits, keys). asked τ (keys 0 waits .0)) (record { sfits = omega arith })
     where
       asked : (τ : Tag) → Path τ → Asked g capacity cells KeyFits (SFits w32) (λ c. c < cells) τ (instructionAt g (τ .instruction))
@@ -156,7 +156,7 @@ module _ (graph : List ℕ) (bytes : Bytes graph) (passed : checkGraph graph ≡
 
   -- ---- from the inputs on
 
-  abbrev Fits : State Tag ℤ → Type 0
+  abbrev pub Fits : State Tag ℤ → Type 0
   Fits s = OfState (machineOf g capacity cells) KeyFits (SFits w32) (λ c. c < cells) s
 
   -- an input is live: it names no cell
@@ -171,7 +171,7 @@ module _ (graph : List ℕ) (bytes : Bytes graph) (passed : checkGraph graph ≡
       let k = f .0 in
       ((((k .path, k .iteration), k .instruction, k .port), content-fits (t .content) (k .content) (h .0)), inputs-fit ts (f .1) (h .1))
 
-  start-fits : (inputs : List ℕ) → Bytes inputs → Start (machineOf g capacity cells) (firstState inputs cells) → Fits (firstState inputs cells)
+  pub start-fits : (inputs : List ℕ) → Bytes inputs → Start (machineOf g capacity cells) (firstState inputs cells) → Fits (firstState inputs cells)
   unfolding firstState
   start-fits inputs b s = record {
     tokens = inputs-fit (allRows tokenWidth Tokens.decode inputs) (rows-fit TokenFits Tokens.decode token-fits tokenWidth (length inputs / tokenWidth) inputs b) (s .allLive);
@@ -186,7 +186,7 @@ module _ (graph : List ℕ) (bytes : Bytes graph) (passed : checkGraph graph ≡
     content-record (spent v) h = h
     content-record (deferred c) h = omega arith
 
-    token-records : (ts : List (Token Tag ℤ)) → Each (OfToken (machineOf g capacity cells) KeyFits (SFits w32) (λ c. c < cells)) ts → All TokenFits (map tokenRecord ts)
+    pub token-records : (ts : List (Token Tag ℤ)) → Each (OfToken (machineOf g capacity cells) KeyFits (SFits w32) (λ c. c < cells)) ts → All TokenFits (map tokenRecord ts)
     token-records [] h = tt
     token-records (t ∷ ts) h =
         let k = h .0 .0 in
@@ -197,7 +197,7 @@ module _ (graph : List ℕ) (bytes : Bytes graph) (passed : checkGraph graph ≡
   cell-record waiting h = tt
   cell-record (present v) h = h
 
-  cell-records : (xs : List (Cell ℤ)) → Each (OfCell (machineOf g capacity cells) KeyFits (SFits w32) (λ c. c < cells)) xs → All CellFits (map cellRecord xs)
+  pub cell-records : (xs : List (Cell ℤ)) → Each (OfCell (machineOf g capacity cells) KeyFits (SFits w32) (λ c. c < cells)) xs → All CellFits (map cellRecord xs)
   cell-records [] h = tt
   cell-records (x ∷ xs) h = (cell-record x (h .0), cell-records xs (h .1))
 
@@ -220,7 +220,7 @@ ended-fits graph graphBytes passed capacity cells few inputs inputBytes begun e 
       cellCount = length-map (x .cells) cellRecord ∙ good .cellCount;
     }
 
-none-fits : (r : Refusal) (p capacity count : ℕ) → AllFit (refusedAtOnce r p) capacity count
+pub none-fits : (r : Refusal) (p capacity count : ℕ) → AllFit (refusedAtOnce r p) capacity count
 none-fits r p capacity count = record { tokens = tt; cells = tt; room = omega arith; cellCount = tt }
 
 module _ (graph inputs : List ℕ) (ledger cells : ℕ) (graphBytes : Bytes graph) (inputBytes : Bytes inputs) where

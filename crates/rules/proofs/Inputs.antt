@@ -132,7 +132,7 @@ module _ (g : List Instruction) (capacity cells : ℕ) where
       when-no (sameKey M (tokenHeld t .key) (tokenHeld u .key)) _ _ (λ e. falseTrue (sym (h 0 (omega arith)) ∙ stands-there t u e))
       ∙ not-found d t us (λ k l. h (suc k) (omega arith))
 
-  all-different : (d : Token) (ts : List Token) → ((k : ℕ) → k < length ts → Alone (take k ts) (getD ts k d)) → Distinct M (map tokenHeld ts)
+  pub all-different : (d : Token) (ts : List Token) → ((k : ℕ) → k < length ts → Alone (take k ts) (getD ts k d)) → Distinct M (map tokenHeld ts)
   all-different d [] h = tt
   all-different d (t ∷ ts) h = (
     not-found d t ts (λ k l. neither (standsAt (getD ts k d .tag) (getD ts k d .port) t) _ (h (suc k) (omega arith)) .0),

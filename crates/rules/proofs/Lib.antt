@@ -31,3 +31,10 @@ pub mod ExpressionAccepted
 pub mod Expression
 pub mod ExpressionPut
 pub mod ExpressionSizes
+pub mod Paths
+pub mod Rows
+pub mod Written
+pub mod Saved
+pub mod Parts
+pub mod Resumed
+pub mod SavedCases

@@ -10,6 +10,7 @@ use lib.ListN.{length}
 use lib.IntN.{ℤ}
 use Rattle.record.specs.declared.tag.Tag.{Tag}
 use Rattle.record.specs.declared.token.Token as Record
+use Rattle.record.specs.declared.instruction.Instruction.{Instruction}
 use Rattle.buffer.specs.Rows.{All, whole}
 use Rattle.record.specs.GraphRecords.{graphOf}
 use Rattle.record.specs.TokensAndTags.{mostTokens, capacityOf}
@@ -46,40 +47,32 @@ same-length n m p q e = omega arith
 pub same-cells : (n m : ℕ) → n % cellWidth ≡ 0 → m % cellWidth ≡ 0 → n / cellWidth ≡ m / cellWidth → n ≡ m
 same-cells n m p q e = omega arith
 
--- ---- runs from inputs that passed
+-- ---- ends as records
 
-module _ (graph inputs : List ℕ) (capacity cells : ℕ) (few : capacity ≤ 2048) (a : Accepted graph inputs capacity) where
-  abbrev M : Machine
-  M = machineOf (graphOf graph) capacity cells
-
-  abbrev s : State Tag ℤ
-  s = firstState inputs cells
+module _ (g : List Instruction) (capacity cells : ℕ) where
+  abbrev M₀ : Machine
+  M₀ = machineOf g capacity cells
 
   -- keys that differ in the machine differ as records
-  others : (t : Token Tag ℤ) (us : List (Token Tag ℤ)) → find M (t .key) us ≡ none
+  others : (t : Token Tag ℤ) (us : List (Token Tag ℤ)) → find M₀ (t .key) us ≡ none
       → All (λ (u : Record.Token). t .key .tag ≡ u .tag → t .key .port ≡ u .port → ⊥) (map tokenRecord us)
   others t [] e = tt
-  others t (u ∷ us) e = go (sameKey M (t .key) (u .key)) (λ h. others t us h) e
+  others t (u ∷ us) e = go (sameKey M₀ (t .key) (u .key)) (λ h. others t us h) e
     where
       Apart : Type 0
       Apart = All (λ (v : Record.Token). t .key .tag ≡ v .tag → t .key .port ≡ v .port → ⊥) (map tokenRecord us)
 
-      go : (d : Dec (t .key ≡ u .key)) → (find M (t .key) us ≡ none → Apart) → when d (some (u .content)) (find M (t .key) us) ≡ none
+      go : (d : Dec (t .key ≡ u .key)) → (find M₀ (t .key) us ≡ none → Apart) → when d (some (u .content)) (find M₀ (t .key) us) ≡ none
           → (t .key .tag ≡ u .key .tag → t .key .port ≡ u .key .port → ⊥) × Apart
       go (yes p) rest h = noneSome (sym h)
       go (no n) rest h = (λ p q. n (keyPath p q), rest h)
 
-  once : (ts : List (Token Tag ℤ)) → Distinct M ts → EachOnce (map tokenRecord ts)
+  once : (ts : List (Token Tag ℤ)) → Distinct M₀ ts → EachOnce (map tokenRecord ts)
   once [] d = tt
   once (t ∷ ts) d = (others t ts (d .0), once ts (d .1))
 
-  end : (picks : List ℕ) → Good M (run M 2048 picks s .state)
-  end picks =
-      let e = reached-picks M s 2048 picks in
-      reached-good M (law graph inputs capacity cells a) s (good graph inputs capacity cells a) (e .done) (e .sent) _ (e .reached)
-
   -- of ends that the machine's theorem compares
-  pub alike-ends : (d e : End Refusal Tag ℤ) → Distinct M (d .state .tokens) → Ends.Alike d e → Alike (ranTo d) (ranTo e)
+  pub alike-ends : (d e : End Refusal Tag ℤ) → Distinct M₀ (d .state .tokens) → Ends.Alike d e → Alike (ranTo d) (ranTo e)
   unfolding answer
   alike-ends d e distinct z = record {
     firings = z .firings;
@@ -89,6 +82,20 @@ module _ (graph inputs : List ℕ) (capacity cells : ℕ) (few : capacity ≤ 20
     eachOnce = once (d .state .tokens) distinct;
   }
 
+-- ---- runs from inputs that passed
+
+module _ (graph inputs : List ℕ) (capacity cells : ℕ) (few : capacity ≤ 2048) (a : Accepted graph inputs capacity) where
+  abbrev M : Machine
+  M = machineOf (graphOf graph) capacity cells
+
+  abbrev s : State Tag ℤ
+  s = firstState inputs cells
+
+  end : (picks : List ℕ) → Good M (run M 2048 picks s .state)
+  end picks =
+      let e = reached-picks M s 2048 picks in
+      reached-good M (law graph inputs capacity cells a) s (good graph inputs capacity cells a) (e .done) (e .sent) _ (e .reached)
+
   agree : (picks picks′ : List ℕ) → Agree (ranTo (run M 2048 picks s)) (ranTo (run M 2048 picks′ s))
   agree picks picks′ =
       let lawful = law graph inputs capacity cells a in
@@ -97,7 +104,7 @@ module _ (graph inputs : List ℕ) (capacity cells : ℕ) (few : capacity ≤ 20
       record {
         completes = same .completes;
         hangs = same .hangs;
-        alike = λ c. alike-ends (run M 2048 picks s) (run M 2048 picks′ s) (end picks .distinct) (same .alike c);
+        alike = λ c. alike-ends (graphOf graph) capacity cells (run M 2048 picks s) (run M 2048 picks′ s) (end picks .distinct) (same .alike c);
         refused = refuses M lawful s first 2048 picks picks′ few;
         neverSpent = neverSpent M lawful s first 2048 picks few;
       }
@@ -131,7 +138,7 @@ allowed-orders graph inputs picks picks′ ledger ledger′ cells cells′ a b c
     rw (← l, ← k) (unfolded graph inputs picks picks′ ledger cells a b′ (check graph inputs picks ledger cells) refl)
 
 -- two runs that are refused before any firing
-both-refused : {x y : Result} (q r : Refusal) (m n : ℕ) → x ≡ refusedAtOnce q m → y ≡ refusedAtOnce r n → Agree x y
+pub both-refused : {x y : Result} (q r : Refusal) (m n : ℕ) → x ≡ refusedAtOnce q m → y ≡ refusedAtOnce r n → Agree x y
 both-refused q r m n e f = rw (e, f) (record { completes = (λ h. h, λ h. h); hangs = (λ h. h, λ h. h); alike = λ h. absurd h; refused = (λ h. h, λ h. h); neverSpent = λ h. h })
 
 -- a graph that fails its check is refused whatever else is lent, and so are inputs that are not whole records

@@ -53,7 +53,7 @@ module _ (graph inputs : List ℕ) (capacity cells : ℕ) (few : capacity ≤ 20
       record {
         rests = rw (h .outcome) (ending-rests M (profile M ProfileFull left 0 s .ended .state));
         outcome = ap outcomeOf (z .outcome);
-        alike = alike-ends graph inputs capacity cells few a _ _ (firesGood M lawful s first (p .log) _ (p .logged .fires) .distinct) z;
+        alike = alike-ends (graphOf graph) capacity cells _ _ (firesGood M lawful s first (p .log) _ (p .logged .fires) .distinct) z;
         firings = h .firings ∙ zero-add _;
         eachFires = p .eachFires;
       }

@@ -41,7 +41,7 @@ use Rattle.rules.proofs.Accepted.{accepted, by-check}
 -- ---- every token stands at a port of the graph
 
 module _ (g : List Instruction) where
-  abbrev AtPort : Key Tag → Type 0
+  abbrev pub AtPort : Key Tag → Type 0
   AtPort k = k .port < operandsAt g (k .tag .instruction)
 
   arcs-in : (τ : Tag) (ds : List Destination) → all (goodArc g) ds ≡ true → Each AtPort (map (keyUnder τ) ds)
@@ -89,7 +89,7 @@ module _ (graph : List ℕ) (passed : checkGraph graph ≡ Passed) (capacity cel
         computed = λ o a b v e. tt;
       }
 
-  keeps : Keeps M (AtPort g) Any Any
+  pub keeps : Keeps M (AtPort g) Any Any
   keeps = keeps-asked g capacity cells (AtPort g) Any Any (λ τ (waits, keys). asked τ (inside (τ .instruction) 0 (keys 0 waits))) tt
 
   -- ---- what is proper for the machine is proper

@@ -21,3 +21,6 @@ pub mod Needs
 pub mod Capacity
 pub mod Expression
 pub mod ExpressionCases
+pub mod Saved
+pub mod Parts
+pub mod SavedCases

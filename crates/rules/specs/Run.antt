@@ -46,6 +46,11 @@ tokenHeld t = record { key = record { tag = t .tag; port = t .port }; content = 
 abbrev pub tokenRecord : Token Tag ℤ → Record.Token
 tokenRecord t = record { tag = t .key .tag; port = t .key .port; content = contentRecord (t .content) }
 
+abbrev pub cellHeld : RecordCell.Cell → Cell ℤ
+cellHeld Absent = absent
+cellHeld Waiting = waiting
+cellHeld (Present v) = present v
+
 abbrev pub cellRecord : Cell ℤ → RecordCell.Cell
 cellRecord absent = Absent
 cellRecord waiting = Waiting

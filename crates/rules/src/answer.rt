@@ -23,6 +23,7 @@ pub enum Refusal {
     ProfileFull,
     NotLoopFree,
     NotEnabled,
+    DamagedState,
     BadExpression,
     GraphTooLong,
 }
@@ -112,6 +113,7 @@ pub fn number(r: Refusal) -> u8
         Refusal::ProfileFull => 18,
         Refusal::NotLoopFree => 19,
         Refusal::NotEnabled => 20,
+        Refusal::DamagedState => 24,
         Refusal::BadExpression => 25,
         Refusal::GraphTooLong => 26,
     }

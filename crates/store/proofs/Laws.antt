@@ -15,7 +15,7 @@ use Rattle.store_flags.specs.Flags.{places, flagsOf, Counted}
 use Rattle.store_flags.proofs.Laws.{zero-at}
 use Rattle.store_flags.proofs.Words.{none-set, counted-none}
 use Rattle.store_chains.specs.Chains.{bucketKey}
-use Rattle.store_chains.specs.Deferred.{LowCell, cellKey}
+use Rattle.store_chains.specs.Deferred.{LowCell, cellKey, Waiting}
 use Rattle.store_chains.proofs.Chains.{chained-none}
 use Rattle.store_enabled.specs.Enabled.{leads, enabledPlaces}
 use Rattle.store_enabled.specs.Store.{Known, Stored}
@@ -99,3 +99,7 @@ module _ {tables links flags ledger : List ℕ} {used : ℕ} (m : Matching table
   pub matching-cells : All (λ (t : Token). LowCell (t .content)) (tokens used ledger)
   unfolding Inside
   matching-cells = m .inside .cells
+
+  pub matching-deferred : Waiting links (tokens used ledger)
+  unfolding Inside
+  matching-deferred = m .inside .deferred

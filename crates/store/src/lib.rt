@@ -16,7 +16,7 @@ ghost use Rattle.record.specs.Widths.{tokenWidth};
 ghost use Rattle.store_flags.specs.Flags.{places, flagsOf, Counted};
 ghost use Rattle.store_chains.specs.Search.{firstFrom, Within, Free};
 ghost use Rattle.store_chains.specs.Deferred as Deferred;
-ghost use Rattle.store_enabled.specs.Store.{Known, enabledAt, Operands, statesSpent, tokensSpent};
+ghost use Rattle.store_enabled.specs.Store.{Known, enabledAt, Standing, Operands, statesSpent, tokensSpent};
 ghost use Rattle.store.specs.Matching.{Matching};
 
 // The first token that stands at a port of a tag.
@@ -72,6 +72,21 @@ pub fn arrive(
     ensures { λ _. ⌜ Matching (now (tables .entry)) (now (links .exit)) (now (flags .exit)) (now (ledger .exit)) (used + 1) ⌝ }
 {
     store_enabled::append(tables, links, flags, ledger, used, t);
+}
+
+// The token that stands in record `used` already arrives, and nothing is written.
+pub fn enter(
+    tables: &[u16; 512],
+    links: &mut [u16; 9216],
+    flags: &mut [u64; 69],
+    ledger: &[u8],
+    used: usize,
+    t: Token,
+)
+    requires { ⌜ Matching (now tables) (now links) (now flags) (now ledger) used × (used < length (now ledger) / tokenWidth) × (used < 2048) × Standing (now tables) (now ledger) used t × Deferred.LowCell (t .content) × Free (tokens used (now ledger)) (t .tag) (t .port) ⌝ }
+    ensures { λ _. ⌜ Matching (now (tables .entry)) (now (links .exit)) (now (flags .exit)) (now (ledger .entry)) (used + 1) ⌝ }
+{
+    store_enabled::enter(tables, links, flags, ledger, used, t);
 }
 
 // The operands of an enabled activity are spent; where one is waited for, both places are its place. They were live, so
@@ -138,4 +153,12 @@ pub fn wake(
         at = store_chains::wide(links[i + store_chains::LATER]);
     }
     links[head] = 0;
+}
+
+// Whether a token is deferred on a cell.
+pub fn any_deferred(links: &[u16; 9216], cell: usize) -> bool
+    requires { ⌜ cell < 1024 ⌝ }
+    ensures { λ r. ⌜ ((tables flags ledger : List ℕ) (used : ℕ) → Matching tables (now (links .entry)) flags ledger used → r ≡ Deferred.anyOn cell (tokens used ledger)) ⌝ }
+{
+    links[cell + store_chains::WAITING] != 0
 }

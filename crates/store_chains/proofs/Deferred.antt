@@ -1,7 +1,7 @@
 -- Laws of the chains of deferred tokens: a walk along that of a cell wakes every token deferred on it. Assumes nothing.
 use Prim.Native.Nat.{ℕ, zero, suc, _+_, _-_, _≤_, _<_}
 use mathlib.Core.Path.{_≡_, refl, sym, ap, _∙_}
-use mathlib.Core.Bool.{Bool, true, false, cond}
+use mathlib.Core.Bool.{Bool, true, false, not, _||_, cond}
 use mathlib.Core.List.{List, [], _∷_, _++_, map, append-assoc, append-nil}
 use native.Mathlib.Omega.{arith}
 use native.Mathlib.Nat.{not-suc-le-zero, le-of-suc-le-suc, le-of-lt}
@@ -14,7 +14,7 @@ use Rattle.record.specs.declared.token.Token.{Token}
 use Rattle.record.specs.declared.token.Content.{Content}
 use Rattle.record.specs.declared.token.Content.the-variants.{Live, Spent, Deferred}
 use Rattle.store_chains.specs.Chains.{lastBelow, part, Linked, Chained}
-use Rattle.store_chains.specs.Deferred.{keyOf, cellKey, Waiting, contentWoken, woken}
+use Rattle.store_chains.specs.Deferred.{keyOf, cellKey, anyOn, Waiting, contentWoken, woken}
 use Rattle.store_chains.proofs.Parts.{part-set, part-before}
 use Rattle.store_chains.proofs.Chains.{last-same, last-none, key-at, walk-first, on-first, walk-next, next-below, on-next}
 use Rattle.store_chains.specs.Walks.{On}
@@ -200,3 +200,44 @@ module _ (cell : ℕ) (v : ℤ) (ts : List Token) where
   waiting-woken links low w =
       rw (part-set 6144 1024 links cell 0 low, part-before 7168 2048 links (cell + 6144) 0 (omega arith))
       (linked-woken (part 6144 1024 links) (part 7168 2048 links) low w)
+
+-- ---- a chain that is not empty
+
+-- where no token is deferred on the cell, and where one is
+none-on : (cell : ℕ) (ts : List Token) → anyOn cell ts ≡ false → (i : ℕ) → i < length ts → eqb (getD (map cellKey ts) i 0) (suc cell) ≡ false
+none-on cell [] e i h = absurd (not-suc-le-zero h)
+none-on cell (t ∷ ts) e i h = go (eqb (cellKey t) (suc cell)) refl e i h (λ f j k. none-on cell ts f j k)
+  where
+    go : (b : Bool) → eqb (cellKey t) (suc cell) ≡ b → b || anyOn cell ts ≡ false → (i : ℕ) → i < suc (length ts)
+        → (anyOn cell ts ≡ false → (j : ℕ) → j < length ts → eqb (getD (map cellKey ts) j 0) (suc cell) ≡ false) → eqb (getD (map cellKey (t ∷ ts)) i 0) (suc cell) ≡ false
+    go true q f j k rec = let z : _≡_ {A = ℕ} 0 1 = cc in absurd (omega arith)
+    go false q f zero k rec = q
+    go false q f (suc j) k rec = rec f j (le-of-suc-le-suc k)
+
+some-on : (cell : ℕ) (ts : List Token) → anyOn cell ts ≡ true → (i : ℕ) × (i < length ts) × (getD (map cellKey ts) i 0 ≡ suc cell)
+some-on cell [] e = let z : _≡_ {A = ℕ} 0 1 = cc in absurd (omega arith)
+some-on cell (t ∷ ts) e = go (eqb (cellKey t) (suc cell)) refl e (λ h. some-on cell ts h)
+  where
+    go : (b : Bool) → eqb (cellKey t) (suc cell) ≡ b → b || anyOn cell ts ≡ true → (anyOn cell ts ≡ true → (i : ℕ) × (i < length ts) × (getD (map cellKey ts) i 0 ≡ suc cell))
+        → (i : ℕ) × (i < length (t ∷ ts)) × (getD (map cellKey (t ∷ ts)) i 0 ≡ suc cell)
+    go true q f rec = (0, omega arith, eqb-true (cellKey t) (suc cell) q)
+    go false q f rec = let (i, h, k) = rec f in (suc i, omega arith, k)
+
+last-some : (b : ℕ) (ks : List ℕ) (n i : ℕ) → i < n → getD ks i 0 ≡ b → 0 < lastBelow b ks n
+last-some b ks zero i h e = absurd (omega arith)
+last-some b ks (suc n) i h e = go (eqb (getD ks n 0) b) refl (λ k. last-some b ks n i k e)
+  where
+    go : (t : Bool) → eqb (getD ks n 0) b ≡ t → (i < n → 0 < lastBelow b ks n) → 0 < cond t (suc n) (lastBelow b ks n)
+    go true q rec = omega arith
+    go false q rec = rec (let z = eqb-false (getD ks n 0) b q in below (eqb i n) refl z)
+      where
+        below : (s : Bool) → eqb i n ≡ s → (getD ks n 0 ≡ b → ⊥) → i < n
+        below true w z = absurd (z (rw (← eqb-true i n w) e))
+        below false w z = omega (arith, eqb-false i n w)
+
+pub any-on : (cell : ℕ) (links : List ℕ) (ts : List Token) → Waiting links ts → cell < 1024 → not (eqb (getD links (cell + 6144) 0) 0) ≡ anyOn cell ts
+any-on cell links ts w small = rw (walk-first 6144 1024 cellKey links ts w cell small) (go (anyOn cell ts) refl)
+  where
+    go : (b : Bool) → anyOn cell ts ≡ b → not (eqb (lastBelow (suc cell) (map cellKey ts) (length ts)) 0) ≡ b
+    go false e = rw (last-none (suc cell) (map cellKey ts) (length ts) (none-on cell ts e))
+    go true e = let (i, h, k) = some-on cell ts e in rw (ne-eqb (lastBelow (suc cell) (map cellKey ts) (length ts)) 0 (λ z. omega (arith, last-some (suc cell) (map cellKey ts) (length ts) i h k)))

@@ -1,7 +1,7 @@
 -- Tokens that are deferred on a cell, and what a write of the cell makes of them. Assumes nothing.
 use Prim.Native.Nat.{ℕ, suc, _<_}
-use mathlib.Core.Bool.{cond}
-use mathlib.Core.List.{List}
+use mathlib.Core.Bool.{Bool, false, _||_, cond}
+use mathlib.Core.List.{List, [], _∷_}
 use lib.Dec.{eqb}
 use lib.IntN.{ℤ}
 use Rattle.record.specs.declared.token.Token.{Token}
@@ -33,6 +33,11 @@ keyOf (Deferred cell) = suc cell
 
 abbrev pub cellKey : Token → ℕ
 cellKey t = keyOf (t .content)
+
+-- a token is deferred on the cell
+abbrev pub anyOn : (cell : ℕ) → List Token → Bool
+anyOn cell [] = false
+anyOn cell (t ∷ ts) = eqb (cellKey t) (suc cell) || anyOn cell ts
 
 abbrev pub Waiting : (links : List ℕ) → List Token → Type 0
 Waiting links ts = Chained 6144 1024 cellKey links ts

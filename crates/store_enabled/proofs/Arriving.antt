@@ -134,6 +134,10 @@ pub none-live : (n : ℕ) (ts : List Token) (tag : Tag) → n ≡ 0 → allLive 
 unfolding allLive
 none-live n ts tag e = rw e
 
+and-false : (x : Bool) → (x && false) ≡ false
+and-false true = refl
+and-false false = refl
+
 -- the record at i is the first on a port of a tag, and `other` is what the other port has
 module _ (tag : Tag) (port i n : ℕ) (m : List ℕ) (h : i < n) (low : port < 2) (own : firstFrom (standsAt tag port) 0 (tokens n m) ≡ At i) (other : Found) (found : other ≡ firstFrom (standsAt tag (1 - port)) 0 (tokens n m)) where
   abbrev at : (port : ℕ) → Found
@@ -167,3 +171,19 @@ module _ (tag : Tag) (port i n : ℕ) (m : List ℕ) (h : i < n) (low : port < 2
       go : (b : Bool) → cond b (readyOf k (live (At i)) (live other)) (readyOf k (live other) (live (At i))) ≡ readyOf k (live (cond b (At i) other)) (live (cond b other (At i)))
       go true = refl
       go false = refl
+
+  -- one that is not live enables nothing, if it is on port 0 where one operand is waited for
+  pub own-waits : (k : ℕ) → (k ≡ 1 → port ≡ 0) → isLive (tokenAt m i .content) ≡ false → allLive k (tokens n m) tag ≡ false
+  own-waits k alone off = sym (own-ready k) ∙ rw off (go (eqb port 0) refl (eqb k 1) refl (eqb k 2))
+    where
+      x : Bool
+      x = liveFound (tokenAt m) other
+
+      go : (b : Bool) → eqb port 0 ≡ b → (one : Bool) → eqb k 1 ≡ one → (two : Bool)
+          → cond b (cond one false (cond two (false && x) false)) (cond one x (cond two (x && false) false)) ≡ false
+      go true e true f two = refl
+      go true e false f true = refl
+      go true e false f false = refl
+      go false e true f two = absurd (omega (arith, eqb-false port 0 e, alone (eqb-true k 1 f)))
+      go false e false f true = and-false x
+      go false e false f false = refl

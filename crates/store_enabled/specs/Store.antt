@@ -6,7 +6,7 @@ use mathlib.Core.Bool.{Bool, true, false, _&&_, cond}
 use mathlib.Core.List.{List}
 use lib.ListN.{length, getD, set, take}
 use lib.Dec.{eqb, ltb}
-use Rattle.buffer.specs.Rows.{joined, All}
+use Rattle.buffer.specs.Rows.{joined, putRow, All}
 use Rattle.record.specs.TokensAndTags.{encode, tokens, tokenAt, standsAt, TokenFits}
 use Rattle.record.specs.declared.tag.Tag.{Tag}
 use Rattle.record.specs.declared.token.Token.{Token}
@@ -17,7 +17,7 @@ use Rattle.store_chains.specs.declared.Found.{Found}
 use Rattle.store_chains.specs.declared.Found.the-variants.{At, Nothing}
 use Rattle.store_chains.specs.Chains.{Indexed}
 use Rattle.store_chains.specs.Search.{firstFrom}
-use Rattle.store_enabled.specs.Enabled.{isLive, isEnabled, tagsOf, tagSame, placeOf, spentToken}
+use Rattle.store_enabled.specs.Enabled.{isLive, arityOf, isEnabled, tagsOf, tagSame, placeOf, spentToken}
 
 -- a ledger whose used records are indexed, and stand on ports 0 and 1
 pub record Known (links ledger : List ℕ) (used : ℕ) : Type 0 where
@@ -70,6 +70,16 @@ readyOf n a b = cond (eqb n 1) a (cond (eqb n 2) (a && b) false)
 -- the same, where a says it of a port below 2 and b of the other
 abbrev pub readyWith : (n port : ℕ) → (a b : Bool) → Bool
 readyWith n port a b = cond (eqb port 0) (readyOf n a b) (readyOf n b a)
+
+-- ---- a token that stands in its record already
+
+-- the bytes of record i are those of t, which is on port 0 or 1; where its activity waits for one operand, on port 0
+pub record Standing (tables ledger : List ℕ) (i : ℕ) (t : Token) : Type 0 where
+  pub same : tokenAt ledger i ≡ t
+  pub fits : TokenFits t
+  pub bytes : ledger ≡ putRow tokenWidth ledger i (encode t)
+  pub low : t .port < 2
+  pub alone : arityOf tables (t .tag) ≡ 1 → t .port ≡ 0
 
 -- ---- operands that are spent
 

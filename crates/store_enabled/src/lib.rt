@@ -17,7 +17,7 @@ ghost use Rattle.store_chains.specs.Search.{firstFrom, Within, Free};
 ghost use Rattle.store_chains.specs.Deferred.{LowCell, Waiting};
 ghost use Rattle.store_chains.specs.declared.Found.the-variants.{At};
 ghost use Rattle.store_enabled.specs.Enabled.{isLive, allLive, waitedFor, arityOf, placeOf};
-ghost use Rattle.store_enabled.specs.Store.{Known, Stored, raisedIf, placeOr, lower, liveFound, enabledAt, readyOf, readyWith, Operands, statesSpent, tokensSpent};
+ghost use Rattle.store_enabled.specs.Store.{Known, Stored, raisedIf, placeOr, lower, liveFound, enabledAt, readyOf, readyWith, Standing, Operands, statesSpent, tokensSpent};
 
 fn place_or(f: Found, other: usize) -> usize
     ensures { λ r. ⌜ r ≡ placeOr f other ⌝ }
@@ -187,6 +187,29 @@ pub fn append(
     store_chains::enter(links, used, t);
     let operands = arity(tables, tag);
     settle_arrived(flags, links, ledger, used, tag, t.port, operands);
+}
+
+// Enters the token t that stands in record `used` already, where none before it stands on its port of its tag. One that is not live
+// enables nothing.
+pub fn enter(
+    tables: &[u16; 512],
+    links: &mut [u16; 9216],
+    flags: &mut [u64; 69],
+    ledger: &[u8],
+    used: usize,
+    t: Token,
+)
+    requires { ⌜ Stored (now tables) (now links) (now flags) (now ledger) used × (used < length (now ledger) / tokenWidth) × (used < 2048) × Standing (now tables) (now ledger) used t × LowCell (t .content) × Free (tokens used (now ledger)) (t .tag) (t .port) ⌝ }
+    ensures { λ _. ⌜ tokens (used + 1) (now (ledger .entry)) ≡ tokens used (now (ledger .entry)) ++ t ∷ [] ⌝ }
+    ensures { λ _. ⌜ Stored (now (tables .entry)) (now (links .exit)) (now (flags .exit)) (now (ledger .entry)) (used + 1) ⌝ }
+    ensures { λ _. ⌜ (Waiting (now (links .entry)) (tokens used (now (ledger .entry))) → Waiting (now (links .exit)) (tokens (used + 1) (now (ledger .entry)))) ⌝ }
+{
+    let tag = t.tag;
+    store_chains::enter(links, used, t);
+    if live(ledger, Found::At(used)) {
+        let operands = arity(tables, tag);
+        settle_arrived(flags, links, ledger, used, tag, t.port, operands);
+    }
 }
 
 // Puts t, of the same tag and port, in the place of token i. What was live stays so, and so does a flag that was raised.

@@ -1,7 +1,7 @@
 //! The engine under test. Its answers stay packed as the C functions give them,
 //! so that a comparison sees every bit.
 
-use second::{Answer, Bounds, Outcome, Refusal};
+use second::{Answer, Bounds, Counts, Outcome, Refusal};
 
 /// The word of a completed run in a packed answer; a refused run has the
 /// refusal's number.
@@ -24,6 +24,20 @@ extern "C" {
         picks: *const u8,
         picks_len: usize,
         budget: u16,
+        ledger: *mut u8,
+        ledger_len: usize,
+        cells: *mut u8,
+        cells_len: usize,
+    ) -> u64;
+
+    fn ttda_carry_on(
+        graph: *const u8,
+        graph_len: usize,
+        picks: *const u8,
+        picks_len: usize,
+        budget: u16,
+        firings: u16,
+        tokens: u16,
         ledger: *mut u8,
         ledger_len: usize,
         cells: *mut u8,
@@ -109,7 +123,7 @@ extern "C" {
 
 /// Whether a word is the number of a refusal. Numbers 15 and 16 have left the table.
 pub fn is_refusal(word: u64) -> bool {
-    matches!(word, 1..=14 | 17..=20)
+    matches!(word, 1..=14 | 17..=20 | 24..=26)
 }
 
 /// The packed answer of a word with its firings, tokens and place.
@@ -154,6 +168,33 @@ pub fn run(
             picks.as_ptr(),
             picks.len(),
             budget,
+            ledger.as_mut_ptr(),
+            ledger.len(),
+            cells.as_mut_ptr(),
+            cells.len(),
+        )
+    }
+}
+
+/// Goes on from the state that ledger and cells hold; the answer is packed.
+pub fn carry_on(
+    graph: &[u8],
+    picks: &[u8],
+    budget: u16,
+    saved: Counts,
+    ledger: &mut [u8],
+    cells: &mut [u8],
+) -> u64 {
+    // SAFETY: as in `run`.
+    unsafe {
+        ttda_carry_on(
+            graph.as_ptr(),
+            graph.len(),
+            picks.as_ptr(),
+            picks.len(),
+            budget,
+            saved.firings,
+            saved.tokens,
             ledger.as_mut_ptr(),
             ledger.len(),
             cells.as_mut_ptr(),

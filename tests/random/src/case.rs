@@ -2,7 +2,7 @@
 
 use std::time::{Duration, Instant};
 
-use second::{Answer, Outcome, Refusal, LOG_RECORD, TOKEN_RECORD};
+use second::{Answer, Counts, Outcome, Refusal, LOG_RECORD, TOKEN_RECORD};
 
 use crate::conversions::Records;
 use crate::prng::Prng;
@@ -17,6 +17,16 @@ pub enum Call {
     Profile(usize),
     /// The replay of a log; picks and budget are not lent.
     Replay(Vec<u8>),
+    /// A run from a saved state; no inputs are lent.
+    CarryOn(State),
+}
+
+/// A saved state: ledger and cells with the counts.
+#[derive(Clone)]
+pub struct State {
+    pub saved: Counts,
+    pub ledger: Vec<u8>,
+    pub cells: Vec<u8>,
 }
 
 impl Call {
@@ -27,6 +37,7 @@ impl Call {
             Call::Logged(bytes) => format!("run with a log of {bytes} bytes"),
             Call::Profile(bytes) => format!("profile of {bytes} bytes"),
             Call::Replay(log) => format!("replay of {} bytes", log.len()),
+            Call::CarryOn(state) => format!("run from a state with {:?}", state.saved),
         }
     }
 }
@@ -172,8 +183,15 @@ impl Case {
         };
         let further_bytes = match self.call {
             Call::Profile(bytes) | Call::Logged(bytes) => bytes,
-            Call::Run | Call::Replay(_) => 0,
+            Call::Run | Call::Replay(_) | Call::CarryOn(_) => 0,
         };
+        if let Call::CarryOn(state) = &self.call {
+            return Buffers {
+                ledger: state.ledger.clone(),
+                cells: state.cells.clone(),
+                further: Vec::new(),
+            };
+        }
         Buffers {
             ledger: garbage(self.ledger_bytes),
             cells: garbage(self.cells_bytes),
@@ -195,6 +213,9 @@ impl Case {
                 return (profiled.answer, profiled.records);
             }
             Call::Replay(log) => second::replay(graph, inputs, log, ledger, cells),
+            Call::CarryOn(state) => {
+                second::carry_on(graph, picks, self.budget, state.saved, ledger, cells)
+            }
         };
         (answer, 0)
     }
@@ -211,6 +232,9 @@ impl Case {
             }
             Call::Profile(_) => return engine::profile(graph, inputs, ledger, cells, further),
             Call::Replay(log) => engine::replay(graph, inputs, log, ledger, cells),
+            Call::CarryOn(state) => {
+                engine::carry_on(graph, picks, self.budget, state.saved, ledger, cells)
+            }
         };
         (answer, 0)
     }
@@ -346,7 +370,7 @@ fn compare_printing(left: &Left, prng: &mut Prng) -> Result<(), String> {
     let number = engine::packed_answer(&left.answer);
     compare_text(number, &left.listing, &cells, prng)?;
     if prng.one_in(4) {
-        let word = [prng.below(24), prng.below(65_536), 98 + prng.below(6)][prng.below(3)] as u64;
+        let word = [prng.below(27), prng.below(65_536), 98 + prng.below(6)][prng.below(3)] as u64;
         let place = if prng.one_in(2) { 0 } else { prng.word() >> 48 };
         let counts = prng.word() >> 16 & 0xffff_ffff;
         let number = word | counts << 16 | place << 48;

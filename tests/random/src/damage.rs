@@ -47,7 +47,7 @@ pub fn set_field(bytes: &mut [u8], record: usize, field: usize, value: u8, prng:
     }
 }
 
-fn damage_graph(graph: &mut Vec<u8>, prng: &mut Prng) {
+pub fn damage_graph(graph: &mut Vec<u8>, prng: &mut Prng) {
     match prng.below(12) {
         0 | 1 => flip(graph, prng),
         2 | 3 => overwrite(graph, prng),
@@ -106,7 +106,7 @@ fn damage_inputs(inputs: &mut Vec<u8>, prng: &mut Prng) {
     }
 }
 
-fn damage_picks(picks: &mut Vec<u8>, prng: &mut Prng) {
+pub fn damage_picks(picks: &mut Vec<u8>, prng: &mut Prng) {
     match prng.below(4) {
         0 => picks.resize(2 * (2047 + prng.below(3)), 1),
         1 => picks.push(1),

@@ -16,11 +16,14 @@ mod damage;
 mod expressions;
 mod generate;
 mod logs;
+mod meetings;
 mod orders;
 mod prng;
 mod profiles;
 mod records;
+mod saved;
 mod shapes;
+mod states;
 mod tally;
 
 use std::fs;
@@ -47,6 +50,7 @@ struct Harness {
     runs: u64,
     profiles: u64,
     replays: u64,
+    carried: u64,
     bounds: u64,
     expressions: u64,
     groups: u64,
@@ -71,6 +75,10 @@ impl Harness {
             Call::Run | Call::Logged(_) => self.runs += 1,
             Call::Profile(_) => self.profiles += 1,
             Call::Replay(_) => self.replays += 1,
+            Call::CarryOn(_) => {
+                self.runs += 1;
+                self.carried += 1;
+            }
         }
         self.tally.count(case, &left);
         if let Err(reason) = result {
@@ -124,6 +132,7 @@ impl Harness {
         self.compare_bounds(&case, &ends);
         self.all_capacities(&ends, prng);
         self.all_conversions(&case, &ends[0].left);
+        self.all_states(&ends, prng);
         for _ in 0..2 {
             let mut case = case.clone();
             case.budget = [0, 1, 2, prng.below(40) as u16, 65_535][prng.below(5)];
@@ -344,6 +353,7 @@ fn main() -> ExitCode {
         runs: 0,
         profiles: 0,
         replays: 0,
+        carried: 0,
         bounds: 0,
         expressions: 0,
         groups: 0,
@@ -365,8 +375,8 @@ fn main() -> ExitCode {
 
 fn report(harness: &Harness) -> ExitCode {
     println!(
-        "seed {}: {} graphs, {} runs",
-        harness.seed, harness.groups, harness.runs
+        "seed {}: {} graphs, {} runs, {} of them from a saved state",
+        harness.seed, harness.groups, harness.runs, harness.carried
     );
     println!("pairs of orders compared: {}", harness.agreements);
     println!(

@@ -2,6 +2,7 @@
 //! graphs of arbitrary arcs.
 
 use crate::generate::{Generator, Size};
+use crate::meetings;
 use crate::prng::Prng;
 use crate::records::*;
 
@@ -65,9 +66,15 @@ fn draft(prng: &mut Prng) -> Drafted {
         67 => generated(prng, "large", LARGE),
         68 => long_loop(prng),
         69..=72 => extremes(prng),
-        73..=88 => changed(prng),
+        73..=75 => met(prng),
+        76..=88 => changed(prng),
         _ => arbitrary(prng),
     }
+}
+
+fn met(prng: &mut Prng) -> Drafted {
+    let (draft, cells) = meetings::draft(prng);
+    ("meeting", draft, cells)
 }
 
 fn changed(prng: &mut Prng) -> Drafted {

@@ -4,7 +4,7 @@ use layout::{LEAVE, OUT};
 use second::{Outcome, TOKEN_RECORD};
 
 use crate::case::{Call, Case, Left};
-use crate::{bounds, capacities, conversions, expressions, logs, profiles};
+use crate::{bounds, capacities, conversions, expressions, logs, meetings, profiles, saved};
 
 const NAMES: [(u8, &str); 27] = [
     (1, "COPY"),
@@ -83,6 +83,8 @@ pub struct Tally {
     deferred: u64,
     /// Tokens by the levels of their paths.
     levels: [u64; MOST_LEVELS + 1],
+    /// Runs refused by 9 where the token that has the port is deferred.
+    met_deferred: u64,
     largest: usize,
     profiles: Named,
     logged: Named,
@@ -91,6 +93,7 @@ pub struct Tally {
     capacities: Named,
     conversions: Named,
     expressions: Named,
+    saved: Named,
 }
 
 impl Tally {
@@ -110,6 +113,7 @@ impl Tally {
             root_leaves_deferred: 0,
             deferred: 0,
             levels: [0; MOST_LEVELS + 1],
+            met_deferred: 0,
             largest: 0,
             profiles: Named::new(&profiles::NAMES),
             logged: Named::new(&logs::RUN_NAMES),
@@ -118,6 +122,7 @@ impl Tally {
             capacities: Named::new(&capacities::NAMES),
             conversions: Named::new(&conversions::NAMES),
             expressions: Named::new(&expressions::NAMES),
+            saved: Named::new(&saved::NAMES),
         }
     }
 
@@ -130,6 +135,7 @@ impl Tally {
             }
             Call::Profile(_) => self.profiles.count(profiles::names(case, left)),
             Call::Replay(log) => self.replays.count(logs::replay_names(case, log, left)),
+            Call::CarryOn(_) => {}
         }
     }
 
@@ -143,6 +149,10 @@ impl Tally {
 
     pub fn count_conversion(&mut self, name: &'static str) {
         self.conversions.count(vec![name]);
+    }
+
+    pub fn count_saved(&mut self, names: Vec<&'static str>) {
+        self.saved.count(names);
     }
 
     pub fn count_expression(&mut self, names: Vec<&'static str>) {
@@ -162,6 +172,7 @@ impl Tally {
                 }
             }
         }
+        self.met_deferred += u64::from(meetings::meets_deferred(case, left));
         self.largest = self.largest.max(left.answer.tokens);
         for record in left.used().chunks_exact(TOKEN_RECORD) {
             self.count_token(case, record);
@@ -230,6 +241,8 @@ impl Tally {
         self.capacities.print(&mut lines);
         println!("conversions of old records:");
         self.conversions.print(&mut lines);
+        println!("saved states:");
+        self.saved.print(&mut lines);
         println!("expressions:");
         self.expressions.print(&mut lines);
         println!("further:");
@@ -239,6 +252,7 @@ impl Tally {
         for (levels, count) in self.levels.iter().enumerate() {
             lines.count(&format!("tokens at level {levels}"), *count);
         }
+        lines.count("9 at a deferred token", self.met_deferred);
         lines.count("most tokens of a run", self.largest as u64);
         lines.missing
     }

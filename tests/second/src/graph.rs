@@ -4,6 +4,7 @@ use std::collections::BTreeMap;
 use std::ops::RangeInclusive;
 
 use crate::arithmetic::Arithmetic;
+use crate::token::Token;
 use crate::{Refusal, GRAPH_RECORD};
 
 /// An operation of the table in 01.
@@ -128,6 +129,20 @@ impl Graph {
     /// The operand count of an instruction, `None` past the graph.
     pub fn operands(&self, instruction: usize) -> Option<u8> {
         self.instructions.get(instruction).map(|i| i.operands)
+    }
+
+    pub fn instruction_of(&self, token: &Token) -> &Instruction {
+        &self.instructions[usize::from(token.instruction)]
+    }
+
+    /// A token at an OUT is a result, under any tag, and so is one at a LEAVE under
+    /// path 0, where no caller is (02, R-5). Neither is ever enabled.
+    pub fn is_result(&self, token: &Token) -> bool {
+        match self.instruction_of(token).operation {
+            Operation::Out => true,
+            Operation::Leave => token.path == 0,
+            _ => false,
+        }
     }
 
     /// Refusal 5; the return of a new site is kept.

@@ -17,6 +17,7 @@ mod machine;
 mod places;
 mod printing;
 mod profile;
+mod saved;
 mod token;
 
 pub use bounds::{bounds, Bounds};
@@ -27,6 +28,7 @@ pub use listing::list;
 pub use log::{replay, run_logged};
 pub use printing::print;
 pub use profile::{profile, Profiled};
+pub use saved::{broken_conditions, carry_on, Condition, Counts};
 
 use std::collections::HashSet;
 
@@ -76,6 +78,15 @@ pub struct Answer {
 }
 
 impl Answer {
+    /// A refusal before anything is written.
+    fn refused_at_first(refusal: Refusal) -> Answer {
+        Answer {
+            outcome: Outcome::Refused(refusal),
+            firings: 0,
+            tokens: 0,
+        }
+    }
+
     /// The place of a refusal; 0 otherwise.
     pub fn place(&self) -> usize {
         match self.outcome {
@@ -93,11 +104,13 @@ impl Answer {
     }
 
     /// Whether the call was refused before its inputs were written, so that ledger and
-    /// cells stay as lent. These refusals are 1 to 9 without tokens: a firing has at
-    /// least one operand, and 18 and 20 come after the inputs, of which a replay may
+    /// cells stay as lent. These refusals are 1 to 9 without tokens, and 24: a firing has
+    /// at least one operand, and 18 and 20 come after the inputs, of which a replay may
     /// have none.
     pub fn refused_at_once(&self) -> bool {
-        self.refusal().is_some_and(|number| number <= 9) && self.tokens == 0
+        self.refusal()
+            .is_some_and(|number| number <= 9 || number == 24)
+            && self.tokens == 0
     }
 }
 
@@ -211,11 +224,7 @@ impl Lent<'_> {
     /// fault with what else is lent.
     fn accept(self, others_fit: bool, go: impl FnOnce(&mut Machine) -> Answer) -> Answer {
         match self.check(others_fit) {
-            Err(refusal) => Answer {
-                outcome: Outcome::Refused(refusal),
-                firings: 0,
-                tokens: 0,
-            },
+            Err(refusal) => Answer::refused_at_first(refusal),
             Ok((graph, tokens)) => {
                 let cell_count = self.cells.len() / CELL_RECORD;
                 let mut machine = Machine::new(&graph, self.capacity(), cell_count, &tokens);

@@ -52,16 +52,27 @@ struct Effect {
 impl<'a> Machine<'a> {
     /// An accepted run sets all cells absent and writes its inputs to the ledger.
     pub fn new(graph: &'a Graph, capacity: usize, cell_count: usize, inputs: &[Token]) -> Self {
+        Machine::resumed(graph, capacity, inputs, vec![Cell::Absent; cell_count])
+    }
+
+    /// The machine in a given state; a waiting cell has the positions of the tokens
+    /// deferred on it.
+    pub fn resumed(
+        graph: &'a Graph,
+        capacity: usize,
+        tokens: &[Token],
+        cells: Vec<Cell>,
+    ) -> Machine<'a> {
         let mut machine = Machine {
             graph,
             capacity,
             tokens: Vec::with_capacity(capacity),
             matching: HashMap::with_capacity_and_hasher(capacity, KeyHashing::default()),
             enabled: Places::new(),
-            cells: vec![Cell::Absent; cell_count],
+            cells,
             fired: Vec::with_capacity(capacity),
         };
-        for &token in inputs {
+        for &token in tokens {
             machine.append(token);
         }
         machine
@@ -128,7 +139,7 @@ impl<'a> Machine<'a> {
     /// result and none is deferred (02, R-2).
     pub fn rest(&self) -> Outcome {
         let proper = |token: &Token| match token.state {
-            State::Live => self.is_result(token),
+            State::Live => self.graph.is_result(token),
             State::Spent => true,
             State::Deferred => false,
         };
@@ -136,20 +147,6 @@ impl<'a> Machine<'a> {
             Outcome::Completed
         } else {
             Outcome::Hung
-        }
-    }
-
-    fn instruction_of(&self, token: &Token) -> &'a Instruction {
-        &self.graph.instructions[usize::from(token.instruction)]
-    }
-
-    /// A token at an OUT is a result, under any tag, and so is one at a LEAVE under
-    /// path 0, where no caller is (02, R-5). Neither is ever enabled.
-    fn is_result(&self, token: &Token) -> bool {
-        match self.instruction_of(token).operation {
-            Operation::Out => true,
-            Operation::Leave => token.path == 0,
-            _ => false,
         }
     }
 
@@ -192,7 +189,7 @@ impl<'a> Machine<'a> {
     /// The enabled activity at a place.
     fn activity(&self, place: usize) -> Activity {
         let token = &self.tokens[place];
-        let instruction = *self.instruction_of(token);
+        let instruction = *self.graph.instruction_of(token);
         let partner = (instruction.operands == 2).then(|| self.matching[&partner_key(token)]);
         let (left, right) = match partner {
             Some(partner) if token.port == 1 => (partner, Some(place)),
@@ -347,10 +344,10 @@ impl<'a> Machine<'a> {
     /// when it needs one, is live too. The place is that of the earliest operand.
     fn enable(&mut self, position: usize) {
         let token = &self.tokens[position];
-        if self.is_result(token) {
+        if self.graph.is_result(token) {
             return;
         }
-        if self.instruction_of(token).operands == 1 {
+        if self.graph.instruction_of(token).operands == 1 {
             self.enabled.insert(position);
         } else if let Some(&partner) = self.matching.get(&partner_key(token)) {
             if self.tokens[partner].state == State::Live {

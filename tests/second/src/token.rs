@@ -71,7 +71,7 @@ impl Token {
 }
 
 /// What names an activity.
-#[derive(Clone, Copy, Debug, PartialEq, Eq)]
+#[derive(Clone, Copy, Debug, PartialEq, Eq, Hash)]
 pub struct Tag {
     pub path: u128,
     pub iteration: u8,

@@ -23,7 +23,7 @@ const fn refusal(
 }
 
 #[rustfmt::skip]
-pub const TABLE: [Refusal; 20] = [
+pub const TABLE: [Refusal; 21] = [
     refusal(1, "graph length",
         "The graph has no instruction, more than 256, or its file is not in whole records of 16 bytes.",
         "Give 1 to 256 instructions."),
@@ -83,6 +83,9 @@ pub const TABLE: [Refusal; 20] = [
     refusal(20, "not enabled",
         "A record of the log names an activity that is not enabled, has no zero byte or is not whole.",
         "Replay a log with the graph and inputs it was made with; `dayomlak log` writes one."),
+    refusal(24, "damaged state",
+        "Ledger, cells and counts are not what a run of this graph can have left.",
+        "Carry on with the graph, ledger, cells and counts of the run that was stopped, unchanged."),
     refusal(25, "bad expression",
         "An expression is not 1 to 100 records of 8 bytes; or a record has a bad field, names a record that is not before it or that \
          was named already; or one that is not the last is never named.",

@@ -1,0 +1,11 @@
+-- `record::token::state_allowed` meets its contract. Assumes nothing.
+use borrow.Author.Needs.{needs}
+use Rattle.record.specs.TokensAndTags as Tokens
+use Rattle.record.proofs.token.state_allowed.Statement.{statement}
+use Rattle.record.proofs.token.state_allowed.Tie as tie
+
+pub state-allowed-spec : {M : Type 1} → statement M
+unfolding Tokens.stateAllowed
+state-allowed-spec = tie.close (tie.spec
+    (λ c κs. search needs)
+    (λ c. rw (c .u32-at .ensures)))
