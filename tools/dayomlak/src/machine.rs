@@ -59,7 +59,7 @@ impl End {
     pub fn text(&self) -> Result<Vec<u8>, Failure> {
         let listing = self.listing();
         let cells = self.cells.len() / CELL;
-        let mut room = vec![0; 74 + 56 * self.answer.tokens + 46 * cells];
+        let mut room = vec![0; 74 + 75 * self.answer.tokens + 46 * cells];
         match engine::print(self.answer.packed, &listing, &self.cells, &mut room) {
             0 | 1 => Err(Failure::Inconsistent(
                 "the engine prints no lines of its own answer".to_string(),
@@ -90,7 +90,7 @@ impl<'p> Machine<'p> {
     /// Runs and answers the activities in the order of their firing too.
     pub fn run_logged(&self, picks: &[u8], budget: u16) -> (End, Vec<Tag>) {
         let (end, log) = self.run_for_log(picks, budget);
-        (end, log.chunks_exact(LOGGED).map(Tag::logged).collect())
+        (end, log.chunks_exact(LOGGED).map(Tag::of).collect())
     }
 
     /// Runs and answers the records of the log too.

@@ -1,11 +1,11 @@
 //! The records that the engine writes: tokens, cells, the log and the profile. Numbers are little-endian.
 
 /// Bytes of a token record.
-pub const TOKEN: usize = 20;
+pub const TOKEN: usize = 28;
 /// Bytes of a cell record.
 pub const CELL: usize = 8;
 /// Bytes of a record of the log.
-pub const LOGGED: usize = 12;
+pub const LOGGED: usize = 20;
 /// Bytes of a record of the profile.
 pub const STEP: usize = 4;
 /// Most records of a ledger, of picks and of firings.
@@ -16,7 +16,8 @@ pub const MOST_CELLS: usize = 1024;
 /// What an activity is named by.
 #[derive(Clone, Copy, Debug, PartialEq, Eq, PartialOrd, Ord, Hash)]
 pub struct Tag {
-    pub path: u64,
+    /// The calls that led here, 16 bits each, the newest lowest.
+    pub path: u128,
     pub iteration: u8,
     pub instruction: u16,
 }
@@ -37,7 +38,7 @@ impl Tag {
     /// The same instruction in the call of a site.
     pub fn entered(self, site: u8) -> Tag {
         Tag {
-            path: self.path << 16 | u64::from(site) << 8 | u64::from(self.iteration),
+            path: self.path << 16 | u128::from(site) << 8 | u128::from(self.iteration),
             iteration: 0,
             ..self
         }
@@ -61,12 +62,12 @@ impl Tag {
         }
     }
 
-    /// The tag that a record of the log names.
-    pub fn logged(record: &[u8]) -> Tag {
+    /// The tag at the start of a record, of a token or of the log.
+    pub fn of(record: &[u8]) -> Tag {
         Tag {
-            path: u64::from_le_bytes(bytes(record, 0)),
-            iteration: record[8],
-            instruction: u16::from_le_bytes(bytes(record, 10)),
+            path: u128::from_le_bytes(bytes(record, 0)),
+            iteration: record[16],
+            instruction: u16::from_le_bytes(bytes(record, 18)),
         }
     }
 }
@@ -100,14 +101,10 @@ pub struct Token {
 impl Token {
     fn of(record: &[u8]) -> Token {
         Token {
-            tag: Tag {
-                path: u64::from_le_bytes(bytes(record, 0)),
-                iteration: record[8],
-                instruction: u16::from_le_bytes(bytes(record, 10)),
-            },
-            port: record[9],
-            value: i32::from_le_bytes(bytes(record, 12)),
-            state: match record[16] {
+            tag: Tag::of(record),
+            port: record[17],
+            value: i32::from_le_bytes(bytes(record, 20)),
+            state: match record[24] {
                 0 => State::Live,
                 1 => State::Spent,
                 _ => State::Deferred,
@@ -162,4 +159,53 @@ fn bytes<const N: usize>(record: &[u8], at: usize) -> [u8; N] {
     let mut bytes = [0; N];
     bytes.copy_from_slice(&record[at..at + N]);
     bytes
+}
+
+#[cfg(test)]
+mod tests {
+    use super::*;
+
+    /// Eight calls, of sites 1 to 8 from iterations 11 to 18, entered and left.
+    #[test]
+    fn eight_levels() {
+        let start = Tag {
+            path: 0,
+            iteration: 11,
+            instruction: 3,
+        };
+        let mut tag = start;
+        let mut calls = Vec::new();
+        for site in 1..=8 {
+            calls.push((site, tag.iteration));
+            tag = tag.entered(site);
+            assert_eq!((tag.calls(), tag.iteration), (calls.clone(), 0));
+            tag.iteration = 11 + site;
+        }
+        assert_eq!(tag.path, 0x010b_020c_030d_040e_050f_0610_0711_0812);
+        for (site, iteration) in calls.into_iter().rev() {
+            let (caller, left) = tag.left();
+            assert_eq!((left, caller.iteration), (site, iteration));
+            tag = caller;
+        }
+        assert_eq!(tag, start);
+    }
+
+    /// Each field by its bytes.
+    #[test]
+    fn a_token_record() {
+        let mut record: Vec<u8> = (1..=16).collect();
+        record.extend([17, 1, 4, 1, 0xfe, 0xff, 0xff, 0xff, 2, 0, 0, 0]);
+        let token = Token {
+            tag: Tag {
+                path: 0x100f_0e0d_0c0b_0a09_0807_0605_0403_0201,
+                iteration: 17,
+                instruction: 260,
+            },
+            port: 1,
+            value: -2,
+            state: State::Deferred,
+        };
+        assert_eq!(tokens(&record), [token]);
+        assert_eq!(Tag::of(&record), token.tag);
+    }
 }

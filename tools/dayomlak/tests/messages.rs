@@ -93,7 +93,7 @@ const REFUSED: [(u16, &str, &[&str]); 14] = [
     ),
     (
         6,
-        "a: OUT\ninput raw 01 00 00 00 00 00 00 00 00 00 00 00 00 00 00 00 00 00 00 00",
+        "a: OUT\ninput raw 01 00 00 00 00 00 00 00 00 00 00 00 00 00 00 00 00 00 00 00 00 00 00 00 00 00 00 00",
         &[],
     ),
     (
@@ -135,6 +135,27 @@ fn each_refusal_is_explained() {
     }
 }
 
+/// Eight calls of one site: a listing and a page have the path's decimal number, a trace has the name of each call.
+#[test]
+fn a_path_of_eight_levels() {
+    let text = "a: ENTER site 1 -> a return b\nb: OUT\ninput a = 7\n";
+    let path = (0..8).fold(0u128, |path, _| path * 65_536 + 256);
+    let done = typed(text, &["run", "-", "--listing"]);
+    let line = format!("\n{path} 0 0 0 7 live\n");
+    assert!(done.out.contains(&line), "{done:?}");
+    let done = typed(text, &["trace", "-"]);
+    assert!(
+        done.out.contains(&"a[0]/".repeat(8)) && !done.out.contains(&"a[0]/".repeat(9)),
+        "{done:?}"
+    );
+    let folder = Folder::new();
+    let page = folder.path("page.html");
+    typed(text, &["report", "-", "-o", &page]);
+    let page = std::fs::read_to_string(page).unwrap();
+    let words = format!("path {path}, iteration 0, instruction 0");
+    assert!(page.contains(&words), "{words}");
+}
+
 /// Refusals of inputs, of other results, and those that need files.
 #[test]
 fn other_forms_of_refusals() {
@@ -171,15 +192,15 @@ fn a_log_that_cannot_be_replayed() {
     let text = "a: ADD 1 -> b\nb: OUT\ninput a = 1\n";
     let folder = Folder::new();
     let file = folder.write("sum.ttda", text);
-    let mut damaged = [0; 12];
-    damaged[9] = 1;
+    let mut damaged = [0; 20];
+    damaged[17] = 1;
     let cases = [
         (
-            vec![0; 24],
+            vec![0; 40],
             "record 1 names `a[0]`, which is not enabled then",
         ),
-        (vec![0; 13], "record 1 has 1 bytes instead of 12"),
-        (damaged.to_vec(), "byte 9 of record 0 is not 0"),
+        (vec![0; 21], "record 1 has 1 bytes instead of 20"),
+        (damaged.to_vec(), "byte 17 of record 0 is not 0"),
     ];
     for (bytes, words) in cases {
         let log = folder.write("log", bytes);

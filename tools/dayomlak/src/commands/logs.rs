@@ -59,9 +59,9 @@ fn named(program: &Program, log: &[u8], record: usize) -> String {
                 bytes.len()
             )
         }
-        Some(bytes) if bytes[9] != 0 => format!("byte 9 of record {record} is not 0"),
+        Some(bytes) if bytes[17] != 0 => format!("byte 17 of record {record} is not 0"),
         Some(bytes) => {
-            let tag = Tag::logged(bytes);
+            let tag = Tag::of(bytes);
             format!(
                 "record {record} names `{}`, which is not enabled then",
                 program.tag(&tag)
