@@ -8,7 +8,6 @@ mod cli;
 mod commands;
 mod diagnostics;
 mod effects;
-mod engine;
 mod failure;
 mod graph;
 mod graphviz;

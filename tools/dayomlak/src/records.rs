@@ -1,17 +1,6 @@
 //! The records that the engine writes: tokens, cells, the log and the profile. Numbers are little-endian.
 
-/// Bytes of a token record.
-pub const TOKEN: usize = 28;
-/// Bytes of a cell record.
-pub const CELL: usize = 8;
-/// Bytes of a record of the log.
-pub const LOGGED: usize = 20;
-/// Bytes of a record of the profile.
-pub const STEP: usize = 4;
-/// Most records of a ledger, of picks and of firings.
-pub const MOST_RECORDS: usize = 2048;
-/// Most cells.
-pub const MOST_CELLS: usize = 1024;
+pub use ttda::widths::{CELL, LOGGED, MOST_CELLS, MOST_RECORDS, STEP, TOKEN};
 
 /// What an activity is named by.
 #[derive(Clone, Copy, Debug, PartialEq, Eq, PartialOrd, Ord, Hash)]
