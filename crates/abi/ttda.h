@@ -1,5 +1,5 @@
 /* The functions of target/staticlib/libabi.a, which `rt staticlib abi` makes. Numbers and
-   records are little-endian; README.md gives the formats. No function keeps a pointer, and each may be called from any
+   records are little-endian; docs/FORMATS.md gives the formats. No function keeps a pointer, and each may be called from any
    thread. No pointer may be NULL, even with length 0, and a buffer that is written must overlap no other of the same call. */
 #ifndef TTDA_H
 #define TTDA_H
