@@ -128,11 +128,15 @@ pub struct Trace {
 pub struct Profile {
     #[command(flatten)]
     pub file: File,
-    /// Draw the curves to an SVG file
+    /// Draw the curves to an SVG file, with what a run left
     #[arg(short, value_name = "X.svg")]
     pub output: Option<PathBuf>,
-    #[command(flatten)]
-    pub firing: Firing,
+    /// The order of that run, as for `dayomlak run`; only with -o
+    #[arg(long, value_name = "ORDER")]
+    pub order: Option<Order>,
+    /// The most firings of that run; only with -o
+    #[arg(long, value_name = "N")]
+    pub budget: Option<u16>,
     #[command(flatten)]
     pub buffers: Buffers,
 }

@@ -3,7 +3,6 @@
 
 mod activity;
 mod answer;
-mod cache;
 mod cli;
 mod commands;
 mod diagnostics;
@@ -18,7 +17,7 @@ mod newest;
 mod orders;
 mod output;
 mod pictures;
-mod plotter;
+mod profiles;
 mod program;
 mod records;
 mod refusals;

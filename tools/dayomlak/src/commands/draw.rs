@@ -15,7 +15,7 @@ pub fn draw(args: &Draw) -> Result<u8, Failure> {
         "{}\ngraph and inputs {}, not run\n{}",
         program.label,
         pictures::fingerprint(&program.files),
-        pictures::date(pictures::now())
+        plotter::date(plotter::now())
     );
     let text = dot::text(&program, &caption);
     let bytes = match args.dot {
