@@ -25,6 +25,7 @@ mod refused;
 mod report;
 mod results;
 mod second_token;
+mod sources;
 mod warnings;
 
 use std::process::ExitCode;

@@ -7,18 +7,20 @@ use crate::answer::Word;
 use crate::cli::{Log, Replay};
 use crate::failure::Failure;
 use crate::machine::{End, Machine};
+use crate::output::{self, Target};
 use crate::program::Program;
 use crate::records::{Tag, LOGGED};
-use crate::{diagnostics, output, refused};
+use crate::{diagnostics, refused};
 
 pub fn log(args: &Log) -> Result<u8, Failure> {
     let program = load(&args.file.file)?;
     let machine = Machine::new(&program, args.buffers.sizes());
+    let target = Target::new(&args.output, &program.sources)?;
     let picks = args.firing.order.picks(&machine)?;
     let (end, log) = machine.run_for_log(&picks, args.firing.budget);
-    output::write(&args.output, &log)?;
+    target.write(&log)?;
     let order = args.firing.order.words(!program.files.picks.is_empty());
-    output::print(answer(&machine, &end, &order).as_bytes())?;
+    target.say(&answer(&machine, &end, &order))?;
     Ok(status(&end))
 }
 

@@ -10,6 +10,7 @@ use crate::cli::Profile;
 use crate::failure::Failure;
 use crate::machine::{End, Machine, WHOLE};
 use crate::orders::Order;
+use crate::output::Target;
 use crate::program::Program;
 use crate::{output, pictures, profiles, refused, results};
 
@@ -51,6 +52,7 @@ fn show_table(args: &Profile) -> Result<u8, Failure> {
 fn draw(args: &Profile, path: &Path) -> Result<u8, Failure> {
     pictures::check_name(path)?;
     let program = load(&args.file.file)?;
+    let target = Target::new(path, &program.sources)?;
     let machine = Machine::new(&program, args.buffers.sizes());
     let order = args.order.unwrap_or(Order::Typed);
     let plot = profiles::plot(&machine, order, args.budget.unwrap_or(WHOLE))?;
@@ -74,13 +76,13 @@ fn draw(args: &Profile, path: &Path) -> Result<u8, Failure> {
     };
     let svg = plot.svg(&words);
     let svg = svg.map_err(|error| Failure::Inconsistent(format!("the picture: {error}")))?;
-    output::write(path, svg.as_bytes())?;
+    target.write(svg.as_bytes())?;
     let order = format!("{}, run of {}", plot.run.words(), plot.run.date());
     let mut text = answer(&machine, &end, &order);
     for line in plot.asked_for().iter().chain(&words.profile) {
         text += &format!("{line}\n");
     }
-    output::print(text.as_bytes())?;
+    target.say(&text)?;
     Ok(status(&end))
 }
 
