@@ -177,6 +177,9 @@ pub struct Log {
     /// Where the log goes
     #[arg(short, value_name = "LOG")]
     pub output: PathBuf,
+    /// Write the records alone, 20 bytes for each firing, which name no run
+    #[arg(long)]
+    pub records: bool,
     #[command(flatten)]
     pub firing: Firing,
     #[command(flatten)]
@@ -190,6 +193,9 @@ pub struct Replay {
     /// A log, as `dayomlak log` writes it
     #[arg(value_name = "LOG")]
     pub log: PathBuf,
+    /// Replay the log of another run: another graph, other inputs, another capacity or cell count
+    #[arg(long)]
+    pub anyway: bool,
     #[command(flatten)]
     pub buffers: Buffers,
     /// Print the listing, byte for byte as the program ttda does

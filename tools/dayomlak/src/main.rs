@@ -12,6 +12,7 @@ mod graph;
 mod graphviz;
 mod history;
 mod loads;
+mod log_file;
 mod machine;
 mod newest;
 mod orders;

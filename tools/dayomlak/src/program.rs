@@ -9,6 +9,7 @@ use asm::{disassemble, read, Files, Place, Span};
 use crate::diagnostics::{self, Finding};
 use crate::failure::Failure;
 use crate::graph::Graph;
+use crate::log_file;
 use crate::records::Tag;
 use crate::sources::Source;
 
@@ -59,6 +60,10 @@ impl Program {
 
     /// A typed graph. Its faults are shown.
     pub fn typed(label: &str, bytes: Vec<u8>) -> Result<Program, Failure> {
+        if bytes.starts_with(log_file::START.as_bytes()) {
+            let text = format!("{label} is a log\n  `dayomlak replay` takes it behind its graph");
+            return Err(Failure::Wrong(text));
+        }
         let text = String::from_utf8(bytes).map_err(|error| no_text(label, error.as_bytes()))?;
         match read(&text) {
             Ok(program) => Ok(Program {

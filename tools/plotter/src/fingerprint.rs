@@ -32,6 +32,14 @@ impl Fingerprint {
     pub fn digits(&self) -> String {
         self.0.iter().map(|byte| format!("{byte:02x}")).collect()
     }
+
+    /// The fingerprint of 64 digits, as `digits` writes them.
+    pub fn from_digits(digits: &str) -> Option<Fingerprint> {
+        let byte = |at: usize| u8::from_str_radix(digits.get(2 * at..2 * at + 2)?, 16).ok();
+        let bytes: Vec<u8> = (0..32).map(byte).collect::<Option<_>>()?;
+        let fingerprint = Fingerprint(bytes.try_into().ok()?);
+        (fingerprint.digits() == digits).then_some(fingerprint)
+    }
 }
 
 /// The first 16 digits, enough for a reader to tell two things apart.
@@ -153,5 +161,20 @@ mod tests {
         assert_ne!(one, Fingerprint::of_run(&[1], &[2, 3]));
         assert_eq!(one, Fingerprint::of_run(&[1, 2], &[3]));
         assert_eq!(one.to_string(), one.digits()[..16]);
+    }
+
+    #[test]
+    fn digits_are_read_back() {
+        let one = Fingerprint::of(b"abc");
+        let digits = one.digits();
+        assert_eq!(Fingerprint::from_digits(&digits), Some(one));
+        for wrong in [
+            &digits[1..],
+            &digits.to_uppercase(),
+            &format!("{digits}0"),
+            "",
+        ] {
+            assert_eq!(Fingerprint::from_digits(wrong), None, "{wrong}");
+        }
     }
 }
