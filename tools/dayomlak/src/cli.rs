@@ -12,8 +12,8 @@ use crate::orders::Order;
 #[command(name = "dayomlak", version, propagate_version = true)]
 #[command(
     after_help = "FILE is a typed graph (.ttda), a folder with the files graph, inputs and picks, or - for standard \
-    input.\nExit status: 0 completed; 1 hung, spent or refused; 2 a wrong command line or text; 3 a file that cannot be \
-    read or written.\n\nTry: dayomlak run sum.ttda"
+    input.\nExit status: 0 completed; 1 hung, spent or refused; 2 a wrong command line, text or log; 3 a file that \
+    cannot be read or written.\n\nTry: dayomlak run sum.ttda"
 )]
 pub struct Cli {
     #[command(subcommand)]
