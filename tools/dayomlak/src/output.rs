@@ -24,19 +24,22 @@ pub fn print(bytes: &[u8]) -> Result<(), Failure> {
 }
 
 /// Where a command writes what it makes.
-pub struct Target {
-    /// `None` for standard output.
-    file: Option<PathBuf>,
+pub enum Target {
+    Standard,
+    /// A device, a pipe or an open file, which is written as it is.
+    Device(PathBuf),
+    /// A file by its name, and by the one that links lead to.
+    File {
+        name: PathBuf,
+        file: PathBuf,
+    },
 }
 
 impl Target {
     /// Refuses a name that cannot be written, and one of a file that the command has read.
     pub fn new(path: &Path, sources: &[Source]) -> Result<Target, Failure> {
         if path == Path::new(STANDARD) || path == Path::new("/dev/stdout") {
-            return Ok(Target { file: None });
-        }
-        if let Some(error) = obstacle(path) {
-            return Err(Failure::file(path, error));
+            return Ok(Target::Standard);
         }
         if let Some(source) = sources.iter().find(|source| source.is_at(path)) {
             let (path, words) = (path.display(), &source.words);
@@ -44,24 +47,27 @@ impl Target {
                 format!("{path} is {words}, which would be overwritten\n  name another file");
             return Err(Failure::Wrong(text));
         }
-        let file = Some(path.to_path_buf());
-        Ok(Target { file })
+        let name = path.to_path_buf();
+        if is_device(path) {
+            return Ok(Target::Device(name));
+        }
+        let file = followed(path).and_then(without_obstacle);
+        let file = file.map_err(|error| Failure::file(path, error))?;
+        Ok(Target::File { name, file })
     }
 
     pub fn write(&self, bytes: &[u8]) -> Result<(), Failure> {
-        let Some(path) = &self.file else {
-            return print(bytes);
+        let (name, written) = match self {
+            Target::Standard => return print(bytes),
+            Target::Device(name) => (name, fs::write(name, bytes)),
+            Target::File { name, file } => (name, replace(file, bytes)),
         };
-        let written = match is_replaced(path) {
-            true => followed(path).and_then(|file| replace(&file, bytes)),
-            false => fs::write(path, bytes),
-        };
-        written.map_err(|error| Failure::file(path, plain(error)))
+        written.map_err(|error| Failure::file(name, plain(error)))
     }
 
     /// Says something beside what is written: on standard output, or on standard error where that is taken.
     pub fn say(&self, text: &str) -> Result<(), Failure> {
-        if self.file.is_some() {
+        if !matches!(self, Target::Standard) {
             return print(text.as_bytes());
         }
         // Where nobody listens, nothing is to be said.
@@ -70,26 +76,36 @@ impl Target {
     }
 }
 
-/// Why nothing can be written under a name.
-fn obstacle(path: &Path) -> Option<io::Error> {
-    let error = |words: String| Some(io::Error::other(words));
-    let folder = path
-        .parent()
-        .filter(|folder| !folder.as_os_str().is_empty());
-    match folder {
-        _ if path.is_dir() => error("it is a folder: name a file in it".to_string()),
-        Some(folder) if !folder.exists() => {
-            error(format!("there is no folder {}", folder.display()))
-        }
-        Some(folder) if !folder.is_dir() => error(format!("{} is no folder", folder.display())),
-        _ => None,
-    }
+/// Open files have names in these folders too.
+fn is_device(path: &Path) -> bool {
+    let known = fs::metadata(path);
+    let is_other = known.is_ok_and(|known| !known.is_file() && !known.is_dir());
+    is_other || path.starts_with("/dev") || path.starts_with("/proc")
 }
 
-/// A device, a pipe or an open file cannot be replaced.
-fn is_replaced(path: &Path) -> bool {
-    let is_open_file = path.starts_with("/dev") || path.starts_with("/proc");
-    !is_open_file && fs::metadata(path).map_or(true, |known| known.is_file())
+/// A file, or why there can be none.
+fn without_obstacle(file: PathBuf) -> io::Result<PathBuf> {
+    let is_folders_name = file.as_os_str().as_encoded_bytes().ends_with(b"/");
+    let folder = if is_folders_name {
+        &file
+    } else {
+        folder_of(&file)
+    };
+    let shown = folder.display();
+    let words = match (file.is_dir(), folder.is_dir()) {
+        (true, _) => "it is a folder: name a file in it".to_string(),
+        (false, true) => return Ok(file),
+        (false, false) if folder.exists() => format!("{shown} is no folder"),
+        (false, false) => format!("there is no folder {shown}"),
+    };
+    Err(io::Error::other(words))
+}
+
+fn folder_of(file: &Path) -> &Path {
+    let folder = file
+        .parent()
+        .filter(|folder| !folder.as_os_str().is_empty());
+    folder.unwrap_or(Path::new("."))
 }
 
 /// The file that a name stands for. Links are followed, also to a file that is not there yet.
@@ -106,30 +122,35 @@ fn followed(path: &Path) -> io::Result<PathBuf> {
 
 /// Writes a file by way of another one beside it, so that nobody finds half of it.
 fn replace(file: &Path, bytes: &[u8]) -> io::Result<()> {
-    let folder = file
-        .parent()
-        .filter(|folder| !folder.as_os_str().is_empty());
-    let folder = folder.unwrap_or(Path::new("."));
     let known = match OpenOptions::new().write(true).open(file) {
         Ok(known) => Some(known.metadata()?.permissions()),
         Err(error) if error.kind() == io::ErrorKind::NotFound => None,
         Err(error) => return Err(error),
     };
-    let part = folder.join(format!(".dayomlak-{}.part", std::process::id()));
-    let written = File::create_new(&part).and_then(|mut new| {
-        if let Some(known) = known {
-            new.set_permissions(known)?;
-        }
-        new.write_all(bytes)?;
+    let (part, mut new) = new_file_in(folder_of(file))?;
+    let rights = known.map_or(Ok(()), |known| new.set_permissions(known));
+    let written = rights
+        .and_then(|()| new.write_all(bytes))
         // A disk may say only now that it is full.
-        new.sync_all()?;
-        fs::rename(&part, file)
-    });
+        .and_then(|()| new.sync_all())
+        .and_then(|()| fs::rename(&part, file));
     if written.is_err() {
         // What is left of it is of no use; the failure itself is reported.
         let _ = fs::remove_file(&part);
     }
     written
+}
+
+/// A file under a name that nothing has yet, such as one that was left when the computer stopped.
+fn new_file_in(folder: &Path) -> io::Result<(PathBuf, File)> {
+    let mut number = std::process::id();
+    loop {
+        let part = folder.join(format!(".dayomlak-{number}.part"));
+        match File::create_new(&part) {
+            Err(error) if error.kind() == io::ErrorKind::AlreadyExists => number += 1,
+            created => return created.map(|file| (part, file)),
+        }
+    }
 }
 
 /// The errors that a user meets most, in plain words.

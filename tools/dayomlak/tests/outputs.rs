@@ -146,8 +146,16 @@ fn names_that_cannot_be_written() {
     let folder = Folder::new();
     let file = folder.write("S.ttda", SUM);
     let at = folder.path("");
+    fs::create_dir(folder.path("far")).unwrap();
+    symlink("far", folder.path("to_folder")).unwrap();
+    symlink("gone/x", folder.path("to_nothing")).unwrap();
+    let (to_folder, to_nothing) = (folder.path("to_folder"), folder.path("to_nothing"));
+    let gone = format!("there is no folder {}", folder.path("gone"));
     let cases = [
         (at.as_str(), "it is a folder: name a file in it"),
+        (&to_folder, "it is a folder: name a file in it"),
+        (&to_nothing, &gone),
+        ("none/", "there is no folder none/"),
         ("no/such/x", "there is no folder no/such"),
         ("README.md/x", "README.md is no folder"),
         ("/dev/full", "the disk is full"),
@@ -159,7 +167,7 @@ fn names_that_cannot_be_written() {
             assert_eq!(done.err, format!("error: {name}: {words}\n"));
         }
     }
-    assert_eq!(names(&folder), ["S.ttda"]);
+    assert_eq!(names(&folder), ["S.ttda", "far", "to_folder", "to_nothing"]);
     fs::create_dir_all(folder.path("made/picks")).unwrap();
     let asm = dayomlak(&["asm", &file, &folder.path("made")]);
     assert_eq!((&asm.out[..], asm.status), ("", 3));
