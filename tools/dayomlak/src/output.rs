@@ -153,13 +153,13 @@ fn new_file_in(folder: &Path) -> io::Result<(PathBuf, File)> {
     }
 }
 
-/// The errors that a user meets most, in plain words.
+/// The errors that a user meets most, in plain words; they are known by Linux's numbers.
 fn plain(error: io::Error) -> io::Error {
-    let words = match error.kind() {
-        io::ErrorKind::StorageFull => "the disk is full",
-        io::ErrorKind::QuotaExceeded => "you may use no more of this disk (its quota is reached)",
-        io::ErrorKind::PermissionDenied => "you may not write there",
-        io::ErrorKind::ReadOnlyFilesystem => "this disk can only be read",
+    let words = match error.raw_os_error() {
+        Some(1 | 13) => "you may not write there",
+        Some(28) => "the disk is full",
+        Some(30) => "this disk can only be read",
+        Some(122) => "you may use no more of this disk (its quota is reached)",
         _ => return error,
     };
     io::Error::new(error.kind(), words)

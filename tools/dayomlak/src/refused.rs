@@ -81,19 +81,15 @@ pub fn bad_picks(program: &Program) -> Option<String> {
 }
 
 fn bad_records(name: &str, bytes: usize, width: usize) -> Option<String> {
-    let (number, whole) = (bytes / width, bytes % width == 0);
-    match whole {
-        false => {
-            let bytes = count(bytes, "byte");
-            Some(format!(
-                "the {name} have {bytes}, no whole number of {name}, which have {width} each"
-            ))
-        }
-        true if number > MOST_RECORDS => Some(format!(
-            "there are {number} {name}, and {MOST_RECORDS} is the most"
-        )),
-        true => None,
+    let (number, rest) = (bytes / width, bytes % width);
+    if rest != 0 {
+        let bytes = count(bytes, "byte");
+        return Some(format!(
+            "the {name} have {bytes}, no whole number of {name}, which have {width} each"
+        ));
     }
+    (number > MOST_RECORDS)
+        .then(|| format!("there are {number} {name}, and {MOST_RECORDS} is the most"))
 }
 
 /// Two inputs to one port; the place is that of the second.
