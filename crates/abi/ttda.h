@@ -174,8 +174,9 @@ uint64_t ttda_convert(const uint8_t *old, size_t old_len,
 /* Room enough for what ttda_print writes of so many tokens and cells. */
 #define TTDA_PRINTED_BYTES(tokens, cells) (74 + 56 * (size_t)(tokens) + 46 * (size_t)(cells))
 
-/* Prints an answer of one of the functions above, a listing of ttda_list and the cells, as the program ttda does, and answers the
-   number of bytes. TTDA_TOO_SMALL if the text does not fit, TTDA_NO_ANSWER if the number is no answer's (another word, or a place
+/* Prints the answer of ttda_run, ttda_carry_on, ttda_run_logged, ttda_replay or ttda_profile, a listing of ttda_list and the cells, as the
+   program ttda does, and answers the number of bytes. The number of bounds or of an expression is no run's answer: it would be printed as
+   one. TTDA_TOO_SMALL if the text does not fit, TTDA_NO_ANSWER if the number is no answer's (another word, or a place
    though nothing is refused). Bytes past the last whole record are passed over. A token's state byte past 2 prints as deferred, a
    cell's as absent: there is no line for it.
    Writes: the text from the start of out; if it answers one of the two above, nothing. */

@@ -12,8 +12,8 @@ use crate::orders::Order;
 #[command(name = "dayomlak", version, propagate_version = true)]
 #[command(
     after_help = "FILE is a typed graph (.ttda), a folder with the files graph, inputs and picks, or - for standard \
-    input.\nExit status: 0 completed; 1 hung, spent or refused; 2 a wrong command line or text; 3 a file that cannot be \
-    read or written.\n\nTry: dayomlak run sum.ttda"
+    input.\nExit status: 0 completed; 1 hung, spent or refused; 2 a wrong command line, text or log; 3 a file that \
+    cannot be read or written.\n\nTry: dayomlak run sum.ttda"
 )]
 pub struct Cli {
     #[command(subcommand)]
@@ -128,11 +128,15 @@ pub struct Trace {
 pub struct Profile {
     #[command(flatten)]
     pub file: File,
-    /// Draw the curves to an SVG file
+    /// Draw the curves to an SVG file, with what a run left
     #[arg(short, value_name = "X.svg")]
     pub output: Option<PathBuf>,
-    #[command(flatten)]
-    pub firing: Firing,
+    /// The order of that run, as for `dayomlak run`; only with -o
+    #[arg(long, value_name = "ORDER")]
+    pub order: Option<Order>,
+    /// The most firings of that run; only with -o
+    #[arg(long, value_name = "N")]
+    pub budget: Option<u16>,
     #[command(flatten)]
     pub buffers: Buffers,
 }
@@ -173,6 +177,9 @@ pub struct Log {
     /// Where the log goes
     #[arg(short, value_name = "LOG")]
     pub output: PathBuf,
+    /// Write the records alone, 20 bytes for each firing, which name no run
+    #[arg(long)]
+    pub records: bool,
     #[command(flatten)]
     pub firing: Firing,
     #[command(flatten)]
@@ -186,6 +193,9 @@ pub struct Replay {
     /// A log, as `dayomlak log` writes it
     #[arg(value_name = "LOG")]
     pub log: PathBuf,
+    /// Replay the log of another run: another graph, other inputs, another capacity or cell count
+    #[arg(long)]
+    pub anyway: bool,
     #[command(flatten)]
     pub buffers: Buffers,
     /// Print the listing, byte for byte as the program ttda does

@@ -1,11 +1,12 @@
 //! Runs of the proved engine over a program, with buffers of chosen sizes.
 
-use ttda::widths;
+use plotter::Step;
+use ttda::widths::{self, STEP};
 
 use crate::answer::Answer;
 use crate::failure::Failure;
 use crate::program::Program;
-use crate::records::{self, Cell, Step, Tag, Token, CELL, LOGGED, MOST_RECORDS, STEP, TOKEN};
+use crate::records::{self, Cell, Tag, Token, CELL, LOGGED, MOST_RECORDS, TOKEN};
 
 /// The budget that no run exceeds: firings never exceed tokens.
 pub const WHOLE: u16 = MOST_RECORDS as u16;
@@ -125,7 +126,7 @@ impl<'p> Machine<'p> {
             ttda::profile(graph, inputs, ledger, cells, &mut profile, &mut records)
         });
         profile.truncate(STEP * records as usize);
-        (end, records::steps(&profile))
+        (end, Step::all(&profile))
     }
 
     /// Refused, or how many firings and tokens no run exceeds.

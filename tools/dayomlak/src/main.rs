@@ -3,7 +3,6 @@
 
 mod activity;
 mod answer;
-mod cache;
 mod cli;
 mod commands;
 mod diagnostics;
@@ -13,12 +12,13 @@ mod graph;
 mod graphviz;
 mod history;
 mod loads;
+mod log_file;
 mod machine;
 mod newest;
 mod orders;
 mod output;
 mod pictures;
-mod plotter;
+mod profiles;
 mod program;
 mod records;
 mod refusals;
@@ -26,6 +26,7 @@ mod refused;
 mod report;
 mod results;
 mod second_token;
+mod sources;
 mod warnings;
 
 use std::process::ExitCode;

@@ -1,6 +1,6 @@
-//! The records that the engine writes: tokens, cells, the log and the profile. Numbers are little-endian.
+//! The records that the engine writes: tokens, cells and the log. Numbers are little-endian.
 
-pub use ttda::widths::{CELL, LOGGED, MOST_CELLS, MOST_RECORDS, STEP, TOKEN};
+pub use ttda::widths::{CELL, LOGGED, MOST_CELLS, MOST_RECORDS, TOKEN};
 
 /// What an activity is named by.
 #[derive(Clone, Copy, Debug, PartialEq, Eq, PartialOrd, Ord, Hash)]
@@ -109,13 +109,6 @@ pub enum Cell {
     Present(i32),
 }
 
-/// One ideal step: how many activities fired in it, and how many tokens are live or deferred after it.
-#[derive(Clone, Copy, Debug, PartialEq, Eq)]
-pub struct Step {
-    pub firings: u16,
-    pub tokens: u16,
-}
-
 pub fn tokens(ledger: &[u8]) -> Vec<Token> {
     ledger.chunks_exact(TOKEN).map(Token::of).collect()
 }
@@ -127,20 +120,6 @@ pub fn cells(records: &[u8]) -> Vec<Cell> {
         _ => Cell::Absent,
     };
     records.chunks_exact(CELL).map(cell).collect()
-}
-
-pub fn steps(profile: &[u8]) -> Vec<Step> {
-    let step = |record: &[u8]| Step {
-        firings: u16::from_le_bytes(bytes(record, 0)),
-        tokens: u16::from_le_bytes(bytes(record, 2)),
-    };
-    profile.chunks_exact(STEP).map(step).collect()
-}
-
-/// The records of steps.
-pub fn step_bytes(steps: &[Step]) -> Vec<u8> {
-    let bytes = |step: &Step| [step.firings.to_le_bytes(), step.tokens.to_le_bytes()].concat();
-    steps.iter().flat_map(bytes).collect()
 }
 
 /// The bytes of a number at a place of a record.

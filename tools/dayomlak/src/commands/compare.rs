@@ -10,8 +10,8 @@ use crate::cli::Compare;
 use crate::failure::{self, Failure};
 use crate::machine::{End, Machine, WHOLE};
 use crate::orders::Order;
-use crate::output;
 use crate::program::Program;
+use crate::{output, refused};
 
 /// Progress is shown once a comparison has taken so long.
 const LONG: Duration = Duration::from_millis(500);
@@ -28,20 +28,31 @@ struct Kind {
 pub fn compare(args: &Compare) -> Result<u8, Failure> {
     let program = load(&args.file.file)?;
     let machine = Machine::new(&program, args.buffers.sizes());
-    let orders = orders(args.orders, !program.files.picks.is_empty());
-    let kinds = kinds(&machine, &orders)?;
+    let left_out = left_out(&machine);
+    let has_picks = !program.files.picks.is_empty() && left_out.is_none();
+    let kinds = kinds(&machine, &orders(args.orders, has_picks))?;
     let mut text = String::new();
     for kind in &kinds {
         text += &format!("{}\n", line(kind));
     }
-    text += &format!("{}\n\n", verdict(&kinds));
-    let first = kinds[0].orders[0].words(!program.files.picks.is_empty());
+    if let Some(words) = &left_out {
+        text += &format!("{:>5} order (typed) is left out: {words}\n", 1);
+    }
+    text += &format!("{}\n\n", verdict(&kinds, left_out.is_some()));
+    let first = kinds[0].orders[0].words(has_picks);
     text += &summary(&machine, &kinds[0].end, &first);
     output::print(text.as_bytes())?;
-    match agrees(&kinds) {
+    match agrees(&kinds) && left_out.is_none() {
         true => Ok(status(&kinds[0].end)),
         false => Ok(failure::NOT_COMPLETED),
     }
+}
+
+/// Why the picks of the file are no order to compare: 7 is not of the graph, and says nothing of other orders.
+fn left_out(machine: &Machine) -> Option<String> {
+    let why = refused::bad_picks(machine.program)?;
+    let answer = machine.run(&machine.program.files.picks, WHOLE).answer;
+    (answer.word == Word::Refused(7)).then(|| format!("{}: {why}", answer.words()))
 }
 
 fn orders(random: u32, has_picks: bool) -> Vec<Order> {
@@ -137,9 +148,10 @@ fn agrees(kinds: &[Kind]) -> bool {
             .all(|kind| matches!(kind.end.answer.word, Word::Refused(_)))
 }
 
-fn verdict(kinds: &[Kind]) -> &'static str {
+fn verdict(kinds: &[Kind], left_out: bool) -> &'static str {
     let refused = matches!(kinds[0].end.answer.word, Word::Refused(_));
     match (agrees(kinds), refused) {
+        (true, false) if left_out => "all other orders leave the same listing, equal in every byte",
         (true, false) => "all orders leave the same listing, equal in every byte",
         (true, true) => "every order is refused; by what and where may depend on the order",
         (false, _) => "the orders disagree, which is proved impossible: please report this graph",
