@@ -252,7 +252,9 @@ mod tests {
         let used = &ledger[..second::TOKEN_RECORD * answer.tokens];
         (
             answer,
-            used.chunks(second::TOKEN_RECORD).filter(|record| record[24] == state).count(),
+            used.chunks(second::TOKEN_RECORD)
+                .filter(|record| record[24] == state)
+                .count(),
         )
     }
 

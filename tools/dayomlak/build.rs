@@ -1,32 +1,6 @@
-//! Links libabi.a, the proved engine, which `rt staticlib abi` makes. TTDA_LIB names its folder (an absolute path; the
-//! default is target/staticlib in the project's root).
-
-use std::env;
-use std::fs;
-use std::path::PathBuf;
+//! Names the engine by a fingerprint of its library: what one engine has left must not be shown as another's.
 
 fn main() {
-    println!("cargo:rerun-if-env-changed=TTDA_LIB");
-    let here = PathBuf::from(env::var_os("CARGO_MANIFEST_DIR").expect("cargo sets it"));
-    let folder = match env::var_os("TTDA_LIB") {
-        Some(folder) => PathBuf::from(folder),
-        None => here.join("../../target/staticlib"),
-    };
-    let library = folder.join("libabi.a");
-    println!("cargo:rerun-if-changed={}", library.display());
-    let bytes = fs::read(&library).unwrap_or_else(|error| {
-        let path = library.display();
-        panic!("{path}: {error}; `rt staticlib abi` makes it, or TTDA_LIB names its folder")
-    });
-    // What one engine has left must not be shown as another's.
-    println!("cargo:rustc-env=ENGINE={:016x}", fingerprint(&bytes));
-    println!("cargo:rustc-link-search=native={}", folder.display());
-    println!("cargo:rustc-link-lib=static=abi");
-}
-
-/// FNV-1a in 64 bits.
-fn fingerprint(bytes: &[u8]) -> u64 {
-    bytes.iter().fold(0xcbf2_9ce4_8422_2325, |hash, byte| {
-        (hash ^ u64::from(*byte)).wrapping_mul(0x0100_0000_01b3)
-    })
+    let engine = std::env::var("DEP_ABI_ENGINE").expect("the build script of ttda sets it");
+    println!("cargo:rustc-env=ENGINE={engine}");
 }

@@ -1,14 +1,8 @@
 //! The answer to a run.
 
-use crate::refusals;
+pub use ttda::Word;
 
-#[derive(Clone, Copy, Debug, PartialEq, Eq)]
-pub enum Word {
-    Completed,
-    Hung,
-    Spent,
-    Refused(u16),
-}
+use crate::refusals;
 
 #[derive(Clone, Copy, Debug, PartialEq, Eq)]
 pub struct Answer {
@@ -22,18 +16,13 @@ pub struct Answer {
 
 impl Answer {
     pub fn of(packed: u64) -> Answer {
-        let part = |number: u32| (packed >> (16 * number) & 0xffff) as u16;
+        let answer = ttda::Answer(packed);
         Answer {
             packed,
-            word: match part(0) {
-                0 => Word::Completed,
-                100 => Word::Spent,
-                101 => Word::Hung,
-                number => Word::Refused(number),
-            },
-            firings: usize::from(part(1)),
-            tokens: usize::from(part(2)),
-            place: usize::from(part(3)),
+            word: answer.word(),
+            firings: answer.firings(),
+            tokens: answer.tokens(),
+            place: answer.place(),
         }
     }
 

@@ -1,10 +1,12 @@
 //! Runs of the proved engine over a program, with buffers of chosen sizes.
 
+use plotter::Step;
+use ttda::widths::{self, STEP};
+
 use crate::answer::Answer;
-use crate::engine::{self, Lent};
 use crate::failure::Failure;
 use crate::program::Program;
-use crate::records::{self, Cell, Step, Tag, Token, CELL, LOGGED, MOST_RECORDS, STEP, TOKEN};
+use crate::records::{self, Cell, Tag, Token, CELL, LOGGED, MOST_RECORDS, TOKEN};
 
 /// The budget that no run exceeds: firings never exceed tokens.
 pub const WHOLE: u16 = MOST_RECORDS as u16;
@@ -51,7 +53,7 @@ impl End {
     /// The sorted records of the tokens.
     pub fn listing(&self) -> Vec<u8> {
         let mut listing = vec![0; self.ledger.len()];
-        engine::list(&self.ledger, &mut listing);
+        ttda::list(&self.ledger, &mut listing);
         listing
     }
 
@@ -59,16 +61,18 @@ impl End {
     pub fn text(&self) -> Result<Vec<u8>, Failure> {
         let listing = self.listing();
         let cells = self.cells.len() / CELL;
-        let mut room = vec![0; 74 + 75 * self.answer.tokens + 46 * cells];
-        match engine::print(self.answer.packed, &listing, &self.cells, &mut room) {
-            0 | 1 => Err(Failure::Inconsistent(
-                "the engine prints no lines of its own answer".to_string(),
-            )),
-            length => {
-                room.truncate(length as usize);
-                Ok(room)
-            }
-        }
+        let mut room = vec![0; widths::printed(self.answer.tokens, cells)];
+        let printed = ttda::print(
+            ttda::Answer(self.answer.packed),
+            &listing,
+            &self.cells,
+            &mut room,
+        );
+        let length = printed.length().map_err(|_| {
+            Failure::Inconsistent("the engine prints no lines of its own answer".to_string())
+        })?;
+        room.truncate(length);
+        Ok(room)
     }
 }
 
@@ -84,7 +88,8 @@ impl<'p> Machine<'p> {
     }
 
     pub fn run(&self, picks: &[u8], budget: u16) -> End {
-        self.call(|lent| engine::run(lent, picks, budget))
+        let (graph, inputs) = self.lent();
+        self.call(|ledger, cells| ttda::run(graph, inputs, picks, budget, ledger, cells))
     }
 
     /// Runs and answers the activities in the order of their firing too.
@@ -96,13 +101,17 @@ impl<'p> Machine<'p> {
     /// Runs and answers the records of the log too.
     pub fn run_for_log(&self, picks: &[u8], budget: u16) -> (End, Vec<u8>) {
         let mut log = vec![0; LOGGED * MOST_RECORDS];
-        let end = self.call(|lent| engine::run_logged(lent, picks, budget, &mut log));
+        let (graph, inputs) = self.lent();
+        let end = self.call(|ledger, cells| {
+            ttda::run_logged(graph, inputs, picks, budget, ledger, cells, &mut log)
+        });
         log.truncate(LOGGED * end.answer.firings);
         (end, log)
     }
 
     pub fn replay(&self, log: &[u8]) -> End {
-        self.call(|lent| engine::replay(lent, log))
+        let (graph, inputs) = self.lent();
+        self.call(|ledger, cells| ttda::replay(graph, inputs, log, ledger, cells))
     }
 
     pub fn profile(&self) -> (End, Vec<Step>) {
@@ -111,33 +120,31 @@ impl<'p> Machine<'p> {
 
     /// The profile with room for so many steps; before the next one it is refused by 18.
     pub fn profile_within(&self, most: usize) -> (End, Vec<Step>) {
-        let mut profile = vec![0; STEP * most];
-        let mut records = 0;
-        let end = self.call(|lent| {
-            let (answer, written) = engine::profile(lent, &mut profile);
-            records = written as usize;
-            answer
+        let (graph, inputs) = self.lent();
+        let (mut profile, mut records) = (vec![0; STEP * most], 0);
+        let end = self.call(|ledger, cells| {
+            ttda::profile(graph, inputs, ledger, cells, &mut profile, &mut records)
         });
-        profile.truncate(STEP * records);
-        (end, records::steps(&profile))
+        profile.truncate(STEP * records as usize);
+        (end, Step::all(&profile))
     }
 
     /// Refused, or how many firings and tokens no run exceeds.
     pub fn bounds(&self) -> Answer {
-        let files = &self.program.files;
-        Answer::of(engine::bounds(&files.graph, &files.inputs))
+        let (graph, inputs) = self.lent();
+        Answer::of(ttda::bounds(graph, inputs).0)
     }
 
-    /// Lends new buffers of zeros and keeps what is used of them.
-    fn call(&self, engine: impl FnOnce(Lent) -> u64) -> End {
+    /// What every call is lent: the graph and its inputs.
+    fn lent(&self) -> (&[u8], &[u8]) {
+        (&self.program.files.graph, &self.program.files.inputs)
+    }
+
+    /// Lends new buffers of zeros as ledger and cells, and keeps what is used of them.
+    fn call(&self, engine: impl FnOnce(&mut [u8], &mut [u8]) -> ttda::Answer) -> End {
         let mut ledger = vec![0; TOKEN * self.sizes.capacity];
         let mut cells = vec![0; CELL * self.sizes.cells];
-        let answer = Answer::of(engine(Lent {
-            graph: &self.program.files.graph,
-            inputs: &self.program.files.inputs,
-            ledger: &mut ledger,
-            cells: &mut cells,
-        }));
+        let answer = Answer::of(engine(&mut ledger, &mut cells).0);
         ledger.truncate(TOKEN * answer.tokens);
         End::of(answer, ledger, cells)
     }

@@ -9,7 +9,15 @@ use asm::{disassemble, read, Files, Place, Span};
 use crate::diagnostics::{self, Finding};
 use crate::failure::Failure;
 use crate::graph::Graph;
+use crate::log_file;
 use crate::records::Tag;
+use crate::sources::Source;
+
+/// The files of a folder.
+const FILES: [&str; 3] = ["graph", "inputs", "picks"];
+
+/// How messages call what comes by `-`.
+pub const STANDARD_INPUT: &str = "standard input";
 
 pub struct Program {
     /// How messages and pictures call it.
@@ -18,6 +26,8 @@ pub struct Program {
     pub text: String,
     pub files: Files,
     pub graph: Graph,
+    /// The files that it was read from.
+    pub sources: Vec<Source>,
     instructions: Vec<asm::Instruction>,
     inputs: Vec<Place>,
 }
@@ -29,24 +39,41 @@ impl Program {
         if file == "-" {
             let mut bytes = Vec::new();
             let read = io::stdin().read_to_end(&mut bytes);
-            read.map_err(|error| Failure::File("standard input".to_string(), error))?;
-            return Program::typed("standard input", bytes);
+            read.map_err(|error| Failure::File(STANDARD_INPUT.to_string(), error))?;
+            let program = Program::typed(STANDARD_INPUT, bytes)?;
+            return Ok(program.read_from(Source::standard_input()));
         }
         if path.is_dir() {
-            return Program::folder(file, files(path)?);
+            let program = Program::folder(file, files(path)?)?;
+            let source = |name: &&str| {
+                let words = format!("the file `{name}` of the graph");
+                Source::named(&words, &path.join(name))
+            };
+            return Ok(program.read_from(FILES.iter().filter_map(source)));
         }
         let bytes = fs::read(path).map_err(|error| Failure::file(path, error))?;
-        Program::typed(file, bytes)
+        let program = Program::typed(file, bytes)?;
+        Ok(program.read_from(Source::named("the graph itself", path)))
+    }
+
+    fn read_from(mut self, sources: impl IntoIterator<Item = Source>) -> Program {
+        self.sources.extend(sources);
+        self
     }
 
     /// A typed graph. Its faults are shown.
     pub fn typed(label: &str, bytes: Vec<u8>) -> Result<Program, Failure> {
+        if bytes.starts_with(log_file::START.as_bytes()) {
+            let text = format!("{label} is a log\n  `dayomlak replay` takes it behind its graph");
+            return Err(Failure::Wrong(text));
+        }
         let text = String::from_utf8(bytes).map_err(|error| no_text(label, error.as_bytes()))?;
         match read(&text) {
             Ok(program) => Ok(Program {
                 label: label.to_string(),
                 graph: Graph::of(&program.files.graph),
                 files: program.files,
+                sources: Vec::new(),
                 instructions: program.instructions,
                 inputs: program.inputs,
                 text,
@@ -54,7 +81,7 @@ impl Program {
             Err(errors) => {
                 let findings: Vec<Finding> = errors.0.into_iter().map(Finding::from).collect();
                 diagnostics::complain(label, &text, &findings);
-                Err(Failure::Shown)
+                Err(Failure::Faulty(text, findings))
             }
         }
     }
@@ -67,6 +94,7 @@ impl Program {
             label: label.to_string(),
             graph: Graph::of(&files.graph),
             files,
+            sources: Vec::new(),
             instructions: typed.instructions,
             inputs: typed.inputs,
             text,

@@ -1,17 +1,6 @@
-//! The records that the engine writes: tokens, cells, the log and the profile. Numbers are little-endian.
+//! The records that the engine writes: tokens, cells and the log. Numbers are little-endian.
 
-/// Bytes of a token record.
-pub const TOKEN: usize = 28;
-/// Bytes of a cell record.
-pub const CELL: usize = 8;
-/// Bytes of a record of the log.
-pub const LOGGED: usize = 20;
-/// Bytes of a record of the profile.
-pub const STEP: usize = 4;
-/// Most records of a ledger, of picks and of firings.
-pub const MOST_RECORDS: usize = 2048;
-/// Most cells.
-pub const MOST_CELLS: usize = 1024;
+pub use ttda::widths::{CELL, LOGGED, MOST_CELLS, MOST_RECORDS, TOKEN};
 
 /// What an activity is named by.
 #[derive(Clone, Copy, Debug, PartialEq, Eq, PartialOrd, Ord, Hash)]
@@ -120,13 +109,6 @@ pub enum Cell {
     Present(i32),
 }
 
-/// One ideal step: how many activities fired in it, and how many tokens are live or deferred after it.
-#[derive(Clone, Copy, Debug, PartialEq, Eq)]
-pub struct Step {
-    pub firings: u16,
-    pub tokens: u16,
-}
-
 pub fn tokens(ledger: &[u8]) -> Vec<Token> {
     ledger.chunks_exact(TOKEN).map(Token::of).collect()
 }
@@ -138,20 +120,6 @@ pub fn cells(records: &[u8]) -> Vec<Cell> {
         _ => Cell::Absent,
     };
     records.chunks_exact(CELL).map(cell).collect()
-}
-
-pub fn steps(profile: &[u8]) -> Vec<Step> {
-    let step = |record: &[u8]| Step {
-        firings: u16::from_le_bytes(bytes(record, 0)),
-        tokens: u16::from_le_bytes(bytes(record, 2)),
-    };
-    profile.chunks_exact(STEP).map(step).collect()
-}
-
-/// The records of steps.
-pub fn step_bytes(steps: &[Step]) -> Vec<u8> {
-    let bytes = |step: &Step| [step.firings.to_le_bytes(), step.tokens.to_le_bytes()].concat();
-    steps.iter().flat_map(bytes).collect()
 }
 
 /// The bytes of a number at a place of a record.

@@ -1,12 +1,14 @@
 //! A refused run explained: what was refused, by name, and what stood in the way.
 
+use ttda::widths::PICK;
+
 use crate::activity::Activity;
 use crate::answer::{count, Answer, Word};
 use crate::diagnostics::Finding;
 use crate::graph::STORE;
 use crate::machine::{End, Sizes};
 use crate::program::Program;
-use crate::records::{self, State, Tag, Token};
+use crate::records::{self, State, Tag, Token, MOST_RECORDS, TOKEN};
 use crate::{forms, refusals, second_token};
 
 /// The finding of a refused run; `None` for another one.
@@ -66,8 +68,31 @@ fn at_once(program: &Program, number: u16, answer: &Answer, sizes: Sizes) -> Fin
             )),
         9 => second_input(program, place, finding),
         1 if program.files.graph.is_empty() => finding.note(program.emptiness()),
+        7 => finding.note(bad_store(program).unwrap_or(meaning.to_string())),
         _ => finding.note(meaning),
     }
+}
+
+/// Which of a program's files is refused by 7, and why.
+fn bad_store(program: &Program) -> Option<String> {
+    bad_records("inputs", program.files.inputs.len(), TOKEN).or_else(|| bad_picks(program))
+}
+
+/// Why no run takes the picks of a program, if none does.
+pub fn bad_picks(program: &Program) -> Option<String> {
+    bad_records("picks", program.files.picks.len(), PICK)
+}
+
+fn bad_records(name: &str, bytes: usize, width: usize) -> Option<String> {
+    let (number, rest) = (bytes / width, bytes % width);
+    if rest != 0 {
+        let bytes = count(bytes, "byte");
+        return Some(format!(
+            "the {name} have {bytes}, no whole number of {name}, which have {width} each"
+        ));
+    }
+    (number > MOST_RECORDS)
+        .then(|| format!("there are {number} {name}, and {MOST_RECORDS} is the most"))
 }
 
 /// Two inputs to one port; the place is that of the second.

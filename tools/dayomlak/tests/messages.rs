@@ -253,7 +253,7 @@ fn profiles_without_a_step() {
         ),
         (
             "a: OUT\ninput a = 1\n",
-            "0 ideal steps, then completed: 0 firings, 1 token\ncompleted",
+            "0 ideal steps, then completed: 0 firings, 1 token\n",
         ),
     ];
     for (text, start) in cases {

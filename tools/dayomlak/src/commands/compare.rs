@@ -4,14 +4,16 @@ use std::time::{Duration, Instant};
 
 use indicatif::{ProgressBar, ProgressStyle};
 
-use super::{load, status, summary};
+use super::{ended, load, status, summary};
 use crate::answer::Word;
 use crate::cli::Compare;
 use crate::failure::{self, Failure};
+use crate::json::{list, object, string};
 use crate::machine::{End, Machine, WHOLE};
 use crate::orders::Order;
-use crate::output;
 use crate::program::Program;
+use crate::script::{self, Fields};
+use crate::{output, refused};
 
 /// Progress is shown once a comparison has taken so long.
 const LONG: Duration = Duration::from_millis(500);
@@ -28,20 +30,59 @@ struct Kind {
 pub fn compare(args: &Compare) -> Result<u8, Failure> {
     let program = load(&args.file.file)?;
     let machine = Machine::new(&program, args.buffers.sizes());
-    let orders = orders(args.orders, !program.files.picks.is_empty());
-    let kinds = kinds(&machine, &orders)?;
+    let left_out = left_out(&machine);
+    let has_picks = !program.files.picks.is_empty() && left_out.is_none();
+    let kinds = kinds(&machine, &orders(args.orders, has_picks))?;
+    let agree = agrees(&kinds) && left_out.is_none();
+    let first = kinds[0].orders[0].words(has_picks);
+    if args.script.json {
+        let mut fields = script::lent(&machine);
+        fields.extend(fields_of(&kinds, agree, left_out.as_deref()));
+        fields.extend(ended(&machine, &kinds[0].end, &first));
+        script::print("compare", &program, fields)?;
+        return Ok(compared(&kinds, agree));
+    }
     let mut text = String::new();
     for kind in &kinds {
         text += &format!("{}\n", line(kind));
     }
-    text += &format!("{}\n\n", verdict(&kinds));
-    let first = kinds[0].orders[0].words(!program.files.picks.is_empty());
+    if let Some(words) = &left_out {
+        text += &format!("{:>5} order (typed) is left out: {words}\n", 1);
+    }
+    text += &format!("{}\n\n", verdict(&kinds, left_out.is_some()));
     text += &summary(&machine, &kinds[0].end, &first);
     output::print(text.as_bytes())?;
-    match agrees(&kinds) {
-        true => Ok(status(&kinds[0].end)),
-        false => Ok(failure::NOT_COMPLETED),
+    Ok(compared(&kinds, agree))
+}
+
+fn compared(kinds: &[Kind], agree: bool) -> u8 {
+    match agree {
+        true => status(&kinds[0].end),
+        false => failure::NOT_COMPLETED,
     }
+}
+
+/// The orders by what they were answered, for scripts.
+fn fields_of(kinds: &[Kind], agree: bool, left_out: Option<&str>) -> Fields {
+    let kind = |kind: &Kind| {
+        let orders = kind.orders.iter().map(|order| string(&order.to_string()));
+        object(&[
+            ("orders", list(orders)),
+            ("answer", script::answer(&kind.end.answer)),
+        ])
+    };
+    vec![
+        ("agree", script::flag(agree)),
+        ("left_out", left_out.map_or("null".to_string(), string)),
+        ("kinds", list(kinds.iter().map(kind))),
+    ]
+}
+
+/// Why the picks of the file are no order to compare: 7 is not of the graph, and says nothing of other orders.
+fn left_out(machine: &Machine) -> Option<String> {
+    let why = refused::bad_picks(machine.program)?;
+    let answer = machine.run(&machine.program.files.picks, WHOLE).answer;
+    (answer.word == Word::Refused(7)).then(|| format!("{}: {why}", answer.words()))
 }
 
 fn orders(random: u32, has_picks: bool) -> Vec<Order> {
@@ -137,9 +178,10 @@ fn agrees(kinds: &[Kind]) -> bool {
             .all(|kind| matches!(kind.end.answer.word, Word::Refused(_)))
 }
 
-fn verdict(kinds: &[Kind]) -> &'static str {
+fn verdict(kinds: &[Kind], left_out: bool) -> &'static str {
     let refused = matches!(kinds[0].end.answer.word, Word::Refused(_));
     match (agrees(kinds), refused) {
+        (true, false) if left_out => "all other orders leave the same listing, equal in every byte",
         (true, false) => "all orders leave the same listing, equal in every byte",
         (true, true) => "every order is refused; by what and where may depend on the order",
         (false, _) => "the orders disagree, which is proved impossible: please report this graph",

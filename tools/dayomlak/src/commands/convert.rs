@@ -7,7 +7,8 @@ use std::path::{Path, PathBuf};
 use crate::cli::{Convert, Kind};
 use crate::failure::{self, Failure};
 use crate::forms::{self, Doubt, Form, Reason};
-use crate::{engine, output, program};
+use crate::output::Target;
+use crate::program;
 
 /// A file that is to be written, and what is said of it.
 struct Written {
@@ -31,9 +32,12 @@ pub fn convert(args: &Convert) -> Result<u8, Failure> {
     if args.old.is_dir() {
         fs::create_dir_all(&args.new).map_err(|error| Failure::file(&args.new, error))?;
     }
-    for file in &files {
-        output::write(&file.path, &file.bytes)?;
-        output::print(file.words.as_bytes())?;
+    // `--force` allows the old file itself, too.
+    let targets = files.iter().map(|file| Target::new(&file.path, &[]));
+    let targets = targets.collect::<Result<Vec<Target>, Failure>>()?;
+    for (file, target) in files.iter().zip(&targets) {
+        target.write(&file.bytes)?;
+        target.say(&file.words)?;
     }
     Ok(failure::COMPLETED)
 }
@@ -121,12 +125,12 @@ fn form(
 fn widened(old: &Path, form: Form, bytes: &[u8]) -> Result<Vec<u8>, Failure> {
     let mut new = vec![0; bytes.len() / form.width() * form.new().width()];
     let answer = match form {
-        Form::OldLog => engine::convert_log(bytes, &mut new),
-        _ => engine::convert(bytes, &mut new),
+        Form::OldLog => ttda::convert_log(bytes, &mut new),
+        _ => ttda::convert(bytes, &mut new),
     };
-    match answer {
-        0 => Ok(new),
-        _ => Err(refused(old, form, bytes.len())),
+    match answer.is_done() {
+        true => Ok(new),
+        false => Err(refused(old, form, bytes.len())),
     }
 }
 

@@ -9,8 +9,8 @@ use crate::diagnostics::{self, Finding};
 use crate::expression::{self, typed, Expression, Kind, Part, MOST_PARTS};
 use crate::failure::Failure;
 use crate::machine::{End, Machine, Sizes, WHOLE};
+use crate::output::{self, Target};
 use crate::program::Program;
-use crate::{engine, output};
 
 /// How messages call the text.
 const LABEL: &str = "expression";
@@ -20,6 +20,8 @@ const LEDGER: usize = 300;
 pub fn expression(args: &cli::Expression) -> Result<u8, Failure> {
     let expression = read(&args.text)?;
     let values = values(&expression, &args.values)?;
+    let target = args.output.as_deref().map(|path| Target::new(path, &[]));
+    let target = target.transpose()?;
     let graph = graph(&expression)?;
     let text = typed::text(&expression, &values);
     let program = Program::typed(LABEL, text.clone().into_bytes())?;
@@ -33,19 +35,27 @@ pub fn expression(args: &cli::Expression) -> Result<u8, Failure> {
     let machine = Machine::new(&program, sizes);
     let end = machine.run(&[], WHOLE);
     let said = said(&expression, &values, &machine, &end)?;
-    if let Some(path) = &args.output {
-        output::write(path, text.as_bytes())?;
+    match target {
+        None => output::print(said.as_bytes())?,
+        Some(target) => {
+            target.write(text.as_bytes())?;
+            target.say(&said)?;
+        }
     }
-    output::print(said.as_bytes())?;
     Ok(status(&end))
+}
+
+/// Shows the faults of a text.
+fn faulty(text: &str, findings: Vec<Finding>) -> Failure {
+    diagnostics::complain(LABEL, text, &findings);
+    Failure::Faulty(text.to_string(), findings)
 }
 
 /// The parts of a text; its fault is shown.
 fn read(text: &str) -> Result<Expression, Failure> {
     let expression = expression::parse(text).map_err(|fault| {
         let finding = Finding::error(fault.title).at(Some(fault.span), fault.hint);
-        diagnostics::complain(LABEL, text, &[finding]);
-        Failure::Shown
+        faulty(text, vec![finding])
     })?;
     let parts = expression.parts.len();
     if parts > MOST_PARTS {
@@ -64,8 +74,7 @@ fn values(expression: &Expression, given: &[cli::Value]) -> Result<Vec<i32>, Fai
     let known = known(expression, given)?;
     let missing = missing(expression, &known);
     if !missing.is_empty() {
-        diagnostics::complain(LABEL, &expression.text, &missing);
-        return Err(Failure::Shown);
+        return Err(faulty(&expression.text, missing));
     }
     let value = |part: &Part| match &part.kind {
         Kind::Name(name) => known.get(name.as_str()).copied(),
@@ -119,11 +128,9 @@ fn without_value(name: &str, part: &Part) -> Finding {
 fn graph(expression: &Expression) -> Result<Vec<u8>, Failure> {
     let records = expression.records();
     let mut graph = vec![0; asm::GRAPH_RECORD * (expression.parts.len() + 1)];
-    match engine::expression(&records, &mut graph) & 0xffff {
-        0 => Ok(graph),
-        number => Err(inconsistent(&format!(
-            "its records are refused by {number}"
-        ))),
+    match ttda::expression(&records, &mut graph).word() {
+        Word::Completed => Ok(graph),
+        word => Err(inconsistent(&format!("its records give {word:?}"))),
     }
 }
 
@@ -138,21 +145,18 @@ fn said(
         .iter()
         .flat_map(|value| value.to_le_bytes())
         .collect();
-    let packed = engine::expression_value(&expression.records(), &values);
-    let value = (packed >> 16) as u32 as i32;
+    let value = ttda::expression_value(&expression.records(), &values);
     let out = end
         .tokens()
         .into_iter()
         .find(|t| usize::from(t.tag.instruction) == expression.parts.len());
-    match (packed & 0xffff, end.answer.word, out) {
-        (0, Word::Completed, Some(out)) if out.value == value => {
+    match (value.word(), end.answer.word, out) {
+        (Word::Completed, Word::Completed, Some(out)) if out.value == value.value() => {
             let text = expression::one_line(&expression.text);
-            Ok(format!(
-                "{text} = {value}\n{}",
-                answer(machine, end, "oldest first")
-            ))
+            let answer = answer(machine, end, "oldest first");
+            Ok(format!("{text} = {}\n{answer}", out.value))
         }
-        (12, Word::Refused(12), None) => {
+        (Word::Refused(12), Word::Refused(12), None) => {
             let finding = out_of_range(expression, end)
                 .ok_or_else(|| inconsistent("no operation is at fault"))?;
             Ok(diagnostics::plain(LABEL, &expression.text, &[finding]))

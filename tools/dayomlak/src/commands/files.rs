@@ -7,18 +7,22 @@ use asm::disassemble;
 use super::load;
 use crate::cli::{Asm, Disasm};
 use crate::failure::{self, Failure};
-use crate::{output, program};
+use crate::output::{self, Target};
+use crate::program;
 
 pub fn asm(args: &Asm) -> Result<u8, Failure> {
-    let files = load(&args.file.file)?.files;
+    let program = load(&args.file.file)?;
     let folder = &args.folder;
     if folder.is_file() {
         return Err(Failure::file(folder, program::no_folder()));
     }
     fs::create_dir_all(folder).map_err(|error| Failure::file(folder, error))?;
-    output::write(&folder.join("graph"), &files.graph)?;
-    output::write(&folder.join("inputs"), &files.inputs)?;
-    output::write(&folder.join("picks"), &files.picks)?;
+    let target = |name: &str| Target::new(&folder.join(name), &program.sources);
+    // None is written if one cannot be.
+    let (graph, inputs, picks) = (target("graph")?, target("inputs")?, target("picks")?);
+    graph.write(&program.files.graph)?;
+    inputs.write(&program.files.inputs)?;
+    picks.write(&program.files.picks)?;
     Ok(failure::COMPLETED)
 }
 

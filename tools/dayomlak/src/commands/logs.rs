@@ -2,43 +2,89 @@
 
 use std::fs;
 
+use codespan_reporting::diagnostic::Severity;
+
 use super::{answer, left, load, status};
 use crate::answer::Word;
 use crate::cli::{Log, Replay};
+use crate::diagnostics::{self, Finding};
 use crate::failure::Failure;
-use crate::machine::{End, Machine};
+use crate::log_file::{LogFile, Named};
+use crate::machine::{End, Machine, Sizes};
+use crate::output::{self, Target};
 use crate::program::Program;
 use crate::records::{Tag, LOGGED};
-use crate::{diagnostics, forms, output, refused};
+use crate::{forms, refused};
 
 pub fn log(args: &Log) -> Result<u8, Failure> {
     let program = load(&args.file.file)?;
     let machine = Machine::new(&program, args.buffers.sizes());
+    let target = Target::new(&args.output, &program.sources)?;
     let picks = args.firing.order.picks(&machine)?;
-    let (end, log) = machine.run_for_log(&picks, args.firing.budget);
-    output::write(&args.output, &log)?;
+    let (end, records) = machine.run_for_log(&picks, args.firing.budget);
     let order = args.firing.order.words(!program.files.picks.is_empty());
-    output::print(answer(&machine, &end, &order).as_bytes())?;
+    let mut said = answer(&machine, &end, &order);
+    match end.answer.refused_at_once() {
+        true => said += "no log is written: the run did not begin\n",
+        false => {
+            let of = (!args.records).then(|| Named::of(&machine));
+            target.write(&LogFile { of, records }.encode())?;
+        }
+    }
+    target.say(&said)?;
     Ok(status(&end))
 }
 
 pub fn replay(args: &Replay) -> Result<u8, Failure> {
     let program = load(&args.file.file)?;
     let log = fs::read(&args.log).map_err(|error| Failure::file(&args.log, error))?;
+    let log = LogFile::decode(&log);
+    let log = log.map_err(|text| Failure::Wrong(format!("{}: {text}", args.log.display())))?;
     let machine = Machine::new(&program, args.buffers.sizes());
-    let end = machine.replay(&log);
+    let order = check_run(args, &log, &Named::of(&machine))?;
+    let end = machine.replay(&log.records);
     if args.listing {
         output::print(&end.text()?)?;
         return Ok(status(&end));
     }
-    let text = replayed(&machine, &end, &log) + &left(&machine, &end);
+    let text = replayed(&machine, &end, &log.records, order) + &left(&machine, &end);
     output::print(text.as_bytes())?;
     Ok(status(&end))
 }
 
+/// Refuses a log of another run, unless it is asked for; answers by which log the replay fires, in words.
+fn check_run(args: &Replay, log: &LogFile, here: &Named) -> Result<&'static str, Failure> {
+    let path = args.log.display();
+    let Some(of) = &log.of else {
+        let text =
+            format!("{path} has records alone, which do not say what graph and inputs they are of");
+        complain(Finding::new(Severity::Note, text));
+        return Ok("as logged");
+    };
+    if of == here {
+        return Ok("as logged");
+    }
+    let text = format!("{path} is the log of another run\n  the log:  {of}\n  this run: {here}");
+    if args.anyway {
+        complain(Finding::warning(text));
+        return Ok("by the log of another run");
+    }
+    let Sizes { capacity, cells } = of.sizes;
+    let advice = match of.fingerprint == here.fingerprint {
+        true => format!("lend what it was made with: --capacity {capacity} --cells {cells}"),
+        false => "was the graph or an input edited since?".to_string(),
+    };
+    let text = format!("{text}\n  {advice}\n  --anyway replays it all the same");
+    Err(Failure::Wrong(text))
+}
+
+/// A finding about no place in the text.
+fn complain(finding: Finding) {
+    diagnostics::complain("", "", &[finding]);
+}
+
 /// The answer of a replay in words. Only here is it known what a record of the log names.
-fn replayed(machine: &Machine, end: &End, log: &[u8]) -> String {
-    let order = "as logged";
+fn replayed(machine: &Machine, end: &End, log: &[u8], order: &str) -> String {
     let program = machine.program;
     match refused::explain(program, end, machine.sizes, order) {
         Some(mut finding) if end.answer.word == Word::Refused(20) => {

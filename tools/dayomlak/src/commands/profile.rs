@@ -1,79 +1,137 @@
 //! `dayomlak profile`.
 
+use std::path::Path;
+
+use plotter::{Step, Words};
+
 use super::{answer, load, status};
+use crate::answer::{Answer, Word};
 use crate::cli::Profile;
 use crate::failure::Failure;
-use crate::machine::Machine;
-use crate::output;
-use crate::pictures::{self, curves};
-use crate::plotter::{self, Plot};
+use crate::json::{list, object};
+use crate::machine::{End, Machine, WHOLE};
+use crate::orders::Order;
+use crate::output::Target;
 use crate::program::Program;
-use crate::records::Step;
-use crate::{refused, results};
+use crate::{output, pictures, profiles, refused, results, script};
 
 /// The longest bar of the table.
 const BAR: usize = 30;
 
+const NO_RUN: &str = "--order and --budget are of the run that a picture shows beside the curves, and none is asked for\n  \
+    the profile itself takes no picks and no budget: leave them out, or name a picture by -o X.svg";
+
 pub fn profile(args: &Profile) -> Result<u8, Failure> {
-    if let Some(path) = &args.output {
-        pictures::check_name(path)?;
+    match &args.output {
+        None if args.order.is_some() || args.budget.is_some() => {
+            Err(Failure::Wrong(NO_RUN.to_string()))
+        }
+        None => show_table(args),
+        Some(path) => draw(args, path),
     }
+}
+
+/// The profile alone; no run is made.
+fn show_table(args: &Profile) -> Result<u8, Failure> {
     let program = load(&args.file.file)?;
     let machine = Machine::new(&program, args.buffers.sizes());
-    let plot = plotter::plot(&machine, args.firing.order, args.firing.budget)?;
-    let mut text = String::new();
-    match &args.output {
-        Some(path) => {
-            let svg = curves::svg(&picture(&program, &plot));
-            let svg = svg.map_err(|e| Failure::Inconsistent(format!("the picture: {e}")))?;
-            output::write(path, svg.as_bytes())?;
-        }
-        None if plot.steps.is_empty() => {}
-        None => text += &table(&plot.steps),
+    let (end, steps) = machine.profile();
+    if args.form.script.json {
+        let mut fields = script::lent(&machine);
+        fields.push(("answer", script::answer(&end.answer)));
+        fields.push(("steps", list(steps.iter().map(step))));
+        script::print("profile", &program, fields)?;
+        return Ok(status(&end));
     }
-    text += &words(&program, &plot).join("\n");
-    // The run may be an earlier one, from the cache: its date says so.
-    let order = format!("{}, {}", plot.order, pictures::date(plot.seconds));
-    text += &format!("\n{}", answer(&machine, &plot.end, &order));
+    if args.form.csv {
+        output::print(csv(&steps).as_bytes())?;
+        return Ok(status(&end));
+    }
+    let mut text = table(&steps);
+    text += &profiles::words(&program, &steps, &end.answer).join("\n");
+    text.push('\n');
+    if !program.files.picks.is_empty() {
+        text += "the picks are not used: an ideal step fires all that is enabled at its start\n";
+    }
+    if let Word::Refused(_) = end.answer.word {
+        text += &answer(&machine, &end, "by ideal steps");
+    }
     output::print(text.as_bytes())?;
-    Ok(status(&plot.end))
+    Ok(status(&end))
 }
 
-/// How the profile ended, and what its first step has besides.
-fn words(program: &Program, plot: &Plot) -> Vec<String> {
-    let ended = plotter::ended(&plot.steps, &plot.profiled);
-    let loading = plotter::loading(program, &plot.steps);
-    [Some(ended), loading].into_iter().flatten().collect()
+fn step(step: &Step) -> String {
+    object(&[
+        ("firings", step.firings.to_string()),
+        ("tokens", step.tokens.to_string()),
+    ])
 }
 
-fn picture(program: &Program, plot: &Plot) -> curves::Picture {
-    let fingerprint = pictures::fingerprint(&program.files);
-    let request = &plot.request;
-    let mut run = format!(
-        "run of {}: {}",
-        pictures::date(plot.seconds),
-        results::headline(&plot.end, &plot.order)
-    );
-    if let Some(firing) = refused::which(program, &plot.end) {
-        run += &format!(", in {firing}");
+/// A line for each step, by its number.
+fn csv(steps: &[Step]) -> String {
+    let mut text = script::csv(&["step", "firings", "tokens"].map(str::to_string));
+    for (number, step) in (1..).zip(steps) {
+        let number: usize = number;
+        text += &script::csv(&[
+            number.to_string(),
+            step.firings.to_string(),
+            step.tokens.to_string(),
+        ]);
     }
-    let mut facts = vec![
-        format!(
-            "graph and inputs {fingerprint}, capacity {}, {} cells",
-            request.capacity, request.cells
-        ),
-        run,
-    ];
-    facts.extend(words(program, plot));
-    curves::Picture {
+    text
+}
+
+/// The curves with what a run left, as a picture.
+fn draw(args: &Profile, path: &Path) -> Result<u8, Failure> {
+    pictures::check_name(path)?;
+    let program = load(&args.file.file)?;
+    let target = Target::new(path, &program.sources)?;
+    let machine = Machine::new(&program, args.buffers.sizes());
+    let order = args.order.unwrap_or(Order::Typed);
+    let plot = profiles::plot(&machine, order, args.budget.unwrap_or(WHOLE))?;
+    let left = &plot.left;
+    let end = End::of(
+        Answer::of(left.answer),
+        left.ledger.clone(),
+        left.cells.clone(),
+    );
+    let profiled = Answer::of(plot.profile.answer);
+    let mut profile = profiles::words(&program, &plot.profile.steps, &profiled);
+    profile[0] = format!(
+        "profile, which takes no picks and no budget: {}",
+        profile[0]
+    );
+    let words = Words {
         title: program.label.clone(),
-        facts,
-        steps: plot.steps.clone(),
-        left: results::lines(program, &plot.end),
+        run: ended(&program, &end, &plot.run.words()),
+        profile,
+        left: results::lines(&program, &end),
+    };
+    let svg = plot.svg(&words);
+    let svg = svg.map_err(|error| Failure::Inconsistent(format!("the picture: {error}")))?;
+    target.write(svg.as_bytes())?;
+    let order = format!("{}, run of {}", plot.run.words(), plot.run.date());
+    let mut text = answer(&machine, &end, &order);
+    for line in plot.asked_for().iter().chain(&words.profile) {
+        text += &format!("{line}\n");
+    }
+    target.say(&text)?;
+    Ok(status(&end))
+}
+
+/// How a run ended, with the firing that was refused.
+fn ended(program: &Program, end: &End, order: &str) -> String {
+    let words = results::headline(end, order);
+    match refused::which(program, end) {
+        Some(firing) => format!("{words}, in {firing}"),
+        None => words,
     }
 }
 
 fn table(steps: &[Step]) -> String {
+    if steps.is_empty() {
+        return String::new();
+    }
     let most = |part: fn(&Step) -> u16| steps.iter().map(part).max().unwrap_or(1).max(1);
     let (firings, tokens) = (most(|s| s.firings), most(|s| s.tokens));
     let bar = |value: u16, most: u16, mark: &str| {

@@ -3,8 +3,8 @@
 use asm::{assemble, GRAPH_RECORD};
 
 use super::{parse, typed, Expression, Fault, Kind, Operator, MOST_PARTS};
-use crate::engine::{self, Lent};
 use crate::records::{tokens, TOKEN};
+use ttda::{Answer, Word};
 
 const TEXTS: usize = 10_000;
 
@@ -207,16 +207,16 @@ fn check_expression(expression: &Expression) {
     };
     let values: Vec<i32> = expression.variables().map(value).collect();
     let mut graph = vec![0; GRAPH_RECORD * (last + 2)];
-    let made = engine::expression(&expression.records(), &mut graph);
-    assert_eq!(made, (last as u64 + 2) << 16, "{expression:?}");
+    let made = ttda::expression(&expression.records(), &mut graph);
+    assert_eq!(made, Answer::of(0, last as u16 + 2, 0, 0), "{expression:?}");
     let files = assemble(&typed::text(expression, &values)).unwrap();
     assert_eq!(files.graph, graph, "{expression:?}");
     let bytes: Vec<u8> = values
         .iter()
         .flat_map(|value| value.to_le_bytes())
         .collect();
-    let packed = engine::expression_value(&expression.records(), &bytes);
-    let value = (packed & 0xffff == 0).then_some((packed >> 16) as i32);
+    let value = ttda::expression_value(&expression.records(), &bytes);
+    let value = (value.word() == Word::Completed).then_some(value.value());
     assert_eq!(value, due, "{expression:?}");
     assert_eq!(
         out(&graph, &files.inputs, last as u16 + 1),
@@ -228,16 +228,9 @@ fn check_expression(expression: &Expression) {
 /// What OUT receives in a run.
 fn out(graph: &[u8], inputs: &[u8], instruction: u16) -> Option<i32> {
     let mut ledger = vec![0; TOKEN * 300];
-    let lent = Lent {
-        graph,
-        inputs,
-        ledger: &mut ledger,
-        cells: &mut [],
-    };
-    let answer = engine::run(lent, &[], 2048);
-    assert!([0, 12].contains(&(answer & 0xffff)));
-    let used = (answer >> 32 & 0xffff) as usize;
-    let tokens = tokens(&ledger[..TOKEN * used]);
+    let answer = ttda::run(graph, inputs, &[], 2048, &mut ledger, &mut []);
+    assert!(matches!(answer.word(), Word::Completed | Word::Refused(12)));
+    let tokens = tokens(&ledger[..TOKEN * answer.tokens()]);
     let out = tokens
         .into_iter()
         .find(|t| t.tag.instruction == instruction);

@@ -3,7 +3,6 @@
 
 mod data;
 mod html;
-mod json;
 mod states;
 mod steps;
 
@@ -14,13 +13,12 @@ use crate::failure::Failure;
 use crate::graphviz;
 use crate::machine::{End, Machine};
 use crate::pictures;
-use crate::pictures::curves::{self, Chart};
 use crate::pictures::dot::Drawing;
-use crate::plotter;
-use crate::program::Program;
+use crate::profiles;
 use crate::records::Tag;
 use crate::results;
 use html::escaped;
+use plotter::curves::{self, Chart};
 use steps::Steps;
 
 const PAGE: &str = include_str!("page.html");
@@ -71,7 +69,7 @@ impl<'m> Run<'m> {
             ),
             ("Order", self.order.clone()),
             ("Lent", format!("{buffers}, budget {}", self.budget)),
-            ("Date", pictures::date(pictures::now())),
+            ("Date", plotter::date(plotter::now())),
             ("Made by", format!("dayomlak {engine}")),
         ]
     }
@@ -105,6 +103,7 @@ pub fn page(run: &Run) -> Result<String, Failure> {
         lines if lines.is_empty() => "nothing".to_string(),
         lines => lines.join("\n"),
     };
+    let profile = profiles::words(program, &steps.whole, &steps.answer).join("; ");
     let kind = run.end.answer.words();
     let kind = kind.split(' ').next().unwrap_or_default().to_string();
     let parts = [
@@ -114,7 +113,7 @@ pub fn page(run: &Run) -> Result<String, Failure> {
         ("facts", facts.collect()),
         ("refusal", run.refusal()),
         ("picture", picture(run, &drawing)?),
-        ("profile", escaped(&profile_words(program, &steps))),
+        ("profile", escaped(&profile)),
         ("curves", curves(&steps)?),
         ("left", escaped(&left)),
         ("listing", escaped(&run.listing()?)),
@@ -124,15 +123,6 @@ pub fn page(run: &Run) -> Result<String, Failure> {
         ("script", SCRIPT.to_string()),
     ];
     Ok(html::fill(PAGE, &parts))
-}
-
-/// How the profile ended, and what its first step has besides.
-fn profile_words(program: &Program, steps: &Steps) -> String {
-    let ended = plotter::ended(&steps.whole, &steps.answer);
-    match plotter::loading(program, &steps.whole) {
-        Some(loading) => format!("{ended}; {loading}"),
-        None => ended,
-    }
 }
 
 /// The graph, unless it is larger than any that is run.

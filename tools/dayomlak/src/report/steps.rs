@@ -3,9 +3,11 @@
 
 use std::collections::HashMap;
 
+use plotter::Step;
+
 use crate::answer::Answer;
 use crate::machine::{End, Machine};
-use crate::records::{State, Step, Tag};
+use crate::records::{State, Tag};
 
 pub struct Steps {
     /// The answer of the profile, which takes no picks and no budget.

@@ -39,6 +39,10 @@ impl Folder {
         self.0.join(name).display().to_string()
     }
 
+    pub fn exists(&self, name: &str) -> bool {
+        self.0.join(name).exists()
+    }
+
     /// Writes a file and answers its path.
     pub fn write(&self, name: &str, bytes: impl AsRef<[u8]>) -> String {
         fs::write(self.0.join(name), bytes).unwrap();
@@ -52,12 +56,19 @@ impl Drop for Folder {
     }
 }
 
-/// A command in the project's root, with a cache of its own at a fixed moment.
+/// A command in the project's root at a fixed moment, for which nothing is kept.
 pub fn command(cache: &Folder, arguments: &[&str]) -> Command {
+    let mut command = kept_command(cache, arguments);
+    command.env("SOURCE_DATE_EPOCH", MOMENT);
+    command
+}
+
+/// A command in the project's root, with a cache of its own, by the clock.
+pub fn kept_command(cache: &Folder, arguments: &[&str]) -> Command {
     let mut command = Command::new(env!("CARGO_BIN_EXE_dayomlak"));
     command.current_dir(ROOT).args(arguments);
     command.env("XDG_CACHE_HOME", cache.path("cache"));
-    command.env("SOURCE_DATE_EPOCH", MOMENT);
+    command.env_remove("SOURCE_DATE_EPOCH");
     command
 }
 

@@ -6,7 +6,7 @@ use std::ops::Range;
 use plotters::coord::Shift;
 use plotters::prelude::*;
 
-use crate::records::Step;
+use crate::engine::Step;
 
 const WIDTH: u32 = 900;
 /// The width of a curve beside other things.
@@ -21,13 +21,13 @@ const ROWS: usize = 8;
 const MANY: usize = 150;
 
 /// What a picture shows.
-pub struct Picture {
-    pub title: String,
-    /// What it is of: file, fingerprint, order, date, answer.
-    pub facts: Vec<String>,
-    pub steps: Vec<Step>,
+pub(crate) struct Picture<'p> {
+    pub title: &'p str,
+    /// What it is of: graph and inputs, run, profile.
+    pub facts: &'p [String],
+    pub steps: &'p [Step],
     /// What the run left, by names.
-    pub left: Vec<String>,
+    pub left: &'p [String],
 }
 
 type Place = (Range<i32>, Range<i32>);
@@ -54,8 +54,8 @@ const CURVES: [Curve; 2] = [
 ];
 
 /// Draws a picture.
-pub fn svg(picture: &Picture) -> Result<String, Box<dyn Error>> {
-    let left = columns(&picture.left);
+pub(crate) fn svg(picture: &Picture) -> Result<String, Box<dyn Error>> {
+    let left = columns(picture.left);
     let rows = left.iter().map(Vec::len).max().unwrap_or(0) as u32;
     let head = MARGIN + 28 + LINE * picture.facts.len() as u32;
     let charts = CHART * CURVES.len() as u32;
@@ -65,14 +65,14 @@ pub fn svg(picture: &Picture) -> Result<String, Box<dyn Error>> {
         let backend = SVGBackend::with_string(&mut svg, (WIDTH, head + charts + tail));
         let root = backend.into_drawing_area();
         root.fill(&WHITE)?;
-        write(&root, &picture.title, 18, (MARGIN, MARGIN))?;
-        for (line, fact) in (0..).zip(&picture.facts) {
+        write(&root, picture.title, 18, (MARGIN, MARGIN))?;
+        for (line, fact) in (0..).zip(picture.facts) {
             write(&root, fact, 12, (MARGIN, MARGIN + 28 + LINE * line))?;
         }
         let (_, mut rest) = root.split_vertically(head);
         for curve in &CURVES {
             let (chart, below) = rest.split_vertically(CHART);
-            curve.draw(&chart, &picture.steps)?;
+            curve.draw(&chart, picture.steps)?;
             rest = below;
         }
         write_columns(&rest, &left)?;

@@ -1,0 +1,9 @@
+//! The proved engine of the tagged-token dataflow machine. Every function is one of crates/abi/ttda.h, which says what it
+//! writes and when it refuses; buffers are lent as slices, and the answers have types. docs/FORMATS.md gives the records.
+
+mod answers;
+mod functions;
+pub mod widths;
+
+pub use answers::{Answer, Copied, NotPrinted, Printed, Value, Word};
+pub use functions::*;

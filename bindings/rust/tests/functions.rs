@@ -1,0 +1,137 @@
+//! Every function once, on 01's example: 7 and -9 go to an ADD, and the sum to an OUT. A test here fails where a
+//! declaration has other parameters than the library.
+
+use ttda::widths::{CELL, INSTRUCTION, LOGGED, OLD_TOKEN, STEP, TOKEN};
+use ttda::{Answer, NotPrinted, Word};
+
+const ADD: u8 = 16;
+const OUT: u8 = 3;
+const TEXT: &str = "completed 1 3 0\n0 0 0 0 7 spent\n0 0 0 1 -9 spent\n0 0 1 0 -2 live\n";
+
+fn graph() -> Vec<u8> {
+    let mut graph = vec![0; 2 * INSTRUCTION];
+    graph[..5].copy_from_slice(&[ADD, 1, 0, 0, 1]);
+    graph[INSTRUCTION] = OUT;
+    graph
+}
+
+/// The two inputs, in records whose value comes after so many bytes.
+fn inputs(width: usize, value: usize) -> Vec<u8> {
+    let mut inputs = vec![0; 2 * width];
+    inputs[value..value + 4].copy_from_slice(&7i32.to_le_bytes());
+    inputs[width + value - 3] = 1;
+    inputs[width + value..width + value + 4].copy_from_slice(&(-9i32).to_le_bytes());
+    inputs
+}
+
+/// Graph and inputs, and buffers for a few tokens and cells.
+fn lent() -> (Vec<u8>, Vec<u8>, [u8; 4 * TOKEN], [u8; 2 * CELL]) {
+    (graph(), inputs(TOKEN, 20), [0; 4 * TOKEN], [0; 2 * CELL])
+}
+
+/// What is printed of an answer.
+fn printed(answer: Answer, ledger: &[u8], cells: &[u8]) -> String {
+    let used = TOKEN * answer.tokens();
+    let mut listing = vec![0; used];
+    assert!(ttda::list(&ledger[..used], &mut listing).is_done());
+    let mut room = vec![0; ttda::widths::printed(answer.tokens(), cells.len() / CELL)];
+    let length = ttda::print(answer, &listing, cells, &mut room)
+        .length()
+        .unwrap();
+    String::from_utf8(room[..length].to_vec()).unwrap()
+}
+
+#[test]
+fn a_run_is_listed_and_printed() {
+    let (graph, inputs, mut ledger, mut cells) = lent();
+    let answer = ttda::run(&graph, &inputs, &[], 9, &mut ledger, &mut cells);
+    assert_eq!(answer, Answer::of(Word::COMPLETED, 1, 3, 0));
+    assert_eq!(
+        (answer.word(), answer.firings(), answer.tokens()),
+        (Word::Completed, 1, 3)
+    );
+    assert_eq!(printed(answer, &ledger, &cells), TEXT);
+}
+
+#[test]
+fn a_budget_that_is_used_up_is_carried_on() {
+    let (graph, inputs, mut ledger, mut cells) = lent();
+    let cut = ttda::run(&graph, &inputs, &[], 0, &mut ledger, &mut cells);
+    assert_eq!(
+        (cut.word(), cut.parts()),
+        (Word::Spent, (Word::SPENT, 0, 2, 0))
+    );
+    let (firings, tokens) = (cut.parts().1, cut.parts().2);
+    let answer = ttda::carry_on(&graph, &[], 9, firings, tokens, &mut ledger, &mut cells);
+    assert_eq!(printed(answer, &ledger, &cells), TEXT);
+}
+
+#[test]
+fn a_log_is_replayed() {
+    let (graph, inputs, mut ledger, mut cells) = lent();
+    let mut log = [0; LOGGED];
+    let first = ttda::run_logged(&graph, &inputs, &[], 1, &mut ledger, &mut cells, &mut log);
+    assert_eq!(first.firings(), 1);
+    let (_, _, mut ledger, mut cells) = lent();
+    let answer = ttda::replay(&graph, &inputs, &log, &mut ledger, &mut cells);
+    assert_eq!(printed(answer, &ledger, &cells), TEXT);
+}
+
+#[test]
+fn a_profile_has_a_record_for_each_step() {
+    let (graph, inputs, mut ledger, mut cells) = lent();
+    let (mut profile, mut records) = ([0; 2 * STEP], u64::MAX);
+    let answer = ttda::profile(
+        &graph,
+        &inputs,
+        &mut ledger,
+        &mut cells,
+        &mut profile,
+        &mut records,
+    );
+    assert_eq!((records, &profile), (1, &[1, 0, 1, 0, 0, 0, 0, 0]));
+    assert_eq!(printed(answer, &ledger, &cells), TEXT);
+}
+
+#[test]
+fn bounds_and_refusals() {
+    let (graph, inputs, ..) = lent();
+    assert_eq!(ttda::bounds(&graph, &inputs), Answer::of(0, 1, 3, 0));
+    assert_eq!(ttda::bounds(&[], &inputs).word(), Word::Refused(1));
+    let refused = ttda::bounds(&graph, &[&inputs[..TOKEN], &[9; TOKEN]].concat());
+    assert_eq!((refused.word(), refused.place()), (Word::Refused(6), 1));
+}
+
+#[test]
+fn an_expression_has_a_graph_and_a_value() {
+    let difference = [[0; 8], [0; 8], [ADD + 1, 0, 1, 0, 0, 0, 0, 0]].concat();
+    let mut made = [0; 4 * INSTRUCTION];
+    let answer = ttda::expression(&difference, &mut made);
+    assert_eq!((answer.word(), answer.firings()), (Word::Completed, 4));
+    let values = [5i32.to_le_bytes(), 12i32.to_le_bytes()].concat();
+    let value = ttda::expression_value(&difference, &values);
+    assert_eq!((value.word(), value.value()), (Word::Completed, -7));
+    assert_eq!(
+        ttda::expression_value(&difference, &[]).word(),
+        Word::Refused(7)
+    );
+    assert_eq!(
+        ttda::expression(&difference, &mut []).word(),
+        Word::Refused(26)
+    );
+}
+
+#[test]
+fn old_records_are_made_new() {
+    let mut new = [1; 2 * TOKEN];
+    assert!(ttda::convert(&inputs(OLD_TOKEN, 12), &mut new).is_done());
+    assert_eq!(new.to_vec(), inputs(TOKEN, 20));
+    assert!(!ttda::convert(&[0; 19], &mut new).is_done());
+}
+
+#[test]
+fn what_is_not_printed_says_why() {
+    let printed = |answer| ttda::print(answer, &[], &[], &mut [0; 5]).length();
+    assert_eq!(printed(Answer::of(0, 0, 0, 0)), Err(NotPrinted::TooSmall));
+    assert_eq!(printed(Answer::of(99, 0, 0, 0)), Err(NotPrinted::NoAnswer));
+}

@@ -1,0 +1,181 @@
+//! A log in a file: a head in five lines that names the run, then a record for each firing. Without the head a file has bare
+//! records, which name no run.
+
+use std::fmt;
+
+use plotter::Fingerprint;
+
+use crate::machine::{Machine, Sizes};
+use crate::pictures;
+use crate::records::LOGGED;
+
+/// How every log begins; the number of the form follows.
+pub const START: &str = "dayomlak log ";
+const FORM: &str = "1";
+
+/// What a log is of: all that decides what its records name.
+#[derive(Clone, Copy, Debug, PartialEq, Eq)]
+pub struct Named {
+    pub fingerprint: Fingerprint,
+    pub sizes: Sizes,
+}
+
+impl Named {
+    pub fn of(machine: &Machine) -> Named {
+        Named {
+            fingerprint: pictures::fingerprint(&machine.program.files),
+            sizes: machine.sizes,
+        }
+    }
+}
+
+impl fmt::Display for Named {
+    fn fmt(&self, f: &mut fmt::Formatter<'_>) -> fmt::Result {
+        let Sizes { capacity, cells } = self.sizes;
+        let fingerprint = self.fingerprint;
+        write!(
+            f,
+            "graph and inputs {fingerprint}, capacity {capacity}, {cells} cells"
+        )
+    }
+}
+
+/// The contents of a log file.
+#[derive(Clone, Debug, PartialEq, Eq)]
+pub struct LogFile {
+    /// `None` for bare records.
+    pub of: Option<Named>,
+    pub records: Vec<u8>,
+}
+
+impl LogFile {
+    /// Bytes with a head must be a whole log; any others are bare records.
+    pub fn decode(bytes: &[u8]) -> Result<LogFile, String> {
+        if !bytes.starts_with(START.as_bytes()) {
+            return Ok(LogFile {
+                of: None,
+                records: bytes.to_vec(),
+            });
+        }
+        let mut head = Head(bytes);
+        let form = head.value(START).ok_or("its head is damaged")?;
+        if form != FORM {
+            return Err(format!(
+                "a log of form {form}, and this program reads form {FORM}"
+            ));
+        }
+        let (named, firings) = head.named().ok_or("its head is damaged")?;
+        let records = head.0;
+        if firings.checked_mul(LOGGED) != Some(records.len()) {
+            let bytes = records.len();
+            return Err(format!("its head says {firings} firings of {LOGGED} bytes, and it has {bytes} bytes of them"));
+        }
+        Ok(LogFile {
+            of: Some(named),
+            records: records.to_vec(),
+        })
+    }
+
+    pub fn encode(&self) -> Vec<u8> {
+        let head = self
+            .of
+            .map(|named| head(&named, self.records.len() / LOGGED));
+        [head.unwrap_or_default().as_bytes(), &self.records].concat()
+    }
+}
+
+fn head(named: &Named, firings: usize) -> String {
+    let Sizes { capacity, cells } = named.sizes;
+    let digits = named.fingerprint.digits();
+    format!(
+        "{START}{FORM}\ngraph and inputs {digits}\ncapacity {capacity}\ncells {cells}\nfirings {firings}\n"
+    )
+}
+
+/// The lines of a head that are still to be read, and the records behind them.
+struct Head<'b>(&'b [u8]);
+
+impl<'b> Head<'b> {
+    /// The rest of a line that begins with some words.
+    fn value(&mut self, words: &str) -> Option<&'b str> {
+        let end = self.0.iter().position(|byte| *byte == b'\n')?;
+        let (line, rest) = self.0.split_at(end);
+        self.0 = &rest[1..];
+        std::str::from_utf8(line).ok()?.strip_prefix(words)
+    }
+
+    /// A number as it is written, without zeros before it.
+    fn number(&mut self, words: &str) -> Option<usize> {
+        let value = self.value(words)?;
+        let number: usize = value.parse().ok()?;
+        (number.to_string() == value).then_some(number)
+    }
+
+    /// The run that the lines name, and its firings.
+    fn named(&mut self) -> Option<(Named, usize)> {
+        let fingerprint = Fingerprint::from_digits(self.value("graph and inputs ")?)?;
+        let capacity = self.number("capacity ")?;
+        let cells = self.number("cells ")?;
+        let sizes = Sizes { capacity, cells };
+        let firings = self.number("firings ")?;
+        Some((Named { fingerprint, sizes }, firings))
+    }
+}
+
+#[cfg(test)]
+mod tests {
+    use super::*;
+
+    fn log() -> LogFile {
+        LogFile {
+            of: Some(Named {
+                fingerprint: Fingerprint::of(b"graph"),
+                sizes: Sizes {
+                    capacity: 20,
+                    cells: 3,
+                },
+            }),
+            records: vec![7; 2 * LOGGED],
+        }
+    }
+
+    #[test]
+    fn what_is_written_is_read() {
+        let bytes = log().encode();
+        assert_eq!(LogFile::decode(&bytes), Ok(log()));
+        let bare = LogFile { of: None, ..log() };
+        assert_eq!(bare.encode(), [7; 2 * LOGGED]);
+        assert_eq!(LogFile::decode(&bare.encode()), Ok(bare));
+        assert_eq!(LogFile::decode(&[]).unwrap().of, None);
+    }
+
+    /// Half a log is none, nor is one whose head is changed in any byte.
+    #[test]
+    fn a_damaged_log_is_noticed() {
+        let bytes = log().encode();
+        let head = bytes.len() - 2 * LOGGED;
+        for length in START.len()..bytes.len() {
+            assert!(LogFile::decode(&bytes[..length]).is_err(), "{length} bytes");
+        }
+        for at in START.len()..head {
+            let mut damaged = bytes.clone();
+            damaged[at] ^= 1;
+            let read = LogFile::decode(&damaged);
+            assert!(
+                read.as_ref().map_or(true, |read| read.of != log().of),
+                "byte {at}"
+            );
+        }
+        assert!(LogFile::decode(&[&bytes[..], &[0]].concat()).is_err());
+        let text = String::from_utf8(bytes).unwrap();
+        let many = text.replace("firings 2", &format!("firings {}", usize::MAX));
+        assert!(LogFile::decode(many.as_bytes()).is_err());
+    }
+
+    #[test]
+    fn another_form_is_named() {
+        let text = "dayomlak log 2\nother words\n";
+        let words = "a log of form 2, and this program reads form 1";
+        assert_eq!(LogFile::decode(text.as_bytes()), Err(words.to_string()));
+    }
+}

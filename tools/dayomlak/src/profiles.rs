@@ -1,0 +1,64 @@
+//! Profiles in words, and their plots.
+
+use plotter::{Cache, Library, Plot, Request, Run, Step};
+
+use crate::answer::{count, Answer};
+use crate::failure::Failure;
+use crate::loads::Loads;
+use crate::machine::Machine;
+use crate::orders::Order;
+use crate::program::Program;
+
+/// The plot of a machine fired in an order, from the user's cache where the engine says that what is kept serves.
+pub fn plot(machine: &Machine, order: Order, budget: u16) -> Result<Plot, Failure> {
+    let files = &machine.program.files;
+    let request = Request {
+        graph: files.graph.clone(),
+        inputs: files.inputs.clone(),
+        picks: order.picks(machine)?,
+        budget,
+        capacity: machine.sizes.capacity as u16,
+        cells: machine.sizes.cells as u16,
+    };
+    let asked = Run {
+        request,
+        order: order.words(!files.picks.is_empty()),
+        seconds: plotter::now(),
+    };
+    let cache = Cache::of_user(env!("ENGINE"));
+    Ok(Plot::of(&Library, cache.as_ref(), asked))
+}
+
+/// How a profile ended, and what its first step has besides.
+pub fn words(program: &Program, steps: &[Step], answer: &Answer) -> Vec<String> {
+    let words = [Some(ended(steps, answer)), loading(program, steps)];
+    words.into_iter().flatten().collect()
+}
+
+/// What the first step has besides, in words: cells are loaded in it, which makes it higher than what is computed.
+fn loading(program: &Program, steps: &[Step]) -> Option<String> {
+    let loads = Loads::of(program).cells.len();
+    let (_, later) = steps.split_first().filter(|_| loads > 0)?;
+    let loading = format!("step 1 loads {}", count(loads, "cell"));
+    match later.iter().map(|step| step.firings).max() {
+        Some(most) => Some(format!(
+            "{loading}; after it a step has at most {}",
+            count(most.into(), "firing")
+        )),
+        None => Some(loading),
+    }
+}
+
+/// How a profile ended, in words.
+fn ended(steps: &[Step], answer: &Answer) -> String {
+    let (words, counts) = (answer.words(), answer.counts());
+    if answer.refused_at_once() {
+        return format!("{words}, before the first ideal step");
+    }
+    let count = count(steps.len(), "ideal step");
+    match answer.ended() {
+        true => format!("{count}, then {words}: {counts}"),
+        false if steps.is_empty() => format!("{words}, in the first ideal step: {counts}"),
+        false => format!("{count}, then {words}, in the next step: {counts}"),
+    }
+}

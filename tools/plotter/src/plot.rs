@@ -1,0 +1,118 @@
+//! A plot: the profile of a graph with what a run left, and the words that say which run that was.
+
+use std::error::Error;
+
+use crate::cache::Cache;
+use crate::clock::date;
+use crate::curves::{self, Picture};
+use crate::engine::{Engine, Left, Profile, Request};
+use crate::fingerprint::Fingerprint;
+
+/// The budget that no run exceeds; it is not worth a word.
+const WHOLE: u16 = 2048;
+
+/// A run, and how a reader knows it.
+#[derive(Clone, Debug, PartialEq, Eq)]
+pub struct Run {
+    pub request: Request,
+    /// Its order in words.
+    pub order: String,
+    /// When it was made or asked for.
+    pub seconds: u64,
+}
+
+impl Run {
+    /// Its order, and its budget where that may stop it.
+    pub fn words(&self) -> String {
+        match self.request.budget {
+            WHOLE => self.order.clone(),
+            budget => format!("{}, budget {budget}", self.order),
+        }
+    }
+
+    pub fn date(&self) -> String {
+        date(self.seconds)
+    }
+}
+
+#[derive(Clone, Debug, PartialEq, Eq)]
+pub struct Plot {
+    /// The run that was made: what is left is its own.
+    pub run: Run,
+    pub left: Left,
+    pub profile: Profile,
+    /// The run that was asked for, where what was kept serves it.
+    pub asked: Option<Run>,
+}
+
+/// What a program says of a plot in its own words.
+pub struct Words {
+    pub title: String,
+    /// How the run ended.
+    pub run: String,
+    /// How the profile ended, and what else there is to say of it.
+    pub profile: Vec<String>,
+    /// What the run left, by names.
+    pub left: Vec<String>,
+}
+
+impl Plot {
+    /// The plot of a run: the kept one where the engine says that it serves, else a new one, which is kept.
+    pub fn of(engine: &impl Engine, cache: Option<&Cache>, asked: Run) -> Plot {
+        let kept = cache.and_then(Cache::load);
+        let serves =
+            |kept: &Plot| engine.serves(&kept.run.request, kept.left.answer, &asked.request);
+        if let Some(kept) = kept.filter(serves) {
+            return Plot {
+                asked: Some(asked),
+                ..kept
+            };
+        }
+        let plot = Plot {
+            left: engine.run(&asked.request),
+            profile: engine.profile(&asked.request),
+            run: asked,
+            asked: None,
+        };
+        if let Some(cache) = cache {
+            cache.save(&plot);
+        }
+        plot
+    }
+
+    /// The run that was asked for, when, and why this one serves.
+    pub fn asked_for(&self) -> Option<String> {
+        let asked = self.asked.as_ref()?;
+        let (own, other) = (&self.run.request, &asked.request);
+        let reason = match (own.picks == other.picks, own.budget == other.budget) {
+            (true, true) => "the same run",
+            (true, false) => "either budget is enough",
+            (false, _) => "any order ends as this one",
+        };
+        let (words, date) = (asked.words(), asked.date());
+        Some(format!("asked for: {words}, {date}; {reason}"))
+    }
+
+    /// What the plot is of, a line each.
+    fn facts(&self, words: &Words) -> Vec<String> {
+        let request = &self.run.request;
+        let fingerprint = Fingerprint::of_run(&request.graph, &request.inputs);
+        let (capacity, cells) = (request.capacity, request.cells);
+        let lent = format!("graph and inputs {fingerprint}, capacity {capacity}, {cells} cells");
+        let run = format!("run of {}: {}", self.run.date(), words.run);
+        let mut facts = vec![lent, run];
+        facts.extend(self.asked_for());
+        facts.extend(words.profile.clone());
+        facts
+    }
+
+    /// The picture.
+    pub fn svg(&self, words: &Words) -> Result<String, Box<dyn Error>> {
+        curves::svg(&Picture {
+            title: &words.title,
+            facts: &self.facts(words),
+            steps: &self.profile.steps,
+            left: &words.left,
+        })
+    }
+}
