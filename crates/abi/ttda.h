@@ -87,8 +87,8 @@ uint64_t ttda_convert(const uint8_t *old, size_t old_len,
 #define TTDA_TOO_SMALL 0
 #define TTDA_NO_ANSWER 1
 
-/* Prints the answer of ttda_run, ttda_carry_on, ttda_run_logged, ttda_replay or ttda_profile, a listing of ttda_list and the cells to the
-   start of out, as the program does. The number of bounds or of an expression is no run's answer: it would be printed as one. Answers the number of bytes; the bytes of out behind them stay untouched. TTDA_TOO_SMALL if the text does not fit, TTDA_NO_ANSWER if the
+/* Prints an answer of one of the functions above, a listing of ttda_list and the cells to the start of out, as the program
+   does. Answers the number of bytes; the bytes of out behind them stay untouched. TTDA_TOO_SMALL if the text does not fit, TTDA_NO_ANSWER if the
    number is no answer's (another word, or a place though nothing is refused), both with out untouched. 74 bytes, 56 for
    each token and 46 for each cell are room enough. Bytes past the last whole record are passed over. */
 uint64_t ttda_print(uint64_t answer,
