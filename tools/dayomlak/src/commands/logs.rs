@@ -90,6 +90,7 @@ fn replayed(machine: &Machine, end: &End, log: &[u8], order: &str) -> String {
         Some(mut finding) if end.answer.word == Word::Refused(20) => {
             let named = named(program, log, end.answer.place);
             finding.notes.insert(0, named);
+            finding.notes.insert(1, format!("fired {order}"));
             diagnostics::plain(&program.label, &program.text, &[finding])
         }
         _ => answer(machine, end, order),

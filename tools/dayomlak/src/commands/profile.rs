@@ -86,12 +86,14 @@ fn draw(args: &Profile, path: &Path) -> Result<u8, Failure> {
     Ok(status(&end))
 }
 
-/// How a run ended, with the firing that was refused.
+/// How a run ended, with the firing or the file that was refused.
 fn ended(program: &Program, end: &End, order: &str) -> String {
     let words = results::headline(end, order);
-    match refused::which(program, end) {
-        Some(firing) => format!("{words}, in {firing}"),
-        None => words,
+    let bad_store = || refused::bad_store(program).filter(|_| end.answer.word == Word::Refused(7));
+    match (refused::which(program, end), bad_store()) {
+        (Some(firing), _) => format!("{words}, in {firing}"),
+        (None, Some(why)) => format!("{words}; {why}"),
+        (None, None) => words,
     }
 }
 
