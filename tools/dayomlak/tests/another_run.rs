@@ -46,7 +46,7 @@ fn picks_with_a_byte_too_many_have_no_completed_plot() {
     assert_eq!(second.status, 1);
     assert!(second.out.contains("refused by 7, bad store"), "{second:?}");
     assert!(second.out.contains("the picks have 1 byte"), "{second:?}");
-    let words = "in the order of its picks; the picks have 1 byte, no whole number of picks";
+    let words = "in the order of its picks; the picks have 1 byte, no";
     assert!(picture.contains("UTC: refused by 7, bad store") && picture.contains(words));
     assert!(!picture.contains("UTC: completed") && !picture.contains("[0] = 41\n"));
 }

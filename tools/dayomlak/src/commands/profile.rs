@@ -2,7 +2,7 @@
 
 use std::path::Path;
 
-use plotter::{Step, Words};
+use plotter::{Plot, Step, Words};
 
 use super::{answer, load, status};
 use crate::answer::{Answer, Word};
@@ -56,24 +56,8 @@ fn draw(args: &Profile, path: &Path) -> Result<u8, Failure> {
     let machine = Machine::new(&program, args.buffers.sizes());
     let order = args.order.unwrap_or(Order::Typed);
     let plot = profiles::plot(&machine, order, args.budget.unwrap_or(WHOLE))?;
-    let left = &plot.left;
-    let end = End::of(
-        Answer::of(left.answer),
-        left.ledger.clone(),
-        left.cells.clone(),
-    );
-    let profiled = Answer::of(plot.profile.answer);
-    let mut profile = profiles::words(&program, &plot.profile.steps, &profiled);
-    profile[0] = format!(
-        "profile, which takes no picks and no budget: {}",
-        profile[0]
-    );
-    let words = Words {
-        title: program.label.clone(),
-        run: ended(&program, &end, &plot.run.words()),
-        profile,
-        left: results::lines(&program, &end),
-    };
+    let end = End::from(&plot.left);
+    let words = words(&program, &plot, &end);
     let svg = plot.svg(&words);
     let svg = svg.map_err(|error| Failure::Inconsistent(format!("the picture: {error}")))?;
     target.write(svg.as_bytes())?;
@@ -84,6 +68,19 @@ fn draw(args: &Profile, path: &Path) -> Result<u8, Failure> {
     }
     target.say(&text)?;
     Ok(status(&end))
+}
+
+/// What is said of a plot, by the names of a program.
+fn words(program: &Program, plot: &Plot, end: &End) -> Words {
+    let profiled = Answer::of(plot.profile.answer);
+    let mut profile = profiles::words(program, &plot.profile.steps, &profiled);
+    profile[0].insert_str(0, "profile, which takes no picks and no budget: ");
+    Words {
+        title: program.label.clone(),
+        run: ended(program, end, &plot.run.words()),
+        profile,
+        left: results::lines(program, end),
+    }
 }
 
 /// How a run ended, with the firing or the file that was refused.
