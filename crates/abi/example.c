@@ -1,18 +1,34 @@
-/* Runs, lists and prints 01's example: gcc -I crates/abi crates/abi/example.c target/staticlib/libabi.a */
+/* Runs, lists and prints 01's example, as C or C++: gcc -I crates/abi crates/abi/example.c target/staticlib/libabi.a */
 #include <stdio.h>
 #include "ttda.h"
 
-static uint8_t ledger[28 * 2048], cells[8 * 1024], listing[sizeof ledger], text[74 + 75 * 2048 + 46 * 1024];
+/* 0 is ADD to port 0 of 1; 1 is OUT. */
+static const uint8_t graph[2 * TTDA_INSTRUCTION_BYTES] = {
+    TTDA_ADD, 1, 0, 0, 1, 0, 0, 0, 0, 0, 0, 0, 0, 0, 0, 0,
+    TTDA_OUT,
+};
+
+/* 7 and -9 on ports 0 and 1 of 0: path, iteration, port, instruction, value, state. */
+static const uint8_t inputs[2 * TTDA_TOKEN_BYTES] = {
+    0, 0, 0, 0, 0, 0, 0, 0, 0, 0, 0, 0, 0, 0, 0, 0, /**/ 0, 0, 0, 0, /**/ 7, 0, 0, 0, /**/ 0, 0, 0, 0,
+    0, 0, 0, 0, 0, 0, 0, 0, 0, 0, 0, 0, 0, 0, 0, 0, /**/ 0, 1, 0, 0, /**/ 0xf7, 0xff, 0xff, 0xff,
+};
+
+static uint8_t ledger[TTDA_TOKEN_BYTES * TTDA_MOST_RECORDS];
+static uint8_t cells[TTDA_CELL_BYTES * TTDA_MOST_CELLS];
+static uint8_t listing[sizeof ledger];
+static uint8_t text[TTDA_PRINTED_BYTES(TTDA_MOST_RECORDS, TTDA_MOST_CELLS)];
 
 int main(void) {
-    /* 0 is ADD to port 0 of 1; 1 is OUT. 7 and -9 are on ports 0 and 1 of 0. No picks. */
-    const uint8_t graph[32] = {16, 1, 0, 0, 1, [16] = 3};
-    const uint8_t inputs[56] = {[20] = 7, [45] = 1, [48] = 0xf7, 0xff, 0xff, 0xff};
-    uint64_t answer = ttda_run(graph, sizeof graph, inputs, sizeof inputs, graph, 0, 2048,
+    uint8_t no_picks[1] = {0};
+    uint64_t answer = ttda_run(graph, sizeof graph, inputs, sizeof inputs, no_picks, 0, 2048,
                                ledger, sizeof ledger, cells, sizeof cells);
     /* So many bytes of the ledger as the answer has tokens. */
-    size_t used = 28 * (answer >> 32 & 0xffff);
+    size_t used = TTDA_TOKEN_BYTES * (size_t)ttda_tokens(answer);
     ttda_list(ledger, used, listing, used);
     size_t written = ttda_print(answer, listing, used, cells, sizeof cells, text, sizeof text);
-    return fwrite(text, 1, written, stdout) != written;
+    if (fwrite(text, 1, written, stdout) != written) {
+        return 2;
+    }
+    return ttda_word(answer) == TTDA_COMPLETED ? 0 : 1;
 }

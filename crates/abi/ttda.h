@@ -1,14 +1,89 @@
-/* The functions of target/staticlib/libabi.a, which `rt staticlib abi` makes. Numbers and
-   records are little-endian; README.md gives the formats. No function keeps a pointer, and each may be called from any
-   thread. No pointer may be NULL, even with length 0, and a buffer that is written must overlap no other of the same call. */
+/* The functions of target/staticlib/libabi.a, which `rt staticlib abi` makes. Numbers and records are little-endian; docs/FORMATS.md
+   gives the formats and the refusals.
+
+   A buffer is lent: its owner is the caller, and no function keeps a pointer. Each function may be called from any thread. The
+   caller sees to it that
+     - no pointer is NULL, even with length 0;
+     - each length is that of the buffer, so that no address behind it wraps around, as a length near SIZE_MAX would make it;
+     - a buffer that is written, *records too, overlaps no other buffer of the same call.
+   Nothing is checked of these three: whoever breaks one has no promise of what happens. All else is checked, and refused by a number.
+   Where a row below names what is written, all other bytes lent stay as they were.
+
+   Stack: a function takes at most 22 KB, ttda_carry_on 23, ttda_profile 26, ttda_list 10, the others below 8. */
 #ifndef TTDA_H
 #define TTDA_H
 
 #include <stddef.h>
 #include <stdint.h>
 
-/* Runs a graph. The answer has 16 bits each, lowest first: the word (0 completed, 101 hung, 100 spent, 1 to 14
-   and 17 refused), firings, tokens, place. */
+#ifdef __cplusplus
+extern "C" {
+#endif
+
+/* Operations. Those from TTDA_ADD on have a form with a constant on the right, whose code is TTDA_WITH_CONSTANT more. */
+enum {
+    TTDA_COPY = 1,
+    TTDA_SINK = 2,
+    TTDA_OUT = 3,
+    TTDA_CONST = 4,
+    TTDA_SWITCH = 5,
+    TTDA_GATE = 6,
+    TTDA_NEXT = 7,
+    TTDA_ENTER = 8,
+    TTDA_LEAVE = 9,
+    TTDA_FETCH = 10,
+    TTDA_STORE = 11,
+    TTDA_ADD = 16,
+    TTDA_SUB = 17,
+    TTDA_MUL = 18,
+    TTDA_DIV = 19,
+    TTDA_REM = 20,
+    TTDA_LT = 21,
+    TTDA_LE = 22,
+    TTDA_EQ = 23,
+    TTDA_WITH_CONSTANT = 16
+};
+
+/* The word of an answer. Any other is the number of a refusal. */
+enum { TTDA_COMPLETED = 0, TTDA_SPENT = 100, TTDA_HUNG = 101 };
+
+/* The state byte of a token, and that of a cell. */
+enum { TTDA_TOKEN_LIVE = 0, TTDA_TOKEN_SPENT = 1, TTDA_TOKEN_DEFERRED = 2 };
+enum { TTDA_CELL_ABSENT = 0, TTDA_CELL_WAITING = 1, TTDA_CELL_PRESENT = 2 };
+
+/* Bytes of a record. */
+enum {
+    TTDA_INSTRUCTION_BYTES = 16,
+    TTDA_TOKEN_BYTES = 28,
+    TTDA_OLD_TOKEN_BYTES = 20,
+    TTDA_CELL_BYTES = 8,
+    TTDA_PICK_BYTES = 2,
+    TTDA_LOG_BYTES = 20,
+    TTDA_STEP_BYTES = 4,
+    TTDA_EXPRESSION_BYTES = 8,
+    TTDA_VALUE_BYTES = 4
+};
+
+/* Most records: instructions of a graph; tokens of a ledger, and so inputs, picks, firings and steps; cells; an expression. */
+enum {
+    TTDA_MOST_INSTRUCTIONS = 256,
+    TTDA_MOST_RECORDS = 2048,
+    TTDA_MOST_CELLS = 1024,
+    TTDA_MOST_EXPRESSION = 100
+};
+
+/* The four numbers of an answer, and the value in an answer of ttda_expression_value. */
+static inline uint16_t ttda_word(uint64_t answer) { return (uint16_t)answer; }
+static inline uint16_t ttda_firings(uint64_t answer) { return (uint16_t)(answer >> 16); }
+static inline uint16_t ttda_tokens(uint64_t answer) { return (uint16_t)(answer >> 32); }
+static inline uint16_t ttda_place(uint64_t answer) { return (uint16_t)(answer >> 48); }
+static inline int32_t ttda_value(uint64_t answer) { return (int32_t)(uint32_t)(answer >> 16); }
+
+/* Runs a graph. The answer has 16 bits each, lowest first: the word (TTDA_COMPLETED, TTDA_HUNG, TTDA_SPENT, or 1 to 14 and 17
+   refused), firings, tokens, place.
+   Writes: the cells, and as many records of the ledger as there are tokens. Refused before any firing, nothing: ledger and cells are
+   then as lent, and a program that prints such cells prints what they held before. A refused firing leaves both as it found them.
+   7: inputs, picks, ledger or cells are not whole records, or too many. */
 uint64_t ttda_run(const uint8_t *graph, size_t graph_len,
                   const uint8_t *inputs, size_t inputs_len,
                   const uint8_t *picks, size_t picks_len,
@@ -16,17 +91,19 @@ uint64_t ttda_run(const uint8_t *graph, size_t graph_len,
                   uint8_t *ledger, size_t ledger_len,
                   uint8_t *cells, size_t cells_len);
 
-/* Goes on from a saved state: ledger and cells as a run left them, and the firings and tokens of its answer. Budget and picks are those of this part; the
-   answer counts all firings. A state that no run can have left is refused by 24, with nothing written. */
+/* Goes on from a saved state: ledger and cells as a run left them, and the firings and tokens of its answer. Budget and picks are
+   those of this part; the answer counts all firings.
+   Writes: as ttda_run. A state that no run can have left is refused by 24, with nothing written.
+   7: as ttda_run. */
 uint64_t ttda_carry_on(const uint8_t *graph, size_t graph_len,
                        const uint8_t *picks, size_t picks_len,
                        uint16_t budget, uint16_t firings, uint16_t tokens,
                        uint8_t *ledger, size_t ledger_len,
                        uint8_t *cells, size_t cells_len);
 
-/* The same run, which also writes a log: a record of 20 bytes for each firing, from the start of log, with the bytes
-   behind them untouched. A log that is not whole records, or has fewer than the budget and fewer than 2,048, is refused
-   by 7. */
+/* The same run as ttda_run, which also writes a log.
+   Writes: as ttda_run, and a record for each firing from the start of log.
+   7: as ttda_run, or the log is not whole records, or has fewer than the budget and fewer than TTDA_MOST_RECORDS. */
 uint64_t ttda_run_logged(const uint8_t *graph, size_t graph_len,
                          const uint8_t *inputs, size_t inputs_len,
                          const uint8_t *picks, size_t picks_len,
@@ -35,18 +112,22 @@ uint64_t ttda_run_logged(const uint8_t *graph, size_t graph_len,
                          uint8_t *cells, size_t cells_len,
                          uint8_t *log, size_t log_len);
 
-/* Replays a log: fires the activities that its records name, in turn, and answers as ttda_run does. The log of a run is its first records, as many as
-   the run's answer has firings. A record that names no enabled activity, lacks its zero byte or is not whole is refused
-   by 20, with the record's number as the place. */
+/* Replays a log: fires the activities that its records name, in turn, and answers as ttda_run does. The log of a run is its first
+   records, as many as the run's answer has firings. A record that names no enabled activity, lacks its zero byte or is not whole is
+   refused by 20, with the record's number as the place.
+   Writes: as ttda_run; a log that is refused by 20 at its first record leaves the inputs written.
+   7: inputs, ledger or cells are not whole records, or too many. */
 uint64_t ttda_replay(const uint8_t *graph, size_t graph_len,
                      const uint8_t *inputs, size_t inputs_len,
                      const uint8_t *log, size_t log_len,
                      uint8_t *ledger, size_t ledger_len,
                      uint8_t *cells, size_t cells_len);
 
-/* Runs a graph in ideal steps, each of which fires every activity that is enabled at its start, and answers as ttda_run does. Writes a record of 4 bytes
-   for each whole step to the start of profile (its firings, and the live plus deferred tokens after it, 16 bits each), and
-   the number of records to *records, also where the call is refused. 18 if a step has no record left. */
+/* Runs a graph in ideal steps, each of which fires every activity that is enabled at its start, and answers as ttda_run does. 18 if
+   a step has no record left.
+   Writes: as ttda_run; a record for each whole step (its firings, and the live plus deferred tokens after it) from the start of
+   profile; and the number of these records to *records, also where the call is refused.
+   7: inputs, ledger or cells are not whole records, or too many, or the profile is not whole records. */
 uint64_t ttda_profile(const uint8_t *graph, size_t graph_len,
                       const uint8_t *inputs, size_t inputs_len,
                       uint8_t *ledger, size_t ledger_len,
@@ -54,32 +135,35 @@ uint64_t ttda_profile(const uint8_t *graph, size_t graph_len,
                       uint8_t *profile, size_t profile_len,
                       uint64_t *records);
 
-/* What a graph will need, before it runs: no run from these inputs has more firings or tokens. The answer has 16 bits
-   each, lowest first: the word (0, or 1 to 7 or 19 refused), firings, tokens, place. 19 is a graph with NEXT, ENTER or
-   LEAVE, at the first such record. */
+/* What a graph will need, before it runs: no run from these inputs has more firings or tokens. The answer has 16 bits each, lowest
+   first: the word (0, or 1 to 7 or 19 refused), firings, tokens, place. 19 is a graph with NEXT, ENTER or LEAVE, at the first such
+   record.
+   Writes: nothing. 7: inputs are not whole records, or too many. */
 uint64_t ttda_bounds(const uint8_t *graph, size_t graph_len,
                      const uint8_t *inputs, size_t inputs_len);
 
-/* Makes the graph of an expression: 1 to 100 records of 8 bytes, each a variable (8 zeros) or an operation (its code, the numbers of
-   its left and right record, 5 zeros). Writes 16 bytes for each record, and 16 for OUT, to the start of graph, with the bytes
-   behind them untouched. The answer has 16 bits each, lowest first: the word (0, or 25 or 26 refused, with graph untouched), the
-   records of the graph, 0, place. */
+/* Makes the graph of an expression: 1 to TTDA_MOST_EXPRESSION records, each a variable (8 zeros) or an operation (its code, the
+   numbers of its left and right record, 5 zeros). The answer has 16 bits each, lowest first: the word (0, or 25 or 26 refused), the
+   records of the graph (ttda_firings has them), 0, place.
+   Writes: an instruction for each record, and one for OUT, from the start of graph; if refused, nothing. */
 uint64_t ttda_expression(const uint8_t *expression, size_t expression_len,
                          uint8_t *graph, size_t graph_len);
 
-/* The value of an expression, of the values of its variables in record order, 4 bytes each: what OUT receives in a run of its graph. The
-   answer has, lowest first: 16 bits of the word (0, or refused: 25; 7 if there are more or fewer values than variables; 12 if an operation is out of
-   range), 32 bits of the value, 16 of the place. */
+/* The value of an expression, of the values of its variables in record order: what OUT receives in a run of its graph. The answer
+   has, lowest first: 16 bits of the word (0, or refused: 25; 12 if an operation is out of range), 32 of the value (ttda_value has
+   it), 16 of the place.
+   Writes: nothing. 7: there are more or fewer values than variables. */
 uint64_t ttda_expression_value(const uint8_t *expression, size_t expression_len,
                                const uint8_t *values, size_t values_len);
 
-/* Sorts the used records of a ledger, as many as the answer has tokens, into out of the same length. 0, or 7 with out
-   untouched. */
+/* Sorts the used records of a ledger, as many as the answer has tokens, into out.
+   Writes: all of out. 7: the two lengths differ, or are not whole records, or are too many; then nothing is written. */
 uint64_t ttda_list(const uint8_t *ledger, size_t ledger_len,
                    uint8_t *out, size_t out_len);
 
-/* Makes token records of 20 bytes, as inputs and listings had them before paths of eight levels, records of 28: the new
-   bytes are zero. 0, or 7 with out untouched unless old is whole records, 2,048 at most, and out has the length of as many. */
+/* Makes token records of TTDA_OLD_TOKEN_BYTES, as inputs and listings had them before paths of eight levels, records of
+   TTDA_TOKEN_BYTES: the new bytes are zero.
+   Writes: all of out. 7: old is not whole records, or too many, or out has not the length of as many; then nothing is written. */
 uint64_t ttda_convert(const uint8_t *old, size_t old_len,
                       uint8_t *out, size_t out_len);
 
@@ -87,13 +171,22 @@ uint64_t ttda_convert(const uint8_t *old, size_t old_len,
 #define TTDA_TOO_SMALL 0
 #define TTDA_NO_ANSWER 1
 
-/* Prints an answer of one of the functions above, a listing of ttda_list and the cells to the start of out, as the program
-   does. Answers the number of bytes; the bytes of out behind them stay untouched. TTDA_TOO_SMALL if the text does not fit, TTDA_NO_ANSWER if the
-   number is no answer's (another word, or a place though nothing is refused), both with out untouched. 74 bytes, 56 for
-   each token and 46 for each cell are room enough. Bytes past the last whole record are passed over. */
+/* Room enough for what ttda_print writes of so many tokens and cells. */
+#define TTDA_PRINTED_BYTES(tokens, cells) (74 + 56 * (size_t)(tokens) + 46 * (size_t)(cells))
+
+/* Prints the answer of ttda_run, ttda_carry_on, ttda_run_logged, ttda_replay or ttda_profile, a listing of ttda_list and the cells, as the
+   program ttda does, and answers the number of bytes. The number of bounds or of an expression is no run's answer: it would be printed as
+   one. TTDA_TOO_SMALL if the text does not fit, TTDA_NO_ANSWER if the number is no answer's (another word, or a place
+   though nothing is refused). Bytes past the last whole record are passed over. A token's state byte past 2 prints as deferred, a
+   cell's as absent: there is no line for it.
+   Writes: the text from the start of out; if it answers one of the two above, nothing. */
 uint64_t ttda_print(uint64_t answer,
                     const uint8_t *listing, size_t listing_len,
                     const uint8_t *cells, size_t cells_len,
                     uint8_t *out, size_t out_len);
+
+#ifdef __cplusplus
+}
+#endif
 
 #endif

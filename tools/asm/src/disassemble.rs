@@ -19,7 +19,7 @@ pub fn disassemble(files: &Files) -> Result<String, String> {
         ("picks", files.picks.len(), PICK_RECORD),
     ];
     for (name, length, record) in whole {
-        if !length.is_multiple_of(record) {
+        if length % record != 0 {
             return Err(format!("{name} is not whole records of {record} bytes"));
         }
     }

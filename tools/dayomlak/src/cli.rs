@@ -25,7 +25,7 @@ pub enum Command {
     /// Run a graph: the answer, results, waiting tokens and cells
     Run(Run),
     /// Find errors and warnings, and what the graph needs, without a firing
-    Check(File),
+    Check(Check),
     /// Run a graph oldest first, newest first and in random orders
     Compare(Compare),
     /// Show every firing: operands, outputs and cells
@@ -46,6 +46,68 @@ pub enum Command {
     Disasm(Disasm),
     /// What a refusal means and what to do
     Explain(Explain),
+    /// How many firings and tokens no run exceeds, of a graph without loops and calls
+    Bounds(Bounds),
+    /// Print the words that a shell completes
+    Completion(Completion),
+    /// Print the manual page, for `man`
+    Manual,
+}
+
+impl Command {
+    /// The name of a command and its file, where it prints for a script.
+    pub fn scripted(&self) -> Option<(&'static str, &str)> {
+        let (name, script, file) = match self {
+            Command::Run(args) => ("run", &args.script, args.file.file.as_str()),
+            Command::Check(args) => ("check", &args.script, args.file.file.as_str()),
+            Command::Compare(args) => ("compare", &args.script, args.file.file.as_str()),
+            Command::Trace(args) => ("trace", &args.form.script, args.file.file.as_str()),
+            Command::Profile(args) => ("profile", &args.form.script, args.file.file.as_str()),
+            Command::Bounds(args) => ("bounds", &args.script, args.file.file.as_str()),
+            Command::Explain(args) => ("explain", &args.script, ""),
+            _ => return None,
+        };
+        script.json.then_some((name, file))
+    }
+}
+
+#[derive(Debug, Args)]
+pub struct Script {
+    /// Print one line of JSON, for scripts
+    #[arg(long)]
+    pub json: bool,
+}
+
+#[derive(Debug, Args)]
+pub struct Form {
+    #[command(flatten)]
+    pub script: Script,
+    /// Print a table of values parted by commas
+    #[arg(long, conflicts_with = "json")]
+    pub csv: bool,
+}
+
+#[derive(Debug, Args)]
+pub struct Check {
+    #[command(flatten)]
+    pub file: File,
+    #[command(flatten)]
+    pub script: Script,
+}
+
+#[derive(Debug, Args)]
+pub struct Bounds {
+    #[command(flatten)]
+    pub file: File,
+    #[command(flatten)]
+    pub script: Script,
+}
+
+#[derive(Debug, Args)]
+pub struct Completion {
+    /// The shell
+    #[arg(value_name = "SHELL", value_enum)]
+    pub shell: clap_complete::Shell,
 }
 
 #[derive(Debug, Args)]
@@ -89,11 +151,13 @@ pub struct Run {
     #[command(flatten)]
     pub file: File,
     #[command(flatten)]
+    pub script: Script,
+    #[command(flatten)]
     pub firing: Firing,
     #[command(flatten)]
     pub buffers: Buffers,
     /// Print the listing, byte for byte as the program ttda does
-    #[arg(long)]
+    #[arg(long, conflicts_with = "json")]
     pub listing: bool,
 }
 
@@ -101,6 +165,8 @@ pub struct Run {
 pub struct Compare {
     #[command(flatten)]
     pub file: File,
+    #[command(flatten)]
+    pub script: Script,
     /// How many random orders
     #[arg(long, value_name = "N", default_value_t = 100)]
     pub orders: u32,
@@ -112,6 +178,8 @@ pub struct Compare {
 pub struct Trace {
     #[command(flatten)]
     pub file: File,
+    #[command(flatten)]
+    pub form: Form,
     /// The first firing to show, counted from 1
     #[arg(long, value_name = "N", default_value_t = 1)]
     pub from: usize,
@@ -128,8 +196,10 @@ pub struct Trace {
 pub struct Profile {
     #[command(flatten)]
     pub file: File,
+    #[command(flatten)]
+    pub form: Form,
     /// Draw the curves to an SVG file, with what a run left
-    #[arg(short, value_name = "X.svg")]
+    #[arg(short, value_name = "X.svg", conflicts_with_all = ["json", "csv"])]
     pub output: Option<PathBuf>,
     /// The order of that run, as for `dayomlak run`; only with -o
     #[arg(long, value_name = "ORDER")]
@@ -224,4 +294,6 @@ pub struct Explain {
     /// The number of a refusal
     #[arg(value_name = "N")]
     pub number: u16,
+    #[command(flatten)]
+    pub script: Script,
 }

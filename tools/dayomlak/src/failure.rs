@@ -4,6 +4,8 @@ use std::fmt;
 use std::io;
 use std::path::Path;
 
+use crate::diagnostics::Finding;
+
 /// Exit statuses. clap answers a wrong command line by `WRONG` too.
 pub const COMPLETED: u8 = 0;
 pub const NOT_COMPLETED: u8 = 1;
@@ -14,8 +16,8 @@ pub const NO_FILE: u8 = 3;
 pub enum Failure {
     /// A command line or a text that cannot be used, and what to do.
     Wrong(String),
-    /// A text with faults, which are shown already.
-    Shown,
+    /// A text with faults, and the faults, which are shown already.
+    Faulty(String, Vec<Finding>),
     /// A file that cannot be read or written.
     File(String, io::Error),
     /// What the engine gave and what was made of it do not fit together.
@@ -29,7 +31,7 @@ impl Failure {
 
     pub fn status(&self) -> u8 {
         match self {
-            Failure::Wrong(_) | Failure::Shown => WRONG,
+            Failure::Wrong(_) | Failure::Faulty(..) => WRONG,
             Failure::File(..) => NO_FILE,
             Failure::Inconsistent(_) => NOT_COMPLETED,
         }
@@ -40,7 +42,10 @@ impl fmt::Display for Failure {
     fn fmt(&self, f: &mut fmt::Formatter<'_>) -> fmt::Result {
         match self {
             Failure::Wrong(text) => write!(f, "error: {text}"),
-            Failure::Shown => Ok(()),
+            Failure::Faulty(_, findings) => {
+                let titles: Vec<&str> = findings.iter().map(|f| f.title.as_str()).collect();
+                write!(f, "error: {}", titles.join("; "))
+            }
             Failure::File(path, error) => write!(f, "error: {path}: {error}"),
             Failure::Inconsistent(text) => write!(
                 f,

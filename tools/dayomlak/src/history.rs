@@ -31,6 +31,7 @@ pub struct Firing {
     pub touch: Option<Touch>,
 }
 
+#[derive(Default)]
 pub struct History {
     pub firings: Vec<Firing>,
     pub tokens: Vec<Token>,

@@ -11,9 +11,11 @@ mod failure;
 mod graph;
 mod graphviz;
 mod history;
+mod json;
 mod loads;
 mod log_file;
 mod machine;
+mod manual;
 mod newest;
 mod orders;
 mod output;
@@ -25,10 +27,12 @@ mod refusals;
 mod refused;
 mod report;
 mod results;
+mod script;
 mod second_token;
 mod sources;
 mod warnings;
 
+use std::io::Write;
 use std::process::ExitCode;
 
 use clap::Parser;
@@ -37,7 +41,8 @@ use cli::{Cli, Command};
 use failure::Failure;
 
 fn main() -> ExitCode {
-    let result = match &Cli::parse().command {
+    let command = Cli::parse().command;
+    let result = match &command {
         Command::Run(args) => commands::run::run(args),
         Command::Check(args) => commands::check::check(args),
         Command::Compare(args) => commands::compare::compare(args),
@@ -50,12 +55,20 @@ fn main() -> ExitCode {
         Command::Asm(args) => commands::files::asm(args),
         Command::Disasm(args) => commands::files::disasm(args),
         Command::Explain(args) => commands::explain::explain(args),
+        Command::Bounds(args) => commands::check::bounds(args),
+        Command::Completion(args) => commands::install::completion(args),
+        Command::Manual => commands::install::manual(),
     };
     match result {
         Ok(status) => ExitCode::from(status),
         Err(failure) => {
-            if !matches!(failure, Failure::Shown) {
-                eprintln!("{failure}");
+            if !matches!(failure, Failure::Faulty(..)) {
+                // A message that cannot be shown has nobody to be shown to; the status says it too.
+                let _ = writeln!(std::io::stderr(), "{failure}");
+            }
+            if let Some((name, file)) = command.scripted() {
+                // Where standard output itself has failed, the status still says it.
+                let _ = script::print_failure(name, file, &failure);
             }
             ExitCode::from(failure.status())
         }

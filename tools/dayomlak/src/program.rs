@@ -16,6 +16,9 @@ use crate::sources::Source;
 /// The files of a folder.
 const FILES: [&str; 3] = ["graph", "inputs", "picks"];
 
+/// How messages call what comes by `-`.
+pub const STANDARD_INPUT: &str = "standard input";
+
 pub struct Program {
     /// How messages and pictures call it.
     pub label: String,
@@ -36,8 +39,8 @@ impl Program {
         if file == "-" {
             let mut bytes = Vec::new();
             let read = io::stdin().read_to_end(&mut bytes);
-            read.map_err(|error| Failure::File("standard input".to_string(), error))?;
-            let program = Program::typed("standard input", bytes)?;
+            read.map_err(|error| Failure::File(STANDARD_INPUT.to_string(), error))?;
+            let program = Program::typed(STANDARD_INPUT, bytes)?;
             return Ok(program.read_from(Source::standard_input()));
         }
         if path.is_dir() {
@@ -78,7 +81,7 @@ impl Program {
             Err(errors) => {
                 let findings: Vec<Finding> = errors.0.into_iter().map(Finding::from).collect();
                 diagnostics::complain(label, &text, &findings);
-                Err(Failure::Shown)
+                Err(Failure::Faulty(text, findings))
             }
         }
     }

@@ -47,7 +47,7 @@ fn cell_lines(program: &Program, end: &End, tokens: &[Token]) -> Vec<String> {
 }
 
 /// A token at an OUT, or at a LEAVE that has no caller.
-fn is_result(program: &Program, token: &Token) -> bool {
+pub fn is_result(program: &Program, token: &Token) -> bool {
     let code = program.graph.get(token.tag.instruction).map(|i| i.code);
     token.state == State::Live && (code == Some(OUT) || code == Some(LEAVE) && token.tag.path == 0)
 }

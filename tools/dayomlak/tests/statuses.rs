@@ -7,9 +7,22 @@ use std::process::Stdio;
 
 use common::{command, dayomlak, done, typed, Folder};
 
-const COMMANDS: [&str; 12] = [
-    "run", "check", "compare", "trace", "profile", "report", "draw", "log", "replay", "asm",
-    "disasm", "explain",
+const COMMANDS: [&str; 15] = [
+    "run",
+    "check",
+    "compare",
+    "trace",
+    "profile",
+    "report",
+    "draw",
+    "log",
+    "replay",
+    "asm",
+    "disasm",
+    "explain",
+    "bounds",
+    "completion",
+    "manual",
 ];
 
 #[test]

@@ -4,13 +4,15 @@ use std::time::{Duration, Instant};
 
 use indicatif::{ProgressBar, ProgressStyle};
 
-use super::{load, status, summary};
+use super::{ended, load, status, summary};
 use crate::answer::Word;
 use crate::cli::Compare;
 use crate::failure::{self, Failure};
+use crate::json::{list, object, string};
 use crate::machine::{End, Machine, WHOLE};
 use crate::orders::Order;
 use crate::program::Program;
+use crate::script::{self, Fields};
 use crate::{output, refused};
 
 /// Progress is shown once a comparison has taken so long.
@@ -31,6 +33,15 @@ pub fn compare(args: &Compare) -> Result<u8, Failure> {
     let left_out = left_out(&machine);
     let has_picks = !program.files.picks.is_empty() && left_out.is_none();
     let kinds = kinds(&machine, &orders(args.orders, has_picks))?;
+    let agree = agrees(&kinds) && left_out.is_none();
+    let first = kinds[0].orders[0].words(has_picks);
+    if args.script.json {
+        let mut fields = script::lent(&machine);
+        fields.extend(fields_of(&kinds, agree, left_out.as_deref()));
+        fields.extend(ended(&machine, &kinds[0].end, &first));
+        script::print("compare", &program, fields)?;
+        return Ok(compared(&kinds, agree));
+    }
     let mut text = String::new();
     for kind in &kinds {
         text += &format!("{}\n", line(kind));
@@ -39,13 +50,32 @@ pub fn compare(args: &Compare) -> Result<u8, Failure> {
         text += &format!("{:>5} order (typed) is left out: {words}\n", 1);
     }
     text += &format!("{}\n\n", verdict(&kinds, left_out.is_some()));
-    let first = kinds[0].orders[0].words(has_picks);
     text += &summary(&machine, &kinds[0].end, &first);
     output::print(text.as_bytes())?;
-    match agrees(&kinds) && left_out.is_none() {
-        true => Ok(status(&kinds[0].end)),
-        false => Ok(failure::NOT_COMPLETED),
+    Ok(compared(&kinds, agree))
+}
+
+fn compared(kinds: &[Kind], agree: bool) -> u8 {
+    match agree {
+        true => status(&kinds[0].end),
+        false => failure::NOT_COMPLETED,
     }
+}
+
+/// The orders by what they were answered, for scripts.
+fn fields_of(kinds: &[Kind], agree: bool, left_out: Option<&str>) -> Fields {
+    let kind = |kind: &Kind| {
+        let orders = kind.orders.iter().map(|order| string(&order.to_string()));
+        object(&[
+            ("orders", list(orders)),
+            ("answer", script::answer(&kind.end.answer)),
+        ])
+    };
+    vec![
+        ("agree", script::flag(agree)),
+        ("left_out", left_out.map_or("null".to_string(), string)),
+        ("kinds", list(kinds.iter().map(kind))),
+    ]
 }
 
 /// Why the picks of the file are no order to compare: 7 is not of the graph, and says nothing of other orders.

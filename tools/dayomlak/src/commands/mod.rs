@@ -5,6 +5,7 @@ pub mod compare;
 pub mod draw;
 pub mod explain;
 pub mod files;
+pub mod install;
 pub mod logs;
 pub mod profile;
 pub mod report;
@@ -15,7 +16,8 @@ use crate::diagnostics;
 use crate::failure::{self, Failure};
 use crate::machine::{End, Machine};
 use crate::program::Program;
-use crate::{refused, results, warnings};
+use crate::script::{self, Fields};
+use crate::{json, refused, results, warnings};
 
 /// Loads a program and shows its warnings.
 fn load(file: &str) -> Result<Program, Failure> {
@@ -42,6 +44,20 @@ fn summary(machine: &Machine, end: &End, order: &str) -> String {
 fn left(machine: &Machine, end: &End) -> String {
     let lines = results::lines(machine.program, end).into_iter();
     lines.map(|line| line + "\n").collect()
+}
+
+/// How a run ended, for scripts: its order and answer, why it was refused, and what it left.
+fn ended(machine: &Machine, end: &End, order: &str) -> Fields {
+    let program = machine.program;
+    let refused = refused::explain(program, end, machine.sizes, order);
+    let refused = refused.map(|finding| script::finding(&program.text, &finding));
+    let mut fields = vec![
+        ("order", json::string(order)),
+        ("answer", script::answer(&end.answer)),
+        ("refused", refused.unwrap_or("null".to_string())),
+    ];
+    fields.extend(script::left(program, end));
+    fields
 }
 
 /// The exit status of an answer.

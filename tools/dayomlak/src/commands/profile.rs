@@ -8,11 +8,12 @@ use super::{answer, load, status};
 use crate::answer::{Answer, Word};
 use crate::cli::Profile;
 use crate::failure::Failure;
+use crate::json::{list, object};
 use crate::machine::{End, Machine, WHOLE};
 use crate::orders::Order;
 use crate::output::Target;
 use crate::program::Program;
-use crate::{output, pictures, profiles, refused, results};
+use crate::{output, pictures, profiles, refused, results, script};
 
 /// The longest bar of the table.
 const BAR: usize = 30;
@@ -35,6 +36,17 @@ fn show_table(args: &Profile) -> Result<u8, Failure> {
     let program = load(&args.file.file)?;
     let machine = Machine::new(&program, args.buffers.sizes());
     let (end, steps) = machine.profile();
+    if args.form.script.json {
+        let mut fields = script::lent(&machine);
+        fields.push(("answer", script::answer(&end.answer)));
+        fields.push(("steps", list(steps.iter().map(step))));
+        script::print("profile", &program, fields)?;
+        return Ok(status(&end));
+    }
+    if args.form.csv {
+        output::print(csv(&steps).as_bytes())?;
+        return Ok(status(&end));
+    }
     let mut text = table(&steps);
     text += &profiles::words(&program, &steps, &end.answer).join("\n");
     text.push('\n');
@@ -46,6 +58,27 @@ fn show_table(args: &Profile) -> Result<u8, Failure> {
     }
     output::print(text.as_bytes())?;
     Ok(status(&end))
+}
+
+fn step(step: &Step) -> String {
+    object(&[
+        ("firings", step.firings.to_string()),
+        ("tokens", step.tokens.to_string()),
+    ])
+}
+
+/// A line for each step, by its number.
+fn csv(steps: &[Step]) -> String {
+    let mut text = script::csv(&["step", "firings", "tokens"].map(str::to_string));
+    for (number, step) in (1..).zip(steps) {
+        let number: usize = number;
+        text += &script::csv(&[
+            number.to_string(),
+            step.firings.to_string(),
+            step.tokens.to_string(),
+        ]);
+    }
+    text
 }
 
 /// The curves with what a run left, as a picture.

@@ -2,34 +2,111 @@
 
 use std::ops::Range;
 
-use super::{answer, load, status};
+use super::{answer, ended, load, status};
 use crate::cli::Trace;
-use crate::effects;
 use crate::failure::Failure;
-use crate::history::{Firing, History};
+use crate::history::{Firing, History, Touch};
+use crate::json::{list, object, string};
 use crate::machine::Machine;
-use crate::output;
 use crate::program::Program;
+use crate::{effects, output, script};
 
 pub fn trace(args: &Trace) -> Result<u8, Failure> {
     let program = load(&args.file.file)?;
     let machine = Machine::new(&program, args.buffers.sizes());
     let picks = args.firing.order.picks(&machine)?;
     let (end, log) = machine.run_logged(&picks, args.firing.budget);
-    let mut text = String::new();
-    if !end.answer.refused_at_once() {
-        let history = History::of(&machine, &end, &log)?;
-        let first = args.from.saturating_sub(1).min(history.firings.len());
-        let last = args
-            .count
-            .map_or(history.firings.len(), |count| first.saturating_add(count));
-        let shown = first..last.min(history.firings.len());
-        text += &lines(&program, &history, shown);
-    }
     let order = args.firing.order.words(!program.files.picks.is_empty());
-    text += &answer(&machine, &end, &order);
-    output::print(text.as_bytes())?;
+    let history = match end.answer.refused_at_once() {
+        true => History::default(),
+        false => History::of(&machine, &end, &log)?,
+    };
+    let shown = shown(args, history.firings.len());
+    if args.form.script.json {
+        let firings = shown.map(|number| json(&program, &history, number));
+        let mut fields = script::lent(&machine);
+        fields.push(("budget", args.firing.budget.to_string()));
+        fields.push(("trace", list(firings)));
+        fields.extend(ended(&machine, &end, &order));
+        script::print("trace", &program, fields)?;
+    } else if args.form.csv {
+        output::print(csv(&program, &history, shown).as_bytes())?;
+    } else {
+        let text = lines(&program, &history, shown) + &answer(&machine, &end, &order);
+        output::print(text.as_bytes())?;
+    }
     Ok(status(&end))
+}
+
+/// The firings that are asked for, of so many.
+fn shown(args: &Trace, firings: usize) -> Range<usize> {
+    let first = args.from.saturating_sub(1).min(firings);
+    let last = args
+        .count
+        .map_or(firings, |count| first.saturating_add(count));
+    first..last.min(firings)
+}
+
+/// A firing for scripts. A deferred output has its value later.
+fn json(program: &Program, history: &History, number: usize) -> String {
+    let firing = &history.firings[number];
+    let value = |place: &usize| history.tokens[*place].value.to_string();
+    let deferred = matches!(firing.touch, Some(Touch::Deferred(_)));
+    let output = |place: usize| {
+        let token = &history.tokens[place];
+        let value = match deferred {
+            true => "null".to_string(),
+            false => token.value.to_string(),
+        };
+        object(&[
+            ("name", string(&program.port(&token.tag, token.port))),
+            ("value", value),
+        ])
+    };
+    let operation = program.graph.get(firing.tag.instruction).map(|i| i.words());
+    object(&[
+        ("firing", (number + 1).to_string()),
+        ("name", string(&program.tag(&firing.tag))),
+        ("path", string(&firing.tag.path.to_string())),
+        ("iteration", firing.tag.iteration.to_string()),
+        ("instruction", firing.tag.instruction.to_string()),
+        ("operation", string(&operation.unwrap_or_default())),
+        ("operands", list(firing.operands.iter().map(value))),
+        ("outputs", list(firing.outputs.clone().map(output))),
+        ("cell", touch(program, history, firing)),
+    ])
+}
+
+/// The cell that a firing touches, and the tokens that go on by a write.
+fn touch(program: &Program, history: &History, firing: &Firing) -> String {
+    let name = |place: &usize| {
+        let token = &history.tokens[*place];
+        string(&program.port(&token.tag, token.port))
+    };
+    let (cell, word, woken) = match &firing.touch {
+        None => return "null".to_string(),
+        Some(Touch::Read(cell)) => (cell, "read", Vec::new()),
+        Some(Touch::Deferred(cell)) => (cell, "deferred", Vec::new()),
+        Some(Touch::Written(cell, woken)) => (cell, "written", woken.iter().map(name).collect()),
+    };
+    object(&[
+        ("cell", cell.to_string()),
+        ("touch", string(word)),
+        ("woken", list(woken)),
+    ])
+}
+
+/// A line for each firing: number, activity, operation, operands and what it does.
+fn csv(program: &Program, history: &History, shown: Range<usize>) -> String {
+    let head = ["firing", "activity", "operation", "operands", "effect"];
+    let mut text = script::csv(&head.map(str::to_string));
+    for number in shown {
+        let firing = &history.firings[number];
+        let mut row = columns(program, history, number, firing).to_vec();
+        row.push(effects::of(program, history, firing));
+        text += &script::csv(&row);
+    }
+    text
 }
 
 fn lines(program: &Program, history: &History, shown: Range<usize>) -> String {

@@ -1,6 +1,5 @@
 //! What the page shows at each position of its slider, as JSON: the firings, and tokens and cells by their changes.
 
-use super::json::{list, maybe, object, string};
 use super::states::{Changes, States};
 use super::steps::Steps;
 use super::Run;
@@ -9,6 +8,7 @@ use crate::effects;
 use crate::failure::Failure;
 use crate::graph::{Destination, LEAVE, SWITCH};
 use crate::history::{Firing, History};
+use crate::json::{list, maybe, object, string};
 use crate::pictures::dot::{self, Drawing};
 use crate::program::Program;
 use crate::records::{self, Cell, Tag, Token};

@@ -3,7 +3,6 @@
 
 mod data;
 mod html;
-mod json;
 mod states;
 mod steps;
 

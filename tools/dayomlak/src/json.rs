@@ -1,4 +1,4 @@
-//! JSON that can stand inside a page.
+//! JSON, such that it can stand inside a page too.
 
 use std::fmt::Write;
 

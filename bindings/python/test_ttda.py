@@ -1,0 +1,89 @@
+"""Every function once, over the library, and the graphs of the gallery against their listings."""
+import glob
+import os
+import unittest
+
+import ttda
+from ttda import Activity, Answer, Cell, Input, Instruction, Step, Token
+
+ROOT = os.path.join(os.path.dirname(os.path.abspath(__file__)), '..', '..')
+GRAPH = [Instruction('ADD', [(1, 0)]), Instruction('OUT')]
+INPUTS = [Input(0, 0, 7), Input(0, 1, -9)]
+TEXT = 'completed 1 3 0\n0 0 0 0 7 spent\n0 0 0 1 -9 spent\n0 0 1 0 -2 live\n'
+
+
+class Runs(unittest.TestCase):
+    def test_answer_tokens_cells_and_text(self):
+        done = ttda.run(GRAPH, INPUTS)
+        self.assertEqual(done.answer, Answer('completed', 0, 1, 3, 0))
+        self.assertEqual(done.tokens[2], Token(0, 0, 1, 0, -2, 'live'))
+        self.assertEqual((done.listing, done.cells, done.text), (done.tokens, [], TEXT))
+
+    def test_bytes_are_taken_as_they_are(self):
+        graph, inputs = ttda.graph_bytes(GRAPH), ttda.input_bytes(INPUTS)
+        self.assertEqual((len(graph), len(inputs)), (32, 56))
+        self.assertEqual(ttda.run(graph, inputs, b'').text, TEXT)
+
+    def test_a_typed_graph(self):
+        done = ttda.run('a: ADD -> out\nout: OUT\ninput a.0 = 7\ninput a.1 = -9\n')
+        self.assertEqual(done.text, TEXT)
+        with self.assertRaisesRegex(ValueError, 'standard input:1:4'):
+            ttda.run('a: MULL 3 -> b\n')
+
+    def test_constants_cells_and_picks(self):
+        graph = [Instruction('add', [(1, 1)], 5), Instruction('STORE')]
+        inputs = [Input(0, 0, 2), Input(1, 0, 3)]
+        self.assertEqual(ttda.run(graph, inputs, [1, 65535]).cells, [Cell(3, 'present', 7)])
+        waiting = ttda.run([Instruction('FETCH', [(1, 0)]), Instruction('OUT')], [Input(0, 0, 4)])
+        self.assertEqual((waiting.answer.word, waiting.cells), ('hung', [Cell(4, 'waiting', 0)]))
+
+    def test_refusals(self):
+        self.assertEqual(ttda.run(b'').answer, Answer('refused', 1, 0, 0, 0))
+        self.assertEqual(ttda.run(GRAPH, INPUTS, capacity=2).answer, Answer('refused', 8, 0, 2, 0))
+        with self.assertRaises(ValueError):
+            ttda.run(GRAPH, INPUTS, budget=65536)
+
+    def test_carrying_on(self):
+        cut = ttda.run(GRAPH, INPUTS, budget=0)
+        self.assertEqual(cut.answer.word, 'spent')
+        self.assertEqual(ttda.carry_on(GRAPH, cut).text, TEXT)
+        damaged = cut._replace(answer=cut.answer._replace(firings=1))
+        self.assertEqual(ttda.carry_on(GRAPH, damaged).answer.refusal, 24)
+
+    def test_a_log(self):
+        done, log = ttda.run_logged(GRAPH, INPUTS)
+        self.assertEqual(ttda.activities(log), [Activity(0, 0, 0)])
+        self.assertEqual(ttda.replay(GRAPH, log, INPUTS), done)
+        self.assertEqual(ttda.replay(GRAPH, log + log, INPUTS).answer.refusal, 20)
+
+    def test_a_profile_and_bounds(self):
+        done, steps = ttda.profile(GRAPH, INPUTS)
+        self.assertEqual((done.text, steps), (TEXT, [Step(1, 1)]))
+        self.assertEqual(ttda.profile(GRAPH, INPUTS, steps=0)[0].answer.refusal, 18)
+        self.assertEqual(ttda.bounds(GRAPH, INPUTS), Answer('completed', 0, 1, 3, 0))
+
+    def test_expressions(self):
+        difference = bytes(16) + bytes([17, 0, 1, 0, 0, 0, 0, 0])
+        answer, graph = ttda.expression_graph(difference)
+        self.assertEqual((answer.firings, len(graph)), (4, 64))
+        self.assertEqual(ttda.expression_value(difference, [5, 12])[1], -7)
+        self.assertEqual(ttda.expression_value(difference, [5])[0].refusal, 7)
+
+    def test_old_records(self):
+        old = bytes(12) + b'\7\0\0\0' + bytes(4)
+        self.assertEqual(ttda.converted(old), ttda.input_bytes([Input(0, 0, 7)]))
+        with self.assertRaises(ValueError):
+            ttda.converted(old[:19])
+
+
+class Gallery(unittest.TestCase):
+    def test_every_graph_has_its_listing(self):
+        files = glob.glob(os.path.join(ROOT, 'examples', '*', '*.ttda'))
+        self.assertGreater(len(files), 40)
+        for file in files:
+            with open(file, encoding='utf-8') as text, open(os.path.join(os.path.dirname(file), 'expected'), encoding='ascii') as due:
+                self.assertEqual(ttda.run(text.read()).text, due.read(), file)
+
+
+if __name__ == '__main__':
+    unittest.main()

@@ -1,0 +1,194 @@
+//! What scripts read: `--json`, one object on one line, whose form docs/JSON.md gives, and `--csv`.
+
+use asm::Span;
+use codespan_reporting::diagnostic::Severity;
+
+use crate::answer::{Answer, Word};
+use crate::diagnostics::Finding;
+use crate::failure::Failure;
+use crate::json::{list, maybe, object, string};
+use crate::machine::{End, Machine};
+use crate::output;
+use crate::program::{Program, STANDARD_INPUT};
+use crate::records::{self, Cell, State, Token};
+use crate::{refusals, results, warnings};
+
+/// Changes where a field goes or gets another meaning, and not where one comes.
+const VERSION: usize = 1;
+
+/// The fields of an object, whose values are JSON.
+pub type Fields = Vec<(&'static str, String)>;
+
+/// Prints what a command answers about a file.
+pub fn print(command: &str, program: &Program, fields: Fields) -> Result<(), Failure> {
+    let warnings = warnings::of(program);
+    let warnings = warnings.iter().map(|w| finding(&program.text, w));
+    let mut all = head(command);
+    all.push(("file", string(&program.label)));
+    all.push(("warnings", list(warnings)));
+    all.extend(fields);
+    line(&all)
+}
+
+/// Prints what a command answers about no file.
+pub fn print_alone(command: &str, fields: Fields) -> Result<(), Failure> {
+    line(&[head(command), fields].concat())
+}
+
+/// Prints why a command gives no answer.
+pub fn print_failure(command: &str, file: &str, failure: &Failure) -> Result<(), Failure> {
+    let file = match file {
+        "-" => STANDARD_INPUT,
+        file => file,
+    };
+    let findings = match failure {
+        Failure::Faulty(text, findings) => findings.iter().map(|f| finding(text, f)).collect(),
+        _ => Vec::new(),
+    };
+    let text = failure.to_string();
+    let message = text.strip_prefix("error: ").unwrap_or(&text);
+    let error = [
+        ("status", failure.status().to_string()),
+        ("message", string(message)),
+        ("findings", list(findings)),
+    ];
+    let mut all = head(command);
+    all.push(("file", string(file)));
+    all.push(("error", object(&error)));
+    line(&all)
+}
+
+fn head(command: &str) -> Fields {
+    vec![
+        ("version", VERSION.to_string()),
+        ("command", string(command)),
+    ]
+}
+
+fn line(fields: &[(&'static str, String)]) -> Result<(), Failure> {
+    output::print((object(fields) + "\n").as_bytes())
+}
+
+pub fn flag(value: bool) -> String {
+    value.to_string()
+}
+
+/// The word, the refusal with its name, and the counts.
+pub fn answer(answer: &Answer) -> String {
+    let (word, refusal) = match answer.word {
+        Word::Completed => ("completed", None),
+        Word::Hung => ("hung", None),
+        Word::Spent => ("spent", None),
+        Word::Refused(number) => ("refused", Some(number)),
+    };
+    let name = refusal.map_or("null".to_string(), |n| string(refusals::word(n)));
+    object(&[
+        ("word", string(word)),
+        ("refusal", maybe(refusal.map(usize::from))),
+        ("name", name),
+        ("firings", answer.firings.to_string()),
+        ("tokens", answer.tokens.to_string()),
+        ("place", answer.place.to_string()),
+    ])
+}
+
+/// What a run was lent.
+pub fn lent(machine: &Machine) -> Fields {
+    vec![
+        ("capacity", machine.sizes.capacity.to_string()),
+        ("cell_count", machine.sizes.cells.to_string()),
+    ]
+}
+
+/// Results, tokens that are neither results nor spent, and cells that are not absent.
+pub fn left(program: &Program, end: &End) -> Fields {
+    let tokens = records::tokens(&end.listing());
+    let unspent = tokens.iter().filter(|t| t.state != State::Spent);
+    let (results, others): (Vec<&Token>, Vec<&Token>) =
+        unspent.partition(|t| results::is_result(program, t));
+    let all = |tokens: Vec<&Token>| list(tokens.into_iter().map(|t| token(program, t)));
+    let cells = (0..)
+        .zip(end.cells())
+        .filter_map(|(number, c)| cell(number, c));
+    vec![
+        ("results", all(results)),
+        ("left", all(others)),
+        ("cells", list(cells)),
+    ]
+}
+
+/// A token. Paths have up to 128 bits, and so are strings.
+pub fn token(program: &Program, token: &Token) -> String {
+    object(&[
+        ("name", string(&program.port(&token.tag, token.port))),
+        ("path", string(&token.tag.path.to_string())),
+        ("iteration", token.tag.iteration.to_string()),
+        ("instruction", token.tag.instruction.to_string()),
+        ("port", token.port.to_string()),
+        ("value", token.value.to_string()),
+        ("state", string(token.state.word())),
+    ])
+}
+
+fn cell(number: usize, cell: Cell) -> Option<String> {
+    let (state, value) = match cell {
+        Cell::Absent => return None,
+        Cell::Waiting => ("waiting", "null".to_string()),
+        Cell::Present(value) => ("present", value.to_string()),
+    };
+    Some(object(&[
+        ("cell", number.to_string()),
+        ("state", string(state)),
+        ("value", value),
+    ]))
+}
+
+/// A message, with its line and column, counted from 1, if it has a place.
+pub fn finding(text: &str, finding: &Finding) -> String {
+    let severity = match finding.severity {
+        Severity::Warning => "warning",
+        _ => "error",
+    };
+    let at = finding.at.as_ref();
+    let place = at.map(|(span, _)| place(text, span));
+    object(&[
+        ("severity", string(severity)),
+        ("message", string(&finding.title)),
+        ("line", maybe(place.map(|(line, _)| line))),
+        ("column", maybe(place.map(|(_, column)| column))),
+        ("says", string(at.map_or("", |(_, words)| words))),
+        ("notes", list(finding.notes.iter().map(|note| string(note)))),
+    ])
+}
+
+fn place(text: &str, span: &Span) -> (usize, usize) {
+    let before = text.get(..span.start).unwrap_or(text);
+    let column = before.rsplit('\n').next().unwrap_or("").chars().count();
+    (before.matches('\n').count() + 1, column + 1)
+}
+
+/// A line of CSV. A field with a comma, a quote or a line end is quoted.
+pub fn csv(fields: &[String]) -> String {
+    let field = |field: &String| match field.contains([',', '"', '\n']) {
+        true => format!("\"{}\"", field.replace('"', "\"\"")),
+        false => field.clone(),
+    };
+    fields.iter().map(field).collect::<Vec<_>>().join(",") + "\n"
+}
+
+#[cfg(test)]
+mod tests {
+    use super::*;
+
+    #[test]
+    fn places_count_from_one_in_characters() {
+        assert_eq!(place("a\nbé c\n", &(6..7)), (2, 4));
+        assert_eq!(place("", &(0..0)), (1, 1));
+    }
+
+    #[test]
+    fn fields_of_csv_are_quoted_where_needed() {
+        let fields = ["a b", "a,b", "say \"x\""].map(str::to_string);
+        assert_eq!(csv(&fields), "a b,\"a,b\",\"say \"\"x\"\"\"\n");
+    }
+}
