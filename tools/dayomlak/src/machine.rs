@@ -1,6 +1,6 @@
 //! Runs of the proved engine over a program, with buffers of chosen sizes.
 
-use plotter::Step;
+use plotter::{Left, Step};
 use ttda::widths::{self, STEP};
 
 use crate::answer::Answer;
@@ -73,6 +73,13 @@ impl End {
         })?;
         room.truncate(length);
         Ok(room)
+    }
+}
+
+impl From<&Left> for End {
+    fn from(left: &Left) -> End {
+        let (ledger, cells) = (left.ledger.clone(), left.cells.clone());
+        End::of(Answer::of(left.answer), ledger, cells)
     }
 }
 

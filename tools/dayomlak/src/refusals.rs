@@ -76,7 +76,7 @@ pub const TABLE: [Refusal; 21] = [
         "Let the results of a call stand right behind its return instruction, one for each LEAVE constant."),
     refusal(18, "profile full",
         "A profile has no record left for the next step.",
-        "Lend a longer profile: it has a record for each ideal step."),
+        "Lend a longer profile; 2,048 records are always enough."),
     refusal(19, "not loop-free",
         "The graph has a NEXT, an ENTER or a LEAVE, so that no bound of its firings is known before it runs.",
         "Run it: if it completes or hangs, its firings and tokens are the same in every order."),

@@ -74,7 +74,7 @@ fn at_once(program: &Program, number: u16, answer: &Answer, sizes: Sizes) -> Fin
 }
 
 /// Which of a program's files is refused by 7, and why.
-fn bad_store(program: &Program) -> Option<String> {
+pub fn bad_store(program: &Program) -> Option<String> {
     bad_records("inputs", program.files.inputs.len(), TOKEN).or_else(|| bad_picks(program))
 }
 

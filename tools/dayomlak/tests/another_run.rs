@@ -46,7 +46,8 @@ fn picks_with_a_byte_too_many_have_no_completed_plot() {
     assert_eq!(second.status, 1);
     assert!(second.out.contains("refused by 7, bad store"), "{second:?}");
     assert!(second.out.contains("the picks have 1 byte"), "{second:?}");
-    assert!(picture.contains("UTC: refused by 7, bad store"));
+    let words = "in the order of its picks; the picks have 1 byte, no";
+    assert!(picture.contains("UTC: refused by 7, bad store") && picture.contains(words));
     assert!(!picture.contains("UTC: completed") && !picture.contains("[0] = 41\n"));
 }
 
@@ -119,6 +120,18 @@ fn a_log_of_an_edited_graph_is_refused() {
             .out
             .starts_with("completed: 3 firings, 5 tokens, by the log of another run\n"));
     }
+    // A read that is no longer made: the log names what is not enabled there.
+    folder.write("L.ttda", SUM.replace("input read = 3", "input out = 3"));
+    let anyway = dayomlak(&["replay", &file, &log, "--anyway"]);
+    assert_eq!(anyway.status, 1);
+    assert!(
+        anyway.out.contains("refused by 20, not enabled"),
+        "{anyway:?}"
+    );
+    assert!(
+        anyway.out.contains("fired by the log of another run\n"),
+        "{anyway:?}"
+    );
     // Names and comments are no part of a graph.
     folder.write("L.ttda", SUM.replace("plus", "sum") + "# a sum\n");
     assert_eq!(dayomlak(&["replay", &file, &log]).status, 0);

@@ -14,6 +14,8 @@ const NARROW: u32 = 560;
 const CHART: u32 = 210;
 const LINE: u32 = 18;
 const MARGIN: u32 = 16;
+/// As many characters have room in a line, whatever font is at hand.
+const CHARACTERS: usize = 130;
 /// What the run left stands in so many columns, of so many lines at most.
 const COLUMNS: usize = 3;
 const ROWS: usize = 8;
@@ -56,8 +58,9 @@ const CURVES: [Curve; 2] = [
 /// Draws a picture.
 pub(crate) fn svg(picture: &Picture) -> Result<String, Box<dyn Error>> {
     let left = columns(picture.left);
+    let facts: Vec<String> = picture.facts.iter().flat_map(|f| wrapped(f)).collect();
     let rows = left.iter().map(Vec::len).max().unwrap_or(0) as u32;
-    let head = MARGIN + 28 + LINE * picture.facts.len() as u32;
+    let head = MARGIN + 28 + LINE * facts.len() as u32;
     let charts = CHART * CURVES.len() as u32;
     let tail = MARGIN + LINE * (rows + 2);
     let mut svg = String::new();
@@ -66,7 +69,7 @@ pub(crate) fn svg(picture: &Picture) -> Result<String, Box<dyn Error>> {
         let root = backend.into_drawing_area();
         root.fill(&WHITE)?;
         write(&root, picture.title, 18, (MARGIN, MARGIN))?;
-        for (line, fact) in (0..).zip(picture.facts) {
+        for (line, fact) in (0..).zip(&facts) {
             write(&root, fact, 12, (MARGIN, MARGIN + 28 + LINE * line))?;
         }
         let (_, mut rest) = root.split_vertically(head);
@@ -98,6 +101,23 @@ fn write(area: &Area, text: &str, size: u32, at: (u32, u32)) -> Result<(), Box<d
     let style = ("sans-serif", size as i32).into_text_style(area);
     area.draw_text(text, &style, (at.0 as i32, at.1 as i32))?;
     Ok(())
+}
+
+/// A line in lines that have room, cut at spaces.
+fn wrapped(line: &str) -> Vec<String> {
+    let mut lines = vec![String::new()];
+    for word in line.split(' ') {
+        let last = lines.len() - 1;
+        let room = CHARACTERS.saturating_sub(lines[last].chars().count() + 1);
+        if lines[last].is_empty() {
+            lines[last] += word;
+        } else if word.chars().count() <= room {
+            lines[last] += &format!(" {word}");
+        } else {
+            lines.push(word.to_string());
+        }
+    }
+    lines
 }
 
 /// The first lines in columns, and how many more there are.
@@ -177,5 +197,21 @@ impl Curve {
             [(number, height), (number + 1, height)]
         };
         (0..).zip(steps).flat_map(corners).collect()
+    }
+}
+
+#[cfg(test)]
+mod tests {
+    use super::*;
+
+    #[test]
+    fn long_lines_are_cut_at_spaces() {
+        let line = "word ".repeat(40).trim_end().to_string();
+        let lines = wrapped(&line);
+        assert_eq!(lines.join(" "), line);
+        assert!(lines.iter().all(|line| line.len() <= CHARACTERS));
+        assert_eq!(lines.len(), 2);
+        assert_eq!(wrapped("one line"), ["one line"]);
+        assert_eq!(wrapped(&"x".repeat(200)), ["x".repeat(200)]);
     }
 }

@@ -3,6 +3,33 @@
 //! It stands above the engine ([`Engine`]) and rests on the engine's promises. Whether a kept plot serves another run the
 //! engine says; nothing of it is decided here. A plot names the run that it is of and, where another one was asked for,
 //! that one too.
+//!
+//! Of a graph that adds 7 and -9:
+//!
+//! ```
+//! use plotter::{Library, Plot, Request, Run, Step, Words};
+//!
+//! let mut graph = vec![0; 2 * 16];
+//! graph[..5].copy_from_slice(&[16, 1, 0, 0, 1]); // 0 is ADD to port 0 of 1
+//! graph[16] = 3; // 1 is OUT
+//! let mut inputs = vec![0; 2 * 28];
+//! inputs[20..24].copy_from_slice(&7i32.to_le_bytes());
+//! inputs[28 + 17] = 1;
+//! inputs[48..52].copy_from_slice(&(-9i32).to_le_bytes());
+//! let (picks, budget, capacity, cells) = (Vec::new(), 2048, 2048, 1024);
+//! let request = Request { graph, inputs, picks, budget, capacity, cells };
+//! let asked = Run { request, order: "oldest first".to_string(), seconds: plotter::now() };
+//!
+//! let plot = Plot::of(&Library, None, asked);
+//! assert_eq!(plot.profile.steps, [Step { firings: 1, tokens: 1 }]);
+//! let words = Words {
+//!     title: "7 - 9".to_string(),
+//!     run: "completed".to_string(),
+//!     profile: Vec::new(),
+//!     left: vec!["-2".to_string()],
+//! };
+//! assert!(plot.svg(&words).unwrap().starts_with("<svg"));
+//! ```
 
 mod cache;
 mod clock;

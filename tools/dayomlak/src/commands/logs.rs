@@ -90,10 +90,11 @@ fn replayed(machine: &Machine, end: &End, log: &[u8], order: &str) -> String {
         Some(mut finding) if end.answer.word == Word::Refused(20) => {
             let named = named(program, log, end.answer.place);
             finding.notes.insert(0, named);
+            finding.notes.insert(1, format!("fired {order}"));
             if let Some(advice) = forms::advice(log, &forms::LOGS) {
                 finding
                     .notes
-                    .insert(1, format!("look at the log's records: {advice}"));
+                    .insert(2, format!("look at the log's records: {advice}"));
             }
             diagnostics::plain(&program.label, &program.text, &[finding])
         }

@@ -2,7 +2,7 @@
 
 use std::path::Path;
 
-use plotter::{Step, Words};
+use plotter::{Plot, Step, Words};
 
 use super::{answer, load, status};
 use crate::answer::{Answer, Word};
@@ -89,24 +89,8 @@ fn draw(args: &Profile, path: &Path) -> Result<u8, Failure> {
     let machine = Machine::new(&program, args.buffers.sizes());
     let order = args.order.unwrap_or(Order::Typed);
     let plot = profiles::plot(&machine, order, args.budget.unwrap_or(WHOLE))?;
-    let left = &plot.left;
-    let end = End::of(
-        Answer::of(left.answer),
-        left.ledger.clone(),
-        left.cells.clone(),
-    );
-    let profiled = Answer::of(plot.profile.answer);
-    let mut profile = profiles::words(&program, &plot.profile.steps, &profiled);
-    profile[0] = format!(
-        "profile, which takes no picks and no budget: {}",
-        profile[0]
-    );
-    let words = Words {
-        title: program.label.clone(),
-        run: ended(&program, &end, &plot.run.words()),
-        profile,
-        left: results::lines(&program, &end),
-    };
+    let end = End::from(&plot.left);
+    let words = words(&program, &plot, &end);
     let svg = plot.svg(&words);
     let svg = svg.map_err(|error| Failure::Inconsistent(format!("the picture: {error}")))?;
     target.write(svg.as_bytes())?;
@@ -119,12 +103,27 @@ fn draw(args: &Profile, path: &Path) -> Result<u8, Failure> {
     Ok(status(&end))
 }
 
-/// How a run ended, with the firing that was refused.
+/// What is said of a plot, by the names of a program.
+fn words(program: &Program, plot: &Plot, end: &End) -> Words {
+    let profiled = Answer::of(plot.profile.answer);
+    let mut profile = profiles::words(program, &plot.profile.steps, &profiled);
+    profile[0].insert_str(0, "profile, which takes no picks and no budget: ");
+    Words {
+        title: program.label.clone(),
+        run: ended(program, end, &plot.run.words()),
+        profile,
+        left: results::lines(program, end),
+    }
+}
+
+/// How a run ended, with the firing or the file that was refused.
 fn ended(program: &Program, end: &End, order: &str) -> String {
     let words = results::headline(end, order);
-    match refused::which(program, end) {
-        Some(firing) => format!("{words}, in {firing}"),
-        None => words,
+    let bad_store = || refused::bad_store(program).filter(|_| end.answer.word == Word::Refused(7));
+    match (refused::which(program, end), bad_store()) {
+        (Some(firing), _) => format!("{words}, in {firing}"),
+        (None, Some(why)) => format!("{words}; {why}"),
+        (None, None) => words,
     }
 }
 
