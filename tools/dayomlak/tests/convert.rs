@@ -252,6 +252,25 @@ fn what_a_log_says() {
 }
 
 #[test]
+fn files_without_old_records() {
+    let folder = Folder::new();
+    dayomlak(&["log", "examples/call/call.ttda", "-o", &folder.path("old")]);
+    let words = "error: old is a log that names its run: its records are new ones\n  \
+        there is nothing to convert\n";
+    expect_none(&folder, &convert(&folder, "old", &[]), 2, words);
+    expect_none(
+        &folder,
+        &convert(&folder, "old", &["--as", "log"]),
+        2,
+        words,
+    );
+    folder.write("old.ttda", "a: OUT\n");
+    let words = "error: old.ttda is a typed graph: it has no records\n  \
+        there is nothing to convert\n";
+    expect_none(&folder, &convert(&folder, "old.ttda", &[]), 2, words);
+}
+
+#[test]
 fn inputs_are_no_log() {
     let folder = Folder::new();
     sum(&folder);

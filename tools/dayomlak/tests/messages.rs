@@ -221,7 +221,7 @@ fn a_log_that_cannot_be_replayed() {
 
 #[test]
 fn every_number_is_explained() {
-    for number in (1..=14).chain(17..=20).chain(25..=26) {
+    for number in (1..=14).chain(17..=20).chain(24..=26) {
         let done = dayomlak(&["explain", &number.to_string()]);
         assert_eq!((done.status, &done.err[..]), (0, ""));
         expect(&format!("messages/explain-{number}"), &done);

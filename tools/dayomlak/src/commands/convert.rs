@@ -8,7 +8,7 @@ use crate::cli::{Convert, Kind};
 use crate::failure::{self, Failure};
 use crate::forms::{self, Doubt, Form, Reason};
 use crate::output::Target;
-use crate::program;
+use crate::{log_file, program};
 
 /// A file that is to be written, and what is said of it.
 struct Written {
@@ -82,6 +82,13 @@ fn copy(old: &Path, new: &Path) -> Result<Written, Failure> {
 /// The new records of a file that is one of the known forms.
 fn file(args: &Convert, old: &Path, new: &Path, known: &[Form]) -> Result<Written, Failure> {
     let bytes = fs::read(old).map_err(|error| Failure::file(old, error))?;
+    if let Some(words) = without_old_records(old, &bytes) {
+        let text = format!(
+            "{} is {words}\n  there is nothing to convert",
+            old.display()
+        );
+        return Err(Failure::Wrong(text));
+    }
     let (form, reason) = form(args.kind, old, &bytes, known)?;
     let why = because(&reason, bytes.len());
     if !form.is_old() {
@@ -104,6 +111,17 @@ fn file(args: &Convert, old: &Path, new: &Path, known: &[Form]) -> Result<Writte
         bytes: widened,
         words,
     })
+}
+
+/// What a file is that never had old records.
+fn without_old_records(old: &Path, bytes: &[u8]) -> Option<&'static str> {
+    if bytes.starts_with(log_file::START.as_bytes()) {
+        Some("a log that names its run: its records are new ones")
+    } else if old.extension().is_some_and(|word| word == "ttda") {
+        Some("a typed graph: it has no records")
+    } else {
+        None
+    }
 }
 
 /// What a file is: as told, or else as it shows.
