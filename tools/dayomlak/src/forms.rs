@@ -46,8 +46,8 @@ impl Form {
         matches!(self, Form::OldTokens | Form::OldLog)
     }
 
-    /// The form of today.
-    pub fn new(self) -> Form {
+    /// The form that its records have today.
+    pub fn widened(self) -> Form {
         match self {
             Form::OldTokens | Form::NewTokens => Form::NewTokens,
             Form::OldLog | Form::NewLog => Form::NewLog,
@@ -72,7 +72,7 @@ impl Form {
 
     /// `7 token records of 20 bytes`.
     pub fn words(self, length: usize) -> String {
-        let kind = match self.new() {
+        let kind = match self.widened() {
             Form::NewTokens => "token record",
             _ => "log record",
         };
@@ -90,7 +90,7 @@ impl Form {
     fn is_record(self, record: &[u8]) -> bool {
         let (path, rest) = record.split_at(self.path());
         let tag = is_path(path) && rest[3] == 0;
-        match self.new() {
+        match self.widened() {
             Form::NewTokens => tag && rest[1] <= 1 && is_content(&rest[4..]),
             _ => tag && rest[1] == 0,
         }

@@ -104,7 +104,7 @@ fn file(args: &Convert, old: &Path, new: &Path, known: &[Form]) -> Result<Writte
         old.display(),
         form.words(bytes.len()),
         new.display(),
-        form.new().words(widened.len()),
+        form.widened().words(widened.len()),
     );
     Ok(Written {
         path: new.to_path_buf(),
@@ -141,7 +141,7 @@ fn form(
 
 /// What the engine makes of old records.
 fn widened(old: &Path, form: Form, bytes: &[u8]) -> Result<Vec<u8>, Failure> {
-    let mut new = vec![0; bytes.len() / form.width() * form.new().width()];
+    let mut new = vec![0; bytes.len() / form.width() * form.widened().width()];
     let answer = match form {
         Form::OldLog => ttda::convert_log(bytes, &mut new),
         _ => ttda::convert(bytes, &mut new),
