@@ -74,6 +74,9 @@ class Runs(unittest.TestCase):
         self.assertEqual(ttda.converted(old), ttda.input_bytes([Input(0, 0, 7)]))
         with self.assertRaises(ValueError):
             ttda.converted(old[:19])
+        self.assertEqual(ttda.converted_log(b'\7' + bytes(11)), b'\7' + bytes(19))
+        with self.assertRaises(ValueError):
+            ttda.converted_log(bytes(13))
 
 
 class Gallery(unittest.TestCase):

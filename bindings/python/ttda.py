@@ -21,6 +21,7 @@ MOST_CELLS = 1024
 INSTRUCTION = struct.Struct('<4B2Hi4x')
 TOKEN = struct.Struct('<16s2BHiB3x')
 OLD_TOKEN_BYTES = 20
+OLD_LOG_BYTES = 12
 CELL = struct.Struct('<iB3x')
 LOGGED = struct.Struct('<16sBxH')
 STEP = struct.Struct('<2H')
@@ -137,6 +138,7 @@ _FUNCTIONS = {
     'ttda_expression_value': 'rr',
     'ttda_list': 'rw',
     'ttda_convert': 'rw',
+    'ttda_convert_log': 'rw',
     'ttda_print': 'qrrw',
 }
 _TYPES = {
@@ -333,7 +335,16 @@ def expression_value(expression, values) -> Tuple[Answer, Optional[int]]:
 
 def converted(records) -> bytes:
     """Token records of 20 bytes, from before paths of eight levels, as records of 28."""
-    out = ctypes.create_string_buffer(TOKEN.size * (len(records) // OLD_TOKEN_BYTES))
-    if _call('ttda_convert', records, out) != 0:
-        raise ValueError('these are not whole records of 20 bytes, or too many')
+    return _widened('ttda_convert', records, OLD_TOKEN_BYTES)
+
+
+def converted_log(records) -> bytes:
+    """Log records of 12 bytes, from before paths of eight levels, as records of 20."""
+    return _widened('ttda_convert_log', records, OLD_LOG_BYTES)
+
+
+def _widened(function, records, old_bytes) -> bytes:
+    out = ctypes.create_string_buffer((old_bytes + 8) * (len(records) // old_bytes))
+    if _call(function, records, out) != 0:
+        raise ValueError(f'these are not whole records of {old_bytes} bytes, or too many')
     return out.raw

@@ -127,6 +127,11 @@ fn old_records_are_made_new() {
     assert!(ttda::convert(&inputs(OLD_TOKEN, 12), &mut new).is_done());
     assert_eq!(new.to_vec(), inputs(TOKEN, 20));
     assert!(!ttda::convert(&[0; 19], &mut new).is_done());
+    let (mut old, mut log) = ([0; 12], [1; 20]);
+    old[0] = 7;
+    assert!(ttda::convert_log(&old, &mut log).is_done());
+    assert_eq!((log[0], &log[1..]), (7, &[0; 19][..]));
+    assert!(!ttda::convert_log(&[0; 13], &mut log).is_done());
 }
 
 #[test]
