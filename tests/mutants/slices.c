@@ -23,6 +23,10 @@ uint64_t unproved_run_logged(const struct slice *graph, const struct slice *inpu
 uint64_t unproved_replay(const struct slice *graph, const struct slice *inputs, const struct slice *log,
                          const struct slice *ledger, const struct slice *cells);
 uint64_t unproved_bounds(const struct slice *graph, const struct slice *inputs);
+uint64_t unproved_carry_on(const struct slice *graph, const struct slice *picks, uint16_t budget, uint16_t firings,
+                           uint16_t tokens, const struct slice *ledger, const struct slice *cells);
+uint64_t unproved_expression(const struct slice *expression, const struct slice *graph);
+uint64_t unproved_expression_value(const struct slice *expression, const struct slice *values);
 uint64_t unproved_list(const struct slice *ledger, const struct slice *out);
 uint64_t unproved_convert(const struct slice *old, const struct slice *out);
 uint64_t unproved_convert_log(const struct slice *old, const struct slice *out);
@@ -83,6 +87,25 @@ uint64_t ttda_bounds(const uint8_t *graph, size_t graph_len, const uint8_t *inpu
     const struct slice g = {graph, graph_len}, i = {inputs, inputs_len};
     count();
     return unproved_bounds(&g, &i);
+}
+
+uint64_t ttda_carry_on(const uint8_t *graph, size_t graph_len, const uint8_t *picks, size_t picks_len, uint16_t budget,
+                       uint16_t firings, uint16_t tokens, uint8_t *ledger, size_t ledger_len, uint8_t *cells, size_t cells_len) {
+    const struct slice g = {graph, graph_len}, p = {picks, picks_len};
+    const struct slice l = {ledger, ledger_len}, c = {cells, cells_len};
+    count();
+    return unproved_carry_on(&g, &p, budget, firings, tokens, &l, &c);
+}
+
+uint64_t ttda_expression(const uint8_t *expression, size_t expression_len, uint8_t *graph, size_t graph_len) {
+    const struct slice e = {expression, expression_len}, g = {graph, graph_len};
+    count();
+    return unproved_expression(&e, &g);
+}
+
+uint64_t ttda_expression_value(const uint8_t *expression, size_t expression_len, const uint8_t *values, size_t values_len) {
+    const struct slice e = {expression, expression_len}, v = {values, values_len};
+    return unproved_expression_value(&e, &v);
 }
 
 uint64_t ttda_list(const uint8_t *ledger, size_t ledger_len, uint8_t *out, size_t out_len) {
