@@ -13,6 +13,7 @@ pub mod Callers
 pub mod RootLeave
 pub mod Fits
 pub mod Orders
+pub mod Budgets
 pub mod Profile
 pub mod Log
 pub mod Replay
