@@ -9,30 +9,10 @@ use Rattle.number.specs.Number.{Bytes, number16}
 use Rattle.buffer.specs.Rows.{rows, All}
 use Rattle.record.specs.TokensAndTags.{capacityOf}
 use Rattle.record.specs.Widths.{cellWidth}
-use Rattle.rules.specs.declared.answer.Profiled.{Profiled}
-use Rattle.rules.specs.Profile.{stepWidth, profiled, ProfileRan}
+use Rattle.rules.specs.Profile.{stepWidth}
 use Rattle.rules.specs.Orders.{Allowed}
-use Rattle.rules.specs.Runs.{LentToRun, LeftByRun, RanOn, Refused, Quiescent}
+use Rattle.rules.specs.Runs.{LentToRun, LeftByRun, RanOn, LentToProfile, LeftByProfile, ProfiledOn, Refused, Quiescent}
 use Rattle.listing.specs.Demand3.{Alike}
-
--- what a profile is lent beside graph and inputs
-pub record LentToProfile : Type 0 where
-  pub ledger : List ℕ
-  pub cells : List ℕ
-  pub profile : List ℕ
-
--- what it answers, and every byte of the three buffers afterwards
-pub record LeftByProfile : Type 0 where
-  pub answer : Profiled
-  pub ledger : List ℕ
-  pub cells : List ℕ
-  pub profile : List ℕ
-
--- the promise of `profile`
-abbrev pub ProfiledOn : (graph inputs : List ℕ) → LentToProfile → LeftByProfile → Type 0
-ProfiledOn graph inputs l x =
-    ProfileRan (profiled graph inputs (length (l .ledger)) (length (l .cells)) (length (l .profile))) (x .answer)
-    (l .ledger) (x .ledger) (l .cells) (x .cells) (l .profile) (x .profile)
 
 -- what a run has too
 abbrev pub asRun : LeftByProfile → LeftByRun
