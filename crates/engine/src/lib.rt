@@ -21,11 +21,11 @@ ghost use Rattle.machine.specs.Sequences.{logOf};
 ghost use Rattle.rules.specs.Answer.{valuesChecked};
 ghost use Rattle.rules.specs.Check.{_andThen_, checkGraph, checkStores};
 ghost use Rattle.rules.specs.Run.{picksOf, firstState, Ran};
-ghost use Rattle.rules.specs.Runs.{lentToRun, leftByRun, RanOn, lentToLogged, leftByLogged, LoggedOn};
 ghost use Rattle.rules.specs.Saved.{CarriedOn};
 ghost use Rattle.fire.specs.Running.{machineFor, Prepared, Running};
 ghost use Rattle.start.specs.Begun.{Accepted};
 ghost use Rattle.start.specs.Ended.{EndedAt};
+ghost use Rattle.engine.specs.Promise.{lentToRun, leftByRun, RanOn, lentToLogged, leftByLogged, LoggedOn};
 ghost use Rattle.engine.specs.Resumed.{Lent, resumed};
 ghost use Rattle.engine.specs.Turns.{Turned, endOf, firedBy, noted, recorded};
 

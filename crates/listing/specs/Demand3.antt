@@ -1,5 +1,5 @@
 -- Demand 3, whole, in the words of the demand and of 01, "Any two orders". One claim about two runs over one graph and one list of inputs, in bytes: for every
--- two lists of picks, and whatever ledger and cells held before. It speaks of what `run` (crate engine) and `list` promise, `Ran` and `answer` with `outAfter`.
+-- two lists of picks, and whatever ledger and cells held before. It speaks of what `run` (crate engine) and `list` promise, `RanOn` and `answer` with `outAfter`.
 -- Behind it stands the same of two budgets that are each enough, and of runs that write a log. The statements; they are proved in proofs/Demand3. Assumes nothing.
 use Prim.Native.Nat.{ℕ, _*_, _/_, _≤_}
 use mathlib.Core.Path.{_≡_}
@@ -10,7 +10,8 @@ use lib.ListN.{length, take}
 use Rattle.number.specs.Number.{Bytes}
 use Rattle.record.specs.TokensAndTags.{capacityOf}
 use Rattle.record.specs.Widths.{tokenWidth, cellWidth}
-use Rattle.rules.specs.Runs.{LentToRun, LeftByRun, RanOn, LentToLogged, LeftByLogged, LoggedOn, lentBesideLog, leftBesideLog, Completed, Hung, Quiescent, Spent, Refused}
+use Rattle.engine.specs.Promise.{LentToRun, LeftByRun, RanOn, LentToLogged, LeftByLogged, LoggedOn}
+use Rattle.rules.specs.Runs.{lentBesideLog, leftBesideLog, Completed, Hung, Quiescent, Spent, Refused}
 use Rattle.rules.specs.Orders.{Allowed, NotForOtherBuffers}
 use Rattle.rules.specs.Log.{logSuffices}
 use Rattle.listing.specs.Listing.{recordKey, records, answer, outAfter}

@@ -28,10 +28,10 @@ use Rattle.rules.proofs.Fits.{result-fits}
 use Rattle.rules.proofs.Small.{answer-small}
 use Rattle.rules.proofs.Profile.{passes, wholes, as-every-order}
 use Rattle.rules.specs.Runs.{LentToRun, LeftByRun, RanOn, LentToProfile, LeftByProfile, ProfiledOn, Quiescent, Refused}
 use Rattle.listing.specs.Demand3.{Alike}
-use Rattle.listing.specs.Profiles.{asRun, firingsOf, sum, EndsAsRun, ProfileEndsAsRun}
+use Rattle.profile.specs.EndsAsRun.{asRun, firingsOf, sum, EndsAsRun, ProfileEndsAsRun}
 use Rattle.listing.proofs.Lists.{all-perm}
 use Rattle.listing.proofs.Demand3.{same-end, bytes-alike}
 
 -- ---- the records, read back
 
