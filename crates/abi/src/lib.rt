@@ -23,7 +23,7 @@ ghost use Rattle.rules.specs.Run.{answer as Run·answer};
 ghost use Rattle.rules.specs.Saved.{carried};
 ghost use Rattle.rules.specs.Log.{logged, logAfter, replayed};
 ghost use Rattle.rules.specs.Profile.{profiled, profileAnswer, profileAfter};
-ghost use Rattle.plot_cache.specs.Serves.{request};
+ghost use Rattle.plot_cache.specs.Serves.{requestOf};
 ghost use Rattle.convert.specs.Convert.{answer as Convert·answer, outAfter as Convert·outAfter};
 ghost use Rattle.listing.specs.Listing.{outAfter};
 ghost use Rattle.listing.specs.Listing.{answer as Listing·answer};
@@ -316,7 +316,7 @@ pub extern "C" fn ttda_serves(
     cells: usize,
     kept_answer: u64,
 ) -> u64
-    ensures { λ r. ⌜ ServesNumber (request (now («kept_graph» .entry)) (now («kept_inputs» .entry)) (now («kept_picks» .entry)) (record { budget = «kept_budget»; ledger = «kept_ledger»; cells = «kept_cells» })) «kept_answer» (request (now (graph .entry)) (now (inputs .entry)) (now (picks .entry)) (record { budget = budget; ledger = ledger; cells = cells })) r ⌝ }
+    ensures { λ r. ⌜ ServesNumber (requestOf (now («kept_graph» .entry)) (now («kept_inputs» .entry)) (now («kept_picks» .entry)) «kept_budget» «kept_ledger» «kept_cells») «kept_answer» (requestOf (now (graph .entry)) (now (inputs .entry)) (now (picks .entry)) budget ledger cells) r ⌝ }
 {
     let Unpacked::Answered(a) = unpack(kept_answer) else {
         return 0;

@@ -66,7 +66,8 @@ Demand3 = (graph inputs : List ℕ) → Bytes graph → Bytes inputs → (l m : 
 -- the same with any two budgets that are each enough, and not 2,048 alone: if a run completes or hangs, so does every order that may do as many firings
 abbrev pub AnyTwoBudgets : Type 0
 AnyTwoBudgets = (graph inputs : List ℕ) → Bytes graph → Bytes inputs → (budget budget′ : ℕ) (l m : LentToRun) → Allowed (m .picks) (length (m .ledger)) (length (m .cells))
-    → capacityOf (length (l .ledger)) ≡ capacityOf (length (m .ledger)) → length (l .cells) / cellWidth ≡ length (m .cells) / cellWidth
+    → capacityOf (length (l .ledger)) ≡ capacityOf (length (m .ledger))
+    → length (l .cells) / cellWidth ≡ length (m .cells) / cellWidth
     → (x y : LeftByRun) → RanOn graph inputs budget l x → RanOn graph inputs budget′ m y → Quiescent (x .answer .outcome) → x .answer .firings ≤ budget′ → Alike x y
 
 -- ---- runs that write a log
@@ -76,5 +77,6 @@ abbrev pub Demand3Logged : Type 0
 Demand3Logged = (graph inputs : List ℕ) → Bytes graph → Bytes inputs → (l m : LentToLogged) → l .budget ≡ 2048 → m .budget ≡ 2048
     → logSuffices 2048 (length (l .log)) ≡ true → logSuffices 2048 (length (m .log)) ≡ true
     → NotForOthers graph inputs (lentBesideLog l) → NotForOthers graph inputs (lentBesideLog m)
-    → capacityOf (length (l .ledger)) ≡ capacityOf (length (m .ledger)) → length (l .cells) / cellWidth ≡ length (m .cells) / cellWidth
+    → capacityOf (length (l .ledger)) ≡ capacityOf (length (m .ledger))
+    → length (l .cells) / cellWidth ≡ length (m .cells) / cellWidth
     → (x y : LeftByLogged) → LoggedOn graph inputs l x → LoggedOn graph inputs m y → Agree (leftBesideLog x) (leftBesideLog y)

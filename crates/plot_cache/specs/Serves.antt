@@ -31,6 +31,10 @@ pub record Request : Type 0 where
 abbrev pub request : (graph inputs picks : List ℕ) → Limits → Request
 request graph inputs picks limits = record { graph = graph; inputs = inputs; picks = picks; limits = limits }
 
+-- by its numbers
+abbrev pub requestOf : (graph inputs picks : List ℕ) → (budget ledger cells : ℕ) → Request
+requestOf graph inputs picks budget ledger cells = request graph inputs picks (record { budget = budget; ledger = ledger; cells = cells })
+
 -- ---- when one serves for another
 
 abbrev pub sameBytes : List ℕ → List ℕ → Bool
