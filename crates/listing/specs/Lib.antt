@@ -4,4 +4,3 @@ pub mod Listing
 pub mod Sorted
 pub mod Positions
 pub mod Demand3
-pub mod Profiles
