@@ -125,7 +125,7 @@ uint64_t ttda_replay(const uint8_t *graph, size_t graph_len,
                      uint8_t *cells, size_t cells_len);
 
 /* Runs a graph in ideal steps, each of which fires every activity that is enabled at its start, and answers as ttda_run does. 18 if
-   a step has no record left.
+   a step has no record left; 2,048 records are always enough.
    Writes: as ttda_run; a record for each whole step (its firings, and the live plus deferred tokens after it) from the start of
    profile; and the number of these records to *records, also where the call is refused.
    7: inputs, ledger or cells are not whole records, or too many, or the profile is not whole records. */
@@ -171,6 +171,22 @@ uint64_t ttda_convert(const uint8_t *old, size_t old_len,
 /* The same for logs: records of 12 bytes a firing become records of 20. */
 uint64_t ttda_convert_log(const uint8_t *old, size_t old_len,
                           uint8_t *out, size_t out_len);
+
+/* Whether what was kept of one run (its answer, listing and cells, and the profile of its graph) serves for a run that is asked for: 1, or 0.
+   Both are given alike: graph, inputs, picks, budget, and the lengths in bytes of the ledger and the cells that ttda_run is lent; kept_answer is what
+   ttda_run answered. 1 if graph, inputs and both lengths are equal, and either picks and budget are equal too, or the kept run completed or hung, the
+   picks asked for are whole records, 2,048 at most, and the budget asked for is no less than the kept firings. Then the run asked for has that answer
+   and that listing and, unless it is refused before any firing, those cells, and ttda_profile writes the same records. */
+uint64_t ttda_serves(const uint8_t *kept_graph, size_t kept_graph_len,
+                     const uint8_t *kept_inputs, size_t kept_inputs_len,
+                     const uint8_t *kept_picks, size_t kept_picks_len,
+                     const uint8_t *graph, size_t graph_len,
+                     const uint8_t *inputs, size_t inputs_len,
+                     const uint8_t *picks, size_t picks_len,
+                     uint16_t kept_budget, uint16_t budget,
+                     size_t kept_ledger_len, size_t ledger_len,
+                     size_t kept_cells_len, size_t cells_len,
+                     uint64_t kept_answer);
 
 /* What ttda_print answers where it writes nothing. A text has 11 bytes at least, so neither is a length. */
 #define TTDA_TOO_SMALL 0

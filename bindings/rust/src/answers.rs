@@ -80,6 +80,16 @@ impl Value {
     }
 }
 
+/// What `serves` answers: 1 if what was kept serves, and 0 if not.
+#[derive(Clone, Copy, Debug, PartialEq, Eq, Hash)]
+pub struct Served(pub u64);
+
+impl Served {
+    pub fn is_yes(self) -> bool {
+        self.0 == 1
+    }
+}
+
 /// What `list` and `convert` answer: 0, or the refusal, with nothing written.
 #[derive(Clone, Copy, Debug, PartialEq, Eq, Hash)]
 pub struct Copied(pub u64);

@@ -3,7 +3,7 @@
 //! (one that is written), `counted` (a number that is written), `answered` (an answer of an earlier call), or a number of
 //! the type that stands there.
 
-use crate::answers::{Answer, Copied, Printed, Value};
+use crate::answers::{Answer, Copied, Printed, Served, Value};
 
 macro_rules! functions {
     ($($(#[$about:meta])* $name:ident = $c:ident($($parameters:tt)*) -> $answer:ident;)*) => {
@@ -70,6 +70,11 @@ functions! {
 
     /// The value of an expression, of the values of its variables.
     expression_value = ttda_expression_value(expression: lent, values: lent) -> Value;
+
+    /// Whether what was kept of one run serves for a run that is asked for. Ledger and cells are given by their lengths in bytes.
+    serves = ttda_serves(kept_graph: lent, kept_inputs: lent, kept_picks: lent, graph: lent, inputs: lent, picks: lent,
+        kept_budget: u16, budget: u16, kept_ledger: usize, ledger: usize, kept_cells: usize, cells: usize,
+        kept_answer: answered) -> Served;
 
     /// Sorts the used records of a ledger into `out` of the same length.
     list = ttda_list(ledger: lent, out: written) -> Copied;

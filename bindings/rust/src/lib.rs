@@ -5,5 +5,5 @@ mod answers;
 mod functions;
 pub mod widths;
 
-pub use answers::{Answer, Copied, NotPrinted, Printed, Value, Word};
+pub use answers::{Answer, Copied, NotPrinted, Printed, Served, Value, Word};
 pub use functions::*;

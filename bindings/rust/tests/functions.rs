@@ -140,3 +140,45 @@ fn what_is_not_printed_says_why() {
     assert_eq!(printed(Answer::of(0, 0, 0, 0)), Err(NotPrinted::TooSmall));
     assert_eq!(printed(Answer::of(99, 0, 0, 0)), Err(NotPrinted::NoAnswer));
 }
+
+/// Whether a completed run of 1 firing serves for another one, with one thing changed at a time.
+#[test]
+fn a_kept_run_serves_other_orders_and_no_other_run() {
+    let (graph, inputs) = (graph(), inputs(TOKEN, 20));
+    let kept = Answer::of(Word::COMPLETED, 1, 3, 0);
+    let serves = |graph: &[u8], inputs: &[u8], picks: &[u8], budget, ledger, cells, answer| {
+        let (kept_graph, kept_inputs) = (self::graph(), self::inputs(TOKEN, 20));
+        let (kept_ledger, kept_cells) = (4 * TOKEN, 2 * CELL);
+        let served = ttda::serves(
+            &kept_graph,
+            &kept_inputs,
+            &[],
+            graph,
+            inputs,
+            picks,
+            9,
+            budget,
+            kept_ledger,
+            ledger,
+            kept_cells,
+            cells,
+            answer,
+        );
+        served.is_yes()
+    };
+    let (ledger, cells) = (4 * TOKEN, 2 * CELL);
+    let mut other = (graph.clone(), inputs.clone());
+    other.0[8] = 1;
+    other.1[20] = 8;
+    assert!(serves(&graph, &inputs, &[], 9, ledger, cells, kept));
+    assert!(serves(&graph, &inputs, &[1, 0], 1, ledger, cells, kept));
+    assert!(!serves(&other.0, &inputs, &[], 9, ledger, cells, kept));
+    assert!(!serves(&graph, &other.1, &[], 9, ledger, cells, kept));
+    assert!(!serves(&graph, &inputs, &[1], 9, ledger, cells, kept));
+    assert!(!serves(&graph, &inputs, &[], 0, ledger, cells, kept));
+    assert!(!serves(&graph, &inputs, &[], 9, 5 * TOKEN, cells, kept));
+    assert!(!serves(&graph, &inputs, &[], 9, ledger, 3 * CELL, kept));
+    let refused = Answer::of(9, 1, 3, 0);
+    assert!(serves(&graph, &inputs, &[], 9, ledger, cells, refused));
+    assert!(!serves(&graph, &inputs, &[1, 0], 9, ledger, cells, refused));
+}

@@ -23,7 +23,6 @@ use Rattle.rules.specs.Run.{result, answer}
 use Rattle.rules.proofs.Small.{answer-small}
 use Rattle.text.specs.Text.{decimal, line, outcomeFields, answerLine, tokenLine, cellLines, printed, printedOf, outAfter}
 use Rattle.text.proofs.Decimals.{decimal-digit, length-more}
-use Rattle.abi.specs.Back.{NumbersBack}
 use Rattle.abi.specs.declared.Numbered.{Numbered}
 use Rattle.abi.specs.declared.Numbered.the-variants.{One, NoRefusal}
 use Rattle.abi.specs.declared.Named.{Named}
@@ -297,8 +296,3 @@ packed-unpacked n a h e = go (outcomeOf (n % 65536) (n / 281474976710656)) refl
     go NoOutcome t =
         let z : _≡_ {A = ℕ} 0 1 = ap isAnswered (rw t at e) in
         absurd (omega arith)
-
--- ---- the statement
-
-pub numbers-back : NumbersBack
-numbers-back = record { ofRuns = run-back; ofNumbers = packed-unpacked }

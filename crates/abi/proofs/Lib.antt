@@ -1,3 +1,4 @@
 -- The laws of what crosses to Rust and C. Assumes nothing.
 pub mod Laws
-pub mod Bounds
+pub mod Back
+pub mod Serving

@@ -1,15 +1,27 @@
--- The number that a run answers gives its answer back, and a number that names an answer is that answer's. The statement; it is proved in proofs/Laws.
--- Assumes nothing.
+-- The number that a run, a logged run, a replay, a profile, a run from a saved state or the bounds answer gives the answer back, and a number that names an answer is that
+-- answer's. The statement; it is proved in proofs/Back. Assumes nothing.
 use Prim.Native.Nat.{ℕ, _<_}
 use mathlib.Core.Path.{_≡_}
 use mathlib.Core.List.{List}
-use Rattle.rules.specs.Answer.{valuesOf}
+use Rattle.rules.specs.Answer.{valuesOf, valuesNeeded}
 use Rattle.rules.specs.declared.answer.Answer.{Answer}
 use Rattle.rules.specs.Run.{result, answer}
+use Rattle.rules.specs.Log.{logged, replayed}
+use Rattle.rules.specs.Profile.{profiled}
+use Rattle.rules.specs.Saved.{carried}
+use Rattle.rules.specs.Needs.{needs}
 use Rattle.abi.specs.declared.Unpacked.the-variants.{Answered}
-use Rattle.abi.specs.Numbers.{packed, unpacked}
+use Rattle.abi.specs.Numbers.{packed, unpacked, answerNeeded}
+
+-- its number gives it back
+abbrev pub Recovered : Answer → Type 0
+Recovered a = unpacked (packed (valuesOf a)) ≡ Answered a
 
 pub record NumbersBack : Type 0 where
-  pub ofRuns : (graph inputs picks : List ℕ) (budget ledger cells : ℕ)
-      → unpacked (packed (valuesOf (answer (result graph inputs picks budget ledger cells)))) ≡ Answered (answer (result graph inputs picks budget ledger cells))
+  pub ofRuns : (graph inputs picks : List ℕ) (budget ledger cells : ℕ) → Recovered (answer (result graph inputs picks budget ledger cells))
+  pub ofLogged : (graph inputs picks : List ℕ) (budget ledger cells lent : ℕ) → Recovered (answer (logged graph inputs picks budget ledger cells lent .result))
+  pub ofReplays : (graph inputs log : List ℕ) (ledger cells : ℕ) → Recovered (answer (replayed graph inputs log ledger cells))
+  pub ofProfiles : (graph inputs : List ℕ) (ledger cells lent : ℕ) → Recovered (answer (profiled graph inputs ledger cells lent .result))
+  pub ofCarried : (graph picks ledger cells : List ℕ) (budget firings tokens : ℕ) → Recovered (answer (carried graph picks budget ledger cells firings tokens))
+  pub ofBounds : (graph inputs : List ℕ) → unpacked (packed (valuesNeeded (needs graph inputs))) ≡ Answered (answerNeeded (needs graph inputs))
   pub ofNumbers : (n : ℕ) (a : Answer) → n < 18446744073709551616 → unpacked n ≡ Answered a → packed (valuesOf a) ≡ n

@@ -1,5 +1,6 @@
--- An answer as one number, the way back, and what printing answers. Assumes nothing.
+-- An answer as one number, the way back, and what the plotter's cache and printing answer. Assumes nothing.
 use Prim.Native.Nat.{ℕ, _+_, _*_, _/_, _%_}
+use mathlib.Core.Path.{_≡_}
 use mathlib.Core.Bool.{cond}
 use mathlib.Core.List.{List, [], _∷_}
 use lib.Dec.{eqb}
@@ -9,12 +10,14 @@ use Rattle.rules.specs.declared.answer.Refusal.{Refusal}
 use Rattle.rules.specs.declared.answer.Refusal.the-variants.{GraphLength, UnknownOperation, FanOut, BadArc, BadSite, BadInput, BadStore, LedgerFull, SecondToken, NoSuchCell, SecondWrite, OutOfRange, Iteration, TooDeep, NoReturn, ProfileFull, NotLoopFree, NotEnabled, DamagedState, BadExpression, GraphTooLong}
 use Rattle.rules.specs.declared.answer.Outcome.{Outcome}
 use Rattle.rules.specs.declared.answer.Outcome.the-variants.{Completed, Hung, Spent, Refused}
+use Rattle.rules.specs.declared.answer.Answer.{Answer}
 use Rattle.rules.specs.declared.answer.Needs.{Needs}
 use Rattle.rules.specs.declared.answer.Needs.the-variants as Bounds
 use Rattle.rules.specs.declared.answer.Made.{Made}
 use Rattle.rules.specs.declared.answer.Made.the-variants as Making
 use Rattle.rules.specs.declared.answer.Evaluated.{Evaluated}
 use Rattle.rules.specs.declared.answer.Evaluated.the-variants as Evaluation
+use Rattle.plot_cache.specs.Serves.{Request, serves, Served}
 use Rattle.text.specs.Text.{printed, printedOf, outAfter}
 use Rattle.text.specs.declared.Printed.{Printed}
 use Rattle.text.specs.declared.Printed.the-variants.{Done, TooSmall}
@@ -29,11 +32,6 @@ use Rattle.abi.specs.declared.Unpacked.the-variants.{Answered, NoAnswer}
 
 abbrev pub packed : Values → ℕ
 packed v = v .word + v .firings % 65536 * 65536 + v .tokens % 65536 * 4294967296 + v .place % 65536 * 281474976710656
-
--- the bounds of 02, R-3: word 0, or the refusal's number with its place and no counts
-abbrev pub boundsOf : Needs → Values
-boundsOf (Bounds.AtMost firings tokens) = record { word = 0; firings = firings; tokens = tokens; place = 0 }
-boundsOf (Bounds.Refused r place) = record { word = numberOf r; firings = 0; tokens = 0; place = place }
 
 -- what becomes of an expression of 02, R-14: word 0 and the number of records in the place of the firings, or the refusal's number with its place
 abbrev pub madeNumber : Made → Values
@@ -102,6 +100,23 @@ counted NoOutcome firings tokens = NoAnswer
 -- the answer with a number; none where no outcome has the number's word and place
 unfoldable pub unpacked : ℕ → Unpacked
 unpacked n = counted (outcomeOf (n % 65536) (n / 281474976710656)) (n / 65536 % 65536) (n / 4294967296 % 65536)
+
+-- the bounds of 02, R-3, as an answer: completed with so many firings and tokens at most, or refused
+abbrev pub answerNeeded : Needs → Answer
+answerNeeded (Bounds.AtMost firings tokens) = record { outcome = Completed; firings = firings; tokens = tokens }
+answerNeeded (Bounds.Refused r place) = record { outcome = Refused r place; firings = 0; tokens = 0 }
+
+-- ---- what the cache of the plotter answers
+
+-- 1 if what is kept of a run with this answer serves, else 0; a number that is no answer's serves nothing
+abbrev pub servesNumber : (kept : Request) → Unpacked → (asked : Request) → ℕ
+servesNumber k (Answered a) q = cond (serves k a q) 1 0
+servesNumber k NoAnswer q = 0
+
+-- the promise of `ttda_serves`: if it says 1, what is kept of a run that answered so serves
+pub record ServesNumber (kept : Request) (n : ℕ) (asked : Request) (r : ℕ) : Type 0 where
+  pub exactly : r ≡ servesNumber kept (unpacked n) asked
+  pub holds : r ≡ 1 → (a : Answer) → unpacked n ≡ Answered a → Served kept a asked
 
 -- ---- what printing answers and leaves
 

@@ -2,6 +2,7 @@
 // printed lines over numbers and byte slices, with the promises of the crates behind them.
 use convert::Converted;
 use listing::Listed;
+use plot_cache::Limits;
 use rules::answer;
 use rules::answer::Answer;
 use rules::answer::Evaluated;
@@ -12,7 +13,7 @@ use rules::answer::Refusal;
 use text::Printed;
 ghost use mathlib.Core.Path.{_≡_};
 ghost use lib.ListN.{length};
-ghost use Rattle.rules.specs.Answer.{placeIn, valuesOf};
+ghost use Rattle.rules.specs.Answer.{placeIn, valuesOf, valuesNeeded};
 ghost use Rattle.rules.specs.Needs.{needs};
 ghost use Rattle.record.specs.ExpressionRecords.{expressionOf};
 ghost use Rattle.rules.specs.Expression.{graphFor, checkMade, madeOf, outputOf, evaluated};
@@ -22,10 +23,11 @@ ghost use Rattle.rules.specs.Run.{answer as Run·answer};
 ghost use Rattle.rules.specs.Saved.{carried};
 ghost use Rattle.rules.specs.Log.{logged, logAfter, replayed};
 ghost use Rattle.rules.specs.Profile.{profiled, profileAnswer, profileAfter};
+ghost use Rattle.plot_cache.specs.Serves.{requestOf};
 ghost use Rattle.convert.specs.Convert.{tokenRest, logRest, numberOf as Convert·numberOf, answer as Convert·answer, outAfter as Convert·outAfter};
 ghost use Rattle.listing.specs.Listing.{outAfter};
 ghost use Rattle.listing.specs.Listing.{answer as Listing·answer};
-ghost use Rattle.abi.specs.Numbers.{packed, boundsOf, madeNumber, valueNumber, refusalOf, unplaced, outcomeOf, unpacked, printAnswer, printAfter};
+ghost use Rattle.abi.specs.Numbers.{packed, madeNumber, valueNumber, refusalOf, unplaced, outcomeOf, unpacked, ServesNumber, printAnswer, printAfter};
 
 // What a word says of a refusal.
 enum Numbered {
@@ -234,7 +236,7 @@ pub extern "C" fn ttda_profile(
 
 #[no_mangle]
 pub extern "C" fn ttda_bounds(graph: &[u8], inputs: &[u8]) -> u64
-    ensures { λ r. ⌜ r ≡ packed (boundsOf (needs (now (graph .entry)) (now (inputs .entry)))) ⌝ }
+    ensures { λ r. ⌜ r ≡ packed (valuesNeeded (needs (now (graph .entry)) (now (inputs .entry)))) ⌝ }
 {
     let needs = bounds::bounds(graph, inputs);
     match needs {
@@ -293,6 +295,56 @@ pub extern "C" fn ttda_list(ledger: &[u8], out: &mut [u8]) -> u64
     match listed {
         Listed::Done => 0,
         Listed::BadStore => 7,
+    }
+}
+
+// 1 if what is kept of a run that answered so serves for the run that is asked for, else 0. Ledgers and cells by their lengths in
+// bytes.
+#[no_mangle]
+pub extern "C" fn ttda_serves(
+    kept_graph: &[u8],
+    kept_inputs: &[u8],
+    kept_picks: &[u8],
+    graph: &[u8],
+    inputs: &[u8],
+    picks: &[u8],
+    kept_budget: u16,
+    budget: u16,
+    kept_ledger: usize,
+    ledger: usize,
+    kept_cells: usize,
+    cells: usize,
+    kept_answer: u64,
+) -> u64
+    ensures { λ r. ⌜ ServesNumber (requestOf (now («kept_graph» .entry)) (now («kept_inputs» .entry)) (now («kept_picks» .entry)) «kept_budget» «kept_ledger» «kept_cells») «kept_answer» (requestOf (now (graph .entry)) (now (inputs .entry)) (now (picks .entry)) budget ledger cells) r ⌝ }
+{
+    let Unpacked::Answered(a) = unpack(kept_answer) else {
+        return 0;
+    };
+    let kept = Limits {
+        budget: kept_budget,
+        ledger: kept_ledger,
+        cells: kept_cells,
+    };
+    let asked = Limits {
+        budget,
+        ledger,
+        cells,
+    };
+    if plot_cache::serves(
+        kept_graph,
+        kept_inputs,
+        kept_picks,
+        kept,
+        a,
+        graph,
+        inputs,
+        picks,
+        asked,
+    ) {
+        1
+    } else {
+        0
     }
 }
 

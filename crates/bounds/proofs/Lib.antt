@@ -4,3 +4,4 @@ pub mod Rounds
 pub mod Small
 pub mod Runs
 pub mod Capacity
+pub mod Logged

@@ -2,3 +2,4 @@
 pub mod Reach
 pub mod Runs
 pub mod Capacity
+pub mod Logged

@@ -9,7 +9,7 @@ use rules::answer::Checked;
 use rules::answer::Needs;
 ghost use mathlib.Core.Path.{_≡_};
 ghost use Rattle.rules.specs.declared.answer.Checked.the-variants as Checks;
-ghost use Rattle.rules.specs.Needs.{checkNeeds, needs};
+ghost use Rattle.rules.specs.Needs.{checkNeeds, needs, Bounded};
 
 // The bounds of a graph and inputs that passed.
 fn at_most(graph: &[u8], inputs: &[u8]) -> Needs
@@ -25,8 +25,9 @@ fn at_most(graph: &[u8], inputs: &[u8]) -> Needs
     }
 }
 
+// What no run from these inputs exceeds, or why there are no bounds.
 pub fn bounds(graph: &[u8], inputs: &[u8]) -> Needs
-    ensures { λ r. ⌜ r ≡ needs (now (graph .entry)) (now (inputs .entry)) ⌝ }
+    ensures { λ r. ⌜ Bounded (needs (now (graph .entry)) (now (inputs .entry))) r ⌝ }
 {
     let checked = check::check(graph, inputs);
     match checked {

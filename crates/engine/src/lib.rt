@@ -20,12 +20,12 @@ ghost use Rattle.machine.specs.Machine.{run as Machine·run};
 ghost use Rattle.machine.specs.Sequences.{logOf};
 ghost use Rattle.rules.specs.Answer.{valuesChecked};
 ghost use Rattle.rules.specs.Check.{_andThen_, checkGraph, checkStores};
-ghost use Rattle.rules.specs.Run.{picksOf, firstState, result, Ran};
-ghost use Rattle.rules.specs.Log.{logged, LogRan};
+ghost use Rattle.rules.specs.Run.{picksOf, firstState, Ran};
 ghost use Rattle.rules.specs.Saved.{CarriedOn};
 ghost use Rattle.fire.specs.Running.{machineFor, Prepared, Running};
 ghost use Rattle.start.specs.Begun.{Accepted};
 ghost use Rattle.start.specs.Ended.{EndedAt};
+ghost use Rattle.engine.specs.Promise.{lentToRun, leftByRun, RanOn, lentToLogged, leftByLogged, LoggedOn};
 ghost use Rattle.engine.specs.Resumed.{Lent, resumed};
 ghost use Rattle.engine.specs.Turns.{Turned, endOf, firedBy, noted, recorded};
 
@@ -244,7 +244,7 @@ pub fn run(
     ledger: &mut [u8],
     cells: &mut [u8],
 ) -> Answer
-    ensures { λ r. ⌜ Ran (result (now (graph .entry)) (now (inputs .entry)) (now (picks .entry)) budget (length (now (ledger .entry))) (length (now (cells .entry)))) r (now (ledger .entry)) (now (ledger .exit)) (now (cells .entry)) (now (cells .exit)) ⌝ }
+    ensures { λ r. ⌜ RanOn (now (graph .entry)) (now (inputs .entry)) budget (lentToRun (now (picks .entry)) (now (ledger .entry)) (now (cells .entry))) (leftByRun r (now (ledger .exit)) (now (cells .exit))) ⌝ }
 {
     let checked = checks::check(graph, inputs, picks, ledger.len(), cells.len());
     match checked {
@@ -274,7 +274,7 @@ pub fn run_logged(
     cells: &mut [u8],
     log: &mut [u8],
 ) -> Answer
-    ensures { λ r. ⌜ LogRan (logged (now (graph .entry)) (now (inputs .entry)) (now (picks .entry)) budget (length (now (ledger .entry))) (length (now (cells .entry))) (length (now (log .entry)))) r (now (ledger .entry)) (now (ledger .exit)) (now (cells .entry)) (now (cells .exit)) (now (log .entry)) (now (log .exit)) ⌝ }
+    ensures { λ r. ⌜ LoggedOn (now (graph .entry)) (now (inputs .entry)) (lentToLogged (now (picks .entry)) budget (now (ledger .entry)) (now (cells .entry)) (now (log .entry))) (leftByLogged r (now (ledger .exit)) (now (cells .exit)) (now (log .exit))) ⌝ }
 {
     let firings = budget as usize;
     let checked = checks::check_logged(

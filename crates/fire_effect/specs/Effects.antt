@@ -110,7 +110,7 @@ pub record Makes (m : NewTags) (f : ℤ → EffectHere) : Type 0 where
   pub held : (v : ℤ) → sentUnder m v ≡ f v
   pub counted : FewTags m
 
--- how each operation sends a value v: b is the operand on port 1. 13 to 17 are here
+-- how each operation sends a value v: b is the operand on port 1. 13, 14 and 17 are here
 unfoldable pub newTagsOf : Operation → List Instruction → Tag → Instruction → (b v : ℤ) → EffectHere
 newTagsOf Operations.Copy g τ r b v = send v (allUnder τ r)
 newTagsOf Operations.Sink g τ r b v = send v []

@@ -2,6 +2,7 @@
 -- takes to go from tokens to bytes: every token of a run fits its record. Assumes nothing.
 use Prim.Native.Nat.{ℕ, _*_, _/_, _%_, _≤_}
 use mathlib.Core.Path.{_≡_, refl, sym, ap, _∙_, subst}
+use mathlib.Core.Bool.{true}
 use mathlib.Core.List.{List, [], _∷_, _++_, map, append-nil}
 use mathlib.Core.Logic.{_↔_}
 use native.Mathlib.Omega.{arith}
@@ -25,16 +26,19 @@ use Rattle.rules.specs.declared.answer.Answer.{Answer}
 use Rattle.rules.specs.Check.{mostCells}
 use Rattle.rules.specs.Run.{Result, refusedAtOnce, ranTo, outcomeOf, result, Ran, ledgerAfter, cellsAfter, tokenRecord}
 use Rattle.rules.specs.Run as Run
+use Rattle.rules.specs.Log.{logSuffices}
 use Rattle.rules.specs.Orders.{tokensOf, cellsOf, EachOnce}
 use Rattle.rules.specs.Orders as Rules
 use Rattle.rules.proofs.Accepted.{whole-bytes, Whole, stores-whole, Begun, begun-stores}
 use Rattle.rules.proofs.Orders.{any-two-orders, perm-map}
+use Rattle.rules.proofs.Budgets.{any-two-budgets}
+use Rattle.rules.proofs.Logged.{logged-runs-on}
 use Rattle.rules.specs.Fits.{CellCount, AllFit}
 use Rattle.rules.proofs.Fits.{result-fits}
 use Rattle.listing.specs.Listing.{records, answer}
 use Rattle.listing.specs.Sorted.{Pairwise}
-use Rattle.rules.specs.Runs.{LentToRun, LeftByRun, Completed, Hung, Quiescent, Spent, Refused}
-use Rattle.listing.specs.Demand3.{used, Alike, Agree, Demand3}
+use Rattle.rules.specs.Runs.{LentToRun, LeftByRun, RanOn, LentToLogged, LeftByLogged, LoggedOn, lentBesideLog, leftBesideLog, Completed, Hung, Quiescent, Spent, Refused}
+use Rattle.listing.specs.Demand3.{NotForOthers, used, Alike, Agree, Demand3, AnyTwoBudgets, Demand3Logged}
 use Rattle.listing.proofs.Lists.{all-of}
 use Rattle.listing.proofs.Laws.{records-joined}
 use Rattle.listing.proofs.AnyTwoOrders.{places-differ, records-differ, used-records, length-tokens, list-orders}
@@ -210,3 +214,50 @@ demand3 graph inputs graphBytes inputBytes l m a b capacities counts x y ranX ra
         held (resultOf k) (length inputs) (length (k .picks)) (k .ledger) (k .cells)
         (stores-whole (length inputs) (length (k .picks)) (length (k .ledger)) (length (k .cells)) (begun-stores graph inputs (k .picks) 2048 (length (k .ledger)) (length (k .cells)) (quiescent-begun (resultOf k) c)))
         (result-fits graph inputs (k .picks) 2048 (length (k .ledger)) (length (k .cells)) graphBytes inputBytes)
+
+-- ---- two budgets
+
+module _ (graph inputs : List ℕ) (graphBytes : Bytes graph) (inputBytes : Bytes inputs) (a b : ℕ) (l m : LentToRun) (allowed : Rules.Allowed (m .picks) (length (m .ledger)) (length (m .cells)))
+    (capacities : capacityOf (length (l .ledger)) ≡ capacityOf (length (m .ledger))) (counts : length (l .cells) / cellWidth ≡ length (m .cells) / cellWidth)
+    (x y : LeftByRun) (ranX : RanOn graph inputs a l x) (ranY : RanOn graph inputs b m y) (done : Quiescent (x .answer .outcome)) (enough : x .answer .firings ≤ b) where
+  abbrev first : Result
+  first = result graph inputs (l .picks) a (length (l .ledger)) (length (l .cells))
+
+  abbrev second : Result
+  second = result graph inputs (m .picks) b (length (m .ledger)) (length (m .cells))
+
+  rests : Rules.Quiescent first
+  rests = same-end first .rests .1 (subst (λ (r : Answer). Quiescent (r .outcome)) (ranX .answered) done)
+
+  ends : Rules.EndsAlike first second
+  ends =
+      any-two-budgets graph inputs (l .picks) (m .picks) a b (length (l .ledger)) (length (m .ledger)) (length (l .cells)) (length (m .cells)) rests allowed capacities counts
+      (subst (λ (r : Answer). r .firings ≤ b) (ranX .answered) enough)
+
+  outcomes : x .answer .outcome ≡ y .answer .outcome
+  outcomes = ap (λ (r : Answer). r .outcome) (ranX .answered) ∙ ends .outcomes ∙ sym (ap (λ (r : Answer). r .outcome) (ranY .answered))
+
+  stores : Whole (length inputs) (length (l .picks)) (length (l .ledger)) (length (l .cells))
+  stores =
+      stores-whole (length inputs) (length (l .picks)) (length (l .ledger)) (length (l .cells))
+      (begun-stores graph inputs (l .picks) a (length (l .ledger)) (length (l .cells)) (quiescent-begun first rests))
+
+  budgets-alike : Alike x y
+  budgets-alike =
+      let fits = result-fits graph inputs (l .picks) a (length (l .ledger)) (length (l .cells)) graphBytes inputBytes in
+      let others = result-fits graph inputs (m .picks) b (length (m .ledger)) (length (m .cells)) graphBytes inputBytes in
+      let few = whole-bytes tokenWidth mostTokens (length (l .ledger)) (stores .wholeLedger) .1 in
+      let also = same-end second .rests .1 (subst Quiescent (outcomes ∙ ap (λ (r : Answer). r .outcome) (ranY .answered)) done) in
+      bytes-alike first second ranX ranY rests also outcomes (ends .alike) (fits .tokens) (omega (arith, fits .room, few))
+      (whole-bytes cellWidth mostCells (length (l .cells)) (stores .wholeCells) .0, fits .cellCount) (whole-bytes cellWidth mostCells (length (m .cells)) (allowed .allowedCells) .0, others .cellCount)
+
+pub two-budgets : AnyTwoBudgets
+two-budgets graph inputs bg bi a b l m allowed c d x y rx ry done enough = budgets-alike graph inputs bg bi a b l m allowed c d x y rx ry done enough
+
+-- ---- runs that write a log
+
+pub demand3-logged : Demand3Logged
+demand3-logged graph inputs bg bi l m bl bm sl sm a b c d x y rx ry =
+    let ran : (k : LentToLogged) (z : LeftByLogged) → k .budget ≡ 2048 → logSuffices 2048 (length (k .log)) ≡ true → LoggedOn graph inputs k z → RanOn graph inputs 2048 (lentBesideLog k) (leftBesideLog z) =
+    λ k z e enough h. subst (λ (n : ℕ). RanOn graph inputs n (lentBesideLog k) (leftBesideLog z)) e (logged-runs-on graph inputs k z h (rw e enough)) in
+    demand3 graph inputs bg bi (lentBesideLog l) (lentBesideLog m) a b c d (leftBesideLog x) (leftBesideLog y) (ran l x bl sl rx) (ran m y bm sm ry)

@@ -1,4 +1,4 @@
--- The lemmas, and the laws of a listing: Demand3 is demand 3, Profiles that of a profile; Laws, AnyTwoOrders and Answers are for crates above. Assumes nothing.
+-- The lemmas, and the laws of a listing: Demand3 is demand 3; Laws, AnyTwoOrders and Answers are for crates above. Assumes nothing.
 pub mod Lists
 pub mod Sorting
 pub mod Keys
@@ -9,6 +9,5 @@ pub mod Answers
 pub mod Laws
 pub mod AnyTwoOrders
 pub mod Demand3
-pub mod Profiles
 pub mod Examples
 pub mod SavedOrders

@@ -1,16 +1,19 @@
 -- Demand 3, whole, in the words of the demand and of 01, "Any two orders". One claim about two runs over one graph and one list of inputs, in bytes: for every
--- two lists of picks, and whatever ledger and cells held before. It speaks of what `run` (crate engine) and `list` promise, `Ran` and `answer` with `outAfter`.
--- The statement; it is proved in proofs/Demand3. Assumes nothing.
-use Prim.Native.Nat.{ℕ, _*_, _/_}
+-- two lists of picks, and whatever ledger and cells held before. It speaks of what `run` (crate engine) and `list` promise, `RanOn` and `answer` with `outAfter`.
+-- Behind it stands the same of two budgets that are each enough, and of runs that write a log. The statements; they are proved in proofs/Demand3. Assumes nothing.
+use Prim.Native.Nat.{ℕ, _*_, _/_, _≤_}
 use mathlib.Core.Path.{_≡_}
+use mathlib.Core.Bool.{true}
 use mathlib.Core.List.{List, List·Permᴰ}
 use mathlib.Core.Logic.{_↔_}
 use lib.ListN.{length, take}
 use Rattle.number.specs.Number.{Bytes}
 use Rattle.record.specs.TokensAndTags.{capacityOf}
 use Rattle.record.specs.Widths.{tokenWidth, cellWidth}
-use Rattle.rules.specs.Runs.{LentToRun, LeftByRun, RanOn, Completed, Hung, Quiescent, Spent, Refused}
-use Rattle.rules.specs.Orders.{NotForOtherBuffers}
+use Rattle.engine.specs.Promise.{LentToRun, LeftByRun, RanOn, LentToLogged, LeftByLogged, LoggedOn}
+use Rattle.rules.specs.Runs.{lentBesideLog, leftBesideLog, Completed, Hung, Quiescent, Spent, Refused}
+use Rattle.rules.specs.Orders.{Allowed, NotForOtherBuffers}
+use Rattle.rules.specs.Log.{logSuffices}
 use Rattle.listing.specs.Listing.{recordKey, records, answer, outAfter}
 use Rattle.listing.specs.Sorted.{DifferentKeys}
 
@@ -57,3 +60,23 @@ abbrev pub Demand3 : Type 0
 Demand3 = (graph inputs : List ℕ) → Bytes graph → Bytes inputs → (l m : LentToRun) → NotForOthers graph inputs l → NotForOthers graph inputs m
     → capacityOf (length (l .ledger)) ≡ capacityOf (length (m .ledger)) → length (l .cells) / cellWidth ≡ length (m .cells) / cellWidth
     → (x y : LeftByRun) → RanOn graph inputs 2048 l x → RanOn graph inputs 2048 m y → Agree x y
+
+-- ---- two budgets
+
+-- the same with any two budgets that are each enough, and not 2,048 alone: if a run completes or hangs, so does every order that may do as many firings
+abbrev pub AnyTwoBudgets : Type 0
+AnyTwoBudgets = (graph inputs : List ℕ) → Bytes graph → Bytes inputs → (budget budget′ : ℕ) (l m : LentToRun) → Allowed (m .picks) (length (m .ledger)) (length (m .cells))
+    → capacityOf (length (l .ledger)) ≡ capacityOf (length (m .ledger))
+    → length (l .cells) / cellWidth ≡ length (m .cells) / cellWidth
+    → (x y : LeftByRun) → RanOn graph inputs budget l x → RanOn graph inputs budget′ m y → Quiescent (x .answer .outcome) → x .answer .firings ≤ budget′ → Alike x y
+
+-- ---- runs that write a log
+
+-- demand 3 of two runs with logs that suffice for 2,048 firings
+abbrev pub Demand3Logged : Type 0
+Demand3Logged = (graph inputs : List ℕ) → Bytes graph → Bytes inputs → (l m : LentToLogged) → l .budget ≡ 2048 → m .budget ≡ 2048
+    → logSuffices 2048 (length (l .log)) ≡ true → logSuffices 2048 (length (m .log)) ≡ true
+    → NotForOthers graph inputs (lentBesideLog l) → NotForOthers graph inputs (lentBesideLog m)
+    → capacityOf (length (l .ledger)) ≡ capacityOf (length (m .ledger))
+    → length (l .cells) / cellWidth ≡ length (m .cells) / cellWidth
+    → (x y : LeftByLogged) → LoggedOn graph inputs l x → LoggedOn graph inputs m y → Agree (leftBesideLog x) (leftBesideLog y)

@@ -4,5 +4,4 @@ pub mod Listing
 pub mod Sorted
 pub mod Positions
 pub mod Demand3
-pub mod Profiles
 pub mod SavedOrders

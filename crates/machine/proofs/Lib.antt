@@ -1,5 +1,5 @@
--- The theorems (Enabled, Sequences, Ending, Runs, Orders, Reached, Fired, Steps, Replay, Capacity, Agreement, Cut, Saved, Taken, Kept, Refused, Bounds,
--- Trees), what they are proved from (Lists, Swap, View, Store, Tags, Perm, Sets), and a computed example. Assumes nothing.
+-- The theorems (Enabled, Sequences, Ending, Runs, Orders, Reached, Fired, Steps, Replay, Capacity, Agreement, Cut, Saved, Taken, Kept, Refused, Refusals,
+-- Bounds, Trees), what they are proved from (Lists, Swap, View, Store, Tags, Perm, Sets), and a computed example. Assumes nothing.
 pub mod Lists
 pub mod Swap
 pub mod View
@@ -23,6 +23,7 @@ pub mod Cut
 pub mod Saved
 pub mod Taken
 pub mod Refused
+pub mod Refusals
 pub mod Parts
 pub mod Bounds
 pub mod Example

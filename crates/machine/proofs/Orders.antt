@@ -1,4 +1,4 @@
--- Any two orders of firing end alike (`ordersBy`, and for lists of picks `orders`, `neverSpent`, `completes`, `hangs`, `refuses`).
+-- Any two orders of firing end alike (`ordersBy`, with two budgets `budgetsBy`, and for lists of picks `orders`, `neverSpent`, `completes`, `hangs`, `refuses`).
 -- Assumes nothing. Each theorem takes the machine, then that its instruction set is lawful, and of the state that it is
 -- well-formed; `startGood` gives this of inputs.
 use mathlib.Core.Path.{_≡_, refl, ap, subst, _∙_}
@@ -9,7 +9,7 @@ use native.Mathlib.Omega.{arith}
 use lib.ListN.{length, getD, length-replicate}
 use Rattle.machine.specs.Machine.{absent, Machine, Outcome, completed, hung, budgetSpent, refused, numberOf}
 use Rattle.machine.specs.Machine.{StateOf, pickOf, Choice, byPicks, runBy, run}
-use Rattle.machine.specs.Orders.{Lawful, Good, Start, LawfulChoice, Completed, Hung, Quiescent, BudgetSpent, Refused, Alike, Same, AnyTwoOrders, NeverSpent, AllRefused, Says}
+use Rattle.machine.specs.Orders.{Lawful, Good, Start, LawfulChoice, Completed, Hung, Quiescent, BudgetSpent, Refused, Alike, Same, AnyTwoOrders, AnyTwoBudgets, NeverSpent, AllRefused, Says}
 use Rattle.machine.specs.Sequences.{Fires, logOf}
 use Rattle.machine.proofs.Sequences.{shorter}
 use Rattle.machine.proofs.Ending.{rested}
@@ -56,12 +56,15 @@ module _ (M : Machine) where
 
   module _ (law : Lawful M) where
     -- if one completes or hangs, the other does too, and they are alike
-    told : (c d : Choice M) → LawfulChoice M c → LawfulChoice M d → (s : StateOf M) → Good M s → (b : ℕ) (ps qs : List ℕ) (f : ℕ) → Quiescent (runBy M c b ps f s .outcome)
-        → Alike (runBy M c b ps f s) (runBy M d b qs f s)
-    told c d lc ld s g b ps qs f h =
+    pub budgetsBy : AnyTwoBudgets M
+    budgetsBy c d lc ld s g b b′ ps qs f h l =
         let r = ran M c lc b ps f s in
         let (rest, said) = rested M (runBy M c b ps f s .outcome) b (length (logOf M c b ps s)) (runBy M c b ps f s .state) h (r .says) in
-        oneTellsAll M law s g f (logOf M c b ps s) (runBy M c b ps f s) (r .logged) rest said d ld b (r .within) qs
+        oneTellsAll M law s g f (logOf M c b ps s) (runBy M c b ps f s) (r .logged) rest said d ld b′ (omega (arith, r .logged .firings)) qs
+
+    told : (c d : Choice M) → LawfulChoice M c → LawfulChoice M d → (s : StateOf M) → Good M s → (b : ℕ) (ps qs : List ℕ) (f : ℕ) → Quiescent (runBy M c b ps f s .outcome)
+        → Alike (runBy M c b ps f s) (runBy M d b qs f s)
+    told c d lc ld s g b ps qs f h = let r = ran M c lc b ps f s in budgetsBy c d lc ld s g b b ps qs f h (omega (arith, r .logged .firings, r .within))
 
     pub ordersBy : AnyTwoOrders M
     ordersBy c d lc ld s g b ps qs f =

@@ -94,7 +94,7 @@ module _ (M : Machine) where
   module _ (notEnabled : M .Refusal) where
     -- ---- a replay, a record at a time
 
-    replayEnd : (f : ℕ) (s : StateOf M) → (replay M notEnabled [] f s .state ≡ s) × (replay M notEnabled [] f s .firings ≡ f)
+    pub replayEnd : (f : ℕ) (s : StateOf M) → (replay M notEnabled [] f s .state ≡ s) × (replay M notEnabled [] f s .firings ≡ f)
     unfolding replay
     replayEnd f s = go (enabled M s)
       where

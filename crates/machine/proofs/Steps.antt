@@ -206,7 +206,7 @@ module _ (M : Machine) where
       noMoreSteps [] h = omega arith
       noMoreSteps (r ∷ rs) h = let z = noMoreSteps rs (h .1) in let y = h .0 in omega arith
 
-      noMoreThanFirings : (s : StateOf M) (left f : ℕ) (p : ProfileOf M) (h : Profiled M profileFull s left f p) → length (p .records) ≤ length (h .log)
+      pub noMoreThanFirings : (s : StateOf M) (left f : ℕ) (p : ProfileOf M) (h : Profiled M profileFull s left f p) → length (p .records) ≤ length (h .log)
       noMoreThanFirings s left f p h = let z = h .counted in omega (arith, noMoreSteps (p .records) (h .eachFires))
 
       pub stepsWithin : StepsWithin M profileFull

@@ -134,6 +134,11 @@ module _ (M : Machine) where
   AnyTwoOrders = (c d : Choice M) → LawfulChoice M c → LawfulChoice M d → (s : StateOf M) → Good M s → (budget : ℕ) (picks picks′ : List ℕ) (f : ℕ)
       → Same (runBy M c budget picks f s) (runBy M d budget picks′ f s)
 
+  -- and for any two budgets that are each enough: a run that completes or hangs tells how every run ends whose budget has room for its firings
+  abbrev pub AnyTwoBudgets : Type 0
+  AnyTwoBudgets = (c d : Choice M) → LawfulChoice M c → LawfulChoice M d → (s : StateOf M) → Good M s → (budget budget′ : ℕ) (picks picks′ : List ℕ) (f : ℕ)
+      → Quiescent (runBy M c budget picks f s .outcome) → runBy M c budget picks f s .firings ≤ f + budget′ → Alike (runBy M c budget picks f s) (runBy M d budget′ picks′ f s)
+
   -- as many firings as the ledger has room for tokens are enough
   abbrev pub NeverSpent : Type 0
   NeverSpent = (c : Choice M) → LawfulChoice M c → (s : StateOf M) → Good M s → (budget : ℕ) (picks : List ℕ) (f : ℕ) → M .capacity ≤ budget

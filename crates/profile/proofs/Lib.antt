@@ -3,3 +3,4 @@ pub mod Places
 pub mod Stepping
 pub mod Looping
 pub mod Accepting
+pub mod EndsAsRun

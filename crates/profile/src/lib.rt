@@ -20,7 +20,8 @@ ghost use Rattle.machine.specs.Steps.{profile as Machine·profile};
 ghost use Rattle.rules.specs.declared.answer.Refusal.the-variants.{ProfileFull};
 ghost use Rattle.rules.specs.declared.answer.Checked.the-variants.{Passed};
 ghost use Rattle.rules.specs.Run.{firstState};
-ghost use Rattle.rules.specs.Profile.{stepWidth, checkProfileStores, checkProfile, encode, profiled, ProfileRan};
+ghost use Rattle.rules.specs.Profile.{stepWidth, checkProfileStores, checkProfile, encode};
+ghost use Rattle.rules.specs.Runs.{lentToProfile, leftByProfile, ProfiledOn};
 ghost use Rattle.store_flags.specs.Flags.{Counted, places, flagsOf};
 ghost use Rattle.store_enabled.specs.Enabled.{arityOf, enabledPlaces};
 ghost use Rattle.fire.specs.Running.{machineFor, Prepared, Running};
@@ -271,7 +272,7 @@ pub fn profile(
     cells: &mut [u8],
     profile: &mut [u8],
 ) -> Profiled
-    ensures { λ r. ⌜ ProfileRan (profiled (now (graph .entry)) (now (inputs .entry)) (length (now (ledger .entry))) (length (now (cells .entry))) (length (now (profile .entry)))) r (now (ledger .entry)) (now (ledger .exit)) (now (cells .entry)) (now (cells .exit)) (now (profile .entry)) (now (profile .exit)) ⌝ }
+    ensures { λ r. ⌜ ProfiledOn (now (graph .entry)) (now (inputs .entry)) (lentToProfile (now (ledger .entry)) (now (cells .entry)) (now (profile .entry))) (leftByProfile r (now (ledger .exit)) (now (cells .exit)) (now (profile .exit))) ⌝ }
 {
     let checked = check(graph, inputs, ledger.len(), cells.len(), profile.len());
     match checked {

@@ -34,8 +34,9 @@ use Rattle.rules.proofs.Log.{TagFits, names-back, log-passed}
 use Rattle.rules.proofs.Log as Logs
 use Rattle.rules.proofs.Replay as Replays
 use Rattle.rules.proofs.Replay.{tags-fit}
-use Rattle.replay.specs.Claims.{LentToLogged, LeftByLogged, LoggedOn, ReplayedOn, logIn, recordsIn, By7, Again, LogReplays, LogsAgree}
-use Rattle.rules.specs.Runs.{Refused, Quiescent}
+use Rattle.rules.specs.Runs.{LentToLogged, LeftByLogged, LoggedOn, ReplayedOn, Refused, Quiescent}
+use Rattle.rules.proofs.Logged.{refused-holds}
+use Rattle.replay.specs.Claims.{logIn, recordsIn, By7, RefusedInFiring, Again, LogReplays, LogsAgree}
 
 -- ---- how a run ended, by its answer
 
@@ -74,13 +75,14 @@ log-replays graph inputs graphBytes inputBytes l x h other r ledger′ cells′ 
     let same : logIn x ≡ take (answer (R .result) .firings * logWidth) (logAfter R (l .log)) = λ i. take (h .answered i .firings * logWidth) (h .logLeft i) in
     let q = subst (λ (log : List ℕ). ReplayedOn graph inputs log (l .ledger) (l .cells) r ledger′ cells′) same p in
     let n = not-by7 (R .result) (subst (λ (a : Answer). ¬ (By7 (a .outcome))) (h .answered) other) in
+    let holds = refused-holds graph inputs (l .picks) (l .budget) (length (l .ledger)) (length (l .cells)) (length (l .log)) in
     let a = Replays.log-replays graph inputs (l .picks) (l .budget) (length (l .ledger)) (length (l .cells)) (l .log) graphBytes inputBytes n in
     record {
       ledger = q .ledgerLeft ∙ a .ledgerLeft (l .ledger) ∙ sym (h .ledgerLeft);
       cells = q .cellsLeft ∙ a .cellsLeft (l .cells) ∙ sym (h .cellsLeft);
       firings = ap (λ (z : Answer). z .firings) (q .answered) ∙ a .firings ∙ sym (ap (λ (z : Answer). z .firings) (h .answered));
       tokens = ap (λ (z : Answer). z .tokens) (q .answered) ∙ a .tokens ∙ sym (ap (λ (z : Answer). z .tokens) (h .answered));
-      answer = λ m. q .answered ∙ a .answered (λ f. m (subst (λ (z : Answer). Refused (z .outcome)) (sym (h .answered)) (refused-there (R .result) f))) ∙ sym (h .answered);
+      answer = λ m. q .answered ∙ a .answered (λ f. m (subst RefusedInFiring (sym (h .answered)) (refused-there (R .result) f, holds f))) ∙ sym (h .answered);
     }
 
 -- ---- the records of a log

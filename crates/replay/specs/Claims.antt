@@ -1,6 +1,6 @@
--- 02, R-7, in bytes: what is claimed of logs and of their replay. It speaks of what `run_logged` (crate engine) and `replay` promise, `LogRan` and
--- `Ran`. The statements; they are proved in proofs/Claims. Assumes nothing.
-use Prim.Native.Nat.{ℕ, _*_, _/_}
+-- 02, R-7, in bytes: what is claimed of logs and of their replay. It speaks of what `run_logged` (crate engine) and `replay` promise, `LoggedOn` and
+-- `ReplayedOn`. The statements; they are proved in proofs/Claims. Assumes nothing.
+use Prim.Native.Nat.{ℕ, _*_, _/_, _<_}
 use mathlib.Core.Path.{_≡_}
 use mathlib.Core.List.{List, List·Permᴰ}
 use lib.ListN.{length, take}
@@ -13,37 +13,11 @@ use Rattle.rules.specs.declared.answer.Answer.{Answer}
 use Rattle.rules.specs.declared.answer.Outcome.{Outcome}
 use Rattle.rules.specs.declared.answer.Outcome.the-variants as Outcomes
 use Rattle.rules.specs.declared.answer.Refusal.the-variants.{BadStore}
-use Rattle.rules.specs.Run.{Ran}
-use Rattle.rules.specs.Runs.{Refused, Quiescent}
-use Rattle.rules.specs.Log.{logged, LogRan, replayed}
+use Rattle.rules.specs.Runs.{LentToLogged, LeftByLogged, LoggedOn, ReplayedOn, Refused, Quiescent}
 
--- ---- a run that writes a log, and a replay
+-- ---- the log of a run
 
--- what the run is lent beside graph and inputs
-pub record LentToLogged : Type 0 where
-  pub picks : List ℕ
-  pub budget : ℕ
-  pub ledger : List ℕ
-  pub cells : List ℕ
-  pub log : List ℕ
-
--- what it answers, and every byte of the three buffers afterwards
-pub record LeftByLogged : Type 0 where
-  pub answer : Answer
-  pub ledger : List ℕ
-  pub cells : List ℕ
-  pub log : List ℕ
-
--- the promise of `run_logged`
-abbrev pub LoggedOn : (graph inputs : List ℕ) → LentToLogged → LeftByLogged → Type 0
-LoggedOn graph inputs l x = LogRan (logged graph inputs (l .picks) (l .budget) (length (l .ledger)) (length (l .cells)) (length (l .log)))
-    (x .answer) (l .ledger) (x .ledger) (l .cells) (x .cells) (l .log) (x .log)
-
--- the promise of `replay`
-abbrev pub ReplayedOn : (graph inputs log ledger cells : List ℕ) → Answer → (ledger′ cells′ : List ℕ) → Type 0
-ReplayedOn graph inputs log ledger cells r ledger′ cells′ = Ran (replayed graph inputs log (length ledger) (length cells)) r ledger ledger′ cells cells′
-
--- the log of a run is its first records, as many as it has firings: bytes behind them stay as lent
+-- its first records, as many as it has firings: bytes behind them stay as lent
 abbrev pub logIn : LeftByLogged → List ℕ
 logIn x = take (x .answer .firings * logWidth) (x .log)
 
@@ -59,6 +33,10 @@ By7 Outcomes.Hung = ⊥
 By7 Outcomes.Spent = ⊥
 By7 (Outcomes.Refused r place) = r ≡ BadStore
 
+-- a refusal before any firing has no tokens, and one in a firing has the operands that were to be spent
+abbrev pub RefusedInFiring : Answer → Type 0
+RefusedInFiring a = Refused (a .outcome) × (0 < a .tokens)
+
 -- ---- the claims
 
 -- a replay left what the run x left
@@ -68,8 +46,8 @@ pub record Again (x : LeftByLogged) (r : Answer) (ledger′ cells′ : List ℕ)
   pub cells : cells′ ≡ x .cells
   pub firings : r .firings ≡ x .answer .firings
   pub tokens : r .tokens ≡ x .answer .tokens
-  -- and answers the same, unless the run was refused
-  pub answer : ¬ (Refused (x .answer .outcome)) → r ≡ x .answer
+  -- and answers the same, unless the run was refused in a firing
+  pub answer : ¬ (RefusedInFiring (x .answer)) → r ≡ x .answer
 
 -- "Replaying the log of a run not refused by 7, buffers lent alike"
 abbrev pub LogReplays : Type 0

@@ -19,8 +19,9 @@ ghost use Rattle.machine.specs.Replay.{replay as Machine·replay};
 ghost use Rattle.rules.specs.declared.answer.Checked.the-variants.{Passed};
 ghost use Rattle.rules.specs.declared.answer.Refusal.the-variants.{NotEnabled};
 ghost use Rattle.rules.specs.Check.{check};
-ghost use Rattle.rules.specs.Run.{firstState, Ran};
-ghost use Rattle.rules.specs.Log.{namesIn, replayed};
+ghost use Rattle.rules.specs.Run.{firstState};
+ghost use Rattle.rules.specs.Log.{namesIn};
+ghost use Rattle.rules.specs.Runs.{ReplayedOn};
 ghost use Rattle.fire.specs.Running.{machineFor, Prepared, Running};
 ghost use Rattle.start.specs.Ended.{EndedAt};
 ghost use Rattle.replay.specs.Turns.{Turned, endOf};
@@ -137,7 +138,7 @@ pub fn replay(
     ledger: &mut [u8],
     cells: &mut [u8],
 ) -> Answer
-    ensures { λ r. ⌜ Ran (replayed (now (graph .entry)) (now (inputs .entry)) (now (log .entry)) (length (now (ledger .entry))) (length (now (cells .entry)))) r (now (ledger .entry)) (now (ledger .exit)) (now (cells .entry)) (now (cells .exit)) ⌝ }
+    ensures { λ r. ⌜ ReplayedOn (now (graph .entry)) (now (inputs .entry)) (now (log .entry)) (now (ledger .entry)) (now (cells .entry)) r (now (ledger .exit)) (now (cells .exit)) ⌝ }
 {
     let checked = checks::check(graph, inputs, &log[0..0], ledger.len(), cells.len());
     match checked {

@@ -82,7 +82,13 @@ abbrev pub Begun : Result → Type 0
 Begun (refusedAtOnce r p) = ⊥
 Begun (ranTo e) = Unit {0}
 
--- passed the check of its stores
+-- passed its check
+pub begun-passed : (graph inputs picks : List ℕ) (budget ledger cells : ℕ) → Begun (result graph inputs picks budget ledger cells) → check graph inputs picks ledger cells ≡ Passed
+unfolding result
+begun-passed graph inputs picks budget ledger cells =
+    by-check (check graph inputs picks ledger cells) _ (λ x. Begun x → check graph inputs picks ledger cells ≡ Passed) (λ r p e h. absurd h) (λ e h. e)
+
+-- and that of its stores
 pub begun-stores : (graph inputs picks : List ℕ) (budget ledger cells : ℕ) → Begun (result graph inputs picks budget ledger cells) → checkStores (length inputs) (length picks) ledger cells ≡ Passed
 unfolding result check
 begun-stores graph inputs picks budget ledger cells =

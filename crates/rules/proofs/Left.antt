@@ -136,14 +136,14 @@ unfolding Cells.encode
 absent-bytes zero = refl
 absent-bytes (suc n) = rw (absent-bytes n, suc-mul n 8, add-comm (n * cellWidth) 8) (replicate-append-replicate 8 (n * cellWidth) 0)
 
-first-left : (g : List Instruction) (capacity : ℕ) (picks inputs ledger cells : List ℕ) → Bytes inputs → length inputs % tokenWidth ≡ 0 → length cells % cellWidth ≡ 0 → checkInputs g capacity inputs ≡ Passed
-    → (ledgerAfter (ranTo (run (machineOf g capacity (length cells / cellWidth)) 0 picks (firstState inputs (length cells / cellWidth)))) ledger ≡ inputs ++ drop (length inputs) ledger)
-    × (cellsAfter (ranTo (run (machineOf g capacity (length cells / cellWidth)) 0 picks (firstState inputs (length cells / cellWidth)))) cells ≡ replicate (length cells) 0)
+-- of an end in the first state, whatever comes to it
+pub first-left : (g : List Instruction) (capacity : ℕ) (e : End Refusal Tag ℤ) (inputs ledger cells : List ℕ) → e .state ≡ firstState inputs (length cells / cellWidth) → Bytes inputs
+    → length inputs % tokenWidth ≡ 0 → length cells % cellWidth ≡ 0 → checkInputs g capacity inputs ≡ Passed
+    → (ledgerAfter (ranTo e) ledger ≡ inputs ++ drop (length inputs) ledger) × (cellsAfter (ranTo e) cells ≡ replicate (length cells) 0)
 unfolding ledgerAfter cellsAfter firstState checkInputs
-first-left g capacity picks inputs ledger cells b wi wc passed =
+first-left g capacity e inputs ledger cells state b wi wc passed =
     let n = length inputs / tokenWidth in
     let s = firstState inputs (length cells / cellWidth) in
-    let state = run-zero (machineOf g capacity (length cells / cellWidth)) s picks in
     let good = andThen-passed (inTurn (λ k ok. demand ok Refusals.BadInput k) 0 (allRows tokenWidth (goodInput g) inputs)) _ passed .0 in
     let tokens : joined Tokens.encode (map tokenRecord (s .tokens)) ≡ inputs =
     ap (joined Tokens.encode) (held-back (allRows tokenWidth Tokens.decode inputs)) ∙ inputs-back g n 0 inputs b (omega arith) good ∙ rows-raw tokenWidth n inputs ∙ take-all (n * tokenWidth) inputs (omega arith) in
@@ -167,7 +167,9 @@ unfolding result unlessFailed check
 accepted-first graph inputs picks ledger cells b passed =
     let (stores, a) = accepted graph inputs (capacityOf (length ledger)) (checkStores (length inputs) (length picks) (length ledger) (length cells)) passed in
     let wholes = stores-whole (length inputs) (length picks) (length ledger) (length cells) stores in
-    rw passed (first-left (graphOf graph) (capacityOf (length ledger)) (picksOf picks) inputs ledger cells b
+    let M = machineOf (graphOf graph) (capacityOf (length ledger)) (length cells / cellWidth) in
+    let s = firstState inputs (length cells / cellWidth) in
+    rw passed (first-left (graphOf graph) (capacityOf (length ledger)) (run M 0 (picksOf picks) s) inputs ledger cells (run-zero M s (picksOf picks)) b
     (whole-bytes tokenWidth mostTokens (length inputs) (wholes .wholeInputs) .0) (whole-bytes cellWidth mostCells (length cells) (wholes .wholeCells) .0) (a .inputsPassed))
 
 -- ---- the demands

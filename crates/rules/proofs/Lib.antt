@@ -13,9 +13,12 @@ pub mod Callers
 pub mod RootLeave
 pub mod Fits
 pub mod Orders
+pub mod Budgets
+pub mod Refusals
 pub mod Profile
 pub mod Log
 pub mod Replay
+pub mod Logged
 pub mod Below
 pub mod Rounds
 pub mod LoopFree
@@ -38,3 +41,6 @@ pub mod Saved
 pub mod Parts
 pub mod Resumed
 pub mod SavedCases
+pub mod Counted
+pub mod Full
+pub mod Others

@@ -24,7 +24,7 @@ drop-take (suc w) (suc k) [] = rw (suc-add w (suc k))
 drop-take (suc w) k (x ∷ l) = rw (suc-add w k) (drop-take w k l)
 
 module _ {A : Type 0} (w : ℕ) (read : List ℕ → A) where
-  take-rows : (a n : ℕ) (l : List ℕ) → a ≤ n → take a (rows w read n l) ≡ rows w read a l
+  pub take-rows : (a n : ℕ) (l : List ℕ) → a ≤ n → take a (rows w read n l) ≡ rows w read a l
   take-rows zero zero l h = refl
   take-rows zero (suc n) l h = refl
   take-rows (suc a) zero l h = absurd (omega arith)

@@ -72,7 +72,7 @@ graph-below graph =
     turn-below (checkRecord (graphOf graph)) (record-below (graphOf graph)) 0 (graphOf graph) (omega (arith, length-rows graphWidth Graph.decode (length graph / graphWidth) graph)))
 
 -- the place of 8 is the capacity, and where the inputs exceed it, it is less than their number
-inputs-below : (g : List Instruction) (capacity : ℕ) (inputs : List ℕ) → length inputs / tokenWidth ≤ mostTokens → Below (checkInputs g capacity inputs)
+pub inputs-below : (g : List Instruction) (capacity : ℕ) (inputs : List ℕ) → length inputs / tokenWidth ≤ mostTokens → Below (checkInputs g capacity inputs)
 unfolding checkInputs
 inputs-below g capacity inputs few =
     let n = length inputs / tokenWidth in
@@ -90,7 +90,7 @@ unfolding checkStores
 stores-below inputs picks ledger cells =
     demand-below (whole tokenWidth mostTokens inputs && (whole pickWidth mostTokens picks && (whole tokenWidth mostTokens ledger && whole cellWidth mostCells cells))) BadStore 0 (λ e. omega arith)
 
-check-below : (graph inputs picks : List ℕ) (ledger cells : ℕ) → Below (check graph inputs picks ledger cells)
+pub check-below : (graph inputs picks : List ℕ) (ledger cells : ℕ) → Below (check graph inputs picks ledger cells)
 unfolding check
 check-below graph inputs picks ledger cells =
     then-below (checkGraph graph) _ (graph-below graph) (λ e.
@@ -106,7 +106,7 @@ module _ (graph inputs : List ℕ) (capacity cells : ℕ) (few : capacity ≤ mo
   abbrev s : State Tag ℤ
   s = firstState inputs cells
 
-  place-small : (o : Machine.Outcome Refusal) (ts : Ledger M) → PlaceWithin M o ts → length ts ≤ capacity → placeIn (outcomeOf o) < mostTokens
+  pub place-small : (o : Machine.Outcome Refusal) (ts : Ledger M) → PlaceWithin M o ts → length ts ≤ capacity → placeIn (outcomeOf o) < mostTokens
   place-small completed ts h room = omega arith
   place-small hung ts h room = omega arith
   place-small budgetSpent ts h room = omega arith

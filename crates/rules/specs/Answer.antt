@@ -5,6 +5,8 @@ use Rattle.rules.specs.declared.answer.Refusal.the-variants.{GraphLength
 use Rattle.rules.specs.declared.answer.Outcome.{Outcome}
 use Rattle.rules.specs.declared.answer.Outcome.the-variants.{Completed, Hung, Spent, Refused}
 use Rattle.rules.specs.declared.answer.Answer.{Answer}
+use Rattle.rules.specs.declared.answer.Needs.{Needs}
+use Rattle.rules.specs.declared.answer.Needs.the-variants as Bounds
 use Rattle.rules.specs.declared.answer.Checked.{Checked}
 use Rattle.rules.specs.declared.answer.Checked.the-variants.{Passed, Failed}
 
@@ -60,3 +62,8 @@ valuesOf a = record { word = wordOf (a .outcome); firings = a .firings; tokens =
 abbrev pub valuesChecked : Checked → Values
 valuesChecked Passed = record { word = 0; firings = 0; tokens = 0; place = 0 }
 valuesChecked (Failed r place) = record { word = numberOf r; firings = 0; tokens = 0; place = place }
+
+-- of the bounds of 02, R-3: word 0 and the two bounds in the place of firings and tokens, or the refusal's number with its place
+abbrev pub valuesNeeded : Needs → Values
+valuesNeeded (Bounds.AtMost firings tokens) = record { word = 0; firings = firings; tokens = tokens; place = 0 }
+valuesNeeded (Bounds.Refused r place) = record { word = numberOf r; firings = 0; tokens = 0; place = place }

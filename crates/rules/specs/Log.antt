@@ -24,6 +24,7 @@ use Rattle.rules.specs.declared.answer.Refusal.the-variants.{BadStore, N
 use Rattle.rules.specs.declared.answer.Answer.{Answer}
 use Rattle.rules.specs.declared.answer.Checked.{Checked}
 use Rattle.rules.specs.declared.answer.Checked.the-variants.{Passed, Failed}
+use Rattle.rules.specs.Answer.{valuesOf}
 use Rattle.rules.specs.Check.{demand, _andThen_, checkGraph, checkStores, checkInputs, check}
 use Rattle.rules.specs.InstructionSet.{machineOf}
 use Rattle.rules.specs.Run.{firstState, picksOf, Result, refusedAtOnce, ranTo, unlessFailed, result, answer, ledgerAfter, cellsAfter}
@@ -70,9 +71,10 @@ logged graph inputs picks budget ledger cells lent =
 unfoldable pub logAfter : LogResult → (lent : List ℕ) → List ℕ
 logAfter x lent = writtenOver encode (x .log) lent
 
--- what such a run promises
+-- what such a run promises: its answer, also in 01's numbers, and the end contents of ledger, cells and log
 pub record LogRan (x : LogResult) (r : Answer) (ledger ledger′ cells cells′ log log′ : List ℕ) : Type 0 where
   pub answered : r ≡ answer (x .result)
+  pub numbers : valuesOf r ≡ valuesOf (answer (x .result))
   pub ledgerLeft : ledger′ ≡ ledgerAfter (x .result) ledger
   pub cellsLeft : cells′ ≡ cellsAfter (x .result) cells
   pub logLeft : log′ ≡ logAfter x log

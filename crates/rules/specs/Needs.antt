@@ -22,6 +22,7 @@ use Rattle.rules.specs.declared.answer.Checked.{Checked}
 use Rattle.rules.specs.declared.answer.Checked.the-variants.{Passed, Failed}
 use Rattle.rules.specs.declared.answer.Needs.{Needs}
 use Rattle.rules.specs.declared.answer.Needs.the-variants.{AtMost, Refused}
+use Rattle.rules.specs.Answer.{valuesNeeded}
 use Rattle.rules.specs.Check.{demand, _andThen_, any, inTurn, instructionAt, operandsAt, checkGraph, checkStores, goodInput, checkInputs}
 use Rattle.rules.specs.InstructionSet.{machineOf}
 use Rattle.rules.specs.Run.{firstState, result, answer}
@@ -120,6 +121,11 @@ needs graph inputs =
     let ts = inputsOf inputs in
     let g = graphOf graph in
     unlessRefused (checkNeeds graph inputs) (AtMost (total ts g firingsOf) (length ts + total ts g outputsOf))
+
+-- what `bounds` promises: its answer, also in 01's numbers
+pub record Bounded (x r : Needs) : Type 0 where
+  pub answered : r ≡ x
+  pub numbers : valuesNeeded r ≡ valuesNeeded x
 
 -- ---- the claims
 

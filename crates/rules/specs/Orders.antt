@@ -1,6 +1,6 @@
 -- Demand 3 over the rules, in tokens and cells; listing/specs/Demand3 says it of bytes. 01, "Any two orders": one claim about two whole runs over one graph and one list of inputs, for every two lists of picks.
 -- The statement; it is proved in proofs/Orders. Assumes nothing.
-use Prim.Native.Nat.{ℕ, _/_}
+use Prim.Native.Nat.{ℕ, _/_, _≤_}
 use mathlib.Core.Path.{_≡_}
 use mathlib.Core.Bool.{true}
 use mathlib.Core.List.{List, [], _∷_, map, List·Permᴰ}
@@ -93,3 +93,17 @@ AnyTwoOrders = (graph inputs picks picks′ : List ℕ) (ledger ledger′ cells 
     → NotForOtherBuffers graph inputs picks ledger cells → NotForOtherBuffers graph inputs picks′ ledger′ cells′
     → capacityOf ledger ≡ capacityOf ledger′ → cells / cellWidth ≡ cells′ / cellWidth
     → Agree (result graph inputs picks 2048 ledger cells) (result graph inputs picks′ 2048 ledger′ cells′)
+
+-- ---- two budgets
+
+-- both complete or both hang, and they are alike
+pub record EndsAlike (x y : Result) : Type 0 where
+  pub outcomes : answer x .outcome ≡ answer y .outcome
+  pub alike : Alike x y
+
+-- demand 3 with any two budgets that are each enough: if a run completes or hangs, so does every order that may do as many firings
+abbrev pub AnyTwoBudgets : Type 0
+AnyTwoBudgets = (graph inputs picks picks′ : List ℕ) (budget budget′ ledger ledger′ cells cells′ : ℕ) → Quiescent (result graph inputs picks budget ledger cells)
+    → Allowed picks′ ledger′ cells′ → capacityOf ledger ≡ capacityOf ledger′ → cells / cellWidth ≡ cells′ / cellWidth
+    → answer (result graph inputs picks budget ledger cells) .firings ≤ budget′
+    → EndsAlike (result graph inputs picks budget ledger cells) (result graph inputs picks′ budget′ ledger′ cells′)

@@ -10,14 +10,16 @@ use Rattle.record.specs.declared.tag.Tag.{Tag}
 use Rattle.number.specs.Number.{bytes16}
 use Rattle.buffer.specs.Rows.{writtenOver}
 use Rattle.record.specs.GraphRecords.{graphOf}
-use Rattle.record.specs.TokensAndTags.{capacityOf}
+use Rattle.record.specs.TokensAndTags.{mostTokens, capacityOf}
 use Rattle.record.specs.Widths.{cellWidth}
 use Rattle.machine.specs.Steps.{StepRecord, Profile, firingsIn, EachFires, profile}
 use Rattle.rules.specs.declared.answer.Refusal.{Refusal}
 use Rattle.rules.specs.declared.answer.Refusal.the-variants.{BadStore, ProfileFull}
+use Rattle.rules.specs.declared.answer.Outcome.the-variants as Outcomes
 use Rattle.rules.specs.declared.answer.Profiled.{Profiled}
 use Rattle.rules.specs.declared.answer.Checked.{Checked}
 use Rattle.rules.specs.declared.answer.Checked.the-variants.{Passed, Failed}
+use Rattle.rules.specs.Answer.{valuesOf}
 use Rattle.rules.specs.Check.{demand, _andThen_, checkGraph, checkStores, checkInputs}
 use Rattle.rules.specs.InstructionSet.{machineOf}
 use Rattle.rules.specs.Run.{firstState, Result, refusedAtOnce, ranTo, result, answer, ledgerAfter, cellsAfter}
@@ -67,9 +69,10 @@ encode r = bytes16 (r .firings) ++ bytes16 (r .unspent)
 unfoldable pub profileAfter : ProfileResult → (lent : List ℕ) → List ℕ
 profileAfter x lent = writtenOver encode (x .records) lent
 
--- what a profile promises
+-- what a profile promises: its answer, also in 01's numbers, and the end contents of ledger, cells and profile
 pub record ProfileRan (x : ProfileResult) (r : Profiled) (ledger ledger′ cells cells′ profile profile′ : List ℕ) : Type 0 where
   pub answered : r ≡ profileAnswer x
+  pub numbers : valuesOf (r .answer) ≡ valuesOf (answer (x .result))
   pub ledgerLeft : ledger′ ≡ ledgerAfter (x .result) ledger
   pub cellsLeft : cells′ ≡ cellsAfter (x .result) cells
   pub profileLeft : profile′ ≡ profileAfter x profile
@@ -78,6 +81,28 @@ pub record ProfileRan (x : ProfileResult) (r : Profiled) (ledger ledger′ cells
 
 abbrev pub ProfileFits : Type 0
 ProfileFits = (graph inputs : List ℕ) (ledger cells lent : ℕ) → length (profiled graph inputs ledger cells lent .records) * stepWidth ≤ lent
+
+-- ---- how many there can be
+
+-- a step has one firing at least: so no more records than firings, and 2,048 at most
+abbrev pub NoMoreSteps : Type 0
+NoMoreSteps = (graph inputs : List ℕ) (ledger cells lent : ℕ)
+    → (length (profiled graph inputs ledger cells lent .records) ≤ answer (profiled graph inputs ledger cells lent .result) .firings)
+    × (answer (profiled graph inputs ledger cells lent .result) .firings ≤ mostTokens)
+
+-- 18 is given exactly where no record is left before a step: all that are lent are written, and each of their firings is done
+pub record Full (x : ProfileResult) (place lent : ℕ) : Type 0 where
+  pub atNone : place ≡ 0
+  pub written : length (x .records) ≡ lent / stepWidth
+  pub firings : answer (x .result) .firings ≡ firingsIn (x .records)
+
+abbrev pub WhereFull : Type 0
+WhereFull = (graph inputs : List ℕ) (ledger cells lent place : ℕ) → answer (profiled graph inputs ledger cells lent .result) .outcome ≡ Outcomes.Refused ProfileFull place
+    → Full (profiled graph inputs ledger cells lent) place lent
+
+-- so 2,048 records are always enough
+abbrev pub NeverFull : Type 0
+NeverFull = (graph inputs : List ℕ) (ledger cells lent place : ℕ) → mostTokens * stepWidth ≤ lent → ¬ (answer (profiled graph inputs ledger cells lent .result) .outcome ≡ Outcomes.Refused ProfileFull place)
 
 -- ---- "if it isn't refused, its end must equal every order's as demand 3 compares them"
 

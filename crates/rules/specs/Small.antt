@@ -1,10 +1,13 @@
--- How large an answer can be: 01, "Tokens and tags" and "The answer and the refusals". The statement; it is proved in proofs/Small. Assumes nothing.
+-- How large an answer can be: 01, "Tokens and tags" and "The answer and the refusals". The statement; it is proved in proofs/Small and proofs/Counted. Assumes nothing.
 use Prim.Native.Nat.{ℕ, _<_, _≤_}
 use mathlib.Core.List.{List}
 use Rattle.record.specs.TokensAndTags.{mostTokens}
 use Rattle.rules.specs.declared.answer.Answer.{Answer}
 use Rattle.rules.specs.Answer.{placeIn}
 use Rattle.rules.specs.Run.{result, answer}
+use Rattle.rules.specs.Log.{logged, replayed}
+use Rattle.rules.specs.Profile.{profiled}
+use Rattle.rules.specs.Saved.{carried}
 
 -- of the answer of a run with that budget
 pub record Small (budget : ℕ) (a : Answer) : Type 0 where
@@ -22,3 +25,16 @@ pub record Small (budget : ℕ) (a : Answer) : Type 0 where
 -- of every run, one that is refused before any firing included
 abbrev pub AnswersSmall : Type 0
 AnswersSmall = (graph inputs picks : List ℕ) (budget ledger cells : ℕ) → Small budget (answer (result graph inputs picks budget ledger cells))
+
+-- of the answer of any call that runs a graph: 16 bits are enough for each number. The place of 20 is a record's number, which is at most that of the firings
+pub record Counted (a : Answer) : Type 0 where
+  pub byTokens : a .firings ≤ a .tokens
+  pub tokens : a .tokens ≤ mostTokens
+  pub place : placeIn (a .outcome) ≤ mostTokens
+
+-- of a run that writes a log, a replay, a profile, and a run from a saved state
+pub record AllCounted : Type 0 where
+  pub byLogged : (graph inputs picks : List ℕ) (budget ledger cells lent : ℕ) → Counted (answer (logged graph inputs picks budget ledger cells lent .result))
+  pub byReplay : (graph inputs log : List ℕ) (ledger cells : ℕ) → Counted (answer (replayed graph inputs log ledger cells))
+  pub byProfile : (graph inputs : List ℕ) (ledger cells lent : ℕ) → Counted (answer (profiled graph inputs ledger cells lent .result))
+  pub byCarried : (graph picks ledger cells : List ℕ) (budget firings tokens : ℕ) → Counted (answer (carried graph picks budget ledger cells firings tokens))

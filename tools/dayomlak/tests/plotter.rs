@@ -99,6 +99,43 @@ fn a_run_asked_for_again() {
     assert_eq!(run(&third), run(&first));
 }
 
+/// A run that completes ends so in every order: what is kept of it serves, under its own order and date, and the picture
+/// says so.
+#[test]
+fn a_completed_run_is_kept_for_every_order() {
+    let folder = Folder::new();
+    let file = folder.write("sum.ttda", sum(40));
+    let (first, _) = plot(&folder, &file, &["--order", "oldest"]);
+    let cases = [
+        (
+            &["--order", "newest"][..],
+            "newest first, ",
+            "any order ends as this one",
+        ),
+        (
+            &["--order", "random:3"],
+            "in random order 3, ",
+            "any order ends as this one",
+        ),
+        (
+            &["--budget", "3"],
+            "oldest first, budget 3, ",
+            "either budget is enough",
+        ),
+        (&[], "oldest first, ", "the same run"),
+    ];
+    for (options, order, reason) in cases {
+        let (picture, said) = plot(&folder, &file, options);
+        assert_eq!(run(&picture), run(&first));
+        let asked = line(&picture, "asked for: ").unwrap();
+        assert!(
+            asked.starts_with(order) && asked.ends_with(reason),
+            "{asked}"
+        );
+        assert!(said.contains(&format!("asked for: {asked}\n")), "{said}");
+    }
+}
+
 #[test]
 fn another_capacity_or_cell_count_is_another_run() {
     for options in [

@@ -102,9 +102,23 @@ impl Engine for Library {
         }
     }
 
-    fn serves(&self, kept: &Request, _answer: u64, asked: &Request) -> bool {
-        // The library does not have ttda_serves yet: equal bytes run alike.
-        kept == asked
+    fn serves(&self, kept: &Request, answer: u64, asked: &Request) -> bool {
+        let served = ttda::serves(
+            &kept.graph,
+            &kept.inputs,
+            &kept.picks,
+            &asked.graph,
+            &asked.inputs,
+            &asked.picks,
+            kept.budget,
+            asked.budget,
+            TOKEN * usize::from(kept.capacity),
+            TOKEN * usize::from(asked.capacity),
+            CELL * usize::from(kept.cells),
+            CELL * usize::from(asked.cells),
+            ttda::Answer(answer),
+        );
+        served.is_yes()
     }
 }
 

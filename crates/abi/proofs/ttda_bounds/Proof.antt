@@ -2,7 +2,8 @@
 use borrow.Author.Needs.{needs}
 use mathlib.Core.Path.{ap, sym, _∙_}
 use Rattle.rules.specs.declared.answer.Needs.{Needs}
-use Rattle.abi.specs.Numbers.{packed, boundsOf}
+use Rattle.rules.specs.Answer.{valuesNeeded}
+use Rattle.abi.specs.Numbers.{packed}
 use Rattle.abi.proofs.ttda_bounds.Statement.{statement}
 use Rattle.abi.proofs.ttda_bounds.Tie as tie
 
@@ -13,5 +14,5 @@ ttda-bounds-spec = tie.close (tie.spec
     (λ c κs. search needs)
     (λ c. search needs)
     (λ c κs. search needs)
-    (λ c. c .number-of .ensures ∙ ap (λ (n : Needs). packed (boundsOf n)) (sym (c .before .before .needs .given .1) ∙ c .before .before .before .before .bounds .ensures))
-    (λ c. c .number-of2 .ensures ∙ ap (λ (n : Needs). packed (boundsOf n)) (sym (c .before .before .needs2 .given .1) ∙ c .before .before .before .before .bounds .ensures)))
+    (λ c. c .number-of .ensures ∙ ap (λ (n : Needs). packed (valuesNeeded n)) (sym (c .before .before .needs .given .1) ∙ c .before .before .before .before .bounds .ensures .answered))
+    (λ c. c .number-of2 .ensures ∙ ap (λ (n : Needs). packed (valuesNeeded n)) (sym (c .before .before .needs2 .given .1) ∙ c .before .before .before .before .bounds .ensures .answered)))

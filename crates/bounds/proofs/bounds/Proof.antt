@@ -1,6 +1,7 @@
 -- `bounds::bounds` meets its contract. Assumes nothing.
-use mathlib.Core.Path.{sym, _∙_}
+use mathlib.Core.Path.{refl, sym, ap, _∙_}
 use borrow.Author.Needs.{needs}
+use Rattle.rules.specs.Answer.{valuesNeeded}
 use Rattle.rules.specs.Needs as Needs
 use Rattle.bounds.proofs.bounds.Statement.{statement}
 use Rattle.bounds.proofs.bounds.Tie as tie
@@ -12,5 +13,5 @@ bounds-spec = tie.close (tie.spec
     (λ c. search needs)
     (λ c κs. sym (c .before .before .check .ensures) ∙ c .enum-told .given .1)
     (λ c. search needs)
-    (λ c. search needs)
-    (λ c. rw (← c .before .before .before .check .ensures, c .before .checked .given .1)))
+    (λ c. record { answered = c .at-most .ensures; numbers = ap valuesNeeded (c .at-most .ensures) })
+    (λ c. rw (← c .before .before .before .check .ensures, c .before .checked .given .1) (record { answered = refl; numbers = refl })))

@@ -1,10 +1,11 @@
 -- `engine::run_logged` meets its contract: its log has room for every firing. Assumes nothing.
 use Prim.Native.Nat.{_*_, _≤_}
-use mathlib.Core.Path.{refl, sym, _∙_}
+use mathlib.Core.Path.{refl, sym, ap, _∙_}
 use native.Mathlib.Omega.{arith}
 use lib.ListN.{length}
 use borrow.Author.Needs.{needs}
 use Rattle.record.specs.Widths.{logWidth}
+use Rattle.rules.specs.Answer.{valuesOf}
 use Rattle.rules.specs.Run.{answer, ledgerAfter, cellsAfter}
 use Rattle.rules.specs.Log.{logged, logUnlessFailed, logAfter}
 use Rattle.rules.proofs.Log.{log-fits}
@@ -27,7 +28,8 @@ run-logged-spec =
     accepted-logged (a .graph .now) (a .inputs .now) (a .picks .now) (a .budget) (length (a .ledger .now)) (length (a .cells .now)) (length (a .log .now)) (sym (c .before .before .before .before .before .check-logged .ensures) ∙ c .before .before .before .enum-told .given .1))
     (λ c.
     let e = sym (c .before .before .before .before .check-logged .ensures) ∙ c .before .before .checked .given .1 in
-    rw e (record { answered = c .refused .ensures; ledgerLeft = refl; cellsLeft = refl; logLeft = refl }))
+    let r = c .refused .ensures in
+    rw e (record { answered = r; numbers = ap valuesOf r; ledgerLeft = refl; cellsLeft = refl; logLeft = refl }))
     (λ c. search needs)
     (λ c. search needs)
     (λ c. search needs)
@@ -36,4 +38,4 @@ run-logged-spec =
     let e = sym (c .before .before .before .before .before .before .before .before .before .before .before .before .check-logged .ensures) ∙ c .before .before .before .before .before .before .before .before .before .before .enum-told .given .1 in
     let r = c .before .before .before .before .before .before .accepted .ensures in
     let room = rw e at (log-fits (a .graph .now) (a .inputs .now) (a .picks .now) (a .budget) (length (a .ledger .now)) (length (a .cells .now)) (length (a .log .now))) in
-    rw e (record { answered = r .0 .answered; ledgerLeft = r .0 .ledgerLeft; cellsLeft = r .0 .cellsLeft; logLeft = r .1 ∙ recorded-all _ (a .log .now) (omega (arith, room)) })))
+    rw e (record { answered = r .0 .answered; numbers = ap valuesOf (r .0 .answered); ledgerLeft = r .0 .ledgerLeft; cellsLeft = r .0 .cellsLeft; logLeft = r .1 ∙ recorded-all _ (a .log .now) (omega (arith, room)) })))

@@ -1,6 +1,8 @@
 -- `profile::profile` meets its contract: a check that failed leaves everything as lent, and an accepted profile ends as the rules say. Assumes nothing.
-use mathlib.Core.Path.{refl, sym, _∙_}
+use mathlib.Core.Path.{refl, sym, ap, _∙_}
 use borrow.Author.Needs.{needs}
+use Rattle.rules.specs.declared.answer.Profiled.{Profiled}
+use Rattle.rules.specs.Answer.{valuesOf}
 use Rattle.rules.specs.Run.{answer, ledgerAfter, cellsAfter}
 use Rattle.rules.specs.Profile.{profileUnlessFailed, profiled, profileAnswer, profileAfter}
 use Rattle.profile.proofs.profile.Statement.{statement}
@@ -18,11 +20,12 @@ profile-spec =
     (λ c κs. sym (c .before .before .before .before .before .check .ensures) ∙ c .before .before .before .enum-told .given .1)
     (λ c.
     let e = sym (c .before .before .before .before .check .ensures) ∙ c .before .before .checked .given .1 in
-    rw e (record { answered = c .answered .ensures; ledgerLeft = refl; cellsLeft = refl; profileLeft = refl }))
+    let r = c .answered .ensures in
+    rw e (record { answered = r; numbers = ap (λ (p : Profiled). valuesOf (p .answer)) r; ledgerLeft = refl; cellsLeft = refl; profileLeft = refl }))
     (λ c. search needs)
     (λ c. search needs)
     (λ c. search needs)
     (λ c.
     let e = sym (c .before .before .before .before .before .before .before .before .before .before .before .before .check .ensures) ∙ c .before .before .before .before .before .before .before .before .before .before .enum-told .given .1 in
     let l = c .before .before .before .before .before .before .accepted .ensures in
-    rw e (record { answered = λ i. record { answer = l .ended .answered i; records = l .counted i }; ledgerLeft = l .ended .ledgerLeft; cellsLeft = l .ended .cellsLeft; profileLeft = l .profileLeft })))
+    rw e (record { answered = λ i. record { answer = l .ended .answered i; records = l .counted i }; numbers = ap valuesOf (l .ended .answered); ledgerLeft = l .ended .ledgerLeft; cellsLeft = l .ended .cellsLeft; profileLeft = l .profileLeft })))

@@ -1,0 +1,3 @@
+-- Why what is kept serves. Assumes nothing.
+pub mod SameLists
+pub mod Served

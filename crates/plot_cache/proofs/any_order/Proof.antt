@@ -1,0 +1,14 @@
+-- `plot_cache::any_order` meets its contract. Assumes nothing.
+use borrow.Author.Needs.{needs}
+use Rattle.plot_cache.specs.Serves.{anyOrder}
+use Rattle.plot_cache.proofs.any_order.Statement.{statement}
+use Rattle.plot_cache.proofs.any_order.Tie as tie
+
+pub any-order-spec : {M : Type 1} → statement M
+unfolding anyOrder
+any-order-spec = tie.close (tie.spec
+    (λ c κs. search needs)
+    (λ c κs. search needs)
+    (λ c. rw (← c .before .before .before .before .rests .ensures, c .before .before .before .if1 .taken, ← c .before .before .whole .ensures, c .before .if2 .taken))
+    (λ c. rw (← c .before .before .before .rests .ensures, c .before .before .if1 .taken, ← c .before .whole .ensures, c .if2 .left))
+    (λ c. rw (← c .before .rests .ensures, c .if1 .left)))

@@ -1,0 +1,108 @@
+-- The cache of the plotter (the mission: it "is built above the engine and keeps a cache of the last listing"): when what is kept of one run serves for a run that is asked
+-- for, and what is promised then, over the promises of `run` (crate engine), `list` and `profile`. The promise is proved in proofs/Served. Assumes nothing.
+use Prim.Native.Nat.{ℕ, _*_}
+use mathlib.Core.Path.{_≡_}
+use mathlib.Core.Logic.{_⊎_}
+use mathlib.Core.Bool.{Bool, true, false, _&&_, _||_}
+use mathlib.Core.List.{List, [], _∷_}
+use lib.Dec.{eqb, leb}
+use lib.ListN.{length, take}
+use Rattle.buffer.specs.Rows.{whole}
+use Rattle.record.specs.TokensAndTags.{mostTokens}
+use Rattle.record.specs.Widths.{pickWidth}
+use Rattle.rules.specs.declared.answer.Answer.{Answer}
+use Rattle.rules.specs.declared.answer.Outcome.{Outcome}
+use Rattle.rules.specs.declared.answer.Outcome.the-variants.{Completed, Hung, Spent, Refused}
+use Rattle.rules.specs.Profile.{stepWidth}
+use Rattle.rules.specs.Runs.{LentToRun, LeftByRun, RanOn, LentToProfile, LeftByProfile, ProfiledOn}
+use Rattle.listing.specs.Listing.{answer, outAfter}
+use Rattle.listing.specs.Demand3.{used}
+use Rattle.plot_cache.specs.declared.Limits.{Limits}
+
+-- ---- a run that is kept or asked for
+
+-- all that a run depends on; ledger and cells by their lengths in bytes
+pub record Request : Type 0 where
+  pub graph : List ℕ
+  pub inputs : List ℕ
+  pub picks : List ℕ
+  pub limits : Limits
+
+abbrev pub request : (graph inputs picks : List ℕ) → Limits → Request
+request graph inputs picks limits = record { graph = graph; inputs = inputs; picks = picks; limits = limits }
+
+-- by its numbers
+abbrev pub requestOf : (graph inputs picks : List ℕ) → (budget ledger cells : ℕ) → Request
+requestOf graph inputs picks budget ledger cells = request graph inputs picks (record { budget = budget; ledger = ledger; cells = cells })
+
+-- ---- when one serves for another
+
+abbrev pub sameBytes : List ℕ → List ℕ → Bool
+sameBytes [] [] = true
+sameBytes [] (b ∷ m) = false
+sameBytes (a ∷ l) [] = false
+sameBytes (a ∷ l) (b ∷ m) = eqb a b && sameBytes l m
+
+-- 01, "Any two orders": "over one graph and one list of inputs [..] Capacity and cell count are equal"
+unfoldable pub sameMachine : (graph graph′ inputs inputs′ : List ℕ) → Limits → Limits → Bool
+sameMachine graph graph′ inputs inputs′ l l′ = sameBytes graph graph′ && (sameBytes inputs inputs′ && (eqb (l .ledger) (l′ .ledger) && eqb (l .cells) (l′ .cells)))
+
+-- and the same order in every byte
+unfoldable pub sameOrder : (picks picks′ : List ℕ) → (budget budget′ : ℕ) → Bool
+sameOrder picks picks′ budget budget′ = eqb budget budget′ && sameBytes picks picks′
+
+unfoldable pub rests : Outcome → Bool
+rests Completed = true
+rests Hung = true
+rests Spent = false
+rests (Refused r place) = false
+
+-- demand 3: a run that completed or hung ends as every order does, "picks [..] of allowed length", whose budget has room for its firings. The picks by their length in bytes
+unfoldable pub anyOrder : Answer → (picks budget : ℕ) → Bool
+anyOrder r picks budget = rests (r .outcome) && (whole pickWidth mostTokens picks && leb (r .firings) budget)
+
+-- of a run that gave the answer r
+unfoldable pub serves : (kept : Request) → (r : Answer) → (asked : Request) → Bool
+serves k r a =
+    sameMachine (k .graph) (a .graph) (k .inputs) (a .inputs) (k .limits) (a .limits)
+    && (sameOrder (k .picks) (a .picks) (k .limits .budget) (a .limits .budget) || anyOrder r (length (a .picks)) (a .limits .budget))
+
+-- ---- what is promised then
+
+-- `run`, called with what the request says: it left x
+pub record RanAs (q : Request) (l : LentToRun) (x : LeftByRun) : Type 0 where
+  pub picks : l .picks ≡ q .picks
+  pub ledger : length (l .ledger) ≡ q .limits .ledger
+  pub cells : length (l .cells) ≡ q .limits .cells
+  pub ran : RanOn (q .graph) (q .inputs) (q .limits .budget) l x
+
+-- and `profile`, which takes no picks and no budget
+pub record ProfiledAs (q : Request) (l : LentToProfile) (x : LeftByProfile) : Type 0 where
+  pub ledger : length (l .ledger) ≡ q .limits .ledger
+  pub cells : length (l .cells) ≡ q .limits .cells
+  pub profiled : ProfiledOn (q .graph) (q .inputs) l x
+
+-- all that is shown of two runs is the same
+pub record ShownAlike (l m : LentToRun) (x y : LeftByRun) : Type 0 where
+  pub answers : x .answer ≡ y .answer
+  -- in every byte; but a run that is refused before any firing leaves them as lent
+  pub cells : (x .cells ≡ y .cells) ⊎ ((x .cells ≡ l .cells) × (y .cells ≡ m .cells))
+  -- `list` is done with both, in outputs of their length
+  pub listings : (out out′ : List ℕ) → length out ≡ length (used x) → length out′ ≡ length (used y)
+      → (answer (used x) out ≡ 0) × (answer (used y) out′ ≡ 0) × (outAfter (used x) out ≡ outAfter (used y) out′)
+
+-- all that is plotted of two profiles is the same: the answer, the number of records and each byte of these
+pub record PlottedAlike (x y : LeftByProfile) : Type 0 where
+  pub answers : x .answer ≡ y .answer
+  pub records : take (x .answer .records * stepWidth) (x .profile) ≡ take (y .answer .records * stepWidth) (y .profile)
+
+-- what is kept serves: if the kept answer is that of the kept run, the run that is asked for shows the same; and so does its profile, in room for as many records
+pub record Served (kept : Request) (r : Answer) (asked : Request) : Type 0 where
+  pub runs : (l m : LentToRun) (x y : LeftByRun) → RanAs kept l x → x .answer ≡ r → RanAs asked m y → ShownAlike l m x y
+  pub profiles : (l m : LentToProfile) (x y : LeftByProfile) → ProfiledAs kept l x → ProfiledAs asked m y → length (l .profile) ≡ length (m .profile) → PlottedAlike x y
+
+-- the promise of `serves`
+pub record Decided (kept : Request) (r : Answer) (asked : Request) (said : Bool) : Type 0 where
+  -- it says yes exactly where it may
+  pub exactly : said ≡ serves kept r asked
+  pub holds : said ≡ true → Served kept r asked

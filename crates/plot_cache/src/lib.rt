@@ -1,0 +1,82 @@
+// The cache of the profile plotter: whether what is kept of one run, its answer, listing, cells and profile, serves for a run
+// that is asked for.
+use record::pick;
+use rules::answer::Answer;
+use rules::answer::Outcome;
+ghost use mathlib.Core.Path.{_≡_};
+ghost use mathlib.Core.Bool.{true};
+ghost use Rattle.plot_cache.specs.Serves.{sameBytes, sameMachine, sameOrder, rests, anyOrder, request, Decided};
+
+// What a run is given beside graph, inputs and picks: its budget, and the lengths in bytes of ledger and cells.
+pub struct Limits {
+    pub budget: u16,
+    pub ledger: usize,
+    pub cells: usize,
+}
+
+fn same(a: &[u8], b: &[u8]) -> bool
+    ensures { λ r. ⌜ r ≡ sameBytes (now (a .entry)) (now (b .entry)) ⌝ }
+{
+    check::same(a, b)
+}
+
+// Whether two runs start alike: one graph, one list of inputs, one capacity and one cell count.
+fn same_machine(
+    kept_graph: &[u8],
+    kept_inputs: &[u8],
+    kept: Limits,
+    graph: &[u8],
+    inputs: &[u8],
+    asked: Limits,
+) -> bool
+    ensures { λ r. ⌜ r ≡ sameMachine (now («kept_graph» .entry)) (now (graph .entry)) (now («kept_inputs» .entry)) (now (inputs .entry)) kept asked ⌝ }
+{
+    same(kept_graph, graph)
+        && (same(kept_inputs, inputs) && (kept.ledger == asked.ledger && kept.cells == asked.cells))
+}
+
+// Whether two runs fire alike: equal picks and budgets.
+fn same_order(kept_picks: &[u8], kept_budget: u16, picks: &[u8], budget: u16) -> bool
+    ensures { λ r. ⌜ r ≡ sameOrder (now («kept_picks» .entry)) (now (picks .entry)) «kept_budget» budget ⌝ }
+{
+    kept_budget == budget && same(kept_picks, picks)
+}
+
+// Whether nothing is enabled: completed or hung.
+fn rests(outcome: Outcome) -> bool
+    ensures { λ r. ⌜ r ≡ rests outcome ⌝ }
+{
+    match outcome {
+        Outcome::Completed => true,
+        Outcome::Hung => true,
+        Outcome::Spent => false,
+        Outcome::Refused(_, _) => false,
+    }
+}
+
+// Whether a run with this answer ends as every order does that has so many bytes of picks and this budget.
+fn any_order(answer: Answer, picks: usize, budget: u16) -> bool
+    ensures { λ r. ⌜ r ≡ anyOrder answer picks budget ⌝ }
+{
+    let outcome = answer.outcome;
+    rests(outcome) && (buffer::whole(pick::WIDTH, 2048, picks) && answer.firings <= budget as usize)
+}
+
+// Whether what is kept of a run with this answer serves for the run that is asked for.
+pub fn serves(
+    kept_graph: &[u8],
+    kept_inputs: &[u8],
+    kept_picks: &[u8],
+    kept: Limits,
+    answer: Answer,
+    graph: &[u8],
+    inputs: &[u8],
+    picks: &[u8],
+    asked: Limits,
+) -> bool
+    ensures { λ r. ⌜ Decided (request (now («kept_graph» .entry)) (now («kept_inputs» .entry)) (now («kept_picks» .entry)) kept) answer (request (now (graph .entry)) (now (inputs .entry)) (now (picks .entry)) asked) r ⌝ }
+{
+    same_machine(kept_graph, kept_inputs, kept, graph, inputs, asked)
+        && (same_order(kept_picks, kept.budget, picks, asked.budget)
+            || any_order(answer, picks.len(), asked.budget))
+}
