@@ -1,7 +1,7 @@
 //! From text to files.
 
 use crate::errors::{Error, Errors, Fault, Span};
-use crate::names::{Names, STORE};
+use crate::names::{too_many, Names, STORE};
 use crate::operations::Constant;
 use crate::parse::parse_line;
 use crate::statement::{Line, Statement, Target, Typed};
@@ -47,6 +47,9 @@ pub fn assemble(text: &str) -> Result<Files, Errors> {
 pub fn read(text: &str) -> Result<Program, Errors> {
     let mut errors = Vec::new();
     let lines = parse(text, &mut errors);
+    if let Some(error) = too_many(&lines) {
+        return Err(Errors(vec![error]));
+    }
     let mut names = Names::of(&lines, &mut errors);
     let mut program = Program::default();
     for line in &lines {

@@ -9,8 +9,26 @@ use crate::statement::{Line, Statement, Target};
 
 /// The code of STORE, which a line that loads a cell stands for.
 pub const STORE: u8 = 11;
+/// The most instructions that a graph may have. A longer one can be assembled, for the engine to refuse it.
+const MOST_INSTRUCTIONS: usize = 256;
 /// Instruction numbers have 16 bits.
-const MOST_INSTRUCTIONS: usize = 65_536;
+const MOST_NUMBERS: usize = 65_536;
+
+/// The fault of a text whose instructions have no numbers: how many they are, at the first that a graph cannot have.
+pub fn too_many(lines: &[Line]) -> Option<Error> {
+    let is_instruction = |line: &&Line| {
+        use Statement::{Cell, FaultyInstruction, Raw, Typed};
+        matches!(
+            line.statement,
+            Typed(_) | Raw(_) | Cell(..) | FaultyInstruction(_)
+        )
+    };
+    let count = lines.iter().filter(is_instruction).count();
+    let first = lines.iter().filter(is_instruction).nth(MOST_INSTRUCTIONS)?;
+    let text = format!("there are {count} instructions, and {MOST_INSTRUCTIONS} is the most");
+    let fault = Fault::new(first.span.clone(), text).hint("the first that is too many");
+    (count > MOST_NUMBERS).then(|| fault.on_line(first.number))
+}
 
 /// The instructions by name, the operand counts by number, and the return of
 /// every site so far.
@@ -22,6 +40,7 @@ pub struct Names<'t> {
 }
 
 impl<'t> Names<'t> {
+    /// The names of the lines, as far as instructions have numbers.
     pub fn of(lines: &[Line<'t>], errors: &mut Vec<Error>) -> Names<'t> {
         let mut names = Names {
             numbers: HashMap::new(),
@@ -36,11 +55,6 @@ impl<'t> Names<'t> {
                 Statement::FaultyInstruction(_) => None,
                 _ => continue,
             };
-            if names.operands.len() == MOST_INSTRUCTIONS {
-                let fault = Fault::new(line.span.clone(), "more than 65,536 instructions");
-                errors.push(fault.on_line(line.number));
-                break;
-            }
             if let Err(fault) = names.define(line) {
                 errors.push(fault.on_line(line.number));
             }
@@ -68,7 +82,13 @@ impl<'t> Names<'t> {
         let name = target.name.text;
         let Some(&(number, _)) = self.numbers.get(name) else {
             let fault = Fault::new(target.name.span(), format!("`{name}` is not defined"));
-            return Err(fault.maybe(hints::name(name, self.numbers.keys().copied())));
+            // Among more names than a graph can have, likeness takes long to find and says little.
+            let names = self.numbers.keys().copied();
+            let hint = match names.len() <= MOST_INSTRUCTIONS {
+                true => hints::name(name, names),
+                false => None,
+            };
+            return Err(fault.maybe(hint));
         };
         match self.operands[usize::from(number)] {
             Some(operands) if target.port >= operands => {

@@ -96,6 +96,9 @@ pub struct Form {
 pub struct Check {
     #[command(flatten)]
     pub file: File,
+    /// End with exit status 1 where there is a warning
+    #[arg(long)]
+    pub strict: bool,
     #[command(flatten)]
     pub script: Script,
 }
@@ -115,6 +118,12 @@ pub struct Completion {
     pub shell: clap_complete::Shell,
 }
 
+/// A number of the command line.
+fn up_to<const MOST: u16>(word: &str) -> Result<u16, String> {
+    let number = word.parse().ok().filter(|number| *number <= MOST);
+    number.ok_or(format!("it is a number from 0 to {MOST}"))
+}
+
 #[derive(Debug, Args)]
 pub struct File {
     /// A typed graph, a folder with its files, or -
@@ -125,10 +134,10 @@ pub struct File {
 #[derive(Debug, Args)]
 pub struct Buffers {
     /// Records of the ledger, which keeps every token
-    #[arg(long, value_name = "N", default_value_t = 2048, value_parser = clap::value_parser!(u16).range(0..=2048))]
+    #[arg(long, value_name = "N", default_value_t = 2048, value_parser = up_to::<2048>)]
     capacity: u16,
     /// I-structure cells
-    #[arg(long, value_name = "N", default_value_t = 1024, value_parser = clap::value_parser!(u16).range(0..=1024))]
+    #[arg(long, value_name = "N", default_value_t = 1024, value_parser = up_to::<1024>)]
     cells: u16,
 }
 
@@ -147,7 +156,7 @@ pub struct Firing {
     #[arg(long, value_name = "ORDER", default_value_t = Order::Typed)]
     pub order: Order,
     /// The most firings
-    #[arg(long, value_name = "N", default_value_t = 2048)]
+    #[arg(long, value_name = "N", default_value_t = 2048, value_parser = up_to::<{ u16::MAX }>)]
     pub budget: u16,
 }
 
@@ -210,7 +219,7 @@ pub struct Profile {
     #[arg(long, value_name = "ORDER")]
     pub order: Option<Order>,
     /// The most firings of that run; only with -o
-    #[arg(long, value_name = "N")]
+    #[arg(long, value_name = "N", value_parser = up_to::<{ u16::MAX }>)]
     pub budget: Option<u16>,
     #[command(flatten)]
     pub buffers: Buffers,
@@ -367,7 +376,7 @@ pub enum Kind {
 #[derive(Debug, Args)]
 pub struct Explain {
     /// The number of a refusal
-    #[arg(value_name = "N")]
+    #[arg(value_name = "N", value_parser = up_to::<{ u16::MAX }>)]
     pub number: u16,
     #[command(flatten)]
     pub script: Script,

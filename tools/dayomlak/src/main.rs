@@ -3,6 +3,7 @@
 
 mod activity;
 mod answer;
+mod circles;
 mod cli;
 mod commands;
 mod diagnostics;
@@ -18,6 +19,7 @@ mod loads;
 mod log_file;
 mod machine;
 mod manual;
+mod meetings;
 mod newest;
 mod orders;
 mod output;

@@ -67,7 +67,14 @@ impl Program {
             let text = format!("{label} is a log\n  `dayomlak replay` takes it behind its graph");
             return Err(Failure::Wrong(text));
         }
-        let text = String::from_utf8(bytes).map_err(|error| no_text(label, error.as_bytes()))?;
+        let text = String::from_utf8(bytes).map_err(|error| {
+            let place = error.utf8_error().valid_up_to();
+            no_text(label, error.as_bytes(), place)
+        })?;
+        if let Some(finding) = lone_return(&text) {
+            diagnostics::complain(label, &text, std::slice::from_ref(&finding));
+            return Err(Failure::Faulty(text, vec![finding]));
+        }
         match read(&text) {
             Ok(program) => Ok(Program {
                 label: label.to_string(),
@@ -173,12 +180,31 @@ impl Program {
     }
 }
 
-fn no_text(label: &str, bytes: &[u8]) -> Failure {
+/// A carriage return that ends a line alone, as on old Macs. Where it is read as a space, a comment swallows all that follows.
+fn lone_return(text: &str) -> Option<Finding> {
+    let bytes = text.as_bytes();
+    let alone = |at: &usize| bytes[*at] == b'\r' && bytes.get(at + 1) != Some(&b'\n');
+    let place = (0..bytes.len()).find(alone)?;
+    let finding = Finding::error("a line ends by a carriage return (CR) alone")
+        .at(Some(place..place + 1), "here")
+        .note("save the file with line ends of Unix (LF) or Windows (CR LF)");
+    Some(finding)
+}
+
+/// A file that is no text from a place on.
+fn no_text(label: &str, bytes: &[u8], place: usize) -> Failure {
     let hint = match bytes {
         [0xff, 0xfe, ..] | [0xfe, 0xff, ..] => "it begins as UTF-16 does: save it as UTF-8",
-        _ => "for the files of a graph give their folder, for a log `dayomlak replay`",
+        _ if bytes.contains(&0) => {
+            "for the files of a graph give their folder, for a log `dayomlak replay`"
+        }
+        _ => "it may be Latin-1 or another old code: save it as UTF-8",
     };
-    Failure::Wrong(format!("{label} is no text (UTF-8)\n  {hint}"))
+    let line = bytes[..place].iter().filter(|byte| **byte == b'\n').count() + 1;
+    let byte = bytes[place];
+    Failure::Wrong(format!(
+        "{label} is no text (UTF-8): line {line} has the byte {byte:02x}\n  {hint}"
+    ))
 }
 
 /// The error of a file where a folder is needed.

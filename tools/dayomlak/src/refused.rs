@@ -1,6 +1,6 @@
 //! A refused run explained: what was refused, by name, and what stood in the way.
 
-use ttda::widths::PICK;
+use ttda::widths::{MOST_INSTRUCTIONS, PICK};
 
 use crate::activity::Activity;
 use crate::answer::{count, Answer, Word};
@@ -68,9 +68,28 @@ fn at_once(program: &Program, number: u16, answer: &Answer, sizes: Sizes) -> Fin
             )),
         9 => second_input(program, place, finding),
         1 if program.files.graph.is_empty() => finding.note(program.emptiness()),
+        1 if program.graph.instructions.len() > MOST_INSTRUCTIONS => {
+            too_many(program, finding).note(meaning)
+        }
         7 => finding.note(bad_store(program).unwrap_or(meaning.to_string())),
         _ => finding.note(meaning),
     }
+}
+
+/// More instructions than a graph may have: how many, and the first that is too many.
+fn too_many(program: &Program, finding: Finding) -> Finding {
+    let number = program.graph.instructions.len();
+    finding
+        .at(
+            program.span(MOST_INSTRUCTIONS),
+            format!(
+                "instruction number {}, counted from 1",
+                MOST_INSTRUCTIONS + 1
+            ),
+        )
+        .note(format!(
+            "there are {number} instructions, and {MOST_INSTRUCTIONS} is the most"
+        ))
 }
 
 /// Which of a program's files is refused by 7, and why.

@@ -7,6 +7,9 @@ use crate::machine::End;
 use crate::program::Program;
 use crate::records::{self, Cell, State, Token};
 
+/// So many iterations are named one by one.
+const SHOWN: usize = 8;
+
 /// Results, tokens that wait and cells, a line each. What the run itself wrote comes before what inputs alone wrote, and
 /// the cells of lines such as `cell 3 = 7` are only counted: they hold what was typed. The tokens are those of the
 /// listing, so that equal listings give equal lines.
@@ -22,7 +25,7 @@ pub fn lines(program: &Program, end: &End) -> Vec<String> {
         .filter(|t| !is_result(program, t))
         .collect();
     if end.answer.ended() {
-        lines.extend(others.iter().map(|token| waiting(program, token)));
+        lines.extend(others.iter().map(|token| waiting(program, token, &tokens)));
     } else if !others.is_empty() {
         // Some of them may be enabled: they are under way and do not wait.
         lines.push(format!("({} under way)", count(others.len(), "token")));
@@ -53,17 +56,45 @@ pub fn is_result(program: &Program, token: &Token) -> bool {
 }
 
 /// A token of a run that has ended which is no result.
-fn waiting(program: &Program, token: &Token) -> String {
+fn waiting(program: &Program, token: &Token, tokens: &[Token]) -> String {
     let name = program.port(&token.tag, token.port);
     match token.state {
         State::Deferred => format!("{name} waits for cell {}, which nothing wrote", token.value),
         _ => {
             let other = 1 - token.port;
             format!(
-                "{name} = {} waits: no token came to port {other}",
-                token.value
+                "{name} = {} waits: no token came to port {other}{}",
+                token.value,
+                elsewhere(token, other, tokens)
             )
         }
+    }
+}
+
+/// In which iterations of the same call tokens did come to a port, if in any.
+fn elsewhere(token: &Token, port: u8, tokens: &[Token]) -> String {
+    let same = |t: &&Token| {
+        let (one, two) = (t.tag, token.tag);
+        t.port == port && (one.path, one.instruction) == (two.path, two.instruction)
+    };
+    let iterations: Vec<String> = tokens
+        .iter()
+        .filter(same)
+        .map(|t| t.tag.iteration.to_string())
+        .collect();
+    match &iterations[..] {
+        [] => String::new(),
+        [one] => format!(" in this iteration, only in iteration {one}"),
+        [some @ .., last] if some.len() < SHOWN => {
+            format!(
+                " in this iteration, only in iterations {} and {last}",
+                some.join(", ")
+            )
+        }
+        [some @ .., last] => format!(
+            " in this iteration, only in iterations {}, ... and {last}",
+            some[..SHOWN].join(", ")
+        ),
     }
 }
 

@@ -1,98 +1,28 @@
 //! What is probably wrong with a graph, found before it runs.
 
-use std::collections::{HashSet, VecDeque};
+use std::collections::HashSet;
+
+use ttda::widths::MOST_INSTRUCTIONS;
 
 use crate::diagnostics::Finding;
-use crate::graph::{ENTER, LEAVE, NEXT, OUT, SWITCH};
+use crate::graph::{OUT, SWITCH};
 use crate::program::Program;
-use crate::records;
+use crate::{circles, meetings, records};
 
 /// All warnings, in the order of the instructions.
 pub fn of(program: &Program) -> Vec<Finding> {
+    // A longer graph is refused at once, whatever else is wrong with it.
+    if program.graph.instructions.len() > MOST_INSTRUCTIONS {
+        return Vec::new();
+    }
     let mut found: Vec<(usize, Finding)> = Vec::new();
-    found.extend(circles(program));
+    found.extend(circles::without_next(program));
+    found.extend(circles::with_many(program));
+    found.extend(meetings::of(program));
     found.extend(unfed(program));
     found.extend(twins(program));
     found.sort_by_key(|(instruction, _)| *instruction);
     found.into_iter().map(|(_, finding)| finding).collect()
-}
-
-/// Circles of arcs without NEXT or ENTER: a token that goes round comes to its own tag again.
-fn circles(program: &Program) -> Vec<(usize, Finding)> {
-    let mut found = Vec::new();
-    let mut seen = HashSet::new();
-    for start in 0..program.graph.instructions.len() {
-        if seen.contains(&start) {
-            continue;
-        }
-        if let Some(circle) = shortest_circle(program, start) {
-            seen.extend(circle.iter().copied());
-            found.push((start, circle_warning(program, &circle)));
-        }
-    }
-    found
-}
-
-/// The instructions that an instruction sends to under its own tag.
-fn same_tag(program: &Program, instruction: usize) -> Vec<usize> {
-    match program.graph.instructions.get(instruction) {
-        Some(i) if !matches!(i.code, NEXT | ENTER | LEAVE) => i
-            .arcs()
-            .iter()
-            .map(|arc| usize::from(arc.instruction))
-            .collect(),
-        _ => Vec::new(),
-    }
-}
-
-/// The shortest circle through an instruction, which is its first member.
-fn shortest_circle(program: &Program, start: usize) -> Option<Vec<usize>> {
-    let mut before: Vec<Option<usize>> = vec![None; program.graph.instructions.len()];
-    let mut queue = VecDeque::from([start]);
-    while let Some(at) = queue.pop_front() {
-        for next in same_tag(program, at) {
-            if next == start {
-                let mut circle = vec![at];
-                while circle[0] != start {
-                    circle.insert(0, before[circle[0]]?);
-                }
-                return Some(circle);
-            }
-            if next < before.len() && before[next].is_none() {
-                before[next] = Some(at);
-                queue.push_back(next);
-            }
-        }
-    }
-    None
-}
-
-fn circle_warning(program: &Program, circle: &[usize]) -> Finding {
-    let name = |instruction: &usize| program.name(*instruction as u16);
-    let mut names: Vec<String> = circle.iter().map(name).collect();
-    names.push(names[0].clone());
-    // The arc that goes back in the text is the one that closes the loop, as a reader sees it.
-    let next = |at: usize| circle[(at + 1) % circle.len()];
-    let back = (0..circle.len()).rev().find(|&at| next(at) <= circle[at]);
-    let from = back.unwrap_or(circle.len() - 1);
-    let arcs = &program.graph.instructions[circle[from]].destinations;
-    let arc = arcs
-        .iter()
-        .position(|arc| usize::from(arc.instruction) == next(from));
-    Finding::warning(format!(
-        "a circle without NEXT or ENTER: {}",
-        names.join(" -> ")
-    ))
-    .at(
-        program.arc_span(circle[from], arc.unwrap_or(0)),
-        "this arc goes back under the same tag",
-    )
-    .note("a token that goes round meets its own tag: the run is then refused by 9, in every order")
-    .note(format!(
-        "let it go by a NEXT: `{}: ... -> n` and `n: NEXT -> {}`",
-        program.name(circle[from] as u16),
-        program.name(next(from) as u16)
-    ))
 }
 
 /// Ports that no arc, input or LEAVE sends to.

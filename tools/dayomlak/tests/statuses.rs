@@ -180,13 +180,20 @@ fn no_text() {
     assert_eq!((done.status, &done.out[..]), (2, ""));
     assert!(
         done.err
-            .contains("is no text (UTF-8)\n  it begins as UTF-16 does"),
+            .contains("is no text (UTF-8): line 1 has the byte ff\n  it begins as UTF-16 does"),
+        "{done:?}"
+    );
+    let file = folder.write("x.ttda", [0x61, 0xff, 0x00]);
+    let done = dayomlak(&["run", &file]);
+    assert!(
+        done.err.contains("\n  for the files of a graph"),
         "{done:?}"
     );
     let file = folder.write("x.ttda", [0x61, 0xff]);
     let done = dayomlak(&["run", &file]);
     assert!(
-        done.err.contains("is no text (UTF-8)\n  for the files"),
+        done.err
+            .contains("is no text (UTF-8): line 1 has the byte ff\n  it may be Latin-1"),
         "{done:?}"
     );
 }

@@ -9,7 +9,7 @@ use crate::machine::{Machine, Sizes};
 use crate::program::Program;
 use crate::records::{MOST_CELLS, MOST_RECORDS};
 use crate::script::{self, Fields};
-use crate::{diagnostics, output, refused};
+use crate::{diagnostics, output, refused, warnings};
 
 pub fn check(args: &Check) -> Result<u8, Failure> {
     let program = load(&args.file.file)?;
@@ -17,6 +17,7 @@ pub fn check(args: &Check) -> Result<u8, Failure> {
     // With a budget of 0 nothing is fired; only what comes before the first firing is refused.
     let end = machine.run(&program.files.picks, 0);
     let refused = refused::explain(&program, &end, machine.sizes, "nothing fired");
+    let too_strict = args.strict && !warnings::of(&program).is_empty();
     if args.script.json {
         let text = &program.text;
         let finding = refused
@@ -29,7 +30,7 @@ pub fn check(args: &Check) -> Result<u8, Failure> {
         ];
         fields.extend(bounds_fields(&program, &machine.bounds()));
         script::print("check", &program, fields)?;
-        return Ok(status(refused.is_some()));
+        return Ok(status(refused.is_some() || too_strict));
     }
     if let Some(finding) = refused {
         diagnostics::complain(&program.label, &program.text, &[finding]);
@@ -43,7 +44,7 @@ pub fn check(args: &Check) -> Result<u8, Failure> {
         program.label
     );
     output::print(text.as_bytes())?;
-    Ok(failure::COMPLETED)
+    Ok(status(too_strict))
 }
 
 const LARGEST: Sizes = Sizes {
@@ -51,7 +52,7 @@ const LARGEST: Sizes = Sizes {
     cells: MOST_CELLS,
 };
 
-/// Nothing is fired: the status says whether something is refused.
+/// Nothing is fired: the status says whether something is refused, or stands against a strict check.
 fn status(refused: bool) -> u8 {
     match refused {
         true => failure::NOT_COMPLETED,
