@@ -19,7 +19,7 @@ by-answer kept n asked a said r e d t = record {
   holds = λ one b f. subst (λ (z : Answer). Served kept z asked) (ap (λ (u : Unpacked). answerIn u a) (sym e ∙ f)) (d .holds (yes-said said (sym t ∙ one)));
 }
   where
-    yes-said : (s : Bool) → cond s 1 0 ≡ 1 → s ≡ true
+    yes-said : (s : Bool) → _≡_ {A = ℕ} (cond s 1 0) 1 → s ≡ true
     yes-said true h = refl
     yes-said false h = absurd (omega arith)
 

@@ -1,0 +1,31 @@
+-- `abi::ttda_serves` meets its contract: the cache's decision as a number, from the promise of `plot_cache::serves`. Assumes nothing.
+use borrow.Author.Needs.{needs}
+use mathlib.Core.Path.{sym, _∙_}
+use Rattle.plot_cache.specs.Serves.{requestOf}
+use Rattle.abi.proofs.Serving.{by-answer, no-answer}
+use Rattle.abi.proofs.ttda_serves.Statement.{statement}
+use Rattle.abi.proofs.ttda_serves.Tie as tie
+
+pub ttda-serves-spec : {M : Type 1} → statement M
+ttda-serves-spec = tie.close (tie.spec
+    (λ c κs. search needs)
+    (λ c. search needs)
+    (λ c. search needs)
+    (λ c.
+    let a = c .before .before .before .before .before .before .before .before .before .args in
+    let kept = requestOf (a .kept-graph .now) (a .kept-inputs .now) (a .kept-picks .now) (a .kept-budget) (a .kept-ledger) (a .kept-cells) in
+    let asked = requestOf (a .graph .now) (a .inputs .now) (a .picks .now) (a .budget) (a .ledger) (a .cells) in
+    no-answer kept (a .kept-answer) asked (sym (c .before .before .unpack .ensures) ∙ c .enum-told .given .1))
+    (λ c κs. search needs)
+    (λ c.
+    let a = c .before .before .before .before .before .before .before .before .before .before .before .before .args in
+    let kept = requestOf (a .kept-graph .now) (a .kept-inputs .now) (a .kept-picks .now) (a .kept-budget) (a .kept-ledger) (a .kept-cells) in
+    let asked = requestOf (a .graph .now) (a .inputs .now) (a .picks .now) (a .budget) (a .ledger) (a .cells) in
+    let e = sym (c .before .before .before .before .before .unpack .ensures) ∙ c .before .before .before .a .given .1 in
+    by-answer kept (a .kept-answer) asked _ (c .before .serves .result) 1 e (c .before .serves .ensures) (rw (c .if1 .taken)))
+    (λ c.
+    let a = c .before .before .before .before .before .before .before .before .before .before .before .before .args in
+    let kept = requestOf (a .kept-graph .now) (a .kept-inputs .now) (a .kept-picks .now) (a .kept-budget) (a .kept-ledger) (a .kept-cells) in
+    let asked = requestOf (a .graph .now) (a .inputs .now) (a .picks .now) (a .budget) (a .ledger) (a .cells) in
+    let e = sym (c .before .before .before .before .before .unpack .ensures) ∙ c .before .before .before .a .given .1 in
+    by-answer kept (a .kept-answer) asked _ (c .before .serves .result) 0 e (c .before .serves .ensures) (rw (c .if1 .left))))
