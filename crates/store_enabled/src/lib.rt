@@ -190,7 +190,7 @@ pub fn append(
 }
 
 // Enters the token t that stands in record `used` already, where none before it stands on its port of its tag. One that is not live
-// enables nothing.
+// enables nothing. `settle_arrived` is not called: a second caller would cost each arrival of a run a call.
 pub fn enter(
     tables: &[u16; 512],
     links: &mut [u16; 9216],
@@ -206,9 +206,12 @@ pub fn enter(
 {
     let tag = t.tag;
     store_chains::enter(links, used, t);
-    if live(ledger, Found::At(used)) {
-        let operands = arity(tables, tag);
-        settle_arrived(flags, links, ledger, used, tag, t.port, operands);
+    if !live(ledger, Found::At(used)) {
+        return;
+    }
+    let other = store_chains::find_partner(links, ledger, used, tag, t.port);
+    if ready_with(ledger, t.port, Found::At(used), other, arity(tables, tag)) {
+        store_flags::raise(flags, place_or(other, used));
     }
 }
 

@@ -1,19 +1,22 @@
 -- `store_enabled::enter` meets its contract: as `append`, of a record that is written already. Assumes nothing.
-use Prim.Native.Nat.{_+_, _-_}
-use mathlib.Core.Path.{_≡_, refl, sym, _∙_}
+use Prim.Native.Nat.{ℕ, _+_, _-_}
+use mathlib.Core.Path.{_≡_, refl, sym, ap, _∙_}
 use mathlib.Core.Bool.{false}
 use mathlib.Core.List.{[], _∷_, _++_}
 use native.Mathlib.Omega.{arith}
 use borrow.Author.Needs.{needs}
+use borrow.Author.Tests.{not-true}
 use Rattle.record.specs.TokensAndTags.{tokens, decode, standsAt}
 use Rattle.buffer.proofs.Tables.{length-rows}
 use Rattle.record.specs.Widths.{tokenWidth}
 use Rattle.store_flags.specs.Flags.{flagsOf}
 use Rattle.store_chains.specs.Search.{firstFrom}
 use Rattle.store_chains.specs.Deferred.{Waiting}
-use Rattle.store_enabled.specs.Enabled.{arityOf, isEnabled, placeOf}
+use Rattle.store_chains.proofs.Search.{within-more}
+use Rattle.store_enabled.specs.Enabled.{allLive, arityOf, isEnabled, placeOf}
+use Rattle.store_enabled.specs.Store.{Stored, placeOr}
 use Rattle.store_enabled.proofs.Store.{Moved, added}
-use Rattle.store_enabled.proofs.Arriving.{right-wait, raised-only, own-waits}
+use Rattle.store_enabled.proofs.Arriving.{right-wait, own-place, own-ready, own-stands, own-waits, partner-place}
 use Rattle.store_enabled.proofs.enter.Statement.{statement}
 use Rattle.store_enabled.proofs.enter.Tie as tie
 
@@ -36,36 +39,81 @@ waiting c w =
     let a = c .before .before .before .before .args in
     rw (entered c .more) (c .enter .ensures .1 (tokens (a .used) (a .ledger .now)) (length-rows tokenWidth decode (a .used) (a .ledger .now)) w)
 
+-- its tag is not enabled, and the flags stay
+stays : (c : tie.After-enter) → let a = c .before .before .before .before .args in isEnabled (a .tables .now) (tokens (a .used + 1) (a .ledger .now)) (a .t .tag) ≡ false
+    → Stored (a .tables .now) (c .enter .last .0) (a .flags .now) (a .ledger .now) (a .used + 1)
+stays c off =
+    let s = c .before .before .before .before in
+    let a = s .args in
+    let e = entered c in
+    let flags = right-wait (a .tables .now) (tokens (a .used) (a .ledger .now)) (a .t) (flagsOf (a .flags .now)) (s .pre .0 .right) (rw (e .more) at off) in
+    e .stored (a .flags .now) (rw (e .more) flags) (s .pre .0 .counted)
+
+-- the place of its tag
+here : (c : tie.After-find-partner) → let a = c .before .before .before .before .before .before .before .before .args in
+    placeOf (tokens (a .used + 1) (a .ledger .now)) (a .t .tag) ≡ placeOr (c .find-partner .result) (a .used)
+here c =
+    let n = c .before .before .before .before in
+    let s = n .before .before .before .before in
+    let a = s .args in
+    let f = c .find-partner in
+    own-place (a .t .tag) (a .t .port) (a .used) (a .used + 1) (a .ledger .now) (omega arith) (s .pre .3 .low) (entered n .own) (f .result) (f .ensures .0) (entered n .known .ports)
+    ∙ partner-place (f .result) (a .used) (f .ensures .1) .0
+
+-- and whether it is enabled
+whole : (c : tie.After-ready-with) → let a = c .before .before .before .before .before .before .before .before .before .before .before .args in
+    c .ready-with .result ≡ isEnabled (a .tables .now) (tokens (a .used + 1) (a .ledger .now)) (a .t .tag)
+whole c =
+    let k = c .before in
+    let f = k .before .before in
+    let n = f .before .before .before .before in
+    let s = n .before .before .before .before in
+    let a = s .args in
+    c .ready-with .ensures
+    ∙ own-ready (a .t .tag) (a .t .port) (a .used) (a .used + 1) (a .ledger .now) (omega arith) (s .pre .3 .low) (entered n .own) (f .find-partner .result) (f .find-partner .ensures .0) (k .arity .result)
+    ∙ ap (λ (m : ℕ). allLive m (tokens (a .used + 1) (a .ledger .now)) (a .t .tag)) (k .arity .ensures)
+
 pub enter-spec : {M : Type 1} → statement M
 enter-spec = tie.close (tie.spec
     (λ c κs. search needs)
     (λ c κs. search needs)
-    (λ c κs. search needs)
-    (λ c κs.
-    let n = c .before .before .before .before .before .before in
-    let s = n .before .before .before .before in
-    let e = entered n in
-    (s .pre .0 .counted, e .known, s .pre .3 .low, e .own))
-    (λ c.
-    let n = c .before .before .before .before .before .before .before in
-    let s = n .before .before .before .before in
-    let a = s .args in
-    let e = entered n in
-    let ts = tokens (a .used) (a .ledger .now) in
-    let us = ts ++ a .t ∷ [] in
-    let once = raised-only (isEnabled (a .tables .now) us (a .t .tag)) (flagsOf (a .flags .now)) (placeOf us (a .t .tag)) (right-wait (a .tables .now) ts (a .t) (flagsOf (a .flags .now)) (s .pre .0 .right)) in
-    let flags = c .settle-arrived .ensures .0 ∙ rw (c .before .before .before .arity .ensures, e .more) once in
-    (e .more, (e .stored (c .settle-arrived .last .0) flags (c .settle-arrived .ensures .1), waiting n)))
     (λ c.
     let n = c .before .before in
     let s = n .before .before .before .before in
     let a = s .args in
     let l = a .ledger .now in
     let p = s .pre .3 in
+    let e = entered n in (
+      e .more,
+      (
+        stays n (own-waits (a .t .tag) (a .t .port) (a .used) (a .used + 1) l (omega arith) (p .low) (e .own) (firstFrom (standsAt (a .t .tag) (1 - a .t .port)) 0 (tokens (a .used + 1) l)) refl (arityOf (a .tables .now) (a .t .tag)) (p .alone)
+            (sym (c .before .live .ensures) ∙ not-true (c .before .live .result) (c .if1 .taken))),
+        waiting n,
+      ),
+    ))
+    (λ c κs.
+    let n = c .before .before .before in
+    let s = n .before .before .before .before in
+    let a = s .args in
     let e = entered n in
-    let ts = tokens (a .used) l in
-    let off : isEnabled (a .tables .now) (tokens (a .used + 1) l) (a .t .tag) ≡ false =
-    own-waits (a .t .tag) (a .t .port) (a .used) (a .used + 1) l (omega arith) (p .low) (e .own) (firstFrom (standsAt (a .t .tag) (1 - a .t .port)) 0 (tokens (a .used + 1) l)) refl (arityOf (a .tables .now) (a .t .tag)) (p .alone)
-    (sym (c .before .live .ensures) ∙ c .if1 .left) in
-    let flags = right-wait (a .tables .now) ts (a .t) (flagsOf (a .flags .now)) (s .pre .0 .right) (rw (e .more) at off) in
-    (e .more, (e .stored (a .flags .now) (rw (e .more) flags) (s .pre .0 .counted), waiting n))))
+    (s .pre .1, e .known .index, s .pre .3 .low, own-stands (a .t .tag) (a .t .port) (a .used) (a .used + 1) (a .ledger .now) (omega arith) (e .own)))
+    (λ c κs. search needs)
+    (λ c κs.
+    let f = c .before .before in
+    let s = f .before .before .before .before .before .before .before .before in
+    (s .pre .1, within-more (f .find-partner .result) _ _ (entered (f .before .before .before .before) .known .room) (f .find-partner .ensures .1)))
+    (λ c κs. search needs)
+    (λ c κs.
+    let f = c .before .before .before .before .before .before in
+    let s = f .before .before .before .before .before .before .before .before in
+    (rw (c .place-or .ensures) (omega (arith, partner-place (f .find-partner .result) (s .args .used) (f .find-partner .ensures .1) .1, s .pre .2)), s .pre .0 .counted))
+    (λ c.
+    let r = c .before .before .before .before in
+    let f = r .before .before .before in
+    let n = f .before .before .before .before in
+    let e = entered n in
+    let on = sym (whole r) ∙ c .before .before .before .if2 .taken in
+    (e .more, (e .stored (c .raise .last .0) (c .raise .ensures .0 ∙ rw (c .before .place-or .ensures, here f, on)) (c .raise .ensures .1), waiting n)))
+    (λ c.
+    let n = c .before .before .before .before .before .before .before .before in
+    (entered n .more, (stays n (sym (whole (c .before)) ∙ c .if2 .left), waiting n))))
