@@ -5,8 +5,10 @@ use std::str::FromStr;
 
 use clap::{Args, Parser, Subcommand, ValueEnum};
 
+use crate::failure::Failure;
 use crate::machine::Sizes;
 use crate::orders::Order;
+use crate::records::{MOST_CELLS, MOST_RECORDS};
 
 /// Runs, checks, compares and draws graphs of the MIT tagged-token dataflow machine, on an engine whose answers are proved.
 #[derive(Debug, Parser)]
@@ -25,6 +27,10 @@ pub struct Cli {
 pub enum Command {
     /// Run a graph: the answer, results, waiting tokens and cells
     Run(Run),
+    /// Carry on with a run that was saved
+    CarryOn(CarryOn),
+    /// What stands where in a saved run: answer, enabled activities, tokens, cells
+    Show(Show),
     /// Find errors and warnings, and what the graph needs, without a firing
     Check(Check),
     /// Run a graph oldest first, newest first and in random orders
@@ -64,6 +70,8 @@ impl Command {
     pub fn scripted(&self) -> Option<(&'static str, &str)> {
         let (name, script, file) = match self {
             Command::Run(args) => ("run", &args.script, args.file.file.as_str()),
+            Command::CarryOn(args) => ("carry-on", &args.script, args.file.as_str()),
+            Command::Show(args) => ("show", &args.script, args.file.as_str()),
             Command::Check(args) => ("check", &args.script, args.file.file.as_str()),
             Command::Compare(args) => ("compare", &args.script, args.file.file.as_str()),
             Command::Trace(args) => ("trace", &args.form.script, args.file.file.as_str()),
@@ -73,6 +81,35 @@ impl Command {
             _ => return None,
         };
         script.json.then_some((name, file))
+    }
+
+    /// A failure with what to do where this command is given a saved state and takes none.
+    pub fn advised(&self, failure: Failure) -> Failure {
+        let Failure::SavedState(label) = &failure else {
+            return failure;
+        };
+        let from_inputs = "of a run from its inputs";
+        let (name, why) = match self {
+            Command::Run(_) => ("run", "`dayomlak carry-on` goes on from it".to_string()),
+            Command::Profile(_) => ("profile", format!("a profile is {from_inputs}")),
+            Command::Log(_) => ("log", format!("a log is {from_inputs}")),
+            Command::Replay(_) => ("replay", format!("a log is {from_inputs}")),
+            Command::Bounds(_) => ("bounds", format!("bounds are {from_inputs}")),
+            Command::Compare(_) => (
+                "compare",
+                "`dayomlak carry-on --order ORDER` goes on from it in one order".to_string(),
+            ),
+            Command::Check(_) => ("check", "`dayomlak show` looks at it".to_string()),
+            Command::Draw(_) => (
+                "draw",
+                "`dayomlak report` shows it on its graph".to_string(),
+            ),
+            _ => ("asm", "`dayomlak show` looks at it".to_string()),
+        };
+        let graph = "its graph is had by `dayomlak show --text`";
+        Failure::Wrong(format!(
+            "{label} is a saved state, which `dayomlak {name}` does not take\n  {why}; {graph}"
+        ))
     }
 }
 
@@ -133,20 +170,25 @@ pub struct File {
 
 #[derive(Debug, Args)]
 pub struct Buffers {
-    /// Records of the ledger, which keeps every token
-    #[arg(long, value_name = "N", default_value_t = 2048, value_parser = up_to::<2048>)]
-    capacity: u16,
-    /// I-structure cells
-    #[arg(long, value_name = "N", default_value_t = 1024, value_parser = up_to::<1024>)]
-    cells: u16,
+    /// Records of the ledger, which keeps every token [default: 2048]
+    #[arg(long, value_name = "N", value_parser = up_to::<2048>)]
+    capacity: Option<u16>,
+    /// I-structure cells [default: 1024]
+    #[arg(long, value_name = "N", value_parser = up_to::<1024>)]
+    cells: Option<u16>,
 }
 
 impl Buffers {
     pub fn sizes(&self) -> Sizes {
         Sizes {
-            capacity: usize::from(self.capacity),
-            cells: usize::from(self.cells),
+            capacity: self.capacity.map_or(MOST_RECORDS, usize::from),
+            cells: self.cells.map_or(MOST_CELLS, usize::from),
         }
+    }
+
+    /// Whether one of them is given, and not left as it is.
+    pub fn are_chosen(&self) -> bool {
+        self.capacity.is_some() || self.cells.is_some()
     }
 }
 
@@ -170,9 +212,49 @@ pub struct Run {
     pub firing: Firing,
     #[command(flatten)]
     pub buffers: Buffers,
+    /// Save what the run leaves, for `dayomlak carry-on`
+    #[arg(long, value_name = "X.saved")]
+    pub save: Option<PathBuf>,
     /// Print the listing, byte for byte as the program ttda does
     #[arg(long, conflicts_with = "json")]
     pub listing: bool,
+}
+
+#[derive(Debug, Args)]
+#[command(
+    after_help = "Carried on in the order that it began in, a run ends as if it had never been stopped. The answer counts all \
+    firings since the inputs.\n\nTry: dayomlak run sum.ttda --budget 10 --save sum.saved"
+)]
+pub struct CarryOn {
+    /// A saved run, as `dayomlak run --save` writes it, or -
+    #[arg(value_name = "X.saved")]
+    pub file: String,
+    #[command(flatten)]
+    pub script: Script,
+    /// Which enabled activity fires next: oldest, newest, random:SEED, or typed (the picks of the file that are left)
+    #[arg(long, value_name = "ORDER", default_value_t = Order::Typed)]
+    pub order: Order,
+    /// The most firings of this part
+    #[arg(long, value_name = "N", default_value_t = 2048)]
+    pub budget: u16,
+    /// Save what this part leaves, for `dayomlak carry-on`
+    #[arg(long, value_name = "Y.saved")]
+    pub save: Option<PathBuf>,
+    /// Print the listing, byte for byte as the program ttda does
+    #[arg(long, conflicts_with = "json")]
+    pub listing: bool,
+}
+
+#[derive(Debug, Args)]
+pub struct Show {
+    /// A saved run, as `dayomlak run --save` writes it, or -
+    #[arg(value_name = "X.saved")]
+    pub file: String,
+    #[command(flatten)]
+    pub script: Script,
+    /// Print the graph as it was typed, with its inputs and picks, instead
+    #[arg(long, conflicts_with = "json")]
+    pub text: bool,
 }
 
 #[derive(Debug, Args)]

@@ -16,6 +16,8 @@ pub const NO_FILE: u8 = 3;
 pub enum Failure {
     /// A command line or a text that cannot be used, and what to do.
     Wrong(String),
+    /// A saved state where a graph is needed, by its label.
+    SavedState(String),
     /// A text with faults, and the faults, which are shown already.
     Faulty(String, Vec<Finding>),
     /// What the engine refuses, by number and word, and why.
@@ -33,7 +35,7 @@ impl Failure {
 
     pub fn status(&self) -> u8 {
         match self {
-            Failure::Wrong(_) | Failure::Faulty(..) => WRONG,
+            Failure::Wrong(_) | Failure::SavedState(_) | Failure::Faulty(..) => WRONG,
             Failure::File(..) => NO_FILE,
             Failure::Refused(_) | Failure::Inconsistent(_) => NOT_COMPLETED,
         }
@@ -44,6 +46,7 @@ impl fmt::Display for Failure {
     fn fmt(&self, f: &mut fmt::Formatter<'_>) -> fmt::Result {
         match self {
             Failure::Wrong(text) | Failure::Refused(text) => write!(f, "error: {text}"),
+            Failure::SavedState(label) => write!(f, "error: {label} is a saved state"),
             Failure::Faulty(_, findings) => {
                 let titles: Vec<&str> = findings.iter().map(|f| f.title.as_str()).collect();
                 write!(f, "error: {}", titles.join("; "))

@@ -8,7 +8,8 @@ use std::ops::Range;
 use crate::failure::Failure;
 use crate::graph::{Graph, FETCH, STORE};
 use crate::machine::{End, Machine};
-use crate::records::{State, Tag, Token};
+use crate::records::{self, Cell, State, Tag, Token};
+use crate::saved;
 
 /// What a firing does to a cell.
 #[derive(Clone, Debug, PartialEq, Eq)]
@@ -35,23 +36,27 @@ pub struct Firing {
 pub struct History {
     pub firings: Vec<Firing>,
     pub tokens: Vec<Token>,
-    /// How many tokens are inputs.
-    pub inputs: usize,
+    /// How many tokens there are before the first firing: inputs, or those of a saved state.
+    pub given: usize,
+    /// How many firings were made before the first one here.
+    pub before: usize,
 }
 
 impl History {
-    /// The history of a run that was not refused before its inputs were written.
+    /// The history of a run that was not refused before its first firing.
     pub fn of(machine: &Machine, end: &End, log: &[Tag]) -> Result<History, Failure> {
         let tokens = end.tokens();
-        let inputs = machine.program.input_count();
-        let firings = firings(&machine.program.graph, inputs, log, &tokens);
+        let (before, given) = machine.given();
+        let cells = machine.start.map_or(Cells::default(), Cells::of);
+        let firings = firings(&machine.program.graph, given, cells, log, &tokens);
         let firings = firings.ok_or_else(|| {
             Failure::Inconsistent("log and ledger of one run do not fit together".to_string())
         })?;
         Ok(History {
             firings,
             tokens,
-            inputs,
+            given,
+            before,
         })
     }
 }
@@ -64,6 +69,21 @@ struct Cells {
 }
 
 impl Cells {
+    /// Those of a saved state.
+    fn of(state: &saved::State) -> Cells {
+        let mut cells = Cells::default();
+        for (number, cell) in (0..).zip(records::cells(&state.cells)) {
+            if let Cell::Present(_) = cell {
+                cells.written.insert(number);
+            }
+        }
+        let tokens = records::tokens(&state.ledger).into_iter().enumerate();
+        for (place, token) in tokens.filter(|(_, t)| t.state == State::Deferred) {
+            cells.waiting.entry(token.value).or_default().push(place);
+        }
+        cells
+    }
+
     fn touch(&mut self, code: u8, cell: i32, outputs: &Range<usize>) -> Option<Touch> {
         match code {
             STORE => {
@@ -87,14 +107,19 @@ impl Cells {
 }
 
 /// `None` where log, ledger and graph do not fit together.
-fn firings(graph: &Graph, inputs: usize, log: &[Tag], tokens: &[Token]) -> Option<Vec<Firing>> {
+fn firings(
+    graph: &Graph,
+    given: usize,
+    mut cells: Cells,
+    log: &[Tag],
+    tokens: &[Token],
+) -> Option<Vec<Firing>> {
     let places: HashMap<(Tag, u8), usize> = (0..)
         .zip(tokens)
         .map(|(place, t)| ((t.tag, t.port), place))
         .collect();
-    let mut cells = Cells::default();
     let mut firings = Vec::with_capacity(log.len());
-    let mut used = inputs;
+    let mut used = given;
     for tag in log {
         let instruction = graph.get(tag.instruction)?;
         let operand = |port| {

@@ -1,12 +1,13 @@
 //! Runs of the proved engine over a program, with buffers of chosen sizes.
 
 use plotter::{Left, Step};
-use ttda::widths::{self, STEP};
+use ttda::widths::{self, PICK, STEP};
 
 use crate::answer::Answer;
 use crate::failure::Failure;
 use crate::program::Program;
 use crate::records::{self, Cell, Tag, Token, CELL, LOGGED, MOST_RECORDS, TOKEN};
+use crate::saved::State;
 
 /// The budget that no run exceeds: firings never exceed tokens.
 pub const WHOLE: u16 = MOST_RECORDS as u16;
@@ -87,16 +88,89 @@ impl From<&Left> for End {
 pub struct Machine<'p> {
     pub program: &'p Program,
     pub sizes: Sizes,
+    /// What runs go on from; without it they begin at the inputs.
+    pub start: Option<&'p State>,
 }
 
 impl<'p> Machine<'p> {
     pub fn new(program: &'p Program, sizes: Sizes) -> Machine<'p> {
-        Machine { program, sizes }
+        Machine {
+            program,
+            sizes,
+            start: None,
+        }
     }
 
     pub fn run(&self, picks: &[u8], budget: u16) -> End {
+        if let Some(state) = self.start {
+            return self.carry_on(state, picks, budget);
+        }
         let (graph, inputs) = self.lent();
         self.call(|ledger, cells| ttda::run(graph, inputs, picks, budget, ledger, cells))
+    }
+
+    /// Goes on from a state. Budget and picks are those of this part.
+    pub fn carry_on(&self, state: &State, picks: &[u8], budget: u16) -> End {
+        let graph = &self.program.files.graph;
+        // Tokens that do not fit are cut off here; the engine is told of all and refuses them.
+        let mut ledger = state.ledger.clone();
+        ledger.resize(TOKEN * self.sizes.capacity, 0);
+        let mut cells = state.cells.clone();
+        let (firings, tokens) = (state.firings, state.tokens());
+        let answer = ttda::carry_on(
+            graph,
+            picks,
+            budget,
+            firings,
+            tokens,
+            &mut ledger,
+            &mut cells,
+        );
+        let answer = Answer::of(answer.0);
+        ledger.truncate(TOKEN * answer.tokens);
+        End::of(answer, ledger, cells)
+    }
+
+    /// How many firings and tokens there are before the first firing of a run.
+    pub fn given(&self) -> (usize, usize) {
+        match self.start {
+            Some(state) => (state.firings.into(), state.tokens().into()),
+            None => (0, self.program.input_count()),
+        }
+    }
+
+    /// Runs and answers the activities in the order of their firing too, from wherever runs begin.
+    pub fn run_traced(&self, picks: &[u8], budget: u16) -> Result<(End, Vec<Tag>), Failure> {
+        match self.start {
+            Some(state) => self.run_stepped(state, picks, budget),
+            None => Ok(self.run_logged(picks, budget)),
+        }
+    }
+
+    /// Fires one by one, since a run from a state has no log: what is spent after a firing, and was not before, has fired.
+    fn run_stepped(
+        &self,
+        state: &State,
+        picks: &[u8],
+        budget: u16,
+    ) -> Result<(End, Vec<Tag>), Failure> {
+        let (mut at, mut log) = (state.clone(), Vec::new());
+        let mut picks_left = picks.chunks_exact(PICK);
+        for _ in 0..budget {
+            let end = self.carry_on(&at, picks_left.next().unwrap_or_default(), 1);
+            let Some(tag) = fired(&records::tokens(&at.ledger), &end.tokens()) else {
+                break;
+            };
+            log.push(tag);
+            at = State::of(&end);
+        }
+        let end = self.run(picks, budget);
+        match end.answer.refused_at_once() || State::of(&end) == at {
+            true => Ok((end, log)),
+            false => Err(Failure::Inconsistent(
+                "the run from the saved state and its firings one by one differ".to_string(),
+            )),
+        }
     }
 
     /// Runs and answers the activities in the order of their firing too.
@@ -155,4 +229,12 @@ impl<'p> Machine<'p> {
         ledger.truncate(TOKEN * answer.tokens);
         End::of(answer, ledger, cells)
     }
+}
+
+/// The activity that was fired between two states.
+fn fired(before: &[Token], after: &[Token]) -> Option<Tag> {
+    let is_spent = |token: &Token| token.state == records::State::Spent;
+    let mut both = before.iter().zip(after);
+    both.find(|(before, after)| !is_spent(before) && is_spent(after))
+        .map(|(before, _)| before.tag)
 }

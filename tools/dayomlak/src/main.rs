@@ -3,6 +3,7 @@
 
 mod activity;
 mod answer;
+mod beginning;
 mod circles;
 mod cli;
 mod commands;
@@ -31,6 +32,7 @@ mod refusals;
 mod refused;
 mod report;
 mod results;
+mod saved;
 mod script;
 mod second_token;
 mod sources;
@@ -48,6 +50,8 @@ fn main() -> ExitCode {
     let command = Cli::parse().command;
     let result = match &command {
         Command::Run(args) => commands::run::run(args),
+        Command::CarryOn(args) => commands::saved::carry_on(args),
+        Command::Show(args) => commands::saved::show(args),
         Command::Check(args) => commands::check::check(args),
         Command::Compare(args) => commands::compare::compare(args),
         Command::Trace(args) => commands::trace::trace(args),
@@ -68,6 +72,7 @@ fn main() -> ExitCode {
     match result {
         Ok(status) => ExitCode::from(status),
         Err(failure) => {
+            let failure = command.advised(failure);
             if !matches!(failure, Failure::Faulty(..)) {
                 // A message that cannot be shown has nobody to be shown to; the status says it too.
                 let _ = writeln!(std::io::stderr(), "{failure}");

@@ -18,7 +18,9 @@ use crate::graph::{Graph, LEAVE, OUT};
 use crate::history::{Firing, History, Touch};
 use crate::machine::{End, Machine, WHOLE};
 use crate::orders;
-use crate::records::{Tag, MOST_RECORDS};
+use crate::records::{self, Tag, MOST_RECORDS};
+use crate::saved::view::View;
+use crate::saved::State;
 
 /// The picks of a whole run that fire the newest first.
 pub fn picks(machine: &Machine) -> Result<Vec<u8>, Failure> {
@@ -34,6 +36,29 @@ pub fn picks(machine: &Machine) -> Result<Vec<u8>, Failure> {
     }
     let text = "the picks for newest first are not newest first";
     Err(Failure::Inconsistent(text.to_string()))
+}
+
+/// The picks of the firings from a saved state that fire the newest first. Here the state is at hand before each firing, so
+/// that e is counted there; that it divides as it should is shown as above.
+pub fn picks_from(machine: &Machine, state: &State) -> Result<Vec<u8>, Failure> {
+    let (mut state, mut picks) = (state.clone(), Vec::new());
+    loop {
+        let tokens = records::tokens(&state.ledger);
+        let enabled = View::of(machine.program, &tokens).enabled.len() as u16;
+        let fire = |pick: u16| machine.carry_on(&state, &pick.to_le_bytes(), 1);
+        let end = fire(enabled.saturating_sub(1));
+        if end != fire((2 * enabled).saturating_sub(1)) {
+            let text = "the picks for newest first are not newest first";
+            return Err(Failure::Inconsistent(text.to_string()));
+        }
+        if enabled > 0 {
+            picks.push(enabled - 1);
+        }
+        if end.answer.firings == usize::from(state.firings) || end.answer.refused_at_once() {
+            return Ok(orders::bytes(picks.into_iter()));
+        }
+        state = State::of(&end);
+    }
 }
 
 /// Whether a run under foretold numbers is newest first, as the engine itself shows.
@@ -115,7 +140,7 @@ impl<'h> Schedule<'h> {
             written: HashSet::new(),
             waiting: HashMap::new(),
         };
-        for input in 0..history.inputs {
+        for input in 0..history.given {
             schedule.arrive(input);
             schedule.wake(input);
         }

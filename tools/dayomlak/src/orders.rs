@@ -3,6 +3,8 @@
 use std::fmt;
 use std::str::FromStr;
 
+use ttda::widths::PICK;
+
 use crate::failure::Failure;
 use crate::machine::Machine;
 use crate::newest;
@@ -56,14 +58,29 @@ impl Order {
         }
     }
 
-    /// The picks that fire a program in this order.
+    /// The picks that fire a program in this order. From a saved state they are those that an uncut run has left: pick i
+    /// is for firing i since the inputs.
     pub fn picks(self, machine: &Machine) -> Result<Vec<u8>, Failure> {
-        match self {
-            Order::Oldest => Ok(Vec::new()),
-            Order::Typed => Ok(machine.program.files.picks.clone()),
-            Order::Newest => newest::picks(machine),
-            Order::Random(seed) => Ok(random(seed)),
+        let used = PICK * machine.given().0;
+        let rest = |picks: &[u8]| picks.get(used..).unwrap_or_default().to_vec();
+        match (self, machine.start) {
+            (Order::Oldest, _) => Ok(Vec::new()),
+            (Order::Typed, _) => Ok(rest(&machine.program.files.picks)),
+            (Order::Newest, None) => newest::picks(machine),
+            (Order::Newest, Some(state)) => newest::picks_from(machine, state),
+            (Order::Random(seed), _) => Ok(rest(&random(seed))),
         }
+    }
+}
+
+/// The order of a run that went on from firings in another or the same order.
+pub fn joined(before: &str, firings: usize, now: &str) -> String {
+    let last = before.rsplit(", then ").next().unwrap_or(before);
+    let last = last.split(" from firing ").next().unwrap_or(last);
+    match before {
+        _ if firings == 0 => now.to_string(),
+        before if last == now => before.to_string(),
+        before => format!("{before}, then {now} from firing {} on", firings + 1),
     }
 }
 

@@ -11,6 +11,7 @@ use crate::failure::Failure;
 use crate::graph::Graph;
 use crate::log_file;
 use crate::records::Tag;
+use crate::saved;
 use crate::sources::Source;
 
 /// The files of a folder.
@@ -22,6 +23,8 @@ pub const STANDARD_INPUT: &str = "standard input";
 pub struct Program {
     /// How messages and pictures call it.
     pub label: String,
+    /// How messages call its text, by line and column.
+    pub text_label: String,
     /// As typed, or disassembled; empty where files have no text.
     pub text: String,
     pub files: Files,
@@ -36,13 +39,6 @@ impl Program {
     /// Loads what a command is given.
     pub fn load(file: &str) -> Result<Program, Failure> {
         let path = Path::new(file);
-        if file == "-" {
-            let mut bytes = Vec::new();
-            let read = io::stdin().read_to_end(&mut bytes);
-            read.map_err(|error| Failure::File(STANDARD_INPUT.to_string(), error))?;
-            let program = Program::typed(STANDARD_INPUT, bytes)?;
-            return Ok(program.read_from(Source::standard_input()));
-        }
         if path.is_dir() {
             let program = Program::folder(file, files(path)?)?;
             let source = |name: &&str| {
@@ -51,9 +47,8 @@ impl Program {
             };
             return Ok(program.read_from(FILES.iter().filter_map(source)));
         }
-        let bytes = fs::read(path).map_err(|error| Failure::file(path, error))?;
-        let program = Program::typed(file, bytes)?;
-        Ok(program.read_from(Source::named("the graph itself", path)))
+        let (bytes, source) = bytes(file, "the graph itself")?;
+        Ok(Program::typed(label(file), bytes)?.read_from(source))
     }
 
     fn read_from(mut self, sources: impl IntoIterator<Item = Source>) -> Program {
@@ -67,6 +62,9 @@ impl Program {
             let text = format!("{label} is a log\n  `dayomlak replay` takes it behind its graph");
             return Err(Failure::Wrong(text));
         }
+        if saved::is_saved(&bytes) {
+            return Err(Failure::SavedState(label.to_string()));
+        }
         let text = String::from_utf8(bytes).map_err(|error| {
             let place = error.utf8_error().valid_up_to();
             no_text(label, error.as_bytes(), place)
@@ -78,6 +76,7 @@ impl Program {
         match read(&text) {
             Ok(program) => Ok(Program {
                 label: label.to_string(),
+                text_label: label.to_string(),
                 graph: Graph::of(&program.files.graph),
                 files: program.files,
                 sources: Vec::new(),
@@ -99,6 +98,7 @@ impl Program {
         let typed = read(&text).unwrap_or_default();
         Ok(Program {
             label: label.to_string(),
+            text_label: label.to_string(),
             graph: Graph::of(&files.graph),
             files,
             sources: Vec::new(),
@@ -178,6 +178,27 @@ impl Program {
     pub fn input_count(&self) -> usize {
         self.files.inputs.len() / asm::TOKEN_RECORD
     }
+}
+
+/// How messages call what is given.
+pub fn label(file: &str) -> &str {
+    match file {
+        "-" => STANDARD_INPUT,
+        file => file,
+    }
+}
+
+/// The bytes of a file, or of standard input by `-`, and where they come from.
+pub fn bytes(file: &str, words: &str) -> Result<(Vec<u8>, Option<Source>), Failure> {
+    let path = Path::new(file);
+    if file != "-" {
+        let bytes = fs::read(path).map_err(|error| Failure::file(path, error))?;
+        return Ok((bytes, Source::named(words, path)));
+    }
+    let mut bytes = Vec::new();
+    let read = io::stdin().read_to_end(&mut bytes);
+    read.map_err(|error| Failure::File(STANDARD_INPUT.to_string(), error))?;
+    Ok((bytes, Source::standard_input()))
 }
 
 /// A carriage return that ends a line alone, as on old Macs. Where it is read as a space, a comment swallows all that follows.

@@ -84,8 +84,11 @@ pub const TABLE: [Refusal; 21] = [
         "A record of the log names an activity that is not enabled, has no zero byte or is not whole.",
         "Replay a log with the graph and inputs it was made with; `dayomlak log` writes one."),
     refusal(24, "damaged state",
-        "Ledger, cells and counts are not what a run of this graph can have left.",
-        "Carry on with the graph, ledger, cells and counts of the run that was stopped, unchanged."),
+        "Ledger, cells and counts do not meet the conditions for a saved state of this graph: fields and states allowed, a tag and port \
+         once, paths of sites that have an ENTER, a tag's operands all spent or none, no result spent, each deferred token at a cell, \
+         cells waiting exactly where one is deferred, cell values 0 until present, tokens within the capacity, as many firings as tags \
+         with spent operands.",
+        "Carry on with the graph, ledger, cells and counts as a run left them; `dayomlak show` names the token that breaks a condition."),
     refusal(25, "bad expression",
         "An expression is not 1 to 100 records of 8 bytes; or a record has a bad field, names a record that is not before it or that \
          was named already; or one that is not the last is never named.",

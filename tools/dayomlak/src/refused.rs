@@ -67,6 +67,8 @@ fn at_once(program: &Program, number: u16, answer: &Answer, sizes: Sizes) -> Fin
                 count(sizes.capacity, "record")
             )),
         9 => second_input(program, place, finding),
+        // Which condition is broken, only the saved state says.
+        24 => finding,
         1 if program.files.graph.is_empty() => finding.note(program.emptiness()),
         1 if program.graph.instructions.len() > MOST_INSTRUCTIONS => {
             too_many(program, finding).note(meaning)

@@ -12,8 +12,11 @@ const SHOWN: usize = 8;
 
 /// Results, tokens that wait and cells, a line each. What the run itself wrote comes before what inputs alone wrote, and
 /// the cells of lines such as `cell 3 = 7` are only counted: they hold what was typed. The tokens are those of the
-/// listing, so that equal listings give equal lines.
+/// listing, so that equal listings give equal lines. A run that did not begin left nothing.
 pub fn lines(program: &Program, end: &End) -> Vec<String> {
+    if end.answer.refused_at_once() {
+        return Vec::new();
+    }
     let tokens = records::tokens(&end.listing());
     let left: Vec<&Token> = tokens.iter().filter(|t| t.state != State::Spent).collect();
     let results = left.iter().filter(|token| is_result(program, token));
@@ -30,12 +33,13 @@ pub fn lines(program: &Program, end: &End) -> Vec<String> {
         // Some of them may be enabled: they are under way and do not wait.
         lines.push(format!("({} under way)", count(others.len(), "token")));
     }
-    lines.extend(cell_lines(program, end, &tokens));
+    lines.extend(cell_lines(program, end));
     lines
 }
 
-fn cell_lines(program: &Program, end: &End, tokens: &[Token]) -> Vec<String> {
-    let loaded = Loads::of(program).done(tokens);
+/// The cells that are not absent, a line each.
+pub fn cell_lines(program: &Program, end: &End) -> Vec<String> {
+    let loaded = Loads::of(program).done(&end.tokens());
     let is_typed = |cell: i32| {
         let store = loaded.get(&cell);
         store.is_some_and(|store| program.is_cell_line(*store))

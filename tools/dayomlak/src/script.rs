@@ -107,9 +107,10 @@ pub fn left(program: &Program, end: &End) -> Fields {
     let (results, others): (Vec<&Token>, Vec<&Token>) =
         unspent.partition(|t| results::is_result(program, t));
     let all = |tokens: Vec<&Token>| list(tokens.into_iter().map(|t| token(program, t)));
-    let cells = (0..)
-        .zip(end.cells())
-        .filter_map(|(number, c)| cell(number, c));
+    // What a run that did not begin was lent is nothing that it left.
+    let begun = !end.answer.refused_at_once();
+    let cells = (0..).zip(end.cells()).filter(|_| begun);
+    let cells = cells.filter_map(|(number, c)| cell(number, c));
     vec![
         ("results", all(results)),
         ("left", all(others)),

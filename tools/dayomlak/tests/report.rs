@@ -310,8 +310,12 @@ fn refused_before_any_firing() {
         assert!(done.out.contains(words), "{done:?}");
         stands_alone(&page);
         assert!(between(&page, "<pre id=\"refusal\">", "</pre>").contains(words));
-        let empty = "{\"firings\":[],\"refused\":null,\"tokens\":[],\"cells\":[],\"steps\":[]";
-        assert_eq!(data(&page), format!("{empty},\"fault\":\"{fault}\"}}"));
+        let empty = "\"firings\":[],\"refused\":null,\"tokens\":[],\"cells\":[],\"steps\":[]";
+        let start = "{\"before\":0,\"carriedOn\":false";
+        assert_eq!(
+            data(&page),
+            format!("{start},{empty},\"fault\":\"{fault}\"}}")
+        );
         assert!(page.contains("<svg"));
     }
 }

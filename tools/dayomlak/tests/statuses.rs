@@ -7,8 +7,10 @@ use std::process::Stdio;
 
 use common::{command, dayomlak, done, typed, Folder};
 
-const COMMANDS: [&str; 17] = [
+const COMMANDS: [&str; 19] = [
     "run",
+    "carry-on",
+    "show",
     "check",
     "compare",
     "trace",
@@ -69,6 +71,9 @@ fn wrong_command_lines() {
         &["run", "-", "--cells", "1025"],
         &["run", "-", "--budget", "65536"],
         &["log", "-"],
+        &["carry-on"],
+        &["carry-on", "x", "--capacity", "3"],
+        &["show", "x", "--json", "--text"],
         &["explain", "x"],
     ];
     for arguments in wrong {
@@ -81,7 +86,7 @@ fn wrong_command_lines() {
 #[test]
 fn files_that_cannot_be_read() {
     for name in [
-        "run", "check", "compare", "trace", "profile", "draw", "disasm",
+        "run", "carry-on", "show", "check", "compare", "trace", "profile", "draw", "disasm",
     ] {
         let done = dayomlak(&[name, "no/such/file"]);
         assert_eq!((done.status, &done.out[..]), (3, ""), "{name}");

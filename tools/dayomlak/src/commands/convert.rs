@@ -8,7 +8,7 @@ use crate::cli::{Convert, Kind};
 use crate::failure::{self, Failure};
 use crate::forms::{self, Doubt, Form, Reason};
 use crate::output::Target;
-use crate::{log_file, program};
+use crate::{log_file, program, saved};
 
 /// A file that is to be written, and what is said of it.
 struct Written {
@@ -117,6 +117,8 @@ fn file(args: &Convert, old: &Path, new: &Path, known: &[Form]) -> Result<Writte
 fn without_old_records(old: &Path, bytes: &[u8]) -> Option<&'static str> {
     if bytes.starts_with(log_file::START.as_bytes()) {
         Some("a log that names its run: its records are new ones")
+    } else if saved::is_saved(bytes) {
+        Some("a saved state: its records are new ones")
     } else if old.extension().is_some_and(|word| word == "ttda") {
         Some("a typed graph: it has no records")
     } else {

@@ -14,7 +14,7 @@ use crate::machine::{End, Machine, Sizes};
 use crate::output::{self, Target};
 use crate::program::Program;
 use crate::records::{Tag, LOGGED};
-use crate::{forms, refused};
+use crate::{forms, refused, saved};
 
 pub fn log(args: &Log) -> Result<u8, Failure> {
     let program = load(&args.file.file)?;
@@ -38,6 +38,13 @@ pub fn log(args: &Log) -> Result<u8, Failure> {
 pub fn replay(args: &Replay) -> Result<u8, Failure> {
     let program = load(&args.file.file)?;
     let log = fs::read(&args.log).map_err(|error| Failure::file(&args.log, error))?;
+    if saved::is_saved(&log) {
+        let text = format!(
+            "{} is a saved state, and no log\n  `dayomlak carry-on` goes on from it",
+            args.log.display()
+        );
+        return Err(Failure::Wrong(text));
+    }
     let log = LogFile::decode(&log);
     let log = log.map_err(|text| Failure::Wrong(format!("{}: {text}", args.log.display())))?;
     let machine = Machine::new(&program, args.buffers.sizes());

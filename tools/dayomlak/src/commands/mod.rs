@@ -12,28 +12,40 @@ pub mod logs;
 pub mod profile;
 pub mod report;
 pub mod run;
+pub mod saved;
 pub mod trace;
 
-use crate::diagnostics;
+use crate::answer::Word;
+use crate::diagnostics::{self, Finding};
 use crate::failure::{self, Failure};
 use crate::machine::{End, Machine};
 use crate::program::Program;
+use crate::saved::conditions;
 use crate::script::{self, Fields};
 use crate::{json, refused, results, warnings};
 
 /// Loads a program and shows its warnings.
 fn load(file: &str) -> Result<Program, Failure> {
     let program = Program::load(file)?;
-    diagnostics::complain(&program.label, &program.text, &warnings::of(&program));
+    diagnostics::complain(&program.text_label, &program.text, &warnings::of(&program));
     Ok(program)
 }
 
 /// The answer of a run in words: why it was refused, or its first line.
 pub fn answer(machine: &Machine, end: &End, order: &str) -> String {
     let program = machine.program;
-    match refused::explain(program, end, machine.sizes, order) {
-        Some(finding) => diagnostics::plain(&program.label, &program.text, &[finding]),
+    match refusal(machine, end, order) {
+        Some(finding) => diagnostics::plain(&program.text_label, &program.text, &[finding]),
         None => results::headline(end, order) + "\n",
+    }
+}
+
+/// Why a run was refused; `None` for another one.
+fn refusal(machine: &Machine, end: &End, order: &str) -> Option<Finding> {
+    let finding = refused::explain(machine.program, end, machine.sizes, order)?;
+    match end.answer.word {
+        Word::Refused(24) => Some(conditions::explain(finding, machine)),
+        _ => Some(finding),
     }
 }
 
@@ -51,7 +63,7 @@ fn left(machine: &Machine, end: &End) -> String {
 /// How a run ended, for scripts: its order and answer, why it was refused, and what it left.
 fn ended(machine: &Machine, end: &End, order: &str) -> Fields {
     let program = machine.program;
-    let refused = refused::explain(program, end, machine.sizes, order);
+    let refused = refusal(machine, end, order);
     let refused = refused.map(|finding| script::finding(&program.text, &finding));
     let mut fields = vec![
         ("order", json::string(order)),

@@ -2,45 +2,47 @@
 
 use std::ops::Range;
 
-use super::{answer, ended, load, status};
+use super::{answer, ended, saved, status};
+use crate::beginning::Beginning;
 use crate::cli::Trace;
 use crate::failure::Failure;
 use crate::history::{Firing, History, Touch};
 use crate::json::{list, object, string};
-use crate::machine::Machine;
 use crate::program::Program;
 use crate::{effects, output, script};
 
 pub fn trace(args: &Trace) -> Result<u8, Failure> {
-    let program = load(&args.file.file)?;
-    let machine = Machine::new(&program, args.buffers.sizes());
+    let beginning = Beginning::load(&args.file.file, &args.buffers)?;
+    let (program, machine) = (&beginning.program, beginning.machine());
     let picks = args.firing.order.picks(&machine)?;
-    let (end, log) = machine.run_logged(&picks, args.firing.budget);
-    let order = args.firing.order.words(!program.files.picks.is_empty());
+    let (end, log) = machine.run_traced(&picks, args.firing.budget)?;
+    let order = beginning.order(args.firing.order, &end);
     let history = match end.answer.refused_at_once() {
         true => History::default(),
         false => History::of(&machine, &end, &log)?,
     };
-    let shown = shown(args, history.firings.len());
+    let shown = shown(args, &history);
     if args.form.script.json {
-        let firings = shown.map(|number| json(&program, &history, number));
+        let firings = shown.map(|number| json(program, &history, number));
         let mut fields = script::lent(&machine);
         fields.push(("budget", args.firing.budget.to_string()));
+        fields.extend(saved::from(&machine));
         fields.push(("trace", list(firings)));
         fields.extend(ended(&machine, &end, &order));
-        script::print("trace", &program, fields)?;
+        script::print("trace", program, fields)?;
     } else if args.form.csv {
-        output::print(csv(&program, &history, shown).as_bytes())?;
+        output::print(csv(program, &history, shown).as_bytes())?;
     } else {
-        let text = lines(&program, &history, shown) + &answer(&machine, &end, &order);
+        let text = lines(program, &history, shown) + &answer(&machine, &end, &order);
         output::print(text.as_bytes())?;
     }
     Ok(status(&end))
 }
 
-/// The firings that are asked for, of so many.
-fn shown(args: &Trace, firings: usize) -> Range<usize> {
-    let first = args.from.saturating_sub(1).min(firings);
+/// The firings that are asked for. They are counted from the inputs, and a saved state has some of them behind it.
+fn shown(args: &Trace, history: &History) -> Range<usize> {
+    let firings = history.firings.len();
+    let first = args.from.saturating_sub(1 + history.before).min(firings);
     let last = args
         .count
         .map_or(firings, |count| first.saturating_add(count));
@@ -65,7 +67,7 @@ fn json(program: &Program, history: &History, number: usize) -> String {
     };
     let operation = program.graph.get(firing.tag.instruction).map(|i| i.words());
     object(&[
-        ("firing", (number + 1).to_string()),
+        ("firing", (history.before + number + 1).to_string()),
         ("name", string(&program.tag(&firing.tag))),
         ("path", string(&firing.tag.path.to_string())),
         ("iteration", firing.tag.iteration.to_string()),
@@ -135,7 +137,7 @@ fn lines(program: &Program, history: &History, shown: Range<usize>) -> String {
 fn columns(program: &Program, history: &History, number: usize, firing: &Firing) -> [String; 4] {
     let instruction = program.graph.get(firing.tag.instruction);
     [
-        (number + 1).to_string(),
+        (history.before + number + 1).to_string(),
         program.tag(&firing.tag),
         instruction.map_or(String::new(), |i| i.words()),
         effects::operands(history, firing),

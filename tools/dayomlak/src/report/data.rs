@@ -31,6 +31,8 @@ pub fn of(run: &Run, drawing: &Drawing, steps: &Steps) -> Result<String, Failure
         }
     };
     Ok(object(&[
+        ("before", run.machine.given().0.to_string()),
+        ("carriedOn", run.machine.start.is_some().to_string()),
         ("firings", firings),
         ("refused", refused),
         ("tokens", tokens),
@@ -58,6 +60,7 @@ struct Data<'d> {
     program: &'d Program,
     drawing: &'d Drawing<'d>,
     steps: &'d Steps,
+    is_carried_on: bool,
     history: History,
     states: States,
 }
@@ -68,6 +71,7 @@ impl<'d> Data<'d> {
             program: run.machine.program,
             drawing,
             steps,
+            is_carried_on: run.machine.start.is_some(),
             history: History::of(run.machine, &run.end, &run.log)?,
             states: States::of(run.machine, &run.picks, &run.end)?,
         })
@@ -150,8 +154,12 @@ impl<'d> Data<'d> {
     /// The arc that each token came by, by place; inputs come first.
     fn arcs(&self) -> Vec<String> {
         let tokens = &self.history.tokens;
-        let inputs = tokens[..self.history.inputs].iter().enumerate();
-        let inputs = inputs.map(|(number, t)| self.drawing.input_id(number, t.tag.instruction));
+        let given = tokens[..self.history.given].iter().enumerate();
+        // How a token of a saved state came there is not known.
+        let inputs = given.map(|(number, t)| match self.is_carried_on {
+            false => self.drawing.input_id(number, t.tag.instruction),
+            true => String::new(),
+        });
         let sent = self.history.firings.iter().flat_map(|firing| {
             let outputs = firing.outputs.clone();
             outputs.map(move |place| self.arc(firing, &tokens[place]))

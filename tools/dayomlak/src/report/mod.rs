@@ -7,6 +7,7 @@ mod states;
 mod steps;
 
 use crate::answer::{count, Word};
+use crate::beginning::Beginning;
 use crate::cli::Firing;
 use crate::commands;
 use crate::failure::Failure;
@@ -27,6 +28,8 @@ const SCRIPT: &str = include_str!("page.js");
 /// No run takes more instructions, nor more inputs: two ports each.
 const MOST_INSTRUCTIONS: usize = 256;
 const MOST_INPUTS: usize = 512;
+/// The profile is of a run from its inputs.
+const NO_PROFILE: &str = "None: this page begins at a saved state, and a profile at the inputs";
 
 /// What a page is of.
 pub struct Run<'m> {
@@ -40,13 +43,18 @@ pub struct Run<'m> {
 }
 
 impl<'m> Run<'m> {
-    pub fn of(machine: &'m Machine, firing: &Firing) -> Result<Run<'m>, Failure> {
+    pub fn of(
+        beginning: &Beginning,
+        machine: &'m Machine,
+        firing: &Firing,
+    ) -> Result<Run<'m>, Failure> {
         let picks = firing.order.picks(machine)?;
-        let (end, log) = machine.run_logged(&picks, firing.budget);
+        let (end, log) = machine.run_traced(&picks, firing.budget)?;
+        let order = beginning.order(firing.order, &end);
         Ok(Run {
             machine,
             end,
-            order: firing.order.words(!machine.program.files.picks.is_empty()),
+            order,
             budget: firing.budget,
             picks,
             log,
@@ -62,7 +70,7 @@ impl<'m> Run<'m> {
         let inputs = count(program.input_count(), "input");
         let buffers = format!("{} records, {} cells", sizes.capacity, sizes.cells);
         let engine = concat!(env!("CARGO_PKG_VERSION"), ", engine ", env!("ENGINE"));
-        vec![
+        let mut facts = vec![
             (
                 "Graph and inputs",
                 format!("{fingerprint} ({instructions}, {inputs})"),
@@ -71,7 +79,12 @@ impl<'m> Run<'m> {
             ("Lent", format!("{buffers}, budget {}", self.budget)),
             ("Date", plotter::date(plotter::now())),
             ("Made by", format!("dayomlak {engine}")),
-        ]
+        ];
+        if let (Some(_), (firings, tokens)) = (self.machine.start, self.machine.given()) {
+            let (firings, tokens) = (count(firings, "firing"), count(tokens, "token"));
+            facts.insert(1, ("Carried on from", format!("{firings}, {tokens}")));
+        }
+        facts
     }
 
     /// Why it was refused, with the place in the text.
@@ -103,7 +116,10 @@ pub fn page(run: &Run) -> Result<String, Failure> {
         lines if lines.is_empty() => "nothing".to_string(),
         lines => lines.join("\n"),
     };
-    let profile = profiles::words(program, &steps.whole, &steps.answer).join("; ");
+    let profile = match run.machine.start {
+        None => profiles::words(program, &steps.whole, &steps.answer).join("; "),
+        Some(_) => NO_PROFILE.to_string(),
+    };
     let kind = run.end.answer.words();
     let kind = kind.split(' ').next().unwrap_or_default().to_string();
     let parts = [

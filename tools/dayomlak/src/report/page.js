@@ -82,13 +82,16 @@ function showFiring(state) {
 
 // The number and the name stand out.
 function firingWords({ firing, position, refused }) {
-  const done = data.firings.length;
+  // A page of a saved state has firings behind it.
+  const done = data.before + data.firings.length;
+  const number = data.before + position;
   if (refused) {
     const words = breakable(` is ${firing.words}. This is the state that it found.`);
-    return [strong(`Firing ${position}: ${firing.name}`), ...words];
+    return [strong(`Firing ${number}: ${firing.name}`), ...words];
   }
-  if (firing) return [strong(`Firing ${position} of ${done}: ${firing.name}`), ...breakable(`, ${firing.words}`)];
+  if (firing) return [strong(`Firing ${number} of ${done}: ${firing.name}`), ...breakable(`, ${firing.words}`)];
   if (data.tokens.length === 0) return [nothing()];
+  if (data.carriedOn) return [`The saved state, after ${plural(data.before, 'firing')}, before the next`];
   return [`The inputs, before the first of ${plural(done, 'firing')}`];
 }
 
@@ -156,7 +159,8 @@ function cellRow(cell, reads) {
 // A deferred token, and the FETCH that sent it when it arrived.
 function readWords(token) {
   const [arrival] = token.changes[0];
-  return `${data.firings[arrival - 1].name} → ${token.name}`;
+  // Who sent what a saved state has is not known.
+  return arrival === 0 ? token.name : `${data.firings[arrival - 1].name} → ${token.name}`;
 }
 
 // The first words, and how many more there are.
@@ -338,7 +342,7 @@ function showStep({ firing, refused }) {
 }
 
 function stepWords(firing, refused) {
-  if (!firing) return '';
+  if (!firing || data.carriedOn) return '';
   const record = data.steps[firing.step - 1];
   if (refused && !record) return 'The refused firing is in no whole step.';
   if (!firing.step) return 'The profile was refused before it came to this activity.';
@@ -378,12 +382,12 @@ function show(wanted) {
 // Where a user goes stands in the address, so that it can be passed on.
 function go(wanted) {
   show(wanted);
-  history.replaceState(null, '', `#firing=${position}`);
+  history.replaceState(null, '', `#firing=${data.before + position}`);
 }
 
 function fromAddress() {
   const match = /^#firing=(\d+)$/.exec(location.hash);
-  show(match ? Number(match[1]) : 0);
+  show(match ? Number(match[1]) - data.before : 0);
 }
 
 let timer = null;

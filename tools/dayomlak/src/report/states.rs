@@ -19,11 +19,11 @@ pub struct States {
 }
 
 impl States {
-    /// The states of a run under picks that was not refused before its inputs were written.
+    /// The states of a run under picks that was not refused before its first firing.
     pub fn of(machine: &Machine, picks: &[u8], end: &End) -> Result<States, Failure> {
         let mut states = States::default();
         let mut last = None;
-        for firings in 0..=end.answer.firings {
+        for firings in 0..=end.answer.firings - machine.given().0 {
             let state = machine.run(picks, firings as u16);
             states.add(firings, &state);
             last = Some(state);

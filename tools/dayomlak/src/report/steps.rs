@@ -10,7 +10,7 @@ use crate::machine::{End, Machine};
 use crate::records::{State, Tag};
 
 pub struct Steps {
-    /// The answer of the profile, which takes no picks and no budget.
+    /// The answer of the profile, which takes no picks and no budget, or of a saved state, which has none.
     pub answer: Answer,
     /// The whole steps.
     pub whole: Vec<Step>,
@@ -19,8 +19,15 @@ pub struct Steps {
 
 impl Steps {
     pub fn new(machine: &Machine) -> Steps {
-        let (end, whole) = machine.profile();
         let mut of = HashMap::new();
+        if machine.start.is_some() {
+            return Steps {
+                answer: machine.run(&[], 0).answer,
+                whole: Vec::new(),
+                of,
+            };
+        }
+        let (end, whole) = machine.profile();
         for step in 1..=whole.len() {
             let (state, _) = machine.profile_within(step);
             add(&mut of, step, &state);
