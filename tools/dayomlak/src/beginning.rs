@@ -12,6 +12,7 @@ use crate::program::{self, Program};
 use crate::saved::conditions;
 use crate::saved::file::SavedFile;
 use crate::saved::{self, State};
+use crate::sources::Source;
 use crate::warnings;
 
 pub struct Beginning {
@@ -34,9 +35,16 @@ impl Beginning {
             return Ok(Beginning::at_inputs(program, buffers.sizes()));
         }
         if buffers.are_chosen() {
-            let text = format!("{label} is a saved state, which has a capacity and cells of its own\n  leave out --capacity and --cells");
-            return Err(Failure::Wrong(text));
+            let text =
+                format!("{label} is a saved state, which has a capacity and cells of its own");
+            return Err(Failure::Wrong(
+                text + "\n  leave out --capacity and --cells",
+            ));
         }
+        let source = match file {
+            "-" => source,
+            file => Source::named(saved::ITSELF, Path::new(file)),
+        };
         Beginning::at_state(saved::decode(label, &bytes, source)?)
     }
 

@@ -50,8 +50,8 @@ fn main() -> ExitCode {
     let command = Cli::parse().command;
     let result = match &command {
         Command::Run(args) => commands::run::run(args),
-        Command::CarryOn(args) => commands::saved::carry_on(args),
-        Command::Show(args) => commands::saved::show(args),
+        Command::CarryOn(args) => commands::run::carry_on(args),
+        Command::Show(args) => commands::show::show(args),
         Command::Check(args) => commands::check::check(args),
         Command::Compare(args) => commands::compare::compare(args),
         Command::Trace(args) => commands::trace::trace(args),

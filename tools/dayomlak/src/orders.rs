@@ -101,3 +101,20 @@ fn random(seed: u64) -> Vec<u8> {
     });
     bytes(picks.take(MOST_RECORDS))
 }
+
+#[cfg(test)]
+mod tests {
+    use super::*;
+
+    #[test]
+    fn the_orders_of_parts() {
+        assert_eq!(joined("oldest first", 0, "newest first"), "newest first");
+        assert_eq!(joined("oldest first", 5, "oldest first"), "oldest first");
+        let two = joined("oldest first", 5, "newest first");
+        assert_eq!(two, "oldest first, then newest first from firing 6 on");
+        assert_eq!(joined(&two, 9, "newest first"), two);
+        let three =
+            "oldest first, then newest first from firing 6 on, then oldest first from firing 10 on";
+        assert_eq!(joined(&two, 9, "oldest first"), three);
+    }
+}

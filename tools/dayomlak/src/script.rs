@@ -100,6 +100,16 @@ pub fn lent(machine: &Machine) -> Fields {
     ]
 }
 
+/// The counts of the saved state that a run went on from, if it did.
+pub fn from(machine: &Machine) -> Option<(&'static str, String)> {
+    let (firings, tokens) = machine.given();
+    let counts = [
+        ("firings", firings.to_string()),
+        ("tokens", tokens.to_string()),
+    ];
+    machine.start.map(|_| ("from", object(&counts)))
+}
+
 /// Results, tokens that are neither results nor spent, and cells that are not absent.
 pub fn left(program: &Program, end: &End) -> Fields {
     let tokens = records::tokens(&end.listing());

@@ -541,7 +541,7 @@ fn damage_is_named() {
 type Edit = (&'static str, fn(&mut Edited));
 
 /// Files whose checksums are right and whose contents do not fit together, or are of another program.
-const UNFIT: [Edit; 6] = [
+const UNFIT: [Edit; 7] = [
     (
         "its head says 7 tokens of 28 bytes, and it has 168 bytes of them",
         |e| e.set("tokens", "7"),
@@ -552,6 +552,9 @@ const UNFIT: [Edit; 6] = [
     ),
     ("its text is not the text of its graph", |e| {
         e.parts[1][0] = 2
+    }),
+    ("its text is not the text of its graph", |e| {
+        e.parts[0] = e.bytes()
     }),
     (
         "it has a loop bound or named arrays, which this program does not know: use a newer one",
@@ -753,4 +756,66 @@ fn a_folder_is_saved_by_its_text() {
         dayomlak(&["show", &part, "--text"]).out,
         dayomlak(&["disasm", &files]).out
     );
+}
+
+/// What the documents show is what comes.
+#[test]
+fn the_documents_are_true() {
+    let folder = Folder::new();
+    let part = folder.path("sum.saved");
+    let (run, bytes) = saved(&["run", VECTOR_SUM, "--budget", "30"], &part);
+    let document =
+        |name: &str| fs::read_to_string(format!("{}/docs/{name}", common::ROOT)).unwrap();
+    let indented = |text: &str| {
+        text.lines()
+            .map(|line| format!("    {line}\n"))
+            .collect::<String>()
+    };
+    let head = bytes.len() - Edited::of(&bytes).parts.iter().map(Vec::len).sum::<usize>();
+    assert!(document("FORMATS.md").contains(&indented(&String::from_utf8_lossy(&bytes[..head]))));
+    let shown = [
+        run,
+        dayomlak(&["show", &part]),
+        dayomlak(&["carry-on", &part]),
+    ];
+    for done in shown {
+        assert!(
+            document("SAVED.md").contains(&indented(&done.out)),
+            "{done:?}"
+        );
+    }
+    let mut damaged = bytes.clone();
+    damaged[head + 1051 + 368] ^= 1;
+    let damaged = dayomlak(&["show", &folder.write("damaged", damaged)]);
+    let words = damaged.err.replace(&folder.path("damaged"), "sum.saved");
+    assert!(document("SAVED.md").contains(&indented(&words)), "{words}");
+    let expected = fs::read_to_string(format!(
+        "{}/tools/dayomlak/tests/expected/saved/damaged_state",
+        common::ROOT
+    ))
+    .unwrap();
+    let refused = expected.split("\n\n").next().unwrap();
+    assert!(document("SAVED.md").contains(&indented(refused)));
+}
+
+/// The page of a damaged state says why, and none is written over a state.
+#[test]
+fn the_page_of_a_damaged_state() {
+    let folder = Folder::new();
+    let mut edited = Edited::deferred(&folder);
+    *edited.token(1, 24) = 1;
+    let (file, page) = (folder.write("damaged", edited.bytes()), folder.path("page"));
+    let done = dayomlak(&["report", &file, "-o", &page]);
+    assert_eq!(done.status, 1);
+    let page = fs::read_to_string(page).unwrap();
+    assert!(page.contains("= a result is never spent: token 1, `other[0]`, is spent\n"));
+    assert!(page.contains("\"firings\":[],\"refused\":null,\"tokens\":[],\"cells\":[]"));
+    let done = dayomlak(&["report", &file, "-o", &file]);
+    assert_eq!((&done.out[..], done.status), ("", 2));
+    assert!(
+        done.err
+            .contains("is the saved state itself, which would be overwritten"),
+        "{done:?}"
+    );
+    assert_eq!(fs::read(&file).unwrap(), edited.bytes());
 }

@@ -12,7 +12,7 @@ pub mod logs;
 pub mod profile;
 pub mod report;
 pub mod run;
-pub mod saved;
+pub mod show;
 pub mod trace;
 
 use crate::answer::Word;

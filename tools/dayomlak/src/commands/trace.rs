@@ -2,7 +2,7 @@
 
 use std::ops::Range;
 
-use super::{answer, ended, saved, status};
+use super::{answer, ended, status};
 use crate::beginning::Beginning;
 use crate::cli::Trace;
 use crate::failure::Failure;
@@ -26,7 +26,7 @@ pub fn trace(args: &Trace) -> Result<u8, Failure> {
         let firings = shown.map(|number| json(program, &history, number));
         let mut fields = script::lent(&machine);
         fields.push(("budget", args.firing.budget.to_string()));
-        fields.extend(saved::from(&machine));
+        fields.extend(script::from(&machine));
         fields.push(("trace", list(firings)));
         fields.extend(ended(&machine, &end, &order));
         script::print("trace", program, fields)?;

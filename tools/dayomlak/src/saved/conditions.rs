@@ -110,13 +110,8 @@ fn whole(rule: &'static str, words: String) -> Broken {
 }
 
 /// Of a token, by its place and name.
-fn of_token(
-    program: &Program,
-    rule: &'static str,
-    place: usize,
-    token: &Token,
-    words: String,
-) -> Broken {
+fn of_token(program: &Program, rule: &'static str, at: (usize, &Token), words: String) -> Broken {
+    let (place, token) = at;
     let name = program.port(&token.tag, token.port);
     Broken {
         rule,
@@ -134,7 +129,7 @@ fn bad_token(program: &Program, state: &State) -> Option<Broken> {
         .zip(&tokens)
         .find_map(|((place, record), token)| {
             let words = bad_fields(program, record, token)?;
-            Some(of_token(program, FIELDS, place, token, words))
+            Some(of_token(program, FIELDS, (place, token), words))
         })
 }
 
@@ -196,7 +191,7 @@ impl<'p> Look<'p> {
         let mut tokens = self.tokens.iter().enumerate();
         tokens.find_map(|(place, token)| {
             let words = fault(place, token)?;
-            Some(of_token(self.program, rule, place, token, words))
+            Some(of_token(self.program, rule, (place, token), words))
         })
     }
 

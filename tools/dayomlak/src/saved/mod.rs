@@ -39,6 +39,9 @@ impl State {
     }
 }
 
+/// What the file is to whoever would write over it.
+pub const ITSELF: &str = "the saved state itself";
+
 /// Whether bytes are those of a saved state, whole or damaged.
 pub fn is_saved(bytes: &[u8]) -> bool {
     bytes.starts_with(file::START.as_bytes())
@@ -46,7 +49,7 @@ pub fn is_saved(bytes: &[u8]) -> bool {
 
 /// Reads a saved state by its name, or `-` from standard input.
 pub fn read(name: &str) -> Result<(Program, SavedFile), Failure> {
-    let (bytes, source) = program::bytes(name, "the saved state itself")?;
+    let (bytes, source) = program::bytes(name, ITSELF)?;
     if !is_saved(&bytes) {
         let label = program::label(name);
         let text =
@@ -64,9 +67,13 @@ pub fn decode(
 ) -> Result<(Program, SavedFile), Failure> {
     let wrong = |text: String| Failure::Wrong(format!("{label}: {text}"));
     let saved = SavedFile::decode(bytes).map_err(wrong)?;
-    let mut program = Program::typed(&format!("text in {label}"), saved.text.clone())?;
+    let no_graph = || wrong("its text is not the text of its graph".to_string());
+    let mut program = match Program::typed(&format!("text in {label}"), saved.text.clone()) {
+        Err(Failure::SavedState(_)) => return Err(no_graph()),
+        program => program?,
+    };
     if program.files.graph != saved.graph {
-        return Err(wrong("its text is not the text of its graph".to_string()));
+        return Err(no_graph());
     }
     program.label = label.to_string();
     program.sources.extend(source);

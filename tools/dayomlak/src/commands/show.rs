@@ -1,127 +1,18 @@
-//! `dayomlak carry-on` and `dayomlak show`, and what `--save` writes.
+//! `dayomlak show`.
 
-use std::path::Path;
-
-use super::{answer, ended, status, summary};
+use super::{answer, ended};
 use crate::answer::Word;
 use crate::beginning::Beginning;
-use crate::cli::{CarryOn, Show};
+use crate::cli::Show;
 use crate::failure::{self, Failure};
 use crate::json::{list, object, string};
-use crate::machine::{End, Machine};
-use crate::output::{self, Target};
+use crate::machine::End;
+use crate::output;
 use crate::program::Program;
 use crate::records::{State, Tag, Token};
 use crate::saved::view::View;
 use crate::script::{self, Fields};
 use crate::{activity::Activity, pictures, results};
-
-/// How a command prints what it says.
-#[derive(Clone, Copy, PartialEq, Eq)]
-pub enum Form {
-    Words,
-    Json,
-    Listing,
-}
-
-impl Form {
-    pub fn of(json: bool, listing: bool) -> Form {
-        match (json, listing) {
-            (true, _) => Form::Json,
-            (_, true) => Form::Listing,
-            _ => Form::Words,
-        }
-    }
-}
-
-/// Where `--save` writes. Standard output has room for one thing.
-pub fn target(
-    path: Option<&Path>,
-    program: &Program,
-    form: Form,
-) -> Result<Option<Target>, Failure> {
-    let Some(path) = path else {
-        return Ok(None);
-    };
-    match Target::new(path, &program.sources)? {
-        Target::Standard if form != Form::Words => Err(Failure::Wrong(
-            "--save - goes to standard output, and so do --json and --listing\n  name a file"
-                .to_string(),
-        )),
-        target => Ok(Some(target)),
-    }
-}
-
-/// A run that has ended, with what is asked to be made of it.
-pub struct Ended<'b> {
-    pub command: &'static str,
-    pub beginning: &'b Beginning,
-    pub end: End,
-    pub order: String,
-    pub budget: u16,
-}
-
-impl Ended<'_> {
-    /// Saves what the run left, if that is asked for, and prints its answer.
-    pub fn finish(&self, target: Option<&Target>, form: Form) -> Result<u8, Failure> {
-        let begun = !self.end.answer.refused_at_once();
-        if let (Some(target), true) = (target, begun) {
-            target.write(&self.beginning.save(&self.order, &self.end).encode())?;
-        }
-        match form {
-            Form::Json => script::print(self.command, &self.beginning.program, self.fields())?,
-            Form::Listing => output::print(&self.end.text()?)?,
-            Form::Words => {
-                let mut text = summary(&self.beginning.machine(), &self.end, &self.order);
-                if target.is_some() && !begun {
-                    text += "nothing is saved: the run did not begin\n";
-                }
-                match target {
-                    Some(target) => target.say(&text)?,
-                    None => output::print(text.as_bytes())?,
-                }
-            }
-        }
-        Ok(status(&self.end))
-    }
-
-    fn fields(&self) -> Fields {
-        let machine = self.beginning.machine();
-        let mut fields = script::lent(&machine);
-        fields.push(("budget", self.budget.to_string()));
-        fields.extend(from(&machine));
-        fields.extend(ended(&machine, &self.end, &self.order));
-        fields
-    }
-}
-
-/// The counts of a saved state that a run went on from, for scripts.
-pub fn from(machine: &Machine) -> Option<(&'static str, String)> {
-    let (firings, tokens) = machine.given();
-    let counts = [
-        ("firings", firings.to_string()),
-        ("tokens", tokens.to_string()),
-    ];
-    machine.start.map(|_| ("from", object(&counts)))
-}
-
-pub fn carry_on(args: &CarryOn) -> Result<u8, Failure> {
-    let beginning = Beginning::load_saved(&args.file)?;
-    let form = Form::of(args.script.json, args.listing);
-    let target = target(args.save.as_deref(), &beginning.program, form)?;
-    let machine = beginning.machine();
-    let picks = args.order.picks(&machine)?;
-    let end = machine.run(&picks, args.budget);
-    let order = beginning.order(args.order, &end);
-    let ended = Ended {
-        command: "carry-on",
-        beginning: &beginning,
-        end,
-        order,
-        budget: args.budget,
-    };
-    ended.finish(target.as_ref(), form)
-}
 
 /// Nothing is fired: the status says whether the state is taken.
 pub fn show(args: &Show) -> Result<u8, Failure> {
@@ -161,7 +52,7 @@ fn fields(beginning: &Beginning, end: &End, view: &View) -> Fields {
         ])
     });
     let mut fields = script::lent(&machine);
-    fields.extend(from(&machine));
+    fields.extend(script::from(&machine));
     fields.extend(ended(&machine, end, order));
     fields.push(("enabled", list(enabled)));
     fields.push(("waiting", tokens(&view.waiting)));
