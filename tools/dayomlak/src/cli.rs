@@ -15,8 +15,8 @@ use crate::records::{MOST_CELLS, MOST_RECORDS};
 #[command(name = "dayomlak", version, propagate_version = true)]
 #[command(
     after_help = "FILE is a typed graph (.ttda), a folder with the files graph, inputs and picks, or - for standard \
-    input.\nExit status: 0 completed; 1 hung, spent or refused; 2 a wrong command line, text or log; 3 a file that \
-    cannot be read or written.\n\nTry: dayomlak run sum.ttda"
+    input; trace and report take a saved run too.\nExit status: 0 completed; 1 hung, spent or refused; 2 a wrong command \
+    line, text or log, or a damaged file; 3 a file that cannot be read or written.\n\nTry: dayomlak run sum.ttda"
 )]
 pub struct Cli {
     #[command(subcommand)]
