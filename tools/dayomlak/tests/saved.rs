@@ -119,6 +119,10 @@ fn parts_in_several_orders() {
     let done = dayomlak(&["carry-on", &c, "--order", "random:7"]);
     let words = "completed: 67 firings, 89 tokens, oldest first, then newest first from firing 31 on, then in random order 7 from firing 41 on\n";
     assert!(done.out.starts_with(words), "{done:?}");
+    // One firing is enough to be named.
+    let done = dayomlak(&["carry-on", &a, "--order", "newest", "--budget", "1"]);
+    let words = "spent: 31 firings, 47 tokens, oldest first, then newest first from firing 31 on;";
+    assert!(done.out.starts_with(words), "{done:?}");
     // Where nothing is fired, the order of this part has no say.
     let done = dayomlak(&["carry-on", &a, "--order", "newest", "--budget", "0"]);
     assert!(
@@ -135,19 +139,20 @@ fn parts_in_several_orders() {
     );
 }
 
-/// The firings of a trace and the states of a page go on as in the uncut run.
+/// The firings of a trace go on as in the uncut run, cut at every firing.
 #[test]
-fn traces_and_pages_from_a_saved_state() {
+fn traces_from_a_saved_state() {
     for (file, order) in [
-        (VECTOR_SUM, "oldest"),
-        (RECURSION, "newest"),
         (VECTOR_SUM, "random:5"),
+        (RECURSION, "newest"),
+        ("examples/deferred_read/deferred_read.ttda", "oldest"),
+        ("examples/late_array/late_array.ttda", "oldest"),
     ] {
         let folder = Folder::new();
         let part = folder.path("part");
         let uncut = dayomlak(&["trace", file, "--order", order, "--csv"]);
         let rows: Vec<&str> = uncut.out.lines().collect();
-        for cut in [0, 1, 17, 40, rows.len() - 1] {
+        for cut in 0..rows.len() {
             let budget = cut.to_string();
             saved(&["run", file, "--order", order, "--budget", &budget], &part);
             let traced = dayomlak(&["trace", &part, "--order", order, "--csv"]);
