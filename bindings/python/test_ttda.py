@@ -69,6 +69,14 @@ class Runs(unittest.TestCase):
         self.assertEqual(ttda.expression_value(difference, [5, 12])[1], -7)
         self.assertEqual(ttda.expression_value(difference, [5])[0].refusal, 7)
 
+    def test_a_kept_run_serves_another_order(self):
+        graph = ttda.graph_bytes([ttda.Instruction('ADD', [(1, 0)]), ttda.Instruction('OUT', [])])
+        kept = ttda.Request(graph, ttda.input_bytes([Input(0, 0, 7), Input(0, 1, -9)]))
+        answer = ttda.run(kept.graph, kept.inputs).answer
+        self.assertTrue(ttda.serves(kept, answer, kept._replace(picks=ttda.pick_bytes([5]))))
+        for other in [dict(budget=0), dict(capacity=100), dict(cells=8), dict(picks=b'\0'), dict(inputs=b'')]:
+            self.assertFalse(ttda.serves(kept, answer, kept._replace(**other)), other)
+
     def test_old_records(self):
         old = bytes(12) + b'\7\0\0\0' + bytes(4)
         self.assertEqual(ttda.converted(old), ttda.input_bytes([Input(0, 0, 7)]))

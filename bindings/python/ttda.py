@@ -118,6 +118,16 @@ class Run(NamedTuple):
         return room.raw[:length].decode('ascii')
 
 
+class Request(NamedTuple):
+    """A run that is asked for, or one that was made: what `run` is given, graph, inputs and picks as bytes."""
+    graph: bytes
+    inputs: bytes = b''
+    picks: bytes = b''
+    budget: int = 2048
+    capacity: int = 2048
+    cells: int = 1024
+
+
 class Files(NamedTuple):
     """Graph, inputs and picks as bytes."""
     graph: bytes
@@ -126,7 +136,7 @@ class Files(NamedTuple):
 
 
 # The functions of ttda.h, with their parameters: r a buffer that is read, w one that is written, h a number of 16 bits, q one of 64,
-# n a number that is written.
+# n a number that is written, l a length.
 _FUNCTIONS = {
     'ttda_run': 'rrrhww',
     'ttda_carry_on': 'rrhhhww',
@@ -139,6 +149,7 @@ _FUNCTIONS = {
     'ttda_list': 'rw',
     'ttda_convert': 'rw',
     'ttda_convert_log': 'rw',
+    'ttda_serves': 'rrrrrrhhllllq',
     'ttda_print': 'qrrw',
 }
 _TYPES = {
@@ -147,6 +158,7 @@ _TYPES = {
     'h': [ctypes.c_uint16],
     'q': [ctypes.c_uint64],
     'n': [ctypes.POINTER(ctypes.c_uint64)],
+    'l': [ctypes.c_size_t],
 }
 _HERE = os.path.dirname(os.path.abspath(__file__))
 _library = None
@@ -331,6 +343,14 @@ def expression_value(expression, values) -> Tuple[Answer, Optional[int]]:
     number = _call('ttda_expression_value', expression, struct.pack(f'<{len(values)}i', *values))
     word, value, place = struct.unpack('<HiH', struct.pack('<Q', number))
     return Answer('refused' if word else 'completed', word, 0, 0, place), None if word else value
+
+
+def serves(kept: Request, answer: Answer, asked: Request) -> bool:
+    """Whether what was kept of a run that gave this answer (listing, cells, profile) is that of the run asked for, too."""
+    word = answer.refusal or next(number for number, name in _WORDS.items() if name == answer.word)
+    number, = struct.unpack('<Q', struct.pack('<4H', word, answer.firings, answer.tokens, answer.place))
+    lengths = [request.capacity * TOKEN.size for request in (kept, asked)] + [request.cells * CELL.size for request in (kept, asked)]
+    return _call('ttda_serves', *kept[:3], *asked[:3], kept.budget, asked.budget, *lengths, number) == 1
 
 
 def converted(records) -> bytes:
