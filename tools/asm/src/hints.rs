@@ -44,7 +44,7 @@ const KNOWN: [(&[&str], &str); 14] = [
     (&["MOD"], "the remainder is written REM"),
     (
         &["MERGE", "JOIN"],
-        "there is no MERGE: arcs may end at one port",
+        "there is no MERGE: arcs may end at one port, if one of them alone sends under a tag, as the arms of a SWITCH do",
     ),
     (&["READ", "SELECT", "LOAD"], "a cell is read by FETCH"),
     (&["WRITE", "PUT", "APPEND"], "a cell is written by STORE"),

@@ -280,7 +280,7 @@ fn check_fan_out(
         ("OUT" | "SINK" | "LEAVE", _) => "an arc ends here",
         ("SWITCH", 0 | 1) => "the second one is taken if port 1 is 0; a SINK swallows it",
         (_, 0) => "where does its token go? `-> name.port`",
-        _ => "a COPY has two more",
+        _ => "let one arc go to a COPY, which sends to two",
     };
     Err(Fault::new(span, text).hint(hint))
 }

@@ -118,7 +118,7 @@ fn without_next_warning(program: &Program, circle: &[usize], (from, to): Arc) ->
             program.arc_span(from, arc.unwrap_or(0)),
             "this arc goes back under the same tag",
         )
-        .note("a token that goes round meets its own tag: the run is then refused by 9, in every order")
+        .note("a token that goes round meets its own tag: then every order is refused, by 9 unless something else is refused first")
         .note(format!(
             "let it go by a NEXT: `{}: ... -> n` and `n: NEXT -> {}`",
             program.name(from as u16),

@@ -52,6 +52,9 @@ impl LogFile {
     /// Bytes with a head must be a whole log; any others are bare records.
     pub fn decode(bytes: &[u8]) -> Result<LogFile, String> {
         if !bytes.starts_with(START.as_bytes()) {
+            if is_text(bytes) {
+                return Err("a text, and no log\n  `dayomlak log FILE -o X.log` makes one".into());
+            }
             return Ok(LogFile {
                 of: None,
                 records: bytes.to_vec(),
@@ -82,6 +85,12 @@ impl LogFile {
             .map(|named| head(&named, self.records.len() / LOGGED));
         [head.unwrap_or_default().as_bytes(), &self.records].concat()
     }
+}
+
+/// Whether bytes are a text. Records are none: the first one is at the root, and begins with zeros.
+fn is_text(bytes: &[u8]) -> bool {
+    let control = |byte: &u8| *byte < b' ' && !matches!(*byte, b'\n' | b'\r' | b'\t');
+    !bytes.is_empty() && !bytes.iter().any(control)
 }
 
 fn head(named: &Named, firings: usize) -> String {
@@ -147,6 +156,13 @@ mod tests {
         assert_eq!(bare.encode(), [7; 2 * LOGGED]);
         assert_eq!(LogFile::decode(&bare.encode()), Ok(bare));
         assert_eq!(LogFile::decode(&[]).unwrap().of, None);
+    }
+
+    #[test]
+    fn a_text_is_no_log() {
+        let text = LogFile::decode(b"x: COPY -> y\r\ny: OUT\r\n");
+        assert!(text.is_err_and(|text| text.starts_with("a text, and no log\n")));
+        assert!(LogFile::decode(b"x: COPY\0").is_ok());
     }
 
     /// Half a log is none, nor is one whose head is changed in any byte.

@@ -93,6 +93,6 @@ fn meeting(program: &Program, port: Port, senders: &[Sender]) -> Option<(usize, 
     let finding = Finding::warning(format!("two tokens come to `{name}.{}`", port.1))
         .at(span(second), "the second one")
         .also(span(first), "the first one")
-        .note("a port takes one token under a tag: the run is refused by 9, in every order");
+        .note("a port takes one token under a tag: every order is refused, by 9 unless something else is refused first");
     Some((usize::from(port.0), finding))
 }
