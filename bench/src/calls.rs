@@ -1,6 +1,6 @@
-//! The calls beside a plain run: the profile of a work, its run with a log, and the
-//! replay of that log, each against the engine's own run in the same rounds; and the
-//! bounds of a graph of 256 records. Each call is made a block of times before the next,
+//! The calls beside a plain run: the profile of a work, its run with a log, the replay of
+//! that log, and the check of the state that the run left, each against the engine's own
+//! run in the same rounds; and the bounds of a graph of 256 records. Each call is made a block of times before the next,
 //! so that what is compared is the calls, and not who finds more of its buffers in the
 //! caches.
 
@@ -8,16 +8,18 @@ use super::{microseconds, middle, ratio, time, Kind, Lent, BLOCK, BUDGET, KINDS,
 use crate::work::{self, Work};
 use std::time::Duration;
 
-/// A call of the engine on what it is lent; the further buffer is the profile or log.
+/// A call of the engine on what it is lent; the further buffer is the profile or log, or
+/// has the counts of a saved state.
 type Call = fn(&mut Lent, &mut [u8]) -> u64;
 
 /// Each call with its name and, where there is one, the most that it may take of the
 /// run's time.
-const CALLS: [(&str, Call, Option<f64>); 4] = [
+const CALLS: [(&str, Call, Option<f64>); 5] = [
     ("run", run, None),
     ("profile", profile, Some(1.5)),
     ("run with a log", run_logged, Some(1.1)),
     ("replay", replay, None),
+    ("check of its state", carry_on, None),
 ];
 
 fn run(lent: &mut Lent, _: &mut [u8]) -> u64 {
@@ -38,6 +40,22 @@ fn run_logged(lent: &mut Lent, log: &mut [u8]) -> u64 {
 fn replay(lent: &mut Lent, log: &mut [u8]) -> u64 {
     let Work { graph, inputs } = &lent.work;
     engine::replay(graph, inputs, log, &mut lent.ledger, &mut lent.cells)
+}
+
+/// Carries on with a budget of 0, so that the state is checked and nothing fires.
+fn carry_on(lent: &mut Lent, counts: &mut [u8]) -> u64 {
+    let count = |at: usize| u16::from_le_bytes([counts[at], counts[at + 1]]);
+    let saved = second::Counts {
+        firings: count(0),
+        tokens: count(2),
+    };
+    let (ledger, cells) = (&mut lent.ledger, &mut lent.cells);
+    engine::carry_on(&lent.work.graph, &[], 0, saved, ledger, cells)
+}
+
+/// What a run that gave this answer counted, as `carry_on` takes it.
+fn counts(answer: u64) -> Vec<u8> {
+    answer.to_le_bytes()[2..6].to_vec()
 }
 
 /// A work of one size, with what each call is lent and its times.
@@ -61,10 +79,14 @@ impl Calls {
         let profile = vec![0; 4 * usize::from(BUDGET)];
         let room = vec![0; second::LOG_RECORD * usize::from(BUDGET)];
         let further = [Vec::new(), profile, room, log];
+        let mut all = Vec::from(further.map(|further| (lent(), further)));
+        let mut ended = lent();
+        let counts = counts(ended.engine());
+        all.push((ended, counts));
         Calls {
             name,
             size,
-            lent: further.map(|further| (lent(), further)).into(),
+            lent: all,
             times: Default::default(),
         }
     }
@@ -103,7 +125,7 @@ impl Calls {
 }
 
 /// The log of the work's run, once profile, logged run and replay of the engine have
-/// left what those of the second emulator leave.
+/// left what those of the second emulator leave, and the state has been taken as it is.
 fn agreed(lent: &mut Lent) -> Vec<u8> {
     let Work { graph, inputs } = &lent.work;
     let (mut ledger, mut cells) = (lent.ledger.clone(), lent.cells.clone());
@@ -125,6 +147,9 @@ fn agreed(lent: &mut Lent) -> Vec<u8> {
 
     found.truncate(second::LOG_RECORD * answer.firings);
     assert_eq!(replay(lent, &mut found), packed, "replay");
+    assert!(*ledger == lent.ledger && *cells == lent.cells);
+    let checked = carry_on(lent, &mut counts(packed));
+    assert_eq!(checked, packed, "check of its state");
     assert!(*ledger == lent.ledger && *cells == lent.cells);
     found
 }
@@ -152,52 +177,79 @@ pub fn print(works: &[Calls]) {
     }
 }
 
-/// A graph of 256 records, with the times of both emulators for its bounds.
+/// A call that fires nothing, on a graph or on the records of an expression.
+type Made = fn(&Work) -> u64;
+
+/// What such a call is made on, with the times of both emulators.
 pub struct Bounds {
     name: &'static str,
     work: Work,
-    engine: Vec<Duration>,
-    second: Vec<Duration>,
+    calls: [Made; 2],
+    times: [Vec<Duration>; 2],
 }
 
+const BOUNDS: [Made; 2] = [
+    |work| engine::bounds(&work.graph, &work.inputs),
+    |work| engine::packed_bounds(&second::bounds(&work.graph, &work.inputs)),
+];
+const EXPRESSION: [Made; 2] = [
+    |work| engine::expression(&work.graph, &mut [0; 16 * 256]),
+    |work| {
+        let made = second::expression(&work.graph, &mut [0; 16 * 256]);
+        engine::packed_expression(&made)
+    },
+];
+
 pub fn all_bounds() -> Vec<Bounds> {
-    let graphs = [
-        ("chain, the first record first", work::chain(false)),
-        ("chain, the last record first", work::chain(true)),
+    let made = [
+        (
+            "bounds: chain, the first record first",
+            work::chain(false),
+            BOUNDS,
+        ),
+        (
+            "bounds: chain, the last record first",
+            work::chain(true),
+            BOUNDS,
+        ),
+        (
+            "graph of an expression of 99 records",
+            work::sum(50),
+            EXPRESSION,
+        ),
     ];
-    let bounds = |(name, work): (&'static str, Work)| {
-        let due = engine::packed_bounds(&second::bounds(&work.graph, &work.inputs));
-        assert_eq!(engine::bounds(&work.graph, &work.inputs), due, "{name}");
+    made.map(|(name, work, calls)| {
+        assert_eq!(calls[0](&work), calls[1](&work), "{name}");
         Bounds {
             name,
             work,
-            engine: Vec::new(),
-            second: Vec::new(),
+            calls,
+            times: Default::default(),
         }
-    };
-    graphs.map(bounds).into()
+    })
+    .into()
 }
 
 impl Bounds {
     pub fn runs(&mut self, times: usize) {
-        let Work { graph, inputs } = &self.work;
         for _ in 0..times {
-            self.engine.push(time(|| engine::bounds(graph, inputs)));
-            self.second.push(time(|| second::bounds(graph, inputs)));
+            for (call, times) in self.calls.iter().zip(&mut self.times) {
+                times.push(time(|| call(&self.work)));
+            }
         }
     }
 }
 
-pub fn print_bounds(graphs: &[Bounds]) {
-    println!("Bounds of a graph of 256 records, all of them reached.");
+pub fn print_bounds(all: &[Bounds]) {
+    println!("Calls that fire nothing: bounds of a graph of 256 records, all of them reached, and the graph of an expression.");
     println!();
-    println!("| graph | engine | second | engine / second |");
+    println!("| call | engine | second | engine / second |");
     println!("|---|---:|---:|---:|");
-    for graph in graphs {
-        let (engine_time, second_time) = (middle(&graph.engine), middle(&graph.second));
+    for made in all {
+        let [engine_time, second_time] = [0, 1].map(|n| middle(&made.times[n]));
         println!(
             "| {} | {} | {} | {} |",
-            graph.name,
+            made.name,
             microseconds(engine_time),
             microseconds(second_time),
             ratio(engine_time, second_time),

@@ -230,6 +230,26 @@ pub fn chain(backward: bool) -> Work {
     work
 }
 
+/// The sum of so many variables, as the records of an expression in the place of a graph.
+pub fn sum(variables: u8) -> Work {
+    let operation = |number: u8| {
+        let left = if number == 0 {
+            0
+        } else {
+            variables + number - 1
+        };
+        [16, left, number + 1, 0, 0, 0, 0, 0]
+    };
+    let operations = (0..variables - 1).flat_map(operation);
+    Work {
+        graph: vec![0; 8 * usize::from(variables)]
+            .into_iter()
+            .chain(operations)
+            .collect(),
+        inputs: Vec::new(),
+    }
+}
+
 #[cfg(test)]
 mod tests {
     use super::*;
