@@ -16,4 +16,4 @@ bucket-spec = tie.close (tie.spec
     (λ c. search needs)
     (λ c. search needs)
     (λ c. search needs)
-    (λ c. (refl, omega arith)))
+    (λ c. (rw (c .before .before .folded .ensures), omega arith)))
