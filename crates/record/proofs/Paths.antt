@@ -27,6 +27,9 @@ pub root-number : pathNumber rootPath ≡ 0
 unfolding pathNumber
 root-number = refl
 
+pub root-fits : PathFits rootPath
+root-fits = record { low = omega arith; high = omega arith }
+
 pub is-root : (p : Path) → p ≡ rootPath → isRoot p ≡ true
 unfolding isRoot pathNumber
 is-root p e = rw e

@@ -27,6 +27,7 @@ use Rattle.record.specs.GraphRecords as Graph
 use Rattle.record.specs.TokensAndTags.{rootOf, isInput, sameTag, standsAt, TokenFits}
 use Rattle.record.specs.TokensAndTags as Tokens
 use Rattle.record.specs.Paths.{isRoot, pathNumber, samePath}
+use Rattle.record.proofs.Paths.{root-fits}
 use Rattle.record.specs.declared.term.Term.{Term}
 use Rattle.record.specs.ExpressionRecords.{decode, expressionOf}
 use Rattle.record.specs.Widths.{graphWidth, tokenWidth}
@@ -188,7 +189,7 @@ length-inputs i (v ∷ values) = ap suc (length-inputs (suc i) values)
 
 pub inputs-fit : (i : ℕ) (values : List ℤ) → i + length values ≤ 2 ^ 16 → All (SFits w32) values → All TokenFits (inputsFor i values)
 inputs-fit i [] l f = tt
-inputs-fit i (v ∷ values) l f = (record { path = record { low = omega arith; high = omega arith }; iteration = omega arith; instruction = omega arith; port = omega arith; content = f .0 }, inputs-fit (suc i) values (omega arith) (f .1))
+inputs-fit i (v ∷ values) l f = (record { path = root-fits; iteration = omega arith; instruction = omega arith; port = omega arith; content = f .0 }, inputs-fit (suc i) values (omega arith) (f .1))
 
 -- no input stands where a later one does
 alone : (i k m : ℕ) (values : List ℤ) → i + k ≤ m → any (standsAt (rootOf m) 0) (take k (inputsFor i values)) ≡ false
