@@ -62,7 +62,16 @@ fn a_budget_that_is_used_up_is_carried_on() {
         (Word::Spent, (Word::SPENT, 0, 2, 0))
     );
     let (firings, tokens) = (cut.parts().1, cut.parts().2);
-    let answer = ttda::carry_on(&graph, &[], &[], 9, firings, tokens, &mut ledger, &mut cells);
+    let answer = ttda::carry_on(
+        &graph,
+        &[],
+        &[],
+        9,
+        firings,
+        tokens,
+        &mut ledger,
+        &mut cells,
+    );
     assert_eq!(printed(answer, &ledger, &cells), TEXT);
 }
 
@@ -70,7 +79,16 @@ fn a_budget_that_is_used_up_is_carried_on() {
 fn a_log_is_replayed() {
     let (graph, inputs, mut ledger, mut cells) = lent();
     let mut log = [0; LOGGED];
-    let first = ttda::run_logged(&graph, &[], &inputs, &[], 1, &mut ledger, &mut cells, &mut log);
+    let first = ttda::run_logged(
+        &graph,
+        &[],
+        &inputs,
+        &[],
+        1,
+        &mut ledger,
+        &mut cells,
+        &mut log,
+    );
     assert_eq!(first.firings(), 1);
     let (_, _, mut ledger, mut cells) = lent();
     let answer = ttda::replay(&graph, &[], &inputs, &log, &mut ledger, &mut cells);

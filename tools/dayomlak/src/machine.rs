@@ -205,7 +205,15 @@ impl<'p> Machine<'p> {
         let (graph, inputs) = self.lent();
         let (mut profile, mut records) = (vec![0; STEP * most], 0);
         let end = self.call(|ledger, cells| {
-            ttda::profile(graph, &[], inputs, ledger, cells, &mut profile, &mut records)
+            ttda::profile(
+                graph,
+                &[],
+                inputs,
+                ledger,
+                cells,
+                &mut profile,
+                &mut records,
+            )
         });
         profile.truncate(STEP * records as usize);
         (end, Step::all(&profile))

@@ -76,7 +76,15 @@ impl Engine for Library {
     fn run(&self, asked: &Request) -> Left {
         let (mut ledger, mut cells) = lent(asked);
         let (graph, inputs, picks) = (&asked.graph, &asked.inputs, &asked.picks);
-        let answer = ttda::run(graph, &[], inputs, picks, asked.budget, &mut ledger, &mut cells);
+        let answer = ttda::run(
+            graph,
+            &[],
+            inputs,
+            picks,
+            asked.budget,
+            &mut ledger,
+            &mut cells,
+        );
         ledger.truncate(TOKEN * answer.tokens());
         Left {
             answer: answer.0,
