@@ -75,7 +75,7 @@ pub fn run(
     ledger: &mut [u8],
     cells: &mut [u8],
 ) -> u64 {
-    ttda::run(graph, inputs, picks, budget, ledger, cells).0
+    ttda::run(graph, &[], inputs, picks, budget, ledger, cells).0
 }
 
 /// Goes on from the state that ledger and cells hold.
@@ -89,6 +89,7 @@ pub fn carry_on(
 ) -> u64 {
     ttda::carry_on(
         graph,
+        &[],
         picks,
         budget,
         saved.firings,
@@ -109,7 +110,7 @@ pub fn profile(
 ) -> (u64, u64) {
     // A number that no profile has, so that one left unwritten shows.
     let mut records = u64::MAX;
-    let answer = ttda::profile(graph, inputs, ledger, cells, profile, &mut records);
+    let answer = ttda::profile(graph, &[], inputs, ledger, cells, profile, &mut records);
     (answer.0, records)
 }
 
@@ -123,12 +124,12 @@ pub fn run_logged(
     cells: &mut [u8],
     log: &mut [u8],
 ) -> u64 {
-    ttda::run_logged(graph, inputs, picks, budget, ledger, cells, log).0
+    ttda::run_logged(graph, &[], inputs, picks, budget, ledger, cells, log).0
 }
 
 /// Fires what a log names.
 pub fn replay(graph: &[u8], inputs: &[u8], log: &[u8], ledger: &mut [u8], cells: &mut [u8]) -> u64 {
-    ttda::replay(graph, inputs, log, ledger, cells).0
+    ttda::replay(graph, &[], inputs, log, ledger, cells).0
 }
 
 /// The engine's bounds of a graph: word 0 or a refusal, most firings, most tokens, place.
