@@ -136,6 +136,7 @@ pub fn second_run(files: &Files) -> Second {
         graph,
         inputs,
         picks,
+        ..
     } = files;
     let answer = second::run(graph, inputs, picks, BUDGET, &mut ledger, &mut cells);
     let used = &ledger[..asm::TOKEN_RECORD * answer.tokens];

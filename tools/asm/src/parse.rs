@@ -1,13 +1,16 @@
 //! From the words of a line to a statement.
 
+use crate::arrays::MOST_CELLS;
 use crate::errors::Fault;
 use crate::hints;
 use crate::operations::{by_name, is_arithmetic, with_constant, Constant, Operation};
-use crate::statement::{Line, Statement, Target, Typed};
+use crate::statement::{Element, Extent, Line, Statement, Target, Typed};
 use crate::words::{span_of, Word};
 
 const ENTER_FORM: &str = "ENTER is `ENTER site N -> name.port return name`";
 const NUMBER: &str = "a signed number of 32 bits";
+const ARRAY_FORM: &str = "an array is `array name = length`, or `array name = length at cell`";
+const ELEMENT_FORM: &str = "an element is loaded by `name[index] = value`";
 
 /// Parses the words of one line; `None` for one without a statement.
 pub fn parse_line<'t>(
@@ -22,9 +25,13 @@ pub fn parse_line<'t>(
     let statement = parse_statement(words, name.is_some(), rest).unwrap_or_else(|fault| {
         faults.push(fault);
         let targets = named_targets(rest);
-        match name.is_none() && is_other(words[0].text) {
-            true => Statement::Faulty(targets),
-            false => Statement::FaultyInstruction(targets),
+        match (
+            name.is_none() && is_other(words[0].text),
+            named_array(words),
+        ) {
+            (true, Some(array)) => Statement::FaultyArray(array),
+            (true, None) => Statement::Faulty(targets),
+            (false, _) => Statement::FaultyInstruction(targets),
         }
     });
     Some(Line {
@@ -49,9 +56,25 @@ fn named_targets<'t>(words: &[Word<'t>]) -> Vec<Target<'t>> {
         .collect()
 }
 
+/// The array of a line with a fault, as far as it can be told.
+fn named_array<'t>(words: &[Word<'t>]) -> Option<Word<'t>> {
+    match words {
+        [array, name, ..] if array.text == "array" => {
+            let end = name.text.find('[').unwrap_or(name.text.len());
+            check_name(name.part(0, end)).ok()
+        }
+        _ => None,
+    }
+}
+
 /// Whether a word begins a line that is no instruction.
 fn is_other(word: &str) -> bool {
-    matches!(word, "input" | "picks" | "cell")
+    matches!(word, "input" | "picks" | "cell" | "array") || is_element(word)
+}
+
+/// Whether a word names an element, as `a[3]`, or tries to.
+fn is_element(word: &str) -> bool {
+    word.contains('[')
 }
 
 /// The name before a colon, and the words behind it.
@@ -118,11 +141,17 @@ fn parse_statement<'t>(
             "input" => parse_input(*first, rest),
             "picks" => parse_picks(rest),
             "cell" => parse_cell(*first, rest),
+            "array" => parse_array(*first, rest),
             "raw" => parse_bytes(*first, rest).map(Statement::Raw),
+            word if is_element(word) => parse_load(*first, rest),
             _ => parse_instruction(*first, rest),
         },
         [first, rest @ ..] => match first.text {
             "raw" => parse_bytes(*first, rest).map(Statement::Raw),
+            word if is_other(word) => {
+                let fault = Fault::new(first.span(), format!("`{word}` is no operation"));
+                Err(fault.hint("such a line has no name and colon before it"))
+            }
             _ => parse_instruction(*first, rest),
         },
     }
@@ -160,6 +189,13 @@ fn parse_target(word: Word) -> Result<Target, Fault> {
         let fault = Fault::new(word.span(), "a colon among the targets");
         return Err(fault.hint("a port is written with a point: `name.0`"));
     }
+    if is_element(word.text) {
+        let array = word.text.split('[').next().unwrap_or_default();
+        let fault = Fault::new(word.span(), format!("`{}` is no target", word.text));
+        return Err(fault.hint(format!(
+            "an element is written by `STORE {array}`: port 0 takes its index, port 1 its value"
+        )));
+    }
     let (name, port) = match word.text.find('.') {
         None => (word, 0),
         Some(point) => {
@@ -175,6 +211,11 @@ fn parse_target(word: Word) -> Result<Target, Fault> {
 fn parse_input<'t>(first: Word<'t>, rest: &[Word<'t>]) -> Result<Statement<'t>, Fault> {
     match rest {
         [raw, bytes @ ..] if raw.text == "raw" => parse_bytes(*raw, bytes).map(Statement::RawInput),
+        [element, equals, value] if equals.text == "=" && is_element(element.text) => {
+            let (text, value) = (element.text, value.text);
+            let fault = Fault::new(first.start..element.span().end, "an element is no target");
+            Err(fault.hint(format!("it is loaded without `input`: `{text} = {value}`")))
+        }
         [target, equals, value] if equals.text == "=" => {
             let value = parse_number(*value, NUMBER)?;
             Ok(Statement::Input(parse_target(*target)?, value))
@@ -191,7 +232,11 @@ fn parse_cell<'t>(first: Word<'t>, rest: &[Word<'t>]) -> Result<Statement<'t>, F
     match rest {
         [cell, equals, value] if equals.text == "=" => {
             let what = "the number of a cell, 0 to 1023";
-            let number: u16 = parse_number(*cell, what)?;
+            let element = is_element(cell.text).then(|| {
+                let (text, value) = (cell.text, value.text);
+                format!("an element is loaded without `cell`: `{text} = {value}`")
+            });
+            let number: u16 = parse_number(*cell, what).map_err(|fault| fault.maybe(element))?;
             if number >= 1024 {
                 let text = format!("`{number}` is not {what}");
                 return Err(Fault::new(cell.span(), text));
@@ -207,6 +252,66 @@ fn parse_cell<'t>(first: Word<'t>, rest: &[Word<'t>]) -> Result<Statement<'t>, F
             Err(Fault::new(span, text))
         }
     }
+}
+
+/// `array name = length`, with `at cell` or without, or `array name raw BYTES`.
+fn parse_array<'t>(first: Word<'t>, rest: &[Word<'t>]) -> Result<Statement<'t>, Fault> {
+    let (name, length, at) = match rest {
+        [name, raw, bytes @ ..] if raw.text == "raw" => {
+            let record = parse_bytes(*raw, bytes)?;
+            return Ok(Statement::RawArray(check_name(*name)?, record));
+        }
+        [name, equals, length] if equals.text == "=" => (name, length, None),
+        [name, equals, length, at, cell] if equals.text == "=" && at.text == "at" => {
+            (name, length, Some(cell))
+        }
+        _ => {
+            let span = first.start..rest.last().map_or(first.span(), Word::span).end;
+            return Err(Fault::new(span, ARRAY_FORM).maybe(length_in_brackets(rest)));
+        }
+    };
+    let name = check_name(*name)?;
+    let most = |word: Word, what: String| match parse_number(word, &what) {
+        Ok(number) if usize::from(number) > MOST_CELLS => {
+            let text = format!("`{number}` is not {what}");
+            Err(Fault::new(word.span(), text))
+        }
+        number => number,
+    };
+    let extent = Extent {
+        length: most(*length, format!("a length, 0 to {MOST_CELLS}"))?,
+        at: at
+            .map(|cell| most(*cell, "the number of a cell, 0 to 1023".to_string()))
+            .transpose()?,
+        span: span_of(rest),
+    };
+    Ok(Statement::Array(name, extent))
+}
+
+/// `array a[8]`, as other languages have it.
+fn length_in_brackets(rest: &[Word]) -> Option<String> {
+    let (name, length) = rest.first()?.text.split_once('[')?;
+    let length = length.strip_suffix(']')?;
+    Some(format!("`array {name} = {length}`"))
+}
+
+/// `name[index] = value`.
+fn parse_load<'t>(first: Word<'t>, rest: &[Word<'t>]) -> Result<Statement<'t>, Fault> {
+    let span = first.start..rest.last().map_or(first.span(), Word::span).end;
+    let form = || Fault::new(span.clone(), ELEMENT_FORM);
+    let [equals, value] = rest else {
+        return Err(form());
+    };
+    let (open, end) = (first.text.find('['), first.text.len());
+    let Some(open) = open.filter(|_| equals.text == "=" && first.text.ends_with(']')) else {
+        return Err(form());
+    };
+    let element = Element {
+        array: check_name(first.part(0, open))?,
+        index: parse_number(first.part(open + 1, end - 1), "an index")?,
+        word: first,
+    };
+    Ok(Statement::Element(element, parse_number(*value, NUMBER)?))
 }
 
 fn parse_picks<'t>(words: &[Word<'t>]) -> Result<Statement<'t>, Fault> {
@@ -238,20 +343,56 @@ fn parse_bytes<const N: usize>(first: Word, words: &[Word]) -> Result<[u8; N], F
 fn parse_instruction<'t>(first: Word<'t>, rest: &[Word<'t>]) -> Result<Statement<'t>, Fault> {
     let operation = by_name(first.text).ok_or_else(|| {
         let text = format!("`{}` is no operation", first.text);
-        Fault::new(first.span(), text).maybe(hints::operation(first.text))
+        let behind: Vec<&str> = rest.iter().map(|word| word.text).collect();
+        Fault::new(first.span(), text).maybe(hints::line(first.text, &behind))
     })?;
     let (head, tail) = match rest.iter().position(|word| word.text == "->") {
         Some(at) => (&rest[..at], &rest[at + 1..]),
         None => (rest, &[][..]),
     };
+    let array = match operation.constant {
+        Constant::Array => parse_array_name(&operation, head)?,
+        _ => None,
+    };
     let (operation, constant) = parse_constant(first, operation, head)?;
     let arcs = parse_arcs(first, &operation, tail)?;
-    check_fan_out(first, &operation, tail, arcs.len())?;
+    check_fan_out(first, &operation, tail, arcs.len()).map_err(|fault| match array {
+        Some(array) if arcs.is_empty() => {
+            fault.hint(hints::array_or_arrow(operation.name, &[array.text]))
+        }
+        _ => fault,
+    })?;
     Ok(Statement::Typed(Typed {
         operation,
         constant,
+        array,
         arcs,
     }))
+}
+
+/// The array between FETCH or STORE and the arrow, if there is one.
+fn parse_array_name<'t>(
+    operation: &Operation,
+    words: &[Word<'t>],
+) -> Result<Option<Word<'t>>, Fault> {
+    let Some(array) = words.first() else {
+        return Ok(None);
+    };
+    let (name, text) = (operation.name, array.text);
+    let texts: Vec<&str> = words.iter().map(|word| word.text).collect();
+    let followed = format!("{name} is followed by `{}`", texts.join(" "));
+    let fault = Fault::new(span_of(words), followed);
+    match text.split_once('[') {
+        _ if text.parse::<i32>().is_ok() => Err(fault.maybe(hints::constant(name, &texts))),
+        Some((known, index)) => {
+            let index = index.trim_end_matches(']');
+            Err(fault.hint(format!(
+                "the index comes by port 0: `{name} {known}`, and `input name = {index}` or an arc"
+            )))
+        }
+        None if words.len() > 1 => Err(fault.hint(hints::array_or_arrow(name, &texts))),
+        None => check_name(*array).map(Some),
+    }
 }
 
 fn check_fan_out(
@@ -293,7 +434,8 @@ fn parse_constant(
 ) -> Result<(Operation, i32), Fault> {
     let name = operation.name;
     let texts: Vec<&str> = words.iter().map(|word| word.text).collect();
-    let arrow = || hints::arrow(name, &texts);
+    let takes_number = operation.constant == Constant::Value || is_arithmetic(&operation);
+    let arrow = || hints::arrow(name, &texts, takes_number);
     match (operation.constant, words) {
         (Constant::Unused, []) => Ok((operation, 0)),
         (Constant::Unused, [word]) if is_arithmetic(&operation) => {
@@ -316,9 +458,13 @@ fn parse_constant(
         }
         (Constant::Value, _) => {
             let fault = Fault::new(first.span(), format!("{name} needs one constant"));
-            Err(fault.hint(format!("for example `{name} 5 -> name.port`")))
+            let example = || format!("for example `{name} 5 -> name.port`");
+            let arrow = arrow().filter(|_| words.len() > 1);
+            Err(fault.hint(arrow.unwrap_or_else(example)))
         }
         (Constant::Site, _) => Err(Fault::new(first.span(), ENTER_FORM)),
+        // Its name is parsed apart.
+        (Constant::Array, _) => Ok((operation, 0)),
         (Constant::Offset, _) => {
             let fault = Fault::new(first.span(), "LEAVE needs one constant, 0 to 255");
             Err(fault.hint("`LEAVE 0` sends to the return instruction itself"))
