@@ -14,7 +14,7 @@ use crate::records::{MOST_CELLS, MOST_RECORDS};
 #[derive(Debug, Parser)]
 #[command(name = "dayomlak", version, propagate_version = true)]
 #[command(
-    after_help = "FILE is a typed graph (.ttda), a folder with the files graph, inputs and picks, or - for standard \
+    after_help = "FILE is a typed graph (.ttda), a folder with the files graph, arrays, inputs and picks, or - for standard \
     input; trace and report take a saved run too.\nExit status: 0 completed; 1 hung, spent or refused; 2 a wrong command \
     line, text or log, or a damaged file; 3 a file that cannot be read or written.\n\nTry: dayomlak run sum.ttda"
 )]
@@ -47,7 +47,7 @@ pub enum Command {
     Log(Log),
     /// Fire exactly the activities of a log
     Replay(Replay),
-    /// Make the files graph, inputs and picks of a typed graph
+    /// Make the files graph, arrays, inputs and picks of a typed graph
     Asm(Asm),
     /// Print the text of the files in a folder
     Disasm(Disasm),

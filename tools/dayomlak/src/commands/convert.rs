@@ -53,7 +53,7 @@ fn folder(args: &Convert) -> Result<Vec<Written>, Failure> {
         return Err(Failure::file(&args.new, program::no_folder()));
     }
     let mut files = Vec::new();
-    for name in ["graph", "inputs", "picks"] {
+    for name in ["graph", "arrays", "inputs", "picks"] {
         let (old, new) = (args.old.join(name), args.new.join(name));
         match name {
             _ if !old.exists() => (),
