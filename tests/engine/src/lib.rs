@@ -159,6 +159,38 @@ pub fn convert_log(old: &[u8], out: &mut [u8]) -> u64 {
     ttda::convert_log(old, out).0
 }
 
+/// A run as a cache knows it: what is lent, ledger and cells by their lengths in bytes.
+#[derive(Clone, Copy)]
+pub struct Request<'a> {
+    pub program: Program<'a>,
+    pub inputs: &'a [u8],
+    pub schedule: Schedule<'a>,
+    pub ledger: usize,
+    pub cells: usize,
+}
+
+/// Whether what was kept of a run with its packed answer serves for a run that is asked for: 1 or 0.
+pub fn serves(kept: &Request, kept_answer: u64, asked: &Request) -> u64 {
+    ttda::serves(
+        kept.program.graph,
+        kept.program.arrays,
+        kept.inputs,
+        kept.schedule.picks,
+        asked.program.graph,
+        asked.program.arrays,
+        asked.inputs,
+        asked.schedule.picks,
+        kept.schedule.budget,
+        asked.schedule.budget,
+        kept.ledger,
+        asked.ledger,
+        kept.cells,
+        asked.cells,
+        Answer(kept_answer),
+    )
+    .0
+}
+
 /// Sorts the used records of a ledger into `out`; answers 0 or 7.
 pub fn list(ledger: &[u8], out: &mut [u8]) -> u64 {
     ttda::list(ledger, out).0

@@ -23,6 +23,7 @@ mod prng;
 mod profiles;
 mod records;
 mod saved;
+mod serves;
 mod shapes;
 mod states;
 mod tally;
@@ -56,6 +57,7 @@ struct Harness {
     expressions: u64,
     groups: u64,
     listings: u64,
+    requests: u64,
     conversions: u64,
     agreements: u64,
     profile_ends: u64,
@@ -134,6 +136,7 @@ impl Harness {
         self.all_capacities(&ends, prng);
         self.all_conversions(&case, &ends[0].left);
         self.all_states(&ends, prng);
+        self.all_requests(&ends, prng);
         for _ in 0..2 {
             let mut case = case.clone();
             case.budget = [0, 1, 2, prng.below(40) as u16, 65_535][prng.below(5)];
@@ -361,6 +364,7 @@ fn main() -> ExitCode {
         expressions: 0,
         groups: 0,
         listings: 0,
+        requests: 0,
         conversions: 0,
         agreements: 0,
         profile_ends: 0,
@@ -394,6 +398,7 @@ fn report(harness: &Harness) -> ExitCode {
     println!("expressions: {}", harness.expressions);
     println!("listings of arbitrary records: {}", harness.listings);
     println!("conversions: {}", harness.conversions);
+    println!("runs asked of the cache: {}", harness.requests);
     println!(
         "time in the engine {:.2?}, in the second {:.2?}",
         harness.clock.engine, harness.clock.second

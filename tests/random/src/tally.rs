@@ -5,7 +5,7 @@ use second::{Outcome, TOKEN_RECORD};
 
 use crate::case::{Call, Case, Left};
 use crate::{
-    arrays, bounds, capacities, conversions, expressions, logs, meetings, profiles, saved,
+    arrays, bounds, capacities, conversions, expressions, logs, meetings, profiles, saved, serves,
 };
 
 const NAMES: [(u8, &str); 27] = [
@@ -98,6 +98,7 @@ pub struct Tally {
     conversions: Named,
     expressions: Named,
     saved: Named,
+    requests: Named,
 }
 
 impl Tally {
@@ -128,6 +129,7 @@ impl Tally {
             conversions: Named::new(&conversions::NAMES),
             expressions: Named::new(&expressions::NAMES),
             saved: Named::new(&saved::NAMES),
+            requests: Named::new(&serves::NAMES),
         }
     }
 
@@ -159,6 +161,10 @@ impl Tally {
 
     pub fn count_saved(&mut self, names: Vec<&'static str>) {
         self.saved.count(names);
+    }
+
+    pub fn count_request(&mut self, name: &'static str) {
+        self.requests.count(vec![name]);
     }
 
     pub fn count_expression(&mut self, names: Vec<&'static str>) {
@@ -251,6 +257,8 @@ impl Tally {
         self.conversions.print(&mut lines);
         println!("saved states:");
         self.saved.print(&mut lines);
+        println!("runs asked of the cache:");
+        self.requests.print(&mut lines);
         println!("expressions:");
         self.expressions.print(&mut lines);
         println!("further:");
