@@ -122,6 +122,7 @@ fn case_of(expression: &Expression, graph: Vec<u8>, prng: &mut Prng) -> Case {
         kind: "expression",
         call: Call::Run,
         graph,
+        arrays: Vec::new(),
         inputs: inputs.collect(),
         picks: Vec::new(),
         budget: 2048,

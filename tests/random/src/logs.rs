@@ -262,6 +262,7 @@ fn at_rest(case: &Case, log: &[u8], left: &Left) -> bool {
     let fired = &log[..LOG_RECORD * left.answer.firings];
     let mut ledger = left.ledger.clone();
     let mut cells = left.cells.clone();
-    let answer = second::replay(&case.graph, &case.inputs, fired, &mut ledger, &mut cells);
+    let (program, inputs) = (case.program(), &case.inputs);
+    let answer = second::replay(program, inputs, fired, &mut ledger, &mut cells);
     answer.outcome != Outcome::Spent
 }

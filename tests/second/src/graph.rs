@@ -65,8 +65,18 @@ impl Operation {
     fn uses_constant(self) -> bool {
         matches!(
             self,
-            Operation::Const | Operation::Enter | Operation::Leave | Operation::Immediate(_)
+            Operation::Const
+                | Operation::Enter
+                | Operation::Leave
+                | Operation::Fetch
+                | Operation::Store
+                | Operation::Immediate(_)
         )
+    }
+
+    /// FETCH and STORE, whose constant names an array (02, R-10).
+    pub fn reaches_a_cell(self) -> bool {
+        matches!(self, Operation::Fetch | Operation::Store)
     }
 }
 
