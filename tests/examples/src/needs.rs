@@ -2,7 +2,7 @@
 //! profile in ideal steps.
 
 use asm::Files;
-use second::{Answer, Bounds, Program, Refusal};
+use second::{Answer, Bounds, Refusal};
 
 use crate::runs::{self, Left};
 use crate::{CELLS, RECORDS};
@@ -84,7 +84,7 @@ fn second_profile(files: &Files) -> Profile {
     let mut ledger = vec![0; asm::TOKEN_RECORD * RECORDS];
     let mut cells = vec![0; 8 * CELLS];
     let mut records = vec![0; 4 * RECORDS];
-    let (program, inputs) = (Program::plain(&files.graph), &files.inputs);
+    let (program, inputs) = (runs::program(files), &files.inputs);
     let profiled = second::profile(program, inputs, &mut ledger, &mut cells, &mut records);
     records.truncate(4 * profiled.records);
     Profile {
@@ -113,7 +113,7 @@ fn profile_agrees(files: &Files, profile: &Profile, run: &Left) -> Result<(), St
     let mut ledger = vec![0; asm::TOKEN_RECORD * RECORDS];
     let mut cells = vec![0; 8 * CELLS];
     let mut records = vec![0; 4 * RECORDS];
-    let (program, inputs) = (Program::plain(&files.graph), &files.inputs);
+    let (program, inputs) = (runs::program(files), &files.inputs);
     let (answer, steps) = engine::profile(program, inputs, &mut ledger, &mut cells, &mut records);
     records.truncate(4 * steps as usize);
     if answer != engine::packed_answer(&profile.answer) || records != profile.records {

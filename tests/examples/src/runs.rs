@@ -68,11 +68,17 @@ pub fn other_orders(files: &Files, first: &Left) -> Result<usize, String> {
     Ok(lists.len())
 }
 
+/// The graph with its table of arrays.
+pub fn program(files: &Files) -> Program<'_> {
+    let (graph, arrays) = (&files.graph, &files.arrays);
+    Program { graph, arrays }
+}
+
 /// Runs and lists as the program does.
 fn engine_run(files: &Files, picks: &[u8]) -> Left {
     let mut ledger = vec![0; asm::TOKEN_RECORD * RECORDS];
     let mut cells = vec![0; 8 * CELLS];
-    let (program, inputs) = (Program::plain(&files.graph), &files.inputs);
+    let (program, inputs) = (program(files), &files.inputs);
     let schedule = Schedule::new(picks, BUDGET);
     let answer = engine::run(program, inputs, schedule, &mut ledger, &mut cells);
     Left::of_engine(answer, &ledger, cells)
@@ -94,7 +100,7 @@ pub fn agree(first: &Left, other: &Left) -> Result<(), String> {
 
 /// Oldest first, newest first and random lists.
 fn pick_lists(files: &Files) -> Vec<Vec<u8>> {
-    let (program, inputs) = (Program::plain(&files.graph), &files.inputs);
+    let (program, inputs) = (program(files), &files.inputs);
     let mut lists = vec![
         Vec::new(),
         second::picks_newest_first(program, inputs, RECORDS, CELLS),
@@ -133,20 +139,9 @@ impl Second {
 pub fn second_run(files: &Files) -> Second {
     let mut ledger = vec![0; asm::TOKEN_RECORD * RECORDS];
     let mut cells = vec![0; 8 * CELLS];
-    let Files {
-        graph,
-        inputs,
-        picks,
-        ..
-    } = files;
-    let schedule = Schedule::new(picks, BUDGET);
-    let answer = second::run(
-        Program::plain(graph),
-        inputs,
-        schedule,
-        &mut ledger,
-        &mut cells,
-    );
+    let (program, inputs) = (program(files), &files.inputs);
+    let schedule = Schedule::new(&files.picks, BUDGET);
+    let answer = second::run(program, inputs, schedule, &mut ledger, &mut cells);
     let used = &ledger[..asm::TOKEN_RECORD * answer.tokens];
     let mut listing = vec![0; used.len()];
     second::list(used, &mut listing);
