@@ -117,6 +117,7 @@ fn bad_array(program: &Program, place: usize, sizes: Sizes, finding: Finding) ->
     let (number, arrays) = (instruction.constant, program.arrays.all().len());
     let words = match arrays {
         0 => format!("it names array {number}, and there is no array"),
+        1 => format!("it names array {number}, and 1 is the only one"),
         _ => format!("it names array {number}, and the arrays are 1 to {arrays}"),
     };
     finding.at(program.span(place), words).note(

@@ -562,13 +562,12 @@ const UNFIT: [Edit; 7] = [
         e.parts[0] = e.bytes()
     }),
     (
-        "it has a loop bound or named arrays, which this program does not know: use a newer one",
+        "it has a loop bound, which this program does not know: use a newer one",
         |e| e.set("bound", "1"),
     ),
-    (
-        "it has a loop bound or named arrays, which this program does not know: use a newer one",
-        |e| e.parts[2].push(0),
-    ),
+    ("its text is not the text of its graph", |e| {
+        e.parts[2].extend([0, 0, 1, 0])
+    }),
     (
         "a saved state of form 2, and this program reads form 1",
         |e| e.lines[0] = "dayomlak saved state 2".to_string(),
