@@ -136,7 +136,7 @@ fn refused_names(case: &Case, left: &Left) -> Vec<&'static str> {
         .map(|(first, length)| first + length)
         .max();
     let mut names = vec![match farthest.unwrap_or(0) {
-        _ if !case.arrays.len().is_multiple_of(ARRAY_RECORD) => "22 not whole",
+        _ if case.arrays.len() % ARRAY_RECORD != 0 => "22 not whole",
         _ if case.arrays.len() > ARRAY_RECORD * MOST_ARRAYS => "22 more than 64",
         end if end == cells + 1 => "22 one past the cells",
         end if end > cells => "22 far past the cells",

@@ -165,8 +165,8 @@ pub const RUN_NAMES: [&str; 7] = [
 /// Which of the names a run with a log has.
 pub fn run_names(case: &Case, left: &Left) -> Vec<&'static str> {
     let room = left.further.len() / LOG_RECORD;
-    let whole = left.further.len().is_multiple_of(LOG_RECORD);
-    let picks_fit = case.picks.len().is_multiple_of(2) && case.picks.len() <= 2 * 2048;
+    let whole = left.further.len() % LOG_RECORD == 0;
+    let picks_fit = case.picks.len() % 2 == 0 && case.picks.len() <= 2 * 2048;
     let mut names = match left.answer.outcome {
         Outcome::Completed => vec!["completed"],
         Outcome::Hung => vec!["hung"],

@@ -99,7 +99,7 @@ fn serves(kept: &End, asked: &Case) -> bool {
     let same_order = case.picks == asked.picks && case.budget == asked.budget;
     let at_rest = matches!(kept.left.answer.outcome, Outcome::Completed | Outcome::Hung);
     let picks = asked.picks.len();
-    let picks_fit = picks.is_multiple_of(PICK_RECORD) && picks <= PICK_RECORD * MOST_RECORDS;
+    let picks_fit = picks % PICK_RECORD == 0 && picks <= PICK_RECORD * MOST_RECORDS;
     let enough = usize::from(asked.budget) >= kept.left.answer.firings;
     alike && (same_order || at_rest && picks_fit && enough)
 }

@@ -289,7 +289,7 @@ impl Lent<'_> {
 
 /// Whether a buffer is whole records and at most so many (01, refusal 7).
 fn fits(length: usize, record: usize, most: usize) -> bool {
-    length.is_multiple_of(record) && length / record <= most
+    length % record == 0 && length / record <= most
 }
 
 /// The input tokens in turn, or 6 at the first that is bad.

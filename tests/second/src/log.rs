@@ -21,7 +21,7 @@ pub fn run_logged(
     };
     // A log may have more than 2,048 records.
     let least = usize::from(schedule.budget).min(MOST_RECORDS);
-    let log_fits = log.len().is_multiple_of(LOG_RECORD) && log.len() / LOG_RECORD >= least;
+    let log_fits = log.len() % LOG_RECORD == 0 && log.len() / LOG_RECORD >= least;
     lent.accept(schedule.picks_fit() && log_fits, |machine| {
         let answer = machine.run(schedule.budget, |firing, _| schedule.pick(firing));
         for (record, tag) in log.chunks_exact_mut(LOG_RECORD).zip(machine.fired()) {

@@ -25,7 +25,7 @@ pub fn profile(
         ledger,
         cells,
     };
-    let whole = profile.len().is_multiple_of(PROFILE_RECORD);
+    let whole = profile.len() % PROFILE_RECORD == 0;
     let mut room = profile.chunks_exact_mut(PROFILE_RECORD);
     let mut records = 0;
     let answer = lent.accept(whole, |machine| {
