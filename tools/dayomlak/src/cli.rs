@@ -429,8 +429,8 @@ impl FromStr for Value {
 
 #[derive(Debug, Args)]
 #[command(
-    after_help = "Token records grow from 20 to 28 bytes, log records from 12 to 20. Of a folder the files graph and picks are \
-    copied, and inputs is widened. What OLD is, is seen by its length, and by its bytes where several kinds have that length."
+    after_help = "Token records grow from 20 to 28 bytes, log records from 12 to 20. Of a folder the files graph, arrays and \
+    picks are copied, and inputs is widened. What OLD is, is seen by its length, and by its bytes where several kinds have that length."
 )]
 pub struct Convert {
     /// Inputs, a listing or a log, or a folder with the files of a graph
