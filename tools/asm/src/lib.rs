@@ -9,6 +9,7 @@ mod hints;
 mod names;
 mod operations;
 mod parse;
+mod parse_arrays;
 mod statement;
 mod words;
 

@@ -1,16 +1,14 @@
 //! From the words of a line to a statement.
 
-use crate::arrays::MOST_CELLS;
 use crate::errors::Fault;
 use crate::hints;
 use crate::operations::{by_name, is_arithmetic, with_constant, Constant, Operation};
-use crate::statement::{Element, Extent, Line, Statement, Target, Typed};
+use crate::parse_arrays::{is_element, named_array, parse_array, parse_array_name, parse_load};
+use crate::statement::{Line, Statement, Target, Typed};
 use crate::words::{span_of, Word};
 
 const ENTER_FORM: &str = "ENTER is `ENTER site N -> name.port return name`";
-const NUMBER: &str = "a signed number of 32 bits";
-const ARRAY_FORM: &str = "an array is `array name = length`, or `array name = length at cell`";
-const ELEMENT_FORM: &str = "an element is loaded by `name[index] = value`";
+pub const NUMBER: &str = "a signed number of 32 bits";
 
 /// Parses the words of one line; `None` for one without a statement.
 pub fn parse_line<'t>(
@@ -56,25 +54,9 @@ fn named_targets<'t>(words: &[Word<'t>]) -> Vec<Target<'t>> {
         .collect()
 }
 
-/// The array of a line with a fault, as far as it can be told.
-fn named_array<'t>(words: &[Word<'t>]) -> Option<Word<'t>> {
-    match words {
-        [array, name, ..] if array.text == "array" => {
-            let end = name.text.find('[').unwrap_or(name.text.len());
-            check_name(name.part(0, end)).ok()
-        }
-        _ => None,
-    }
-}
-
 /// Whether a word begins a line that is no instruction.
 fn is_other(word: &str) -> bool {
     matches!(word, "input" | "picks" | "cell" | "array") || is_element(word)
-}
-
-/// Whether a word names an element, as `a[3]`, or tries to.
-fn is_element(word: &str) -> bool {
-    word.contains('[')
 }
 
 /// The name before a colon, and the words behind it.
@@ -162,7 +144,7 @@ fn no_name(name: &str, span: crate::Span) -> Fault {
     Fault::new(span, text)
 }
 
-fn check_name(word: Word) -> Result<Word, Fault> {
+pub fn check_name(word: Word) -> Result<Word, Fault> {
     let mut letters = word.text.chars();
     let first = letters
         .next()
@@ -177,7 +159,7 @@ fn check_name(word: Word) -> Result<Word, Fault> {
     Ok(word)
 }
 
-fn parse_number<T: std::str::FromStr>(word: Word, what: &str) -> Result<T, Fault> {
+pub fn parse_number<T: std::str::FromStr>(word: Word, what: &str) -> Result<T, Fault> {
     word.text
         .parse()
         .map_err(|_| Fault::new(word.span(), format!("`{}` is not {what}", word.text)))
@@ -254,73 +236,13 @@ fn parse_cell<'t>(first: Word<'t>, rest: &[Word<'t>]) -> Result<Statement<'t>, F
     }
 }
 
-/// `array name = length`, with `at cell` or without, or `array name raw BYTES`.
-fn parse_array<'t>(first: Word<'t>, rest: &[Word<'t>]) -> Result<Statement<'t>, Fault> {
-    let (name, length, at) = match rest {
-        [name, raw, bytes @ ..] if raw.text == "raw" => {
-            let record = parse_bytes(*raw, bytes)?;
-            return Ok(Statement::RawArray(check_name(*name)?, record));
-        }
-        [name, equals, length] if equals.text == "=" => (name, length, None),
-        [name, equals, length, at, cell] if equals.text == "=" && at.text == "at" => {
-            (name, length, Some(cell))
-        }
-        _ => {
-            let span = first.start..rest.last().map_or(first.span(), Word::span).end;
-            return Err(Fault::new(span, ARRAY_FORM).maybe(length_in_brackets(rest)));
-        }
-    };
-    let name = check_name(*name)?;
-    let most = |word: Word, what: String| match parse_number(word, &what) {
-        Ok(number) if usize::from(number) > MOST_CELLS => {
-            let text = format!("`{number}` is not {what}");
-            Err(Fault::new(word.span(), text))
-        }
-        number => number,
-    };
-    let extent = Extent {
-        length: most(*length, format!("a length, 0 to {MOST_CELLS}"))?,
-        at: at
-            .map(|cell| most(*cell, "the number of a cell, 0 to 1023".to_string()))
-            .transpose()?,
-        span: span_of(rest),
-    };
-    Ok(Statement::Array(name, extent))
-}
-
-/// `array a[8]`, as other languages have it.
-fn length_in_brackets(rest: &[Word]) -> Option<String> {
-    let (name, length) = rest.first()?.text.split_once('[')?;
-    let length = length.strip_suffix(']')?;
-    Some(format!("`array {name} = {length}`"))
-}
-
-/// `name[index] = value`.
-fn parse_load<'t>(first: Word<'t>, rest: &[Word<'t>]) -> Result<Statement<'t>, Fault> {
-    let span = first.start..rest.last().map_or(first.span(), Word::span).end;
-    let form = || Fault::new(span.clone(), ELEMENT_FORM);
-    let [equals, value] = rest else {
-        return Err(form());
-    };
-    let (open, end) = (first.text.find('['), first.text.len());
-    let Some(open) = open.filter(|_| equals.text == "=" && first.text.ends_with(']')) else {
-        return Err(form());
-    };
-    let element = Element {
-        array: check_name(first.part(0, open))?,
-        index: parse_number(first.part(open + 1, end - 1), "an index")?,
-        word: first,
-    };
-    Ok(Statement::Element(element, parse_number(*value, NUMBER)?))
-}
-
 fn parse_picks<'t>(words: &[Word<'t>]) -> Result<Statement<'t>, Fault> {
     let pick = |word: &Word| parse_number(*word, "a pick, 0 to 65535");
     let picks: Result<Vec<u16>, Fault> = words.iter().map(pick).collect();
     picks.map(Statement::Picks)
 }
 
-fn parse_bytes<const N: usize>(first: Word, words: &[Word]) -> Result<[u8; N], Fault> {
+pub fn parse_bytes<const N: usize>(first: Word, words: &[Word]) -> Result<[u8; N], Fault> {
     let byte = |word: &Word| {
         let digits = word.text.len() == 2 && word.text.bytes().all(|b| b.is_ascii_hexdigit());
         match u8::from_str_radix(word.text, 16) {
@@ -368,31 +290,6 @@ fn parse_instruction<'t>(first: Word<'t>, rest: &[Word<'t>]) -> Result<Statement
         array,
         arcs,
     }))
-}
-
-/// The array between FETCH or STORE and the arrow, if there is one.
-fn parse_array_name<'t>(
-    operation: &Operation,
-    words: &[Word<'t>],
-) -> Result<Option<Word<'t>>, Fault> {
-    let Some(array) = words.first() else {
-        return Ok(None);
-    };
-    let (name, text) = (operation.name, array.text);
-    let texts: Vec<&str> = words.iter().map(|word| word.text).collect();
-    let followed = format!("{name} is followed by `{}`", texts.join(" "));
-    let fault = Fault::new(span_of(words), followed);
-    match text.split_once('[') {
-        _ if text.parse::<i32>().is_ok() => Err(fault.maybe(hints::constant(name, &texts))),
-        Some((known, index)) => {
-            let index = index.trim_end_matches(']');
-            Err(fault.hint(format!(
-                "the index comes by port 0: `{name} {known}`, and `input name = {index}` or an arc"
-            )))
-        }
-        None if words.len() > 1 => Err(fault.hint(hints::array_or_arrow(name, &texts))),
-        None => check_name(*array).map(Some),
-    }
 }
 
 fn check_fan_out(
