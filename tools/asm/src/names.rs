@@ -102,7 +102,7 @@ impl<'t> Names<'t> {
         self.define(name, Meaning::Array(self.arrays, length), line)
     }
 
-    /// Instructions and arrays share their names: answers have both, as `a[3]`.
+    /// No array has the name of an instruction: answers have both, as `a[3]`.
     fn define(&mut self, name: Word<'t>, meaning: Meaning, line: &Line) -> Result<(), Fault> {
         match self.meanings.insert(name.text, (meaning, line.number)) {
             None => Ok(()),
