@@ -127,7 +127,7 @@ fn parts_in_several_orders() {
     let done = dayomlak(&["carry-on", &a, "--order", "newest", "--budget", "0"]);
     assert!(
         done.out
-            .starts_with("spent: 30 firings, 45 tokens, oldest first; more"),
+            .starts_with("spent: 30 firings, 47 tokens, oldest first; more"),
         "{done:?}"
     );
     // Before the first firing there was no order.
