@@ -35,7 +35,7 @@ _WORDS = {0: 'completed', 100: 'spent', 101: 'hung'}
 
 
 class Instruction(NamedTuple):
-    """An operation by its name, arcs as pairs of instruction and port, and a constant: of CONST, LEAVE, the site of ENTER, or on the
+    """An operation by its name, arcs as pairs of instruction and port, and a constant: of CONST, LEAVE, the site of ENTER, the array of FETCH or STORE, or on the
     right of ADD to EQ, which then have one operand."""
     operation: str
     arcs: Tuple[Tuple[int, int], ...] = ()
@@ -130,10 +130,11 @@ class Request(NamedTuple):
 
 
 class Files(NamedTuple):
-    """Graph, inputs and picks as bytes."""
+    """Graph, inputs, picks and arrays as bytes."""
     graph: bytes
     inputs: bytes
     picks: bytes
+    arrays: bytes = b''
 
 
 # The functions of ttda.h, with their parameters: r a buffer that is read, w one that is written, h a number of 16 bits, q one of 64,
@@ -267,12 +268,13 @@ def _read(path) -> bytes:
         return file.read()
 
 
-def _lent(graph, inputs, picks=()) -> Files:
-    """What a call is lent. A typed graph has inputs and picks of its own, unless others are given."""
+def _lent(graph, inputs, picks=(), arrays=None) -> Files:
+    """What a call is lent. A typed graph has inputs, picks and arrays of its own, unless others are given."""
     typed = assembled(graph) if isinstance(graph, str) else Files(graph_bytes(graph), b'', b'')
     return Files(typed.graph,
                  typed.inputs if inputs is None else input_bytes(inputs),
-                 typed.picks if picks is None else pick_bytes(picks))
+                 typed.picks if picks is None else pick_bytes(picks),
+                 typed.arrays if arrays is None else array_bytes(arrays))
 
 
 def _buffers(capacity, cells):
@@ -284,33 +286,33 @@ def _left(number, ledger, memory) -> Run:
     return Run(answer, number, ledger.raw[:TOKEN.size * answer.tokens], memory.raw)
 
 
-def run(graph, inputs=None, picks=None, budget=MOST_RECORDS, capacity=MOST_RECORDS, cells=MOST_CELLS, arrays=()) -> Run:
+def run(graph, inputs=None, picks=None, budget=MOST_RECORDS, capacity=MOST_RECORDS, cells=MOST_CELLS, arrays=None) -> Run:
     """Runs a graph. Without picks the oldest enabled activity fires first. The constant of a FETCH or a STORE names one of the arrays,
     counted from 1."""
     ledger, memory = _buffers(capacity, cells)
-    files = _lent(graph, inputs, picks)
-    number = _call('ttda_run', files.graph, array_bytes(arrays), files.inputs, files.picks, budget, ledger, memory)
+    files = _lent(graph, inputs, picks, arrays)
+    number = _call('ttda_run', files.graph, files.arrays, files.inputs, files.picks, budget, ledger, memory)
     return _left(number, ledger, memory)
 
 
-def carry_on(graph, left, picks=(), budget=MOST_RECORDS, capacity=MOST_RECORDS, arrays=()) -> Run:
+def carry_on(graph, left, picks=(), budget=MOST_RECORDS, capacity=MOST_RECORDS, arrays=None) -> Run:
     """Goes on from what a run left."""
     ledger, memory = _buffers(capacity, len(left.memory) // CELL.size)
     ledger[:len(left.ledger)] = left.ledger
     memory[:] = left.memory
     counts = left.answer.firings, left.answer.tokens
-    files = _lent(graph, b'', picks)
-    number = _call('ttda_carry_on', files.graph, array_bytes(arrays), files.picks, budget, *counts, ledger, memory)
+    files = _lent(graph, b'', picks, arrays)
+    number = _call('ttda_carry_on', files.graph, files.arrays, files.picks, budget, *counts, ledger, memory)
     return _left(number, ledger, memory)
 
 
 def run_logged(graph, inputs=None, picks=None, budget=MOST_RECORDS, capacity=MOST_RECORDS,
-               cells=MOST_CELLS, arrays=()) -> Tuple[Run, bytes]:
+               cells=MOST_CELLS, arrays=None) -> Tuple[Run, bytes]:
     """The run and its log."""
     ledger, memory = _buffers(capacity, cells)
     log = ctypes.create_string_buffer(LOGGED.size * MOST_RECORDS)
-    files = _lent(graph, inputs, picks)
-    number = _call('ttda_run_logged', files.graph, array_bytes(arrays), files.inputs, files.picks, budget, ledger, memory, log)
+    files = _lent(graph, inputs, picks, arrays)
+    number = _call('ttda_run_logged', files.graph, files.arrays, files.inputs, files.picks, budget, ledger, memory, log)
     left = _left(number, ledger, memory)
     return left, log.raw[:LOGGED.size * left.answer.firings]
 
@@ -321,20 +323,20 @@ def activities(log) -> List[Activity]:
             for path, iteration, instruction in LOGGED.iter_unpack(log)]
 
 
-def replay(graph, log, inputs=None, capacity=MOST_RECORDS, cells=MOST_CELLS, arrays=()) -> Run:
+def replay(graph, log, inputs=None, capacity=MOST_RECORDS, cells=MOST_CELLS, arrays=None) -> Run:
     """Fires what a log names."""
     ledger, memory = _buffers(capacity, cells)
-    files = _lent(graph, inputs)
-    return _left(_call('ttda_replay', files.graph, array_bytes(arrays), files.inputs, log, ledger, memory), ledger, memory)
+    files = _lent(graph, inputs, arrays=arrays)
+    return _left(_call('ttda_replay', files.graph, files.arrays, files.inputs, log, ledger, memory), ledger, memory)
 
 
 def profile(graph, inputs=None, capacity=MOST_RECORDS, cells=MOST_CELLS, steps=MOST_RECORDS,
-            arrays=()) -> Tuple[Run, List[Step]]:
+            arrays=None) -> Tuple[Run, List[Step]]:
     """The run by ideal steps, and the steps."""
     ledger, memory = _buffers(capacity, cells)
-    files = _lent(graph, inputs)
+    files = _lent(graph, inputs, arrays=arrays)
     records, written = ctypes.create_string_buffer(STEP.size * steps), ctypes.c_uint64()
-    number = _call('ttda_profile', files.graph, array_bytes(arrays), files.inputs, ledger, memory, records, ctypes.byref(written))
+    number = _call('ttda_profile', files.graph, files.arrays, files.inputs, ledger, memory, records, ctypes.byref(written))
     return _left(number, ledger, memory), [Step(*step) for step in STEP.iter_unpack(records.raw[:STEP.size * written.value])]
 
 

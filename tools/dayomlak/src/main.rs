@@ -3,6 +3,7 @@
 
 mod activity;
 mod answer;
+mod arrays;
 mod beginning;
 mod circles;
 mod cli;
@@ -15,6 +16,7 @@ mod forms;
 mod graph;
 mod graphviz;
 mod history;
+mod indices;
 mod json;
 mod loads;
 mod log_file;

@@ -25,7 +25,7 @@ pub fn check_name(path: &Path) -> Result<(), Failure> {
     }
 }
 
-/// A fingerprint of graph and inputs, for a reader to tell two pictures apart.
+/// A fingerprint of graph, arrays and inputs, for a reader to tell two pictures apart.
 pub fn fingerprint(files: &Files) -> Fingerprint {
-    Fingerprint::of_run(&files.graph, &files.inputs)
+    Fingerprint::of_run(&files.graph, &files.arrays, &files.inputs)
 }
