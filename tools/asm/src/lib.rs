@@ -11,7 +11,7 @@ mod parse;
 mod statement;
 mod words;
 
-pub use assemble::{assemble, read, Instruction, Place, Program};
+pub use assemble::{assemble, read, read_order, Instruction, Named, Place, Program};
 pub use disassemble::disassemble;
 pub use errors::{Error, Errors, Span};
 pub use operations::{by_code, Constant, Operation};

@@ -34,6 +34,8 @@ pub enum Statement<'t> {
     /// A cell and its value: a STORE and the two inputs that fire it.
     Cell(i32, i32),
     Picks(Vec<u16>),
+    /// The activities of an order, as answers name them.
+    Order(Vec<Word<'t>>),
     /// A line with a fault, and the targets that are named in it all the same.
     Faulty(Vec<Target<'t>>),
     /// An instruction with a fault. Its name is defined, so that one fault is

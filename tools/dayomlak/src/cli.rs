@@ -7,8 +7,7 @@ use clap::{Args, Parser, Subcommand, ValueEnum};
 
 use crate::failure::Failure;
 use crate::machine::Sizes;
-use crate::orders::Order;
-use crate::records::{MOST_CELLS, MOST_RECORDS};
+use crate::orders::{self, Order};
 
 /// Runs, checks, compares and draws graphs of the MIT tagged-token dataflow machine, on an engine whose answers are proved.
 #[derive(Debug, Parser)]
@@ -33,8 +32,10 @@ pub enum Command {
     Show(Show),
     /// Find errors and warnings, and what the graph needs, without a firing
     Check(Check),
-    /// Run a graph oldest first, newest first and in random orders
+    /// Run a graph oldest first, newest first and in random orders, or in orders of your own
     Compare(Compare),
+    /// At which firing two runs part, and that they end alike
+    Diff(Diff),
     /// Show every firing: operands, outputs and cells
     Trace(Trace),
     /// Firings and tokens by ideal steps (Memo 280), as a table or a picture
@@ -74,6 +75,7 @@ impl Command {
             Command::Show(args) => ("show", &args.script, args.file.as_str()),
             Command::Check(args) => ("check", &args.script, args.file.file.as_str()),
             Command::Compare(args) => ("compare", &args.script, args.file.file.as_str()),
+            Command::Diff(args) => ("diff", &args.script, args.file.file.as_str()),
             Command::Trace(args) => ("trace", &args.form.script, args.file.file.as_str()),
             Command::Profile(args) => ("profile", &args.form.script, args.file.file.as_str()),
             Command::Bounds(args) => ("bounds", &args.script, args.file.file.as_str()),
@@ -99,6 +101,7 @@ impl Command {
                 "compare",
                 "`dayomlak carry-on --order ORDER` goes on from it in one order".to_string(),
             ),
+            Command::Diff(_) => ("diff", "`dayomlak trace` shows what it fires".to_string()),
             Command::Check(_) => ("check", "`dayomlak show` looks at it".to_string()),
             Command::Draw(_) => (
                 "draw",
@@ -161,6 +164,11 @@ fn up_to<const MOST: u16>(word: &str) -> Result<u16, String> {
     number.ok_or(format!("it is a number from 0 to {MOST}"))
 }
 
+/// Picks of the command line.
+fn picks(word: &str) -> Result<Order, String> {
+    orders::picks(word).map(Order::Picks)
+}
+
 #[derive(Debug, Args)]
 pub struct File {
     /// A typed graph, a folder with its files, or -
@@ -180,9 +188,10 @@ pub struct Buffers {
 
 impl Buffers {
     pub fn sizes(&self) -> Sizes {
+        let most = Sizes::default();
         Sizes {
-            capacity: self.capacity.map_or(MOST_RECORDS, usize::from),
-            cells: self.cells.map_or(MOST_CELLS, usize::from),
+            capacity: self.capacity.map_or(most.capacity, usize::from),
+            cells: self.cells.map_or(most.cells, usize::from),
         }
     }
 
@@ -194,12 +203,22 @@ impl Buffers {
 
 #[derive(Debug, Args)]
 pub struct Firing {
-    /// Which enabled activity fires next: oldest, newest, random:SEED, or typed (the picks of the file, oldest without)
+    /// Which enabled activity fires next: oldest, newest, random:SEED, picks such as 0,3,1, a file with a name for each
+    /// firing, or typed (the picks or the order of the graph's file, oldest without)
     #[arg(long, value_name = "ORDER", default_value_t = Order::Typed)]
-    pub order: Order,
+    order: Order,
+    /// The same as --order with picks: the number of each firing among the enabled, as `dayomlak trace` shows it
+    #[arg(long, value_name = "N,N..", conflicts_with = "order", value_parser = picks)]
+    picks: Option<Order>,
     /// The most firings
     #[arg(long, value_name = "N", default_value_t = 2048, value_parser = up_to::<{ u16::MAX }>)]
     pub budget: u16,
+}
+
+impl Firing {
+    pub fn order(&self) -> Order {
+        self.picks.clone().unwrap_or(self.order.clone())
+    }
 }
 
 #[derive(Debug, Args)]
@@ -231,7 +250,8 @@ pub struct CarryOn {
     pub file: String,
     #[command(flatten)]
     pub script: Script,
-    /// Which enabled activity fires next: oldest, newest, random:SEED, or typed (the picks of the file that are left)
+    /// Which enabled activity fires next: oldest, newest, random:SEED, picks or a file of names, for each firing since
+    /// the inputs, or typed (the picks or the order of the graph's file that are left)
     #[arg(long, value_name = "ORDER", default_value_t = Order::Typed)]
     pub order: Order,
     /// The most firings of this part
@@ -263,9 +283,31 @@ pub struct Compare {
     pub file: File,
     #[command(flatten)]
     pub script: Script,
-    /// How many random orders
-    #[arg(long, value_name = "N", default_value_t = 100)]
-    pub orders: u32,
+    /// Orders to run it in, besides oldest first, each as `dayomlak run --order` takes it
+    #[arg(value_name = "ORDER")]
+    pub given: Vec<Order>,
+    /// How many random orders [default: 100, or none beside an ORDER]
+    #[arg(long, value_name = "N")]
+    pub orders: Option<u32>,
+    #[command(flatten)]
+    pub buffers: Buffers,
+}
+
+#[derive(Debug, Args)]
+#[command(
+    after_help = "An ORDER is what `dayomlak run --order` takes.\n\nTry: dayomlak diff sum.ttda oldest newest"
+)]
+pub struct Diff {
+    #[command(flatten)]
+    pub file: File,
+    /// The order of one run
+    #[arg(value_name = "ORDER")]
+    pub one: Order,
+    /// The order of the other
+    #[arg(value_name = "ORDER")]
+    pub other: Order,
+    #[command(flatten)]
+    pub script: Script,
     #[command(flatten)]
     pub buffers: Buffers,
 }
@@ -282,6 +324,9 @@ pub struct Trace {
     /// How many firings to show
     #[arg(long, value_name = "N")]
     pub count: Option<usize>,
+    /// The firings alone, without what is enabled before each
+    #[arg(long)]
+    pub short: bool,
     #[command(flatten)]
     pub firing: Firing,
     #[command(flatten)]

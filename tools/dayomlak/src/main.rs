@@ -21,6 +21,7 @@ mod log_file;
 mod machine;
 mod manual;
 mod meetings;
+mod named;
 mod newest;
 mod orders;
 mod output;
@@ -36,6 +37,7 @@ mod saved;
 mod script;
 mod second_token;
 mod sources;
+mod walk;
 mod warnings;
 
 use std::io::Write;
@@ -54,6 +56,7 @@ fn main() -> ExitCode {
         Command::Show(args) => commands::show::show(args),
         Command::Check(args) => commands::check::check(args),
         Command::Compare(args) => commands::compare::compare(args),
+        Command::Diff(args) => commands::diff::diff(args),
         Command::Trace(args) => commands::trace::trace(args),
         Command::Profile(args) => commands::profile::profile(args),
         Command::Report(args) => commands::report::report(args),

@@ -10,7 +10,7 @@ use crate::orders::Order;
 use crate::program::Program;
 
 /// The plot of a machine fired in an order, from the user's cache where the engine says that what is kept serves.
-pub fn plot(machine: &Machine, order: Order, budget: u16) -> Result<Plot, Failure> {
+pub fn plot(machine: &Machine, order: &Order, budget: u16) -> Result<Plot, Failure> {
     let files = &machine.program.files;
     let request = Request {
         graph: files.graph.clone(),
@@ -22,7 +22,7 @@ pub fn plot(machine: &Machine, order: Order, budget: u16) -> Result<Plot, Failur
     };
     let asked = Run {
         request,
-        order: order.words(!files.picks.is_empty()),
+        order: order.words(machine.program),
         seconds: plotter::now(),
     };
     let cache = Cache::of_user(env!("ENGINE"));

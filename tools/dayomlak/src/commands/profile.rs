@@ -85,10 +85,10 @@ fn csv(steps: &[Step]) -> String {
 fn draw(args: &Profile, path: &Path) -> Result<u8, Failure> {
     pictures::check_name(path)?;
     let program = load(&args.file.file)?;
-    let target = Target::new(path, &program.sources)?;
+    let order = args.order.clone().unwrap_or(Order::Typed);
+    let target = Target::new(path, &program.sources_with(&order))?;
     let machine = Machine::new(&program, args.buffers.sizes());
-    let order = args.order.unwrap_or(Order::Typed);
-    let plot = profiles::plot(&machine, order, args.budget.unwrap_or(WHOLE))?;
+    let plot = profiles::plot(&machine, &order, args.budget.unwrap_or(WHOLE))?;
     let end = End::from(&plot.left);
     let words = words(&program, &plot, &end);
     let svg = plot.svg(&words);

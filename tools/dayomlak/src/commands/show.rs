@@ -78,11 +78,10 @@ fn words(beginning: &Beginning, end: &End, view: &View) -> String {
     let result = |t: &Token| format!("{} = {}", program.tag(&t.tag), t.value);
     let lines =
         |tokens: &[Token], line: &dyn Fn(&Token) -> String| tokens.iter().map(line).collect();
-    let enabled = view
-        .enabled
-        .iter()
-        .map(|tag| activity(program, &tokens, tag));
-    text += &part("enabled, oldest first", enabled.collect());
+    let enabled = (0..).zip(&view.enabled);
+    let enabled = enabled
+        .map(|(number, tag): (usize, _)| format!("{number} {}", activity(program, &tokens, tag)));
+    text += &part("enabled, as picks count them", enabled.collect());
     text += &part("waiting for a partner", lines(&view.waiting, &waits));
     text += &part("deferred", lines(&view.deferred, &deferred));
     text += &part("results", lines(&view.results, &result));

@@ -48,9 +48,9 @@ impl<'m> Run<'m> {
         machine: &'m Machine,
         firing: &Firing,
     ) -> Result<Run<'m>, Failure> {
-        let picks = firing.order.picks(machine)?;
+        let picks = firing.order().picks(machine)?;
         let (end, log) = machine.run_traced(&picks, firing.budget)?;
-        let order = beginning.order(firing.order, &end);
+        let order = beginning.order(&firing.order(), &end);
         Ok(Run {
             machine,
             end,

@@ -44,7 +44,15 @@ function stateAt(position) {
     tokens: tokens.filter((token) => token.state !== 'spent'),
     spent: tokens.filter((token) => token.state === 'spent').length,
     cells: itemsAt(data.cells, position),
+    enabled: enabledAt(position),
+    next: refused ? data.refused : firingAt(position + 1),
   };
+}
+
+// What can fire next, in the order of picks. A refused firing changes nothing.
+function enabledAt(position) {
+  const at = Math.min(position, data.firings.length);
+  return data.enabled.filter(({ since, until }) => since <= at && at < until);
 }
 
 function firingAt(position) {
@@ -169,6 +177,26 @@ function some(words) {
   return [...words.slice(0, MOST_NAMES), `and ${words.length - MOST_NAMES} more`];
 }
 
+// The enabled activities by their numbers; the one that fires next stands out.
+function showEnabled({ enabled, next }) {
+  const chips = enabled.slice(0, MOST_ROWS).map(({ name }, number) => {
+    const item = document.createElement('li');
+    item.append(`${number} `, ...breakable(name));
+    item.classList.toggle('next', Boolean(next) && next.name === name);
+    return item;
+  });
+  if (enabled.length > MOST_ROWS) {
+    const more = document.createElement('li');
+    more.append(`and ${enabled.length - MOST_ROWS} more`);
+    chips.push(more);
+  }
+  byId('enabled-count').textContent = enabled.length === 0
+    ? 'Nothing can fire'
+    : `${enabled.length} can fire, numbered as picks count them`;
+  byId('enabled').replaceChildren(...chips);
+  keepInSight(byId('enabled').parentElement, byId('enabled').querySelector('.next'));
+}
+
 function showTables({ tokens, spent, cells }) {
   const deferred = tokens.filter((token) => token.state === 'deferred');
   const live = tokens.length - deferred.length;
@@ -236,6 +264,7 @@ function mark(name, ids) {
 function showPicture(state) {
   const { firing, refused, tokens } = state;
   const here = firing ? [firing.at] : [];
+  mark('enabled', state.enabled.map(({ at }) => at));
   mark('fires', refused ? [] : here);
   mark('refuses', refused ? here : [data.fault]);
   mark('sends', tokens.filter((token) => token.fresh).map((token) => token.arc));
@@ -371,6 +400,7 @@ function show(wanted) {
   position = Math.min(last, Math.max(0, Math.round(wanted) || 0));
   const state = stateAt(position);
   showFiring(state);
+  showEnabled(state);
   showTables(state);
   if (svg) showPicture(state);
   showStep(state);
