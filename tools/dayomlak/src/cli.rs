@@ -36,6 +36,8 @@ pub enum Command {
     Compare(Compare),
     /// At which firing two runs part, and that they end alike
     Diff(Diff),
+    /// Fire a graph by hand, in a terminal
+    Step(Step),
     /// Show every firing: operands, outputs and cells
     Trace(Trace),
     /// Firings and tokens by ideal steps (Memo 280), as a table or a picture
@@ -102,6 +104,7 @@ impl Command {
                 "`dayomlak carry-on --order ORDER` goes on from it in one order".to_string(),
             ),
             Command::Diff(_) => ("diff", "`dayomlak trace` shows what it fires".to_string()),
+            Command::Step(_) => ("step", "`dayomlak carry-on` goes on from it".to_string()),
             Command::Check(_) => ("check", "`dayomlak show` looks at it".to_string()),
             Command::Draw(_) => (
                 "draw",
@@ -308,6 +311,22 @@ pub struct Diff {
     pub other: Order,
     #[command(flatten)]
     pub script: Script,
+    #[command(flatten)]
+    pub buffers: Buffers,
+}
+
+#[derive(Debug, Args)]
+#[command(
+    after_help = "Arrow keys or a number choose, Enter fires; b goes back, p plays oldest first, w writes the order so far into a \
+    file for --order, q quits.\nWithout a terminal each line of standard input is a command: a number or a name, b, p, w \
+    FILE, q.\n\nTry: dayomlak step sum.ttda"
+)]
+pub struct Step {
+    #[command(flatten)]
+    pub file: File,
+    /// Read lines, also in a terminal
+    #[arg(long)]
+    pub lines: bool,
     #[command(flatten)]
     pub buffers: Buffers,
 }

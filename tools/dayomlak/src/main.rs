@@ -37,6 +37,7 @@ mod saved;
 mod script;
 mod second_token;
 mod sources;
+mod step;
 mod walk;
 mod warnings;
 
@@ -57,6 +58,7 @@ fn main() -> ExitCode {
         Command::Check(args) => commands::check::check(args),
         Command::Compare(args) => commands::compare::compare(args),
         Command::Diff(args) => commands::diff::diff(args),
+        Command::Step(args) => commands::step::step(args),
         Command::Trace(args) => commands::trace::trace(args),
         Command::Profile(args) => commands::profile::profile(args),
         Command::Report(args) => commands::report::report(args),

@@ -3,6 +3,7 @@
 use crate::answer::Word;
 use crate::failure::Failure;
 use crate::machine::{self, End, Machine};
+use crate::orders;
 use crate::program::Program;
 use crate::records::{self, Tag};
 use crate::saved::view::View;
@@ -22,6 +23,12 @@ impl<'m> Walk<'m> {
     /// The state before the first firing. A run that is refused at once has nothing enabled.
     pub fn new(machine: &'m Machine<'m>) -> Result<Walk<'m>, Failure> {
         Walk::at(machine, machine.run(&[], 0))
+    }
+
+    /// The state after firings by picks, the last of which may be refused.
+    pub fn after(machine: &'m Machine<'m>, picks: &[u16]) -> Result<Walk<'m>, Failure> {
+        let end = machine.run(&orders::bytes(picks.iter().copied()), picks.len() as u16);
+        Walk::at(machine, end)
     }
 
     fn at(machine: &'m Machine<'m>, end: End) -> Result<Walk<'m>, Failure> {

@@ -14,6 +14,7 @@ pub mod profile;
 pub mod report;
 pub mod run;
 pub mod show;
+pub mod step;
 pub mod trace;
 
 use crate::answer::Word;

@@ -86,24 +86,11 @@ impl<'d> Data<'d> {
     fn firings(&self) -> String {
         list(self.history.firings.iter().map(|firing| {
             let mut fields = self.activity(&firing.tag);
-            fields.push(("words", string(&self.words(firing))));
+            let words = effects::sentence(self.program, &self.history, firing);
+            fields.push(("words", string(&words)));
             fields.push(("step", maybe(self.steps.of(&firing.tag))));
             object(&fields)
         }))
-    }
-
-    /// Operation, operands and what they lead to.
-    fn words(&self, firing: &Firing) -> String {
-        let operation = self.program.graph.get(firing.tag.instruction);
-        let operation = operation.map_or(String::new(), |i| i.words());
-        let operands = effects::operands(&self.history, firing).replace(' ', " and ");
-        let effects = effects::of(self.program, &self.history, firing);
-        let join = match effects.chars().next() {
-            None => "",
-            Some('-') => " ",
-            Some(_) => ": ",
-        };
-        format!("{operation} with {operands}{join}{effects}")
     }
 
     /// The name of an activity, its tag in numbers and the id of what is drawn of it.
