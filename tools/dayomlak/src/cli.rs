@@ -5,6 +5,7 @@ use std::str::FromStr;
 
 use clap::{Args, Parser, Subcommand, ValueEnum};
 
+use crate::curves::Pace;
 use crate::failure::Failure;
 use crate::machine::Sizes;
 use crate::orders::{self, Order};
@@ -79,7 +80,10 @@ impl Command {
             Command::Compare(args) => ("compare", &args.script, args.file.file.as_str()),
             Command::Diff(args) => ("diff", &args.script, args.file.file.as_str()),
             Command::Trace(args) => ("trace", &args.form.script, args.file.file.as_str()),
-            Command::Profile(args) => ("profile", &args.form.script, args.file.file.as_str()),
+            Command::Profile(args) => {
+                let first = args.files.first().map_or("", String::as_str);
+                ("profile", &args.form.script, first)
+            }
             Command::Bounds(args) => ("bounds", &args.script, args.file.file.as_str()),
             Command::Explain(args) => ("explain", &args.script, ""),
             _ => return None,
@@ -165,6 +169,16 @@ pub struct Completion {
 fn up_to<const MOST: u16>(word: &str) -> Result<u16, String> {
     let number = word.parse().ok().filter(|number| *number <= MOST);
     number.ok_or(format!("it is a number from 0 to {MOST}"))
+}
+
+/// How many may fire in a step.
+fn pace(word: &str) -> Result<Pace, String> {
+    let number = word.parse().ok().filter(|number| *number > 0);
+    match (word, number) {
+        ("any", _) => Ok(Pace::Ideal),
+        (_, Some(most)) => Ok(Pace::Processors(most)),
+        _ => Err("it is a number from 1 to 65535, or any".to_string()),
+    }
 }
 
 /// Picks of the command line.
@@ -353,18 +367,29 @@ pub struct Trace {
 }
 
 #[derive(Debug, Args)]
+#[command(
+    after_help = "Several files, or several --processors, stand in one plot or below each other.\n\n\
+    Try: dayomlak profile sum.ttda --processors any --processors 2 -o X.svg"
+)]
 pub struct Profile {
-    #[command(flatten)]
-    pub file: File,
+    /// Typed graphs, folders with their files, or -
+    #[arg(value_name = "FILE", required = true)]
+    pub files: Vec<String>,
     #[command(flatten)]
     pub form: Form,
-    /// Draw the curves to an SVG file, with what a run left
+    /// Draw the curves: X.svg, X.png or X.pdf; those of one profile with what a run left
     #[arg(short, value_name = "X.svg", conflicts_with_all = ["json", "csv"])]
     pub output: Option<PathBuf>,
-    /// The order of that run, as for `dayomlak run`; only with -o
+    /// The most firings of a step, those first that were enabled first, or any for ideal steps
+    #[arg(long, value_name = "N", value_parser = pace)]
+    pub processors: Vec<Pace>,
+    /// Tokens by the firings of one run instead of steps
+    #[arg(long, conflicts_with = "processors")]
+    pub firings: bool,
+    /// The order of that run, as for `dayomlak run`; only with --firings or -o
     #[arg(long, value_name = "ORDER")]
     pub order: Option<Order>,
-    /// The most firings of that run; only with -o
+    /// The most firings of that run; only with --firings or -o
     #[arg(long, value_name = "N", value_parser = up_to::<{ u16::MAX }>)]
     pub budget: Option<u16>,
     #[command(flatten)]
@@ -395,7 +420,7 @@ pub struct Draw {
     /// The text for Graphviz instead of the picture
     #[arg(long)]
     pub dot: bool,
-    /// Where the picture goes; standard output without
+    /// Where the picture goes, X.svg, X.png or X.pdf; standard output without
     #[arg(short, value_name = "X.svg")]
     pub output: Option<PathBuf>,
 }

@@ -7,6 +7,7 @@ mod beginning;
 mod circles;
 mod cli;
 mod commands;
+mod curves;
 mod diagnostics;
 mod effects;
 mod expression;

@@ -189,7 +189,7 @@ fn firings_in_words() {
     let (_, page) = typed(text, &[]);
     let expected = [
         ("a[0]", 0, "COPY with 4 -\\u003e c[0].0 = 4, b[0] = 4", 1),
-        ("write[0]", 4, "STORE with 3 and 9: cell 3 := 9", 1),
+        ("write[0]", 4, "STORE with 3 and 9: cell 3 := 9", 0),
         ("b[0]", 1, "ADD 1 with 4 -\\u003e c[0].1 = 5", 2),
         ("c[0]", 2, "SUB with 4 and 5 -\\u003e d[0] = -1", 3),
     ];
@@ -201,7 +201,8 @@ fn firings_in_words() {
     }).into();
     let shown = between(data(&page), "\"firings\":[", "],\"refused\"");
     assert_eq!(shown, firings.join(","));
-    assert!(data(&page).contains("\"steps\":[[2,2],[1,2],[1,1]],"));
+    let steps = "\"steps\":[[1,1,0],[1,2,1],[1,2,0],[1,1,0]],\"firstStep\":0,";
+    assert!(data(&page).contains(steps), "{}", data(&page));
 }
 
 /// Each activity is enabled from the position at which its last operand is there, up to that of its firing.
@@ -328,7 +329,7 @@ fn refused_before_any_firing() {
         assert!(done.out.contains(words), "{done:?}");
         stands_alone(&page);
         assert!(between(&page, "<pre id=\"refusal\">", "</pre>").contains(words));
-        let empty = "\"firings\":[],\"refused\":null,\"enabled\":[],\"tokens\":[],\"cells\":[],\"steps\":[]";
+        let empty = "\"firings\":[],\"refused\":null,\"enabled\":[],\"tokens\":[],\"cells\":[],\"steps\":[],\"firstStep\":1";
         let start = "{\"before\":0,\"carriedOn\":false";
         assert_eq!(
             data(&page),

@@ -2,6 +2,8 @@
 
 use std::collections::{HashMap, HashSet};
 
+use plotter::curves::Steps as Curves;
+
 use super::states::{Changes, States};
 use super::steps::Steps;
 use super::Run;
@@ -18,8 +20,15 @@ use crate::walk;
 
 /// The data of a run. One that was refused before its inputs were written has no state.
 pub fn of(run: &Run, drawing: &Drawing, steps: &Steps) -> Result<String, Failure> {
-    let whole = steps.whole.iter();
-    let whole = whole.map(|step| format!("[{},{}]", step.firings, step.tokens));
+    let Curves {
+        firings,
+        tokens,
+        waiting,
+        first,
+        ..
+    } = &steps.curves;
+    let columns = firings.iter().zip(tokens).zip(waiting);
+    let columns = columns.map(|((f, t), w)| format!("[{f},{t},{w}]"));
     let fault = fault(run, drawing).unwrap_or_default();
     let nothing = ["[]", "null", "[]", "[]", "[]"].map(str::to_string);
     let [firings, refused, enabled, tokens, cells] = match run.end.answer.refused_at_once() {
@@ -43,7 +52,8 @@ pub fn of(run: &Run, drawing: &Drawing, steps: &Steps) -> Result<String, Failure
         ("enabled", enabled),
         ("tokens", tokens),
         ("cells", cells),
-        ("steps", list(whole)),
+        ("steps", list(columns)),
+        ("firstStep", first.to_string()),
         ("fault", string(&fault)),
     ]))
 }

@@ -108,7 +108,7 @@ impl<'m> Run<'m> {
 pub fn page(run: &Run) -> Result<String, Failure> {
     let program = run.machine.program;
     let drawing = Drawing::with_ids(program);
-    let steps = Steps::new(run.machine);
+    let steps = Steps::new(run.machine)?;
     let facts = run.facts().into_iter();
     let facts = facts
         .map(|(name, words)| format!("<div><dt>{name}</dt><dd>{}</dd></div>", escaped(&words)));
@@ -160,7 +160,7 @@ fn curves(steps: &Steps) -> Result<String, Failure> {
     if steps.whole.is_empty() {
         return Ok(String::new());
     }
-    let charts = curves::charts(&steps.whole);
+    let charts = curves::charts(&steps.curves);
     let charts = charts.map_err(|error| Failure::Inconsistent(format!("the curves: {error}")))?;
     Ok(charts.iter().map(figure).collect())
 }

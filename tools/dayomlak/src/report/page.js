@@ -372,22 +372,24 @@ function showStep({ firing, refused }) {
 
 function stepWords(firing, refused) {
   if (!firing || data.carriedOn) return '';
-  const record = data.steps[firing.step - 1];
+  const record = data.steps[firing.step - data.firstStep];
   if (refused && !record) return 'The refused firing is in no whole step.';
-  if (!firing.step) return 'The profile was refused before it came to this activity.';
+  if (firing.step === null) return 'The profile was refused before it came to this activity.';
   if (!record) return 'This activity fires in the step that was not finished.';
+  if (firing.step === 0) return `${firing.name} loads a cell, before step 1.`;
   return `${firing.name} fires in step ${firing.step}: ${plural(record[0], 'firing')}, ` +
-    `${plural(record[1], 'token')} after it.`;
+    `${plural(record[1], 'token')} after it, ${record[2]} of them waiting.`;
 }
 
 function markStep(figure, step) {
   figure.querySelectorAll('.mark').forEach((old) => old.remove());
-  if (!step || step > data.steps.length) return;
+  const column = step - data.firstStep;
+  if (step === null || column >= data.steps.length) return;
   const [left, right, top, bottom] = ['left', 'right', 'top', 'bottom'].map((side) => Number(figure.dataset[side]));
   const width = (right - left) / data.steps.length;
   const chart = figure.querySelector('svg');
   const rect = document.createElementNS(chart.namespaceURI, 'rect');
-  const place = { class: 'mark', x: left + width * (step - 1), y: top, width, height: bottom - top };
+  const place = { class: 'mark', x: left + width * column, y: top, width, height: bottom - top };
   Object.entries(place).forEach(([key, value]) => rect.setAttribute(key, value));
   chart.append(rect);
 }
