@@ -43,6 +43,8 @@ pub enum Command {
     Trace(Trace),
     /// Firings and tokens by ideal steps (Memo 280), as a table or a picture
     Profile(Profile),
+    /// Which instruction fires when, as a picture or for GTKWave
+    Timeline(Timeline),
     /// One page for a browser: the graph firing by firing, curves and listing
     Report(Report),
     /// Draw the graph (Graphviz)
@@ -100,6 +102,7 @@ impl Command {
         let (name, why) = match self {
             Command::Run(_) => ("run", "`dayomlak carry-on` goes on from it".to_string()),
             Command::Profile(_) => ("profile", format!("a profile is {from_inputs}")),
+            Command::Timeline(_) => ("timeline", format!("a timeline is {from_inputs}")),
             Command::Log(_) => ("log", format!("a log is {from_inputs}")),
             Command::Replay(_) => ("replay", format!("a log is {from_inputs}")),
             Command::Bounds(_) => ("bounds", format!("bounds are {from_inputs}")),
@@ -392,6 +395,29 @@ pub struct Profile {
     /// The most firings of that run; only with --firings or -o
     #[arg(long, value_name = "N", value_parser = up_to::<{ u16::MAX }>)]
     pub budget: Option<u16>,
+    #[command(flatten)]
+    pub buffers: Buffers,
+}
+
+#[derive(Debug, Args)]
+#[command(
+    after_help = "In a file X.vcd (value change dump) instructions are wires that are 1 while they fire, cells are values, x \
+    while absent and z while waiting.\n\nTry: dayomlak timeline sum.ttda --steps -o X.svg"
+)]
+pub struct Timeline {
+    #[command(flatten)]
+    pub file: File,
+    /// Where it goes: X.svg, X.png, X.pdf, or X.vcd for GTKWave
+    #[arg(short, value_name = "X.svg")]
+    pub output: PathBuf,
+    /// By ideal steps, and not firing by firing
+    #[arg(long, conflicts_with_all = ["order", "picks", "budget"])]
+    pub steps: bool,
+    /// By steps of at most so many firings, those first that were enabled first, or any for ideal steps
+    #[arg(long, value_name = "N", value_parser = pace, conflicts_with_all = ["order", "picks", "budget"])]
+    pub processors: Option<Pace>,
+    #[command(flatten)]
+    pub firing: Firing,
     #[command(flatten)]
     pub buffers: Buffers,
 }

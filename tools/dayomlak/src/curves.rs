@@ -33,6 +33,15 @@ impl Pace {
             Pace::Processors(most) => format!("step of at most {most} firings"),
         }
     }
+
+    /// In which order a run at this pace fires, in words.
+    pub fn words(self) -> String {
+        match self {
+            Pace::Ideal => "by ideal steps".to_string(),
+            Pace::Processors(1) => "by steps of 1 firing".to_string(),
+            Pace::Processors(most) => format!("by steps of at most {most} firings"),
+        }
+    }
 }
 
 /// The steps of a run, and what it answers and leaves.
@@ -61,8 +70,8 @@ pub fn ideal(machine: &Machine, whole: &[Step]) -> Result<Steps, Failure> {
         ..Steps::default()
     };
     let loaded = loaded(machine)?.filter(|_| !whole.is_empty());
-    let loads = loaded.as_ref().map_or(0, |(loads, _)| *loads);
-    if let Some((loads, walk)) = loaded {
+    let loads = loaded.as_ref().map_or(0, |(loads, _)| loads.len() as u32);
+    if let Some((_, walk)) = loaded {
         steps.first = 0;
         add(&mut steps, machine.program, loads, &walk.end);
     }
@@ -75,35 +84,63 @@ pub fn ideal(machine: &Machine, whole: &[Step]) -> Result<Steps, Failure> {
     Ok(steps)
 }
 
-/// Fires at most so many in a step, in the order in which they were enabled; the engine fires each.
+/// Fires at most so many in a step.
 fn processors(machine: &Machine, most: u16) -> Result<Paced, Failure> {
     let mut steps = Steps {
         what: Pace::Processors(most).step(),
         first: 1,
         ..Steps::default()
     };
+    let (end, _) = march(machine, most, |number, firings, end| {
+        steps.first = steps.first.min(number);
+        add(&mut steps, machine.program, firings, end);
+    })?;
+    Ok(Paced { steps, end })
+}
+
+/// The activities of a run with the step of each, 0 for the loads of cells, and what it leaves.
+pub fn in_steps(machine: &Machine, pace: Pace) -> Result<(End, Vec<(usize, Tag)>), Failure> {
+    let most = match pace {
+        Pace::Ideal => u16::MAX,
+        Pace::Processors(most) => most,
+    };
+    march(machine, most, |_, _, _| {})
+}
+
+/// Fires at most so many in a step, in the order in which they were enabled; the engine fires each. Whole steps are shown, by
+/// number, firings and what they leave.
+fn march(
+    machine: &Machine,
+    most: u16,
+    mut show: impl FnMut(usize, u32, &End),
+) -> Result<(End, Vec<(usize, Tag)>), Failure> {
     let mut walk = Walk::new(machine)?;
+    let mut log = Vec::new();
     if let Some((loads, after)) = loaded(machine)? {
-        steps.first = 0;
-        add(&mut steps, machine.program, loads, &after.end);
+        show(0, loads.len() as u32, &after.end);
+        log.extend(loads.into_iter().map(|tag| (0, tag)));
         walk = after;
     }
     let (mut known, mut queue) = (HashSet::new(), VecDeque::new());
+    let mut number = 0;
     while !walk.enabled.is_empty() {
+        number += 1;
         queue.extend(walk.enabled.iter().filter(|tag| known.insert(**tag)));
         let now: Vec<Tag> = (0..most).map_while(|_| queue.pop_front()).collect();
         for tag in &now {
-            walk.fire_tag(tag)?;
+            let fired = walk.fire_tag(tag)? && !is_refused(&walk.end);
+            log.extend(fired.then_some((number, *tag)));
         }
         // A refused step is not whole.
-        if !matches!(walk.end.answer.word, Word::Refused(_)) {
-            add(&mut steps, machine.program, now.len() as u32, &walk.end);
+        if !is_refused(&walk.end) {
+            show(number, now.len() as u32, &walk.end);
         }
     }
-    Ok(Paced {
-        steps,
-        end: walk.end,
-    })
+    Ok((walk.end, log))
+}
+
+fn is_refused(end: &End) -> bool {
+    matches!(end.answer.word, Word::Refused(_))
 }
 
 /// Tokens after each firing of a run, and before the first.
@@ -125,8 +162,8 @@ pub fn by_firing(machine: &Machine, picks: &[u8], budget: u16) -> Result<Paced, 
     Ok(Paced { steps, end })
 }
 
-/// How many cells are loaded, and the state after that; `None` where there are none, or one is refused.
-fn loaded<'m>(machine: &'m Machine<'m>) -> Result<Option<(u32, Walk<'m>)>, Failure> {
+/// The loads of cells, and the state after them; `None` where there are none, or one is refused.
+fn loaded<'m>(machine: &'m Machine<'m>) -> Result<Option<(Vec<Tag>, Walk<'m>)>, Failure> {
     let loads = Loads::of(machine.program);
     let mut walk = Walk::new(machine)?;
     let tags = walk.enabled.clone().into_iter();
@@ -134,9 +171,8 @@ fn loaded<'m>(machine: &'m Machine<'m>) -> Result<Option<(u32, Walk<'m>)>, Failu
     for tag in &tags {
         walk.fire_tag(tag)?;
     }
-    let is_refused = matches!(walk.end.answer.word, Word::Refused(_));
-    let is_there = !tags.is_empty() && !is_refused;
-    Ok(is_there.then_some((tags.len() as u32, walk)))
+    let is_there = !tags.is_empty() && !is_refused(&walk.end);
+    Ok(is_there.then_some((tags, walk)))
 }
 
 /// Adds a column: so many firings, and what they leave.

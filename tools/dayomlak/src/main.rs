@@ -39,6 +39,7 @@ mod script;
 mod second_token;
 mod sources;
 mod step;
+mod timeline;
 mod walk;
 mod warnings;
 
@@ -62,6 +63,7 @@ fn main() -> ExitCode {
         Command::Step(args) => commands::step::step(args),
         Command::Trace(args) => commands::trace::trace(args),
         Command::Profile(args) => commands::profile::profile(args),
+        Command::Timeline(args) => commands::timeline::timeline(args),
         Command::Report(args) => commands::report::report(args),
         Command::Draw(args) => commands::draw::draw(args),
         Command::Log(args) => commands::logs::log(args),

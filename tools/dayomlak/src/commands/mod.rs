@@ -15,6 +15,7 @@ pub mod report;
 pub mod run;
 pub mod show;
 pub mod step;
+pub mod timeline;
 pub mod trace;
 
 use crate::answer::Word;

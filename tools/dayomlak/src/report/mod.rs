@@ -2,7 +2,7 @@
 //! only chooses what to show.
 
 mod data;
-mod html;
+pub mod html;
 mod states;
 mod steps;
 
