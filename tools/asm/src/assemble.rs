@@ -6,7 +6,7 @@ use crate::names::{too_many, Names, STORE};
 use crate::operations::Constant;
 use crate::parse::parse_line;
 use crate::statement::{Line, Statement, Target, Typed};
-use crate::words::words;
+use crate::words::{order_words, span_of, words, Word};
 use crate::{Files, GRAPH_RECORD, TOKEN_RECORD};
 
 /// Where a statement stands in the text. Line and column are counted from 1, the
@@ -47,13 +47,43 @@ pub struct Program {
     pub instructions: Vec<Instruction>,
     /// The place of each input.
     pub inputs: Vec<Place>,
+    /// The activities of an order. Which picks they are, only a run shows.
+    pub order: Vec<Named>,
+}
+
+/// The name of an activity, as answers have it, and where it stands in the text.
+#[derive(Clone, Debug, PartialEq, Eq)]
+pub struct Named {
+    pub name: String,
+    pub span: Span,
 }
 
 /// Assembles a text. Names may be used before they are defined. A text without
 /// `raw` and with 1 to 256 instructions gives a graph and a table of arrays that
-/// pass the check, with 1,024 cells.
+/// pass the check, with 1,024 cells. An order by names is refused: files have
+/// picks, which only a run shows.
 pub fn assemble(text: &str) -> Result<Files, Errors> {
-    read(text).map(|program| program.files)
+    let program = read(text)?;
+    let Some(first) = program.order.first() else {
+        return Ok(program.files);
+    };
+    let fault = Fault::new(first.span.clone(), "the picks of an order are not known");
+    let hint = "`dayomlak asm` fires the graph to find them";
+    Err(Errors(vec![fault.hint(hint).on_line(line_of(text, first))]))
+}
+
+/// Reads an order that stands in a file of its own: a name for each firing.
+pub fn read_order(text: &str) -> Result<Vec<Named>, Errors> {
+    let (mut errors, mut order) = (Vec::new(), Vec::new());
+    for (number, offset, line) in numbered(text) {
+        let mut faults = Vec::new();
+        order.extend(named(&order_words(line, offset, &mut faults)));
+        errors.extend(faults.into_iter().map(|fault| fault.on_line(number)));
+    }
+    match errors.is_empty() {
+        true => Ok(order),
+        false => Err(Errors(errors)),
+    }
 }
 
 /// Assembles a text and keeps where everything stands. All faults are found.
@@ -74,6 +104,7 @@ pub fn read(text: &str) -> Result<Program, Errors> {
         let faults = program.write(&mut names, line);
         errors.extend(faults.into_iter().map(|fault| fault.on_line(line.number)));
     }
+    errors.extend(program.two_orders(text));
     if errors.is_empty() {
         return Ok(program);
     }
@@ -81,12 +112,46 @@ pub fn read(text: &str) -> Result<Program, Errors> {
     Err(Errors(errors))
 }
 
-/// The lines with statements. A byte order mark is skipped.
-fn parse<'t>(text: &'t str, errors: &mut Vec<Error>) -> Vec<Line<'t>> {
+/// The lines with their numbers and where they begin. A byte order mark is skipped.
+fn numbered(text: &str) -> impl Iterator<Item = (usize, usize, &str)> {
     let body = text.strip_prefix('\u{feff}').unwrap_or(text);
-    let mut offset = text.len() - body.len();
+    let mut next = text.len() - body.len();
+    (1..)
+        .zip(body.split_inclusive('\n'))
+        .map(move |(number, line)| {
+            let offset = next;
+            next += line.len();
+            (number, offset, line)
+        })
+}
+
+/// The line that a name stands in.
+fn line_of(text: &str, named: &Named) -> usize {
+    text[..named.span.start].matches('\n').count() + 1
+}
+
+/// The names of activities. Only that of a line that loads a cell has a space, `cell 3[0]`.
+fn named(words: &[Word]) -> Vec<Named> {
+    let mut names = Vec::new();
+    let mut rest = words;
+    while let Some((first, behind)) = rest.split_first() {
+        let length = if first.text == "cell" && !behind.is_empty() {
+            2
+        } else {
+            1
+        };
+        let texts: Vec<&str> = rest[..length].iter().map(|word| word.text).collect();
+        let (name, span) = (texts.join(" "), span_of(&rest[..length]));
+        names.push(Named { name, span });
+        rest = &rest[length..];
+    }
+    names
+}
+
+/// The lines with statements.
+fn parse<'t>(text: &'t str, errors: &mut Vec<Error>) -> Vec<Line<'t>> {
     let mut lines = Vec::new();
-    for (number, line) in (1..).zip(body.split_inclusive('\n')) {
+    for (number, offset, line) in numbered(text) {
         let mut faults = Vec::new();
         let words = words(line, offset, &mut faults);
         if let Some(mut parsed) = parse_line(number, &words, &mut faults) {
@@ -95,7 +160,6 @@ fn parse<'t>(text: &'t str, errors: &mut Vec<Error>) -> Vec<Line<'t>> {
             lines.push(parsed);
         }
         errors.extend(faults.into_iter().map(|fault| fault.on_line(number)));
-        offset += line.len();
     }
     lines
 }
@@ -123,6 +187,7 @@ impl Program {
                 let bytes = picks.iter().flat_map(|pick| pick.to_le_bytes());
                 self.files.picks.extend(bytes);
             }
+            Statement::Order(words) => self.order.extend(named(words)),
             Statement::Faulty(targets) => return resolve_all(names, targets).1,
             Statement::FaultyInstruction(targets) => {
                 self.instruction(line, [0; GRAPH_RECORD]);
@@ -139,6 +204,17 @@ impl Program {
         self.instruction(line, graph_record(STORE, &[], array));
         self.input(line, input_record(store, 0, index));
         self.input(line, input_record(store, 1, value));
+    }
+
+    /// The fault of a text that has both picks and an order.
+    fn two_orders(&self, text: &str) -> Option<Error> {
+        let first = self
+            .order
+            .first()
+            .filter(|_| !self.files.picks.is_empty())?;
+        let fault = Fault::new(first.span.clone(), "an order beside picks");
+        let fault = fault.hint("either of them says what fires: leave one out");
+        Some(fault.on_line(line_of(text, first)))
     }
 
     fn typed(&mut self, names: &mut Names, line: &Line, typed: &Typed) -> Vec<Fault> {

@@ -3,7 +3,7 @@
 use crate::operations::names;
 
 /// The words that begin a line which is no instruction.
-const LINES: [&str; 4] = ["input", "picks", "cell", "array"];
+const LINES: [&str; 5] = ["input", "picks", "cell", "array", "order"];
 
 /// Words of the memos and of other machines, and what is written here.
 const KNOWN: [(&[&str], &str); 14] = [

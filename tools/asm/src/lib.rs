@@ -13,7 +13,7 @@ mod parse_arrays;
 mod statement;
 mod words;
 
-pub use assemble::{assemble, read, Array, Instruction, Place, Program};
+pub use assemble::{assemble, read, read_order, Array, Instruction, Named, Place, Program};
 pub use disassemble::disassemble;
 pub use errors::{Error, Errors, Span};
 pub use operations::{by_code, Constant, Operation};

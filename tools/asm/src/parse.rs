@@ -56,7 +56,7 @@ fn named_targets<'t>(words: &[Word<'t>]) -> Vec<Target<'t>> {
 
 /// Whether a word begins a line that is no instruction.
 fn is_other(word: &str) -> bool {
-    matches!(word, "input" | "picks" | "cell" | "array") || is_element(word)
+    matches!(word, "input" | "picks" | "cell" | "array" | "order") || is_element(word)
 }
 
 /// The name before a colon, and the words behind it.
@@ -124,6 +124,7 @@ fn parse_statement<'t>(
             "picks" => parse_picks(rest),
             "cell" => parse_cell(*first, rest),
             "array" => parse_array(*first, rest),
+            "order" => parse_order(*first, rest),
             "raw" => parse_bytes(*first, rest).map(Statement::Raw),
             word if is_element(word) => parse_load(*first, rest),
             _ => parse_instruction(*first, rest),
@@ -240,6 +241,15 @@ fn parse_picks<'t>(words: &[Word<'t>]) -> Result<Statement<'t>, Fault> {
     let pick = |word: &Word| parse_number(*word, "a pick, 0 to 65535");
     let picks: Result<Vec<u16>, Fault> = words.iter().map(pick).collect();
     picks.map(Statement::Picks)
+}
+
+/// `order name[0] name[1] ...`, whatever is enabled then.
+fn parse_order<'t>(first: Word<'t>, rest: &[Word<'t>]) -> Result<Statement<'t>, Fault> {
+    if rest.is_empty() {
+        let fault = Fault::new(first.span(), "an order without an activity");
+        return Err(fault.hint("for example `order sum[0] total[0]`"));
+    }
+    Ok(Statement::Order(rest.to_vec()))
 }
 
 pub fn parse_bytes<const N: usize>(first: Word, words: &[Word]) -> Result<[u8; N], Fault> {

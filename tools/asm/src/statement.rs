@@ -60,6 +60,8 @@ pub enum Statement<'t> {
     /// An array and its record in bytes.
     RawArray(Word<'t>, [u8; ARRAY_RECORD]),
     Picks(Vec<u16>),
+    /// The activities of an order, as answers name them.
+    Order(Vec<Word<'t>>),
     /// A line with a fault, and the targets that are named in it all the same.
     Faulty(Vec<Target<'t>>),
     /// An instruction with a fault. Its name is defined, so that one fault is

@@ -36,7 +36,24 @@ const OTHER_ARROWS: [&str; 7] = ["-->", "=>", "→", "⇒", "⟶", "—>", "–>
 /// Parts a line, which begins at an offset of the text, into words. Other arrows
 /// and commas are faults, and are read as what they stand for.
 pub fn words<'t>(line: &'t str, offset: usize, faults: &mut Vec<Fault>) -> Vec<Word<'t>> {
-    let code = line.split('#').next().unwrap_or_default();
+    let is_order = line.split_whitespace().next() == Some("order");
+    let code = match is_order {
+        true => without_comment(line),
+        false => line.split('#').next().unwrap_or_default(),
+    };
+    parted(code, offset, faults)
+}
+
+/// The words of a line that is all an order, with or without the word `order` before it.
+pub fn order_words<'t>(line: &'t str, offset: usize, faults: &mut Vec<Fault>) -> Vec<Word<'t>> {
+    let mut words = parted(without_comment(line), offset, faults);
+    if words.first().is_some_and(|word| word.text == "order") {
+        words.remove(0);
+    }
+    words
+}
+
+fn parted<'t>(code: &'t str, offset: usize, faults: &mut Vec<Fault>) -> Vec<Word<'t>> {
     let mut words = Vec::new();
     let mut at = 0;
     while at < code.len() {
@@ -61,6 +78,19 @@ pub fn words<'t>(line: &'t str, offset: usize, faults: &mut Vec<Fault>) -> Vec<W
         at += length;
     }
     words
+}
+
+/// A line of an order up to its comment. `#3[0]` is none: so an activity is called whose instruction has no name.
+fn without_comment(line: &str) -> &str {
+    let begins_comment = |at: &usize| !names_a_number(&line[at + 1..]);
+    let mut signs = line.match_indices('#').map(|(at, _)| at);
+    &line[..signs.find(begins_comment).unwrap_or(line.len())]
+}
+
+/// Whether a text begins by a number and a bracket.
+fn names_a_number(text: &str) -> bool {
+    let rest = text.trim_start_matches(|c: char| c.is_ascii_digit());
+    rest.len() < text.len() && rest.starts_with('[')
 }
 
 enum Kind {

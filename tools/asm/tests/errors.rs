@@ -70,7 +70,7 @@ const CONSTANTS: [Case; 17] = [
 ];
 
 #[rustfmt::skip]
-const NAMES: [Case; 18] = [
+const NAMES: [Case; 21] = [
     ("x: COPY -> y.0", 1, "y", "`y` is not defined", None),
     ("tests: COPY -> testss.0", 1, "testss", "`testss` is not defined", Some("did you mean `tests`?")),
     ("prod: COPY -> pord", 1, "pord", "`pord` is not defined", Some("did you mean `prod`?")),
@@ -89,6 +89,9 @@ const NAMES: [Case; 18] = [
     ("x: COPY → x", 1, "→", "`→` is no arrow", Some("an arrow is written `->`")),
     ("x: COPY => x", 1, "=>", "`=>` is no arrow", Some("an arrow is written `->`")),
     ("x: COPY -> x, x", 1, ",", "a comma", Some("words are parted by spaces alone")),
+    ("order", 1, "order", "an order without an activity", Some("for example `order sum[0] total[0]`")),
+    ("x: SINK\npicks 0\n order x[0]", 3, "x[0]", "an order beside picks", Some("either of them says what fires: leave one out")),
+    ("x: SINK\n order x[0] x[1]", 2, "x[0]", "the picks of an order are not known", Some("`dayomlak asm` fires the graph to find them")),
 ];
 
 const ARRAY: &str = "an array is `array name = length`, or `array name = length at cell`";

@@ -1,6 +1,6 @@
 //! Texts, their files, and where everything stands.
 
-use asm::{assemble, disassemble, read};
+use asm::{assemble, disassemble, read, read_order};
 
 const SUM: &str = "# the sum of 01
 sum: ADD -> out.0
@@ -175,4 +175,40 @@ fn a_byte_order_mark_and_other_line_ends() {
         assemble("\u{feff}a: OUT\r\ninput a = 1\r\n").unwrap(),
         assemble("a: OUT\ninput a = 1").unwrap()
     );
+}
+
+/// An order in a text, over two lines, with the names that have a space or a number sign.
+const ORDERED: &str = "\
+SINK
+x: SINK
+cell 3 = 4
+input x = 1
+order x[0] cell 3[0]   # then
+order a[1]/#0[255]     # 3 of them
+";
+
+#[test]
+fn an_order_is_kept_by_names() {
+    let program = read(ORDERED).unwrap();
+    let names: Vec<&str> = program.order.iter().map(|n| n.name.as_str()).collect();
+    assert_eq!(names, ["x[0]", "cell 3[0]", "a[1]/#0[255]"]);
+    let spans = program.order.iter().map(|n| &ORDERED[n.span.clone()]);
+    assert_eq!(spans.collect::<Vec<_>>(), names);
+    assert!(program.files.picks.is_empty());
+    // Elsewhere a number sign begins a comment.
+    assert!(assemble("x: SINK #0[0]\n").is_ok());
+}
+
+#[test]
+fn an_order_in_a_file() {
+    let text = "\u{feff}# an order\nx[0] cell 3[0]\r\n\norder #0[0]#1 end\n";
+    let order = read_order(text).unwrap();
+    let names: Vec<&str> = order.iter().map(|n| n.name.as_str()).collect();
+    assert_eq!(names, ["x[0]", "cell 3[0]", "#0[0]"]);
+    let errors = read_order("x[0]\ny[0], z[0]\n").unwrap_err();
+    assert_eq!(
+        errors.to_string(),
+        "line 2: a comma (words are parted by spaces alone)"
+    );
+    assert_eq!(read_order(""), Ok(Vec::new()));
 }

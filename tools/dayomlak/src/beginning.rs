@@ -91,8 +91,8 @@ impl Beginning {
     }
 
     /// In which order a run fired that began here, in words.
-    pub fn order(&self, order: Order, end: &End) -> String {
-        let words = order.words(!self.program.files.picks.is_empty());
+    pub fn order(&self, order: &Order, end: &End) -> String {
+        let words = order.words(&self.program);
         let Some(saved) = &self.saved else {
             return words;
         };

@@ -5,10 +5,10 @@ use std::str::FromStr;
 
 use clap::{Args, Parser, Subcommand, ValueEnum};
 
+use crate::curves::Pace;
 use crate::failure::Failure;
 use crate::machine::Sizes;
-use crate::orders::Order;
-use crate::records::{MOST_CELLS, MOST_RECORDS};
+use crate::orders::{self, Order};
 
 /// Runs, checks, compares and draws graphs of the MIT tagged-token dataflow machine, on an engine whose answers are proved.
 #[derive(Debug, Parser)]
@@ -33,12 +33,18 @@ pub enum Command {
     Show(Show),
     /// Find errors and warnings, and what the graph needs, without a firing
     Check(Check),
-    /// Run a graph oldest first, newest first and in random orders
+    /// Run a graph oldest first, newest first and in random orders, or in orders of your own
     Compare(Compare),
+    /// At which firing two runs part, and that they end alike
+    Diff(Diff),
+    /// Fire a graph by hand, in a terminal
+    Step(Step),
     /// Show every firing: operands, outputs and cells
     Trace(Trace),
     /// Firings and tokens by ideal steps (Memo 280), as a table or a picture
     Profile(Profile),
+    /// Which instruction fires when, as a picture or for GTKWave
+    Timeline(Timeline),
     /// One page for a browser: the graph firing by firing, curves and listing
     Report(Report),
     /// Draw the graph (Graphviz)
@@ -74,8 +80,12 @@ impl Command {
             Command::Show(args) => ("show", &args.script, args.file.as_str()),
             Command::Check(args) => ("check", &args.script, args.file.file.as_str()),
             Command::Compare(args) => ("compare", &args.script, args.file.file.as_str()),
+            Command::Diff(args) => ("diff", &args.script, args.file.file.as_str()),
             Command::Trace(args) => ("trace", &args.form.script, args.file.file.as_str()),
-            Command::Profile(args) => ("profile", &args.form.script, args.file.file.as_str()),
+            Command::Profile(args) => {
+                let first = args.files.first().map_or("", String::as_str);
+                ("profile", &args.form.script, first)
+            }
             Command::Bounds(args) => ("bounds", &args.script, args.file.file.as_str()),
             Command::Explain(args) => ("explain", &args.script, ""),
             _ => return None,
@@ -92,6 +102,7 @@ impl Command {
         let (name, why) = match self {
             Command::Run(_) => ("run", "`dayomlak carry-on` goes on from it".to_string()),
             Command::Profile(_) => ("profile", format!("a profile is {from_inputs}")),
+            Command::Timeline(_) => ("timeline", format!("a timeline is {from_inputs}")),
             Command::Log(_) => ("log", format!("a log is {from_inputs}")),
             Command::Replay(_) => ("replay", format!("a log is {from_inputs}")),
             Command::Bounds(_) => ("bounds", format!("bounds are {from_inputs}")),
@@ -99,6 +110,8 @@ impl Command {
                 "compare",
                 "`dayomlak carry-on --order ORDER` goes on from it in one order".to_string(),
             ),
+            Command::Diff(_) => ("diff", "`dayomlak trace` shows what it fires".to_string()),
+            Command::Step(_) => ("step", "`dayomlak carry-on` goes on from it".to_string()),
             Command::Check(_) => ("check", "`dayomlak show` looks at it".to_string()),
             Command::Draw(_) => (
                 "draw",
@@ -161,6 +174,21 @@ fn up_to<const MOST: u16>(word: &str) -> Result<u16, String> {
     number.ok_or(format!("it is a number from 0 to {MOST}"))
 }
 
+/// How many may fire in a step.
+fn pace(word: &str) -> Result<Pace, String> {
+    let number = word.parse().ok().filter(|number| *number > 0);
+    match (word, number) {
+        ("any", _) => Ok(Pace::Ideal),
+        (_, Some(most)) => Ok(Pace::Processors(most)),
+        _ => Err("it is a number from 1 to 65535, or any".to_string()),
+    }
+}
+
+/// Picks of the command line.
+fn picks(word: &str) -> Result<Order, String> {
+    orders::picks(word).map(Order::Picks)
+}
+
 #[derive(Debug, Args)]
 pub struct File {
     /// A typed graph, a folder with its files, or -
@@ -180,9 +208,10 @@ pub struct Buffers {
 
 impl Buffers {
     pub fn sizes(&self) -> Sizes {
+        let most = Sizes::default();
         Sizes {
-            capacity: self.capacity.map_or(MOST_RECORDS, usize::from),
-            cells: self.cells.map_or(MOST_CELLS, usize::from),
+            capacity: self.capacity.map_or(most.capacity, usize::from),
+            cells: self.cells.map_or(most.cells, usize::from),
         }
     }
 
@@ -194,12 +223,22 @@ impl Buffers {
 
 #[derive(Debug, Args)]
 pub struct Firing {
-    /// Which enabled activity fires next: oldest, newest, random:SEED, or typed (the picks of the file, oldest without)
+    /// Which enabled activity fires next: oldest, newest, random:SEED, picks such as 0,3,1, a file with a name for each
+    /// firing, or typed (the picks or the order of the graph's file, oldest without)
     #[arg(long, value_name = "ORDER", default_value_t = Order::Typed)]
-    pub order: Order,
+    order: Order,
+    /// The same as --order with picks: the number of each firing among the enabled, as `dayomlak trace` shows it
+    #[arg(long, value_name = "N,N..", conflicts_with = "order", value_parser = picks)]
+    picks: Option<Order>,
     /// The most firings
     #[arg(long, value_name = "N", default_value_t = 2048, value_parser = up_to::<{ u16::MAX }>)]
     pub budget: u16,
+}
+
+impl Firing {
+    pub fn order(&self) -> Order {
+        self.picks.clone().unwrap_or(self.order.clone())
+    }
 }
 
 #[derive(Debug, Args)]
@@ -231,7 +270,8 @@ pub struct CarryOn {
     pub file: String,
     #[command(flatten)]
     pub script: Script,
-    /// Which enabled activity fires next: oldest, newest, random:SEED, or typed (the picks of the file that are left)
+    /// Which enabled activity fires next: oldest, newest, random:SEED, picks or a file of names, for each firing since
+    /// the inputs, or typed (the picks or the order of the graph's file that are left)
     #[arg(long, value_name = "ORDER", default_value_t = Order::Typed)]
     pub order: Order,
     /// The most firings of this part
@@ -263,9 +303,47 @@ pub struct Compare {
     pub file: File,
     #[command(flatten)]
     pub script: Script,
-    /// How many random orders
-    #[arg(long, value_name = "N", default_value_t = 100)]
-    pub orders: u32,
+    /// Orders to run it in, besides oldest first, each as `dayomlak run --order` takes it
+    #[arg(value_name = "ORDER")]
+    pub given: Vec<Order>,
+    /// How many random orders [default: 100, or none beside an ORDER]
+    #[arg(long, value_name = "N")]
+    pub orders: Option<u32>,
+    #[command(flatten)]
+    pub buffers: Buffers,
+}
+
+#[derive(Debug, Args)]
+#[command(
+    after_help = "An ORDER is what `dayomlak run --order` takes.\n\nTry: dayomlak diff sum.ttda oldest newest"
+)]
+pub struct Diff {
+    #[command(flatten)]
+    pub file: File,
+    /// The order of one run
+    #[arg(value_name = "ORDER")]
+    pub one: Order,
+    /// The order of the other
+    #[arg(value_name = "ORDER")]
+    pub other: Order,
+    #[command(flatten)]
+    pub script: Script,
+    #[command(flatten)]
+    pub buffers: Buffers,
+}
+
+#[derive(Debug, Args)]
+#[command(
+    after_help = "Arrow keys or a number choose, Enter fires; b goes back, p plays oldest first, w writes the order so far into a \
+    file for --order, q quits.\nWithout a terminal each line of standard input is a command: a number or a name, b, p, w \
+    FILE, q.\n\nTry: dayomlak step sum.ttda"
+)]
+pub struct Step {
+    #[command(flatten)]
+    pub file: File,
+    /// Read lines, also in a terminal
+    #[arg(long)]
+    pub lines: bool,
     #[command(flatten)]
     pub buffers: Buffers,
 }
@@ -282,6 +360,9 @@ pub struct Trace {
     /// How many firings to show
     #[arg(long, value_name = "N")]
     pub count: Option<usize>,
+    /// The firings alone, without what is enabled before each
+    #[arg(long)]
+    pub short: bool,
     #[command(flatten)]
     pub firing: Firing,
     #[command(flatten)]
@@ -289,20 +370,54 @@ pub struct Trace {
 }
 
 #[derive(Debug, Args)]
+#[command(
+    after_help = "Several files, or several --processors, stand in one plot or below each other.\n\n\
+    Try: dayomlak profile sum.ttda --processors any --processors 2 -o X.svg"
+)]
 pub struct Profile {
-    #[command(flatten)]
-    pub file: File,
+    /// Typed graphs, folders with their files, or -
+    #[arg(value_name = "FILE", required = true)]
+    pub files: Vec<String>,
     #[command(flatten)]
     pub form: Form,
-    /// Draw the curves to an SVG file, with what a run left
+    /// Draw the curves: X.svg, X.png or X.pdf; those of one profile with what a run left
     #[arg(short, value_name = "X.svg", conflicts_with_all = ["json", "csv"])]
     pub output: Option<PathBuf>,
-    /// The order of that run, as for `dayomlak run`; only with -o
+    /// The most firings of a step, those first that were enabled first, or any for ideal steps
+    #[arg(long, value_name = "N", value_parser = pace)]
+    pub processors: Vec<Pace>,
+    /// Tokens by the firings of one run instead of steps
+    #[arg(long, conflicts_with = "processors")]
+    pub firings: bool,
+    /// The order of that run, as for `dayomlak run`; only with --firings or -o
     #[arg(long, value_name = "ORDER")]
     pub order: Option<Order>,
-    /// The most firings of that run; only with -o
+    /// The most firings of that run; only with --firings or -o
     #[arg(long, value_name = "N", value_parser = up_to::<{ u16::MAX }>)]
     pub budget: Option<u16>,
+    #[command(flatten)]
+    pub buffers: Buffers,
+}
+
+#[derive(Debug, Args)]
+#[command(
+    after_help = "In a file X.vcd (value change dump) instructions are wires that are 1 while they fire, cells are values, x \
+    while absent and z while waiting.\n\nTry: dayomlak timeline sum.ttda --steps -o X.svg"
+)]
+pub struct Timeline {
+    #[command(flatten)]
+    pub file: File,
+    /// Where it goes: X.svg, X.png, X.pdf, or X.vcd for GTKWave
+    #[arg(short, value_name = "X.svg")]
+    pub output: PathBuf,
+    /// By ideal steps, and not firing by firing
+    #[arg(long, conflicts_with_all = ["order", "picks", "budget"])]
+    pub steps: bool,
+    /// By steps of at most so many firings, those first that were enabled first, or any for ideal steps
+    #[arg(long, value_name = "N", value_parser = pace, conflicts_with_all = ["order", "picks", "budget"])]
+    pub processors: Option<Pace>,
+    #[command(flatten)]
+    pub firing: Firing,
     #[command(flatten)]
     pub buffers: Buffers,
 }
@@ -331,7 +446,7 @@ pub struct Draw {
     /// The text for Graphviz instead of the picture
     #[arg(long)]
     pub dot: bool,
-    /// Where the picture goes; standard output without
+    /// Where the picture goes, X.svg, X.png or X.pdf; standard output without
     #[arg(short, value_name = "X.svg")]
     pub output: Option<PathBuf>,
 }

@@ -47,3 +47,17 @@ pub fn of(program: &Program, history: &History, firing: &Firing) -> String {
     }
     parts.join("; ")
 }
+
+/// Operation, operands and what they lead to.
+pub fn sentence(program: &Program, history: &History, firing: &Firing) -> String {
+    let operation = program.graph.get(firing.tag.instruction);
+    let operation = operation.map_or(String::new(), |i| i.words());
+    let operands = operands(history, firing).replace(' ', " and ");
+    let effects = of(program, history, firing);
+    let join = match effects.chars().next() {
+        None => "",
+        Some('-') => " ",
+        Some(_) => ": ",
+    };
+    format!("{operation} with {operands}{join}{effects}")
+}

@@ -6,7 +6,7 @@ use ttda::widths::{self, PICK, STEP};
 use crate::answer::Answer;
 use crate::failure::Failure;
 use crate::program::Program;
-use crate::records::{self, Cell, Tag, Token, CELL, LOGGED, MOST_RECORDS, TOKEN};
+use crate::records::{self, Cell, Tag, Token, CELL, LOGGED, MOST_CELLS, MOST_RECORDS, TOKEN};
 use crate::saved::State;
 
 /// The budget that no run exceeds: firings never exceed tokens.
@@ -17,6 +17,16 @@ pub const WHOLE: u16 = MOST_RECORDS as u16;
 pub struct Sizes {
     pub capacity: usize,
     pub cells: usize,
+}
+
+/// The most that a run may be lent.
+impl Default for Sizes {
+    fn default() -> Sizes {
+        Sizes {
+            capacity: MOST_RECORDS,
+            cells: MOST_CELLS,
+        }
+    }
 }
 
 /// What a run answers and leaves.
@@ -244,7 +254,7 @@ impl<'p> Machine<'p> {
 }
 
 /// The activity that was fired between two states.
-fn fired(before: &[Token], after: &[Token]) -> Option<Tag> {
+pub fn fired(before: &[Token], after: &[Token]) -> Option<Tag> {
     let is_spent = |token: &Token| token.state == records::State::Spent;
     let mut both = before.iter().zip(after);
     both.find(|(before, after)| !is_spent(before) && is_spent(after))

@@ -8,6 +8,7 @@ mod beginning;
 mod circles;
 mod cli;
 mod commands;
+mod curves;
 mod diagnostics;
 mod effects;
 mod expression;
@@ -23,6 +24,7 @@ mod log_file;
 mod machine;
 mod manual;
 mod meetings;
+mod named;
 mod newest;
 mod orders;
 mod output;
@@ -38,6 +40,9 @@ mod saved;
 mod script;
 mod second_token;
 mod sources;
+mod step;
+mod timeline;
+mod walk;
 mod warnings;
 
 use std::io::Write;
@@ -56,8 +61,11 @@ fn main() -> ExitCode {
         Command::Show(args) => commands::show::show(args),
         Command::Check(args) => commands::check::check(args),
         Command::Compare(args) => commands::compare::compare(args),
+        Command::Diff(args) => commands::diff::diff(args),
+        Command::Step(args) => commands::step::step(args),
         Command::Trace(args) => commands::trace::trace(args),
         Command::Profile(args) => commands::profile::profile(args),
+        Command::Timeline(args) => commands::timeline::timeline(args),
         Command::Report(args) => commands::report::report(args),
         Command::Draw(args) => commands::draw::draw(args),
         Command::Log(args) => commands::logs::log(args),

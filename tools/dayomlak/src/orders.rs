@@ -1,23 +1,35 @@
 //! Firing orders, and the picks that they are given to the engine by.
 
 use std::fmt;
+use std::path::{Path, PathBuf};
 use std::str::FromStr;
 
 use ttda::widths::PICK;
 
 use crate::failure::Failure;
 use crate::machine::Machine;
-use crate::newest;
+use crate::program::Program;
 use crate::records::MOST_RECORDS;
+use crate::sources::Source;
+use crate::{named, newest};
 
-#[derive(Clone, Copy, Debug, PartialEq, Eq)]
+const WHAT: &str =
+    "an order is oldest, newest, random:SEED (a number), typed, picks such as 0,3,1, or a file";
+/// So many picks are named in words.
+const SHOWN: usize = 12;
+
+#[derive(Clone, Debug, PartialEq, Eq)]
 pub enum Order {
     Oldest,
     Newest,
     /// Picks by a generator of random numbers.
     Random(u64),
-    /// The picks of the file, and the oldest once they run out.
+    /// The picks or the order of the file, and the oldest once they run out.
     Typed,
+    /// Picks of the command line, and the oldest once they run out.
+    Picks(Vec<u16>),
+    /// A file with a name for each firing, and the oldest once they run out.
+    File(PathBuf),
 }
 
 impl FromStr for Order {
@@ -30,7 +42,9 @@ impl FromStr for Order {
             "typed" => Ok(Order::Typed),
             _ => match word.strip_prefix("random:").map(str::parse) {
                 Some(Ok(seed)) => Ok(Order::Random(seed)),
-                _ => Err("an order is oldest, newest, random:SEED (a number) or typed".to_string()),
+                None if is_list(word) => picks(word).map(Order::Picks),
+                None if is_file(word) => Ok(Order::File(word.into())),
+                _ => Err(WHAT.to_string()),
             },
         }
     }
@@ -43,24 +57,39 @@ impl fmt::Display for Order {
             Order::Newest => write!(f, "newest"),
             Order::Random(seed) => write!(f, "random:{seed}"),
             Order::Typed => write!(f, "typed"),
+            Order::Picks(picks) => write!(f, "{}", listed(picks)),
+            Order::File(path) => write!(f, "{}", in_one_line(path)),
         }
     }
 }
 
 impl Order {
-    /// The order in words, for a program with or without picks of its own.
-    pub fn words(self, has_picks: bool) -> String {
+    /// The order in words, for a program with or without an order of its own.
+    pub fn words(&self, program: &Program) -> String {
         match self {
-            Order::Typed if has_picks => "in the order of its picks".to_string(),
+            Order::Typed if program.is_ordered => "in its typed order".to_string(),
+            Order::Typed if !program.files.picks.is_empty() => {
+                "in the order of its picks".to_string()
+            }
             Order::Oldest | Order::Typed => "oldest first".to_string(),
             Order::Newest => "newest first".to_string(),
             Order::Random(seed) => format!("in random order {seed}"),
+            Order::Picks(_) => format!("by the picks {self}"),
+            Order::File(_) => format!("in the order of {self}"),
+        }
+    }
+
+    /// The file that it is read from, which nothing may be written over.
+    pub fn source(&self) -> Option<Source> {
+        match self {
+            Order::File(path) => Source::named("the order itself", path),
+            _ => None,
         }
     }
 
     /// The picks that fire a program in this order. From a saved state they are those that an uncut run has left: pick i
     /// is for firing i since the inputs.
-    pub fn picks(self, machine: &Machine) -> Result<Vec<u8>, Failure> {
+    pub fn picks(&self, machine: &Machine) -> Result<Vec<u8>, Failure> {
         let used = PICK * machine.given().0;
         let rest = |picks: &[u8]| picks.get(used..).unwrap_or_default().to_vec();
         match (self, machine.start) {
@@ -68,9 +97,39 @@ impl Order {
             (Order::Typed, _) => Ok(rest(&machine.program.files.picks)),
             (Order::Newest, None) => newest::picks(machine),
             (Order::Newest, Some(state)) => newest::picks_from(machine, state),
-            (Order::Random(seed), _) => Ok(rest(&random(seed))),
+            (Order::Random(seed), _) => Ok(rest(&random(*seed))),
+            (Order::Picks(picks), _) => Ok(rest(&bytes(picks.iter().copied()))),
+            (Order::File(path), _) => Ok(bytes(named::of_file(machine, path)?.into_iter())),
         }
     }
+}
+
+/// Whether a word has numbers parted by commas.
+fn is_list(word: &str) -> bool {
+    !word.is_empty() && word.chars().all(|c| c.is_ascii_digit() || c == ',')
+}
+
+/// Numbers parted by commas.
+pub fn picks(word: &str) -> Result<Vec<u16>, String> {
+    let picks: Result<Vec<u16>, _> = word.split(',').map(str::parse).collect();
+    picks.map_err(|_| "picks are numbers from 0 to 65535, parted by commas: 0,3,1".to_string())
+}
+
+/// Whether a word is meant as a file: it is there, or it is written as one.
+fn is_file(word: &str) -> bool {
+    word.contains(['.', '/']) || Path::new(word).is_file()
+}
+
+/// The first picks.
+fn listed(picks: &[u16]) -> String {
+    let shown: Vec<String> = picks.iter().take(SHOWN).map(u16::to_string).collect();
+    let more = if picks.len() > SHOWN { ",..." } else { "" };
+    shown.join(",") + more
+}
+
+/// A file's name, which stands in lines of text.
+fn in_one_line(path: &Path) -> String {
+    path.display().to_string().replace(char::is_control, "?")
 }
 
 /// The order of a run that went on from firings in another or the same order.
@@ -116,5 +175,20 @@ mod tests {
         let three =
             "oldest first, then newest first from firing 6 on, then oldest first from firing 10 on";
         assert_eq!(joined(&two, 9, "oldest first"), three);
+    }
+
+    #[test]
+    fn the_words_of_orders() {
+        let read = |word: &str| word.parse::<Order>();
+        assert_eq!(read("0,3,1"), Ok(Order::Picks(vec![0, 3, 1])));
+        assert_eq!(read("a.order"), Ok(Order::File("a.order".into())));
+        assert_eq!(read("random:7").unwrap().to_string(), "random:7");
+        let many = Order::Picks((0..20).collect());
+        assert_eq!(many.to_string(), "0,1,2,3,4,5,6,7,8,9,10,11,...");
+        for word in ["", "neweset", "random:", "random:x", "0,,1", "65536"] {
+            assert!(read(word).is_err(), "{word}");
+        }
+        let file = Order::File("a\nb.order".into());
+        assert_eq!(file.to_string(), "a?b.order");
     }
 }

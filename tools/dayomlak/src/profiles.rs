@@ -10,7 +10,7 @@ use crate::orders::Order;
 use crate::program::Program;
 
 /// The plot of a machine fired in an order, from the user's cache where the engine says that what is kept serves.
-pub fn plot(machine: &Machine, order: Order, budget: u16) -> Result<Plot, Failure> {
+pub fn plot(machine: &Machine, order: &Order, budget: u16) -> Result<Plot, Failure> {
     let files = &machine.program.files;
     let request = Request {
         graph: files.graph.clone(),
@@ -23,31 +23,31 @@ pub fn plot(machine: &Machine, order: Order, budget: u16) -> Result<Plot, Failur
     };
     let asked = Run {
         request,
-        order: order.words(!files.picks.is_empty()),
+        order: order.words(machine.program),
         seconds: plotter::now(),
     };
     let cache = Cache::of_user(env!("ENGINE"));
     Ok(Plot::of(&Library, cache.as_ref(), asked))
 }
 
-/// How a profile ended, and what its first step has besides.
+/// How a profile ended, and what stands before its first step.
 pub fn words(program: &Program, steps: &[Step], answer: &Answer) -> Vec<String> {
     let words = [Some(ended(steps, answer)), loading(program, steps)];
     words.into_iter().flatten().collect()
 }
 
-/// What the first step has besides, in words: cells are loaded in it, which makes it higher than what is computed.
+/// What is loaded before step 1, in words. The engine fires it in step 1, where it would hide how much is computed.
 fn loading(program: &Program, steps: &[Step]) -> Option<String> {
     let loads = Loads::of(program).cells.len();
-    let (_, later) = steps.split_first().filter(|_| loads > 0)?;
-    let loading = format!("step 1 loads {}", count(loads, "cell"));
-    match later.iter().map(|step| step.firings).max() {
-        Some(most) => Some(format!(
-            "{loading}; after it a step has at most {}",
-            count(most.into(), "firing")
-        )),
-        None => Some(loading),
-    }
+    let (first, later) = steps.split_first().filter(|_| loads > 0)?;
+    let first = usize::from(first.firings).saturating_sub(loads);
+    let most = later.iter().map(|step| step.firings.into()).max();
+    let (loads, most) = (count(loads, "cell"), most.unwrap_or(0).max(first));
+    let are = if loads == "1 cell" { "is" } else { "are" };
+    Some(format!(
+        "{loads} {are} loaded before step 1; a step has at most {}",
+        count(most, "firing")
+    ))
 }
 
 /// How a profile ended, in words.

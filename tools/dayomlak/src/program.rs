@@ -4,16 +4,17 @@ use std::fs;
 use std::io::{self, Read};
 use std::path::{Path, PathBuf};
 
-use asm::{disassemble, read, Files, Place, Span};
+use asm::{disassemble, read, Files, Named, Place, Span};
 
 use crate::arrays::Arrays;
 use crate::diagnostics::{self, Finding};
 use crate::failure::Failure;
 use crate::graph::Graph;
-use crate::log_file;
+use crate::machine::{Machine, Sizes};
+use crate::orders::Order;
 use crate::records::Tag;
-use crate::saved;
 use crate::sources::Source;
+use crate::{log_file, named, orders, saved};
 
 /// The files of a folder.
 const FILES: [&str; 4] = ["graph", "arrays", "inputs", "picks"];
@@ -33,6 +34,8 @@ pub struct Program {
     pub arrays: Arrays,
     /// The files that it was read from.
     pub sources: Vec<Source>,
+    /// Whether its picks come from an order by names.
+    pub is_ordered: bool,
     instructions: Vec<asm::Instruction>,
     inputs: Vec<Place>,
 }
@@ -67,22 +70,34 @@ impl Program {
         if saved::is_saved(&bytes) {
             return Err(Failure::SavedState(label.to_string()));
         }
-        let text = String::from_utf8(bytes).map_err(|error| {
-            let place = error.utf8_error().valid_up_to();
-            no_text(label, error.as_bytes(), place)
-        })?;
+        let text = text(label, bytes)?;
         if let Some(finding) = lone_return(&text) {
             diagnostics::complain(label, &text, std::slice::from_ref(&finding));
             return Err(Failure::Faulty(text, vec![finding]));
         }
         match read(&text) {
-            Ok(program) => Ok(Program::new(label, text, program)),
+            Ok(read) => {
+                let order = read.order.clone();
+                Program::new(label, text, read).ordered(&order)
+            }
             Err(errors) => {
                 let findings: Vec<Finding> = errors.0.into_iter().map(Finding::from).collect();
                 diagnostics::complain(label, &text, &findings);
                 Err(Failure::Faulty(text, findings))
             }
         }
+    }
+
+    /// With the picks of its order. Where the largest buffers refuse nothing, smaller ones refuse a firing at most, and
+    /// behind that one no pick is used.
+    fn ordered(mut self, order: &[Named]) -> Result<Program, Failure> {
+        if !order.is_empty() {
+            let machine = Machine::new(&self, Sizes::default());
+            let picks = named::picks(&machine, &self.label, &self.text, order)?;
+            self.files.picks = orders::bytes(picks.into_iter());
+            self.is_ordered = true;
+        }
+        Ok(self)
     }
 
     /// The files have a text if they are in whole records; without one there are no names.
@@ -103,9 +118,15 @@ impl Program {
             arrays,
             files: typed.files,
             sources: Vec::new(),
+            is_ordered: false,
             instructions: typed.instructions,
             inputs: typed.inputs,
         }
+    }
+
+    /// The files that a run in an order is read from.
+    pub fn sources_with(&self, order: &Order) -> Vec<Source> {
+        self.sources.iter().cloned().chain(order.source()).collect()
     }
 
     /// Why there is no instruction, and what was probably meant.
@@ -212,6 +233,14 @@ pub fn bytes(file: &str, words: &str) -> Result<(Vec<u8>, Option<Source>), Failu
     let read = io::stdin().read_to_end(&mut bytes);
     read.map_err(|error| Failure::File(STANDARD_INPUT.to_string(), error))?;
     Ok((bytes, Source::standard_input()))
+}
+
+/// The text of some bytes.
+pub fn text(label: &str, bytes: Vec<u8>) -> Result<String, Failure> {
+    String::from_utf8(bytes).map_err(|error| {
+        let place = error.utf8_error().valid_up_to();
+        no_text(label, error.as_bytes(), place)
+    })
 }
 
 /// A carriage return that ends a line alone, as on old Macs. Where it is read as a space, a comment swallows all that follows.

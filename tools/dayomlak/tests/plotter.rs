@@ -219,7 +219,7 @@ fn a_table_has_no_order_and_no_budget() {
     let folder = Folder::new();
     let file = folder.write("sum.ttda", sum(40));
     let table = done(&mut kept_command(&folder, &["profile", &file]));
-    assert!(table.out.ends_with("2 ideal steps, then completed: 3 firings, 5 tokens\nstep 1 loads 1 cell; after it a step has at most 1 firing\n"), "{table:?}");
+    assert!(table.out.ends_with("2 ideal steps, then completed: 3 firings, 5 tokens\n1 cell is loaded before step 1; a step has at most 1 firing\n"), "{table:?}");
     assert!(!folder.exists("cache"));
     for options in [&["--order", "newest"][..], &["--budget", "10"]] {
         let refused = done(&mut kept_command(
@@ -227,8 +227,7 @@ fn a_table_has_no_order_and_no_budget() {
             &[&["profile", &file], options].concat(),
         ));
         assert_eq!((&refused.out[..], refused.status), ("", 2));
-        let words =
-            "the profile itself takes no picks and no budget: leave them out, or name a picture";
+        let words = "steps take no picks and no budget: leave them out, or name a picture";
         assert!(refused.err.contains(words), "{refused:?}");
     }
     let file = folder.write("picked.ttda", sum(40) + "picks 1 0\n");

@@ -189,7 +189,7 @@ fn firings_in_words() {
     let (_, page) = typed(text, &[]);
     let expected = [
         ("a[0]", 0, "COPY with 4 -\\u003e c[0].0 = 4, b[0] = 4", 1),
-        ("write[0]", 4, "STORE with 3 and 9: cell 3 := 9", 1),
+        ("write[0]", 4, "STORE with 3 and 9: cell 3 := 9", 0),
         ("b[0]", 1, "ADD 1 with 4 -\\u003e c[0].1 = 5", 2),
         ("c[0]", 2, "SUB with 4 and 5 -\\u003e d[0] = -1", 3),
     ];
@@ -201,7 +201,26 @@ fn firings_in_words() {
     }).into();
     let shown = between(data(&page), "\"firings\":[", "],\"refused\"");
     assert_eq!(shown, firings.join(","));
-    assert!(data(&page).contains("\"steps\":[[2,2],[1,2],[1,1]],"));
+    let steps = "\"steps\":[[1,1,0],[1,2,1],[1,2,0],[1,1,0]],\"firstStep\":0,";
+    assert!(data(&page).contains(steps), "{}", data(&page));
+}
+
+/// Each activity is enabled from the position at which its last operand is there, up to that of its firing.
+#[test]
+fn what_is_enabled_at_a_position() {
+    let text = "a: COPY -> c.0 b\nb: ADD 1 -> c.1\nc: SUB -> d\nd: OUT\ne: SINK\ninput a = 4\ninput e = 1\n";
+    let (_, page) = typed(text, &["--picks", "0,1", "--budget", "3"]);
+    let expected = [
+        ("a", 0, 0, 1),
+        ("e", 4, 0, 3),
+        ("c", 2, 2, 4),
+        ("b", 1, 1, 2),
+    ];
+    let enabled = expected.map(|(name, number, since, until)| {
+        format!("{{\"name\":\"{name}[0]\",\"at\":\"instruction-{number}\",\"since\":{since},\"until\":{until}}}")
+    });
+    let shown = between(data(&page), "\"enabled\":[", "],\"tokens\"");
+    assert_eq!(shown, enabled.join(","));
 }
 
 /// A token stands on the arc that it came by, where there are two to one instruction, and back from a call.
@@ -277,7 +296,7 @@ fn a_page_comes_out_the_same_again() {
 fn a_refused_firing() {
     let (done, page) = report(&example("past_next"), &[]);
     assert_eq!(done.status, 1);
-    let refused = between(data(&page), "\"refused\":{", "},\"tokens\"");
+    let refused = between(data(&page), "\"refused\":{", "},\"enabled\"");
     assert!(refused.starts_with("\"name\":\"new_s[0]\""), "{refused}");
     assert!(refused.contains("\"words\":\"refused by 9, second token\""));
     assert!(refused.contains("\"operands\":[7,10]"), "{refused}");
@@ -310,7 +329,7 @@ fn refused_before_any_firing() {
         assert!(done.out.contains(words), "{done:?}");
         stands_alone(&page);
         assert!(between(&page, "<pre id=\"refusal\">", "</pre>").contains(words));
-        let empty = "\"firings\":[],\"refused\":null,\"tokens\":[],\"cells\":[],\"steps\":[]";
+        let empty = "\"firings\":[],\"refused\":null,\"enabled\":[],\"tokens\":[],\"cells\":[],\"steps\":[],\"firstStep\":1";
         let start = "{\"before\":0,\"carriedOn\":false";
         assert_eq!(
             data(&page),

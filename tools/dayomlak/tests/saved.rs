@@ -811,7 +811,9 @@ fn the_page_of_a_damaged_state() {
     assert_eq!(done.status, 1);
     let page = fs::read_to_string(page).unwrap();
     assert!(page.contains("= a result is never spent: token 1, `other[0]`, is spent\n"));
-    assert!(page.contains("\"firings\":[],\"refused\":null,\"tokens\":[],\"cells\":[]"));
+    assert!(
+        page.contains("\"firings\":[],\"refused\":null,\"enabled\":[],\"tokens\":[],\"cells\":[]")
+    );
     let done = dayomlak(&["report", &file, "-o", &file]);
     assert_eq!((&done.out[..], done.status), ("", 2));
     assert!(

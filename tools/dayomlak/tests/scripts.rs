@@ -13,7 +13,7 @@ const FAULTY: &str = "examples/past_next/past_next.ttda";
 const CONSTANTS: &str = "examples/constants/constants.ttda";
 
 /// Every command with a graph, and the names that its output is stored by.
-const CALLS: [(&str, &[&str]); 12] = [
+const CALLS: [(&str, &[&str]); 15] = [
     ("run", &["run", CALL]),
     ("run-hung", &["run", READ, "--order", "newest"]),
     ("run-refused", &["run", FAULTY]),
@@ -23,7 +23,16 @@ const CALLS: [(&str, &[&str]); 12] = [
     ("bounds-refused", &["bounds", CALL]),
     ("compare", &["compare", CALL, "--orders", "2"]),
     ("trace", &["trace", READ, "--from", "2", "--count", "9"]),
+    ("diff", &["diff", READ, "oldest", "newest"]),
     ("profile", &["profile", CALL]),
+    (
+        "profile-processors",
+        &["profile", CALL, "--processors", "1"],
+    ),
+    (
+        "profile-firings",
+        &["profile", CALL, "--firings", "--budget", "2"],
+    ),
     ("explain", &["explain", "9"]),
     ("explain-wrong", &["explain", "99"]),
 ];
@@ -85,11 +94,16 @@ fn faults_of_a_text_have_their_places() {
 #[test]
 fn tables_of_values() {
     let profile = dayomlak(&["profile", CONSTANTS, "--csv"]);
-    assert_eq!(profile.out, "step,firings,tokens\n1,2,3\n2,2,3\n3,1,2\n");
+    assert_eq!(
+        profile.out,
+        "step,firings,tokens,waiting\n1,2,3,0\n2,2,3,0\n3,1,2,0\n"
+    );
     let trace = dayomlak(&["trace", READ, "--csv", "--count", "2"]);
-    let lines = "firing,activity,operation,operands,effect\n\
-        1,read_5[0],FETCH,5,\"-> twice[0], write_6[0].1 deferred: cell 5 has no value yet\"\n\
-        2,read_6[0],FETCH,6,-> out_6[0] deferred: cell 6 has no value yet\n";
+    let lines = "firing,activity,operation,operands,effect,pick,enabled\n\
+        1,read_5[0],FETCH,5,\"-> twice[0], write_6[0].1 deferred: cell 5 has no value yet\",0,\
+        read_5[0] read_6[0] read_7[0] write_5[0]\n\
+        2,read_6[0],FETCH,6,-> out_6[0] deferred: cell 6 has no value yet,0,\
+        read_6[0] read_7[0] write_5[0]\n";
     assert_eq!(trace.out, lines);
     for command in ["profile", "trace"] {
         assert_eq!(dayomlak(&[command, READ, "--csv", "--json"]).status, 2);

@@ -127,12 +127,12 @@ fn files_that_cannot_be_written() {
 #[test]
 fn pictures_of_another_form() {
     let folder = Folder::new();
-    let picture = folder.path("x.PNG");
+    let picture = folder.path("x.JPG");
     let file = "examples/call/call.ttda";
     for name in ["draw", "profile"] {
         let done = dayomlak(&[name, file, "-o", &picture]);
         assert_eq!((done.status, &done.out[..]), (2, ""), "{name}");
-        let words = "pictures are drawn as SVG\n  name it ";
+        let words = "pictures are drawn as SVG, PNG or PDF\n  name it ";
         assert!(
             done.err.contains(words) && done.err.ends_with("x.svg\n"),
             "{done:?}"

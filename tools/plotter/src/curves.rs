@@ -1,4 +1,4 @@
-//! The two curves of Memo 280 as SVG.
+//! The curves of Memo 280 as SVG.
 
 use std::error::Error;
 use std::ops::Range;
@@ -6,12 +6,10 @@ use std::ops::Range;
 use plotters::coord::Shift;
 use plotters::prelude::*;
 
-use crate::engine::Step;
-
 const WIDTH: u32 = 900;
 /// The width of a curve beside other things.
 const NARROW: u32 = 560;
-const CHART: u32 = 210;
+const CHART: u32 = 220;
 const LINE: u32 = 18;
 const MARGIN: u32 = 16;
 /// As many characters have room in a line, whatever font is at hand.
@@ -21,13 +19,49 @@ const COLUMNS: usize = 3;
 const ROWS: usize = 8;
 /// More steps than this stand close together.
 const MANY: usize = 150;
+const FIRINGS: RGBColor = RGBColor(43, 108, 176);
+const TOKENS: RGBColor = RGBColor(183, 121, 31);
+const WAITING: RGBColor = RGBColor(155, 44, 44);
+/// The colours of several runs, which paper and most eyes tell apart.
+const RUNS: [RGBColor; 6] = [
+    RGBColor(43, 108, 176),
+    RGBColor(192, 86, 33),
+    RGBColor(47, 133, 90),
+    RGBColor(128, 90, 213),
+    RGBColor(151, 38, 109),
+    RGBColor(74, 85, 104),
+];
+
+/// What happens in each step of a run, or after each of its firings.
+#[derive(Clone, Debug, Default, PartialEq, Eq)]
+pub struct Steps {
+    /// What a column is, such as `ideal step`.
+    pub what: String,
+    /// The number of the first column: 0 for what stands before step 1.
+    pub first: usize,
+    /// Empty where each column is one firing.
+    pub firings: Vec<u32>,
+    /// Tokens that are live or deferred after it.
+    pub tokens: Vec<u32>,
+    /// Of these, operands that wait for a partner.
+    pub waiting: Vec<u32>,
+}
+
+impl Steps {
+    /// The most of some values, loads left out.
+    fn most(&self, values: &[u32]) -> u32 {
+        let steps = values.iter().skip(1_usize.saturating_sub(self.first));
+        steps.max().copied().unwrap_or(0)
+    }
+}
 
 /// What a picture shows.
-pub(crate) struct Picture<'p> {
+pub struct Picture<'p> {
     pub title: &'p str,
     /// What it is of: graph and inputs, run, profile.
     pub facts: &'p [String],
-    pub steps: &'p [Step],
+    /// Each run with its name. One alone has all its curves, of several each kind of curve stands together.
+    pub runs: &'p [(String, Steps)],
     /// What the run left, by names.
     pub left: &'p [String],
 }
@@ -35,47 +69,61 @@ pub(crate) struct Picture<'p> {
 type Place = (Range<i32>, Range<i32>);
 type Area<'a> = DrawingArea<SVGBackend<'a>, Shift>;
 
-/// A curve over the steps.
-struct Curve {
-    name: &'static str,
-    part: fn(&Step) -> u16,
+/// A curve over the columns of a run.
+struct Curve<'s> {
+    values: &'s [u32],
+    first: usize,
     colour: RGBColor,
+    filled: bool,
 }
 
-const CURVES: [Curve; 2] = [
-    Curve {
-        name: "firings in the ideal step",
-        part: |step| step.firings,
-        colour: RGBColor(43, 108, 176),
-    },
-    Curve {
-        name: "tokens live or deferred after it",
-        part: |step| step.tokens,
-        colour: RGBColor(183, 121, 31),
-    },
-];
+/// Curves over the same axes.
+struct Panel<'s> {
+    caption: String,
+    across: String,
+    up: &'static str,
+    curves: Vec<Curve<'s>>,
+}
 
 /// Draws a picture.
-pub(crate) fn svg(picture: &Picture) -> Result<String, Box<dyn Error>> {
+pub fn svg(picture: &Picture) -> Result<String, Box<dyn Error>> {
     let left = columns(picture.left);
+    let panels = panels(picture.runs);
+    let names = if picture.runs.len() > 1 {
+        picture.runs
+    } else {
+        &[]
+    };
     let facts: Vec<String> = picture.facts.iter().flat_map(|f| wrapped(f)).collect();
     let rows = left.iter().map(Vec::len).max().unwrap_or(0) as u32;
-    let head = MARGIN + 28 + LINE * facts.len() as u32;
-    let charts = CHART * CURVES.len() as u32;
+    let head = MARGIN + 28 + LINE * (facts.len() + names.len()) as u32;
+    let charts = CHART * panels.len() as u32;
     let tail = MARGIN + LINE * (rows + 2);
     let mut svg = String::new();
     {
         let backend = SVGBackend::with_string(&mut svg, (WIDTH, head + charts + tail));
         let root = backend.into_drawing_area();
         root.fill(&WHITE)?;
-        write(&root, picture.title, 18, (MARGIN, MARGIN))?;
-        for (line, fact) in (0..).zip(&facts) {
-            write(&root, fact, 12, (MARGIN, MARGIN + 28 + LINE * line))?;
+        write(&root, picture.title, 18, &BLACK, (MARGIN, MARGIN))?;
+        let mut line = MARGIN + 28;
+        for fact in &facts {
+            write(&root, fact, 12, &BLACK, (MARGIN, line))?;
+            line += LINE;
+        }
+        for ((name, _), colour) in names.iter().zip(RUNS.iter().cycle()) {
+            write(
+                &root,
+                &format!("\u{25a0} {name}"),
+                13,
+                colour,
+                (MARGIN, line),
+            )?;
+            line += LINE;
         }
         let (_, mut rest) = root.split_vertically(head);
-        for curve in &CURVES {
+        for panel in &panels {
             let (chart, below) = rest.split_vertically(CHART);
-            curve.draw(&chart, picture.steps)?;
+            panel.draw(&chart)?;
             rest = below;
         }
         write_columns(&rest, &left)?;
@@ -84,21 +132,118 @@ pub(crate) fn svg(picture: &Picture) -> Result<String, Box<dyn Error>> {
     Ok(svg)
 }
 
-/// A curve by itself.
+/// A panel by itself.
 pub struct Chart {
     pub svg: String,
-    /// Where the first step begins and the last one ends, and where the curve has its top and its foot.
+    /// Where the first column begins and the last one ends, and where the curve has its top and its foot.
     pub across: Range<i32>,
     pub down: Range<i32>,
 }
 
-/// The curves one by one, without a background, for a page.
-pub fn charts(steps: &[Step]) -> Result<Vec<Chart>, Box<dyn Error>> {
-    CURVES.iter().map(|curve| curve.chart(steps)).collect()
+/// The curves of a run one by one, without a background, for a page.
+pub fn charts(steps: &Steps) -> Result<Vec<Chart>, Box<dyn Error>> {
+    own_panels(steps).iter().map(Panel::chart).collect()
 }
 
-fn write(area: &Area, text: &str, size: u32, at: (u32, u32)) -> Result<(), Box<dyn Error>> {
-    let style = ("sans-serif", size as i32).into_text_style(area);
+/// The curves of several runs, each kind together.
+fn panels(runs: &[(String, Steps)]) -> Vec<Panel<'_>> {
+    match runs {
+        [(_, steps)] => own_panels(steps),
+        _ => {
+            let all = [
+                shared(runs, "firings", "firings in a step", |steps| &steps.firings),
+                shared(
+                    runs,
+                    "tokens",
+                    "tokens live or deferred after it",
+                    |steps| &steps.tokens,
+                ),
+                shared(runs, "tokens", "tokens that wait for a partner", |steps| {
+                    &steps.waiting
+                }),
+            ];
+            let is_there = |panel: &Panel| panel.curves.iter().any(|c| !c.values.is_empty());
+            all.into_iter().filter(is_there).collect()
+        }
+    }
+}
+
+/// One kind of curve of several runs.
+fn shared<'s>(
+    runs: &'s [(String, Steps)],
+    up: &'static str,
+    name: &str,
+    values: fn(&Steps) -> &[u32],
+) -> Panel<'s> {
+    let most = runs.iter().map(|(_, steps)| steps.most(values(steps)));
+    let most: Vec<String> = most.map(|most| most.to_string()).collect();
+    let what = |(_, steps): &'s (String, Steps)| steps.what.as_str();
+    let first = runs.first().map_or("", what);
+    let across = match runs.iter().all(|run| what(run) == first) {
+        true => first,
+        false => "step",
+    };
+    let mut panel = Panel {
+        caption: format!("{name}: at most {}", most.join(", ")),
+        across: across.to_string(),
+        up,
+        curves: Vec::new(),
+    };
+    for ((_, steps), colour) in runs.iter().zip(RUNS.iter().cycle()) {
+        panel.curves.push(Curve {
+            values: values(steps),
+            first: steps.first,
+            colour: *colour,
+            filled: false,
+        });
+    }
+    panel
+}
+
+/// Firings, and below them all tokens with those that wait.
+fn own_panels(steps: &Steps) -> Vec<Panel<'_>> {
+    let curve = |values, colour, filled| Curve {
+        values,
+        first: steps.first,
+        colour,
+        filled,
+    };
+    let panel = |caption, up| Panel {
+        caption,
+        across: steps.what.clone(),
+        up,
+        curves: Vec::new(),
+    };
+    let most = |values| steps.most(values);
+    let firings = format!("firings in a step: at most {}", most(&steps.firings));
+    let tokens = format!(
+        "tokens live or deferred after it: at most {}; the thick line: those that wait for a partner, at most {}",
+        most(&steps.tokens),
+        most(&steps.waiting)
+    );
+    let mut panels = vec![panel(tokens, "tokens").with([
+        curve(&steps.tokens, TOKENS, true),
+        curve(&steps.waiting, WAITING, false),
+    ])];
+    if !steps.firings.is_empty() {
+        panels.insert(
+            0,
+            panel(firings, "firings").with([curve(&steps.firings, FIRINGS, true)]),
+        );
+    }
+    panels
+}
+
+fn write(
+    area: &Area,
+    text: &str,
+    size: u32,
+    colour: &RGBColor,
+    at: (u32, u32),
+) -> Result<(), Box<dyn Error>> {
+    let style = ("sans-serif", size as i32)
+        .into_text_style(area)
+        .color(colour);
     area.draw_text(text, &style, (at.0 as i32, at.1 as i32))?;
     Ok(())
 }
@@ -135,7 +280,7 @@ fn write_columns(area: &Area, columns: &[Vec<String>]) -> Result<(), Box<dyn Err
     if columns.is_empty() {
         return Ok(());
     }
-    write(area, "The run left:", 13, (MARGIN, 8))?;
+    write(area, "The run left:", 13, &BLACK, (MARGIN, 8))?;
     let width = (WIDTH - 2 * MARGIN) / COLUMNS as u32;
     for (column, lines) in (0..).zip(columns) {
         for (row, line) in (0..).zip(lines) {
@@ -143,6 +288,7 @@ fn write_columns(area: &Area, columns: &[Vec<String>]) -> Result<(), Box<dyn Err
                 area,
                 line,
                 12,
+                &BLACK,
                 (MARGIN + width * column, LINE * (row + 1) + 10),
             )?;
         }
@@ -150,53 +296,96 @@ fn write_columns(area: &Area, columns: &[Vec<String>]) -> Result<(), Box<dyn Err
     Ok(())
 }
 
-impl Curve {
-    fn chart(&self, steps: &[Step]) -> Result<Chart, Box<dyn Error>> {
+impl<'s> Panel<'s> {
+    fn with(mut self, curves: impl IntoIterator<Item = Curve<'s>>) -> Panel<'s> {
+        self.curves.extend(curves);
+        self
+    }
+
+    fn chart(&self) -> Result<Chart, Box<dyn Error>> {
         let mut svg = String::new();
         let (across, down) = {
             let backend = SVGBackend::with_string(&mut svg, (NARROW, CHART));
             let root = backend.into_drawing_area();
-            let place = self.draw(&root, steps)?;
+            let place = self.draw(&root)?;
             root.present()?;
             place
         };
         Ok(Chart { svg, across, down })
     }
 
-    /// Draws the curve and answers where its steps stand, across and down.
-    fn draw(&self, area: &Area, steps: &[Step]) -> Result<Place, Box<dyn Error>> {
-        let most = steps.iter().map(self.part).max().unwrap_or(0);
-        let end = steps.len().max(1) as u32;
-        let caption = format!("{}: at most {most}", self.name);
+    /// Draws the curves and answers where their columns stand, across and down.
+    fn draw(&self, area: &Area) -> Result<Place, Box<dyn Error>> {
+        let most = self.curves.iter().flat_map(|curve| curve.values).max();
+        let first = self
+            .curves
+            .iter()
+            .map(|curve| curve.first)
+            .min()
+            .unwrap_or(1);
+        let ends = self
+            .curves
+            .iter()
+            .map(|curve| curve.first + curve.values.len());
+        let end = ends.max().unwrap_or(0).max(first + 1);
         let mut chart = ChartBuilder::on(area)
-            .caption(caption, ("sans-serif", 13).into_font().color(&self.colour))
+            .caption(&self.caption, ("sans-serif", 13))
+            .margin_left(14)
             .margin_right(24)
-            .x_label_area_size(24)
-            .y_label_area_size(48)
-            .build_cartesian_2d(0..end, 0..u32::from(most.max(1)) + 1)?;
+            .x_label_area_size(40)
+            .y_label_area_size(56)
+            .build_cartesian_2d(
+                first as f64 - 0.5..end as f64 - 0.5,
+                0..most.copied().unwrap_or(0).max(1) + 1,
+            )?;
         chart
             .configure_mesh()
             .disable_x_mesh()
             .light_line_style(TRANSPARENT)
             .bold_line_style(RGBColor(226, 226, 226))
             .x_labels(15)
+            .x_label_formatter(&whole)
             .y_labels(6)
+            .x_desc(&self.across)
+            .y_desc(self.up)
+            .axis_desc_style(("sans-serif", 12))
             .draw()?;
-        // With many steps a thick line would fill the picture.
-        let width = if steps.len() > MANY { 1 } else { 2 };
-        let border = self.colour.stroke_width(width);
-        let series = AreaSeries::new(self.points(steps), 0, self.colour.mix(0.18));
-        chart.draw_series(series.border_style(border))?;
+        for curve in &self.curves {
+            // With many columns a thick line would fill the picture.
+            let thin = if end > MANY { 1 } else { 2 };
+            let width = if curve.colour == WAITING {
+                thin + 1
+            } else {
+                thin
+            };
+            let style = curve.colour.stroke_width(width);
+            if curve.filled {
+                let series = AreaSeries::new(curve.points(), 0, curve.colour.mix(0.18));
+                chart.draw_series(series.border_style(style))?;
+            } else {
+                chart.draw_series(LineSeries::new(curve.points(), style))?;
+            }
+        }
         Ok(chart.plotting_area().get_pixel_range())
     }
+}
 
-    /// The corners of the curve: a step is as wide as another.
-    fn points(&self, steps: &[Step]) -> Vec<(u32, u32)> {
-        let corners = |(number, step): (u32, &Step)| {
-            let height = u32::from((self.part)(step));
-            [(number, height), (number + 1, height)]
+impl Curve<'_> {
+    /// The corners of the curve: a column is as wide as another, and its number stands under its middle.
+    fn points(&self) -> Vec<(f64, u32)> {
+        let corners = |(number, height): (usize, &u32)| {
+            let middle = number as f64;
+            [(middle - 0.5, *height), (middle + 0.5, *height)]
         };
-        (0..).zip(steps).flat_map(corners).collect()
+        (self.first..).zip(self.values).flat_map(corners).collect()
+    }
+}
+
+/// The number of a column; nothing between two of them.
+fn whole(number: &f64) -> String {
+    match (number - number.round()).abs() < 1e-6 {
+        true => format!("{}", number.round() as i64),
+        false => String::new(),
     }
 }
 
@@ -213,5 +402,19 @@ mod tests {
         assert_eq!(lines.len(), 2);
         assert_eq!(wrapped("one line"), ["one line"]);
         assert_eq!(wrapped(&"x".repeat(200)), ["x".repeat(200)]);
+    }
+
+    /// Loads stand before step 1, and do not count for the most of a step.
+    #[test]
+    fn loads_are_no_step() {
+        let steps = Steps {
+            first: 0,
+            firings: vec![8, 2, 3],
+            ..Steps::default()
+        };
+        assert_eq!(steps.most(&steps.firings), 3);
+        let without = Steps { first: 1, ..steps };
+        assert_eq!(without.most(&without.firings), 8);
+        assert_eq!((whole(&2.0), whole(&2.5)), ("2".to_string(), String::new()));
     }
 }

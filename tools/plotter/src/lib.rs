@@ -1,4 +1,4 @@
-//! The profile plotter: the two curves of Memo 280 with what a run left, and a cache of the last plot.
+//! The profile plotter: the curves of Memo 280 with what a run left, and a cache of the last plot.
 //!
 //! It stands above the engine ([`Engine`]) and rests on the engine's promises. Whether a kept plot serves another run the
 //! engine says; nothing of it is decided here. A plot names the run that it is of and, where another one was asked for,
@@ -7,6 +7,7 @@
 //! Of a graph that adds 7 and -9:
 //!
 //! ```
+//! use plotter::curves::Steps;
 //! use plotter::{Library, Plot, Request, Run, Step, Words};
 //!
 //! let mut graph = vec![0; 2 * 16];
@@ -29,7 +30,14 @@
 //!     profile: Vec::new(),
 //!     left: vec!["-2".to_string()],
 //! };
-//! assert!(plot.svg(&words).unwrap().starts_with("<svg"));
+//! let curves = Steps {
+//!     what: "ideal step".to_string(),
+//!     first: 1,
+//!     firings: vec![1],
+//!     tokens: vec![1],
+//!     waiting: vec![0],
+//! };
+//! assert!(plot.svg(&words, curves).unwrap().starts_with("<svg"));
 //! ```
 
 mod cache;

@@ -4,7 +4,7 @@ use std::error::Error;
 
 use crate::cache::Cache;
 use crate::clock::date;
-use crate::curves::{self, Picture};
+use crate::curves::{self, Picture, Steps};
 use crate::engine::{Engine, Left, Profile, Request};
 use crate::fingerprint::Fingerprint;
 
@@ -106,12 +106,12 @@ impl Plot {
         facts
     }
 
-    /// The picture.
-    pub fn svg(&self, words: &Words) -> Result<String, Box<dyn Error>> {
+    /// The picture, with the curves of its profile.
+    pub fn svg(&self, words: &Words, curves: Steps) -> Result<String, Box<dyn Error>> {
         curves::svg(&Picture {
             title: &words.title,
             facts: &self.facts(words),
-            steps: &self.profile.steps,
+            runs: &[(String::new(), curves)],
             left: &words.left,
         })
     }

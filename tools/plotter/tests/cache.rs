@@ -6,6 +6,7 @@ use std::fs;
 use std::path::PathBuf;
 use std::sync::atomic::{AtomicUsize, Ordering};
 
+use plotter::curves::Steps;
 use plotter::{Cache, Engine, Left, Plot, Profile, Request, Run, Step, Words};
 
 /// Counts its runs, and serves as it is told.
@@ -108,7 +109,7 @@ fn what_does_not_serve_is_not_shown() {
     let plot = Plot::of(&engine, Some(&cache), second.clone());
     assert_eq!((plot.run.clone(), plot.asked.clone()), (second, None));
     assert_eq!((first.left.cells[0], plot.left.cells[0]), (1, 2));
-    let svg = plot.svg(&words()).unwrap();
+    let svg = plot.svg(&words(), Steps::default()).unwrap();
     assert!(svg.contains("run of 2026-11-16 05:40:09 UTC: completed"));
     assert!(!svg.contains("05:40:00") && !svg.contains("asked for"));
 }
@@ -127,7 +128,7 @@ fn what_serves_is_shown_as_what_it_is() {
         (&plot.profile, &plot.asked),
         (&first.profile, &Some(second))
     );
-    let svg = plot.svg(&words()).unwrap();
+    let svg = plot.svg(&words(), Steps::default()).unwrap();
     assert!(svg.contains("run of 2026-11-16 05:40:00 UTC: completed"));
     let line = "asked for: newest first, 2026-11-16 05:40:09 UTC; any order ends as this one";
     assert!(svg.contains(line), "{svg}");

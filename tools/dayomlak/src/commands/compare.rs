@@ -19,12 +19,12 @@ use crate::{output, refused};
 const LONG: Duration = Duration::from_millis(500);
 
 /// Orders that were answered alike.
-struct Kind {
-    end: End,
+pub struct Kind {
+    pub end: End,
     listing: Vec<u8>,
     /// What they were answered, without the counts of a refused run, which differ from order to order.
     words: String,
-    orders: Vec<Order>,
+    pub orders: Vec<Order>,
 }
 
 pub fn compare(args: &Compare) -> Result<u8, Failure> {
@@ -32,9 +32,9 @@ pub fn compare(args: &Compare) -> Result<u8, Failure> {
     let machine = Machine::new(&program, args.buffers.sizes());
     let left_out = left_out(&machine);
     let has_picks = !program.files.picks.is_empty() && left_out.is_none();
-    let kinds = kinds(&machine, &orders(args.orders, has_picks))?;
+    let kinds = kinds(&machine, &orders(args, has_picks))?;
     let agree = agrees(&kinds) && left_out.is_none();
-    let first = kinds[0].orders[0].words(has_picks);
+    let first = kinds[0].orders[0].words(&program);
     if args.script.json {
         let mut fields = script::lent(&machine);
         fields.extend(fields_of(&kinds, agree, left_out.as_deref()));
@@ -55,7 +55,8 @@ pub fn compare(args: &Compare) -> Result<u8, Failure> {
     Ok(compared(&kinds, agree))
 }
 
-fn compared(kinds: &[Kind], agree: bool) -> u8 {
+/// The exit status: that of the first order, if all agree.
+pub fn compared(kinds: &[Kind], agree: bool) -> u8 {
     match agree {
         true => status(&kinds[0].end),
         false => failure::NOT_COMPLETED,
@@ -63,7 +64,7 @@ fn compared(kinds: &[Kind], agree: bool) -> u8 {
 }
 
 /// The orders by what they were answered, for scripts.
-fn fields_of(kinds: &[Kind], agree: bool, left_out: Option<&str>) -> Fields {
+pub fn fields_of(kinds: &[Kind], agree: bool, left_out: Option<&str>) -> Fields {
     let kind = |kind: &Kind| {
         let orders = kind.orders.iter().map(|order| string(&order.to_string()));
         object(&[
@@ -85,15 +86,23 @@ fn left_out(machine: &Machine) -> Option<String> {
     (answer.word == Word::Refused(7)).then(|| format!("{}: {why}", answer.words()))
 }
 
-fn orders(random: u32, has_picks: bool) -> Vec<Order> {
-    let mut orders = vec![Order::Oldest, Order::Newest];
-    orders.extend(has_picks.then_some(Order::Typed));
-    orders.extend((1..=u64::from(random)).map(Order::Random));
+/// Oldest first, then those that are given, or newest first and the picks of the file, then random ones.
+fn orders(args: &Compare, has_picks: bool) -> Vec<Order> {
+    let usual = [Order::Newest, Order::Typed];
+    let (given, random) = match args.given.is_empty() {
+        true => (&usual[..], 100),
+        false => (&args.given[..], 0),
+    };
+    let given = given.iter().cloned();
+    let given = given.filter(|order| has_picks || *order != Order::Typed);
+    let random = 1..=u64::from(args.orders.unwrap_or(random));
+    let mut orders = vec![Order::Oldest];
+    orders.extend(given.chain(random.map(Order::Random)));
     orders
 }
 
 /// Runs all orders and puts those that were answered alike together.
-fn kinds(machine: &Machine, orders: &[Order]) -> Result<Vec<Kind>, Failure> {
+pub fn kinds(machine: &Machine, orders: &[Order]) -> Result<Vec<Kind>, Failure> {
     let started = Instant::now();
     let bar = ProgressBar::hidden();
     bar.set_length(orders.len() as u64);
@@ -106,12 +115,12 @@ fn kinds(machine: &Machine, orders: &[Order]) -> Result<Vec<Kind>, Failure> {
         let end = machine.run(&order.picks(machine)?, WHOLE);
         let words = words(machine.program, &end);
         match kinds.iter_mut().find(|kind| alike(kind, &end, &words)) {
-            Some(kind) => kind.orders.push(*order),
+            Some(kind) => kind.orders.push(order.clone()),
             None => kinds.push(Kind {
                 listing: end.listing(),
                 end,
                 words,
-                orders: vec![*order],
+                orders: vec![order.clone()],
             }),
         }
         if bar.is_hidden() && started.elapsed() > LONG {
@@ -154,7 +163,8 @@ fn words(program: &Program, end: &End) -> String {
     }
 }
 
-fn line(kind: &Kind) -> String {
+/// How many orders, which, and what they were answered.
+pub fn line(kind: &Kind) -> String {
     let shown: Vec<String> = kind.orders.iter().take(3).map(Order::to_string).collect();
     let more = if kind.orders.len() > shown.len() {
         ", ..."
@@ -171,14 +181,14 @@ fn line(kind: &Kind) -> String {
 }
 
 /// Whether the answers are as demand 3 says: all end, and alike, or all are refused.
-fn agrees(kinds: &[Kind]) -> bool {
+pub fn agrees(kinds: &[Kind]) -> bool {
     kinds.len() == 1
         || kinds
             .iter()
             .all(|kind| matches!(kind.end.answer.word, Word::Refused(_)))
 }
 
-fn verdict(kinds: &[Kind], left_out: bool) -> &'static str {
+pub fn verdict(kinds: &[Kind], left_out: bool) -> &'static str {
     let refused = matches!(kinds[0].end.answer.word, Word::Refused(_));
     match (agrees(kinds), refused) {
         (true, false) if left_out => "all other orders leave the same listing, equal in every byte",

@@ -7,12 +7,13 @@ use crate::cli::Draw;
 use crate::failure::{self, Failure};
 use crate::graphviz;
 use crate::output::Target;
-use crate::pictures::{self, dot};
+use crate::pictures::{self, dot, Form};
 
 pub fn draw(args: &Draw) -> Result<u8, Failure> {
-    if let (Some(path), false) = (&args.output, args.dot) {
-        pictures::check_name(path)?;
-    }
+    let form = match (&args.output, args.dot) {
+        (Some(path), false) => Form::of(path)?,
+        _ => Form::Svg,
+    };
     let program = load(&args.file.file)?;
     let output = args.output.as_deref().unwrap_or(Path::new("-"));
     let target = Target::new(output, &program.sources)?;
@@ -25,7 +26,7 @@ pub fn draw(args: &Draw) -> Result<u8, Failure> {
     let text = dot::text(&program, &caption);
     let bytes = match args.dot {
         true => text.into_bytes(),
-        false => graphviz::svg(&text)?,
+        false => form.drawn(graphviz::svg(&text)?)?,
     };
     target.write(&bytes)?;
     Ok(failure::COMPLETED)

@@ -19,11 +19,11 @@ use crate::{forms, refused, saved};
 pub fn log(args: &Log) -> Result<u8, Failure> {
     let program = load(&args.file.file)?;
     let machine = Machine::new(&program, args.buffers.sizes());
-    let target = Target::new(&args.output, &program.sources)?;
-    let picks = args.firing.order.picks(&machine)?;
+    let order = args.firing.order();
+    let target = Target::new(&args.output, &program.sources_with(&order))?;
+    let picks = order.picks(&machine)?;
     let (end, records) = machine.run_for_log(&picks, args.firing.budget);
-    let order = args.firing.order.words(!program.files.picks.is_empty());
-    let mut said = answer(&machine, &end, &order);
+    let mut said = answer(&machine, &end, &order.words(&program));
     match end.answer.refused_at_once() {
         true => said += "no log is written: the run did not begin\n",
         false => {

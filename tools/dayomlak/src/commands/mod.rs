@@ -3,6 +3,7 @@
 pub mod check;
 pub mod compare;
 pub mod convert;
+pub mod diff;
 pub mod draw;
 pub mod explain;
 pub mod expression;
@@ -13,6 +14,8 @@ pub mod profile;
 pub mod report;
 pub mod run;
 pub mod show;
+pub mod step;
+pub mod timeline;
 pub mod trace;
 
 use crate::answer::Word;

@@ -2,51 +2,171 @@
 
 use std::path::Path;
 
+use plotter::curves::{self as drawing, Picture, Steps};
 use plotter::{Plot, Step, Words};
 
 use super::{answer, load, status};
-use crate::answer::{Answer, Word};
+use crate::answer::{count, Answer, Word};
 use crate::cli::Profile;
-use crate::failure::Failure;
+use crate::curves::{self, Pace, Paced};
+use crate::failure::{self, Failure};
 use crate::json::{list, object};
 use crate::machine::{End, Machine, WHOLE};
 use crate::orders::Order;
-use crate::output::Target;
-use crate::{output, pictures, profiles, refused, results, script};
+use crate::output::{self, Target};
+use crate::pictures::{self, Form};
+use crate::program::Program;
+use crate::sources::Source;
+use crate::{profiles, refused, results, script};
 
 /// The longest bar of the table.
 const BAR: usize = 30;
 
-const NO_RUN: &str = "--order and --budget are of the run that a picture shows beside the curves, and none is asked for\n  \
-    the profile itself takes no picks and no budget: leave them out, or name a picture by -o X.svg";
+const NO_RUN: &str = "--order and --budget are of the run that a picture shows beside the curves, or of --firings, and none is \
+    asked for\n  steps take no picks and no budget: leave them out, or name a picture by -o X.svg";
+const ONE_ONLY: &str =
+    "--json and --csv are of one profile\n  ask for each file and each --processors by itself";
 
 pub fn profile(args: &Profile) -> Result<u8, Failure> {
-    match &args.output {
-        None if args.order.is_some() || args.budget.is_some() => {
+    let is_ordered = args.order.is_some() || args.budget.is_some();
+    let paces = match &args.processors[..] {
+        [] => &[Pace::Ideal],
+        paces => paces,
+    };
+    let is_ideal = paces == [Pace::Ideal] && !args.firings;
+    match (&args.files[..], &args.output) {
+        _ if is_ordered && !args.firings && !(is_ideal && args.output.is_some()) => {
             Err(Failure::Wrong(NO_RUN.to_string()))
         }
-        None => show_table(args),
-        Some(path) => draw(args, path),
+        ([file], None) if is_ideal => show_table(args, file),
+        ([file], Some(path)) if is_ideal => draw(args, file, path),
+        _ => Several::new(args, paces)?.show(args),
+    }
+}
+
+/// Profiles that are shown together, or one of another kind than the engine's own.
+struct Several {
+    programs: Vec<Program>,
+    runs: Vec<(String, Paced)>,
+}
+
+impl Several {
+    fn new(args: &Profile, paces: &[Pace]) -> Result<Several, Failure> {
+        let programs = args.files.iter().map(|file| load(file));
+        let programs: Vec<Program> = programs.collect::<Result<_, _>>()?;
+        let order = args.order.clone().unwrap_or(Order::Typed);
+        let mut runs = Vec::new();
+        for program in &programs {
+            let machine = Machine::new(program, args.buffers.sizes());
+            let name = |what: &str| format!("{}, {what}", program.label);
+            if args.firings {
+                let picks = order.picks(&machine)?;
+                let paced = curves::by_firing(&machine, &picks, args.budget.unwrap_or(WHOLE))?;
+                runs.push((name(&order.words(program)), paced));
+                continue;
+            }
+            for pace in paces {
+                runs.push((name(&pace.step()), curves::paced(&machine, *pace)?));
+            }
+        }
+        Ok(Several { programs, runs })
+    }
+
+    fn show(&self, args: &Profile) -> Result<u8, Failure> {
+        match (&args.output, &self.runs[..]) {
+            (Some(path), _) => self.draw(args, path)?,
+            (None, [(_, paced)]) if args.form.script.json => {
+                let program = &self.programs[0];
+                let machine = Machine::new(program, args.buffers.sizes());
+                let mut fields = script::lent(&machine);
+                fields.push(("answer", script::answer(&paced.end.answer)));
+                fields.push(("steps", list(columns(&paced.steps))));
+                script::print("profile", program, fields)?;
+            }
+            (None, [(_, paced)]) if args.form.csv => {
+                output::print(csv(&paced.steps).as_bytes())?;
+            }
+            _ if args.form.script.json || args.form.csv => {
+                return Err(Failure::Wrong(ONE_ONLY.to_string()));
+            }
+            _ => output::print(self.tables().as_bytes())?,
+        }
+        let completed = self
+            .runs
+            .iter()
+            .all(|(_, paced)| paced.end.answer.completed());
+        Ok(match completed {
+            true => failure::COMPLETED,
+            false => failure::NOT_COMPLETED,
+        })
+    }
+
+    fn tables(&self) -> String {
+        let table = |run: &(String, Paced)| format!("{}{}\n", table(&run.1.steps), ended_as(run));
+        let tables = self.runs.iter().map(table);
+        tables.collect::<Vec<_>>().join("\n")
+    }
+
+    fn draw(&self, args: &Profile, path: &Path) -> Result<(), Failure> {
+        let form = Form::of(path)?;
+        let sources = self.programs.iter().flat_map(|p| p.sources.clone());
+        let sources: Vec<Source> = sources
+            .chain(args.order.iter().filter_map(Order::source))
+            .collect();
+        let target = Target::new(path, &sources)?;
+        let labels: Vec<&str> = self.programs.iter().map(|p| p.label.as_str()).collect();
+        let facts = self.programs.iter().map(|program| {
+            let fingerprint = pictures::fingerprint(&program.files);
+            format!("{}: graph and inputs {fingerprint}", program.label)
+        });
+        let mut facts: Vec<String> = facts.collect();
+        let names: Vec<String> = self.runs.iter().map(ended_as).collect();
+        // Of several, each stands beside its colour.
+        if let [name] = &names[..] {
+            facts.push(name.clone());
+        }
+        let steps = self.runs.iter().map(|(_, paced)| paced.steps.clone());
+        let picture = Picture {
+            title: &labels.join(", "),
+            facts: &facts,
+            runs: &names.iter().cloned().zip(steps).collect::<Vec<_>>(),
+            left: &[],
+        };
+        let svg = drawing::svg(&picture);
+        let svg = svg.map_err(|error| Failure::Inconsistent(format!("the picture: {error}")))?;
+        target.write(&form.drawn(svg.into_bytes())?)?;
+        target.say(&(names.join("\n") + "\n"))
+    }
+}
+
+/// A run with how it ended, and in how many steps where it has some.
+fn ended_as((name, Paced { steps, end }): &(String, Paced)) -> String {
+    let (words, counts) = (end.answer.words(), end.answer.counts());
+    let whole = steps.firings.len().saturating_sub(1 - steps.first.min(1));
+    match steps.firings.is_empty() {
+        true => format!("{name}: {words}, {counts}"),
+        false => format!("{name}: {}, {words}, {counts}", count(whole, "step")),
     }
 }
 
 /// The profile alone; no run is made.
-fn show_table(args: &Profile) -> Result<u8, Failure> {
-    let program = load(&args.file.file)?;
+fn show_table(args: &Profile, file: &str) -> Result<u8, Failure> {
+    let program = load(file)?;
     let machine = Machine::new(&program, args.buffers.sizes());
     let (end, steps) = machine.profile();
+    let curves = curves::ideal(&machine, &steps)?;
     if args.form.script.json {
         let mut fields = script::lent(&machine);
         fields.push(("answer", script::answer(&end.answer)));
-        fields.push(("steps", list(steps.iter().map(step))));
+        fields.push(("steps", list(own_columns(&steps, &curves))));
         script::print("profile", &program, fields)?;
         return Ok(status(&end));
     }
     if args.form.csv {
-        output::print(csv(&steps).as_bytes())?;
+        output::print(own_csv(&steps, &curves).as_bytes())?;
         return Ok(status(&end));
     }
-    let mut text = table(&steps);
+    let mut text = table(&curves);
     text += &profiles::words(&program, &steps, &end.answer).join("\n");
     text.push('\n');
     if !program.files.picks.is_empty() {
@@ -59,40 +179,88 @@ fn show_table(args: &Profile) -> Result<u8, Failure> {
     Ok(status(&end))
 }
 
-fn step(step: &Step) -> String {
-    object(&[
-        ("firings", step.firings.to_string()),
-        ("tokens", step.tokens.to_string()),
-    ])
+/// The engine's own steps, of which the first loads the cells, and how many tokens wait after each.
+fn own_columns(steps: &[Step], curves: &Steps) -> Vec<String> {
+    let waiting = curves.waiting.iter().skip(1 - curves.first);
+    let column = |(step, waiting): (&Step, &u32)| {
+        object(&[
+            ("firings", step.firings.to_string()),
+            ("tokens", step.tokens.to_string()),
+            ("waiting", waiting.to_string()),
+        ])
+    };
+    steps.iter().zip(waiting).map(column).collect()
 }
 
-/// A line for each step, by its number.
-fn csv(steps: &[Step]) -> String {
-    let mut text = script::csv(&["step", "firings", "tokens"].map(str::to_string));
-    for (number, step) in (1..).zip(steps) {
-        let number: usize = number;
-        text += &script::csv(&[
+fn own_csv(steps: &[Step], curves: &Steps) -> String {
+    let waiting = curves.waiting.iter().skip(1 - curves.first);
+    let mut text = script::csv(&["step", "firings", "tokens", "waiting"].map(str::to_string));
+    for (number, (step, waiting)) in (1..).zip(steps.iter().zip(waiting)) {
+        let numbers: [u32; 4] = [number, step.firings.into(), step.tokens.into(), *waiting];
+        text += &script::csv(&numbers.map(|number| number.to_string()));
+    }
+    text
+}
+
+/// Every column by its number, loads as number 0.
+fn columns(steps: &Steps) -> Vec<String> {
+    let rows = rows(steps)
+        .into_iter()
+        .map(|(number, firings, tokens, waiting)| {
+            let firings = firings.map_or("null".to_string(), |firings| firings.to_string());
+            object(&[
+                ("number", number.to_string()),
+                ("firings", firings),
+                ("tokens", tokens.to_string()),
+                ("waiting", waiting.to_string()),
+            ])
+        });
+    rows.collect()
+}
+
+/// Number, firings where columns have several, tokens, tokens that wait.
+fn rows(steps: &Steps) -> Vec<(usize, Option<u32>, u32, u32)> {
+    let both = steps.tokens.iter().zip(&steps.waiting).enumerate();
+    let row = |(at, (tokens, waiting)): (usize, (&u32, &u32))| {
+        (
+            steps.first + at,
+            steps.firings.get(at).copied(),
+            *tokens,
+            *waiting,
+        )
+    };
+    both.map(row).collect()
+}
+
+/// A line for each column, by its number.
+fn csv(steps: &Steps) -> String {
+    let mut text = script::csv(&["number", "firings", "tokens", "waiting"].map(str::to_string));
+    for (number, firings, tokens, waiting) in rows(steps) {
+        let firings = firings.map_or(String::new(), |firings| firings.to_string());
+        let numbers = [
             number.to_string(),
-            step.firings.to_string(),
-            step.tokens.to_string(),
-        ]);
+            firings,
+            tokens.to_string(),
+            waiting.to_string(),
+        ];
+        text += &script::csv(&numbers);
     }
     text
 }
 
 /// The curves with what a run left, as a picture.
-fn draw(args: &Profile, path: &Path) -> Result<u8, Failure> {
-    pictures::check_name(path)?;
-    let program = load(&args.file.file)?;
-    let target = Target::new(path, &program.sources)?;
+fn draw(args: &Profile, file: &str, path: &Path) -> Result<u8, Failure> {
+    let form = Form::of(path)?;
+    let program = load(file)?;
+    let order = args.order.clone().unwrap_or(Order::Typed);
+    let target = Target::new(path, &program.sources_with(&order))?;
     let machine = Machine::new(&program, args.buffers.sizes());
-    let order = args.order.unwrap_or(Order::Typed);
-    let plot = profiles::plot(&machine, order, args.budget.unwrap_or(WHOLE))?;
+    let plot = profiles::plot(&machine, &order, args.budget.unwrap_or(WHOLE))?;
     let end = End::from(&plot.left);
     let words = words(&machine, &plot, &end);
-    let svg = plot.svg(&words);
+    let svg = plot.svg(&words, curves::ideal(&machine, &plot.profile.steps)?);
     let svg = svg.map_err(|error| Failure::Inconsistent(format!("the picture: {error}")))?;
-    target.write(svg.as_bytes())?;
+    target.write(&form.drawn(svg.into_bytes())?)?;
     let order = format!("{}, run of {}", plot.run.words(), plot.run.date());
     let mut text = answer(&machine, &end, &order);
     for line in plot.asked_for().iter().chain(&words.profile) {
@@ -132,26 +300,34 @@ fn ended(machine: &Machine, end: &End, order: &str) -> String {
     }
 }
 
-fn table(steps: &[Step]) -> String {
-    if steps.is_empty() {
+/// A line for each column, with bars; loads stand before step 1.
+fn table(steps: &Steps) -> String {
+    if steps.tokens.is_empty() {
         return String::new();
     }
-    let most = |part: fn(&Step) -> u16| steps.iter().map(part).max().unwrap_or(1).max(1);
-    let (firings, tokens) = (most(|s| s.firings), most(|s| s.tokens));
-    let bar = |value: u16, most: u16, mark: &str| {
-        mark.repeat((usize::from(value) * BAR).div_ceil(usize::from(most)))
+    let most = |values: &[u32]| values.iter().max().copied().unwrap_or(1).max(1);
+    let (firings, tokens) = (most(&steps.firings), most(&steps.tokens));
+    let bar = |value: u32, most: u32, mark: &str| {
+        mark.repeat((value as usize * BAR).div_ceil(most as usize))
     };
-    let mut text = format!(
-        "{:>4}  {:>7}  {:BAR$}  {:>6}\n",
-        "step", "firings", "", "tokens"
-    );
-    for (number, step) in (1..).zip(steps) {
-        let number: usize = number;
-        let fired = bar(step.firings, firings, "#");
-        let left = bar(step.tokens, tokens, "=");
+    let has_firings = !steps.firings.is_empty();
+    let head = match has_firings {
+        true => format!("{:>5}  {:>7}  {:BAR$}", "step", "firings", ""),
+        false => format!("{:>6}", "firing"),
+    };
+    let mut text = format!("{head}  {:>6}  {:>7}\n", "tokens", "waiting");
+    for (number, fired, left, waiting) in rows(steps) {
+        let name = match (number, has_firings) {
+            (0, true) => "loads".to_string(),
+            _ => number.to_string(),
+        };
+        let start = match fired {
+            Some(fired) => format!("{name:>5}  {fired:>7}  {:BAR$}", bar(fired, firings, "#")),
+            None => format!("{name:>6}"),
+        };
         let line = format!(
-            "{number:>4}  {:>7}  {fired:BAR$}  {:>6}  {left}",
-            step.firings, step.tokens
+            "{start}  {left:>6}  {waiting:>7}  {}",
+            bar(left, tokens, "=")
         );
         text += line.trim_end();
         text.push('\n');

@@ -10,7 +10,8 @@ use crate::report;
 pub fn report(args: &Report) -> Result<u8, Failure> {
     let beginning = Beginning::load(&args.file.file, &args.buffers)?;
     let machine = beginning.machine();
-    let target = Target::new(&args.output, &beginning.program.sources)?;
+    let sources = beginning.program.sources_with(&args.firing.order());
+    let target = Target::new(&args.output, &sources)?;
     let run = report::Run::of(&beginning, &machine, &args.firing)?;
     target.write(report::page(&run)?.as_bytes())?;
     target.say(&answer(&machine, &run.end, &run.order))?;

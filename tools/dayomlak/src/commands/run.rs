@@ -15,7 +15,7 @@ pub fn run(args: &Run) -> Result<u8, Failure> {
     let beginning = Beginning::load_graph(&args.file.file, &args.buffers)?;
     let asked = Asked {
         command: "run",
-        order: args.firing.order,
+        order: args.firing.order(),
         budget: args.firing.budget,
         save: args.save.as_deref(),
         form: Form::of(args.script.json, args.listing),
@@ -27,7 +27,7 @@ pub fn carry_on(args: &CarryOn) -> Result<u8, Failure> {
     let beginning = Beginning::load_saved(&args.file)?;
     let asked = Asked {
         command: "carry-on",
-        order: args.order,
+        order: args.order.clone(),
         budget: args.budget,
         save: args.save.as_deref(),
         form: Form::of(args.script.json, args.listing),
@@ -68,7 +68,7 @@ impl Asked<'_> {
         let target = self.target(beginning)?;
         let machine = beginning.machine();
         let end = machine.run(&self.order.picks(&machine)?, self.budget);
-        let order = beginning.order(self.order, &end);
+        let order = beginning.order(&self.order, &end);
         let begun = !end.answer.refused_at_once();
         if let (Some(target), true) = (&target, begun) {
             target.write(&beginning.save(&order, &end).encode())?;
@@ -100,7 +100,7 @@ impl Asked<'_> {
         let Some(path) = self.save else {
             return Ok(None);
         };
-        match Target::new(path, &beginning.program.sources)? {
+        match Target::new(path, &beginning.program.sources_with(&self.order))? {
             Target::Standard if self.form != Form::Words => {
                 let text = "--save - goes to standard output, and so do --json and --listing";
                 Err(Failure::Wrong(format!("{text}\n  name a file")))

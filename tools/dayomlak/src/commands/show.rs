@@ -8,11 +8,10 @@ use crate::failure::{self, Failure};
 use crate::json::{list, object, string};
 use crate::machine::End;
 use crate::output;
-use crate::program::Program;
-use crate::records::{State, Tag, Token};
-use crate::saved::view::View;
+use crate::pictures;
+use crate::records::{State, Token};
+use crate::saved::view::{self, View};
 use crate::script::{self, Fields};
-use crate::{activity::Activity, pictures, results};
 
 /// Nothing is fired: the status says whether the state is taken.
 pub fn show(args: &Show) -> Result<u8, Failure> {
@@ -72,36 +71,16 @@ fn words(beginning: &Beginning, end: &End, view: &View) -> String {
     let fingerprint = pictures::fingerprint(&program.files);
     text += &format!("of {}, graph and inputs {fingerprint}\n", saved.of);
     let tokens = end.tokens();
-    let port = |t: &Token| program.port(&t.tag, t.port);
-    let waits = |t: &Token| format!("{} = {}, for port {}", port(t), t.value, 1 - t.port);
-    let deferred = |t: &Token| format!("{}, for {}", port(t), program.cell(t.value));
-    let result = |t: &Token| format!("{} = {}", program.tag(&t.tag), t.value);
-    let lines =
-        |tokens: &[Token], line: &dyn Fn(&Token) -> String| tokens.iter().map(line).collect();
-    let enabled = view
-        .enabled
-        .iter()
-        .map(|tag| activity(program, &tokens, tag));
-    text += &part("enabled, oldest first", enabled.collect());
-    text += &part("waiting for a partner", lines(&view.waiting, &waits));
-    text += &part("deferred", lines(&view.deferred, &deferred));
-    text += &part("results", lines(&view.results, &result));
-    let spent = tokens.iter().filter(|t| t.state == State::Spent).count();
-    text += &part("cells", results::cell_lines(program, end));
-    text + &format!("spent tokens: {spent}\n")
-}
-
-/// An activity with its operation and operands.
-fn activity(program: &Program, tokens: &[Token], tag: &Tag) -> String {
-    let name = program.tag(tag);
-    match Activity::of(program, tokens, *tag) {
-        Some(activity) => {
-            let operands: Vec<String> = activity.operands.iter().map(i32::to_string).collect();
-            let operation = activity.instruction.words();
-            format!("{name}: {operation} with {}", operands.join(" and "))
-        }
-        None => name,
+    let enabled = (0..).zip(&view.enabled);
+    let enabled = enabled.map(|(number, tag): (usize, _)| {
+        format!("{number} {}", view::activity(program, &tokens, tag))
+    });
+    text += &part("enabled, as picks count them", enabled.collect());
+    for (title, lines) in view::parts(program, end, view) {
+        text += &part(title, lines);
     }
+    let spent = tokens.iter().filter(|t| t.state == State::Spent).count();
+    text + &format!("spent tokens: {spent}\n")
 }
 
 /// A heading with lines under it, if there are any.

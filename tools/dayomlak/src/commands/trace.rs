@@ -7,23 +7,26 @@ use crate::beginning::Beginning;
 use crate::cli::Trace;
 use crate::failure::Failure;
 use crate::history::{Firing, History, Touch};
-use crate::json::{list, object, string};
+use crate::json::{list, maybe, object, string};
 use crate::program::Program;
-use crate::{effects, output, script};
+use crate::records::Tag;
+use crate::{effects, output, script, walk};
 
 pub fn trace(args: &Trace) -> Result<u8, Failure> {
     let beginning = Beginning::load(&args.file.file, &args.buffers)?;
     let (program, machine) = (&beginning.program, beginning.machine());
-    let picks = args.firing.order.picks(&machine)?;
+    let order = args.firing.order();
+    let picks = order.picks(&machine)?;
     let (end, log) = machine.run_traced(&picks, args.firing.budget)?;
-    let order = beginning.order(args.firing.order, &end);
+    let order = beginning.order(&order, &end);
     let history = match end.answer.refused_at_once() {
         true => History::default(),
         false => History::of(&machine, &end, &log)?,
     };
+    let enabled = Enabled(program, walk::enabled(&machine, &log)?);
     let shown = shown(args, &history);
     if args.form.script.json {
-        let firings = shown.map(|number| json(program, &history, number));
+        let firings = shown.map(|number| json(program, &history, &enabled, number));
         let mut fields = script::lent(&machine);
         fields.push(("budget", args.firing.budget.to_string()));
         fields.extend(script::from(&machine));
@@ -31,12 +34,33 @@ pub fn trace(args: &Trace) -> Result<u8, Failure> {
         fields.extend(ended(&machine, &end, &order));
         script::print("trace", program, fields)?;
     } else if args.form.csv {
-        output::print(csv(program, &history, shown).as_bytes())?;
+        output::print(csv(program, &history, &enabled, shown).as_bytes())?;
     } else {
-        let text = lines(program, &history, shown) + &answer(&machine, &end, &order);
+        let enabled = (!args.short).then_some(&enabled);
+        let text = lines(program, &history, enabled, shown) + &answer(&machine, &end, &order);
         output::print(text.as_bytes())?;
     }
     Ok(status(&end))
+}
+
+/// The enabled activities before each firing, and behind the last.
+struct Enabled<'p>(&'p Program, Vec<Vec<Tag>>);
+
+impl Enabled<'_> {
+    fn names(&self, number: usize) -> Vec<String> {
+        self.1[number].iter().map(|tag| self.0.tag(tag)).collect()
+    }
+
+    /// The number of an activity among those that are enabled before a firing.
+    fn pick(&self, number: usize, tag: &Tag) -> Option<usize> {
+        self.1[number].iter().position(|enabled| enabled == tag)
+    }
+
+    /// A line before a firing; behind the last one, if something is enabled there.
+    fn line(&self, number: usize) -> Option<String> {
+        let names = self.names(number);
+        (!names.is_empty()).then(|| format!("enabled: {}\n", walk::numbered(&names)))
+    }
 }
 
 /// The firings that are asked for. They are counted from the inputs, and a saved state has some of them behind it.
@@ -50,7 +74,7 @@ fn shown(args: &Trace, history: &History) -> Range<usize> {
 }
 
 /// A firing for scripts. A deferred output has its value later.
-fn json(program: &Program, history: &History, number: usize) -> String {
+fn json(program: &Program, history: &History, enabled: &Enabled, number: usize) -> String {
     let firing = &history.firings[number];
     let value = |place: &usize| history.tokens[*place].value.to_string();
     let deferred = matches!(firing.touch, Some(Touch::Deferred(_)));
@@ -76,6 +100,11 @@ fn json(program: &Program, history: &History, number: usize) -> String {
         ("operands", list(firing.operands.iter().map(value))),
         ("outputs", list(firing.outputs.clone().map(output))),
         ("cell", touch(program, history, firing)),
+        ("pick", maybe(enabled.pick(number, &firing.tag))),
+        (
+            "enabled",
+            list(enabled.names(number).iter().map(|name| string(name))),
+        ),
     ])
 }
 
@@ -102,37 +131,58 @@ fn touch(program: &Program, history: &History, firing: &Firing) -> String {
     ])
 }
 
-/// A line for each firing: number, activity, operation, operands and what it does.
-fn csv(program: &Program, history: &History, shown: Range<usize>) -> String {
-    let head = ["firing", "activity", "operation", "operands", "effect"];
+/// A line for each firing: number, activity, operation, operands, what it does, its pick and the names that it chooses from.
+fn csv(program: &Program, history: &History, enabled: &Enabled, shown: Range<usize>) -> String {
+    let head = [
+        "firing",
+        "activity",
+        "operation",
+        "operands",
+        "effect",
+        "pick",
+        "enabled",
+    ];
     let mut text = script::csv(&head.map(str::to_string));
     for number in shown {
         let firing = &history.firings[number];
         let mut row = columns(program, history, number, firing).to_vec();
         row.push(effects::of(program, history, firing));
+        row.push(maybe(enabled.pick(number, &firing.tag)));
+        row.push(enabled.names(number).join(" "));
         text += &script::csv(&row);
     }
     text
 }
 
-fn lines(program: &Program, history: &History, shown: Range<usize>) -> String {
+/// The firings, a line each. What is enabled stands before each, and behind the last where more can fire.
+fn lines(
+    program: &Program,
+    history: &History,
+    enabled: Option<&Enabled>,
+    shown: Range<usize>,
+) -> String {
     let row = |number: usize| {
         let firing = &history.firings[number];
         let columns = columns(program, history, number, firing);
         (columns, effects::of(program, history, firing))
     };
-    let rows: Vec<([String; 4], String)> = shown.map(row).collect();
+    let rows: Vec<([String; 4], String)> = shown.clone().map(row).collect();
+    let enabled_at = |number| enabled.and_then(|enabled| enabled.line(number));
     let width = |column: usize| {
         let widths = rows.iter().map(|(columns, _)| columns[column].len());
         widths.max().unwrap_or(0)
     };
     let [w0, w1, w2, w3] = [0, 1, 2, 3].map(width);
     let mut text = String::new();
-    for ([number, activity, operation, operands], effects) in &rows {
+    for (at, ([number, activity, operation, operands], effects)) in shown.clone().zip(&rows) {
+        text += &enabled_at(at).unwrap_or_default();
         let line =
             format!("{number:>w0$}  {activity:w1$}  {operation:w2$}  {operands:>w3$}  {effects}");
         text += line.trim_end();
         text.push('\n');
+    }
+    if shown.end == history.firings.len() {
+        text += &enabled_at(shown.end).unwrap_or_default();
     }
     text
 }

@@ -1,5 +1,9 @@
 //! What the page shows at each position of its slider, as JSON: the firings, and tokens and cells by their changes.
 
+use std::collections::{HashMap, HashSet};
+
+use plotter::curves::Steps as Curves;
+
 use super::states::{Changes, States};
 use super::steps::Steps;
 use super::Run;
@@ -12,23 +16,32 @@ use crate::json::{list, maybe, object, string};
 use crate::pictures::dot::{self, Drawing};
 use crate::program::Program;
 use crate::records::{self, Cell, Tag, Token};
-use crate::refused;
+use crate::{refused, walk};
 
 /// The data of a run. One that was refused before its inputs were written has no state.
 pub fn of(run: &Run, drawing: &Drawing, steps: &Steps) -> Result<String, Failure> {
-    let whole = steps.whole.iter();
-    let whole = whole.map(|step| format!("[{},{}]", step.firings, step.tokens));
+    let Curves {
+        firings,
+        tokens,
+        waiting,
+        first,
+        ..
+    } = &steps.curves;
+    let columns = firings.iter().zip(tokens).zip(waiting);
+    let columns = columns.map(|((f, t), w)| format!("[{f},{t},{w}]"));
     let fault = fault(run, drawing).unwrap_or_default();
-    let (firings, refused, tokens, cells) = match run.end.answer.refused_at_once() {
-        true => (list([]), "null".to_string(), list([]), list([])),
+    let nothing = ["[]", "null", "[]", "[]", "[]"].map(str::to_string);
+    let [firings, refused, enabled, tokens, cells] = match run.end.answer.refused_at_once() {
+        true => nothing,
         false => {
             let data = Data::new(run, drawing, steps)?;
-            (
+            [
                 data.firings(),
                 data.refused(run),
+                data.enabled(run)?,
                 data.tokens(),
                 data.cells(),
-            )
+            ]
         }
     };
     Ok(object(&[
@@ -36,9 +49,11 @@ pub fn of(run: &Run, drawing: &Drawing, steps: &Steps) -> Result<String, Failure
         ("carriedOn", run.machine.start.is_some().to_string()),
         ("firings", firings),
         ("refused", refused),
+        ("enabled", enabled),
         ("tokens", tokens),
         ("cells", cells),
-        ("steps", list(whole)),
+        ("steps", list(columns)),
+        ("firstStep", first.to_string()),
         ("fault", string(&fault)),
     ]))
 }
@@ -86,24 +101,11 @@ impl<'d> Data<'d> {
     fn firings(&self) -> String {
         list(self.history.firings.iter().map(|firing| {
             let mut fields = self.activity(&firing.tag);
-            fields.push(("words", string(&self.words(firing))));
+            let words = effects::sentence(self.program, &self.history, firing);
+            fields.push(("words", string(&words)));
             fields.push(("step", maybe(self.steps.of(&firing.tag))));
             object(&fields)
         }))
-    }
-
-    /// Operation, operands and what they lead to.
-    fn words(&self, firing: &Firing) -> String {
-        let operation = self.program.graph.get(firing.tag.instruction);
-        let operation = operation.map_or(String::new(), |i| i.words());
-        let operands = effects::operands(&self.history, firing).replace(' ', " and ");
-        let effects = effects::of(self.program, &self.history, firing);
-        let join = match effects.chars().next() {
-            None => "",
-            Some('-') => " ",
-            Some(_) => ": ",
-        };
-        format!("{operation} with {operands}{join}{effects}")
     }
 
     /// The name of an activity, its tag in numbers and the id of what is drawn of it.
@@ -134,6 +136,28 @@ impl<'d> Data<'d> {
         fields.push(("operands", list(operands)));
         fields.push(("step", maybe(self.steps.of(&token.tag))));
         object(&fields)
+    }
+
+    /// The activities that are ever enabled, by place: at which position each is so first, and at which no more.
+    fn enabled(&self, run: &Run) -> Result<String, Failure> {
+        let mut known: HashMap<Tag, (usize, usize)> = HashMap::new();
+        for (position, tags) in walk::enabled(run.machine, &run.log)?.iter().enumerate() {
+            for tag in tags {
+                known.entry(*tag).or_insert((position, 0)).1 = position + 1;
+            }
+        }
+        let mut seen = HashSet::new();
+        let tags = self.history.tokens.iter().map(|token| token.tag);
+        let by_place = tags.filter(|tag| seen.insert(*tag));
+        Ok(list(by_place.filter_map(|tag| {
+            let (since, until) = known.get(&tag)?;
+            Some(object(&[
+                ("name", string(&self.program.tag(&tag))),
+                ("at", string(&self.drawing.instruction_id(tag.instruction))),
+                ("since", since.to_string()),
+                ("until", until.to_string()),
+            ]))
+        })))
     }
 
     fn tokens(&self) -> String {

@@ -2,7 +2,7 @@
 //! only chooses what to show.
 
 mod data;
-mod html;
+pub mod html;
 mod states;
 mod steps;
 
@@ -48,9 +48,9 @@ impl<'m> Run<'m> {
         machine: &'m Machine,
         firing: &Firing,
     ) -> Result<Run<'m>, Failure> {
-        let picks = firing.order.picks(machine)?;
+        let picks = firing.order().picks(machine)?;
         let (end, log) = machine.run_traced(&picks, firing.budget)?;
-        let order = beginning.order(firing.order, &end);
+        let order = beginning.order(&firing.order(), &end);
         Ok(Run {
             machine,
             end,
@@ -108,7 +108,7 @@ impl<'m> Run<'m> {
 pub fn page(run: &Run) -> Result<String, Failure> {
     let program = run.machine.program;
     let drawing = Drawing::with_ids(program);
-    let steps = Steps::new(run.machine);
+    let steps = Steps::new(run.machine)?;
     let facts = run.facts().into_iter();
     let facts = facts
         .map(|(name, words)| format!("<div><dt>{name}</dt><dd>{}</dd></div>", escaped(&words)));
@@ -160,7 +160,7 @@ fn curves(steps: &Steps) -> Result<String, Failure> {
     if steps.whole.is_empty() {
         return Ok(String::new());
     }
-    let charts = curves::charts(&steps.whole);
+    let charts = curves::charts(&steps.curves);
     let charts = charts.map_err(|error| Failure::Inconsistent(format!("the curves: {error}")))?;
     Ok(charts.iter().map(figure).collect())
 }

@@ -44,7 +44,15 @@ function stateAt(position) {
     tokens: tokens.filter((token) => token.state !== 'spent'),
     spent: tokens.filter((token) => token.state === 'spent').length,
     cells: itemsAt(data.cells, position),
+    enabled: enabledAt(position),
+    next: refused ? data.refused : firingAt(position + 1),
   };
+}
+
+// What can fire next, in the order of picks. A refused firing changes nothing.
+function enabledAt(position) {
+  const at = Math.min(position, data.firings.length);
+  return data.enabled.filter(({ since, until }) => since <= at && at < until);
 }
 
 function firingAt(position) {
@@ -175,6 +183,26 @@ function some(words) {
   return [...words.slice(0, MOST_NAMES), `and ${words.length - MOST_NAMES} more`];
 }
 
+// The enabled activities by their numbers; the one that fires next stands out.
+function showEnabled({ enabled, next }) {
+  const chips = enabled.slice(0, MOST_ROWS).map(({ name }, number) => {
+    const item = document.createElement('li');
+    item.append(`${number} `, ...breakable(name));
+    item.classList.toggle('next', Boolean(next) && next.name === name);
+    return item;
+  });
+  if (enabled.length > MOST_ROWS) {
+    const more = document.createElement('li');
+    more.append(`and ${enabled.length - MOST_ROWS} more`);
+    chips.push(more);
+  }
+  byId('enabled-count').textContent = enabled.length === 0
+    ? 'Nothing can fire'
+    : `${enabled.length} can fire, numbered as picks count them`;
+  byId('enabled').replaceChildren(...chips);
+  keepInSight(byId('enabled').parentElement, byId('enabled').querySelector('.next'));
+}
+
 function showTables({ tokens, spent, cells }) {
   const deferred = tokens.filter((token) => token.state === 'deferred');
   const live = tokens.length - deferred.length;
@@ -242,6 +270,7 @@ function mark(name, ids) {
 function showPicture(state) {
   const { firing, refused, tokens } = state;
   const here = firing ? [firing.at] : [];
+  mark('enabled', state.enabled.map(({ at }) => at));
   mark('fires', refused ? [] : here);
   mark('refuses', refused ? here : [data.fault]);
   mark('sends', tokens.filter((token) => token.fresh).map((token) => token.arc));
@@ -349,22 +378,24 @@ function showStep({ firing, refused }) {
 
 function stepWords(firing, refused) {
   if (!firing || data.carriedOn) return '';
-  const record = data.steps[firing.step - 1];
+  const record = data.steps[firing.step - data.firstStep];
   if (refused && !record) return 'The refused firing is in no whole step.';
-  if (!firing.step) return 'The profile was refused before it came to this activity.';
+  if (firing.step === null) return 'The profile was refused before it came to this activity.';
   if (!record) return 'This activity fires in the step that was not finished.';
+  if (firing.step === 0) return `${firing.name} loads a cell, before step 1.`;
   return `${firing.name} fires in step ${firing.step}: ${plural(record[0], 'firing')}, ` +
-    `${plural(record[1], 'token')} after it.`;
+    `${plural(record[1], 'token')} after it, ${record[2]} of them waiting.`;
 }
 
 function markStep(figure, step) {
   figure.querySelectorAll('.mark').forEach((old) => old.remove());
-  if (!step || step > data.steps.length) return;
+  const column = step - data.firstStep;
+  if (step === null || column >= data.steps.length) return;
   const [left, right, top, bottom] = ['left', 'right', 'top', 'bottom'].map((side) => Number(figure.dataset[side]));
   const width = (right - left) / data.steps.length;
   const chart = figure.querySelector('svg');
   const rect = document.createElementNS(chart.namespaceURI, 'rect');
-  const place = { class: 'mark', x: left + width * (step - 1), y: top, width, height: bottom - top };
+  const place = { class: 'mark', x: left + width * column, y: top, width, height: bottom - top };
   Object.entries(place).forEach(([key, value]) => rect.setAttribute(key, value));
   chart.append(rect);
 }
@@ -377,6 +408,7 @@ function show(wanted) {
   position = Math.min(last, Math.max(0, Math.round(wanted) || 0));
   const state = stateAt(position);
   showFiring(state);
+  showEnabled(state);
   showTables(state);
   if (svg) showPicture(state);
   showStep(state);

@@ -3,9 +3,13 @@
 
 use std::collections::HashMap;
 
+use plotter::curves::Steps as Curves;
 use plotter::Step;
 
 use crate::answer::Answer;
+use crate::curves;
+use crate::failure::Failure;
+use crate::loads::Loads;
 use crate::machine::{End, Machine};
 use crate::records::{State, Tag};
 
@@ -14,18 +18,21 @@ pub struct Steps {
     pub answer: Answer,
     /// The whole steps.
     pub whole: Vec<Step>,
+    /// Their curves, with the loads of cells before step 1.
+    pub curves: Curves,
     of: HashMap<Tag, usize>,
 }
 
 impl Steps {
-    pub fn new(machine: &Machine) -> Steps {
+    pub fn new(machine: &Machine) -> Result<Steps, Failure> {
         let mut of = HashMap::new();
         if machine.start.is_some() {
-            return Steps {
+            return Ok(Steps {
                 answer: machine.run(&[], 0).answer,
                 whole: Vec::new(),
+                curves: Curves::default(),
                 of,
-            };
+            });
         }
         let (end, whole) = machine.profile();
         for step in 1..=whole.len() {
@@ -34,14 +41,21 @@ impl Steps {
         }
         // What a refused profile fired in the step that is not whole.
         add(&mut of, whole.len() + 1, &end);
-        Steps {
+        let curves = curves::ideal(machine, &whole)?;
+        let loads = Loads::of(machine.program);
+        let is_load = |tag: &Tag| curves.first == 0 && loads.contains(tag.instruction);
+        of.iter_mut()
+            .filter(|(tag, _)| is_load(tag))
+            .for_each(|(_, step)| *step = 0);
+        Ok(Steps {
             answer: end.answer,
             whole,
+            curves,
             of,
-        }
+        })
     }
 
-    /// The step of an activity, counted from 1. `None` if a refused profile did not come to it.
+    /// The step of an activity, counted from 1, or 0 for the load of a cell. `None` if a refused profile did not come to it.
     pub fn of(&self, activity: &Tag) -> Option<usize> {
         self.of.get(activity).copied()
     }
@@ -67,7 +81,7 @@ mod tests {
             capacity: 100,
             cells: 5,
         };
-        let steps = Steps::new(&Machine::new(&program, sizes));
+        let steps = Steps::new(&Machine::new(&program, sizes)).unwrap();
         let tag = |instruction| Tag {
             path: 0,
             iteration: 0,

@@ -2,6 +2,8 @@
 
 use std::collections::{HashMap, HashSet};
 
+use crate::activity::Activity;
+use crate::machine::End;
 use crate::program::Program;
 use crate::records::{State, Tag, Token};
 use crate::results;
@@ -40,5 +42,36 @@ impl View {
             }
         }
         view
+    }
+}
+
+/// What is not enabled, by headings: tokens that wait, deferred ones, results and cells.
+pub fn parts(program: &Program, end: &End, view: &View) -> Vec<(&'static str, Vec<String>)> {
+    let port = |t: &Token| program.port(&t.tag, t.port);
+    let waits = |t: &Token| format!("{} = {}, for port {}", port(t), t.value, 1 - t.port);
+    let deferred = |t: &Token| format!("{}, for {}", port(t), program.cell(t.value));
+    let result = |t: &Token| format!("{} = {}", program.tag(&t.tag), t.value);
+    let lines =
+        |tokens: &[Token], line: &dyn Fn(&Token) -> String| tokens.iter().map(line).collect();
+    let parts = [
+        ("waiting for a partner", lines(&view.waiting, &waits)),
+        ("deferred", lines(&view.deferred, &deferred)),
+        ("results", lines(&view.results, &result)),
+        ("cells", results::cell_lines(program, end)),
+    ];
+    let is_there = |(_, lines): &(&str, Vec<String>)| !lines.is_empty();
+    parts.into_iter().filter(is_there).collect()
+}
+
+/// An activity with its operation and operands.
+pub fn activity(program: &Program, tokens: &[Token], tag: &Tag) -> String {
+    let name = program.tag(tag);
+    match Activity::of(program, tokens, *tag) {
+        Some(activity) => {
+            let operands: Vec<String> = activity.operands.iter().map(i32::to_string).collect();
+            let operation = activity.instruction.words();
+            format!("{name}: {operation} with {}", operands.join(" and "))
+        }
+        None => name,
     }
 }
