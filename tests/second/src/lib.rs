@@ -12,6 +12,7 @@ mod bounds;
 mod convert;
 mod expression;
 mod graph;
+mod hold;
 mod listing;
 mod log;
 mod machine;
@@ -25,6 +26,7 @@ pub use bounds::{bounds, Bounds};
 pub use convert::{convert, convert_log};
 pub use expression::{expression, expression_value, EXPRESSION_RECORD, MOST_EXPRESSION_RECORDS};
 pub use graph::{operand_count, Graph};
+pub use hold::{held, Held};
 pub use listing::list;
 pub use log::{replay, run_logged};
 pub use printing::print;
@@ -77,11 +79,40 @@ impl Program<'_> {
 pub struct Schedule<'a> {
     pub picks: &'a [u8],
     pub budget: u16,
+    /// The bound of loops, or 0 for none (02, R-9).
+    pub bound: u16,
 }
 
-impl Schedule<'_> {
-    pub fn new(picks: &[u8], budget: u16) -> Schedule<'_> {
-        Schedule { picks, budget }
+impl<'a> Schedule<'a> {
+    /// Picks and a budget, without a bound.
+    pub fn new(picks: &'a [u8], budget: u16) -> Schedule<'a> {
+        Schedule {
+            picks,
+            budget,
+            bound: 0,
+        }
+    }
+
+    pub fn bounded(self, bound: u16) -> Schedule<'a> {
+        Schedule { bound, ..self }
+    }
+
+    /// A schedule for a call that takes none.
+    const NONE: Schedule<'static> = Schedule {
+        picks: &[],
+        budget: MOST_RECORDS as u16,
+        bound: 0,
+    };
+
+    /// Refusal 21 for a bound that is neither 0 nor 2 to 256.
+    fn check_bound(&self) -> Result<(), Refusal> {
+        match self.bound {
+            0 | 2..=256 => Ok(()),
+            _ => Err(Refusal {
+                number: 21,
+                place: 0,
+            }),
+        }
     }
 
     fn picks_fit(&self) -> bool {
@@ -156,12 +187,12 @@ impl Answer {
     }
 
     /// Whether the call was refused before its inputs were written, so that ledger and
-    /// cells stay as lent. These refusals are 1 to 9 without tokens, 22 and 24: a firing
+    /// cells stay as lent. These refusals are 1 to 9 without tokens, 21, 22 and 24: a firing
     /// has at least one operand, and 18 and 20 come after the inputs, of which a replay
     /// may have none.
     pub fn refused_at_once(&self) -> bool {
         self.refusal()
-            .is_some_and(|number| matches!(number, 1..=9 | 22 | 24))
+            .is_some_and(|number| matches!(number, 1..=9 | 21 | 22 | 24))
             && self.tokens == 0
     }
 }
@@ -181,8 +212,8 @@ pub fn run(
         ledger,
         cells,
     };
-    lent.accept(schedule.picks_fit(), |machine| {
-        machine.run(schedule.budget, |firing, _| schedule.pick(firing))
+    lent.accept(schedule, true, |machine| {
+        machine.run(schedule, |firing, _| schedule.pick(firing))
     })
 }
 
@@ -203,8 +234,8 @@ pub fn picks_of(
         ledger: &mut vec![0; capacity * TOKEN_RECORD],
         cells: &mut vec![0; cell_count * CELL_RECORD],
     };
-    lent.accept(true, |machine| {
-        machine.run(MOST_RECORDS as u16, |firing, enabled| {
+    lent.accept(Schedule::NONE, true, |machine| {
+        machine.run(Schedule::NONE, |firing, enabled| {
             let pick = choose(firing, enabled);
             picks.extend_from_slice(&pick.to_le_bytes());
             pick
@@ -237,8 +268,13 @@ impl Lent<'_> {
     /// Checks what is lent, and lets a machine go from the inputs; ledger and cells are
     /// written unless the checks refuse. `others_fit` says that refusal 7 finds no
     /// fault with what else is lent.
-    fn accept(self, others_fit: bool, go: impl FnOnce(&mut Machine) -> Answer) -> Answer {
-        match self.check(others_fit) {
+    fn accept(
+        self,
+        schedule: Schedule,
+        others_fit: bool,
+        go: impl FnOnce(&mut Machine) -> Answer,
+    ) -> Answer {
+        match self.check(schedule, others_fit) {
             Err(refusal) => Answer::refused_at_first(refusal),
             Ok((program, tokens)) => {
                 let (capacity, cell_count) = (self.capacity(), self.cell_count());
@@ -259,15 +295,20 @@ impl Lent<'_> {
     }
 
     /// All checks before the first firing, in the order of 01 and 02: 1; records in turn,
-    /// each 2 to 5; 7; 22; inputs in turn for 6; 8; 9 by input in turn.
-    fn check(&self, others_fit: bool) -> Result<(Checked, Vec<Token>), Refusal> {
+    /// each 2 to 5; 7; 21; 22; inputs in turn for 6; 8; 9 by input in turn.
+    fn check(
+        &self,
+        schedule: Schedule,
+        others_fit: bool,
+    ) -> Result<(Checked, Vec<Token>), Refusal> {
         let graph = Graph::parse(self.program.graph)?;
         let stores_fit = fits(self.inputs.len(), TOKEN_RECORD, MOST_RECORDS)
             && fits(self.ledger.len(), TOKEN_RECORD, MOST_RECORDS)
             && fits(self.cells.len(), CELL_RECORD, MOST_CELLS);
-        if !others_fit || !stores_fit {
+        if !others_fit || !stores_fit || !schedule.picks_fit() {
             return Err(Refusal::BAD_STORE);
         }
+        schedule.check_bound()?;
         let arrays = Arrays::parse(self.program.arrays, self.cell_count(), &graph)?;
         let tokens = parse_inputs(self.inputs, &graph)?;
         if tokens.len() > self.capacity() {

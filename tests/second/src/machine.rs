@@ -6,7 +6,7 @@ use crate::arrays::Arrays;
 use crate::graph::{Graph, Instruction, Operation};
 use crate::places::Places;
 use crate::token::{Cell, Key, KeyHashing, State, Tag, Token};
-use crate::{Answer, Outcome, Refusal, CELL_RECORD, TOKEN_RECORD};
+use crate::{Answer, Outcome, Refusal, Schedule, CELL_RECORD, TOKEN_RECORD};
 
 /// A checked graph with its checked table of named arrays.
 pub struct Checked {
@@ -92,21 +92,28 @@ impl<'a> Machine<'a> {
         machine
     }
 
-    /// Fires until nothing is enabled, the budget is spent or a firing is refused.
-    pub fn run(&mut self, budget: u16, mut choose: impl FnMut(usize, usize) -> u16) -> Answer {
+    /// Fires until no activity is free, the budget is spent or a firing is refused. The
+    /// picks are chosen by the firings done and the number of free activities, which are
+    /// those enabled that the bound does not hold back.
+    pub fn run(
+        &mut self,
+        schedule: Schedule,
+        mut choose: impl FnMut(usize, usize) -> u16,
+    ) -> Answer {
         let mut firings = 0;
         let outcome = loop {
-            let enabled = self.enabled.len();
+            let held = self.held_places(schedule.bound);
+            let free = self.enabled.len() - held.len();
             // Completed and hung are tried first, then spent (01, "The answer and the
-            // refusals"; 02, R-2).
-            if enabled == 0 {
+            // refusals"; 02, R-2). With held activities alone it hangs (02, R-9).
+            if free == 0 {
                 break self.rest();
             }
-            if firings == usize::from(budget) {
+            if firings == usize::from(schedule.budget) {
                 break Outcome::Spent;
             }
-            let pick = usize::from(choose(firings, enabled));
-            let place = self.enabled.nth(pick % enabled);
+            let pick = usize::from(choose(firings, free));
+            let place = self.enabled.nth_without(pick % free, &held);
             if let Err(number) = self.fire(place) {
                 break Outcome::Refused(Refusal { number, place });
             }
@@ -149,19 +156,35 @@ impl<'a> Machine<'a> {
         self.tokens.iter().filter(unspent).count()
     }
 
-    /// How a run with nothing enabled ends: completed only if every live token is a
-    /// result and none is deferred (02, R-2).
+    /// How a run with nothing free ends: completed only if every live token is a result
+    /// and none is deferred (02, R-2).
     pub fn rest(&self) -> Outcome {
-        let proper = |token: &Token| match token.state {
-            State::Live => self.graph.is_result(token),
-            State::Spent => true,
-            State::Deferred => false,
-        };
-        if self.tokens.iter().all(proper) {
+        if self.unfinished().next().is_none() {
             Outcome::Completed
         } else {
             Outcome::Hung
         }
+    }
+
+    /// The tokens still at work, with their positions: live ones that are no results, and
+    /// deferred ones wherever they are.
+    pub fn unfinished(&self) -> impl Iterator<Item = (usize, &Token)> {
+        let at_work = |(_, token): &(usize, &Token)| match token.state {
+            State::Live => !self.graph.is_result(token),
+            State::Spent => false,
+            State::Deferred => true,
+        };
+        self.tokens.iter().enumerate().filter(at_work)
+    }
+
+    /// The places of the enabled activities of NEXT, in order, each with its tag.
+    pub fn enabled_nexts(&self) -> impl Iterator<Item = (usize, Tag)> + '_ {
+        let is_next = |&place: &usize| {
+            let instruction = self.graph.instruction_of(&self.tokens[place]);
+            instruction.operation == Operation::Next
+        };
+        let places = self.enabled_places().into_iter().filter(is_next);
+        places.map(|place| (place, self.tokens[place].tag()))
     }
 
     /// Writes tokens and cells to the lent buffers; the ledger's bytes past the
