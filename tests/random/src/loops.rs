@@ -14,7 +14,7 @@ pub fn draft(prng: &mut Prng) -> (Draft, usize) {
     let mut draft = Draft::default();
     let result = draft.add(OUT, 0, 0);
     let leave = draft.add(LEAVE, 0, 0);
-    let passes = if prng.one_in(8) {
+    let passes = if prng.one_in(4) {
         [254, 255, 256, 256][prng.below(4)]
     } else {
         prng.between(1, 6)
