@@ -23,6 +23,7 @@ mod meetings;
 mod orders;
 mod prng;
 mod profiles;
+mod ranges;
 mod records;
 mod saved;
 mod serves;
@@ -57,6 +58,7 @@ struct Harness {
     carried: u64,
     bounds: u64,
     bounded: u64,
+    ranges: u64,
     expressions: u64,
     groups: u64,
     listings: u64,
@@ -145,6 +147,7 @@ impl Harness {
         self.all_states(&ends, prng);
         self.all_requests(&ends, prng);
         self.all_bounded(&ends, prng);
+        self.all_ranges(&ends, prng);
         for _ in 0..2 {
             let mut case = case.clone();
             case.budget = [0, 1, 2, prng.below(40) as u16, 65_535][prng.below(5)];
@@ -371,6 +374,7 @@ fn main() -> ExitCode {
         carried: 0,
         bounds: 0,
         bounded: 0,
+        ranges: 0,
         expressions: 0,
         groups: 0,
         listings: 0,
@@ -406,6 +410,7 @@ fn report(harness: &Harness) -> ExitCode {
     );
     println!("bounds: {}", harness.bounds);
     println!("runs with a bound: {}", harness.bounded);
+    println!("range runs: {}", harness.ranges);
     println!("expressions: {}", harness.expressions);
     println!("listings of arbitrary records: {}", harness.listings);
     println!("conversions: {}", harness.conversions);

@@ -6,7 +6,7 @@ use second::{Outcome, TOKEN_RECORD};
 use crate::case::{Call, Case, Left};
 use crate::{
     arrays, bounding, bounds, capacities, conversions, expressions, logs, meetings, profiles,
-    saved, serves,
+    ranges, saved, serves,
 };
 
 const NAMES: [(u8, &str); 27] = [
@@ -101,6 +101,7 @@ pub struct Tally {
     saved: Named,
     requests: Named,
     bounded: Named,
+    ranges: Named,
 }
 
 impl Tally {
@@ -133,6 +134,7 @@ impl Tally {
             saved: Named::new(&saved::NAMES),
             requests: Named::new(&serves::NAMES),
             bounded: Named::new(&bounding::NAMES),
+            ranges: Named::new(&ranges::NAMES),
         }
     }
 
@@ -172,6 +174,10 @@ impl Tally {
 
     pub fn count_bounded(&mut self, names: Vec<&'static str>) {
         self.bounded.count(names);
+    }
+
+    pub fn count_ranges(&mut self, names: Vec<&'static str>) {
+        self.ranges.count(names);
     }
 
     pub fn count_expression(&mut self, names: Vec<&'static str>) {
@@ -268,6 +274,8 @@ impl Tally {
         self.requests.print(&mut lines);
         println!("runs with a bound:");
         self.bounded.print(&mut lines);
+        println!("range runs:");
+        self.ranges.print(&mut lines);
         println!("expressions:");
         self.expressions.print(&mut lines);
         println!("further:");

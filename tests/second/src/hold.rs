@@ -6,6 +6,7 @@ use crate::arrays::Arrays;
 use crate::graph::Graph;
 use crate::machine::{Checked, Machine};
 use crate::token::{Tag, Token};
+use crate::value::Value;
 use crate::{fits, MOST_RECORDS, TOKEN_RECORD};
 
 /// An activity that is held back: its place, and the positions of the tokens that hold it.
@@ -38,7 +39,7 @@ pub fn held(graph: &[u8], bound: u16, records: &[u8]) -> Option<Vec<Held>> {
     Some(Machine::resumed(&program, tokens.len(), &tokens, Vec::new()).held(bound))
 }
 
-impl Machine<'_> {
+impl<V: Value> Machine<'_, V> {
     /// The activities that a bound, or 0 for none, holds back.
     fn held(&self, bound: u16) -> Vec<Held> {
         let held = self.enabled_nexts().map(|(place, next)| {
@@ -63,7 +64,7 @@ impl Machine<'_> {
     /// path, or in a path entered from there, where it would make iteration m.
     fn holders(&self, next: Tag, bound: u16) -> impl Iterator<Item = usize> + '_ {
         let latest = (i32::from(next.iteration) + 1) - i32::from(bound);
-        let old = move |(position, token): (usize, &Token)| {
+        let old = move |(position, token): (usize, &Token<V>)| {
             let iteration = iteration_in(next.path, token)?;
             (bound > 0 && i32::from(iteration) <= latest).then_some(position)
         };
@@ -73,7 +74,7 @@ impl Machine<'_> {
 
 /// The iteration of a path that a token belongs to: its own there, or the one that its
 /// path was entered from, right below that path. `None` if it stands elsewhere.
-fn iteration_in(path: u128, token: &Token) -> Option<u8> {
+fn iteration_in<V>(path: u128, token: &Token<V>) -> Option<u8> {
     let (mut inner, mut iteration) = (token.path, token.iteration);
     while inner != path {
         if inner == 0 {

@@ -28,7 +28,7 @@ pub fn profile(
     let whole = profile.len().is_multiple_of(PROFILE_RECORD);
     let mut room = profile.chunks_exact_mut(PROFILE_RECORD);
     let mut records = 0;
-    let answer = lent.accept(Schedule::NONE, whole, |machine| {
+    let answer = lent.accept(Schedule::NONE, whole, |machine: &mut Machine| {
         let mut firings = 0;
         let outcome = loop {
             match ideal_step(machine, &mut firings, room.next()) {
