@@ -106,7 +106,7 @@ impl<'p> Machine<'p> {
             return self.carry_on(state, picks, budget);
         }
         let (graph, inputs) = self.lent();
-        self.call(|ledger, cells| ttda::run(graph, inputs, picks, budget, ledger, cells))
+        self.call(|ledger, cells| ttda::run(graph, &[], inputs, picks, budget, ledger, cells))
     }
 
     /// Goes on from a state. Budget and picks are those of this part.
@@ -119,6 +119,7 @@ impl<'p> Machine<'p> {
         let (firings, tokens) = (state.firings, state.tokens());
         let answer = ttda::carry_on(
             graph,
+            &[],
             picks,
             budget,
             firings,
@@ -184,7 +185,7 @@ impl<'p> Machine<'p> {
         let mut log = vec![0; LOGGED * MOST_RECORDS];
         let (graph, inputs) = self.lent();
         let end = self.call(|ledger, cells| {
-            ttda::run_logged(graph, inputs, picks, budget, ledger, cells, &mut log)
+            ttda::run_logged(graph, &[], inputs, picks, budget, ledger, cells, &mut log)
         });
         log.truncate(LOGGED * end.answer.firings);
         (end, log)
@@ -192,7 +193,7 @@ impl<'p> Machine<'p> {
 
     pub fn replay(&self, log: &[u8]) -> End {
         let (graph, inputs) = self.lent();
-        self.call(|ledger, cells| ttda::replay(graph, inputs, log, ledger, cells))
+        self.call(|ledger, cells| ttda::replay(graph, &[], inputs, log, ledger, cells))
     }
 
     pub fn profile(&self) -> (End, Vec<Step>) {
@@ -204,7 +205,15 @@ impl<'p> Machine<'p> {
         let (graph, inputs) = self.lent();
         let (mut profile, mut records) = (vec![0; STEP * most], 0);
         let end = self.call(|ledger, cells| {
-            ttda::profile(graph, inputs, ledger, cells, &mut profile, &mut records)
+            ttda::profile(
+                graph,
+                &[],
+                inputs,
+                ledger,
+                cells,
+                &mut profile,
+                &mut records,
+            )
         });
         profile.truncate(STEP * records as usize);
         (end, Step::all(&profile))

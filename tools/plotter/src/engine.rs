@@ -76,7 +76,15 @@ impl Engine for Library {
     fn run(&self, asked: &Request) -> Left {
         let (mut ledger, mut cells) = lent(asked);
         let (graph, inputs, picks) = (&asked.graph, &asked.inputs, &asked.picks);
-        let answer = ttda::run(graph, inputs, picks, asked.budget, &mut ledger, &mut cells);
+        let answer = ttda::run(
+            graph,
+            &[],
+            inputs,
+            picks,
+            asked.budget,
+            &mut ledger,
+            &mut cells,
+        );
         ledger.truncate(TOKEN * answer.tokens());
         Left {
             answer: answer.0,
@@ -90,6 +98,7 @@ impl Engine for Library {
         let (mut profile, mut records) = (vec![0; STEP * MOST_RECORDS], 0);
         let answer = ttda::profile(
             &asked.graph,
+            &[],
             &asked.inputs,
             &mut ledger,
             &mut cells,
@@ -105,9 +114,11 @@ impl Engine for Library {
     fn serves(&self, kept: &Request, answer: u64, asked: &Request) -> bool {
         let served = ttda::serves(
             &kept.graph,
+            &[],
             &kept.inputs,
             &kept.picks,
             &asked.graph,
+            &[],
             &asked.inputs,
             &asked.picks,
             kept.budget,
