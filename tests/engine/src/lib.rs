@@ -66,6 +66,12 @@ pub fn unpacked(answer: u64) -> (u64, u64, u64, u64) {
     (word.into(), firings.into(), tokens.into(), place.into())
 }
 
+/// The picks and the budget of a schedule without a bound; the C functions take none.
+fn unbounded(schedule: Schedule<'_>) -> (&[u8], u16) {
+    assert_eq!(schedule.bound, 0, "the engine takes no bound");
+    (schedule.picks, schedule.budget)
+}
+
 /// Runs the engine.
 pub fn run(
     program: Program,
@@ -75,7 +81,7 @@ pub fn run(
     cells: &mut [u8],
 ) -> u64 {
     let Program { graph, arrays } = program;
-    let Schedule { picks, budget } = schedule;
+    let (picks, budget) = unbounded(schedule);
     ttda::run(graph, arrays, inputs, picks, budget, ledger, cells).0
 }
 
@@ -88,7 +94,7 @@ pub fn carry_on(
     cells: &mut [u8],
 ) -> u64 {
     let Program { graph, arrays } = program;
-    let Schedule { picks, budget } = schedule;
+    let (picks, budget) = unbounded(schedule);
     let Counts { firings, tokens } = saved;
     ttda::carry_on(graph, arrays, picks, budget, firings, tokens, ledger, cells).0
 }
@@ -118,7 +124,7 @@ pub fn run_logged(
     log: &mut [u8],
 ) -> u64 {
     let Program { graph, arrays } = program;
-    let Schedule { picks, budget } = schedule;
+    let (picks, budget) = unbounded(schedule);
     ttda::run_logged(graph, arrays, inputs, picks, budget, ledger, cells, log).0
 }
 

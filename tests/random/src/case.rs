@@ -53,6 +53,9 @@ pub struct Case {
     pub inputs: Vec<u8>,
     pub picks: Vec<u8>,
     pub budget: u16,
+    /// The bound of loops; the engine takes none, so that a bounded run is the second
+    /// emulator's alone.
+    pub bound: u16,
     pub ledger_bytes: usize,
     pub cells_bytes: usize,
     pub garbage: u64,
@@ -173,7 +176,7 @@ impl Case {
     }
 
     pub fn schedule(&self) -> Schedule<'_> {
-        Schedule::new(&self.picks, self.budget)
+        Schedule::new(&self.picks, self.budget).bounded(self.bound)
     }
 
     /// Whether inputs, ledger and cells are whole records and not too many.
@@ -262,10 +265,6 @@ pub fn compare(case: &Case, clock: &mut Clock) -> (Left, Result<(), String>) {
     let start = Instant::now();
     let (answer, records) = case.second(&mut due);
     clock.second += start.elapsed();
-    let start = Instant::now();
-    let engine_answer = case.engine(&mut found);
-    clock.engine += start.elapsed();
-
     let mut listing = vec![0; TOKEN_RECORD * answer.tokens];
     let code = second::list(&due.ledger[..TOKEN_RECORD * answer.tokens], &mut listing);
     assert_eq!(code, 0, "the second emulator lists its own ledger");
@@ -277,6 +276,12 @@ pub fn compare(case: &Case, clock: &mut Clock) -> (Left, Result<(), String>) {
         records,
         listing,
     };
+    if case.bound > 0 {
+        return (left, Ok(()));
+    }
+    let start = Instant::now();
+    let engine_answer = case.engine(&mut found);
+    clock.engine += start.elapsed();
     let result = check_call(&left, engine_answer, &found)
         .and_then(|()| compare_listing(left.used(), left.used().len(), &mut prng))
         .and_then(|()| compare_printing(&left, &mut prng));

@@ -126,6 +126,7 @@ fn case_of(expression: &Expression, graph: Vec<u8>, prng: &mut Prng) -> Case {
         inputs: inputs.collect(),
         picks: Vec::new(),
         budget: 2048,
+        bound: 0,
         ledger_bytes: ENOUGH * TOKEN_RECORD,
         cells_bytes: 8 * prng.below(3),
         garbage: prng.word(),

@@ -9,6 +9,7 @@
 //! With --first the runs end with the group in which the first one failed.
 
 mod arrays;
+mod bounding;
 mod bounds;
 mod capacities;
 mod case;
@@ -17,10 +18,12 @@ mod damage;
 mod expressions;
 mod generate;
 mod logs;
+mod loops;
 mod meetings;
 mod orders;
 mod prng;
 mod profiles;
+mod ranges;
 mod records;
 mod saved;
 mod serves;
@@ -54,6 +57,8 @@ struct Harness {
     replays: u64,
     carried: u64,
     bounds: u64,
+    bounded: u64,
+    ranges: u64,
     expressions: u64,
     groups: u64,
     listings: u64,
@@ -74,6 +79,10 @@ impl Harness {
             write_files(case, "random-failures/current");
         }
         let (left, result) = compare(case, &mut self.clock);
+        if case.bound > 0 {
+            self.bounded += 1;
+            return left;
+        }
         match case.call {
             Call::Run | Call::Logged(_) => self.runs += 1,
             Call::Profile(_) => self.profiles += 1,
@@ -137,6 +146,8 @@ impl Harness {
         self.all_conversions(&case, &ends[0].left);
         self.all_states(&ends, prng);
         self.all_requests(&ends, prng);
+        self.all_bounded(&ends, prng);
+        self.all_ranges(&ends, prng);
         for _ in 0..2 {
             let mut case = case.clone();
             case.budget = [0, 1, 2, prng.below(40) as u16, 65_535][prng.below(5)];
@@ -302,6 +313,7 @@ fn first_case(prng: &mut Prng) -> Case {
         inputs: subject.inputs,
         picks: Vec::new(),
         budget: 2048,
+        bound: 0,
         ledger_bytes: 2048 * TOKEN_RECORD,
         cells_bytes: 8 * cells.min(1024),
         garbage: prng.word(),
@@ -361,6 +373,8 @@ fn main() -> ExitCode {
         replays: 0,
         carried: 0,
         bounds: 0,
+        bounded: 0,
+        ranges: 0,
         expressions: 0,
         groups: 0,
         listings: 0,
@@ -395,6 +409,8 @@ fn report(harness: &Harness) -> ExitCode {
         harness.replays, harness.logs_compared
     );
     println!("bounds: {}", harness.bounds);
+    println!("runs with a bound: {}", harness.bounded);
+    println!("range runs: {}", harness.ranges);
     println!("expressions: {}", harness.expressions);
     println!("listings of arbitrary records: {}", harness.listings);
     println!("conversions: {}", harness.conversions);

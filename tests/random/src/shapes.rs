@@ -3,6 +3,7 @@
 
 use crate::arrays;
 use crate::generate::{Generator, Size};
+use crate::loops;
 use crate::meetings;
 use crate::prng::Prng;
 use crate::records::*;
@@ -70,7 +71,8 @@ fn draft(prng: &mut Prng) -> Drafted {
         68 => long_loop(prng),
         69..=72 => extremes(prng),
         73..=75 => met(prng),
-        76..=88 => changed(prng),
+        76..=83 => looped(prng),
+        84..=91 => changed(prng),
         _ => arbitrary(prng),
     }
 }
@@ -78,6 +80,11 @@ fn draft(prng: &mut Prng) -> Drafted {
 fn met(prng: &mut Prng) -> Drafted {
     let (draft, cells) = meetings::draft(prng);
     ("meeting", draft, cells)
+}
+
+fn looped(prng: &mut Prng) -> Drafted {
+    let (draft, cells) = loops::draft(prng);
+    ("loop", draft, cells)
 }
 
 fn changed(prng: &mut Prng) -> Drafted {

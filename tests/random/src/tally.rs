@@ -5,7 +5,8 @@ use second::{Outcome, TOKEN_RECORD};
 
 use crate::case::{Call, Case, Left};
 use crate::{
-    arrays, bounds, capacities, conversions, expressions, logs, meetings, profiles, saved, serves,
+    arrays, bounding, bounds, capacities, conversions, expressions, logs, meetings, profiles,
+    ranges, saved, serves,
 };
 
 const NAMES: [(u8, &str); 27] = [
@@ -99,6 +100,8 @@ pub struct Tally {
     expressions: Named,
     saved: Named,
     requests: Named,
+    bounded: Named,
+    ranges: Named,
 }
 
 impl Tally {
@@ -130,6 +133,8 @@ impl Tally {
             expressions: Named::new(&expressions::NAMES),
             saved: Named::new(&saved::NAMES),
             requests: Named::new(&serves::NAMES),
+            bounded: Named::new(&bounding::NAMES),
+            ranges: Named::new(&ranges::NAMES),
         }
     }
 
@@ -165,6 +170,14 @@ impl Tally {
 
     pub fn count_request(&mut self, name: &'static str) {
         self.requests.count(vec![name]);
+    }
+
+    pub fn count_bounded(&mut self, names: Vec<&'static str>) {
+        self.bounded.count(names);
+    }
+
+    pub fn count_ranges(&mut self, names: Vec<&'static str>) {
+        self.ranges.count(names);
     }
 
     pub fn count_expression(&mut self, names: Vec<&'static str>) {
@@ -259,6 +272,10 @@ impl Tally {
         self.saved.print(&mut lines);
         println!("runs asked of the cache:");
         self.requests.print(&mut lines);
+        println!("runs with a bound:");
+        self.bounded.print(&mut lines);
+        println!("range runs:");
+        self.ranges.print(&mut lines);
         println!("expressions:");
         self.expressions.print(&mut lines);
         println!("further:");

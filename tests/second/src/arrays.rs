@@ -28,6 +28,14 @@ pub struct Arrays {
 }
 
 impl Arrays {
+    /// No table over no cells.
+    pub fn none() -> Arrays {
+        Arrays {
+            table: Vec::new(),
+            cell_count: 0,
+        }
+    }
+
     /// The table, or 22: at place 0 for a fault of the table, else at the first FETCH or
     /// STORE whose constant names no array of it.
     pub fn parse(table: &[u8], cell_count: usize, graph: &Graph) -> Result<Arrays, Refusal> {

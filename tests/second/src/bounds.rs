@@ -1,6 +1,7 @@
 //! Bounds of a graph without loops and calls, worked out without firing (02, R-3).
 
 use crate::graph::{Destination, Graph, Operation};
+use crate::token::Token;
 use crate::{fits, parse_inputs, Refusal, MOST_RECORDS, TOKEN_RECORD};
 
 /// The most firings and tokens of a run, and whether every run that completes or hangs
@@ -18,7 +19,7 @@ pub fn bounds(graph: &[u8], inputs: &[u8]) -> Result<Bounds, Refusal> {
     if !fits(inputs.len(), TOKEN_RECORD, MOST_RECORDS) {
         return Err(Refusal::BAD_STORE);
     }
-    let tokens = parse_inputs(inputs, &graph)?;
+    let tokens: Vec<Token> = parse_inputs(inputs, &graph)?;
     if let Some(place) = graph.instructions.iter().position(|i| loops(i.operation)) {
         return Err(Refusal { number: 19, place });
     }

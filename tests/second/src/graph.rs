@@ -141,13 +141,13 @@ impl Graph {
         self.instructions.get(instruction).map(|i| i.operands)
     }
 
-    pub fn instruction_of(&self, token: &Token) -> &Instruction {
+    pub fn instruction_of<V>(&self, token: &Token<V>) -> &Instruction {
         &self.instructions[usize::from(token.instruction)]
     }
 
     /// A token at an OUT is a result, under any tag, and so is one at a LEAVE under
     /// path 0, where no caller is (02, R-5). Neither is ever enabled.
-    pub fn is_result(&self, token: &Token) -> bool {
+    pub fn is_result<V>(&self, token: &Token<V>) -> bool {
         match self.instruction_of(token).operation {
             Operation::Out => true,
             Operation::Leave => token.path == 0,

@@ -12,23 +12,28 @@ mod bounds;
 mod convert;
 mod expression;
 mod graph;
+mod hold;
 mod listing;
 mod log;
 mod machine;
 mod places;
 mod printing;
 mod profile;
+mod ranges;
 mod saved;
 mod token;
+mod value;
 
 pub use bounds::{bounds, Bounds};
 pub use convert::{convert, convert_log};
 pub use expression::{expression, expression_value, EXPRESSION_RECORD, MOST_EXPRESSION_RECORDS};
 pub use graph::{operand_count, Graph};
+pub use hold::{held, Held};
 pub use listing::list;
 pub use log::{replay, run_logged};
 pub use printing::print;
 pub use profile::{profile, Profiled};
+pub use ranges::{run_ranges, Range, RANGE_CELL_RECORD, RANGE_TOKEN_RECORD};
 pub use saved::{broken_conditions, carry_on, Condition, Counts};
 
 use std::collections::HashSet;
@@ -36,6 +41,7 @@ use std::collections::HashSet;
 use arrays::Arrays;
 use machine::{Checked, Machine};
 use token::{KeyHashing, State, Token};
+use value::Value;
 
 /// Bytes of a graph record (01, "Graph records").
 pub const GRAPH_RECORD: usize = 16;
@@ -77,11 +83,40 @@ impl Program<'_> {
 pub struct Schedule<'a> {
     pub picks: &'a [u8],
     pub budget: u16,
+    /// The bound of loops, or 0 for none (02, R-9).
+    pub bound: u16,
 }
 
-impl Schedule<'_> {
-    pub fn new(picks: &[u8], budget: u16) -> Schedule<'_> {
-        Schedule { picks, budget }
+impl<'a> Schedule<'a> {
+    /// Picks and a budget, without a bound.
+    pub fn new(picks: &'a [u8], budget: u16) -> Schedule<'a> {
+        Schedule {
+            picks,
+            budget,
+            bound: 0,
+        }
+    }
+
+    pub fn bounded(self, bound: u16) -> Schedule<'a> {
+        Schedule { bound, ..self }
+    }
+
+    /// A schedule for a call that takes none.
+    const NONE: Schedule<'static> = Schedule {
+        picks: &[],
+        budget: MOST_RECORDS as u16,
+        bound: 0,
+    };
+
+    /// Refusal 21 for a bound that is neither 0 nor 2 to 256.
+    fn check_bound(&self) -> Result<(), Refusal> {
+        match self.bound {
+            0 | 2..=256 => Ok(()),
+            _ => Err(Refusal {
+                number: 21,
+                place: 0,
+            }),
+        }
     }
 
     fn picks_fit(&self) -> bool {
@@ -156,12 +191,12 @@ impl Answer {
     }
 
     /// Whether the call was refused before its inputs were written, so that ledger and
-    /// cells stay as lent. These refusals are 1 to 9 without tokens, 22 and 24: a firing
+    /// cells stay as lent. These refusals are 1 to 9 and 21 to 24 without tokens: a firing
     /// has at least one operand, and 18 and 20 come after the inputs, of which a replay
     /// may have none.
     pub fn refused_at_once(&self) -> bool {
         self.refusal()
-            .is_some_and(|number| matches!(number, 1..=9 | 22 | 24))
+            .is_some_and(|number| matches!(number, 1..=9 | 21..=24))
             && self.tokens == 0
     }
 }
@@ -181,8 +216,8 @@ pub fn run(
         ledger,
         cells,
     };
-    lent.accept(schedule.picks_fit(), |machine| {
-        machine.run(schedule.budget, |firing, _| schedule.pick(firing))
+    lent.accept(schedule, true, |machine: &mut Machine| {
+        machine.run(schedule, |firing, _| schedule.pick(firing))
     })
 }
 
@@ -203,8 +238,8 @@ pub fn picks_of(
         ledger: &mut vec![0; capacity * TOKEN_RECORD],
         cells: &mut vec![0; cell_count * CELL_RECORD],
     };
-    lent.accept(true, |machine| {
-        machine.run(MOST_RECORDS as u16, |firing, enabled| {
+    lent.accept(Schedule::NONE, true, |machine: &mut Machine| {
+        machine.run(Schedule::NONE, |firing, enabled| {
             let pick = choose(firing, enabled);
             picks.extend_from_slice(&pick.to_le_bytes());
             pick
@@ -237,11 +272,17 @@ impl Lent<'_> {
     /// Checks what is lent, and lets a machine go from the inputs; ledger and cells are
     /// written unless the checks refuse. `others_fit` says that refusal 7 finds no
     /// fault with what else is lent.
-    fn accept(self, others_fit: bool, go: impl FnOnce(&mut Machine) -> Answer) -> Answer {
-        match self.check(others_fit) {
+    fn accept<V: Value>(
+        self,
+        schedule: Schedule,
+        others_fit: bool,
+        go: impl FnOnce(&mut Machine<V>) -> Answer,
+    ) -> Answer {
+        match self.check(schedule, others_fit) {
             Err(refusal) => Answer::refused_at_first(refusal),
             Ok((program, tokens)) => {
-                let (capacity, cell_count) = (self.capacity(), self.cell_count());
+                let capacity = self.ledger.len() / V::TOKEN;
+                let cell_count = self.cells.len() / V::CELL;
                 let mut machine = Machine::new(&program, capacity, cell_count, &tokens);
                 let answer = go(&mut machine);
                 machine.write(self.ledger, self.cells);
@@ -250,31 +291,33 @@ impl Lent<'_> {
         }
     }
 
-    fn capacity(&self) -> usize {
-        self.ledger.len() / TOKEN_RECORD
-    }
-
-    fn cell_count(&self) -> usize {
-        self.cells.len() / CELL_RECORD
-    }
-
     /// All checks before the first firing, in the order of 01 and 02: 1; records in turn,
-    /// each 2 to 5; 7; 22; inputs in turn for 6; 8; 9 by input in turn.
-    fn check(&self, others_fit: bool) -> Result<(Checked, Vec<Token>), Refusal> {
+    /// each 2 to 5; 7; 21; 22; inputs in turn for 6, then for 23; 8; 9 by input in turn.
+    fn check<V: Value>(
+        &self,
+        schedule: Schedule,
+        others_fit: bool,
+    ) -> Result<(Checked, Vec<Token<V>>), Refusal> {
         let graph = Graph::parse(self.program.graph)?;
-        let stores_fit = fits(self.inputs.len(), TOKEN_RECORD, MOST_RECORDS)
-            && fits(self.ledger.len(), TOKEN_RECORD, MOST_RECORDS)
-            && fits(self.cells.len(), CELL_RECORD, MOST_CELLS);
-        if !others_fit || !stores_fit {
+        let stores_fit = fits(self.inputs.len(), V::TOKEN, MOST_RECORDS)
+            && fits(self.ledger.len(), V::TOKEN, MOST_RECORDS)
+            && fits(self.cells.len(), V::CELL, MOST_CELLS);
+        if !others_fit || !stores_fit || !schedule.picks_fit() {
             return Err(Refusal::BAD_STORE);
         }
-        let arrays = Arrays::parse(self.program.arrays, self.cell_count(), &graph)?;
-        let tokens = parse_inputs(self.inputs, &graph)?;
-        if tokens.len() > self.capacity() {
+        schedule.check_bound()?;
+        let cell_count = self.cells.len() / V::CELL;
+        let arrays = Arrays::parse(self.program.arrays, cell_count, &graph)?;
+        let tokens: Vec<Token<V>> = parse_inputs(self.inputs, &graph)?;
+        if let Some(place) = tokens.iter().position(|token| !token.value.proper()) {
+            return Err(Refusal { number: 23, place });
+        }
+        let capacity = self.ledger.len() / V::TOKEN;
+        if tokens.len() > capacity {
             // The first input that doesn't fit.
             return Err(Refusal {
                 number: 8,
-                place: self.capacity(),
+                place: capacity,
             });
         }
         let mut taken = HashSet::with_capacity_and_hasher(tokens.len(), KeyHashing::default());
@@ -293,8 +336,8 @@ fn fits(length: usize, record: usize, most: usize) -> bool {
 }
 
 /// The input tokens in turn, or 6 at the first that is bad.
-fn parse_inputs(inputs: &[u8], graph: &Graph) -> Result<Vec<Token>, Refusal> {
-    let records = inputs.chunks_exact(TOKEN_RECORD).enumerate();
+fn parse_inputs<V: Value>(inputs: &[u8], graph: &Graph) -> Result<Vec<Token<V>>, Refusal> {
+    let records = inputs.chunks_exact(V::TOKEN).enumerate();
     records
         .map(|(place, record)| input_token(record, graph).ok_or(Refusal { number: 6, place }))
         .collect()
@@ -302,7 +345,7 @@ fn parse_inputs(inputs: &[u8], graph: &Graph) -> Result<Vec<Token>, Refusal> {
 
 /// The token of an input record, or `None` for refusal 6: the root path and
 /// iteration, state 0, zeros, and an instruction and port that exist.
-fn input_token(record: &[u8], graph: &Graph) -> Option<Token> {
+fn input_token<V: Value>(record: &[u8], graph: &Graph) -> Option<Token<V>> {
     let token = Token::parse(record)?;
     let root = token.path == 0 && token.iteration == 0 && token.state == State::Live;
     let operands = graph.operands(usize::from(token.instruction))?;

@@ -22,8 +22,8 @@ pub fn run_logged(
     // A log may have more than 2,048 records.
     let least = usize::from(schedule.budget).min(MOST_RECORDS);
     let log_fits = log.len() % LOG_RECORD == 0 && log.len() / LOG_RECORD >= least;
-    lent.accept(schedule.picks_fit() && log_fits, |machine| {
-        let answer = machine.run(schedule.budget, |firing, _| schedule.pick(firing));
+    lent.accept(schedule, log_fits, |machine: &mut Machine| {
+        let answer = machine.run(schedule, |firing, _| schedule.pick(firing));
         for (record, tag) in log.chunks_exact_mut(LOG_RECORD).zip(machine.fired()) {
             record.copy_from_slice(&tag.log_record());
         }
@@ -45,7 +45,7 @@ pub fn replay(
         ledger,
         cells,
     };
-    lent.accept(true, |machine| {
+    lent.accept(Schedule::NONE, true, |machine: &mut Machine| {
         let outcome = fire_all(machine, log).err().unwrap_or_else(|| end(machine));
         machine.answer(outcome, machine.fired().len())
     })

@@ -6,7 +6,8 @@ use crate::arrays::Arrays;
 use crate::graph::{Graph, Instruction, Operation};
 use crate::places::Places;
 use crate::token::{Cell, Key, KeyHashing, State, Tag, Token};
-use crate::{Answer, Outcome, Refusal, CELL_RECORD, TOKEN_RECORD};
+use crate::value::Value;
+use crate::{Answer, Outcome, Refusal, Schedule};
 
 /// A checked graph with its checked table of named arrays.
 pub struct Checked {
@@ -19,53 +20,54 @@ pub struct Checked {
 const EIGHT_LEVELS: u128 = 65_536u128.pow(7);
 
 /// The machine between two firings.
-pub struct Machine<'a> {
+pub struct Machine<'a, V = i32> {
     graph: &'a Graph,
     arrays: &'a Arrays,
     capacity: usize,
-    tokens: Vec<Token>,
+    tokens: Vec<Token<V>>,
     /// The matching store: the ledger position of every token so far, spent
     /// ones too, since a tag is never used again in a run.
     matching: HashMap<Key, usize, KeyHashing>,
     enabled: Places,
-    cells: Vec<Cell>,
+    cells: Vec<Cell<V>>,
     fired: Vec<Tag>,
 }
 
 /// An activity that is enabled: its tag with the positions and values of its
 /// operands. The right one is that on port 1.
-struct Activity {
+struct Activity<V> {
     path: u128,
     iteration: u8,
     instruction: Instruction,
     left: usize,
     right: Option<usize>,
-    left_value: i32,
-    right_value: i32,
+    left_value: V,
+    right_value: V,
 }
 
 /// What a firing does to a cell.
-enum CellChange {
+enum CellChange<V> {
     None,
     Defer(usize),
-    Write(usize, i32),
+    Write(usize, V),
 }
 
 /// What a firing does besides spending its operands.
-struct Effect {
-    outputs: [Option<Token>; 2],
-    change: CellChange,
+struct Effect<V> {
+    outputs: [Option<Token<V>>; 2],
+    change: CellChange<V>,
 }
 
-impl<'a> Machine<'a> {
+impl<'a, V: Value> Machine<'a, V> {
     /// An accepted run sets all cells absent and writes its inputs to the ledger.
     pub fn new(
         program: &'a Checked,
         capacity: usize,
         cell_count: usize,
-        inputs: &[Token],
-    ) -> Machine<'a> {
-        Machine::resumed(program, capacity, inputs, vec![Cell::Absent; cell_count])
+        inputs: &[Token<V>],
+    ) -> Machine<'a, V> {
+        let cells = (0..cell_count).map(|_| Cell::Absent).collect();
+        Machine::resumed(program, capacity, inputs, cells)
     }
 
     /// The machine in a given state; a waiting cell has the positions of the tokens
@@ -73,9 +75,9 @@ impl<'a> Machine<'a> {
     pub fn resumed(
         program: &'a Checked,
         capacity: usize,
-        tokens: &[Token],
-        cells: Vec<Cell>,
-    ) -> Machine<'a> {
+        tokens: &[Token<V>],
+        cells: Vec<Cell<V>>,
+    ) -> Machine<'a, V> {
         let mut machine = Machine {
             graph: &program.graph,
             arrays: &program.arrays,
@@ -92,21 +94,28 @@ impl<'a> Machine<'a> {
         machine
     }
 
-    /// Fires until nothing is enabled, the budget is spent or a firing is refused.
-    pub fn run(&mut self, budget: u16, mut choose: impl FnMut(usize, usize) -> u16) -> Answer {
+    /// Fires until no activity is free, the budget is spent or a firing is refused. The
+    /// picks are chosen by the firings done and the number of free activities, which are
+    /// those enabled that the bound does not hold back.
+    pub fn run(
+        &mut self,
+        schedule: Schedule,
+        mut choose: impl FnMut(usize, usize) -> u16,
+    ) -> Answer {
         let mut firings = 0;
         let outcome = loop {
-            let enabled = self.enabled.len();
+            let held = self.held_places(schedule.bound);
+            let free = self.enabled.len() - held.len();
             // Completed and hung are tried first, then spent (01, "The answer and the
-            // refusals"; 02, R-2).
-            if enabled == 0 {
+            // refusals"; 02, R-2). With held activities alone it hangs (02, R-9).
+            if free == 0 {
                 break self.rest();
             }
-            if firings == usize::from(budget) {
+            if firings == usize::from(schedule.budget) {
                 break Outcome::Spent;
             }
-            let pick = usize::from(choose(firings, enabled));
-            let place = self.enabled.nth(pick % enabled);
+            let pick = usize::from(choose(firings, free));
+            let place = self.enabled.nth_without(pick % free, &held);
             if let Err(number) = self.fire(place) {
                 break Outcome::Refused(Refusal { number, place });
             }
@@ -145,37 +154,53 @@ impl<'a> Machine<'a> {
 
     /// The number of tokens that are live or deferred.
     pub fn unspent(&self) -> usize {
-        let unspent = |token: &&Token| token.state != State::Spent;
+        let unspent = |token: &&Token<V>| token.state != State::Spent;
         self.tokens.iter().filter(unspent).count()
     }
 
-    /// How a run with nothing enabled ends: completed only if every live token is a
-    /// result and none is deferred (02, R-2).
+    /// How a run with nothing free ends: completed only if every live token is a result
+    /// and none is deferred (02, R-2).
     pub fn rest(&self) -> Outcome {
-        let proper = |token: &Token| match token.state {
-            State::Live => self.graph.is_result(token),
-            State::Spent => true,
-            State::Deferred => false,
-        };
-        if self.tokens.iter().all(proper) {
+        if self.unfinished().next().is_none() {
             Outcome::Completed
         } else {
             Outcome::Hung
         }
     }
 
+    /// The tokens still at work, with their positions: live ones that are no results, and
+    /// deferred ones wherever they are.
+    pub fn unfinished(&self) -> impl Iterator<Item = (usize, &Token<V>)> {
+        let at_work = |(_, token): &(usize, &Token<V>)| match token.state {
+            State::Live => !self.graph.is_result(token),
+            State::Spent => false,
+            State::Deferred => true,
+        };
+        self.tokens.iter().enumerate().filter(at_work)
+    }
+
+    /// The places of the enabled activities of NEXT, in order, each with its tag.
+    pub fn enabled_nexts(&self) -> impl Iterator<Item = (usize, Tag)> + '_ {
+        let is_next = |&place: &usize| {
+            let instruction = self.graph.instruction_of(&self.tokens[place]);
+            instruction.operation == Operation::Next
+        };
+        let places = self.enabled_places().into_iter().filter(is_next);
+        places.map(|place| (place, self.tokens[place].tag()))
+    }
+
     /// Writes tokens and cells to the lent buffers; the ledger's bytes past the
     /// used records stay as lent.
     pub fn write(&self, ledger: &mut [u8], cells: &mut [u8]) {
-        for (record, token) in ledger.chunks_exact_mut(TOKEN_RECORD).zip(&self.tokens) {
-            record.copy_from_slice(&token.record());
+        for (record, token) in ledger.chunks_exact_mut(V::TOKEN).zip(&self.tokens) {
+            token.write(record);
         }
-        for (record, cell) in cells.chunks_exact_mut(CELL_RECORD).zip(&self.cells) {
-            record.copy_from_slice(&cell.record());
+        for (record, cell) in cells.chunks_exact_mut(V::CELL).zip(&self.cells) {
+            cell.write(record);
         }
     }
 
-    /// One firing: 10 to 17 in rising order, then 8, then 9. Nothing is changed
+    /// One firing: 10 to 17 in rising order, then 23, then 8, then 9. Nothing is changed
     /// before all of them are passed.
     pub fn fire(&mut self, place: usize) -> Result<(), u8> {
         let activity = self.activity(place);
@@ -201,7 +226,7 @@ impl<'a> Machine<'a> {
     }
 
     /// The enabled activity at a place.
-    fn activity(&self, place: usize) -> Activity {
+    fn activity(&self, place: usize) -> Activity<V> {
         let token = &self.tokens[place];
         let instruction = *self.graph.instruction_of(token);
         let partner = (instruction.operands == 2).then(|| self.matching[&partner_key(token)]);
@@ -216,21 +241,21 @@ impl<'a> Machine<'a> {
             left,
             right,
             left_value: self.tokens[left].value,
-            right_value: right.map_or(0, |position| self.tokens[position].value),
+            right_value: right.map_or(V::of(0), |position| self.tokens[position].value),
         }
     }
 
-    /// What the firing would do, or its refusal by 10 to 17.
-    fn effect(&self, activity: &Activity) -> Result<Effect, u8> {
+    /// What the firing would do, or its refusal by 10 to 17 or 23.
+    fn effect(&self, activity: &Activity<V>) -> Result<Effect<V>, u8> {
         let instruction = &activity.instruction;
         let (left, right) = (activity.left_value, activity.right_value);
         match instruction.operation {
             Operation::Copy | Operation::Gate => Ok(activity.send(left)),
             Operation::Sink => Ok(Effect::of([None, None])),
             Operation::Out => unreachable!("OUT is never enabled"),
-            Operation::Const => Ok(activity.send(instruction.constant)),
+            Operation::Const => Ok(activity.send(V::of(instruction.constant))),
             Operation::Switch => {
-                let chosen = if right != 0 { 0 } else { 1 };
+                let chosen = if right.truth().ok_or(23)? { 0 } else { 1 };
                 Ok(Effect::of([Some(activity.output(chosen, left)), None]))
             }
             Operation::Next => activity.next(),
@@ -238,12 +263,12 @@ impl<'a> Machine<'a> {
             Operation::Leave => self.leave(activity),
             Operation::Fetch => self.fetch(activity),
             Operation::Store => self.store(activity),
-            Operation::Binary(operation) => operation
-                .apply(left, right)
-                .map(|v| activity.send(v))
-                .ok_or(12),
+            Operation::Binary(operation) => {
+                let result = V::apply(operation, left, right);
+                result.map(|v| activity.send(v)).ok_or(12)
+            }
             Operation::Immediate(operation) => {
-                let result = operation.apply(left, instruction.constant);
+                let result = V::apply(operation, left, V::of(instruction.constant));
                 result.map(|v| activity.send(v)).ok_or(12)
             }
         }
@@ -252,7 +277,7 @@ impl<'a> Machine<'a> {
     /// LEAVE in an entered path: 17 past the graph. A path is made by ENTER alone,
     /// from a site that the check has passed, so that the site has its return (02,
     /// R-6).
-    fn leave(&self, activity: &Activity) -> Result<Effect, u8> {
+    fn leave(&self, activity: &Activity<V>) -> Result<Effect<V>, u8> {
         let site = (activity.path >> 8) as u8;
         let back = self.graph.returns[&site];
         let target = i64::from(back) + i64::from(activity.instruction.constant);
@@ -271,20 +296,21 @@ impl<'a> Machine<'a> {
     }
 
     /// The number of the cell that FETCH or STORE means, by its constant and the operand
-    /// on port 0.
-    fn cell_number(&self, activity: &Activity) -> Result<usize, u8> {
+    /// on port 0: 23 if that is not a single value, else 10.
+    fn cell_number(&self, activity: &Activity<V>) -> Result<usize, u8> {
+        let operand = activity.left_value.single().ok_or(23)?;
         let constant = activity.instruction.constant;
-        self.arrays.cell(constant, activity.left_value).ok_or(10)
+        self.arrays.cell(constant, operand).ok_or(10)
     }
 
     /// FETCH: the value of a present cell, else deferred outputs that hold the
     /// cell number as their value, also where the operand is an array's index.
-    fn fetch(&self, activity: &Activity) -> Result<Effect, u8> {
+    fn fetch(&self, activity: &Activity<V>) -> Result<Effect<V>, u8> {
         let number = self.cell_number(activity)?;
         if let Cell::Present(value) = self.cells[number] {
             return Ok(activity.send(value));
         }
-        let mut effect = activity.send(number as i32);
+        let mut effect = activity.send(V::of(number as i32));
         for token in effect.outputs.iter_mut().flatten() {
             token.state = State::Deferred;
         }
@@ -293,19 +319,19 @@ impl<'a> Machine<'a> {
     }
 
     /// STORE: 10, then 11; its signals have value 0.
-    fn store(&self, activity: &Activity) -> Result<Effect, u8> {
+    fn store(&self, activity: &Activity<V>) -> Result<Effect<V>, u8> {
         let number = self.cell_number(activity)?;
         if matches!(self.cells[number], Cell::Present(_)) {
             return Err(11);
         }
-        let mut effect = activity.send(0);
+        let mut effect = activity.send(V::of(0));
         effect.change = CellChange::Write(number, activity.right_value);
         Ok(effect)
     }
 
     /// Refusal 9: a tag and port that any token of the run has, or that both
     /// outputs of this firing have.
-    fn second_token(&self, outputs: &[Option<Token>; 2]) -> bool {
+    fn second_token(&self, outputs: &[Option<Token<V>>; 2]) -> bool {
         let alike = match outputs {
             [Some(first), Some(second)] => first.key() == second.key(),
             _ => false,
@@ -319,7 +345,7 @@ impl<'a> Machine<'a> {
 
     /// Applies a firing's change to its cell; the outputs of a deferred read are
     /// about to take the next ledger positions.
-    fn change_cell(&mut self, change: CellChange, outputs: &[Option<Token>; 2]) {
+    fn change_cell(&mut self, change: CellChange<V>, outputs: &[Option<Token<V>>; 2]) {
         match change {
             CellChange::None => {}
             CellChange::Defer(number) => {
@@ -343,7 +369,7 @@ impl<'a> Machine<'a> {
         }
     }
 
-    fn append(&mut self, token: Token) {
+    fn append(&mut self, token: Token<V>) {
         let position = self.tokens.len();
         self.tokens.push(token);
         self.matching.insert(token.key(), position);
@@ -370,15 +396,15 @@ impl<'a> Machine<'a> {
 }
 
 /// The key of the token on the other port of a two-operand instruction.
-fn partner_key(token: &Token) -> Key {
+fn partner_key<V: Value>(token: &Token<V>) -> Key {
     Key {
         port: 1 - token.port,
         ..token.key()
     }
 }
 
-impl Effect {
-    fn of(outputs: [Option<Token>; 2]) -> Effect {
+impl<V> Effect<V> {
+    fn of(outputs: [Option<Token<V>>; 2]) -> Effect<V> {
         Effect {
             outputs,
             change: CellChange::None,
@@ -386,10 +412,10 @@ impl Effect {
     }
 }
 
-impl Activity {
+impl<V: Value> Activity<V> {
     /// A live token to one of the destinations under the activity's own path and
     /// iteration.
-    fn output(&self, number: usize, value: i32) -> Token {
+    fn output(&self, number: usize, value: V) -> Token<V> {
         let destination = self.instruction.destinations[number];
         Token {
             path: self.path,
@@ -402,7 +428,7 @@ impl Activity {
     }
 
     /// One token to each destination in use, destination 1 first.
-    fn send(&self, value: i32) -> Effect {
+    fn send(&self, value: V) -> Effect<V> {
         let fan_out = self.instruction.fan_out;
         let first = (fan_out >= 1).then(|| self.output(0, value));
         let second = (fan_out == 2).then(|| self.output(1, value));
@@ -410,7 +436,7 @@ impl Activity {
     }
 
     /// NEXT: 13 at 255.
-    fn next(&self) -> Result<Effect, u8> {
+    fn next(&self) -> Result<Effect<V>, u8> {
         let iteration = self.iteration.checked_add(1).ok_or(13)?;
         let mut effect = self.send(self.left_value);
         for token in effect.outputs.iter_mut().flatten() {
@@ -420,7 +446,7 @@ impl Activity {
     }
 
     /// ENTER: 14 at eight levels; one token, to destination 1.
-    fn enter(&self) -> Result<Effect, u8> {
+    fn enter(&self) -> Result<Effect<V>, u8> {
         if self.path >= EIGHT_LEVELS {
             return Err(14);
         }

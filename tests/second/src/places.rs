@@ -53,6 +53,19 @@ impl Places {
         }
         unreachable!("the number is below the length of the set")
     }
+
+    /// The same without some of the set's places, which are in ascending order: each of
+    /// them up to the place looked for moves it on by one.
+    pub fn nth_without(&self, number: usize, left_out: &[usize]) -> usize {
+        let mut number = number;
+        for &place in left_out {
+            if place > self.nth(number) {
+                break;
+            }
+            number += 1;
+        }
+        self.nth(number)
+    }
 }
 
 /// The position of a word's one bit of the given number, counted from 0.
@@ -76,6 +89,8 @@ mod tests {
         }
         let all: Vec<usize> = (0..places.len()).map(|n| places.nth(n)).collect();
         assert_eq!(all, [0, 63, 64, 1000, 2047]);
+        let kept: Vec<usize> = (0..3).map(|n| places.nth_without(n, &[0, 64])).collect();
+        assert_eq!(kept, [63, 1000, 2047]);
         places.remove(63);
         assert_eq!((places.len(), places.nth(1)), (4, 64));
     }

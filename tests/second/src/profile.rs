@@ -1,7 +1,7 @@
 //! The profile of a graph in ideal steps (02, R-1).
 
 use crate::machine::Machine;
-use crate::{Answer, Lent, Outcome, Program, Refusal, PROFILE_RECORD};
+use crate::{Answer, Lent, Outcome, Program, Refusal, Schedule, PROFILE_RECORD};
 
 /// The answer to a profile, and the number of its records.
 #[derive(Clone, Copy, Debug, PartialEq, Eq)]
@@ -28,7 +28,7 @@ pub fn profile(
     let whole = profile.len() % PROFILE_RECORD == 0;
     let mut room = profile.chunks_exact_mut(PROFILE_RECORD);
     let mut records = 0;
-    let answer = lent.accept(whole, |machine| {
+    let answer = lent.accept(Schedule::NONE, whole, |machine: &mut Machine| {
         let mut firings = 0;
         let outcome = loop {
             match ideal_step(machine, &mut firings, room.next()) {

@@ -31,13 +31,13 @@ pub fn carry_on(
         Err(refusal) => return Answer::refused_at_first(refusal),
     };
     let mut machine = Machine::resumed(&checked, state.capacity, &state.tokens, state.cells());
-    let mut answer = machine.run(schedule.budget, |firing, _| schedule.pick(firing));
+    let mut answer = machine.run(schedule, |firing, _| schedule.pick(firing));
     answer.firings += usize::from(saved.firings);
     machine.write(ledger, cells);
     answer
 }
 
-/// The program and the state, or one of 1 to 5, then 7, then 22, then 24.
+/// The program and the state, or one of 1 to 5, then 7, then 21, then 22, then 24.
 fn taken(
     program: Program,
     schedule: Schedule,
@@ -51,6 +51,7 @@ fn taken(
     if !schedule.picks_fit() || !stores_fit {
         return Err(Refusal::BAD_STORE);
     }
+    schedule.check_bound()?;
     let arrays = Arrays::parse(program.arrays, cells.len() / CELL_RECORD, &graph)?;
     match Saved::parse(&graph, saved, ledger, cells) {
         Ok(state) if state.broken(&graph).is_empty() => Ok((Checked { graph, arrays }, state)),
@@ -70,7 +71,7 @@ pub fn broken_conditions(
     ledger: &[u8],
     cells: &[u8],
 ) -> Option<Vec<Condition>> {
-    match taken(program, Schedule::new(&[], 0), saved, ledger, cells) {
+    match taken(program, Schedule::NONE, saved, ledger, cells) {
         Ok(_) => Some(Vec::new()),
         Err(refusal) if refusal.number != 24 => None,
         Err(_) => {

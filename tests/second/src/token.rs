@@ -2,6 +2,7 @@
 
 use std::hash::{BuildHasherDefault, Hash, Hasher};
 
+use crate::value::Value;
 use crate::{CELL_RECORD, LOG_RECORD, TOKEN_RECORD};
 
 /// The state of a token (01, "Tokens and tags").
@@ -14,19 +15,19 @@ pub enum State {
 
 /// A token; path, iteration and instruction are its tag.
 #[derive(Clone, Copy, Debug, PartialEq, Eq)]
-pub struct Token {
+pub struct Token<V = i32> {
     pub path: u128,
     pub iteration: u8,
     pub port: u8,
     pub instruction: u16,
-    pub value: i32,
+    pub value: V,
     pub state: State,
 }
 
-impl Token {
+impl<V: Value> Token<V> {
     /// The token of a record, or `None` for an unknown state or bytes 25-27 that
     /// are not zero.
-    pub fn parse(record: &[u8]) -> Option<Token> {
+    pub fn parse(record: &[u8]) -> Option<Token<V>> {
         let state = match record[24] {
             0 => State::Live,
             1 => State::Spent,
@@ -41,20 +42,23 @@ impl Token {
             iteration: record[16],
             port: record[17],
             instruction: u16::from_le_bytes([record[18], record[19]]),
-            value: i32::from_le_bytes(record[20..24].try_into().ok()?),
+            value: V::parse(
+                i32::from_le_bytes(record[20..24].try_into().ok()?),
+                &record[TOKEN_RECORD..],
+            ),
             state,
         })
     }
 
-    pub fn record(&self) -> [u8; TOKEN_RECORD] {
-        let mut record = [0; TOKEN_RECORD];
+    pub fn write(&self, record: &mut [u8]) {
         record[0..16].copy_from_slice(&self.path.to_le_bytes());
         record[16] = self.iteration;
         record[17] = self.port;
         record[18..20].copy_from_slice(&self.instruction.to_le_bytes());
-        record[20..24].copy_from_slice(&self.value.to_le_bytes());
+        record[20..24].copy_from_slice(&self.value.field().to_le_bytes());
         record[24] = self.state as u8;
-        record
+        record[25..TOKEN_RECORD].fill(0);
+        self.value.write_further(&mut record[TOKEN_RECORD..]);
     }
 
     pub fn key(&self) -> Key {
@@ -164,23 +168,23 @@ pub type KeyHashing = BuildHasherDefault<KeyHasher>;
 /// An I-structure cell; a waiting one has the ledger positions of the records
 /// deferred on it.
 #[derive(Clone, Debug, PartialEq, Eq)]
-pub enum Cell {
+pub enum Cell<V = i32> {
     Absent,
     Waiting(Vec<usize>),
-    Present(i32),
+    Present(V),
 }
 
-impl Cell {
-    /// The cell's record; the value is 0 until present (01, "Firing").
-    pub fn record(&self) -> [u8; CELL_RECORD] {
+impl<V: Value> Cell<V> {
+    /// Writes the cell's record; the value is 0 until present (01, "Firing").
+    pub fn write(&self, record: &mut [u8]) {
         let (value, state) = match self {
-            Cell::Absent => (0, 0),
-            Cell::Waiting(_) => (0, 1),
+            Cell::Absent => (V::of(0), 0),
+            Cell::Waiting(_) => (V::of(0), 1),
             Cell::Present(value) => (*value, 2),
         };
-        let mut record = [0; CELL_RECORD];
-        record[0..4].copy_from_slice(&i32::to_le_bytes(value));
+        record[0..4].copy_from_slice(&value.field().to_le_bytes());
         record[4] = state;
-        record
+        record[5..CELL_RECORD].fill(0);
+        value.write_further(&mut record[CELL_RECORD..]);
     }
 }

@@ -60,6 +60,7 @@ pub struct Lent {
     pub inputs: Vec<u8>,
     pub picks: Vec<u8>,
     pub budget: u16,
+    pub bound: u16,
     pub ledger_bytes: usize,
     pub cells_bytes: usize,
 }
@@ -78,6 +79,7 @@ pub fn lend(records: &[[u8; 16]], tokens: &[[u8; 28]]) -> Lent {
         inputs: inputs(tokens),
         picks: Vec::new(),
         budget: 2048,
+        bound: 0,
         ledger_bytes: 2048 * 28,
         cells_bytes: 1024 * 8,
     }
@@ -97,6 +99,11 @@ impl Lent {
 
     pub fn budget(mut self, budget: u16) -> Lent {
         self.budget = budget;
+        self
+    }
+
+    pub fn bound(mut self, bound: u16) -> Lent {
+        self.bound = bound;
         self
     }
 
@@ -135,7 +142,7 @@ impl Lent {
         let answer = run(
             self.program(),
             &self.inputs,
-            Schedule::new(&self.picks, self.budget),
+            self.schedule(),
             &mut ledger,
             &mut cells,
         );
@@ -151,6 +158,10 @@ impl Lent {
             graph: &self.graph,
             arrays: &self.arrays,
         }
+    }
+
+    pub fn schedule(&self) -> Schedule<'_> {
+        Schedule::new(&self.picks, self.budget).bounded(self.bound)
     }
 
     pub fn answer(&self) -> Answer {

@@ -1,0 +1,273 @@
+//! Range runs (02, R-11) of the second emulator, beside its plain runs of choices within
+//! the ranges. The engine has no range run.
+
+use layout::{FETCH, STORE, SWITCH};
+use second::{Answer, Outcome, CELL_RECORD, RANGE_CELL_RECORD, RANGE_TOKEN_RECORD, TOKEN_RECORD};
+
+use crate::case::Case;
+use crate::orders::End;
+use crate::prng::Prng;
+use crate::Harness;
+
+/// Most choices of the inputs that are all tried; of more some are.
+const MOST_CHOICES: usize = 16;
+
+/// What a range run leaves.
+struct Ranged {
+    answer: Answer,
+    ledger: Vec<u8>,
+    cells: Vec<u8>,
+}
+
+impl Ranged {
+    fn records(&self) -> impl Iterator<Item = &[u8]> {
+        let records = self.ledger.chunks_exact(RANGE_TOKEN_RECORD);
+        records.take(self.answer.tokens)
+    }
+}
+
+impl Harness {
+    /// Inputs widened to ranges, in two orders, beside plain runs of choices.
+    pub fn all_ranges(&mut self, ends: &[End], prng: &mut Prng) {
+        let case = &ends[prng.below(ends.len())].case;
+        if !case.stores_fit() {
+            return;
+        }
+        let inputs = widened(&case.inputs, prng);
+        let left = range_run(case, &inputs);
+        self.ranges += 1;
+        self.tally.count_ranges(names(case, &left));
+        let result = self.choices(case, &inputs, &left, prng);
+        if let Err(reason) = result {
+            self.fail(case, &format!("ranges: {reason}"));
+        }
+        let other = Case {
+            picks: ends[prng.below(ends.len())].case.picks.clone(),
+            ..case.clone()
+        };
+        if let Err(reason) = agree(&left, &range_run(&other, &inputs)) {
+            self.fail(&other, &format!("ranges in another order: {reason}"));
+        }
+    }
+
+    /// Plain runs of all choices, or of some.
+    fn choices(
+        &mut self,
+        case: &Case,
+        inputs: &[u8],
+        left: &Ranged,
+        prng: &mut Prng,
+    ) -> Result<(), String> {
+        let all = all_choices(inputs);
+        self.tally.count_ranges(vec![match all {
+            Some(_) => "all choices",
+            None => "some choices",
+        }]);
+        let some = || (0..4).map(|_| a_choice(inputs, prng)).collect();
+        for chosen in all.unwrap_or_else(some) {
+            let plain = Case {
+                inputs: chosen,
+                ..case.clone()
+            };
+            holds(left, &plain)?;
+        }
+        Ok(())
+    }
+}
+
+fn number(bytes: &[u8]) -> i32 {
+    i32::from_le_bytes([bytes[0], bytes[1], bytes[2], bytes[3]])
+}
+
+/// Inputs with a high value each: mostly the low one, or some more; seldom less.
+fn widened(inputs: &[u8], prng: &mut Prng) -> Vec<u8> {
+    let mut wide = Vec::new();
+    let mut wider = 0;
+    for record in inputs.chunks_exact(TOKEN_RECORD) {
+        let low = number(&record[20..24]);
+        let width = match prng.below(8) {
+            0..=4 => 0,
+            5 | 6 if wider < 3 => prng.between(1, 3),
+            7 if wider < 3 && prng.one_in(4) => prng.between(4, 1000),
+            7 if prng.one_in(30) => -1,
+            _ => 0,
+        };
+        wider += i32::from(width > 0);
+        wide.extend(record);
+        wide.extend(low.saturating_add(width).to_le_bytes());
+    }
+    wide
+}
+
+/// The ranges of the inputs.
+fn limits(inputs: &[u8]) -> impl Iterator<Item = (i32, i32)> + '_ {
+    let records = inputs.chunks_exact(RANGE_TOKEN_RECORD);
+    records.map(|record| (number(&record[20..24]), number(&record[TOKEN_RECORD..])))
+}
+
+/// Plain inputs with these values.
+fn chosen(inputs: &[u8], values: &[i32]) -> Vec<u8> {
+    let records = inputs.chunks_exact(RANGE_TOKEN_RECORD).zip(values);
+    records
+        .flat_map(|(record, value)| {
+            [
+                &record[..20],
+                &value.to_le_bytes(),
+                &record[24..TOKEN_RECORD],
+            ]
+            .concat()
+        })
+        .collect()
+}
+
+/// All choices of the inputs, if they are few; none if a low value exceeds its high.
+fn all_choices(inputs: &[u8]) -> Option<Vec<Vec<u8>>> {
+    let mut choices = vec![Vec::new()];
+    for (low, high) in limits(inputs) {
+        if i64::from(high) - i64::from(low) > MOST_CHOICES as i64 {
+            return None;
+        }
+        let more = |choice: &Vec<i32>| {
+            let choice = choice.clone();
+            (low..=high).map(move |value| [&choice[..], &[value]].concat())
+        };
+        choices = choices.iter().flat_map(more).collect();
+        if choices.len() > MOST_CHOICES {
+            return None;
+        }
+    }
+    let plain = choices.iter().map(|values| chosen(inputs, values));
+    Some(plain.collect())
+}
+
+fn a_choice(inputs: &[u8], prng: &mut Prng) -> Vec<u8> {
+    let value = |(low, high): (i32, i32)| prng.between(low.min(high), high);
+    let values: Vec<i32> = limits(inputs).map(value).collect();
+    chosen(inputs, &values)
+}
+
+fn range_run(case: &Case, inputs: &[u8]) -> Ranged {
+    let capacity = case.ledger_bytes / TOKEN_RECORD;
+    let cell_count = case.cells_bytes / CELL_RECORD;
+    let mut ledger = vec![0; RANGE_TOKEN_RECORD * capacity];
+    let mut cells = vec![0; RANGE_CELL_RECORD * cell_count];
+    let (program, schedule) = (case.program(), case.schedule());
+    let answer = second::run_ranges(program, inputs, schedule, &mut ledger, &mut cells);
+    Ranged {
+        answer,
+        ledger,
+        cells,
+    }
+}
+
+/// A plain run ends as the range run, with each value in its range; it may be refused by
+/// 12 or 23 where no choice is.
+fn holds(left: &Ranged, plain: &Case) -> Result<(), String> {
+    if matches!(left.answer.refusal(), Some(12 | 23)) {
+        return Ok(());
+    }
+    let mut ledger = vec![0; plain.ledger_bytes];
+    let mut cells = vec![0; plain.cells_bytes];
+    let (program, schedule) = (plain.program(), plain.schedule());
+    let answer = second::run(program, &plain.inputs, schedule, &mut ledger, &mut cells);
+    if answer != left.answer {
+        return Err(format!("{answer:?}, due {:?}", left.answer));
+    }
+    let inside = |value: &[u8], low: &[u8], high: &[u8]| {
+        (number(low)..=number(high)).contains(&number(value))
+    };
+    for (token, range) in ledger.chunks_exact(TOKEN_RECORD).zip(left.records()) {
+        let alike = token[..20] == range[..20] && token[24..] == range[24..TOKEN_RECORD];
+        if !alike || !inside(&token[20..24], &range[20..24], &range[TOKEN_RECORD..]) {
+            return Err("a token outside its range".to_string());
+        }
+    }
+    let ranges = left.cells.chunks_exact(RANGE_CELL_RECORD);
+    for (cell, range) in cells.chunks_exact(CELL_RECORD).zip(ranges) {
+        let alike = cell[4..] == range[4..CELL_RECORD];
+        if !alike || !inside(&cell[..4], &range[..4], &range[CELL_RECORD..]) {
+            return Err("a cell outside its range".to_string());
+        }
+    }
+    Ok(())
+}
+
+/// Any two orders of a range run agree as those of a plain one do.
+fn agree(one: &Ranged, other: &Ranged) -> Result<(), String> {
+    let sorted = |ranged: &Ranged| {
+        let mut records: Vec<Vec<u8>> = ranged.records().map(<[u8]>::to_vec).collect();
+        records.sort_unstable();
+        records
+    };
+    match (one.answer.outcome, other.answer.outcome) {
+        (Outcome::Refused(_), Outcome::Refused(_)) => Ok(()),
+        (Outcome::Completed, Outcome::Completed) | (Outcome::Hung, Outcome::Hung)
+            if one.answer == other.answer
+                && one.cells == other.cells
+                && sorted(one) == sorted(other) =>
+        {
+            Ok(())
+        }
+        _ => Err(format!("{:?}, due {:?}", other.answer, one.answer)),
+    }
+}
+
+/// What has to come up among the range runs.
+pub const NAMES: [&str; 15] = [
+    "completed",
+    "hung",
+    "refused at once",
+    "23 of an input",
+    "23 at a SWITCH",
+    "23 at a FETCH",
+    "23 at a STORE",
+    "12",
+    "10 or 11",
+    "13 to 17",
+    "8 or 9",
+    "a result that is a range",
+    "a cell that is a range",
+    "all choices",
+    "some choices",
+];
+
+/// Which of the names a range run has.
+fn names(case: &Case, left: &Ranged) -> Vec<&'static str> {
+    let mut names = match left.answer.outcome {
+        Outcome::Completed | Outcome::Spent => vec!["completed"],
+        Outcome::Hung => vec!["hung"],
+        Outcome::Refused(refusal) => vec![match refusal.number {
+            23 if left.answer.tokens == 0 => "23 of an input",
+            23 => undecided(case, left),
+            _ if left.answer.refused_at_once() => "refused at once",
+            12 => "12",
+            10 | 11 => "10 or 11",
+            13..=17 => "13 to 17",
+            _ => "8 or 9",
+        }],
+    };
+    if left.answer.outcome == Outcome::Completed {
+        let wide = |record: &[u8]| record[24] == 0 && record[20..24] != record[TOKEN_RECORD..];
+        if left.records().any(wide) {
+            names.push("a result that is a range");
+        }
+        let wide = |record: &[u8]| record[..4] != record[CELL_RECORD..];
+        if left.cells.chunks_exact(RANGE_CELL_RECORD).any(wide) {
+            names.push("a cell that is a range");
+        }
+    }
+    names
+}
+
+/// The operation that 23 could not decide.
+fn undecided(case: &Case, left: &Ranged) -> &'static str {
+    let place = left.answer.place();
+    let record = left.records().nth(place).expect("a token at its place");
+    let instruction = usize::from(u16::from_le_bytes([record[18], record[19]]));
+    match case.graph[16 * instruction] {
+        SWITCH => "23 at a SWITCH",
+        FETCH => "23 at a FETCH",
+        STORE => "23 at a STORE",
+        code => unreachable!("23 at code {code}"),
+    }
+}
