@@ -34,8 +34,15 @@ Chained from size key links ts = Linked size (part from size links) (part (from 
 -- ---- by tag: every token is in the chain of its bucket
 
 -- the site of each level of the higher word falls on the iteration of one of the lower, so that calls that differ in either stand apart
+abbrev pub callsOf : Tag → ℕ
+callsOf k = k .path .low % 9223372036854775808 + k .path .high / 256
+
+-- a product spreads what stands in each half over the bits from 2 ^ 20 on
+unfoldable pub mix : (calls : ℕ) → ℕ
+mix n = n % 4294967296 * 668265261 + n / 4294967296 * 374761393
+
 unfoldable pub bucketOf : Tag → ℕ
-bucketOf k = ((k .path .low % 9223372036854775808 + k .path .high / 256) % 4093 + k .iteration * 1259 + k .instruction * 341) % 4096
+bucketOf k = (mix (callsOf k) / 1048576 + k .iteration * 1259 + k .instruction * 341) % 4096
 
 abbrev pub bucketKey : Token → ℕ
 bucketKey t = suc (bucketOf (t .tag))
