@@ -1,5 +1,6 @@
 -- Tables by computation, round trips, what is read from bytes fits, records that are allowed, paths, and calls within calls. Assumes nothing.
 pub mod Computed
+pub mod Counts
 pub mod Records
 pub mod Fitting
 pub mod Allowed
