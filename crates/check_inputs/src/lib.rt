@@ -32,7 +32,8 @@ fn good(counts: &[u8; 256], graph: &[u8], s: &[u8]) -> bool
     requires { ⌜ Counts (now counts) × (tokenWidth ≤ length (now s)) ⌝ }
     ensures { λ r. ⌜ r ≡ goodInput (graphOf (now (graph .entry))) (now (s .entry)) ⌝ }
 {
-    is_input(s) && s[token::PORT] < arc::operands_at(counts, graph, number::u16_at(s, token::INSTRUCTION))
+    is_input(s)
+        && s[token::PORT] < arc::operands_at(counts, graph, number::u16_at(s, token::INSTRUCTION))
 }
 
 // 6, the inputs in turn.

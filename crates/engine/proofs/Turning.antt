@@ -194,18 +194,21 @@ module _ (graph picks : List ℕ) {tables links flags ledger cells : List ℕ} {
 
       pub turn-done : {n : ℕ} → Went (graphOf graph) (tokenAt ledger place .tag) tables links′ flags′ ledger′ cells′ n used ledger cells
           → (place < n) × Advanced (graphOf graph) (tokenAt ledger′ place .tag) later-picks tables links′ flags′ ledger′ cells′ n used ledger cells
-      turn-done {n} w = (omega (arith, place-enabled .0, w .grown), record {
-        goesOn = goes-on (graphOf graph) tables (ready .aritiesRight) ledger cells used (now .arrived) later-picks place enabled-some chosen _
-            (ap (fire (machineFor (graphOf graph) ledger cells) (stateIn ledger cells used)) (sym that-tag) ∙ w .step);
-        logs = λ b. logs-on (graphOf graph) tables (ready .aritiesRight) ledger cells used (now .arrived) later-picks place enabled-some chosen _
-            (ap (fire (machineFor (graphOf graph) ledger cells) (stateIn ledger cells used)) (sym that-tag) ∙ w .step) b
-            ∙ ap (λ (σ : Tag). σ ∷ logOf (machineFor (graphOf graph) ledger cells) (byPicks (machineFor (graphOf graph) ledger cells)) b (laterPicks later-picks) (stateIn ledger′ cells′ n)) (sym (tag-kept w ∙ that-tag));
-        running = w .running;
-        grown = w .grown;
-        size = w .size;
-        rest = w .rest;
-        cellSize = w .cellSize;
-      })
+      turn-done {n} w = (
+        omega (arith, place-enabled .0, w .grown),
+        record {
+          goesOn = goes-on (graphOf graph) tables (ready .aritiesRight) ledger cells used (now .arrived) later-picks place enabled-some chosen _
+              (ap (fire (machineFor (graphOf graph) ledger cells) (stateIn ledger cells used)) (sym that-tag) ∙ w .step);
+          logs = λ b. logs-on (graphOf graph) tables (ready .aritiesRight) ledger cells used (now .arrived) later-picks place enabled-some chosen _
+              (ap (fire (machineFor (graphOf graph) ledger cells) (stateIn ledger cells used)) (sym that-tag) ∙ w .step) b
+              ∙ ap (λ (σ : Tag). σ ∷ logOf (machineFor (graphOf graph) ledger cells) (byPicks (machineFor (graphOf graph) ledger cells)) b (laterPicks later-picks) (stateIn ledger′ cells′ n)) (sym (tag-kept w ∙ that-tag));
+          running = w .running;
+          grown = w .grown;
+          size = w .size;
+          rest = w .rest;
+          cellSize = w .cellSize;
+        },
+      )
 
       pub turn-refused : {r : Refusal} → Stopped r (graphOf graph) (tokenAt ledger place .tag) tables links′ flags′ ledger′ cells′ used ledger cells
           → Halted (Outcomes.Refused r place) (graphOf graph) later-picks tables links′ flags′ ledger′ cells′ used ledger cells
