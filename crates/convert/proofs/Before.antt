@@ -44,7 +44,8 @@ use Rattle.rules.specs.InstructionSet.{keyUnder, effectIn, machineOf}
 use Rattle.rules.specs.Run.{tokenRecord, tokenHeld, firstState, picksOf, Result, refusedAtOnce, ranTo, unlessFailed, result, answer, outcomeOf, ledgerAfter}
 use Rattle.rules.specs.Log.{LogResult, logSuffices, checkLogStores, checkLogged, logUnlessFailed, logged, logAfter}
 use Rattle.rules.specs.Invariants.{LawfulResult}
-use Rattle.rules.proofs.Log.{length-record, log-fits}
+use Rattle.record.proofs.LogRecords.{length-record}
+use Rattle.rules.proofs.Log.{log-fits}
 use Rattle.rules.proofs.Passed.{both, demand-passed, andThen-passed}
 use Rattle.rules.proofs.Accepted.{whole-bytes}
 use Rattle.rules.proofs.PassedGraph.{past-operation, of-graph, enter-code, enter-site}

@@ -13,7 +13,7 @@ use Rattle.buffer.proofs.Tables.{length-joined, put-end}
 use Rattle.record.specs.declared.tag.Tag.{Tag}
 use Rattle.record.specs.Logs.{encode}
 use Rattle.record.specs.Widths.{logWidth}
-use Rattle.rules.proofs.Log.{length-record}
+use Rattle.record.proofs.LogRecords.{length-record}
 use Rattle.engine.specs.Turns.{noted, recorded}
 
 records-bytes : (τs : List Tag) → length (joined encode τs) ≡ length τs * logWidth

@@ -1,7 +1,8 @@
--- Tables by computation, round trips, what is read from bytes fits, records that are allowed, paths, and calls within calls. Assumes nothing.
+-- Tables by computation, round trips of records and of a log's, what is read from bytes fits, records that are allowed, paths, and calls within calls. Assumes nothing.
 pub mod Computed
 pub mod Counts
 pub mod Records
+pub mod LogRecords
 pub mod Fitting
 pub mod Allowed
 pub mod Paths

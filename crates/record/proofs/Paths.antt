@@ -3,11 +3,12 @@ use Prim.Native.Nat.{ℕ, _+_, _-_, _*_, _/_, _%_, _^_, _<_, _≤_}
 use mathlib.Core.Path.{_≡_, refl, sym, ap, _∙_}
 use mathlib.Core.Bool.{Bool, true, false, _&&_}
 use native.Mathlib.Omega.{arith}
-use borrow.Author.Tests.{eq-eqb, ne-eqb, eqb-true, eqb-false}
+use borrow.Author.Tests.{eq-eqb, ne-eqb, eqb-true, eqb-false, lt-ltb, le-ltb}
 use lib.Dec.{eqb}
 use Rattle.record.specs.declared.tag.Path.{Path}
+use Rattle.record.specs.declared.tag.Compared.the-variants.{Before, Same, Behind}
 use Rattle.record.specs.Calls.{mostLevels}
-use Rattle.record.specs.Paths.{pathNumber, pathWords, rootPath, isRoot, samePath, PathFits}
+use Rattle.record.specs.Paths.{pathNumber, pathWords, rootPath, isRoot, samePath, comparedPaths, PathFits}
 
 pub equal-words : {a b : Path} → a .low ≡ b .low → a .high ≡ b .high → a ≡ b
 equal-words p q = λ i. record { low = p i; high = q i }
@@ -61,6 +62,37 @@ same-path a b e = let w = words (eqb (a .low) (b .low)) (eqb (a .high) (b .high)
 pub path-same : (a b : Path) → a ≡ b → samePath a b ≡ true
 unfolding samePath
 path-same a b e = rw (eq-eqb (a .low) (b .low) (ap (λ (p : Path). p .low) e), eq-eqb (a .high) (b .high) (ap (λ (p : Path). p .high) e))
+
+-- of paths that fit, the number tells the path
+pub number-tells : (a b : Path) → PathFits a → PathFits b → pathNumber a ≡ pathNumber b → a ≡ b
+number-tells a b f g e = sym (words-number a (f .low)) ∙ ap pathWords e ∙ words-number b (g .low)
+
+-- ---- the order of two paths: the higher words decide, and where these are equal, the lower ones
+
+module _ (a b : Path) where
+  pub compared-before : pathNumber a < pathNumber b → comparedPaths a b ≡ Before
+  unfolding comparedPaths
+  compared-before h = rw (ne-eqb (pathNumber a) (pathNumber b) (λ e. omega arith), lt-ltb (pathNumber a) (pathNumber b) h)
+
+  pub compared-behind : pathNumber b < pathNumber a → comparedPaths a b ≡ Behind
+  unfolding comparedPaths
+  compared-behind h = rw (ne-eqb (pathNumber a) (pathNumber b) (λ e. omega arith), le-ltb (pathNumber a) (pathNumber b) (omega arith))
+
+  pub compared-same : pathNumber a ≡ pathNumber b → comparedPaths a b ≡ Same
+  unfolding comparedPaths
+  compared-same e = rw (eq-eqb (pathNumber a) (pathNumber b) e)
+
+  pub higher-less : a .low < 2 ^ 64 → a .high < b .high → pathNumber a < pathNumber b
+  unfolding pathNumber
+  higher-less h l = omega arith
+
+  pub lower-less : a .high ≡ b .high → a .low < b .low → pathNumber a < pathNumber b
+  unfolding pathNumber
+  lower-less e l = omega arith
+
+  pub equal-number : a .high ≡ b .high → a .low ≡ b .low → pathNumber a ≡ pathNumber b
+  unfolding pathNumber
+  equal-number e l = omega arith
 
 -- ---- the words of a path that ENTER makes, and of the one that LEAVE finds
 

@@ -2,7 +2,7 @@
 ghost use mathlib.Core.Path.{_≡_};
 ghost use Prim.Native.Nat.{_≤_};
 ghost use lib.ListN.{length};
-ghost use Rattle.record.specs.Paths.{isRoot, samePath};
+ghost use Rattle.record.specs.Paths.{isRoot, samePath, comparedPaths, foldedPath};
 ghost use Rattle.record.specs.TokensAndTags.{tagIn, rootOf, toOf, sameTag};
 ghost use Rattle.record.specs.Widths.{logWidth};
 ghost use Rattle.record.specs.Calls.{enterOf, leaveOf, nextOf};
@@ -11,6 +11,13 @@ ghost use Rattle.record.specs.Calls.{enterOf, leaveOf, nextOf};
 pub struct Path {
     pub low: u64,
     pub high: u64,
+}
+
+// Where a path stands to another.
+pub enum Compared {
+    Before,
+    Same,
+    Behind,
 }
 
 // 01, "Tokens and tags": a tag is path, iteration and instruction.
@@ -68,6 +75,30 @@ impl Path {
         ensures { λ r. ⌜ r ≡ samePath self other ⌝ }
     {
         self.low == other.low && self.high == other.high
+    }
+
+    // By their numbers: the higher words decide, and where these are equal, the lower ones.
+    pub fn compared(self, other: Path) -> Compared
+        ensures { λ r. ⌜ r ≡ comparedPaths self other ⌝ }
+    {
+        if self.high < other.high {
+            Compared::Before
+        } else if self.high > other.high {
+            Compared::Behind
+        } else if self.low < other.low {
+            Compared::Before
+        } else if self.low > other.low {
+            Compared::Behind
+        } else {
+            Compared::Same
+        }
+    }
+
+    // One word for a path, of which the matching store makes a bucket.
+    pub fn folded(self) -> u64
+        ensures { λ r. ⌜ r ≡ foldedPath self ⌝ }
+    {
+        self.low % 9223372036854775808 + self.high / 256
     }
 }
 

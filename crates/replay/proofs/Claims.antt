@@ -30,7 +30,8 @@ use Rattle.rules.specs.Run.{Result, refusedAtOnce, ranTo, outcomeOf, answer, fi
 use Rattle.rules.specs.Orders as Results
 use Rattle.rules.specs.Log.{LogResult, checkLogged, logUnlessFailed, logged, logAfter, namesIn, replayed, NotBy7, InFiring}
 use Rattle.rules.proofs.Accepted.{whole-bytes}
-use Rattle.rules.proofs.Log.{TagFits, names-back, log-passed}
+use Rattle.record.proofs.LogRecords.{TagFits}
+use Rattle.rules.proofs.Log.{names-back, log-passed}
 use Rattle.rules.proofs.Log as Logs
 use Rattle.rules.proofs.Replay as Replays
 use Rattle.rules.proofs.Replay.{tags-fit}

@@ -11,14 +11,13 @@ use lib.IntN.{ℤ}
 use lib.Dec.{eqb, leb}
 use borrow.Author.Tests.{leb-true, le-leb}
 use Rattle.record.specs.declared.tag.Tag.{Tag}
-use Rattle.number.proofs.Numbers.{number16-bytes, number64-bytes, fits16, fits64}
 use Rattle.buffer.specs.Rows.{rows, joined, All}
 use Rattle.buffer.proofs.Tables.{length-joined}
 use Rattle.record.specs.GraphRecords.{graphOf}
 use Rattle.record.specs.TokensAndTags.{mostTokens, capacityOf}
-use Rattle.record.specs.Paths.{PathFits}
 use Rattle.record.specs.Logs.{encode, nameOf}
 use Rattle.record.specs.Widths.{tokenWidth, cellWidth, logWidth}
+use Rattle.record.proofs.LogRecords.{TagFits, length-record, name-back}
 use Rattle.machine.specs.Machine.{Machine, End, byPicks, run}
 use Rattle.machine.specs.Sequences.{logOf}
 use Rattle.machine.proofs.Sequences.{noLonger}
@@ -38,31 +37,6 @@ use Rattle.rules.proofs.Passed.{both, demand-passed, andThen-passed}
 use Rattle.rules.proofs.Accepted.{whole-bytes, Whole, stores-whole, Accepted, accepted, law, good}
 
 -- ---- records
-
-pub record TagFits (τ : Tag) : Type 0 where
-  pub path : PathFits (τ .path)
-  pub iteration : τ .iteration < 2 ^ 8
-  pub instruction : τ .instruction < 2 ^ 16
-
-pub length-record : (τ : Tag) → length (encode τ) ≡ logWidth
-unfolding encode
-length-record τ = refl
-
-whole-record : (τ : Tag) (rest : List ℕ) → leb logWidth (length (encode τ ++ rest)) ≡ true
-whole-record τ rest = le-leb logWidth (length (encode τ ++ rest)) (omega (arith, length-append (encode τ) rest, length-record τ))
-
-name-back : (τ : Tag) (rest : List ℕ) → TagFits τ → nameOf (encode τ ++ rest) ≡ some τ
-unfolding encode nameOf
-name-back τ rest f =
-    rw (
-      whole-record τ rest,
-      number64-bytes (τ .path .low) [],
-      fits64 _ (f .path .low),
-      number64-bytes (τ .path .high) [],
-      fits64 _ (f .path .high),
-      number16-bytes (τ .instruction) [],
-      fits16 _ (f .instruction),
-    )
 
 rows-back : (τs : List Tag) → All TagFits τs → rows logWidth nameOf (length τs) (joined encode τs) ≡ map some τs
 unfolding encode

@@ -38,7 +38,8 @@ use Rattle.rules.specs.Run.{tokenRecord, firstState, picksOf, ranTo, unl
 use Rattle.rules.specs.Log.{namesIn, logSuffices, checkLogStores, checkLogged, LogResult, logUnlessFailed, logged, logAfter, replayed, NotBy7, Again, LogReplays}
 use Rattle.rules.proofs.Accepted.{whole-bytes, Accepted, law, begins, good}
 use Rattle.rules.proofs.Fits.{ended-fits}
-use Rattle.rules.proofs.Log.{TagFits, length-record, names-back, log-stores, log-passed}
+use Rattle.record.proofs.LogRecords.{TagFits, length-record}
+use Rattle.rules.proofs.Log.{names-back, log-stores, log-passed}
 
 -- ---- the check of a replay, by that of the run
 

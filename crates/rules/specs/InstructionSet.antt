@@ -8,7 +8,6 @@ use mathlib.Core.List.{List, [], _∷_, map}
 use lib.ListN.{length}
 use lib.IntN.{ℤ, pos, negsuc, natAbs}
 use lib.Dec.{eqb, ltb}
-use Rattle.record.specs.declared.tag.Path.{Path}
 use Rattle.record.specs.declared.tag.Tag.{Tag}
 use Rattle.record.specs.declared.tag.Entered.{Entered}
 use Rattle.record.specs.declared.tag.Entered.the-variants.{In, TooDeep}
@@ -20,7 +19,7 @@ use Rattle.record.specs.declared.instruction.Destination.{Destination}
 use Rattle.record.specs.declared.instruction.Instruction.{Instruction}
 use Rattle.record.specs.declared.operation.Operation.{Operation}
 use Rattle.record.specs.declared.operation.Operation.the-variants as Operations
-use Rattle.record.specs.Paths.{isRoot}
+use Rattle.record.specs.Paths.{isRoot, decidePath}
 use Rattle.record.specs.TokensAndTags.{toOf}
 use Rattle.record.specs.Calls.{nextOf, enterOf, leaveOf}
 use Rattle.record.specs.GraphRecords.{destinations, operationOf, operandsOf}
@@ -116,12 +115,6 @@ isResult r τ = eqb (r .code) 3 || eqb (r .code) 9 && isRoot (τ .path)
 -- a result waits for no operand
 unfoldable pub arityIn : List Instruction → Tag → ℕ
 arityIn g τ = let r = instructionAt g (τ .instruction) in cond (isResult r τ) 0 (operandsOf (r .code))
-
--- paths are equal if both words are
-unfoldable pub decidePath : Discrete Path
-decidePath a b =
-    decideBoth (λ p q. λ i. record { low = p i; high = q i }) (λ e. ap (λ p. p .low) e) (λ e. ap (λ p. p .high) e)
-    (ℕ-discrete (a .low) (b .low)) (ℕ-discrete (a .high) (b .high))
 
 -- tags are equal if instruction, iteration and path are; the instruction, which differs most often, is compared first
 unfoldable pub decideTag : Discrete Tag

@@ -47,8 +47,7 @@ fn bucket(tag: Tag) -> usize
     ensures { λ r. ⌜ (r ≡ bucketOf tag) × (r < 4096) ⌝ }
 {
     let path = tag.path;
-    let calls = path.low % 9223372036854775808 + path.high / 256;
-    let spread = mixed(calls);
+    let spread = mixed(path.folded());
     let sum = spread / 1048576 + (tag.iteration as u64) * 1259 + (tag.instruction as u64) * 341;
     (sum % 4096) as usize
 }

@@ -16,4 +16,4 @@ bucket-spec = tie.close (tie.spec
     (λ c. search needs)
     (λ c. search needs)
     (λ c. search needs)
-    (λ c. (rw (c .before .before .mixed .ensures .0), omega arith)))
+    (λ c. (rw (c .before .before .mixed .ensures .0, c .before .before .before .folded .ensures), omega arith)))
