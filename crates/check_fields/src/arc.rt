@@ -4,7 +4,7 @@ use record::instruction::Destination;
 use record::instruction::Instruction;
 use record::operation;
 ghost use mathlib.Core.Path.{_≡_};
-ghost use Rattle.record.specs.GraphRecords.{graphOf, destinations};
+ghost use Rattle.record.specs.GraphRecords.{Counts, graphOf, destinations};
 ghost use Rattle.rules.specs.Check.{operandsAt, goodArc, all};
 
 fn wide(x: u16) -> usize
@@ -14,25 +14,28 @@ fn wide(x: u16) -> usize
 }
 
 // The operand count of an instruction, 0 for an absent one.
-pub fn operands_at(graph: &[u8], i: u16) -> u8
+pub fn operands_at(counts: &[u8; 256], graph: &[u8], i: u16) -> u8
+    requires { ⌜ Counts (now counts) ⌝ }
     ensures { λ r. ⌜ r ≡ operandsAt (graphOf (now (graph .entry))) i ⌝ }
 {
     let at = wide(i);
     if at < graph.len() / instruction::WIDTH {
-        operation::operands(graph[at * instruction::WIDTH])
+        operation::count_of(counts, graph[at * instruction::WIDTH])
     } else {
         0
     }
 }
 
-fn good(graph: &[u8], d: Destination) -> bool
+fn good(counts: &[u8; 256], graph: &[u8], d: Destination) -> bool
+    requires { ⌜ Counts (now counts) ⌝ }
     ensures { λ r. ⌜ r ≡ goodArc (graphOf (now (graph .entry))) d ⌝ }
 {
-    d.port < operands_at(graph, d.instruction)
+    d.port < operands_at(counts, graph, d.instruction)
 }
 
 // The arcs in use.
-pub fn all_good(graph: &[u8], r: Instruction) -> bool
+pub fn all_good(counts: &[u8; 256], graph: &[u8], r: Instruction) -> bool
+    requires { ⌜ Counts (now counts) ⌝ }
     ensures { λ b. ⌜ b ≡ all (goodArc (graphOf (now (graph .entry)))) (destinations r) ⌝ }
 {
     let fan_out = r.fanout;
@@ -42,7 +45,7 @@ pub fn all_good(graph: &[u8], r: Instruction) -> bool
         return true;
     }
     if fan_out == 1 {
-        return good(graph, first);
+        return good(counts, graph, first);
     }
-    good(graph, first) && good(graph, second)
+    good(counts, graph, first) && good(counts, graph, second)
 }

@@ -1,5 +1,6 @@
 // Refusals 6, 8 and 9: the inputs.
 use check_fields::arc;
+use record::operation;
 use record::tag;
 use record::tag::Tag;
 use record::token;
@@ -10,7 +11,7 @@ ghost use mathlib.Core.Path.{_≡_};
 ghost use mathlib.Core.Bool.{false};
 ghost use Prim.Native.Nat.{_/_, _≤_, _<_};
 ghost use lib.ListN.{length, take};
-ghost use Rattle.record.specs.GraphRecords.{graphOf};
+ghost use Rattle.record.specs.GraphRecords.{Counts, graphOf};
 ghost use Rattle.record.specs.TokensAndTags.{isInput, standsAt};
 ghost use Rattle.record.specs.Widths.{tokenWidth};
 ghost use Rattle.rules.specs.Check.{any, goodInput, secondInput, checkInputs};
@@ -27,20 +28,22 @@ fn is_input(s: &[u8]) -> bool
 }
 
 // 6, of the record that s starts with.
-fn good(graph: &[u8], s: &[u8]) -> bool
-    requires { ⌜ tokenWidth ≤ length (now s) ⌝ }
+fn good(counts: &[u8; 256], graph: &[u8], s: &[u8]) -> bool
+    requires { ⌜ Counts (now counts) × (tokenWidth ≤ length (now s)) ⌝ }
     ensures { λ r. ⌜ r ≡ goodInput (graphOf (now (graph .entry))) (now (s .entry)) ⌝ }
 {
-    is_input(s) && s[token::PORT] < arc::operands_at(graph, number::u16_at(s, token::INSTRUCTION))
+    is_input(s)
+        && s[token::PORT] < arc::operands_at(counts, graph, number::u16_at(s, token::INSTRUCTION))
 }
 
 // 6, the inputs in turn.
 pub fn fields(graph: &[u8], inputs: &[u8]) -> Checked
     ensures { λ c. ⌜ c ≡ checkFields (graphOf (now (graph .entry))) (now (inputs .entry)) ⌝ }
 {
+    let counts = operation::counts();
     let mut i = 0;
     while i < inputs.len() / token::WIDTH {
-        if !good(graph, buffer::row_at(inputs, token::WIDTH, i)) {
+        if !good(&counts, graph, buffer::row_at(inputs, token::WIDTH, i)) {
             return Checked::Failed(Refusal::BadInput, i);
         }
         i += 1;

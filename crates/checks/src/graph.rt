@@ -9,7 +9,7 @@ use rules::answer::Checked;
 use rules::answer::Refusal;
 ghost use mathlib.Core.Path.{_≡_};
 ghost use lib.ListN.{take};
-ghost use Rattle.record.specs.GraphRecords.{isGraphLength, graphOf};
+ghost use Rattle.record.specs.GraphRecords.{Counts, isGraphLength, graphOf};
 ghost use Rattle.rules.specs.Check.{demand, _andThen_, inTurn, checkRecord, checkGraph};
 ghost use Rattle.check_fields.specs.Sites.{Sites};
 
@@ -33,13 +33,13 @@ fn first_fault(i: usize, known: bool, fields: bool, arcs: bool, site: bool) -> C
 }
 
 // Record i: 2 to 5.
-fn record(graph: &[u8], sites: &[u32; 256], i: usize, r: Instruction) -> Checked
-    requires { ⌜ Sites (take i (graphOf (now graph))) (now sites) ⌝ }
+fn record(counts: &[u8; 256], graph: &[u8], sites: &[u32; 256], i: usize, r: Instruction) -> Checked
+    requires { ⌜ Counts (now counts) × Sites (take i (graphOf (now graph))) (now sites) ⌝ }
     ensures { λ c. ⌜ c ≡ checkRecord (graphOf (now (graph .entry))) i r ⌝ }
 {
-    let known = 1 <= operation::operands(r.code);
+    let known = 1 <= operation::count_of(counts, r.code);
     let fields = fan_out::good(r);
-    let arcs = arc::all_good(graph, r);
+    let arcs = arc::all_good(counts, graph, r);
     let site = site::good(sites, r);
     first_fault(i, known, fields, arcs, site)
 }
@@ -48,11 +48,12 @@ fn record(graph: &[u8], sites: &[u32; 256], i: usize, r: Instruction) -> Checked
 fn records(graph: &[u8]) -> Checked
     ensures { λ c. ⌜ c ≡ inTurn (checkRecord (graphOf (now (graph .entry)))) 0 (graphOf (now (graph .entry))) ⌝ }
 {
+    let counts = operation::counts();
     let mut sites = [0u32; 256];
     let mut i = 0;
     while i < graph.len() / instruction::WIDTH {
         let r = instruction::instruction_at(graph, i);
-        let checked = record(graph, &sites, i, r);
+        let checked = record(&counts, graph, &sites, i, r);
         let Checked::Passed = checked else {
             return checked;
         };

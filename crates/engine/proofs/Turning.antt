@@ -14,21 +14,21 @@ use Rattle.record.specs.declared.instruction.Instruction.{Instruction}
 use Rattle.record.specs.GraphRecords.{graphOf}
 use Rattle.record.specs.TokensAndTags.{tokens, tokenAt}
 use Rattle.record.specs.TokensAndTags as Tokens
-use Rattle.buffer.proofs.Tables.{getD-rows}
+use Rattle.buffer.proofs.Tables.{length-rows, getD-rows}
 use Rattle.record.specs.Widths.{tokenWidth, cellWidth}
 use Rattle.store_flags.specs.Flags.{places, flagsOf}
 use Rattle.store.proofs.Laws.{matching-places, matching-enabled-below, matching-leads}
 use Rattle.load.specs.Loaded.{headOr0}
 use Rattle.load.proofs.Laws.{head-drop}
 use Rattle.store_enabled.specs.Enabled.{leads, enabledPlaces}
-use Rattle.machine.specs.Machine.{Machine, State, Activity, ending, enabled, firstPick, laterPicks, pickOf, byPicks, runBy, end, fire, fired, notFired}
+use Rattle.machine.specs.Machine.{Key, Token, Machine, State, Activity, ending, enabled, firstPick, laterPicks, pickOf, byPicks, runBy, end, fire, fired, notFired}
 use Rattle.machine.specs.Machine as Machines
 use Rattle.machine.specs.Sequences.{logOf}
 use Rattle.machine.proofs.Runs.{runFired, runRefused, logEmpty, logFired, logRefused}
 use Rattle.rules.specs.declared.answer.Refusal.{Refusal}
 use Rattle.rules.specs.declared.answer.Outcome as AnswerOutcome
 use Rattle.rules.specs.declared.answer.Outcome.the-variants as Outcomes
-use Rattle.rules.specs.Run.{picksOf}
+use Rattle.rules.specs.Run.{picksOf, tokenHeld}
 use Rattle.abstraction.specs.States.{noToken}
 use Rattle.abstraction.specs.Tables.{Arities, arraysIn}
 use Rattle.abstraction.proofs.Enabled.{held-enabled}
@@ -38,6 +38,7 @@ use Rattle.fire.specs.Running.{machineFor, stateIn, Arrived, Running, Went, Sto
 use Rattle.ending.specs.Endings.{EndsAs}
 use Rattle.ending.proofs.Laws.{ended}
 use Rattle.engine.specs.Turns.{Advanced, Halted}
+use Rattle.engine.proofs.Places.{keys-kept}
 
 -- ---- picks
 
@@ -45,6 +46,12 @@ getD-map : {A B : Type 0} (f : A → B) (xs : List A) (k : ℕ) (d : A) (e : B) 
 getD-map f [] k d e h = absurd (omega arith)
 getD-map f (x ∷ xs) zero d e h = refl
 getD-map f (x ∷ xs) (suc k) d e h = getD-map f xs k d e (omega arith)
+
+-- the tag of a token of the machine's state is that of its record
+held-tag : (l : List ℕ) (n i : ℕ) → i < n → getD (map tokenHeld (tokens n l)) i (tokenHeld noToken) .key .tag ≡ tokenAt l i .tag
+held-tag l n i h =
+    ap (λ (t : Token Tag ℤ). t .key .tag)
+    (getD-map tokenHeld (tokens n l) i noToken (tokenHeld noToken) (rw (length-rows tokenWidth Tokens.decode n l) h) ∙ ap tokenHeld (getD-rows tokenWidth Tokens.decode n i l noToken h))
 
 module _ (g : List Instruction) (tables : List ℕ) (right : Arities g tables) (ledger cells : List ℕ) (used : ℕ) (arrived : Arrived g (tokens used ledger)) where
   abbrev M : Machine
@@ -176,20 +183,32 @@ module _ (graph picks : List ℕ) {tables links flags ledger cells : List ℕ} {
     that-tag = ap (λ (t : Record.Token). t .tag) (sym (getD-rows tokenWidth Tokens.decode used place ledger noToken (place-enabled .0)))
 
     module _ {links′ flags′ ledger′ cells′ : List ℕ} where
-      pub turn-done : {n : ℕ} (τ : Tag) → τ ≡ tokenAt ledger place .tag → Went (graphOf graph) (tokenAt ledger place .tag) tables links′ flags′ ledger′ cells′ n used ledger cells
-          → Advanced (graphOf graph) τ later-picks tables links′ flags′ ledger′ cells′ n used ledger cells
-      turn-done {n} τ is w = record {
-        goesOn = goes-on (graphOf graph) tables (ready .aritiesRight) ledger cells used (now .arrived) later-picks place enabled-some chosen _
-            (ap (fire (machineFor (graphOf graph) tables ledger cells) (stateIn ledger cells used)) (sym that-tag) ∙ w .step);
-        logs = λ b. logs-on (graphOf graph) tables (ready .aritiesRight) ledger cells used (now .arrived) later-picks place enabled-some chosen _
-            (ap (fire (machineFor (graphOf graph) tables ledger cells) (stateIn ledger cells used)) (sym that-tag) ∙ w .step) b
-            ∙ ap (λ (σ : Tag). σ ∷ logOf (machineFor (graphOf graph) tables ledger cells) (byPicks (machineFor (graphOf graph) tables ledger cells)) b (laterPicks later-picks) (stateIn ledger′ cells′ n)) (sym (is ∙ that-tag));
-        running = w .running;
-        grown = w .grown;
-        size = w .size;
-        rest = w .rest;
-        cellSize = w .cellSize;
-      }
+      -- the activity that fired has its tag at its place still
+      tag-kept : {n : ℕ} → Went (graphOf graph) (tokenAt ledger place .tag) tables links′ flags′ ledger′ cells′ n used ledger cells → tokenAt ledger′ place .tag ≡ tokenAt ledger place .tag
+      tag-kept {n} w =
+          let low = place-enabled .0 in
+          sym (held-tag ledger′ n place (omega (arith, w .grown)))
+          ∙ ap (λ (k : Key Tag). k .tag) (keys-kept (machineFor (graphOf graph) tables ledger cells) (stateIn ledger cells used) _ _ (w .step) place (tokenHeld noToken)
+          (rw (length-map (tokens used ledger) tokenHeld, length-rows tokenWidth Tokens.decode used ledger) low))
+          ∙ held-tag ledger used place low
+
+      pub turn-done : {n : ℕ} → Went (graphOf graph) (tokenAt ledger place .tag) tables links′ flags′ ledger′ cells′ n used ledger cells
+          → (place < n) × Advanced (graphOf graph) (tokenAt ledger′ place .tag) later-picks tables links′ flags′ ledger′ cells′ n used ledger cells
+      turn-done {n} w = (
+        omega (arith, place-enabled .0, w .grown),
+        record {
+          goesOn = goes-on (graphOf graph) tables (ready .aritiesRight) ledger cells used (now .arrived) later-picks place enabled-some chosen _
+              (ap (fire (machineFor (graphOf graph) tables ledger cells) (stateIn ledger cells used)) (sym that-tag) ∙ w .step);
+          logs = λ b. logs-on (graphOf graph) tables (ready .aritiesRight) ledger cells used (now .arrived) later-picks place enabled-some chosen _
+              (ap (fire (machineFor (graphOf graph) tables ledger cells) (stateIn ledger cells used)) (sym that-tag) ∙ w .step) b
+              ∙ ap (λ (σ : Tag). σ ∷ logOf (machineFor (graphOf graph) tables ledger cells) (byPicks (machineFor (graphOf graph) tables ledger cells)) b (laterPicks later-picks) (stateIn ledger′ cells′ n)) (sym (tag-kept w ∙ that-tag));
+          running = w .running;
+          grown = w .grown;
+          size = w .size;
+          rest = w .rest;
+          cellSize = w .cellSize;
+        },
+      )
 
       pub turn-refused : {r : Refusal} → Stopped r (graphOf graph) (tokenAt ledger place .tag) tables links′ flags′ ledger′ cells′ used ledger cells
           → Halted (Outcomes.Refused r place) (graphOf graph) later-picks tables links′ flags′ ledger′ cells′ used ledger cells

@@ -1,5 +1,5 @@
 -- A run, a turn at a time, in the terms of the machine: what a turn leaves, and what a run leaves in ledger, cells and log. Assumes nothing.
-use Prim.Native.Nat.{ℕ, suc, _*_, _/_, _≤_}
+use Prim.Native.Nat.{ℕ, suc, _*_, _/_, _≤_, _<_}
 use mathlib.Core.Path.{_≡_}
 use mathlib.Core.Bool.{cond}
 use mathlib.Core.List.{List, [], _∷_}
@@ -9,6 +9,7 @@ use lib.IntN.{ℤ}
 use Rattle.record.specs.declared.tag.Tag.{Tag}
 use Rattle.record.specs.declared.instruction.Instruction.{Instruction}
 use Rattle.record.specs.Logs.{encode}
+use Rattle.record.specs.TokensAndTags.{tokenAt}
 use Rattle.record.specs.Widths.{tokenWidth, logWidth}
 use Rattle.buffer.specs.Rows.{putRow, writtenOver}
 use Rattle.machine.specs.Machine.{Outcome, End, byPicks, runBy, run, end, laterPicks}
@@ -43,9 +44,10 @@ pub record Halted (o : AnswerOutcome.Outcome) (g : List Instruction) (picks : Li
   pub sameLedger : ledger′ ≡ ledger
   pub sameCells : cells′ ≡ cells
 
+-- a turn, by its answer; the activity that fired has its tag at its place, as before the firing
 abbrev pub Turned : Turn → List Instruction → (picks : List ℕ) → (tables links flags ledger′ cells′ : List ℕ) → (used : ℕ) → (ledger cells : List ℕ) → Type 0
-Turned (Turns.Fired n τ) g picks tables links flags ledger′ cells′ used ledger cells =
-    Advanced g τ picks tables links flags ledger′ cells′ n used ledger cells
+Turned (Turns.Fired n place) g picks tables links flags ledger′ cells′ used ledger cells =
+    (place < n) × Advanced g (tokenAt ledger′ place .tag) picks tables links flags ledger′ cells′ n used ledger cells
 Turned (Turns.Ended o) g picks tables links flags ledger′ cells′ used ledger cells =
     Halted o g picks tables links flags ledger′ cells′ used ledger cells
 

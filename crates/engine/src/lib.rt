@@ -5,7 +5,6 @@ use checks::stores;
 use fire_commit::Fired;
 use record::cell;
 use record::log;
-use record::tag::Tag;
 use record::token;
 use rules::answer;
 use rules::answer::Answer;
@@ -16,7 +15,8 @@ ghost use Prim.Native.Nat.{_/_, _%_, _<_};
 ghost use mathlib.Core.Path.{_≡_};
 ghost use lib.ListN.{length, drop};
 ghost use Rattle.record.specs.GraphRecords.{graphOf};
-ghost use Rattle.record.specs.Widths.{cellWidth};
+ghost use Rattle.record.specs.TokensAndTags.{tokenAt};
+ghost use Rattle.record.specs.Widths.{tokenWidth, cellWidth};
 ghost use Rattle.machine.specs.Machine.{byPicks};
 ghost use Rattle.machine.specs.Machine.{run as Machine·run};
 ghost use Rattle.machine.specs.Sequences.{logOf};
@@ -31,9 +31,9 @@ ghost use Rattle.engine.specs.Promise.{lentToRun, leftByRun, RanOn, lent
 ghost use Rattle.engine.specs.Resumed.{lentChecked, Lent, resumed};
 ghost use Rattle.engine.specs.Turns.{Turned, endOf, firedBy, noted, recorded};
 
-// What a turn of a run comes to: the activity of a tag fired and left so many tokens, or the run is at its end.
+// What a turn of a run comes to: the activity at a place fired and left so many tokens, or the run is at its end.
 pub enum Turn {
-    Fired(usize, Tag),
+    Fired(usize, usize),
     Ended(Outcome),
 }
 
@@ -66,21 +66,21 @@ fn take_turn(
     }
     let number = number_of(load::pick_at(picks, firings), e);
     let place = store::enabled_at(flags, number);
-    let t = token::token_at(ledger, place);
-    let tag = t.tag;
     let fired = fire::fire(graph, tables, links, flags, ledger, cells, used, place);
     match fired {
-        Fired::Done(n) => Turn::Fired(n, tag),
+        Fired::Done(n) => Turn::Fired(n, place),
         Fired::Refused(r) => Turn::Ended(Outcome::Refused(r, place)),
     }
 }
 
-// Writes the record of firing i, if the log has room for it. A run without a log has one of no bytes.
-fn note(log: &mut [u8], i: usize, tag: Tag)
-    ensures { λ _. ⌜ now (log .exit) ≡ noted (now (log .entry)) i tag ⌝ }
+// Writes the record of firing i, of the activity at a place, if the log has room for it. A run without a log has one of no bytes.
+fn note(log: &mut [u8], i: usize, ledger: &[u8], place: usize)
+    requires { ⌜ place < length (now ledger) / tokenWidth ⌝ }
+    ensures { λ _. ⌜ now (log .exit) ≡ noted (now (log .entry)) i (tokenAt (now (ledger .entry)) place .tag) ⌝ }
 {
     if i < log.len() / log::WIDTH {
-        log::put_tag(log, i, tag);
+        let t = token::token_at(ledger, place);
+        log::put_tag(log, i, t.tag);
     }
 }
 
@@ -122,8 +122,8 @@ fn proceed(
             used,
         );
         match turned {
-            Turn::Fired(n, tag) => {
-                note(log, firings, tag);
+            Turn::Fired(n, place) => {
+                note(log, firings, ledger, place);
                 used = n;
                 firings += 1;
             }

@@ -101,8 +101,8 @@ module _ (g : List Instruction) (ledger : List ℕ) (used : ℕ) (ports : All (�
   second-tag = ⊎-elim (λ h. ap (λ (k : ℕ). tokenAt ledger k .tag) (h .1) ∙ first-tag) (λ h. tag-at 1 j (p .secondWithin) (h .1)) (p .secondFound)
 
   -- the earlier of the two is the first token of the tag
-  earlier : placeOf (tokens used ledger) τ ≡ lower i j
-  earlier = first-place τ used ledger ports ∙ rw (p .firstFound) (⊎-elim
+  pub place-here : placeOf (tokens used ledger) τ ≡ lower i j
+  place-here = first-place τ used ledger ports ∙ rw (p .firstFound) (⊎-elim
       (λ h. rw (one-port g (tokens used ledger) arrived τ (h .0), h .1) (lower-first i used (omega (arith, size, p .firstWithin)) ∙ sym (lower-second i i (omega arith))))
       (λ h. rw (h .1))
       (p .secondFound))
@@ -115,5 +115,5 @@ module _ (g : List Instruction) (ledger : List ℕ) (used : ℕ) (ports : All (�
     secondLive = live-at j (p .secondWithin) (p .right);
     oneTag = second-tag ∙ sym first-tag;
     found = rw first-tag (p .firstFound);
-    place = rw first-tag earlier;
+    place = rw first-tag place-here;
   }

@@ -22,7 +22,7 @@ use Rattle.buffer.proofs.Tables.{length-rows, getD-rows}
 use Rattle.record.specs.Widths.{tokenWidth, cellWidth, graphWidth}
 use Rattle.store_chains.specs.Deferred.{woken}
 use Rattle.store.specs.Matching.{spentToken, Matching}
-use Rattle.store.proofs.Laws.{matching-room, matching-ports}
+use Rattle.store.proofs.Laws.{matching-room, matching-ports, matching-raised}
 use Rattle.machine.specs.Machine.{Key, Machine, State, refuse, fire, fired, notFired, commit}
 use Rattle.machine.specs.Orders.{Good, CellsBelow, outputs}
 use Rattle.machine.proofs.Reached.{reached-good}
@@ -40,7 +40,7 @@ use Rattle.fire_effect.specs.Effects.{keyHeld, keysHeld, keysOf, actionHeld, Ar
 use Rattle.fire_effect.proofs.Arrives.{arrives-port, arrives-inside}
 use Rattle.fire_effect.proofs.Does.{records}
 use Rattle.abstraction.proofs.Arities.{arity-small}
-use Rattle.store_enabled.specs.Enabled.{arityOf}
+use Rattle.store_enabled.specs.Enabled.{arityOf, leads}
 use Rattle.abstraction.specs.Tables.{arraysIn}
 use Rattle.abstraction.specs.States.{noToken, stateHeld}
 use Rattle.fire_operands.specs.declared.Admitted.{Admitted}
@@ -54,7 +54,7 @@ use Rattle.fire_commit.specs.declared.Fired.{Fired}
 use Rattle.fire_commit.specs.declared.Fired.the-variants as Fires
 use Rattle.fire_commit.specs.Commit.{Committed, done, refused, ifAdmitted, committedOf, CommittedTo, Fitting}
 use Rattle.fire_commit.proofs.AsMachine.{firedOf, commit-held}
-use Rattle.fire.proofs.Place.{operands-here}
+use Rattle.fire.proofs.Place.{place-here, operands-here}
 use Rattle.fire.specs.Running.{machineFor, stateIn, Arrived, Running, Went, Stopped, Stepped, Prepared}
 
 -- ---- what holds of a token by its tag and port alone
@@ -294,15 +294,16 @@ module _ (graph : List ℕ) {tables links flags ledger cells : List ℕ} {used :
       ∙ ap (λ (u : Record.Token). matchedAt (arityIn (graphOf graph) (u .tag)) (tokens used ledger) (u .tag)) e)
 
   -- what commit is lent
-  pub lent-here : (i j : ℕ) (v w : ℤ) → matchedAt (arityIn (graphOf graph) (tokenAt ledger place .tag)) (tokens used ledger) (tokenAt ledger place .tag) ≡ Both i j v w
+  pub lent-here : leads tables (tokens used ledger) place (tokenAt ledger place) ≡ true → (i j : ℕ) (v w : ℤ) → matchedAt (arityIn (graphOf graph) (tokenAt ledger place .tag)) (tokens used ledger) (tokenAt ledger place .tag) ≡ Both i j v w
       → Fireable tables links flags ledger cells used i j
-  lent-here i j v w e =
+  lent-here on i j v w e =
       let τ = tokenAt ledger place .tag in
       let p = matched-places (tokens used ledger) τ (arityIn (graphOf graph) τ) (arity-small (graphOf graph) τ) e in
       record {
         matching = now .matching;
         few = now .few;
         activity = operands-here (graphOf graph) ledger used (matching-ports (now .matching)) (now .arrived) τ p;
+        raised = rw (← place-here (graphOf graph) ledger used (matching-ports (now .matching)) (now .arrived) τ p) (matching-raised (now .matching) place within on);
         store = now .store;
       }
 

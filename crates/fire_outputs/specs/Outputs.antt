@@ -15,9 +15,10 @@ use Rattle.buffer.specs.Rows.{joined, All}
 use Rattle.record.specs.TokensAndTags.{tokens, standsAt}
 use Rattle.record.specs.Cells as Cells
 use Rattle.record.specs.Widths.{tokenWidth, cellWidth}
+use Rattle.store_flags.specs.Flags.{flagsOf}
 use Rattle.store_chains.specs.Search.{Free}
 use Rattle.store_chains.specs.Deferred.{woken}
-use Rattle.store_enabled.specs.Store.{Operands}
+use Rattle.store_enabled.specs.Store.{Operands, lower}
 use Rattle.store.specs.Matching.{spentToken, Matching}
 use Rattle.fire_effect.specs.declared.operate.Action.{Action}
 use Rattle.fire_effect.specs.declared.operate.Action.the-variants.{Send, Read, Write}
@@ -147,4 +148,6 @@ pub record Fireable (tables links flags ledger cells : List ℕ) (used i j : ℕ
   pub matching : Matching tables links flags ledger used
   pub few : length ledger / tokenWidth ≤ 2048
   pub activity : Operands ledger used i j
+  -- it is enabled
+  pub raised : getD (flagsOf flags) (lower i j) 0 ≡ 1
   pub store : CellStore cells

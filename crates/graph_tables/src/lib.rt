@@ -10,7 +10,7 @@ ghost use Prim.Native.Nat.{ℕ, _+_, _/_, _≤_, _<_};
 ghost use lib.ListN.{length, getD};
 ghost use Rattle.record.specs.Widths.{arrayWidth};
 ghost use Rattle.record.specs.Arrays.{mostArrays, arraysOf};
-ghost use Rattle.record.specs.GraphRecords.{graphOf};
+ghost use Rattle.record.specs.GraphRecords.{Counts, graphOf};
 ghost use Rattle.record.specs.declared.tag.Tag.{Tag};
 ghost use Rattle.rules.specs.InstructionSet.{arityIn};
 ghost use Rattle.store_enabled.specs.Enabled.{waitedFor};
@@ -20,7 +20,8 @@ ghost use Rattle.rules.specs.Check.{checkGraph};
 ghost use Rattle.abstraction.specs.Tables.{Arities, Returns, arraysIn, TablesOf};
 
 // The entry of instruction i, which says for each of its activities how many operands that waits for.
-fn entry_at(graph: &[u8], i: usize) -> u16
+fn entry_at(counts: &[u8; 256], graph: &[u8], i: usize) -> u16
+    requires { ⌜ Counts (now counts) ⌝ }
     ensures { λ r. ⌜ ((tag : Tag) → tag .instruction ≡ i → waitedFor r tag ≡ arityIn (graphOf (now (graph .entry))) tag) ⌝ }
 {
     if i < graph.len() / instruction::WIDTH {
@@ -28,7 +29,7 @@ fn entry_at(graph: &[u8], i: usize) -> u16
         match code {
             3 => 0,
             9 => store_enabled::LEAVE_ENTRY,
-            _ => operation::operands(code) as u16,
+            _ => operation::count_of(counts, code) as u16,
         }
     } else {
         0
@@ -41,9 +42,10 @@ fn arities(graph: &[u8], out: &mut [u16; 641])
     ensures { λ _. ⌜ Arities (graphOf (now (graph .entry))) (now (out .exit)) × (length (now (out .exit)) ≡ 641) ⌝ }
     ensures { λ _. ⌜ (Returns (graphOf (now (graph .entry))) (now (out .entry)) → Returns (graphOf (now (graph .entry))) (now (out .exit))) ⌝ }
 {
+    let counts = operation::counts();
     let mut i = 0;
     while i < 256 {
-        out[i + 385] = entry_at(graph, i);
+        out[i + 385] = entry_at(&counts, graph, i);
         i += 1;
     }
 }

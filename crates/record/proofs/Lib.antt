@@ -1,5 +1,6 @@
 -- Tables by computation, round trips of records and of a log's, what is read from bytes fits, records that are allowed, paths, and calls within calls. Assumes nothing.
 pub mod Computed
+pub mod Counts
 pub mod Records
 pub mod LogRecords
 pub mod Fitting

@@ -1,5 +1,6 @@
 -- 01, "Graph records", in its order. Assumes nothing.
 use Prim.Native.Nat.{ℕ, zero, suc, _+_, _*_, _<_, _^_}
+use mathlib.Core.Path.{_≡_}
 use mathlib.Core.Bool.{Bool, true, false, _&&_, _||_, cond}
 use mathlib.Core.List.{List, [], _∷_, _++_}
 use lib.ListN.{length, getD, drop}
@@ -139,3 +140,7 @@ usesConstant n = eqb n 4 || (eqb n 8 || (eqb n 9 || (namesArray n || (leb 32 n &
 
 abbrev pub operandsOf : (code : ℕ) → ℕ
 operandsOf n = rowOf n .operands
+
+-- l is that table
+abbrev pub Counts : List ℕ → Type 0
+Counts l = (code : ℕ) → code < 256 → getD l code 0 ≡ operandsOf code

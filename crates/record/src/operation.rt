@@ -1,6 +1,6 @@
 // The operations: which one a code names, and how many operands each code has.
 ghost use mathlib.Core.Path.{_≡_};
-ghost use Rattle.record.specs.GraphRecords.{operationOf, operandsOf};
+ghost use Rattle.record.specs.GraphRecords.{operationOf, operandsOf, Counts};
 
 pub enum Arithmetic {
     Add,
@@ -326,6 +326,21 @@ const OPERANDS: [u8; 256] = [
     0,
     0,
 ];
+
+// The table, for callers that look up many codes: `operands` copies it at each.
+pub fn counts() -> [u8; 256]
+    ensures { λ r. ⌜ Counts r ⌝ }
+{
+    OPERANDS
+}
+
+// The operand count of a code, by the table.
+pub fn count_of(counts: &[u8; 256], code: u8) -> u8
+    requires { ⌜ Counts (now counts) ⌝ }
+    ensures { λ r. ⌜ r ≡ operandsOf code ⌝ }
+{
+    counts[code as usize]
+}
 
 pub fn operands(code: u8) -> u8
     ensures { λ r. ⌜ r ≡ operandsOf code ⌝ }

@@ -5,6 +5,7 @@ use check_fields::site;
 use record::cell;
 use record::cell::Cell;
 use record::instruction;
+use record::operation;
 use record::tag::Left;
 use record::tag::Tag;
 use record::token;
@@ -108,7 +109,8 @@ fn port_allowed(graph: &[u8], tables: &[u16; 641], t: Token) -> bool
     let tag = t.tag;
     let operands = store_enabled::arity(tables, tag);
     if operands == 0 {
-        return t.port < arc::operands_at(graph, tag.instruction);
+        let counts = operation::counts();
+        return t.port < arc::operands_at(&counts, graph, tag.instruction);
     }
     wide16(t.port) < operands
 }

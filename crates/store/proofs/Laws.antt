@@ -1,25 +1,28 @@
 -- What callers may use of the matching store's invariant. Assumes nothing.
 use Prim.Native.Nat.{ℕ, _*_, _/_, _≤_, _<_}
-use mathlib.Core.Path.{_≡_, refl}
+use mathlib.Core.Path.{_≡_, refl, ap, _∙_}
 use mathlib.Core.Bool.{true}
 use mathlib.Core.List.{List, _++_}
 use native.Mathlib.Omega.{arith}
+use lib.Dec.{eqb}
 use lib.ListN.{length, getD, take, drop, replicate, length-replicate}
-use borrow.Author.Tests.{eq-eqb}
+use borrow.Author.Tests.{eq-eqb, eqb-true}
 use Rattle.buffer.specs.Rows.{joined, All}
 use Rattle.record.specs.TokensAndTags.{tokens, tokenAt, decode, encode, TokenFits}
 use Rattle.buffer.proofs.Tables.{length-rows, getD-rows}
 use Rattle.record.specs.declared.token.Token.{Token}
 use Rattle.record.specs.Widths.{tokenWidth}
 use Rattle.store_flags.specs.Flags.{places, flagsOf, Counted}
+use Rattle.store_flags.specs.Marks.{bit}
 use Rattle.store_flags.proofs.Laws.{zero-at}
 use Rattle.store_flags.proofs.Words.{none-set, counted-none}
 use Rattle.store_chains.specs.Chains.{bucketKey}
 use Rattle.store_chains.specs.Deferred.{LowCell, cellKey, Waiting}
 use Rattle.store_chains.proofs.Chains.{chained-none}
-use Rattle.store_enabled.specs.Enabled.{leads, enabledPlaces}
+use Rattle.store_chains.proofs.Index.{and-left, and-right}
+use Rattle.store_enabled.specs.Enabled.{isEnabled, placeOf, leads, enabledPlaces}
 use Rattle.store_enabled.specs.Store.{Known, Stored}
-use Rattle.store_enabled.proofs.Right.{right-none, right-places, enabled-below, enabled-leads}
+use Rattle.store_enabled.proofs.Right.{right-none, right-flag, right-places, enabled-below, enabled-leads}
 use Rattle.store_enabled.proofs.Bytes.{split}
 use Rattle.store_enabled.proofs.Single.{single-none}
 use Rattle.store_enabled.proofs.Store.{known-few}
@@ -76,6 +79,15 @@ module _ {tables links flags ledger : List ℕ} {used : ℕ} (m : Matching table
       let here : getD (tokens used ledger) i (tokenAt ledger i) ≡ tokenAt ledger i = getD-rows tokenWidth decode used i ledger (tokenAt ledger i) (matching-enabled-below k h) in
       let found = rw here at (enabled-leads tables (tokens used ledger) (tokenAt ledger i) k h) in
       rw (eq-eqb _ _ (found .0)) (found .1)
+
+  -- and its flag is raised
+  pub matching-raised : (i : ℕ) → i < used → leads tables (tokens used ledger) i (tokenAt ledger i) ≡ true → getD (flagsOf flags) (placeOf (tokens used ledger) (tokenAt ledger i .tag)) 0 ≡ 1
+  matching-raised i h e =
+      let ts = tokens used ledger in
+      let tag = tokenAt ledger i .tag in
+      let first : placeOf ts tag ≡ i = eqb-true (placeOf ts tag) i (and-left (eqb (placeOf ts tag) i) (isEnabled tables ts tag) e) in
+      let on = and-right (eqb (placeOf ts tag) i) (isEnabled tables ts tag) e in
+      right-flag tables ts (flagsOf flags) tag (omega (arith, length-rows tokenWidth decode used ledger)) (matching-stored .right) ∙ ap bit on
 
   -- the used records
   pub matching-room : used ≤ length ledger / tokenWidth

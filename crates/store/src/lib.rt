@@ -16,7 +16,7 @@ ghost use Rattle.record.specs.Widths.{tokenWidth};
 ghost use Rattle.store_flags.specs.Flags.{places, flagsOf, Counted};
 ghost use Rattle.store_chains.specs.Search.{firstFrom, Within, Free};
 ghost use Rattle.store_chains.specs.Deferred as Deferred;
-ghost use Rattle.store_enabled.specs.Store.{Known, enabledAt, Standing, Operands, statesSpent, tokensSpent};
+ghost use Rattle.store_enabled.specs.Store.{Known, lower, enabledAt, Standing, Operands, statesSpent, tokensSpent};
 ghost use Rattle.store.specs.Matching.{Matching};
 
 // The first token that stands at a port of a tag.
@@ -92,7 +92,7 @@ pub fn enter(
 // The operands of an enabled activity are spent; where one is waited for, both places are its place. They were live, so
 // the chains of deferred tokens stay right.
 pub fn spend_operands(flags: &mut [u64; 69], ledger: &mut [u8], first: usize, second: usize)
-    requires { ⌜ Counted (now flags) × (first < 2048) × (second < 2048) × (first < length (now ledger) / tokenWidth) × (second < length (now ledger) / tokenWidth) ⌝ }
+    requires { ⌜ Counted (now flags) × (getD (flagsOf (now flags)) (lower first second) 0 ≡ 1) × (first < 2048) × (second < 2048) × (first < length (now ledger) / tokenWidth) × (second < length (now ledger) / tokenWidth) ⌝ }
     ensures { λ _. ⌜ now (ledger .exit) ≡ statesSpent (now (ledger .entry)) first second ⌝ }
     ensures { λ _. ⌜ ((tables links : List ℕ) (used : ℕ) → Matching tables links (now (flags .entry)) (now (ledger .entry)) used → Operands (now (ledger .entry)) used first second
         → (tokens used (now (ledger .exit)) ≡ tokensSpent used (now (ledger .entry)) first second) × Matching tables links (now (flags .exit)) (now (ledger .exit)) used) ⌝ }

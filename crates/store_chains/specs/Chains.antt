@@ -1,6 +1,6 @@
 -- Chains through the places of a ledger, and how they stand in one array. `heads` has the last place of each chain, `next` for each place the one before it in its chain,
 -- as place + 1 and 0 for none. A place with key 0 is in no chain, one with key c + 1 in chain c. Assumes nothing.
-use Prim.Native.Nat.{ℕ, zero, suc, _+_, _*_, _%_, _≤_, _<_}
+use Prim.Native.Nat.{ℕ, zero, suc, _+_, _*_, _/_, _%_, _≤_, _<_}
 use mathlib.Core.Path.{_≡_}
 use mathlib.Core.Bool.{cond}
 use mathlib.Core.List.{List, map}
@@ -34,8 +34,12 @@ Chained from size key links ts = Linked size (part from size links) (part (from 
 
 -- ---- by tag: every token is in the chain of its bucket
 
+-- a product spreads what stands in each half over the bits from 2 ^ 20 on
+unfoldable pub mix : (calls : ℕ) → ℕ
+mix n = n % 4294967296 * 668265261 + n / 4294967296 * 374761393
+
 unfoldable pub bucketOf : Tag → ℕ
-bucketOf k = (foldedPath (k .path) % 4093 + k .iteration * 1259 + k .instruction * 341) % 4096
+bucketOf k = (mix (foldedPath (k .path)) / 1048576 + k .iteration * 1259 + k .instruction * 341) % 4096
 
 abbrev pub bucketKey : Token → ℕ
 bucketKey t = suc (bucketOf (t .tag))

@@ -12,7 +12,7 @@ ghost use lib.ListN.{length, getD, set};
 ghost use Rattle.record.specs.TokensAndTags.{tokens, tokenAt, standsAt};
 ghost use Rattle.record.specs.Widths.{tokenWidth};
 ghost use Rattle.store_chains.specs.Search.{firstFrom, foundOf, Within};
-ghost use Rattle.store_chains.specs.Chains.{bucketOf, Indexed};
+ghost use Rattle.store_chains.specs.Chains.{mix, bucketOf, Indexed};
 ghost use Rattle.store_chains.specs.Walks.{Walk};
 ghost use Rattle.store_chains.specs.Deferred.{LowCell, Waiting};
 
@@ -36,12 +36,19 @@ pub fn wide(x: u16) -> usize
     x as usize
 }
 
+// A product spreads what stands in each half over the bits from 2^20 on.
+fn mixed(calls: u64) -> u64
+    ensures { λ r. ⌜ (r ≡ mix calls) × (r < 9223372036854775808) ⌝ }
+{
+    calls % 4294967296 * 668265261 + calls / 4294967296 * 374761393
+}
+
 fn bucket(tag: Tag) -> usize
     ensures { λ r. ⌜ (r ≡ bucketOf tag) × (r < 4096) ⌝ }
 {
     let path = tag.path;
-    let calls = path.folded();
-    let sum = calls % 4093 + (tag.iteration as u64) * 1259 + (tag.instruction as u64) * 341;
+    let spread = mixed(path.folded());
+    let sum = spread / 1048576 + (tag.iteration as u64) * 1259 + (tag.instruction as u64) * 341;
     (sum % 4096) as usize
 }
 

@@ -8,24 +8,25 @@ use native.Mathlib.Omega.{arith}
 use native.Mathlib.Decide.{decLe}
 use lib.Dec.{eqb}
 use lib.ListN.{length, getD, set, length-map}
-use borrow.Author.Tests.{eqb-true, eqb-false}
+use lib.Seq.{set-getD}
+use borrow.Author.Tests.{eqb-true, eqb-false, ne-eqb}
 use Rattle.buffer.specs.Rows.{All}
 use Rattle.buffer.proofs.Tables.{getD-rows}
 use Rattle.record.specs.TokensAndTags.{tokens, tokenAt, decode, standsAt}
 use Rattle.record.specs.Widths.{tokenWidth}
 use Rattle.record.specs.declared.tag.Tag.{Tag}
 use Rattle.record.specs.declared.token.Token.{Token}
-use Rattle.store_flags.specs.Marks.{bit}
+use Rattle.store_flags.specs.Marks.{bit, firstOf}
 use Rattle.store_flags.proofs.Marks.{marked-past}
 use Rattle.store_chains.specs.declared.Found.{Found}
 use Rattle.store_chains.specs.declared.Found.the-variants.{At, Nothing}
-use Rattle.store_chains.specs.Search.{firstFrom, Within}
+use Rattle.store_chains.specs.Search.{firstFrom, Within, Free}
 use Rattle.store_chains.proofs.Search.{first-passes}
 use Rattle.store_chains.proofs.Index.{and-left, and-right}
 use Rattle.store_enabled.specs.Enabled.{isLive, liveAt, allLive, arityOf, isEnabled, tagOf, tagsOf, tagSame, placeOf}
 use Rattle.store_enabled.specs.Store.{Right, raisedIf, placeOr, lower, liveFound, readyOf, readyWith}
-use Rattle.store_enabled.proofs.Places.{live-found, first-place, lower-first, lower-second}
-use Rattle.store_enabled.proofs.Right.{first-append, tags-append, stays, place-set, place-kept, right-flag}
+use Rattle.store_enabled.proofs.Places.{stands-other, live-found, first-place, lower-first, lower-second}
+use Rattle.store_enabled.proofs.Right.{all-off, first-append, tags-append, stays, place-set, place-kept, right-flag}
 use Rattle.store_enabled.proofs.Single.{stands-same}
 
 -- ---- a tag that is not enabled
@@ -70,18 +71,110 @@ all-before n ts us y still e = go (allLive n ts y) refl
     go false h = refl
     go true h = sym (kept (eqb n 1) (eqb n 2) h) ∙ e
 
+-- where an operand is missing its activity is not enabled
+all-missing : (n : ℕ) (ts : List Token) (y : Tag) (port : ℕ) → port < 2 → port < n → liveAt ts y port ≡ false → allLive n ts y ≡ false
+unfolding allLive
+all-missing n ts y zero low h e = all-off n ts y e
+all-missing n ts y (suc zero) low h e = rw (ne-eqb n 1 (λ q. omega arith), e) (go (liveAt ts y 0) (eqb n 2))
+  where
+    go : (a b : Bool) → cond b (a && false) false ≡ false
+    go true true = refl
+    go true false = refl
+    go false true = refl
+    go false false = refl
+all-missing n ts y (suc (suc port)) low h e = absurd (omega arith)
+
+-- the flag at the place of a tag that is not enabled
+flag-down : (tables : List ℕ) (ts : List Token) (flags : List ℕ) (tag : Tag) → Right tables ts flags → isEnabled tables ts tag ≡ false → getD flags (placeOf ts tag) 0 ≡ 0
+unfolding Right
+flag-down tables ts flags tag w e = go (decLe (suc p) (length ts))
+  where
+    p : ℕ
+    p = placeOf ts tag
+
+    go : Dec (suc p ≤ length ts) → getD flags p 0 ≡ 0
+    go (yes h) = right-flag tables ts flags tag h w ∙ ap bit e
+    go (no z) = marked-past tagSame (isEnabled tables ts) (tagsOf ts) flags p (omega (arith, length-map ts tagOf)) w
+
+-- the place of a tag is that of its earliest token
+place-arrived : (ts : List Token) (t : Token) → placeOf (ts ++ t ∷ []) (t .tag) ≡ placeOf ts (t .tag)
+place-arrived ts t = ap (firstOf tagSame (t .tag)) (tags-append ts t) ∙ first-append (t .tag) (tagsOf ts)
+
+-- a token arrives as an operand that was missing: the flag of its tag was not raised
+pub flag-before : (tables : List ℕ) (l : List ℕ) (used : ℕ) (t : Token) (flags : List ℕ) → Right tables (tokens used l) flags → Free (tokens used l) (t .tag) (t .port) → t .port < 2
+    → t .port < arityOf tables (t .tag) → getD flags (placeOf (tokens used l ++ t ∷ []) (t .tag)) 0 ≡ 0
+flag-before tables l used t flags w free low h =
+    let ts = tokens used l in
+    let none = sym (live-found (t .tag) (t .port) used l) ∙ ap (liveFound (tokenAt l)) free in
+    ap (λ (p : ℕ). getD flags p 0) (place-arrived ts t) ∙ flag-down tables ts flags (t .tag) w (all-missing (arityOf tables (t .tag)) ts (t .tag) (t .port) low h none)
+
+-- a port of an enabled tag is one of its operands', if it is port 0 where one operand is waited for
+pub port-below : (k port : ℕ) (ts : List Token) (tag : Tag) → port < 2 → (k ≡ 1 → port ≡ 0) → allLive k ts tag ≡ true → port < k
+unfolding allLive
+port-below zero port ts tag low alone e = let z : _≡_ {A = ℕ} 0 1 = cc in absurd (omega arith)
+port-below (suc zero) port ts tag low alone e = omega (arith, alone refl)
+port-below (suc (suc k)) port ts tag low alone e = omega arith
+
+-- a flag that is not raised already
+pub not-raised : (flags : List ℕ) (p : ℕ) → getD flags p 0 ≤ 1 → eqb (getD flags p 0) 1 ≡ false → getD flags p 0 ≡ 0
+not-raised flags p small e = omega (arith, eqb-false (getD flags p 0) 1 e)
+
+pub raised-again : (flags : List ℕ) (p : ℕ) → eqb (getD flags p 0) 1 ≡ true → flags ≡ set flags p 1
+raised-again flags p e = sym (ap (λ (x : ℕ). set flags p x) (sym (eqb-true (getD flags p 0) 1 e)) ∙ set-getD flags p 0)
+
 -- a token arrives, and its tag is not enabled: the flags stay as they are
 pub right-wait : (tables : List ℕ) (ts : List Token) (t : Token) (flags : List ℕ) → Right tables ts flags
     → let us = ts ++ t ∷ [] in isEnabled tables us (t .tag) ≡ false → flags ≡ set flags (placeOf us (t .tag)) (bit (isEnabled tables us (t .tag)))
-unfolding Right
-right-wait tables ts t flags w n = rw (tags-append ts t, first-append (t .tag) (tagsOf ts), n) (stays flags p (go (decLe (suc p) (length ts))))
-  where
-    p : ℕ
-    p = placeOf ts (t .tag)
+right-wait tables ts t flags w n =
+    let before = all-before (arityOf tables (t .tag)) ts (ts ++ t ∷ []) (t .tag) (λ port. live-kept (t .tag) port t ts) n in
+    rw (place-arrived ts t, n) (stays flags (placeOf ts (t .tag)) (flag-down tables ts flags (t .tag) w before))
 
-    go : Dec (suc p ≤ length ts) → getD flags p 0 ≡ 0
-    go (yes h) = right-flag tables ts flags (t .tag) h w ∙ ap bit (all-before (arityOf tables (t .tag)) ts (ts ++ t ∷ []) (t .tag) (λ port. live-kept (t .tag) port t ts) n)
-    go (no z) = marked-past tagSame (isEnabled tables ts) (tagsOf ts) flags p (omega (arith, length-map ts tagOf)) w
+-- an enabled tag has a live token on port 0, which stands there
+first-live : (n : ℕ) (ts : List Token) (y : Tag) → allLive n ts y ≡ true → liveAt ts y 0 ≡ true
+first-live n ts y e = go (liveAt ts y 0) refl
+  where
+    go : (b : Bool) → liveAt ts y 0 ≡ b → b ≡ true
+    go true h = refl
+    go false h = sym (all-off n ts y h) ∙ e
+
+live-place : (tag : Tag) (ts : List Token) → liveAt ts tag 0 ≡ true → placeOf ts tag < length ts
+live-place tag [] e = let z : _≡_ {A = ℕ} 0 1 = cc in absurd (omega arith)
+live-place tag (x ∷ ts) e = go (standsAt tag 0 x) refl e (tagSame tag (x .tag)) refl (live-place tag ts)
+  where
+    go : (b : Bool) → standsAt tag 0 x ≡ b → cond b (isLive (x .content)) (liveAt ts tag 0) ≡ true → (c : Bool) → tagSame tag (x .tag) ≡ c
+        → (liveAt ts tag 0 ≡ true → placeOf ts tag < length ts) → cond c 0 (suc (placeOf ts tag)) < suc (length ts)
+    go b h e true s ih = omega arith
+    go false h e false s ih = omega (arith, ih e)
+    go true h e false s ih = let q : _≡_ {A = Bool} false true = sym (stands-other tag 0 x s) ∙ h in let z : _≡_ {A = ℕ} 0 1 = cc in absurd (omega arith)
+
+-- a token on port 1 is none on port 0
+not-first : (tag : Tag) (t : Token) → t .port ≡ 1 → standsAt tag 0 t ≡ false
+unfolding standsAt
+not-first tag t e = rw (ne-eqb (t .port) 0 (λ q. omega arith))
+
+first-kept : (tag : Tag) (t : Token) → t .port ≡ 1 → (ts : List Token) → liveAt (ts ++ t ∷ []) tag 0 ≡ liveAt ts tag 0
+first-kept tag t e [] = rw (not-first tag t e)
+first-kept tag t e (x ∷ ts) = rw (first-kept tag t e ts)
+
+all-kept : (n : ℕ) (ts : List Token) (t : Token) (tag : Tag) → n ≤ t .port → t .port < 2 → allLive n (ts ++ t ∷ []) tag ≡ allLive n ts tag
+unfolding allLive
+all-kept zero ts t tag h low = refl
+all-kept (suc zero) ts t tag h low = first-kept tag t (omega arith) ts
+all-kept (suc (suc n)) ts t tag h low = absurd (omega arith)
+
+-- a token arrives on a port that its activity does not wait for: the flags stay as they are
+pub right-past : (tables : List ℕ) (ts : List Token) (t : Token) (flags : List ℕ) → Right tables ts flags → arityOf tables (t .tag) ≤ t .port → t .port < 2
+    → let us = ts ++ t ∷ [] in flags ≡ set flags (placeOf us (t .tag)) (bit (isEnabled tables us (t .tag)))
+right-past tables ts t flags w h low = rw (place-arrived ts t, all-kept (arityOf tables tag) ts t tag h low) (go (isEnabled tables ts tag) refl)
+  where
+    tag : Tag
+    tag = t .tag
+
+    go : (b : Bool) → isEnabled tables ts tag ≡ b → flags ≡ set flags (placeOf ts tag) (bit b)
+    go false e = stays flags (placeOf ts tag) (flag-down tables ts flags tag w e)
+    go true e =
+        let on = right-flag tables ts flags tag (live-place tag ts (first-live (arityOf tables tag) ts tag e)) w ∙ ap bit e in
+        sym (ap (λ (x : ℕ). set flags (placeOf ts tag) x) (sym on) ∙ set-getD flags (placeOf ts tag) 0)
 
 -- the same of one that is changed
 pub right-still : (tables : List ℕ) (ts : List Token) (i : ℕ) (u d : Token) (flags : List ℕ) → i < length ts → u .tag ≡ getD ts i d .tag → u .port ≡ getD ts i d .port
@@ -97,6 +190,12 @@ right-still tables ts i u d flags h e g k w n =
 pub raised-only : (b : Bool) (flags : List ℕ) (p : ℕ) → (b ≡ false → flags ≡ set flags p (bit b)) → raisedIf b flags p ≡ set flags p (bit b)
 raised-only true flags p w = refl
 raised-only false flags p w = w refl
+
+-- the same of a token that may stand on a port that is not waited for
+pub raised-operand : (a b : Bool) (flags : List ℕ) (p : ℕ) → (a ≡ false → flags ≡ set flags p (bit b)) → (b ≡ false → flags ≡ set flags p (bit b))
+    → raisedIf (a && b) flags p ≡ set flags p (bit b)
+raised-operand false b flags p past w = past refl
+raised-operand true b flags p past w = raised-only b flags p w
 
 -- ---- the lower of two places, where one may be missing
 

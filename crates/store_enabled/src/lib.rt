@@ -5,10 +5,11 @@ use record::token;
 use record::token::Token;
 use store_chains::Found;
 ghost use mathlib.Core.Path.{_≡_};
-ghost use mathlib.Core.Bool.{true};
+ghost use mathlib.Core.Bool.{true, _&&_};
 ghost use mathlib.Core.List.{List, [], _∷_, _++_};
 ghost use Prim.Native.Nat.{ℕ, _+_, _/_, _<_};
-ghost use lib.ListN.{length, set};
+ghost use lib.Dec.{ltb};
+ghost use lib.ListN.{length, getD, set};
 ghost use Rattle.buffer.specs.Rows.{putRow};
 ghost use Rattle.record.specs.TokensAndTags.{encode, tokens, tokenAt, standsAt};
 ghost use Rattle.record.specs.Widths.{tokenWidth};
@@ -92,12 +93,15 @@ fn settle_changed(
 {
     let other = store_chains::find(links, ledger, used, tag, 1 - port);
     if ready_with(ledger, port, Found::At(own), other, operands) {
-        store_flags::raise(flags, earlier(own, place_or(other, own)));
+        let place = earlier(own, place_or(other, own));
+        if !store_flags::is_raised(flags, place) {
+            store_flags::raise(flags, place);
+        }
     }
 }
 
-// The same of the token that arrived last. At a result nothing is searched for, and a token that is alone in its chain has no
-// partner. A partner is earlier.
+// The same of the token that arrived last: where it is an operand, the flag was not raised before. At a result nothing is
+// searched for, and a token that is alone in its chain has no partner. A partner is earlier.
 fn settle_arrived(
     flags: &mut [u64; 69],
     links: &[u16; 9216],
@@ -107,11 +111,12 @@ fn settle_arrived(
     port: u8,
     operands: u16,
 )
-    requires { ⌜ Counted (now flags) × Known (now links) (now ledger) (own + 1) × (port < 2) × (firstFrom (standsAt tag port) 0 (tokens (own + 1) (now ledger)) ≡ At own) ⌝ }
-    ensures { λ _. ⌜ flagsOf (now (flags .exit)) ≡ raisedIf (allLive operands (tokens (own + 1) (now (ledger .entry))) tag) (flagsOf (now (flags .entry))) (placeOf (tokens (own + 1) (now (ledger .entry))) tag) ⌝ }
+    requires { ⌜ Counted (now flags) × Known (now links) (now ledger) (own + 1) × (port < 2) × (firstFrom (standsAt tag port) 0 (tokens (own + 1) (now ledger)) ≡ At own)
+        × (port < operands → getD (flagsOf (now flags)) (placeOf (tokens (own + 1) (now ledger)) tag) 0 ≡ 0) ⌝ }
+    ensures { λ _. ⌜ flagsOf (now (flags .exit)) ≡ raisedIf (ltb port operands && allLive operands (tokens (own + 1) (now (ledger .entry))) tag) (flagsOf (now (flags .entry))) (placeOf (tokens (own + 1) (now (ledger .entry))) tag) ⌝ }
     ensures { λ _. ⌜ Counted (now (flags .exit)) ⌝ }
 {
-    if operands == 0 {
+    if operands <= port as u16 {
         return;
     }
     let other = store_chains::find_partner(links, ledger, own, tag, port);
@@ -239,7 +244,7 @@ pub fn change(
 // Spends the operands of an enabled activity; where one is waited for, both places are its place. The activity is
 // enabled no more, and its flag stands at the place of its earlier operand, so nothing has to be searched for.
 pub fn spend_operands(flags: &mut [u64; 69], ledger: &mut [u8], first: usize, second: usize)
-    requires { ⌜ Counted (now flags) × (first < 2048) × (second < 2048) × (first < length (now ledger) / tokenWidth) × (second < length (now ledger) / tokenWidth) ⌝ }
+    requires { ⌜ Counted (now flags) × (getD (flagsOf (now flags)) (lower first second) 0 ≡ 1) × (first < 2048) × (second < 2048) × (first < length (now ledger) / tokenWidth) × (second < length (now ledger) / tokenWidth) ⌝ }
     ensures { λ _. ⌜ now (ledger .exit) ≡ statesSpent (now (ledger .entry)) first second ⌝ }
     ensures { λ _. ⌜ ((tables links : List ℕ) (used : ℕ) → Stored tables links (now (flags .entry)) (now (ledger .entry)) used → Operands (now (ledger .entry)) used first second
         → (tokens used (now (ledger .exit)) ≡ tokensSpent used (now (ledger .entry)) first second) × Stored tables links (now (flags .exit)) (now (ledger .exit)) used) ⌝ }

@@ -137,10 +137,22 @@ pub word-put : (w k v x : ℕ) → k < 64 → w < 2 ^ 64 → v ≤ 1 → x ≡ g
 unfolding inWord
 word-put w k v x h g b e = digits-put 64 w k v x h g b e
 
+-- a flag that is lowered is raised, and one that is raised is lowered
+pub word-raised : (w k : ℕ) → k < 64 → w < 2 ^ 64 → getD (inWord w) k 0 ≡ 0 → (w + 2 ^ k < 2 ^ 64) × (inWord (w + 2 ^ k) ≡ set (inWord w) k 1)
+word-raised w k h g e =
+    let p = word-put w k 1 0 h g (omega arith) (sym e) in
+    let same : changed w k 0 1 ≡ w + 2 ^ k = omega arith in
+    (rw same at (p .1), rw same at (p .2))
+
+pub word-lowered : (w k : ℕ) → k < 64 → w < 2 ^ 64 → getD (inWord w) k 0 ≡ 1 → (2 ^ k ≤ w) × (inWord (w - 2 ^ k) ≡ set (inWord w) k 0)
+word-lowered w k h g e =
+    let p = word-put w k 0 1 h g (omega arith) (sym e) in
+    let same : changed w k 1 0 ≡ w - 2 ^ k = omega arith in
+    (omega (arith, p .0), rw same at (p .2))
+
 -- a flag's digit fits a word
-pub word-fits : (x k : ℕ) → x ≤ 1 → k < 64 → x * 2 ^ k % 2 ^ 64 ≡ x * 2 ^ k
-word-fits zero k h g = omega arith
-word-fits (suc x) k h g = let e : suc x ≡ 1 = omega arith in rw (e, one-mul (2 ^ k)) (mod-eq-of-lt (pow-lt g))
+pub one-fits : (k : ℕ) → k < 64 → 1 * 2 ^ k % 2 ^ 64 ≡ 2 ^ k
+one-fits k h = rw (one-mul (2 ^ k)) (mod-eq-of-lt (pow-lt h))
 
 pub word-lowest : (w : ℕ) → trailingZeros 64 w ≡ place 0 (inWord w)
 unfolding inWord

@@ -121,6 +121,14 @@ place-lt k (x ∷ l) h = ⊎-elim
     (λ g. rw (le-ltb k x g) (omega (arith, place-lt (k - x) l (omega arith))))
     (below-or k x)
 
+-- there is a one
+pub place-one : (k : ℕ) (l : List ℕ) → Binary l → k < ones l → getD l (place k l) 0 ≡ 1
+place-one k [] b h = absurd (not-suc-le-zero h)
+place-one k (x ∷ l) b h = ⊎-elim
+    (λ g. rw (lt-ltb k x g) (omega (arith, b 0)))
+    (λ g. rw (le-ltb k x g) (place-one (k - x) l (λ i. b (suc i)) (omega arith)))
+    (below-or k x)
+
 -- ---- the list of places
 
 pub ones-places : (i : ℕ) (l : List ℕ) → Binary l → length (placesFrom i l) ≡ ones l

@@ -1,17 +1,17 @@
 -- Laws of flags that are kept in words: the flags of all words from those of each, one flag changed, and the first one found by the last word, which says
 -- what words have any. Assumes nothing.
-use Prim.Native.Nat.{ℕ, zero, suc, _+_, _-_, _*_, _/_, _%_, _≤_, _<_}
+use Prim.Native.Nat.{ℕ, zero, suc, _+_, _-_, _*_, _/_, _%_, _^_, _≤_, _<_}
 use mathlib.Core.Path.{_≡_, refl, sym, ap, _∙_}
 use mathlib.Core.List.{List, [], _∷_, _++_, map}
 use native.Mathlib.Omega.{arith}
 use native.Mathlib.Nat.{not-suc-le-zero, le-of-suc-le-suc}
-use lib.ListN.{take-append-drop, length, getD, set, take, drop, replicate, length-append, length-set, length-map}
+use lib.ListN.{take-append-drop, length, getD, set, take, drop, replicate, length-append, length-set, length-map, List·getD-append, List·getD-map}
 use lib.Seq.{take-append-seam, drop-append-add, take-set-lt, take-set-le, drop-set-lt, drop-set-add, getD-set-same, getD-set-other, getD-take, getD-drop, length-take-le, set-append-left}
 use Rattle.store_flags.specs.Flags.{ones, place, inWord, flagsIn, flagsOf, atMostOne, any, Summed, Counted}
-use Rattle.store_flags.proofs.Laws.{ones-append, place-left, place-right, tallied-none}
+use Rattle.store_flags.proofs.Laws.{ones-append, ones-none, ones-at, place-left, place-right, tallied-none}
 use Rattle.store_flags.proofs.Blocks as Blocks
 use Rattle.store_flags.proofs.Blocks.{set-append-add, block-is, group-is, block-bounds, groups-all, tallied-set}
-use Rattle.store_flags.proofs.Digits.{word-size, word-positive}
+use Rattle.store_flags.proofs.Digits.{word-size, word-none, word-some, word-positive}
 
 -- ---- the first n words
 
@@ -187,6 +187,34 @@ module _ {ws : List ℕ} (c : Counted ws) where
   pub groups-count : getD ws 65 0 + getD ws 66 0 + getD ws 67 0 + getD ws 68 0 ≡ ones (flagsOf ws)
   groups-count = rw (count-at 32 65 refl, count-at 33 66 refl, count-at 34 67 refl, count-at 35 68 refl) (groups-all (flagsOf ws) (drop 33 ws) (c .tallied))
 
+-- ---- the marks
+
+any-one : (n : ℕ) → 0 < n → atMostOne n ≡ 1
+any-one zero h = absurd (omega arith)
+any-one (suc n) h = refl
+
+pub any-none : any 0 ≡ 0
+any-none = ap atMostOne (ap ones word-none ∙ ones-none 64)
+
+-- a word with a flag raised has a mark
+pub any-some : (w k : ℕ) → getD (inWord w) k 0 ≡ 1 → any w ≡ 1
+any-some w k e = any-one (ones (inWord w)) (omega (arith, ones-at (inWord w) k))
+
+pub any-raised : (w w′ k : ℕ) → k < 64 → inWord w′ ≡ set (inWord w) k 1 → any w′ ≡ 1
+any-raised w w′ k h e = any-some w′ k (ap (λ (l : List ℕ). getD l k 0) e ∙ getD-set-same (inWord w) k 1 0 (omega (arith, word-size w)))
+
+pub any-positive : (w : ℕ) → (w ≡ 0 → ⊥) → w < 2 ^ 64 → any w ≡ 1
+any-positive w p h = any-one (ones (inWord w)) (word-some w (omega arith) h)
+
+pub mark-at : {ws : List ℕ} → Summed ws → (b : ℕ) → b < 32 → getD (inWord (getD ws 32 0)) b 0 ≡ any (getD ws b 0)
+mark-at {ws} s b h =
+    let n : length (take 32 ws) ≡ 32 = length-take-le 32 ws (omega (arith, s .count)) in
+    ap (λ (l : List ℕ). getD l b 0) (s .last)
+    ∙ List·getD-append (map any (take 32 ws)) (replicate 32 0) 0 b (omega (arith, length-map (take 32 ws) any))
+    ∙ ap (λ (d : ℕ). getD (map any (take 32 ws)) b d) (sym any-none)
+    ∙ List·getD-map any (take 32 ws) b 0
+    ∙ ap any (getD-take 32 ws b 0 h)
+
 -- a count is changed
 module _ {ws : List ℕ} (s : Summed ws) (j a : ℕ) (h : 33 ≤ j) where
   flags-kept : flagsOf (set ws j a) ≡ flagsOf ws
@@ -199,9 +227,10 @@ module _ {ws : List ℕ} (s : Summed ws) (j a : ℕ) (h : 33 ≤ j) where
     last = rw (getD-set-other ws j 32 a 0 (λ e. omega arith), take-set-le 32 ws j a (omega arith)) (s .last);
   }
 
--- a flag is changed, with the mark of its word and the counts
-module _ {ws : List ℕ} (c : Counted ws) (i v w′ s′ : ℕ) (h : i < 2048) (small : v ≤ 1)
-    (put : inWord w′ ≡ set (inWord (getD ws (i / 64) 0)) (i % 64) v) (mark : inWord s′ ≡ set (inWord (getD ws 32 0)) (i / 64) (any w′)) where
+-- a flag is changed, with the mark of its word and the counts, which are then x and y
+module _ {ws : List ℕ} (c : Counted ws) (i v w′ s′ x y : ℕ) (h : i < 2048) (small : v ≤ 1)
+    (put : inWord w′ ≡ set (inWord (getD ws (i / 64) 0)) (i % 64) v) (mark : inWord s′ ≡ set (inWord (getD ws 32 0)) (i / 64) (any w′))
+    (inBlock : x + getD (flagsOf ws) i 0 ≡ getD ws (33 + i / 64) 0 + v) (inGroup : y + getD (flagsOf ws) i 0 ≡ getD ws (65 + i / 512) 0 + v) where
   abbrev b : ℕ
   b = i / 64
 
@@ -235,28 +264,26 @@ module _ {ws : List ℕ} (c : Counted ws) (i v w′ s′ : ℕ) (h : i < 2048) (
   counts-kept : drop 33 ws′ ≡ drop 33 ws
   counts-kept = drop-set-lt 33 (set ws b w′) 32 s′ (omega arith) ∙ drop-set-lt 33 ws b w′ (omega arith)
 
-  abbrev new : ℕ → ℕ
-  new n = getD ws n 0 + v - getD (flagsOf ws) i 0
-
   abbrev ws″ : List ℕ
-  ws″ = set (set ws′ (33 + b) (new (33 + b))) (65 + i / 512) (new (65 + i / 512))
+  ws″ = set (set ws′ (33 + b) x) (65 + i / 512) y
 
   pub flags-put : flagsOf ws″ ≡ set (flagsOf ws) i v
   flags-put =
-      flags-kept (summed-kept summed-set (33 + b) (new (33 + b)) (omega arith)) (65 + i / 512) (new (65 + i / 512)) (omega arith)
-      ∙ flags-kept summed-set (33 + b) (new (33 + b)) (omega arith) ∙ words-set
+      flags-kept (summed-kept summed-set (33 + b) x (omega arith)) (65 + i / 512) y (omega arith)
+      ∙ flags-kept summed-set (33 + b) x (omega arith) ∙ words-set
 
-  counts-put : drop 33 ws″ ≡ set (set (drop 33 ws) b (new (33 + b))) (32 + i / 512) (new (65 + i / 512))
+  counts-put : drop 33 ws″ ≡ set (set (drop 33 ws) b x) (32 + i / 512) y
   counts-put =
       let e : 65 + i / 512 ≡ 33 + (32 + i / 512) = omega arith in
-      ap (λ (n : ℕ). drop 33 (set (set ws′ (33 + b) (new (33 + b))) n (new (65 + i / 512)))) e
-      ∙ drop-set-add 33 (set ws′ (33 + b) (new (33 + b))) (32 + i / 512) (new (65 + i / 512))
-      ∙ ap (λ (l : List ℕ). set l (32 + i / 512) (new (65 + i / 512))) (drop-set-add 33 ws′ b (new (33 + b)) ∙ ap (λ (l : List ℕ). set l b (new (33 + b))) counts-kept)
+      ap (λ (n : ℕ). drop 33 (set (set ws′ (33 + b) x) n y)) e
+      ∙ drop-set-add 33 (set ws′ (33 + b) x) (32 + i / 512) y
+      ∙ ap (λ (l : List ℕ). set l (32 + i / 512) y) (drop-set-add 33 ws′ b x ∙ ap (λ (l : List ℕ). set l b x) counts-kept)
 
   pub counted-put : Counted ws″
   counted-put = record {
-    summed = summed-kept (summed-kept summed-set (33 + b) (new (33 + b)) (omega arith)) (65 + i / 512) (new (65 + i / 512)) (omega arith);
+    summed = summed-kept (summed-kept summed-set (33 + b) x (omega arith)) (65 + i / 512) y (omega arith);
     tallied =
-        rw (flags-put, counts-put, count-at c b (33 + b) refl, count-at c (32 + i / 512) (65 + i / 512) (omega arith))
-        (tallied-set (flagsOf ws) (drop 33 ws) (c .tallied) i v h small);
+        let ex : x ≡ getD (drop 33 ws) b 0 + v - getD (flagsOf ws) i 0 = omega (arith, count-at c b (33 + b) refl) in
+        let ey : y ≡ getD (drop 33 ws) (32 + i / 512) 0 + v - getD (flagsOf ws) i 0 = omega (arith, count-at c (32 + i / 512) (65 + i / 512) (omega arith)) in
+        rw (flags-put, counts-put, ex, ey) (tallied-set (flagsOf ws) (drop 33 ws) (c .tallied) i v h small);
   }

@@ -3,10 +3,10 @@
 // ends elsewhere at each call takes longer than what it does (docs/DECISIONS.md, 35). Behind it stand the counts of ones,
 // by words and by groups of eight words.
 ghost use mathlib.Core.Path.{_≡_};
-ghost use Prim.Native.Nat.{_+_, _-_, _*_, _≤_, _<_};
+ghost use Prim.Native.Nat.{_+_, _-_, _*_, _<_};
+ghost use lib.Dec.{eqb};
 ghost use lib.ListN.{length, getD, set, drop};
-ghost use Rattle.store_flags.specs.Flags as Flags;
-ghost use Rattle.store_flags.specs.Flags.{ones, place, places, inWord, flagsOf, Summed, Counted};
+ghost use Rattle.store_flags.specs.Flags.{ones, place, places, inWord, flagsOf, any, Summed, Counted};
 
 // Where the word stands that says which words have any, and where the counts of the first word and of the first group do.
 const ANY: usize = 32;
@@ -17,26 +17,36 @@ const GROUPS: usize = 65;
 
 // ---- one word
 
-fn flag(word: u64, k: usize) -> u64
-    requires { ⌜ k < 64 ⌝ }
-    ensures { λ r. ⌜ (r ≡ getD (inWord word) k 0) × (r ≤ 1) ⌝ }
+// The word with flag k, which is lowered, raised.
+fn raised(word: u64, k: usize) -> u64
+    requires { ⌜ (k < 64) × (getD (inWord word) k 0 ≡ 0) ⌝ }
+    ensures { λ r. ⌜ inWord r ≡ set (inWord word) k 1 ⌝ }
 {
-    (word >> k) % 2
+    word + (1 << k)
 }
 
-// The word with flag k made v.
-fn with(word: u64, k: usize, v: u64) -> u64
-    requires { ⌜ (k < 64) × (v ≤ 1) ⌝ }
-    ensures { λ r. ⌜ inWord r ≡ set (inWord word) k v ⌝ }
+// The word with flag k, which is raised, lowered.
+fn lowered(word: u64, k: usize) -> u64
+    requires { ⌜ (k < 64) × (getD (inWord word) k 0 ≡ 1) ⌝ }
+    ensures { λ r. ⌜ inWord r ≡ set (inWord word) k 0 ⌝ }
 {
-    word - (flag(word, k) << k) + (v << k)
+    word - (1 << k)
 }
 
-// 1 if any flag is set.
-fn any(word: u64) -> u64
-    ensures { λ r. ⌜ (r ≡ Flags.any word) × (r ≤ 1) ⌝ }
+// The marks of words, one of which is that of word b: it was `before`, and a flag of it is raised.
+fn mark(marks: u64, b: usize, before: u64) -> u64
+    requires { ⌜ (b < 64) × (getD (inWord marks) b 0 ≡ any before) ⌝ }
+    ensures { λ r. ⌜ inWord r ≡ set (inWord marks) b 1 ⌝ }
 {
-    if word == 0 { 0 } else { 1 }
+    if before == 0 { raised(marks, b) } else { marks }
+}
+
+// The same, where a flag of it is lowered, and it is `after`.
+fn unmark(marks: u64, b: usize, after: u64) -> u64
+    requires { ⌜ (b < 64) × (getD (inWord marks) b 0 ≡ 1) ⌝ }
+    ensures { λ r. ⌜ inWord r ≡ set (inWord marks) b (any after) ⌝ }
+{
+    if after == 0 { lowered(marks, b) } else { marks }
 }
 
 // The place of the first one.
@@ -67,7 +77,7 @@ fn select_in(word: u64, on: usize, k: usize) -> usize
     let mut rest = word;
     let mut left = k;
     while left > 0 {
-        rest = with(rest, lowest(rest), 0);
+        rest = lowered(rest, lowest(rest));
         left -= 1;
     }
     lowest(rest)
@@ -75,39 +85,45 @@ fn select_in(word: u64, on: usize, k: usize) -> usize
 
 // ---- all words
 
-// Makes flag i v, and the counts of its word and of its group right.
-fn put(flags: &mut [u64; 69], i: usize, v: u64)
-    requires { ⌜ (i < 2048) × (v ≤ 1) × Counted (now flags) ⌝ }
-    ensures { λ _. ⌜ flagsOf (now (flags .exit)) ≡ set (flagsOf (now (flags .entry))) i v ⌝ }
-    ensures { λ _. ⌜ Counted (now (flags .exit)) ⌝ }
-{
-    let b = i / 64;
-    let n = COUNTS + b;
-    let g = GROUPS + i / 512;
-    let old = flag(flags[b], i % 64);
-    let in_word = flags[n];
-    let in_group = flags[g];
-    let word = with(flags[b], i % 64, v);
-    flags[b] = word;
-    flags[ANY] = with(flags[ANY], b, any(word));
-    flags[n] = in_word + v - old;
-    flags[g] = in_group + v - old;
-}
-
+// Raises flag i, which is lowered. If it is the first one of its word, so is the word's mark.
 pub fn raise(flags: &mut [u64; 69], i: usize)
-    requires { ⌜ (i < 2048) × Counted (now flags) ⌝ }
+    requires { ⌜ (i < 2048) × Counted (now flags) × (getD (flagsOf (now flags)) i 0 ≡ 0) ⌝ }
     ensures { λ _. ⌜ flagsOf (now (flags .exit)) ≡ set (flagsOf (now (flags .entry))) i 1 ⌝ }
     ensures { λ _. ⌜ Counted (now (flags .exit)) ⌝ }
 {
-    put(flags, i, 1);
+    let b = i / 64;
+    let word = flags[b];
+    let in_word = flags[COUNTS + b];
+    let in_group = flags[GROUPS + i / 512];
+    let marks = flags[ANY];
+    flags[b] = raised(word, i % 64);
+    flags[ANY] = mark(marks, b, word);
+    flags[COUNTS + b] = in_word + 1;
+    flags[GROUPS + i / 512] = in_group + 1;
 }
 
+// Lowers flag i, which is raised. If it was the last one of its word, the word's mark goes too.
 pub fn lower(flags: &mut [u64; 69], i: usize)
-    requires { ⌜ (i < 2048) × Counted (now flags) ⌝ }
+    requires { ⌜ (i < 2048) × Counted (now flags) × (getD (flagsOf (now flags)) i 0 ≡ 1) ⌝ }
     ensures { λ _. ⌜ flagsOf (now (flags .exit)) ≡ set (flagsOf (now (flags .entry))) i 0 ⌝ }
     ensures { λ _. ⌜ Counted (now (flags .exit)) ⌝ }
 {
-    put(flags, i, 0);
+    let b = i / 64;
+    let in_word = flags[COUNTS + b];
+    let in_group = flags[GROUPS + i / 512];
+    let marks = flags[ANY];
+    let word = lowered(flags[b], i % 64);
+    flags[b] = word;
+    flags[ANY] = unmark(marks, b, word);
+    flags[COUNTS + b] = in_word - 1;
+    flags[GROUPS + i / 512] = in_group - 1;
+}
+
+pub fn is_raised(flags: &[u64; 69], i: usize) -> bool
+    requires { ⌜ (i < 2048) × Counted (now flags) ⌝ }
+    ensures { λ r. ⌜ r ≡ eqb (getD (flagsOf (now (flags .entry))) i 0) 1 ⌝ }
+{
+    (flags[i / 64] >> (i % 64)) % 2 == 1
 }
 
 // The number of ones.

@@ -2,10 +2,12 @@
 mod line;
 
 use record::cell;
+use record::cell::Cell;
 use record::token;
 use rules::answer::Answer;
 use rules::answer::Outcome;
 ghost use mathlib.Core.Path.{_≡_};
+ghost use mathlib.Core.Bool.{true};
 ghost use Prim.Native.Nat.{_+_, _/_, _≤_, _<_};
 ghost use mathlib.Core.List.{[], _++_};
 ghost use lib.Dec.{leb};
@@ -57,6 +59,40 @@ fn put_line(
         let k = j - 1 - tokens;
         line::put_cell(out, at, k, cell::cell_at(cells, k))
     }
+}
+
+// Whether line j is that of an absent cell, which is empty.
+fn is_empty(listing: &[u8], cells: &[u8], j: usize) -> bool
+    requires { ⌜ j < 1 + (length (now listing) / tokenWidth + length (now cells) / cellWidth) ⌝ }
+    ensures { λ r. ⌜ ((answer : Answer) → r ≡ true → getD (lines answer (now (listing .entry)) (now (cells .entry))) j [] ≡ []) ⌝ }
+{
+    let tokens = listing.len() / token::WIDTH;
+    if j <= tokens {
+        return false;
+    }
+    match cell::cell_at(cells, j - 1 - tokens) {
+        Cell::Absent => true,
+        Cell::Waiting => false,
+        Cell::Present(_) => false,
+    }
+}
+
+// The same, where most cells are absent: nothing is made ready for an empty line.
+fn put_next(
+    out: &mut [u8],
+    at: usize,
+    answer: Answer,
+    listing: &[u8],
+    cells: &[u8],
+    j: usize,
+) -> usize
+    requires { ⌜ (j < 1 + (length (now listing) / tokenWidth + length (now cells) / cellWidth)) × RoomFor (now out) at (getD (lines answer (now listing) (now cells)) j []) ⌝ }
+    ensures { λ r. ⌜ Added (now (out .entry)) (now (out .exit)) at r (getD (lines answer (now (listing .entry)) (now (cells .entry))) j []) ⌝ }
+{
+    if is_empty(listing, cells, j) {
+        return at;
+    }
+    put_line(out, at, answer, listing, cells, j)
 }
 
 // How long the first line is at most: 20 digits to a number, two to a refusal, one to a place below 10.
@@ -119,7 +155,7 @@ fn write(answer: Answer, listing: &[u8], cells: &[u8], out: &mut [u8]) -> usize
     let mut at = 0;
     let mut j = 0;
     while j < n {
-        at = put_line(out, at, answer, listing, cells, j);
+        at = put_next(out, at, answer, listing, cells, j);
         j += 1;
     }
     at

@@ -3,6 +3,7 @@ use Prim.Native.Nat.{_≤_, _<_, _-_, _/_}
 use native.Mathlib.Omega.{arith}
 use mathlib.Core.Bool.{Bool}
 use mathlib.Core.Path.{_≡_, refl, sym, ap, _∙_}
+use borrow.Author.Needs.{needs}
 use lib.ListN.{length, drop, length-drop}
 use borrow.Author.Tests.{not-true, not-false}
 use Rattle.buffer.proofs.Tables.{length-rows, getD-rows}
@@ -17,22 +18,23 @@ use Rattle.check_inputs.proofs.fields.Statement.{statement}
 use Rattle.check_inputs.proofs.fields.Tie as tie
 
 abbrev Inv-loop : tie.InvT-loop
-Inv-loop graph inputs i₀ i =
+Inv-loop graph inputs counts i₀ i =
     (i ≤ length inputs / tokenWidth) × (checkFields (graphOf graph) inputs ≡ inTurn (λ k good. demand good BadInput k) i (drop i (allRows tokenWidth (goodInput (graphOf graph)) inputs)))
 
 abbrev μ-loop : tie.MeasureT-loop
-μ-loop graph inputs i₀ i = length inputs / tokenWidth - i
+μ-loop graph inputs counts i₀ i = length inputs / tokenWidth - i
 
 pub fields-spec : {M : Type 1} → statement M
 fields-spec = tie.close (tie.spec
     Inv-loop
     μ-loop
+    (λ c κs. search needs)
     (λ c. (omega arith, refl))
     (λ c κs. omega arith)
-    (λ c κs. rw (c .row-at .ensures, length-drop) (omega arith))
+    (λ c κs. (c .before .before .before .before .counts .ensures, rw (c .row-at .ensures, length-drop) (omega arith)))
     (λ c.
-    let l = c .before .before .before .before .loop in
-    let a = c .before .before .before .before .before .before .before .args in
+    let l = c .before .before .before .before .before .loop in
+    let a = c .before .before .before .before .before .before .before .before .before .args in
     let g = graphOf (a .graph .now) in
     let s = a .inputs .now in
     let x = c .before .good2 .result in
@@ -43,8 +45,8 @@ fields-spec = tie.close (tie.spec
     (λ c. omega arith)
     (λ c. omega arith)
     (λ c.
-    let l = c .before .before .before .before .loop in
-    let a = c .before .before .before .before .before .before .before .args in
+    let l = c .before .before .before .before .before .loop in
+    let a = c .before .before .before .before .before .before .before .before .before .args in
     let g = graphOf (a .graph .now) in
     let s = a .inputs .now in
     let x = c .before .good2 .result in
@@ -53,7 +55,7 @@ fields-spec = tie.close (tie.spec
     let t = l .inv .1 ∙ turn (λ k good. demand good BadInput k) (allRows tokenWidth (goodInput g) s) (l .i) x (omega (arith, length-rows tokenWidth (goodInput g) (length s / tokenWidth) s)) e (ap (λ (b : Bool). demand b BadInput (l .i)) (not-false x (c .if1 .left))) in
     (omega arith, t))
     (λ c.
-    let a = c .before .before .before .before .args in
+    let a = c .before .before .before .before .before .args in
     let s = a .inputs .now in
     let xs = allRows tokenWidth (goodInput (graphOf (a .graph .now))) s in
     sym (c .before .loop .inv .1 ∙ turn-end (λ k good. demand good BadInput k) xs (c .before .loop .i) (omega (arith, length-rows tokenWidth (goodInput (graphOf (a .graph .now))) (length s / tokenWidth) s)))))

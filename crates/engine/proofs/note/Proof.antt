@@ -10,6 +10,9 @@ pub note-spec : {M : Type 1} → statement M
 unfolding noted
 note-spec = tie.close (tie.spec
     (λ c κs. search needs)
+    (λ c κs. search needs)
     (λ c. search needs)
-    (λ c. c .before .before .put-tag .ensures ∙ rw (lt-ltb _ _ (c .before .before .before .before .if1 .taken)))
+    (λ c.
+    let p = c .before .before in
+    p .put-tag .ensures ∙ rw (lt-ltb _ _ (p .before .before .before .if1 .taken), p .before .before .token-at .ensures))
     (λ c. rw (le-ltb _ _ (c .if1 .left))))

@@ -31,14 +31,16 @@ proceed-spec =
     (λ c. (begun _ _ _ _ _ _ (c .before .before .before .before .before .pre .1), noted-none _ _ _ _ _ _ _ _))
     (λ c κs. (c .before .before .before .before .before .before .before .before .before .before .before .pre .0, c .before .before .before .before .before .loop .inv .0 .running))
     (λ c. search needs)
-    (λ c κs. search needs)
-    (λ c. omega (arith, budget-fits (c .before .before .before .before .before .before .before .before .before .before .before .before .before .before .before .before .before .before .before .before .before .before .before), c .before .before .before .before .before .before .before .before .before .before .before .before .before .before .before .before .loop-test .taken))
-    (λ c. omega (arith, c .before .before .before .before .before .before .before .before .before .before .before .before .before .before .before .before .loop-test .taken))
+    (λ c κs.
+    let a = rw (c .before .before .before .turned .given .1) at (c .before .before .before .before .before .before .before .before .before .take-turn .ensures) in
+    omega (arith, a .0, matching-room (a .1 .running .matching)))
+    (λ c. omega (arith, budget-fits (c .before .before .before .before .before .before .before .before .before .before .before .before .before .before .before .before .before .before .before .before .before .before .before .before), c .before .before .before .before .before .before .before .before .before .before .before .before .before .before .before .before .before .loop-test .taken))
+    (λ c. omega (arith, c .before .before .before .before .before .before .before .before .before .before .before .before .before .before .before .before .before .loop-test .taken))
     (λ c.
-    let l = c .before .before .before .before .before .before .before .before .before .before .before .before .before .before .before .before .before .loop .inv in
-    let h = c .before .before .before .before .before .before .before .before .before .before .before .before .before .before .before .before .loop-test .taken in
-    let a = rw (c .before .before .before .before .before .turned .given .1) at (c .before .before .before .before .before .before .before .before .before .before .before .take-turn .ensures) in
-    (advanced _ _ _ _ _ _ (l .0) h _ _ _ _ _ _ a, noted-on _ _ _ _ _ _ (l .0) (l .1) h _ a _ (c .before .before .note .ensures)))
+    let l = c .before .before .before .before .before .before .before .before .before .before .before .before .before .before .before .before .before .before .loop .inv in
+    let h = c .before .before .before .before .before .before .before .before .before .before .before .before .before .before .before .before .before .loop-test .taken in
+    let a = rw (c .before .before .before .before .before .before .turned .given .1) at (c .before .before .before .before .before .before .before .before .before .before .before .before .take-turn .ensures) in
+    (advanced _ _ _ _ _ _ (l .0) h _ _ _ _ _ _ (a .1), noted-on _ _ _ _ _ _ (l .0) (l .1) h _ (a .1) _ (c .before .before .note .ensures)))
     (λ c. search needs)
     (λ c κs. search needs)
     (λ c. search needs)

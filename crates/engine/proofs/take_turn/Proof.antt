@@ -1,8 +1,7 @@
 -- `engine::take_turn` meets its contract: the activity that the pick takes fires, joined by proofs/Turning. Assumes nothing.
-use mathlib.Core.Path.{refl, ap}
+use mathlib.Core.Path.{refl}
 use native.Mathlib.Omega.{arith}
 use borrow.Author.Needs.{needs}
-use Rattle.record.specs.declared.token.Token.{Token}
 use Rattle.store.proofs.Laws.{matching-counted, matching-room}
 use Rattle.rules.specs.Run.{picksOf}
 use Rattle.engine.proofs.Turning.{turn-none, below, place-enabled, turn-done, turn-refused}
@@ -31,15 +30,7 @@ take-turn-spec =
     let low = below _ (s .args .picks .now) (s .pre .0) (s .pre .1) (s .args .firings) _ _ _ (n .enabled-count .ensures) (p .before .if1 .left) (p .pick-at .ensures .0) refl in
     (matching-counted (s .pre .1 .matching), rw (m .number-of .ensures) low))
     (λ c κs.
-    let a = c .before in
-    let m = a .before .before in
-    let p = m .before in
-    let n = p .before .before in
-    let s = n .before .before .before .before .before .before in
-    let there = place-enabled _ (s .args .picks .now) (s .pre .0) (s .pre .1) (s .args .firings) _ _ _ (n .enabled-count .ensures) (p .before .if1 .left) (p .pick-at .ensures .0) (rw (m .number-of .ensures) at (a .enabled-at .ensures .0)) in
-    omega (arith, there .0, matching-room (s .pre .1 .matching)))
-    (λ c κs.
-    let a = c .before .before .before .before .before .before .before in
+    let a = c .before .before .before .before in
     let m = a .before .before in
     let p = m .before in
     let n = p .before .before in
@@ -52,18 +43,17 @@ take-turn-spec =
     (λ c. search needs)
     (λ c.
     let f = c .before .before .before .before .before .before .before in
-    let k = f .before .before .before .before .before .before in
-    let a = k .before .before in
+    let a = f .before .before .before .before .before in
     let m = a .before .before in
     let p = m .before in
     let n = p .before .before in
     let s = n .before .before .before .before .before .before in
-    turn-done _ (s .args .picks .now) (s .pre .0) (s .pre .1) (s .args .firings) _ _ _ (n .enabled-count .ensures) (p .before .if1 .left) (p .pick-at .ensures .0) (rw (m .number-of .ensures) at (a .enabled-at .ensures .0)) _ (ap (λ (t : Token). t .tag) (k .token-at .ensures)) (rw (c .before .fired .given .1) at (f .fire .ensures)))
+    turn-done _ (s .args .picks .now) (s .pre .0) (s .pre .1) (s .args .firings) _ _ _ (n .enabled-count .ensures) (p .before .if1 .left) (p .pick-at .ensures .0) (rw (m .number-of .ensures) at (a .enabled-at .ensures .0)) (rw (c .before .fired .given .1) at (f .fire .ensures)))
     (λ c. search needs)
     (λ c. search needs)
     (λ c.
     let f = c .before .before .before .before .before .before .before in
-    let a = f .before .before .before .before .before .before .before .before in
+    let a = f .before .before .before .before .before in
     let m = a .before .before in
     let p = m .before in
     let n = p .before .before in

@@ -168,7 +168,7 @@ fire-spec =
     let b = operands (fetched (operated (o .before .before))) in
     let m = b .before .before in
     let s = start (read m) in
-    (lent-here _ (s .pre .0) (s .pre .1) (s .args .place) (s .pre .2) _ _ _ _ (found m ∙ b .matched .given .1), fitting _ _ _ _ _ _ _ _ (sent o)))
+    (lent-here _ (s .pre .0) (s .pre .1) (s .args .place) (s .pre .2) (s .pre .3) _ _ _ _ (found m ∙ b .matched .given .1), fitting _ _ _ _ _ _ _ _ (sent o)))
     (λ c. search needs)
     (λ c. search needs)
     (λ c.

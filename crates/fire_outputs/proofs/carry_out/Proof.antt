@@ -30,7 +30,7 @@ carry-out-spec = tie.close (tie.spec
     let l = c .before .before .before .before .pre .0 in
     let few = matching-few (l .matching) in
     let room = matching-room (l .matching) in
-    (matching-counted (l .matching), omega (arith, l .activity .firstWithin), omega (arith, l .activity .secondWithin), omega (arith, l .activity .firstWithin), omega (arith, l .activity .secondWithin)))
+    (matching-counted (l .matching), l .raised, omega (arith, l .activity .firstWithin), omega (arith, l .activity .secondWithin), omega (arith, l .activity .firstWithin), omega (arith, l .activity .secondWithin)))
     (λ c κs. let p = c .before .before .before .before .before .before .before .before .pre in (p .0 .store, p .4))
     (λ c κs.
     let s = c .before .before .before .before .before .before .before .before .before .before .before .before .before .before in

@@ -21,5 +21,5 @@ entry-at-spec = tie.close (tie.spec
     (λ c.
     let a = c .before .before .before .before .before .args in
     let m = c .before .match in
-    entry-in (a .graph .now) (a .i) (c .operands .result) (omega arith) (λ τ. rw (c .operands .ensures) (count-entry _ τ (m .rest .0 .1) (m .rest .1))))
+    entry-in (a .graph .now) (a .i) (c .count-of .result) (omega arith) (λ τ. rw (c .count-of .ensures) (count-entry _ τ (m .rest .0 .1) (m .rest .1))))
     (λ c. λ τ e. sym (arity-past (c .before .before .args .graph .now) τ (omega arith))))

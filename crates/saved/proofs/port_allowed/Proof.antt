@@ -9,6 +9,7 @@ pub port-allowed-spec : {M : Type 1} → statement M
 port-allowed-spec = tie.close (tie.spec
     (λ c κs. search needs)
     (λ c κs. search needs)
+    (λ c κs. c .before .counts .ensures)
     (λ c. rw (c .before .operands-at .ensures))
     (λ c κs. search needs)
     (λ c.

@@ -1,5 +1,4 @@
 -- `store_chains::bucket` meets its contract. Assumes nothing.
-use mathlib.Core.Path.{refl}
 use native.Mathlib.Omega.{arith}
 use borrow.Author.Needs.{needs}
 use Rattle.store_chains.specs.Chains.{bucketOf}
@@ -10,10 +9,11 @@ pub bucket-spec : {M : Type 1} → statement M
 unfolding bucketOf
 bucket-spec = tie.close (tie.spec
     (λ c. search needs)
+    (λ c κs. search needs)
     (λ c. search needs)
     (λ c. search needs)
     (λ c. search needs)
     (λ c. search needs)
     (λ c. search needs)
     (λ c. search needs)
-    (λ c. (rw (c .before .before .folded .ensures), omega arith)))
+    (λ c. (rw (c .before .before .mixed .ensures .0, c .before .before .before .folded .ensures), omega arith)))

@@ -4,14 +4,18 @@ use mathlib.Core.Path.{_≡_, _∙_}
 use mathlib.Core.List.{[], _∷_, _++_}
 use native.Mathlib.Omega.{arith}
 use borrow.Author.Needs.{needs}
-use lib.ListN.{length}
+use mathlib.Core.Bool.{false}
+use lib.Dec.{ltb}
+use lib.ListN.{length, set}
+use borrow.Author.Tests.{ltb-false}
 use Rattle.record.specs.TokensAndTags.{tokens, decode}
 use Rattle.buffer.proofs.Tables.{length-rows}
 use Rattle.record.specs.Widths.{tokenWidth}
 use Rattle.store_flags.specs.Flags.{flagsOf}
-use Rattle.store_enabled.specs.Enabled.{isEnabled, placeOf}
+use Rattle.store_flags.specs.Marks.{bit}
+use Rattle.store_enabled.specs.Enabled.{arityOf, isEnabled, placeOf}
 use Rattle.store_enabled.proofs.Store.{Moved, added}
-use Rattle.store_enabled.proofs.Arriving.{right-wait, raised-only}
+use Rattle.store_enabled.proofs.Arriving.{flag-before, right-past, right-wait, raised-operand}
 use Rattle.store_enabled.proofs.append.Statement.{statement}
 use Rattle.store_enabled.proofs.append.Tie as tie
 
@@ -36,7 +40,8 @@ append-spec = tie.close (tie.spec
     (λ c κs.
     let s = c .before .before .before .before .before .before .before .before .before .before .before .before .before in
     let e = entered (c .before .before .before .before .before) in
-    (s .pre .0 .counted, e .known, s .pre .3, e .own))
+    let a = s .args in
+    (s .pre .0 .counted, e .known, s .pre .3, e .own, λ h. rw (e .more) (flag-before (a .tables .now) (a .ledger .now) (a .used) (a .t) (flagsOf (a .flags .now)) (s .pre .0 .right) (s .pre .5) (s .pre .3) (rw (c .before .before .before .arity .ensures) at h))))
     (λ c. search needs)
     (λ c.
     let s = c .before .before .before .before .before .before .before .before .before .before .before .before .before .before in
@@ -44,6 +49,8 @@ append-spec = tie.close (tie.spec
     let e = entered (c .before .before .before .before .before .before) in
     let ts = tokens (a .used) (a .ledger .now) in
     let us = ts ++ a .t ∷ [] in
-    let once = raised-only (isEnabled (a .tables .now) us (a .t .tag)) (flagsOf (a .flags .now)) (placeOf us (a .t .tag)) (right-wait (a .tables .now) ts (a .t) (flagsOf (a .flags .now)) (s .pre .0 .right)) in
+    let n = arityOf (a .tables .now) (a .t .tag) in
+    let past : ltb (a .t .port) n ≡ false → flagsOf (a .flags .now) ≡ set (flagsOf (a .flags .now)) (placeOf us (a .t .tag)) (bit (isEnabled (a .tables .now) us (a .t .tag))) = λ e. right-past (a .tables .now) ts (a .t) (flagsOf (a .flags .now)) (s .pre .0 .right) (ltb-false (a .t .port) n e) (s .pre .3) in
+    let once = raised-operand (ltb (a .t .port) n) (isEnabled (a .tables .now) us (a .t .tag)) (flagsOf (a .flags .now)) (placeOf us (a .t .tag)) past (right-wait (a .tables .now) ts (a .t) (flagsOf (a .flags .now)) (s .pre .0 .right)) in
     let flags = c .settle-arrived .ensures .0 ∙ rw (c .before .before .before .before .arity .ensures, e .more) once in
     (c .before .before .before .before .before .before .before .before .before .before .put-token .ensures .0, (e .more, (e .stored (c .settle-arrived .last .0) flags (c .settle-arrived .ensures .1), λ w. rw (e .more) (c .before .before .before .before .before .before .enter .ensures .1 ts (length-rows tokenWidth decode (a .used) (a .ledger .now)) w))))))

@@ -16,7 +16,7 @@ use Rattle.store_chains.proofs.Search.{within-more}
 use Rattle.store_enabled.specs.Enabled.{allLive, arityOf, isEnabled, placeOf}
 use Rattle.store_enabled.specs.Store.{Stored, placeOr}
 use Rattle.store_enabled.proofs.Store.{Moved, added}
-use Rattle.store_enabled.proofs.Arriving.{right-wait, own-place, own-ready, own-stands, own-waits, partner-place}
+use Rattle.store_enabled.proofs.Arriving.{flag-before, port-below, right-wait, own-place, own-ready, own-stands, own-waits, partner-place}
 use Rattle.store_enabled.proofs.enter.Statement.{statement}
 use Rattle.store_enabled.proofs.enter.Tie as tie
 
@@ -106,7 +106,15 @@ enter-spec = tie.close (tie.spec
     (λ c κs.
     let f = c .before .before .before .before .before .before in
     let s = f .before .before .before .before .before .before .before .before in
-    (rw (c .place-or .ensures) (omega (arith, partner-place (f .find-partner .result) (s .args .used) (f .find-partner .ensures .1) .1, s .pre .2)), s .pre .0 .counted))
+    let a = s .args in
+    let ts = tokens (a .used + 1) (a .ledger .now) in
+    let on = sym (whole (c .before .before .before)) ∙ c .before .before .if2 .taken in
+    let below = port-below (arityOf (a .tables .now) (a .t .tag)) (a .t .port) ts (a .t .tag) (s .pre .3 .low) (s .pre .3 .alone) on in
+    let down = flag-before (a .tables .now) (a .ledger .now) (a .used) (a .t) (flagsOf (a .flags .now)) (s .pre .0 .right) (s .pre .5) (s .pre .3 .low) below in (
+      rw (c .place-or .ensures) (omega (arith, partner-place (f .find-partner .result) (a .used) (f .find-partner .ensures .1) .1, s .pre .2)),
+      s .pre .0 .counted,
+      rw (c .place-or .ensures, ← here f, entered (f .before .before .before .before) .more) down,
+    ))
     (λ c.
     let r = c .before .before .before .before in
     let f = r .before .before .before in

@@ -1,14 +1,17 @@
 -- `store_enabled::settle_changed` meets its contract: what was found on the other port says both where the tag's activity stands and whether it is ready. Assumes nothing.
+use Prim.Native.Nat.{_<_}
 use mathlib.Core.Path.{_≡_, sym, _∙_}
 use native.Mathlib.Omega.{arith}
 use borrow.Author.Needs.{needs}
+use borrow.Author.Tests.{not-true, not-false}
 use Rattle.record.specs.TokensAndTags.{tokens}
+use Rattle.store_flags.specs.Flags.{flagsOf}
 use Rattle.store_chains.proofs.Search.{within-more}
 use Rattle.store_enabled.specs.Enabled.{allLive, placeOf}
 use Rattle.store_enabled.specs.Store.{placeOr, lower}
 use Rattle.store_enabled.proofs.Store.{known-few}
 use Rattle.store_enabled.proofs.Places.{lower-below}
-use Rattle.store_enabled.proofs.Arriving.{own-place, own-ready}
+use Rattle.store_enabled.proofs.Arriving.{own-place, own-ready, not-raised, raised-again}
 use Rattle.store_enabled.proofs.settle_changed.Statement.{statement}
 use Rattle.store_enabled.proofs.settle_changed.Tie as tie
 
@@ -27,6 +30,13 @@ whole c =
     let f = c .before .find in
     c .ready-with .ensures ∙ own-ready (a .tag) (a .port) (a .own) (a .used) (a .ledger .now) (s .pre .2) (s .pre .3) (s .pre .4) (f .result) (f .ensures .0) (a .operands)
 
+-- its place is one of the flags'
+low : (c : tie.After-earlier) → c .earlier .result < 2048
+low c =
+    let s = c .before .before .before .before .before .before in
+    let a = s .args in
+    rw (c .earlier .ensures) (lower-below (a .own) _ 2048 (omega (arith, s .pre .2, known-few (a .links .now) (a .ledger .now) (a .used) (s .pre .1))))
+
 pub settle-changed-spec : {M : Type 1} → statement M
 settle-changed-spec = tie.close (tie.spec
     (λ c. omega (arith, c .before .pre .3))
@@ -37,12 +47,23 @@ settle-changed-spec = tie.close (tie.spec
     (λ c κs. search needs)
     (λ c κs. search needs)
     (λ c κs.
-    let s = c .before .before .before .before .before .before .before in
-    let a = s .args in
-    (rw (c .earlier .ensures) (lower-below (a .own) _ 2048 (omega (arith, s .pre .2, known-few (a .links .now) (a .ledger .now) (a .used) (s .pre .1)))), s .pre .0))
+    (low (c .before), c .before .before .before .before .before .before .before .pre .0))
+    (λ c κs.
+    let g = c .before .before .before in
+    let s = g .before .before .before .before .before .before .before in
+    let r = c .before .before .is-raised in
+    (low (g .before), s .pre .0, not-raised (flagsOf (s .args .flags .now)) (g .before .earlier .result) (s .pre .0 .tallied .binary (g .before .earlier .result)) (sym (r .ensures) ∙ not-true (r .result) (c .before .if2 .taken))))
     (λ c.
-    let on = sym (whole (c .before .before .before .before .before)) ∙ c .before .before .before .before .if1 .taken in
-    (c .raise .ensures .0 ∙ rw (c .before .earlier .ensures, c .before .before .place-or .ensures, here (c .before .before .before .before .before .before), on), c .raise .ensures .1))
+    let g = c .before .before .before .before in
+    let on = sym (whole (g .before .before .before .before)) ∙ g .before .before .before .if1 .taken in
+    (c .raise .ensures .0 ∙ rw (g .before .earlier .ensures, g .before .before .place-or .ensures, here (g .before .before .before .before .before), on), c .raise .ensures .1))
+    (λ c.
+    let g = c .before .before in
+    let s = g .before .before .before .before .before .before .before in
+    let r = c .before .is-raised in
+    let on = sym (whole (g .before .before .before .before)) ∙ g .before .before .before .if1 .taken in
+    let stays = raised-again (flagsOf (s .args .flags .now)) (g .before .earlier .result) (sym (r .ensures) ∙ not-false (r .result) (c .if2 .left)) in
+    (stays ∙ rw (g .before .earlier .ensures, g .before .before .place-or .ensures, here (g .before .before .before .before .before), on), s .pre .0))
     (λ c.
     let off = sym (whole (c .before)) ∙ c .if1 .left in
     (rw off, c .before .before .before .before .pre .0)))

@@ -17,11 +17,11 @@ spend-operands-spec = tie.close (tie.spec
     (λ c. search needs)
     (λ c. search needs)
     (λ c. search needs)
-    (λ c. let a = c .before .args in omega (arith, length-set (a .ledger .now) (a .first * tokenWidth + stateOffset) 1, c .before .pre .4))
+    (λ c. let a = c .before .args in omega (arith, length-set (a .ledger .now) (a .first * tokenWidth + stateOffset) 1, c .before .pre .5))
     (λ c κs. search needs)
     (λ c κs.
     let s = c .before .before .before in
-    (rw (c .earlier .ensures) (lower-below (s .args .first) (s .args .second) 2048 (s .pre .1)), s .pre .0))
+    (rw (c .earlier .ensures) (lower-below (s .args .first) (s .args .second) 2048 (s .pre .2)), s .pre .0, rw (c .earlier .ensures) (s .pre .1)))
     (λ c. search needs)
     (λ c.
     let s = c .before .before .before .before in

@@ -6,7 +6,7 @@ use native.Mathlib.Omega.{arith}
 use borrow.Author.Needs.{needs}
 use lib.ListN.{set}
 use Rattle.store_flags.specs.Flags.{ones, place, inWord}
-use Rattle.store_flags.proofs.Laws.{place-rest}
+use Rattle.store_flags.proofs.Laws.{place-one, place-rest}
 use Rattle.store_flags.proofs.Digits.{word-binary, word-positive}
 use Rattle.store_flags.proofs.select_in.Statement.{statement}
 use Rattle.store_flags.proofs.select_in.Tie as tie
@@ -29,12 +29,14 @@ select-in-spec = tie.close (tie.spec
     c .highest .ensures ∙ ap (λ (m : ℕ). place m (inWord (s .args .word))) e)
     (λ c. (omega (arith, c .before .pre), refl))
     (λ c κs. word-positive (c .before .loop .rest) (omega (arith, c .before .loop .inv .0)))
-    (λ c κs. (c .lowest .ensures .1, omega arith))
+    (λ c κs.
+    let l = c .before .before .loop in
+    (c .lowest .ensures .1, rw (c .lowest .ensures .0) (place-one 0 (inWord (l .rest)) (word-binary (l .rest)) (omega (arith, l .inv .0)))))
     (λ c. search needs)
     (λ c. search needs)
     (λ c.
     let l = c .before .before .before .loop in
-    let e : inWord (c .with .result) ≡ set (inWord (l .rest)) (place 0 (inWord (l .rest))) 0 = c .with .ensures ∙ ap (λ (m : ℕ). set (inWord (l .rest)) m 0) (c .before .lowest .ensures .0) in
+    let e : inWord (c .lowered .result) ≡ set (inWord (l .rest)) (place 0 (inWord (l .rest))) 0 = c .lowered .ensures ∙ ap (λ (m : ℕ). set (inWord (l .rest)) m 0) (c .before .lowest .ensures .0) in
     let d : suc (l .left - 1) ≡ l .left = omega arith in
     let p = place-rest (l .left - 1) (inWord (l .rest)) (word-binary (l .rest)) (omega (arith, l .inv .0)) in
     rw e (p .0, p .1 ∙ ap (λ (m : ℕ). place m (inWord (l .rest))) d ∙ l .inv .1))

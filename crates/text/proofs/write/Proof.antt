@@ -47,7 +47,7 @@ write-spec =
     let s = c .before .before .before .before .before .before .before .before .before .before in
     let l = c .before .before .before .before .before .loop in
     let lt : l .j < length (text s) = omega (arith, text-lines s, c .before .before .before .before .before .before .count .ensures) in
-    (omega arith, next-made (text s) (l .j) lt (l .inv .1) (c .before .before .put-line .ensures)))
+    (omega arith, next-made (text s) (l .j) lt (l .inv .1) (c .before .before .put-next .ensures)))
     (λ c. c .before .loop .inv .1 .kept)
     (λ c.
     let s = c .before .before .before .before .before .before in

@@ -15,5 +15,5 @@ operands-at-spec = tie.close (tie.spec
     (λ c.
     let w = c .before .before .before .wide in
     let a = c .before .before .before .before .before .args in
-    c .operands .ensures ∙ rw (w .ensures) (sym (operands-in (a .graph .now) (a .i) (omega arith))))
+    c .count-of .ensures ∙ rw (w .ensures) (sym (operands-in (a .graph .now) (a .i) (omega arith))))
     (λ c. let a = c .before .before .before .args in sym (operands-past (a .graph .now) (a .i) (omega arith))))

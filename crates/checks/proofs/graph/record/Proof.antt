@@ -12,4 +12,4 @@ record-spec = tie.close (tie.spec
     (λ c κs. search needs)
     (λ c κs. search needs)
     (λ c κs. search needs)
-    (λ c. rw (← c .before .before .before .before .operands .ensures, ← c .before .before .before .good2 .ensures, ← c .before .before .all-good .ensures, ← c .before .good3 .ensures _ (c .before .before .before .before .before .before .pre)) (c .first-fault .ensures)))
+    (λ c. rw (← c .before .before .before .before .count-of .ensures, ← c .before .before .before .good2 .ensures, ← c .before .before .all-good .ensures, ← c .before .good3 .ensures _ (c .before .before .before .before .before .before .pre .1)) (c .first-fault .ensures)))

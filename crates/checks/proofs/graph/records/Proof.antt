@@ -16,41 +16,42 @@ use Rattle.checks.proofs.graph.records.Statement.{statement}
 use Rattle.checks.proofs.graph.records.Tie as tie
 
 abbrev Inv-loop : tie.InvT-loop
-Inv-loop graph sites₀ i₀ sites i =
+Inv-loop graph counts sites₀ i₀ sites i =
     (i ≤ length graph / graphWidth)
     × (inTurn (checkRecord (graphOf graph)) 0 (graphOf graph) ≡ inTurn (checkRecord (graphOf graph)) i (drop i (graphOf graph)))
     × Sites (take i (graphOf graph)) sites
     × (length sites ≡ 256)
 
 abbrev μ-loop : tie.MeasureT-loop
-μ-loop graph sites₀ i₀ sites i = length graph / graphWidth - i
+μ-loop graph counts sites₀ i₀ sites i = length graph / graphWidth - i
 
 pub records-spec : {M : Type 1} → statement M
 records-spec = tie.close (tie.spec
     Inv-loop
     μ-loop
+    (λ c κs. search needs)
     (λ c. (omega arith, refl, no-sites, refl))
     (λ c κs. omega arith)
-    (λ c κs. c .before .before .before .loop .inv .2)
+    (λ c κs. (c .before .before .before .before .before .counts .ensures, c .before .before .before .before .loop .inv .2))
     (λ c. search needs)
     (λ c. search needs)
     (λ c.
-    let l = c .before .before .before .before .before .before .loop in
-    let g = c .before .before .before .before .before .before .before .before .args .graph .now in
-    let r = c .before .before .before .before .instruction-at .result in
+    let l = c .before .before .before .before .before .before .before .loop in
+    let g = c .before .before .before .before .before .before .before .before .before .before .args .graph .now in
+    let r = c .before .before .before .before .before .instruction-at .result in
     let h : l .i < length g / graphWidth = omega arith in
-    let e = in-graph g (l .i) h r ∙ sym (c .before .before .before .before .instruction-at .ensures) in
+    let e = in-graph g (l .i) h r ∙ sym (c .before .before .before .before .before .instruction-at .ensures) in
     let t = l .inv .1 ∙ turn (checkRecord (graphOf g)) (graphOf g) (l .i) r (omega (arith, length-graph g)) e (sym (c .before .before .«record» .ensures)) in
     stopped _ _ _ _ (c .enum-told2 .given .1) ∙ sym t)
     (λ c κs. search needs)
     (λ c. omega arith)
     (λ c. omega arith)
     (λ c.
-    let l = c .before .before .before .before .before .before .before .before .loop in
-    let g = c .before .before .before .before .before .before .before .before .before .before .args .graph .now in
-    let r = c .before .before .before .before .before .before .instruction-at .result in
+    let l = c .before .before .before .before .before .before .before .before .before .loop in
+    let g = c .before .before .before .before .before .before .before .before .before .before .before .before .args .graph .now in
+    let r = c .before .before .before .before .before .before .before .instruction-at .result in
     let h : l .i < length g / graphWidth = omega arith in
-    let e = in-graph g (l .i) h r ∙ sym (c .before .before .before .before .before .before .instruction-at .ensures) in
+    let e = in-graph g (l .i) h r ∙ sym (c .before .before .before .before .before .before .before .instruction-at .ensures) in
     let t = l .inv .1 ∙ turn (checkRecord (graphOf g)) (graphOf g) (l .i) r (omega (arith, length-graph g)) e (sym (c .before .before .before .before .«record» .ensures)) in
     let p = c .before .before .enum-told .given .1 in
     let good = passed-record (graphOf g) (l .i) r (sym (c .before .before .before .before .«record» .ensures) ∙ p) in
@@ -61,5 +62,5 @@ records-spec = tie.close (tie.spec
       rw (c .note .ensures) (length-at-site (l .sites) r _ ∙ l .inv .3),
     ))
     (λ c.
-    let g = c .before .before .before .args .graph .now in
+    let g = c .before .before .before .before .args .graph .now in
     sym (c .before .loop .inv .1 ∙ turn-end (checkRecord (graphOf g)) (graphOf g) (c .before .loop .i) (omega (arith, length-graph g)))))
