@@ -6,6 +6,7 @@
 
 use super::{microseconds, middle, ratio, time, Kind, Lent, BLOCK, BUDGET, KINDS, SIZES};
 use crate::work::{self, Work};
+use second::Schedule;
 use std::time::Duration;
 
 /// A call of the engine on what it is lent; the further buffer is the profile or log, or
@@ -27,19 +28,20 @@ fn run(lent: &mut Lent, _: &mut [u8]) -> u64 {
 }
 
 fn profile(lent: &mut Lent, profile: &mut [u8]) -> u64 {
-    let Work { graph, inputs } = &lent.work;
-    engine::profile(graph, inputs, &mut lent.ledger, &mut lent.cells, profile).0
+    let (program, inputs) = (lent.work.program(), &lent.work.inputs);
+    engine::profile(program, inputs, &mut lent.ledger, &mut lent.cells, profile).0
 }
 
 fn run_logged(lent: &mut Lent, log: &mut [u8]) -> u64 {
-    let Work { graph, inputs } = &lent.work;
+    let (program, inputs) = (lent.work.program(), &lent.work.inputs);
     let (ledger, cells) = (&mut lent.ledger, &mut lent.cells);
-    engine::run_logged(graph, inputs, &lent.picks, BUDGET, ledger, cells, log)
+    let schedule = Schedule::new(&lent.picks, BUDGET);
+    engine::run_logged(program, inputs, schedule, ledger, cells, log)
 }
 
 fn replay(lent: &mut Lent, log: &mut [u8]) -> u64 {
-    let Work { graph, inputs } = &lent.work;
-    engine::replay(graph, inputs, log, &mut lent.ledger, &mut lent.cells)
+    let (program, inputs) = (lent.work.program(), &lent.work.inputs);
+    engine::replay(program, inputs, log, &mut lent.ledger, &mut lent.cells)
 }
 
 /// Carries on with a budget of 0, so that the state is checked and nothing fires.
@@ -50,7 +52,8 @@ fn carry_on(lent: &mut Lent, counts: &mut [u8]) -> u64 {
         tokens: count(2),
     };
     let (ledger, cells) = (&mut lent.ledger, &mut lent.cells);
-    engine::carry_on(&lent.work.graph, &[], 0, saved, ledger, cells)
+    let (program, schedule) = (lent.work.program(), Schedule::new(&[], 0));
+    engine::carry_on(program, schedule, saved, ledger, cells)
 }
 
 /// What a run that gave this answer counted, as `carry_on` takes it.
@@ -127,20 +130,21 @@ impl Calls {
 /// The log of the work's run, once profile, logged run and replay of the engine have
 /// left what those of the second emulator leave, and the state has been taken as it is.
 fn agreed(lent: &mut Lent) -> Vec<u8> {
-    let Work { graph, inputs } = &lent.work;
+    let (program, inputs) = (lent.work.program(), &lent.work.inputs);
     let (mut ledger, mut cells) = (lent.ledger.clone(), lent.cells.clone());
     let mut due = vec![0; 4 * usize::from(BUDGET)];
     let mut found = due.clone();
-    let profiled = second::profile(graph, inputs, &mut ledger, &mut cells, &mut due);
+    let profiled = second::profile(program, inputs, &mut ledger, &mut cells, &mut due);
     let answer = engine::packed_answer(&profiled.answer);
     assert_eq!(profile(lent, &mut found), answer, "profile");
     assert!(found == due && ledger == lent.ledger && cells == lent.cells);
 
-    let (graph, inputs, picks) = (&lent.work.graph, &lent.work.inputs, &lent.picks);
+    let (program, inputs) = (lent.work.program(), &lent.work.inputs);
+    let schedule = Schedule::new(&lent.picks, BUDGET);
     let mut due = vec![0; second::LOG_RECORD * usize::from(BUDGET)];
     let mut found = due.clone();
     let (ledger, cells) = (&mut ledger, &mut cells);
-    let answer = second::run_logged(graph, inputs, picks, BUDGET, ledger, cells, &mut due);
+    let answer = second::run_logged(program, inputs, schedule, ledger, cells, &mut due);
     let packed = engine::packed_answer(&answer);
     assert_eq!(run_logged(lent, &mut found), packed, "run with a log");
     assert!(found == due && *ledger == lent.ledger && *cells == lent.cells);

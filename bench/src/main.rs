@@ -19,7 +19,7 @@ mod work;
 use std::time::{Duration, Instant};
 
 use printing::Printing;
-use second::{Answer, Outcome};
+use second::{Answer, Outcome, Schedule};
 use work::Work;
 
 const SIZES: [usize; 5] = [128, 256, 512, 1024, 2048];
@@ -135,7 +135,7 @@ struct Lent {
 impl Lent {
     fn new(work: Work, size: usize, newest: bool) -> Lent {
         let picks = if newest {
-            second::picks_newest_first(&work.graph, &work.inputs, size, CELLS)
+            second::picks_newest_first(work.program(), &work.inputs, size, CELLS)
         } else {
             Vec::new()
         };
@@ -148,24 +148,20 @@ impl Lent {
     }
 
     fn engine(&mut self) -> u64 {
-        let Work { graph, inputs } = &self.work;
         engine::run(
-            graph,
-            inputs,
-            &self.picks,
-            BUDGET,
+            self.work.program(),
+            &self.work.inputs,
+            Schedule::new(&self.picks, BUDGET),
             &mut self.ledger,
             &mut self.cells,
         )
     }
 
     fn second(&mut self) -> Answer {
-        let Work { graph, inputs } = &self.work;
         second::run(
-            graph,
-            inputs,
-            &self.picks,
-            BUDGET,
+            self.work.program(),
+            &self.work.inputs,
+            Schedule::new(&self.picks, BUDGET),
             &mut self.ledger,
             &mut self.cells,
         )

@@ -12,6 +12,7 @@ use crate::calls::Calls;
 use crate::printing::longest;
 use crate::work::Work;
 use crate::{microseconds, middle, ratio, time, Kind, BUDGET, CELLS, KINDS};
+use second::Schedule;
 
 const RECORDS: usize = 2048;
 const RUNS: usize = 200;
@@ -54,10 +55,9 @@ fn engine_job(work: &Work) -> Vec<u8> {
     let mut ledger = vec![0; second::TOKEN_RECORD * RECORDS];
     let mut cells = vec![0; 8 * CELLS];
     let answer = engine::run(
-        &work.graph,
+        work.program(),
         &work.inputs,
-        &[],
-        BUDGET,
+        Schedule::new(&[], BUDGET),
         &mut ledger,
         &mut cells,
     );
@@ -74,10 +74,9 @@ fn second_job(work: &Work) -> Vec<u8> {
     let mut ledger = vec![0; second::TOKEN_RECORD * RECORDS];
     let mut cells = vec![0; 8 * CELLS];
     let answer = second::run(
-        &work.graph,
+        work.program(),
         &work.inputs,
-        &[],
-        BUDGET,
+        Schedule::new(&[], BUDGET),
         &mut ledger,
         &mut cells,
     );

@@ -1,6 +1,7 @@
 //! The graphs that are measured, each for a number of tokens.
 
 use layout::*;
+use second::Program;
 
 /// A graph with its inputs.
 #[derive(Default)]
@@ -10,6 +11,11 @@ pub struct Work {
 }
 
 impl Work {
+    /// The graph, which names no array.
+    pub fn program(&self) -> Program<'_> {
+        Program::plain(&self.graph)
+    }
+
     /// Adds an instruction; its arcs are drawn later.
     fn add(&mut self, code: u8, constant: i32) -> u16 {
         let number = (self.graph.len() / 16) as u16;
@@ -253,7 +259,7 @@ pub fn sum(variables: u8) -> Work {
 #[cfg(test)]
 mod tests {
     use super::*;
-    use second::{run, Answer, Outcome};
+    use second::{run, Answer, Outcome, Schedule};
 
     const SIZES: [usize; 5] = [128, 256, 512, 1024, 2048];
 
@@ -262,10 +268,9 @@ mod tests {
         let mut ledger = vec![0; second::TOKEN_RECORD * size];
         let mut cells = vec![0; 8 * 1024];
         let answer = run(
-            &work.graph,
+            work.program(),
             &work.inputs,
-            &[],
-            budget,
+            Schedule::new(&[], budget),
             &mut ledger,
             &mut cells,
         );

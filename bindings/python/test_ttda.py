@@ -37,6 +37,27 @@ class Runs(unittest.TestCase):
         waiting = ttda.run([Instruction('FETCH', [(1, 0)]), Instruction('OUT')], [Input(0, 0, 4)])
         self.assertEqual((waiting.answer.word, waiting.cells), ('hung', [Cell(4, 'waiting', 0)]))
 
+    def test_named_arrays(self):
+        graph = [Instruction('FETCH', [(1, 0)], 2), Instruction('OUT'), Instruction('STORE', [], 1)]
+        inputs, arrays = [Input(0, 0, 1), Input(2, 0, 3), Input(2, 1, 40)], [(5, 4), (7, 2)]
+        done = ttda.run(graph, inputs, arrays=arrays)
+        self.assertEqual((done.answer.word, done.cells), ('completed', [Cell(7, 'present', 40)]))
+        self.assertEqual(ttda.run(graph, inputs).answer, Answer('refused', 22, 0, 0, 0))
+        self.assertEqual(ttda.run(graph, inputs, arrays=[(5, 2), (7, 2)]).answer.refusal, 10)
+        logged, log = ttda.run_logged(graph, inputs, arrays=arrays)
+        self.assertEqual((logged, ttda.replay(graph, log, inputs, arrays=arrays)), (done, done))
+        self.assertEqual(ttda.profile(graph, inputs, arrays=arrays)[1], [Step(2, 1)])
+        cut = ttda.run(graph, inputs, budget=1, arrays=arrays)
+        self.assertEqual(ttda.carry_on(graph, cut, arrays=arrays), done)
+        self.assertEqual(ttda.bounds(graph, inputs).word, 'completed')
+
+    def test_a_typed_graph_has_its_arrays(self):
+        text = 'array a = 3\narray b = 2\nr: FETCH b -> out\nout: OUT\nb[2] = 7\ninput r = 2\n'
+        self.assertEqual(ttda.assembled(text).arrays, ttda.array_bytes([(0, 3), (3, 2)]))
+        done = ttda.run(text)
+        self.assertEqual((done.answer.word, done.cells), ('completed', [Cell(4, 'present', 7)]))
+        self.assertEqual(ttda.run(text, arrays=[(0, 3), (9, 2)]).cells, [Cell(10, 'present', 7)])
+
     def test_refusals(self):
         self.assertEqual(ttda.run(b'').answer, Answer('refused', 1, 0, 0, 0))
         self.assertEqual(ttda.run(GRAPH, INPUTS, capacity=2).answer, Answer('refused', 8, 0, 2, 0))

@@ -35,7 +35,7 @@ _WORDS = {0: 'completed', 100: 'spent', 101: 'hung'}
 
 
 class Instruction(NamedTuple):
-    """An operation by its name, arcs as pairs of instruction and port, and a constant: of CONST, LEAVE, the site of ENTER, or on the
+    """An operation by its name, arcs as pairs of instruction and port, and a constant: of CONST, LEAVE, the site of ENTER, the array of FETCH or STORE, or on the
     right of ADD to EQ, which then have one operand."""
     operation: str
     arcs: Tuple[Tuple[int, int], ...] = ()
@@ -119,37 +119,39 @@ class Run(NamedTuple):
 
 
 class Request(NamedTuple):
-    """A run that is asked for, or one that was made: what `run` is given, graph, inputs and picks as bytes."""
+    """A run that is asked for, or one that was made: what `run` is given, graph, inputs, picks and arrays as bytes."""
     graph: bytes
     inputs: bytes = b''
     picks: bytes = b''
     budget: int = 2048
     capacity: int = 2048
     cells: int = 1024
+    arrays: bytes = b''
 
 
 class Files(NamedTuple):
-    """Graph, inputs and picks as bytes."""
+    """Graph, inputs, picks and arrays as bytes."""
     graph: bytes
     inputs: bytes
     picks: bytes
+    arrays: bytes = b''
 
 
 # The functions of ttda.h, with their parameters: r a buffer that is read, w one that is written, h a number of 16 bits, q one of 64,
 # n a number that is written, l a length.
 _FUNCTIONS = {
-    'ttda_run': 'rrrhww',
-    'ttda_carry_on': 'rrhhhww',
-    'ttda_run_logged': 'rrrhwww',
-    'ttda_replay': 'rrrww',
-    'ttda_profile': 'rrwwwn',
+    'ttda_run': 'rrrrhww',
+    'ttda_carry_on': 'rrrhhhww',
+    'ttda_run_logged': 'rrrrhwww',
+    'ttda_replay': 'rrrrww',
+    'ttda_profile': 'rrrwwwn',
     'ttda_bounds': 'rr',
     'ttda_expression': 'rw',
     'ttda_expression_value': 'rr',
     'ttda_list': 'rw',
     'ttda_convert': 'rw',
     'ttda_convert_log': 'rw',
-    'ttda_serves': 'rrrrrrhhllllq',
+    'ttda_serves': 'rrrrrrrrhhllllq',
     'ttda_print': 'qrrw',
 }
 _TYPES = {
@@ -243,6 +245,11 @@ def pick_bytes(picks) -> bytes:
     return picks if isinstance(picks, bytes) else struct.pack(f'<{len(picks)}H', *picks)
 
 
+def array_bytes(arrays) -> bytes:
+    """The records of a list of pairs, first cell and length of each array. Bytes stay as they are."""
+    return arrays if isinstance(arrays, bytes) else b''.join(struct.pack('<2H', first, length) for first, length in arrays)
+
+
 def assembled(text) -> Files:
     """The files of a typed graph, made by the program dayomlak: the one that TTDA_DAYOMLAK names, that of the release, the project's
     own, or one on PATH. A text with faults raises ValueError, with all of them and their places."""
@@ -261,12 +268,13 @@ def _read(path) -> bytes:
         return file.read()
 
 
-def _lent(graph, inputs, picks=()) -> Files:
-    """What a call is lent. A typed graph has inputs and picks of its own, unless others are given."""
+def _lent(graph, inputs, picks=(), arrays=None) -> Files:
+    """What a call is lent. A typed graph has inputs, picks and arrays of its own, unless others are given."""
     typed = assembled(graph) if isinstance(graph, str) else Files(graph_bytes(graph), b'', b'')
     return Files(typed.graph,
                  typed.inputs if inputs is None else input_bytes(inputs),
-                 typed.picks if picks is None else pick_bytes(picks))
+                 typed.picks if picks is None else pick_bytes(picks),
+                 typed.arrays if arrays is None else array_bytes(arrays))
 
 
 def _buffers(capacity, cells):
@@ -278,28 +286,34 @@ def _left(number, ledger, memory) -> Run:
     return Run(answer, number, ledger.raw[:TOKEN.size * answer.tokens], memory.raw)
 
 
-def run(graph, inputs=None, picks=None, budget=MOST_RECORDS, capacity=MOST_RECORDS, cells=MOST_CELLS) -> Run:
-    """Runs a graph. Without picks the oldest enabled activity fires first."""
+def run(graph, inputs=None, picks=None, budget=MOST_RECORDS, capacity=MOST_RECORDS, cells=MOST_CELLS, arrays=None) -> Run:
+    """Runs a graph. Without picks the oldest enabled activity fires first. The constant of a FETCH or a STORE names one of the arrays,
+    counted from 1."""
     ledger, memory = _buffers(capacity, cells)
-    return _left(_call('ttda_run', *_lent(graph, inputs, picks), budget, ledger, memory), ledger, memory)
+    files = _lent(graph, inputs, picks, arrays)
+    number = _call('ttda_run', files.graph, files.arrays, files.inputs, files.picks, budget, ledger, memory)
+    return _left(number, ledger, memory)
 
 
-def carry_on(graph, left, picks=(), budget=MOST_RECORDS, capacity=MOST_RECORDS) -> Run:
+def carry_on(graph, left, picks=(), budget=MOST_RECORDS, capacity=MOST_RECORDS, arrays=None) -> Run:
     """Goes on from what a run left."""
     ledger, memory = _buffers(capacity, len(left.memory) // CELL.size)
     ledger[:len(left.ledger)] = left.ledger
     memory[:] = left.memory
     counts = left.answer.firings, left.answer.tokens
-    files = _lent(graph, b'', picks)
-    return _left(_call('ttda_carry_on', files.graph, files.picks, budget, *counts, ledger, memory), ledger, memory)
+    files = _lent(graph, b'', picks, arrays)
+    number = _call('ttda_carry_on', files.graph, files.arrays, files.picks, budget, *counts, ledger, memory)
+    return _left(number, ledger, memory)
 
 
 def run_logged(graph, inputs=None, picks=None, budget=MOST_RECORDS, capacity=MOST_RECORDS,
-               cells=MOST_CELLS) -> Tuple[Run, bytes]:
+               cells=MOST_CELLS, arrays=None) -> Tuple[Run, bytes]:
     """The run and its log."""
     ledger, memory = _buffers(capacity, cells)
     log = ctypes.create_string_buffer(LOGGED.size * MOST_RECORDS)
-    left = _left(_call('ttda_run_logged', *_lent(graph, inputs, picks), budget, ledger, memory, log), ledger, memory)
+    files = _lent(graph, inputs, picks, arrays)
+    number = _call('ttda_run_logged', files.graph, files.arrays, files.inputs, files.picks, budget, ledger, memory, log)
+    left = _left(number, ledger, memory)
     return left, log.raw[:LOGGED.size * left.answer.firings]
 
 
@@ -309,19 +323,20 @@ def activities(log) -> List[Activity]:
             for path, iteration, instruction in LOGGED.iter_unpack(log)]
 
 
-def replay(graph, log, inputs=None, capacity=MOST_RECORDS, cells=MOST_CELLS) -> Run:
+def replay(graph, log, inputs=None, capacity=MOST_RECORDS, cells=MOST_CELLS, arrays=None) -> Run:
     """Fires what a log names."""
     ledger, memory = _buffers(capacity, cells)
-    files = _lent(graph, inputs)
-    return _left(_call('ttda_replay', files.graph, files.inputs, log, ledger, memory), ledger, memory)
+    files = _lent(graph, inputs, arrays=arrays)
+    return _left(_call('ttda_replay', files.graph, files.arrays, files.inputs, log, ledger, memory), ledger, memory)
 
 
-def profile(graph, inputs=None, capacity=MOST_RECORDS, cells=MOST_CELLS, steps=MOST_RECORDS) -> Tuple[Run, List[Step]]:
+def profile(graph, inputs=None, capacity=MOST_RECORDS, cells=MOST_CELLS, steps=MOST_RECORDS,
+            arrays=None) -> Tuple[Run, List[Step]]:
     """The run by ideal steps, and the steps."""
     ledger, memory = _buffers(capacity, cells)
-    files = _lent(graph, inputs)
+    files = _lent(graph, inputs, arrays=arrays)
     records, written = ctypes.create_string_buffer(STEP.size * steps), ctypes.c_uint64()
-    number = _call('ttda_profile', files.graph, files.inputs, ledger, memory, records, ctypes.byref(written))
+    number = _call('ttda_profile', files.graph, files.arrays, files.inputs, ledger, memory, records, ctypes.byref(written))
     return _left(number, ledger, memory), [Step(*step) for step in STEP.iter_unpack(records.raw[:STEP.size * written.value])]
 
 
@@ -350,7 +365,8 @@ def serves(kept: Request, answer: Answer, asked: Request) -> bool:
     word = answer.refusal or next(number for number, name in _WORDS.items() if name == answer.word)
     number, = struct.unpack('<Q', struct.pack('<4H', word, answer.firings, answer.tokens, answer.place))
     lengths = [request.capacity * TOKEN.size for request in (kept, asked)] + [request.cells * CELL.size for request in (kept, asked)]
-    return _call('ttda_serves', *kept[:3], *asked[:3], kept.budget, asked.budget, *lengths, number) == 1
+    lent = [part for request in (kept, asked) for part in (request.graph, request.arrays, request.inputs, request.picks)]
+    return _call('ttda_serves', *lent, kept.budget, asked.budget, *lengths, number) == 1
 
 
 def converted(records) -> bytes:

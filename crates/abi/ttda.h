@@ -57,6 +57,7 @@ enum {
     TTDA_TOKEN_BYTES = 28,
     TTDA_OLD_TOKEN_BYTES = 20,
     TTDA_CELL_BYTES = 8,
+    TTDA_ARRAY_BYTES = 4,
     TTDA_PICK_BYTES = 2,
     TTDA_LOG_BYTES = 20,
     TTDA_STEP_BYTES = 4,
@@ -64,11 +65,13 @@ enum {
     TTDA_VALUE_BYTES = 4
 };
 
-/* Most records: instructions of a graph; tokens of a ledger, and so inputs, picks, firings and steps; cells; an expression. */
+/* Most records: instructions of a graph; tokens of a ledger, and so inputs, picks, firings and steps; cells; named arrays; an
+   expression. */
 enum {
     TTDA_MOST_INSTRUCTIONS = 256,
     TTDA_MOST_RECORDS = 2048,
     TTDA_MOST_CELLS = 1024,
+    TTDA_MOST_ARRAYS = 64,
     TTDA_MOST_EXPRESSION = 100
 };
 
@@ -79,12 +82,16 @@ static inline uint16_t ttda_tokens(uint64_t answer) { return (uint16_t)(answer >
 static inline uint16_t ttda_place(uint64_t answer) { return (uint16_t)(answer >> 48); }
 static inline int32_t ttda_value(uint64_t answer) { return (int32_t)(uint32_t)(answer >> 16); }
 
-/* Runs a graph. The answer has 16 bits each, lowest first: the word (TTDA_COMPLETED, TTDA_HUNG, TTDA_SPENT, or 1 to 14 and 17
+/* Runs a graph. arrays is a table of named arrays, first cell and length of each, 16 bits each: the constant of a FETCH or a STORE
+   names one, counted from 1, and its operand is an index, counted from 1; constant 0 is the whole store. A table of no bytes has no
+   array. The answer has 16 bits each, lowest first: the word (TTDA_COMPLETED, TTDA_HUNG, TTDA_SPENT, or 1 to 14, 17 and 22
    refused), firings, tokens, place.
    Writes: the cells, and as many records of the ledger as there are tokens. Refused before any firing, nothing: ledger and cells are
    then as lent, and a program that prints such cells prints what they held before. A refused firing leaves both as it found them.
-   7: inputs, picks, ledger or cells are not whole records, or too many. */
+   7: inputs, picks, ledger or cells are not whole records, or too many. 22: arrays is not whole records, or too many, or one ends past
+   the cells (place 0), or else a constant of a FETCH or a STORE that names none (its place). */
 uint64_t ttda_run(const uint8_t *graph, size_t graph_len,
+                  const uint8_t *arrays, size_t arrays_len,
                   const uint8_t *inputs, size_t inputs_len,
                   const uint8_t *picks, size_t picks_len,
                   uint16_t budget,
@@ -95,8 +102,9 @@ uint64_t ttda_run(const uint8_t *graph, size_t graph_len,
    them. Budget and picks are those of this part; the answer counts all firings. A state is taken exactly if it meets the conditions that
    docs/RULES.md lists, whether or not a run left it. Any other is refused by 24.
    Writes: as ttda_run; if it is refused by 24, nothing.
-   7: as ttda_run. */
+   7 and 22: as ttda_run; the table is lent again, and is no part of the state. */
 uint64_t ttda_carry_on(const uint8_t *graph, size_t graph_len,
+                       const uint8_t *arrays, size_t arrays_len,
                        const uint8_t *picks, size_t picks_len,
                        uint16_t budget, uint16_t firings, uint16_t tokens,
                        uint8_t *ledger, size_t ledger_len,
@@ -106,6 +114,7 @@ uint64_t ttda_carry_on(const uint8_t *graph, size_t graph_len,
    Writes: as ttda_run, and a record for each firing from the start of log.
    7: as ttda_run, or the log is not whole records, or has fewer than the budget and fewer than TTDA_MOST_RECORDS. */
 uint64_t ttda_run_logged(const uint8_t *graph, size_t graph_len,
+                         const uint8_t *arrays, size_t arrays_len,
                          const uint8_t *inputs, size_t inputs_len,
                          const uint8_t *picks, size_t picks_len,
                          uint16_t budget,
@@ -119,6 +128,7 @@ uint64_t ttda_run_logged(const uint8_t *graph, size_t graph_len,
    Writes: as ttda_run; a log that is refused by 20 at its first record leaves the inputs written.
    7: inputs, ledger or cells are not whole records, or too many. */
 uint64_t ttda_replay(const uint8_t *graph, size_t graph_len,
+                     const uint8_t *arrays, size_t arrays_len,
                      const uint8_t *inputs, size_t inputs_len,
                      const uint8_t *log, size_t log_len,
                      uint8_t *ledger, size_t ledger_len,
@@ -130,6 +140,7 @@ uint64_t ttda_replay(const uint8_t *graph, size_t graph_len,
    profile; and the number of these records to *records, also where the call is refused.
    7: inputs, ledger or cells are not whole records, or too many, or the profile is not whole records. */
 uint64_t ttda_profile(const uint8_t *graph, size_t graph_len,
+                      const uint8_t *arrays, size_t arrays_len,
                       const uint8_t *inputs, size_t inputs_len,
                       uint8_t *ledger, size_t ledger_len,
                       uint8_t *cells, size_t cells_len,
@@ -138,7 +149,7 @@ uint64_t ttda_profile(const uint8_t *graph, size_t graph_len,
 
 /* What a graph will need, before it runs: no run from these inputs has more firings or tokens. The answer has 16 bits each, lowest
    first: the word (0, or 1 to 7 or 19 refused), firings, tokens, place. 19 is a graph with NEXT, ENTER or LEAVE, at the first such
-   record.
+   record. It takes no named arrays, and any constant of a FETCH or a STORE is let by.
    Writes: nothing. 7: inputs are not whole records, or too many. */
 uint64_t ttda_bounds(const uint8_t *graph, size_t graph_len,
                      const uint8_t *inputs, size_t inputs_len);
@@ -173,14 +184,16 @@ uint64_t ttda_convert_log(const uint8_t *old, size_t old_len,
                           uint8_t *out, size_t out_len);
 
 /* Whether what was kept of one run (its answer, listing and cells, and the profile of its graph) serves for a run that is asked for: 1, or 0.
-   Both are given alike: graph, inputs, picks, budget, and the lengths in bytes of the ledger and the cells that ttda_run is lent; kept_answer is what
-   ttda_run answered. 1 if graph, inputs and both lengths are equal, and either picks and budget are equal too, or the kept run completed or hung, the
+   Both are given alike: graph, named arrays, inputs, picks, budget, and the lengths in bytes of the ledger and the cells that ttda_run is lent; kept_answer is what
+   ttda_run answered. 1 if graph, arrays, inputs and both lengths are equal, and either picks and budget are equal too, or the kept run completed or hung, the
    picks asked for are whole records, 2,048 at most, and the budget asked for is no less than the kept firings. Then the run asked for has that answer
    and that listing and, unless it is refused before any firing, those cells, and ttda_profile writes the same records. */
 uint64_t ttda_serves(const uint8_t *kept_graph, size_t kept_graph_len,
+                     const uint8_t *kept_arrays, size_t kept_arrays_len,
                      const uint8_t *kept_inputs, size_t kept_inputs_len,
                      const uint8_t *kept_picks, size_t kept_picks_len,
                      const uint8_t *graph, size_t graph_len,
+                     const uint8_t *arrays, size_t arrays_len,
                      const uint8_t *inputs, size_t inputs_len,
                      const uint8_t *picks, size_t picks_len,
                      uint16_t kept_budget, uint16_t budget,

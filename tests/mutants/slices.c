@@ -13,20 +13,25 @@ struct slice {
     size_t length;
 };
 
-uint64_t unproved_run(const struct slice *graph, const struct slice *inputs, const struct slice *picks, uint16_t budget,
-                      const struct slice *ledger, const struct slice *cells);
-uint64_t unproved_profile(const struct slice *graph, const struct slice *inputs, const struct slice *ledger,
-                          const struct slice *cells, const struct slice *profile, uint64_t *records);
-uint64_t unproved_run_logged(const struct slice *graph, const struct slice *inputs, const struct slice *picks,
-                             uint16_t budget, const struct slice *ledger, const struct slice *cells,
-                             const struct slice *log);
-uint64_t unproved_replay(const struct slice *graph, const struct slice *inputs, const struct slice *log,
-                         const struct slice *ledger, const struct slice *cells);
+uint64_t unproved_run(const struct slice *graph, const struct slice *arrays, const struct slice *inputs,
+                      const struct slice *picks, uint16_t budget, const struct slice *ledger, const struct slice *cells);
+uint64_t unproved_profile(const struct slice *graph, const struct slice *arrays, const struct slice *inputs,
+                          const struct slice *ledger, const struct slice *cells, const struct slice *profile,
+                          uint64_t *records);
+uint64_t unproved_run_logged(const struct slice *graph, const struct slice *arrays, const struct slice *inputs,
+                             const struct slice *picks, uint16_t budget, const struct slice *ledger,
+                             const struct slice *cells, const struct slice *log);
+uint64_t unproved_replay(const struct slice *graph, const struct slice *arrays, const struct slice *inputs,
+                         const struct slice *log, const struct slice *ledger, const struct slice *cells);
 uint64_t unproved_bounds(const struct slice *graph, const struct slice *inputs);
-uint64_t unproved_carry_on(const struct slice *graph, const struct slice *picks, uint16_t budget, uint16_t firings,
-                           uint16_t tokens, const struct slice *ledger, const struct slice *cells);
+uint64_t unproved_carry_on(const struct slice *graph, const struct slice *arrays, const struct slice *picks, uint16_t budget,
+                           uint16_t firings, uint16_t tokens, const struct slice *ledger, const struct slice *cells);
 uint64_t unproved_expression(const struct slice *expression, const struct slice *graph);
 uint64_t unproved_expression_value(const struct slice *expression, const struct slice *values);
+uint64_t unproved_serves(const struct slice *kept_graph, const struct slice *kept_arrays, const struct slice *kept_inputs,
+                         const struct slice *kept_picks, const struct slice *graph, const struct slice *arrays,
+                         const struct slice *inputs, const struct slice *picks, uint16_t kept_budget, uint16_t budget,
+                         size_t kept_ledger, size_t ledger, size_t kept_cells, size_t cells, uint64_t kept_answer);
 uint64_t unproved_list(const struct slice *ledger, const struct slice *out);
 uint64_t unproved_convert(const struct slice *old, const struct slice *out);
 uint64_t unproved_convert_log(const struct slice *old, const struct slice *out);
@@ -49,38 +54,40 @@ static void count(void) {
     }
 }
 
-uint64_t ttda_run(const uint8_t *graph, size_t graph_len, const uint8_t *inputs, size_t inputs_len, const uint8_t *picks,
-                  size_t picks_len, uint16_t budget, uint8_t *ledger, size_t ledger_len, uint8_t *cells, size_t cells_len) {
-    const struct slice g = {graph, graph_len}, i = {inputs, inputs_len}, p = {picks, picks_len};
+uint64_t ttda_run(const uint8_t *graph, size_t graph_len, const uint8_t *arrays, size_t arrays_len, const uint8_t *inputs,
+                  size_t inputs_len, const uint8_t *picks, size_t picks_len, uint16_t budget, uint8_t *ledger,
+                  size_t ledger_len, uint8_t *cells, size_t cells_len) {
+    const struct slice g = {graph, graph_len}, a = {arrays, arrays_len}, i = {inputs, inputs_len}, p = {picks, picks_len};
     const struct slice l = {ledger, ledger_len}, c = {cells, cells_len};
     count();
-    return unproved_run(&g, &i, &p, budget, &l, &c);
+    return unproved_run(&g, &a, &i, &p, budget, &l, &c);
 }
 
-uint64_t ttda_profile(const uint8_t *graph, size_t graph_len, const uint8_t *inputs, size_t inputs_len, uint8_t *ledger,
-                      size_t ledger_len, uint8_t *cells, size_t cells_len, uint8_t *profile, size_t profile_len,
-                      uint64_t *records) {
-    const struct slice g = {graph, graph_len}, i = {inputs, inputs_len}, l = {ledger, ledger_len};
-    const struct slice c = {cells, cells_len}, p = {profile, profile_len};
+uint64_t ttda_profile(const uint8_t *graph, size_t graph_len, const uint8_t *arrays, size_t arrays_len, const uint8_t *inputs,
+                      size_t inputs_len, uint8_t *ledger, size_t ledger_len, uint8_t *cells, size_t cells_len,
+                      uint8_t *profile, size_t profile_len, uint64_t *records) {
+    const struct slice g = {graph, graph_len}, a = {arrays, arrays_len}, i = {inputs, inputs_len};
+    const struct slice l = {ledger, ledger_len}, c = {cells, cells_len}, p = {profile, profile_len};
     count();
-    return unproved_profile(&g, &i, &l, &c, &p, records);
+    return unproved_profile(&g, &a, &i, &l, &c, &p, records);
 }
 
-uint64_t ttda_run_logged(const uint8_t *graph, size_t graph_len, const uint8_t *inputs, size_t inputs_len,
-                         const uint8_t *picks, size_t picks_len, uint16_t budget, uint8_t *ledger, size_t ledger_len,
-                         uint8_t *cells, size_t cells_len, uint8_t *log, size_t log_len) {
-    const struct slice g = {graph, graph_len}, i = {inputs, inputs_len}, p = {picks, picks_len};
+uint64_t ttda_run_logged(const uint8_t *graph, size_t graph_len, const uint8_t *arrays, size_t arrays_len,
+                         const uint8_t *inputs, size_t inputs_len, const uint8_t *picks, size_t picks_len, uint16_t budget,
+                         uint8_t *ledger, size_t ledger_len, uint8_t *cells, size_t cells_len, uint8_t *log, size_t log_len) {
+    const struct slice g = {graph, graph_len}, a = {arrays, arrays_len}, i = {inputs, inputs_len}, p = {picks, picks_len};
     const struct slice l = {ledger, ledger_len}, c = {cells, cells_len}, o = {log, log_len};
     count();
-    return unproved_run_logged(&g, &i, &p, budget, &l, &c, &o);
+    return unproved_run_logged(&g, &a, &i, &p, budget, &l, &c, &o);
 }
 
-uint64_t ttda_replay(const uint8_t *graph, size_t graph_len, const uint8_t *inputs, size_t inputs_len, const uint8_t *log,
-                     size_t log_len, uint8_t *ledger, size_t ledger_len, uint8_t *cells, size_t cells_len) {
-    const struct slice g = {graph, graph_len}, i = {inputs, inputs_len}, o = {log, log_len};
+uint64_t ttda_replay(const uint8_t *graph, size_t graph_len, const uint8_t *arrays, size_t arrays_len, const uint8_t *inputs,
+                     size_t inputs_len, const uint8_t *log, size_t log_len, uint8_t *ledger, size_t ledger_len, uint8_t *cells,
+                     size_t cells_len) {
+    const struct slice g = {graph, graph_len}, a = {arrays, arrays_len}, i = {inputs, inputs_len}, o = {log, log_len};
     const struct slice l = {ledger, ledger_len}, c = {cells, cells_len};
     count();
-    return unproved_replay(&g, &i, &o, &l, &c);
+    return unproved_replay(&g, &a, &i, &o, &l, &c);
 }
 
 uint64_t ttda_bounds(const uint8_t *graph, size_t graph_len, const uint8_t *inputs, size_t inputs_len) {
@@ -89,12 +96,13 @@ uint64_t ttda_bounds(const uint8_t *graph, size_t graph_len, const uint8_t *inpu
     return unproved_bounds(&g, &i);
 }
 
-uint64_t ttda_carry_on(const uint8_t *graph, size_t graph_len, const uint8_t *picks, size_t picks_len, uint16_t budget,
-                       uint16_t firings, uint16_t tokens, uint8_t *ledger, size_t ledger_len, uint8_t *cells, size_t cells_len) {
-    const struct slice g = {graph, graph_len}, p = {picks, picks_len};
+uint64_t ttda_carry_on(const uint8_t *graph, size_t graph_len, const uint8_t *arrays, size_t arrays_len, const uint8_t *picks,
+                       size_t picks_len, uint16_t budget, uint16_t firings, uint16_t tokens, uint8_t *ledger,
+                       size_t ledger_len, uint8_t *cells, size_t cells_len) {
+    const struct slice g = {graph, graph_len}, a = {arrays, arrays_len}, p = {picks, picks_len};
     const struct slice l = {ledger, ledger_len}, c = {cells, cells_len};
     count();
-    return unproved_carry_on(&g, &p, budget, firings, tokens, &l, &c);
+    return unproved_carry_on(&g, &a, &p, budget, firings, tokens, &l, &c);
 }
 
 uint64_t ttda_expression(const uint8_t *expression, size_t expression_len, uint8_t *graph, size_t graph_len) {
@@ -106,6 +114,19 @@ uint64_t ttda_expression(const uint8_t *expression, size_t expression_len, uint8
 uint64_t ttda_expression_value(const uint8_t *expression, size_t expression_len, const uint8_t *values, size_t values_len) {
     const struct slice e = {expression, expression_len}, v = {values, values_len};
     return unproved_expression_value(&e, &v);
+}
+
+uint64_t ttda_serves(const uint8_t *kept_graph, size_t kept_graph_len, const uint8_t *kept_arrays, size_t kept_arrays_len,
+                     const uint8_t *kept_inputs, size_t kept_inputs_len, const uint8_t *kept_picks, size_t kept_picks_len,
+                     const uint8_t *graph, size_t graph_len, const uint8_t *arrays, size_t arrays_len, const uint8_t *inputs,
+                     size_t inputs_len, const uint8_t *picks, size_t picks_len, uint16_t kept_budget, uint16_t budget,
+                     size_t kept_ledger_len, size_t ledger_len, size_t kept_cells_len, size_t cells_len,
+                     uint64_t kept_answer) {
+    const struct slice kg = {kept_graph, kept_graph_len}, ka = {kept_arrays, kept_arrays_len};
+    const struct slice ki = {kept_inputs, kept_inputs_len}, kp = {kept_picks, kept_picks_len};
+    const struct slice g = {graph, graph_len}, a = {arrays, arrays_len}, i = {inputs, inputs_len}, p = {picks, picks_len};
+    return unproved_serves(&kg, &ka, &ki, &kp, &g, &a, &i, &p, kept_budget, budget, kept_ledger_len, ledger_len,
+                           kept_cells_len, cells_len, kept_answer);
 }
 
 uint64_t ttda_list(const uint8_t *ledger, size_t ledger_len, uint8_t *out, size_t out_len) {

@@ -44,23 +44,24 @@ macro_rules! function {
 }
 
 functions! {
-    /// Runs a graph under picks, with a budget of firings.
-    run = ttda_run(graph: lent, inputs: lent, picks: lent, budget: u16, ledger: written, cells: written) -> Answer;
-
-    /// Goes on from what a run left in ledger and cells, and from the firings and tokens that it answered.
-    carry_on = ttda_carry_on(graph: lent, picks: lent, budget: u16, firings: u16, tokens: u16, ledger: written,
+    /// Runs a graph under picks, with a budget of firings. A table of no bytes names no array.
+    run = ttda_run(graph: lent, arrays: lent, inputs: lent, picks: lent, budget: u16, ledger: written,
         cells: written) -> Answer;
 
+    /// Goes on from what a run left in ledger and cells, and from the firings and tokens that it answered.
+    carry_on = ttda_carry_on(graph: lent, arrays: lent, picks: lent, budget: u16, firings: u16, tokens: u16,
+        ledger: written, cells: written) -> Answer;
+
     /// Runs a graph and writes a record for each firing to the log.
-    run_logged = ttda_run_logged(graph: lent, inputs: lent, picks: lent, budget: u16, ledger: written, cells: written,
-        log: written) -> Answer;
+    run_logged = ttda_run_logged(graph: lent, arrays: lent, inputs: lent, picks: lent, budget: u16, ledger: written,
+        cells: written, log: written) -> Answer;
 
     /// Fires the activities that a log names, in turn.
-    replay = ttda_replay(graph: lent, inputs: lent, log: lent, ledger: written, cells: written) -> Answer;
+    replay = ttda_replay(graph: lent, arrays: lent, inputs: lent, log: lent, ledger: written, cells: written) -> Answer;
 
     /// Fires by ideal steps, writes a record for each to the profile, and how many there are to `records`.
-    profile = ttda_profile(graph: lent, inputs: lent, ledger: written, cells: written, profile: written,
-        records: counted) -> Answer;
+    profile = ttda_profile(graph: lent, arrays: lent, inputs: lent, ledger: written, cells: written,
+        profile: written, records: counted) -> Answer;
 
     /// How many firings and tokens no run of a graph without loops and calls exceeds; nothing is fired.
     bounds = ttda_bounds(graph: lent, inputs: lent) -> Answer;
@@ -72,8 +73,8 @@ functions! {
     expression_value = ttda_expression_value(expression: lent, values: lent) -> Value;
 
     /// Whether what was kept of one run serves for a run that is asked for. Ledger and cells are given by their lengths in bytes.
-    serves = ttda_serves(kept_graph: lent, kept_inputs: lent, kept_picks: lent, graph: lent, inputs: lent, picks: lent,
-        kept_budget: u16, budget: u16, kept_ledger: usize, ledger: usize, kept_cells: usize, cells: usize,
+    serves = ttda_serves(kept_graph: lent, kept_arrays: lent, kept_inputs: lent, kept_picks: lent, graph: lent,
+        arrays: lent, inputs: lent, picks: lent, kept_budget: u16, budget: u16, kept_ledger: usize, ledger: usize, kept_cells: usize, cells: usize,
         kept_answer: answered) -> Served;
 
     /// Sorts the used records of a ledger into `out` of the same length.

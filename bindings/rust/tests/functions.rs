@@ -44,7 +44,7 @@ fn printed(answer: Answer, ledger: &[u8], cells: &[u8]) -> String {
 #[test]
 fn a_run_is_listed_and_printed() {
     let (graph, inputs, mut ledger, mut cells) = lent();
-    let answer = ttda::run(&graph, &inputs, &[], 9, &mut ledger, &mut cells);
+    let answer = ttda::run(&graph, &[], &inputs, &[], 9, &mut ledger, &mut cells);
     assert_eq!(answer, Answer::of(Word::COMPLETED, 1, 3, 0));
     assert_eq!(
         (answer.word(), answer.firings(), answer.tokens()),
@@ -56,13 +56,22 @@ fn a_run_is_listed_and_printed() {
 #[test]
 fn a_budget_that_is_used_up_is_carried_on() {
     let (graph, inputs, mut ledger, mut cells) = lent();
-    let cut = ttda::run(&graph, &inputs, &[], 0, &mut ledger, &mut cells);
+    let cut = ttda::run(&graph, &[], &inputs, &[], 0, &mut ledger, &mut cells);
     assert_eq!(
         (cut.word(), cut.parts()),
         (Word::Spent, (Word::SPENT, 0, 2, 0))
     );
     let (firings, tokens) = (cut.parts().1, cut.parts().2);
-    let answer = ttda::carry_on(&graph, &[], 9, firings, tokens, &mut ledger, &mut cells);
+    let answer = ttda::carry_on(
+        &graph,
+        &[],
+        &[],
+        9,
+        firings,
+        tokens,
+        &mut ledger,
+        &mut cells,
+    );
     assert_eq!(printed(answer, &ledger, &cells), TEXT);
 }
 
@@ -70,10 +79,19 @@ fn a_budget_that_is_used_up_is_carried_on() {
 fn a_log_is_replayed() {
     let (graph, inputs, mut ledger, mut cells) = lent();
     let mut log = [0; LOGGED];
-    let first = ttda::run_logged(&graph, &inputs, &[], 1, &mut ledger, &mut cells, &mut log);
+    let first = ttda::run_logged(
+        &graph,
+        &[],
+        &inputs,
+        &[],
+        1,
+        &mut ledger,
+        &mut cells,
+        &mut log,
+    );
     assert_eq!(first.firings(), 1);
     let (_, _, mut ledger, mut cells) = lent();
-    let answer = ttda::replay(&graph, &inputs, &log, &mut ledger, &mut cells);
+    let answer = ttda::replay(&graph, &[], &inputs, &log, &mut ledger, &mut cells);
     assert_eq!(printed(answer, &ledger, &cells), TEXT);
 }
 
@@ -83,6 +101,7 @@ fn a_profile_has_a_record_for_each_step() {
     let (mut profile, mut records) = ([0; 2 * STEP], u64::MAX);
     let answer = ttda::profile(
         &graph,
+        &[],
         &inputs,
         &mut ledger,
         &mut cells,
@@ -151,9 +170,11 @@ fn a_kept_run_serves_other_orders_and_no_other_run() {
         let (kept_ledger, kept_cells) = (4 * TOKEN, 2 * CELL);
         let served = ttda::serves(
             &kept_graph,
+            &[],
             &kept_inputs,
             &[],
             graph,
+            &[],
             inputs,
             picks,
             9,

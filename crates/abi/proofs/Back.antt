@@ -38,10 +38,10 @@ bounds-back graph inputs =
 pub numbers-back : NumbersBack
 numbers-back = record {
   ofRuns = run-back;
-  ofLogged = λ graph inputs picks budget ledger cells lent. recovered _ (all-counted .byLogged graph inputs picks budget ledger cells lent);
-  ofReplays = λ graph inputs log ledger cells. recovered _ (all-counted .byReplay graph inputs log ledger cells);
-  ofProfiles = λ graph inputs ledger cells lent. recovered _ (all-counted .byProfile graph inputs ledger cells lent);
-  ofCarried = λ graph picks ledger cells budget firings tokens. recovered _ (all-counted .byCarried graph picks ledger cells budget firings tokens);
+  ofLogged = λ graph arrays inputs picks budget ledger cells lent. recovered _ (all-counted .byLogged graph arrays inputs picks budget ledger cells lent);
+  ofReplays = λ graph arrays inputs log ledger cells. recovered _ (all-counted .byReplay graph arrays inputs log ledger cells);
+  ofProfiles = λ graph arrays inputs ledger cells lent. recovered _ (all-counted .byProfile graph arrays inputs ledger cells lent);
+  ofCarried = λ graph arrays picks ledger cells budget firings tokens. recovered _ (all-counted .byCarried graph arrays picks ledger cells budget firings tokens);
   ofBounds = bounds-back;
   ofNumbers = packed-unpacked;
 }

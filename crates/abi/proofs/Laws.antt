@@ -15,7 +15,7 @@ use Rattle.record.specs.Cells as Cells
 use Rattle.record.specs.Widths.{tokenWidth, cellWidth}
 use Rattle.rules.specs.Answer.{Values, numberOf, wordOf, placeIn, valuesOf}
 use Rattle.rules.specs.declared.answer.Refusal.{Refusal}
-use Rattle.rules.specs.declared.answer.Refusal.the-variants.{GraphLength, UnknownOperation, FanOut, BadArc, BadSite, BadInput, BadStore, LedgerFull, SecondToken, NoSuchCell, SecondWrite, OutOfRange, Iteration, TooDeep, NoReturn, ProfileFull, NotLoopFree, NotEnabled, DamagedState, BadExpression, GraphTooLong}
+use Rattle.rules.specs.declared.answer.Refusal.the-variants.{GraphLength, UnknownOperation, FanOut, BadArc, BadSite, BadInput, BadStore, LedgerFull, SecondToken, NoSuchCell, SecondWrite, OutOfRange, Iteration, TooDeep, NoReturn, ProfileFull, NotLoopFree, NotEnabled, BadArray, DamagedState, BadExpression, GraphTooLong}
 use Rattle.rules.specs.declared.answer.Outcome.{Outcome}
 use Rattle.rules.specs.declared.answer.Outcome.the-variants.{Completed, Hung, Spent, Refused}
 use Rattle.rules.specs.declared.answer.Answer.{Answer}
@@ -53,6 +53,7 @@ refusal-back NoReturn place = refl
 refusal-back ProfileFull place = refl
 refusal-back NotLoopFree place = refl
 refusal-back NotEnabled place = refl
+refusal-back BadArray place = refl
 refusal-back DamagedState place = refl
 refusal-back BadExpression place = refl
 refusal-back GraphTooLong place = refl
@@ -83,6 +84,7 @@ number-small NoReturn = omega arith
 number-small ProfileFull = omega arith
 number-small NotLoopFree = omega arith
 number-small NotEnabled = omega arith
+number-small BadArray = omega arith
 number-small DamagedState = omega arith
 number-small BadExpression = omega arith
 number-small GraphTooLong = omega arith
@@ -123,15 +125,15 @@ unpacked-packed a h =
 -- ---- and every answer of a run fits, whatever is lent and whatever the budget
 
 -- "Firings never exceed tokens", tokens are 2,048 at most, and a place is below 2,048
-pub run-fits : (graph inputs picks : List ℕ) (budget ledger cells : ℕ) → Fits (answer (result graph inputs picks budget ledger cells))
-run-fits graph inputs picks budget ledger cells =
-    let small = answer-small graph inputs picks budget ledger cells in
+pub run-fits : (graph arrays inputs picks : List ℕ) (budget ledger cells : ℕ) → Fits (answer (result graph arrays inputs picks budget ledger cells))
+run-fits graph arrays inputs picks budget ledger cells =
+    let small = answer-small graph arrays inputs picks budget ledger cells in
     (omega (arith, small .byTokens, small .tokens), omega (arith, small .tokens), omega (arith, small .place))
 
 -- the number that a run answers gives its answer back
-pub run-back : (graph inputs picks : List ℕ) (budget ledger cells : ℕ)
-    → unpacked (packed (valuesOf (answer (result graph inputs picks budget ledger cells)))) ≡ Answered (answer (result graph inputs picks budget ledger cells))
-run-back graph inputs picks budget ledger cells = unpacked-packed (answer (result graph inputs picks budget ledger cells)) (run-fits graph inputs picks budget ledger cells)
+pub run-back : (graph arrays inputs picks : List ℕ) (budget ledger cells : ℕ)
+    → unpacked (packed (valuesOf (answer (result graph arrays inputs picks budget ledger cells)))) ≡ Answered (answer (result graph arrays inputs picks budget ledger cells))
+run-back graph arrays inputs picks budget ledger cells = unpacked-packed (answer (result graph arrays inputs picks budget ledger cells)) (run-fits graph arrays inputs picks budget ledger cells)
 
 -- ---- so printing the number that a run answers prints the answer: what text::print does with it, ttda_print does
 
@@ -144,13 +146,13 @@ pub print-after : (a : Answer) → Fits a → (listing cells out : List ℕ)
 print-after a h listing cells out = rw (unpacked-packed a h)
 
 -- the length that is answered and the bytes that are left, for the number of any run
-pub run-printed : (graph inputs picks : List ℕ) (budget ledgerBytes cellBytes : ℕ) (listing cells out : List ℕ)
-    → let a = answer (result graph inputs picks budget ledgerBytes cellBytes) in
+pub run-printed : (graph arrays inputs picks : List ℕ) (budget ledgerBytes cellBytes : ℕ) (listing cells out : List ℕ)
+    → let a = answer (result graph arrays inputs picks budget ledgerBytes cellBytes) in
     (printAnswer (unpacked (packed (valuesOf a))) listing cells out ≡ lengthOf (printedOf (printed a listing cells) out))
     × (printAfter (unpacked (packed (valuesOf a))) listing cells out ≡ outAfter (printed a listing cells) out)
-run-printed graph inputs picks budget ledgerBytes cellBytes listing cells out =
-    let a = answer (result graph inputs picks budget ledgerBytes cellBytes) in
-    let fits = run-fits graph inputs picks budget ledgerBytes cellBytes in
+run-printed graph arrays inputs picks budget ledgerBytes cellBytes listing cells out =
+    let a = answer (result graph arrays inputs picks budget ledgerBytes cellBytes) in
+    let fits = run-fits graph arrays inputs picks budget ledgerBytes cellBytes in
     (print-answer a fits listing cells out, print-after a fits listing cells out)
 
 -- ---- 0 and 1 are no text's length: the shortest has 11 bytes

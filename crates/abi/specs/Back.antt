@@ -18,10 +18,10 @@ abbrev pub Recovered : Answer → Type 0
 Recovered a = unpacked (packed (valuesOf a)) ≡ Answered a
 
 pub record NumbersBack : Type 0 where
-  pub ofRuns : (graph inputs picks : List ℕ) (budget ledger cells : ℕ) → Recovered (answer (result graph inputs picks budget ledger cells))
-  pub ofLogged : (graph inputs picks : List ℕ) (budget ledger cells lent : ℕ) → Recovered (answer (logged graph inputs picks budget ledger cells lent .result))
-  pub ofReplays : (graph inputs log : List ℕ) (ledger cells : ℕ) → Recovered (answer (replayed graph inputs log ledger cells))
-  pub ofProfiles : (graph inputs : List ℕ) (ledger cells lent : ℕ) → Recovered (answer (profiled graph inputs ledger cells lent .result))
-  pub ofCarried : (graph picks ledger cells : List ℕ) (budget firings tokens : ℕ) → Recovered (answer (carried graph picks budget ledger cells firings tokens))
+  pub ofRuns : (graph arrays inputs picks : List ℕ) (budget ledger cells : ℕ) → Recovered (answer (result graph arrays inputs picks budget ledger cells))
+  pub ofLogged : (graph arrays inputs picks : List ℕ) (budget ledger cells lent : ℕ) → Recovered (answer (logged graph arrays inputs picks budget ledger cells lent .result))
+  pub ofReplays : (graph arrays inputs log : List ℕ) (ledger cells : ℕ) → Recovered (answer (replayed graph arrays inputs log ledger cells))
+  pub ofProfiles : (graph arrays inputs : List ℕ) (ledger cells lent : ℕ) → Recovered (answer (profiled graph arrays inputs ledger cells lent .result))
+  pub ofCarried : (graph arrays picks ledger cells : List ℕ) (budget firings tokens : ℕ) → Recovered (answer (carried graph arrays picks budget ledger cells firings tokens))
   pub ofBounds : (graph inputs : List ℕ) → unpacked (packed (valuesNeeded (needs graph inputs))) ≡ Answered (answerNeeded (needs graph inputs))
   pub ofNumbers : (n : ℕ) (a : Answer) → n < 18446744073709551616 → unpacked n ≡ Answered a → packed (valuesOf a) ≡ n

@@ -92,6 +92,7 @@ fn refusal_of(word: u64) -> Numbered
         18 => Numbered::One(Refusal::ProfileFull),
         19 => Numbered::One(Refusal::NotLoopFree),
         20 => Numbered::One(Refusal::NotEnabled),
+        22 => Numbered::One(Refusal::BadArray),
         24 => Numbered::One(Refusal::DamagedState),
         25 => Numbered::One(Refusal::BadExpression),
         26 => Numbered::One(Refusal::GraphTooLong),
@@ -149,22 +150,24 @@ fn unpack(number: u64) -> Unpacked
 #[no_mangle]
 pub extern "C" fn ttda_run(
     graph: &[u8],
+    arrays: &[u8],
     inputs: &[u8],
     picks: &[u8],
     budget: u16,
     ledger: &mut [u8],
     cells: &mut [u8],
 ) -> u64
-    ensures { λ r. ⌜ r ≡ packed (valuesOf (Run·answer (result (now (graph .entry)) (now (inputs .entry)) (now (picks .entry)) budget (length (now (ledger .entry))) (length (now (cells .entry)))))) ⌝ }
-    ensures { λ _. ⌜ now (ledger .exit) ≡ ledgerAfter (result (now (graph .entry)) (now (inputs .entry)) (now (picks .entry)) budget (length (now (ledger .entry))) (length (now (cells .entry)))) (now (ledger .entry)) ⌝ }
-    ensures { λ _. ⌜ now (cells .exit) ≡ cellsAfter (result (now (graph .entry)) (now (inputs .entry)) (now (picks .entry)) budget (length (now (ledger .entry))) (length (now (cells .entry)))) (now (cells .entry)) ⌝ }
+    ensures { λ r. ⌜ r ≡ packed (valuesOf (Run·answer (result (now (graph .entry)) (now (arrays .entry)) (now (inputs .entry)) (now (picks .entry)) budget (length (now (ledger .entry))) (length (now (cells .entry)))))) ⌝ }
+    ensures { λ _. ⌜ now (ledger .exit) ≡ ledgerAfter (result (now (graph .entry)) (now (arrays .entry)) (now (inputs .entry)) (now (picks .entry)) budget (length (now (ledger .entry))) (length (now (cells .entry)))) (now (ledger .entry)) ⌝ }
+    ensures { λ _. ⌜ now (cells .exit) ≡ cellsAfter (result (now (graph .entry)) (now (arrays .entry)) (now (inputs .entry)) (now (picks .entry)) budget (length (now (ledger .entry))) (length (now (cells .entry)))) (now (cells .entry)) ⌝ }
 {
-    number_of(engine::run(graph, inputs, picks, budget, ledger, cells))
+    number_of(engine::run(graph, arrays, inputs, picks, budget, ledger, cells))
 }
 
 #[no_mangle]
 pub extern "C" fn ttda_carry_on(
     graph: &[u8],
+    arrays: &[u8],
     picks: &[u8],
     budget: u16,
     firings: u16,
@@ -172,16 +175,17 @@ pub extern "C" fn ttda_carry_on(
     ledger: &mut [u8],
     cells: &mut [u8],
 ) -> u64
-    ensures { λ r. ⌜ r ≡ packed (valuesOf (Run·answer (carried (now (graph .entry)) (now (picks .entry)) budget (now (ledger .entry)) (now (cells .entry)) firings tokens))) ⌝ }
-    ensures { λ _. ⌜ now (ledger .exit) ≡ ledgerAfter (carried (now (graph .entry)) (now (picks .entry)) budget (now (ledger .entry)) (now (cells .entry)) firings tokens) (now (ledger .entry)) ⌝ }
-    ensures { λ _. ⌜ now (cells .exit) ≡ cellsAfter (carried (now (graph .entry)) (now (picks .entry)) budget (now (ledger .entry)) (now (cells .entry)) firings tokens) (now (cells .entry)) ⌝ }
+    ensures { λ r. ⌜ r ≡ packed (valuesOf (Run·answer (carried (now (graph .entry)) (now (arrays .entry)) (now (picks .entry)) budget (now (ledger .entry)) (now (cells .entry)) firings tokens))) ⌝ }
+    ensures { λ _. ⌜ now (ledger .exit) ≡ ledgerAfter (carried (now (graph .entry)) (now (arrays .entry)) (now (picks .entry)) budget (now (ledger .entry)) (now (cells .entry)) firings tokens) (now (ledger .entry)) ⌝ }
+    ensures { λ _. ⌜ now (cells .exit) ≡ cellsAfter (carried (now (graph .entry)) (now (arrays .entry)) (now (picks .entry)) budget (now (ledger .entry)) (now (cells .entry)) firings tokens) (now (cells .entry)) ⌝ }
 {
-    number_of(engine::carry_on(graph, picks, budget, firings, tokens, ledger, cells))
+    number_of(engine::carry_on(graph, arrays, picks, budget, firings, tokens, ledger, cells))
 }
 
 #[no_mangle]
 pub extern "C" fn ttda_run_logged(
     graph: &[u8],
+    arrays: &[u8],
     inputs: &[u8],
     picks: &[u8],
     budget: u16,
@@ -189,46 +193,48 @@ pub extern "C" fn ttda_run_logged(
     cells: &mut [u8],
     log: &mut [u8],
 ) -> u64
-    ensures { λ r. ⌜ r ≡ packed (valuesOf (Run·answer (logged (now (graph .entry)) (now (inputs .entry)) (now (picks .entry)) budget (length (now (ledger .entry))) (length (now (cells .entry))) (length (now (log .entry))) .result))) ⌝ }
-    ensures { λ _. ⌜ now (ledger .exit) ≡ ledgerAfter (logged (now (graph .entry)) (now (inputs .entry)) (now (picks .entry)) budget (length (now (ledger .entry))) (length (now (cells .entry))) (length (now (log .entry))) .result) (now (ledger .entry)) ⌝ }
-    ensures { λ _. ⌜ now (cells .exit) ≡ cellsAfter (logged (now (graph .entry)) (now (inputs .entry)) (now (picks .entry)) budget (length (now (ledger .entry))) (length (now (cells .entry))) (length (now (log .entry))) .result) (now (cells .entry)) ⌝ }
-    ensures { λ _. ⌜ now (log .exit) ≡ logAfter (logged (now (graph .entry)) (now (inputs .entry)) (now (picks .entry)) budget (length (now (ledger .entry))) (length (now (cells .entry))) (length (now (log .entry)))) (now (log .entry)) ⌝ }
+    ensures { λ r. ⌜ r ≡ packed (valuesOf (Run·answer (logged (now (graph .entry)) (now (arrays .entry)) (now (inputs .entry)) (now (picks .entry)) budget (length (now (ledger .entry))) (length (now (cells .entry))) (length (now (log .entry))) .result))) ⌝ }
+    ensures { λ _. ⌜ now (ledger .exit) ≡ ledgerAfter (logged (now (graph .entry)) (now (arrays .entry)) (now (inputs .entry)) (now (picks .entry)) budget (length (now (ledger .entry))) (length (now (cells .entry))) (length (now (log .entry))) .result) (now (ledger .entry)) ⌝ }
+    ensures { λ _. ⌜ now (cells .exit) ≡ cellsAfter (logged (now (graph .entry)) (now (arrays .entry)) (now (inputs .entry)) (now (picks .entry)) budget (length (now (ledger .entry))) (length (now (cells .entry))) (length (now (log .entry))) .result) (now (cells .entry)) ⌝ }
+    ensures { λ _. ⌜ now (log .exit) ≡ logAfter (logged (now (graph .entry)) (now (arrays .entry)) (now (inputs .entry)) (now (picks .entry)) budget (length (now (ledger .entry))) (length (now (cells .entry))) (length (now (log .entry)))) (now (log .entry)) ⌝ }
 {
-    number_of(engine::run_logged(graph, inputs, picks, budget, ledger, cells, log))
+    number_of(engine::run_logged(graph, arrays, inputs, picks, budget, ledger, cells, log))
 }
 
 #[no_mangle]
 pub extern "C" fn ttda_replay(
     graph: &[u8],
+    arrays: &[u8],
     inputs: &[u8],
     log: &[u8],
     ledger: &mut [u8],
     cells: &mut [u8],
 ) -> u64
-    ensures { λ r. ⌜ r ≡ packed (valuesOf (Run·answer (replayed (now (graph .entry)) (now (inputs .entry)) (now (log .entry)) (length (now (ledger .entry))) (length (now (cells .entry)))))) ⌝ }
-    ensures { λ _. ⌜ now (ledger .exit) ≡ ledgerAfter (replayed (now (graph .entry)) (now (inputs .entry)) (now (log .entry)) (length (now (ledger .entry))) (length (now (cells .entry)))) (now (ledger .entry)) ⌝ }
-    ensures { λ _. ⌜ now (cells .exit) ≡ cellsAfter (replayed (now (graph .entry)) (now (inputs .entry)) (now (log .entry)) (length (now (ledger .entry))) (length (now (cells .entry)))) (now (cells .entry)) ⌝ }
+    ensures { λ r. ⌜ r ≡ packed (valuesOf (Run·answer (replayed (now (graph .entry)) (now (arrays .entry)) (now (inputs .entry)) (now (log .entry)) (length (now (ledger .entry))) (length (now (cells .entry)))))) ⌝ }
+    ensures { λ _. ⌜ now (ledger .exit) ≡ ledgerAfter (replayed (now (graph .entry)) (now (arrays .entry)) (now (inputs .entry)) (now (log .entry)) (length (now (ledger .entry))) (length (now (cells .entry)))) (now (ledger .entry)) ⌝ }
+    ensures { λ _. ⌜ now (cells .exit) ≡ cellsAfter (replayed (now (graph .entry)) (now (arrays .entry)) (now (inputs .entry)) (now (log .entry)) (length (now (ledger .entry))) (length (now (cells .entry)))) (now (cells .entry)) ⌝ }
 {
-    number_of(replay::replay(graph, inputs, log, ledger, cells))
+    number_of(replay::replay(graph, arrays, inputs, log, ledger, cells))
 }
 
 // The number of records goes to `records`.
 #[no_mangle]
 pub extern "C" fn ttda_profile(
     graph: &[u8],
+    arrays: &[u8],
     inputs: &[u8],
     ledger: &mut [u8],
     cells: &mut [u8],
     profile: &mut [u8],
     records: &mut u64,
 ) -> u64
-    ensures { λ r. ⌜ r ≡ packed (valuesOf (profileAnswer (profiled (now (graph .entry)) (now (inputs .entry)) (length (now (ledger .entry))) (length (now (cells .entry))) (length (now (profile .entry)))) .answer)) ⌝ }
-    ensures { λ _. ⌜ now (records .exit) ≡ profileAnswer (profiled (now (graph .entry)) (now (inputs .entry)) (length (now (ledger .entry))) (length (now (cells .entry))) (length (now (profile .entry)))) .records ⌝ }
-    ensures { λ _. ⌜ now (ledger .exit) ≡ ledgerAfter (profiled (now (graph .entry)) (now (inputs .entry)) (length (now (ledger .entry))) (length (now (cells .entry))) (length (now (profile .entry))) .result) (now (ledger .entry)) ⌝ }
-    ensures { λ _. ⌜ now (cells .exit) ≡ cellsAfter (profiled (now (graph .entry)) (now (inputs .entry)) (length (now (ledger .entry))) (length (now (cells .entry))) (length (now (profile .entry))) .result) (now (cells .entry)) ⌝ }
-    ensures { λ _. ⌜ now (profile .exit) ≡ profileAfter (profiled (now (graph .entry)) (now (inputs .entry)) (length (now (ledger .entry))) (length (now (cells .entry))) (length (now (profile .entry)))) (now (profile .entry)) ⌝ }
+    ensures { λ r. ⌜ r ≡ packed (valuesOf (profileAnswer (profiled (now (graph .entry)) (now (arrays .entry)) (now (inputs .entry)) (length (now (ledger .entry))) (length (now (cells .entry))) (length (now (profile .entry)))) .answer)) ⌝ }
+    ensures { λ _. ⌜ now (records .exit) ≡ profileAnswer (profiled (now (graph .entry)) (now (arrays .entry)) (now (inputs .entry)) (length (now (ledger .entry))) (length (now (cells .entry))) (length (now (profile .entry)))) .records ⌝ }
+    ensures { λ _. ⌜ now (ledger .exit) ≡ ledgerAfter (profiled (now (graph .entry)) (now (arrays .entry)) (now (inputs .entry)) (length (now (ledger .entry))) (length (now (cells .entry))) (length (now (profile .entry))) .result) (now (ledger .entry)) ⌝ }
+    ensures { λ _. ⌜ now (cells .exit) ≡ cellsAfter (profiled (now (graph .entry)) (now (arrays .entry)) (now (inputs .entry)) (length (now (ledger .entry))) (length (now (cells .entry))) (length (now (profile .entry))) .result) (now (cells .entry)) ⌝ }
+    ensures { λ _. ⌜ now (profile .exit) ≡ profileAfter (profiled (now (graph .entry)) (now (arrays .entry)) (now (inputs .entry)) (length (now (ledger .entry))) (length (now (cells .entry))) (length (now (profile .entry)))) (now (profile .entry)) ⌝ }
 {
-    let profiled = profile::profile(graph, inputs, ledger, cells, profile);
+    let profiled = profile::profile(graph, arrays, inputs, ledger, cells, profile);
     *records = profiled.records as u64;
     let answer = profiled.answer;
     number_of(answer)
@@ -303,9 +309,11 @@ pub extern "C" fn ttda_list(ledger: &[u8], out: &mut [u8]) -> u64
 #[no_mangle]
 pub extern "C" fn ttda_serves(
     kept_graph: &[u8],
+    kept_arrays: &[u8],
     kept_inputs: &[u8],
     kept_picks: &[u8],
     graph: &[u8],
+    arrays: &[u8],
     inputs: &[u8],
     picks: &[u8],
     kept_budget: u16,
@@ -316,7 +324,7 @@ pub extern "C" fn ttda_serves(
     cells: usize,
     kept_answer: u64,
 ) -> u64
-    ensures { λ r. ⌜ ServesNumber (requestOf (now («kept_graph» .entry)) (now («kept_inputs» .entry)) (now («kept_picks» .entry)) «kept_budget» «kept_ledger» «kept_cells») «kept_answer» (requestOf (now (graph .entry)) (now (inputs .entry)) (now (picks .entry)) budget ledger cells) r ⌝ }
+    ensures { λ r. ⌜ ServesNumber (requestOf (now («kept_graph» .entry)) (now («kept_arrays» .entry)) (now («kept_inputs» .entry)) (now («kept_picks» .entry)) «kept_budget» «kept_ledger» «kept_cells») «kept_answer» (requestOf (now (graph .entry)) (now (arrays .entry)) (now (inputs .entry)) (now (picks .entry)) budget ledger cells) r ⌝ }
 {
     let Unpacked::Answered(a) = unpack(kept_answer) else {
         return 0;
@@ -333,11 +341,13 @@ pub extern "C" fn ttda_serves(
     };
     if plot_cache::serves(
         kept_graph,
+        kept_arrays,
         kept_inputs,
         kept_picks,
         kept,
         a,
         graph,
+        arrays,
         inputs,
         picks,
         asked,

@@ -9,6 +9,7 @@ use native.Mathlib.Nat.{not-suc-le-zero, zero-add, add-zero, add-suc, suc-add}
 use lib.Dec.{eqb, ltb}
 use lib.ListN.{length, getD}
 use borrow.Author.Tests.{eqb-true, ltb-true, ltb-false, lt-ltb, le-ltb}
+use Rattle.record.specs.declared.array.NamedArray.{NamedArray}
 use Rattle.record.specs.declared.tag.Tag.{Tag}
 use Rattle.record.specs.declared.token.Token as Record
 use Rattle.record.specs.declared.token.Content as RecordContent
@@ -121,9 +122,9 @@ live-content (Deferred c) b = refl
 
 -- ---- one token of the machine and its record
 
-module _ (g : List Instruction) (capacity cells : ℕ) where
+module _ (g : List Instruction) (table : List NamedArray) (capacity cells : ℕ) where
   abbrev M : Machine
-  M = machineOf g capacity cells
+  M = machineOf g table capacity cells
 
   pub held-operand : (tag : Tag) (t : Record.Token) → operandOf M tag (tokenHeld t .key) ≡ cond (tagSame tag (t .tag)) (ltb (t .port) (arityIn g tag)) false
   held-operand tag t = when-tag tag (t .tag) (ltb (t .port) (arityIn g tag)) false
@@ -133,7 +134,7 @@ module _ (g : List Instruction) (capacity cells : ℕ) where
       → onOption (liveValue (find M (record { tag = tag; port = port }) (map tokenHeld ts))) false (λ v. b) ≡ liveAt ts tag port && b
   held-live tag port [] b = refl
   held-live tag port (t ∷ ts) b =
-      rw (when-stands g capacity cells tag port t (some (contentHeld (t .content)))) (go (standsAt tag port t) (held-live tag port ts b))
+      rw (when-stands g table capacity cells tag port t (some (contentHeld (t .content)))) (go (standsAt tag port t) (held-live tag port ts b))
     where
       go : (s : Bool) → onOption (liveValue (find M (record { tag = tag; port = port }) (map tokenHeld ts))) false (λ v. b) ≡ liveAt ts tag port && b
           → onOption (liveValue (cond s (some (contentHeld (t .content))) (find M (record { tag = tag; port = port }) (map tokenHeld ts)))) false (λ v. b)
@@ -165,7 +166,7 @@ module _ (g : List Instruction) (capacity cells : ℕ) where
 
   -- ---- the list of the enabled
 
-  module _ (tables : List ℕ) (ts : List Record.Token) (cs : List RecordCell.Cell) (d : Record.Token) (table : Arities g tables) (ports : OnPorts g ts) where
+  module _ (tables : List ℕ) (ts : List Record.Token) (cs : List RecordCell.Cell) (d : Record.Token) (right : Arities g tables) (ports : OnPorts g ts) where
     -- the activity whose earliest operand is the token at a place
     abbrev act : ℕ → Activity Tag
     act p = record { place = p; tag = getD ts p d .tag }
@@ -174,7 +175,7 @@ module _ (g : List Instruction) (capacity cells : ℕ) where
     held-is-place : (i : ℕ) (t : Record.Token) → i < length ts → t ≡ getD ts i d → (0 < arityIn g (t .tag) → t .port < arityIn g (t .tag))
         → isPlace M (stateHeld ts cs) i (tokenHeld t) ≡ leads tables ts i t
     held-is-place i t h e o =
-        rw (held-operand (t .tag) t, tag-own (t .tag), table (t .tag), held-content (t .content)) (go (ltb 0 (arityIn g (t .tag))) refl)
+        rw (held-operand (t .tag) t, tag-own (t .tag), right (t .tag), held-content (t .content)) (go (ltb 0 (arityIn g (t .tag))) refl)
       where
         here : 0 < arityIn g (t .tag) → eqb (placeOf ts (t .tag)) i ≡ true → allLive (arityIn g (t .tag)) ts (t .tag) ≡ true → isLive (t .content) ≡ true
         here l q a =
@@ -219,9 +220,9 @@ module _ (g : List Instruction) (capacity cells : ℕ) where
         go true = rw (← here)
         go false = refl
 
-pub held-enabled : (g : List Instruction) (capacity cells : ℕ) (tables : List ℕ) (ts : List Record.Token) (cs : List RecordCell.Cell) (d : Record.Token)
+pub held-enabled : (g : List Instruction) (table : List NamedArray) (capacity cells : ℕ) (tables : List ℕ) (ts : List Record.Token) (cs : List RecordCell.Cell) (d : Record.Token)
     → Arities g tables → OnPorts g ts
-    → enabled (machineOf g capacity cells) (stateHeld ts cs) ≡ map (λ (p : ℕ). record { place = p; tag = getD ts p d .tag }) (enabledPlaces tables ts)
+    → enabled (machineOf g table capacity cells) (stateHeld ts cs) ≡ map (λ (p : ℕ). record { place = p; tag = getD ts p d .tag }) (enabledPlaces tables ts)
 unfolding enabled enabledPlaces
-held-enabled g capacity cells tables ts cs d table ports =
-    held-from g capacity cells tables ts cs d table ports 0 ts ports (omega arith) (λ k h. rw (zero-add k))
+held-enabled g table capacity cells tables ts cs d right ports =
+    held-from g table capacity cells tables ts cs d right ports 0 ts ports (omega arith) (λ k h. rw (zero-add k))

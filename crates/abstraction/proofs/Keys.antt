@@ -12,6 +12,7 @@ use lib.Dec.{eqb}
 use lib.IntN.{ℤ}
 use lib.ListN.{length, getD}
 use borrow.Author.Tests.{eqb-true, eq-eqb}
+use Rattle.record.specs.declared.array.NamedArray.{NamedArray}
 use Rattle.record.specs.declared.tag.Tag.{Tag}
 use Rattle.record.specs.declared.token.Token as Record
 use Rattle.record.specs.declared.instruction.Instruction.{Instruction}
@@ -141,9 +142,9 @@ found-cons : (d t : Record.Token) (ts : List Record.Token) (f : Found) → found
 found-cons d t ts (At i) = refl
 found-cons d t ts Nothing = refl
 
-module _ (g : List Instruction) (capacity cells : ℕ) where
+module _ (g : List Instruction) (table : List NamedArray) (capacity cells : ℕ) where
   abbrev M : Machine
-  M = machineOf g capacity cells
+  M = machineOf g table capacity cells
 
   pub when-stands : {B : Type 0} (tag : Tag) (port : ℕ) (t : Record.Token) (a b : B)
       → when (sameKey M (record { tag = tag; port = port }) (tokenHeld t .key)) a b ≡ cond (standsAt tag port t) a b

@@ -23,7 +23,8 @@ use Rattle.rules.specs.declared.answer.Refusal.the-variants.{LedgerFull}
 use Rattle.rules.specs.declared.answer.Outcome.the-variants.{Refused}
 use Rattle.rules.specs.declared.answer.Checked.{Checked}
 use Rattle.rules.specs.declared.answer.Checked.the-variants.{Passed, Failed}
-use Rattle.rules.specs.Check.{check, checkStores, mostCells}
+use Rattle.record.specs.GraphRecords.{graphOf}
+use Rattle.rules.specs.Check.{check, checkStores, checkArrays, mostCells}
 use Rattle.rules.specs.Run.{cellRecord, outcomeOf, Result, refusedAtOnce, ranTo, unlessFailed, result, answer, ledgerAfter, cellsAfter, tokenRecord}
 use Rattle.rules.specs.Orders.{tokensOf, cellsOf, Quiescent, Allowed}
 use Rattle.rules.specs.Invariants.{LawfulResult}
@@ -40,14 +41,14 @@ use Rattle.bounds.proofs.Runs.{quiescent}
 
 -- ---- what a run leaves, in bytes
 
-module _ (graph inputs : List ℕ) (ledger cells : ℕ) where
+module _ (graph arrays inputs : List ℕ) (ledger cells : ℕ) where
   -- as many cells as are lent
-  cell-count : (x : Result) → LawfulResult graph inputs ledger cells x → CellCount x (cells / cellWidth)
+  cell-count : (x : Result) → LawfulResult graph arrays inputs ledger cells x → CellCount x (cells / cellWidth)
   cell-count (refusedAtOnce r p) h = tt
   cell-count (ranTo e) h = length-map (e .state .cells) cellRecord ∙ h .invariants .cellCount
 
   -- and the inputs among the tokens, where the check passed
-  inputs-among : (c : Checked) (e : End Refusal Tag ℤ) → c ≡ Passed → LawfulResult graph inputs ledger cells (unlessFailed c (ranTo e)) → length inputs / tokenWidth ≤ answer (unlessFailed c (ranTo e)) .tokens
+  inputs-among : (c : Checked) (e : End Refusal Tag ℤ) → c ≡ Passed → LawfulResult graph arrays inputs ledger cells (unlessFailed c (ranTo e)) → length inputs / tokenWidth ≤ answer (unlessFailed c (ranTo e)) .tokens
   unfolding answer unlessFailed
   inputs-among Passed e p h = omega (arith, h .invariants .count, tokens-first inputs (cells / cellWidth), length-rows tokenWidth Tokens.decode (length inputs / tokenWidth) inputs)
   inputs-among (Failed r place) e p h = let z : _≡_ {A = ℕ} 0 1 = cc in absurd (omega arith)
@@ -95,10 +96,10 @@ same-place p q e = cc
 
 -- ---- two runs
 
-module _ (graph inputs : List ℕ) (l m : LentToRun) (x y : LeftByRun) (ranX : RanOn graph inputs 2048 l x) (rest : Runs.Quiescent (x .answer .outcome)) (ranY : RanOn graph inputs 2048 m y)
+module _ (graph arrays inputs : List ℕ) (l m : LentToRun) (x y : LeftByRun) (ranX : RanOn graph arrays inputs 2048 l x) (rest : Runs.Quiescent (x .answer .outcome)) (ranY : RanOn graph arrays inputs 2048 m y)
     (cells : length (m .cells) ≡ length (l .cells)) where
   abbrev resultOf : LentToRun → Result
-  resultOf k = result graph inputs (k .picks) 2048 (length (k .ledger)) (length (k .cells))
+  resultOf k = result graph arrays inputs (k .picks) 2048 (length (k .ledger)) (length (k .cells))
 
   rests : Quiescent (resultOf l)
   rests = quiescent (resultOf l) (rw (ranX .answered) at rest)
@@ -109,12 +110,12 @@ module _ (graph inputs : List ℕ) (l m : LentToRun) (x y : LeftByRun) (ranX : R
   whole-cells : length (l .cells) % cellWidth ≡ 0
   unfolding check
   whole-cells =
-      let passed = Laws.passes graph inputs (l .picks) (length (l .ledger)) (length (l .cells)) rests in
-      let stores = accepted graph inputs (capacityOf (length (l .ledger))) (checkStores (length inputs) (length (l .picks)) (length (l .ledger)) (length (l .cells))) passed .0 in
+      let passed = Laws.passes graph arrays inputs (l .picks) (length (l .ledger)) (length (l .cells)) rests in
+      let stores = accepted graph inputs (capacityOf (length (l .ledger))) (checkStores (length inputs) (length (l .picks)) (length (l .ledger)) (length (l .cells))) (checkArrays (graphOf graph) (length (l .cells) / cellWidth) arrays) passed .0 in
       whole-bytes cellWidth mostCells (length (l .cells)) (stores-whole (length inputs) (length (l .picks)) (length (l .ledger)) (length (l .cells)) stores .wholeCells) .0
 
   cells-of : (lent : List ℕ) → length lent ≡ length (l .cells) → cellsAfter (resultOf l) lent ≡ joined Cells.encode (cellsOf (resultOf l))
-  cells-of lent e = cell-bytes (resultOf l) rests lent (rw e whole-cells) (rw e (cell-count graph inputs (length (l .ledger)) (length (l .cells)) (resultOf l) (result-invariants graph inputs (l .picks) 2048 (length (l .ledger)) (length (l .cells)))))
+  cells-of lent e = cell-bytes (resultOf l) rests lent (rw e whole-cells) (rw e (cell-count graph arrays inputs (length (l .ledger)) (length (l .cells)) (resultOf l) (result-invariants graph arrays inputs (l .picks) 2048 (length (l .ledger)) (length (l .cells)))))
 
   same-end : resultOf m ≡ resultOf l → SameEnd x y (m .ledger)
   same-end same = record {
@@ -139,18 +140,18 @@ module _ (graph inputs : List ℕ) (l m : LentToRun) (x y : LeftByRun) (ranX : R
     place-of : (place : ℕ) × (answer (resultOf m) .outcome ≡ Refused LedgerFull place)
     place-of =
         by-8 (resultOf m)
-        (rw cells (Laws.too-small graph inputs (l .picks) (m .picks) (length (l .ledger)) (length (m .ledger)) (length (l .cells)) rests allowed-here (rw (← tokens) less)))
+        (rw cells (Laws.too-small graph arrays inputs (l .picks) (m .picks) (length (l .ledger)) (length (m .ledger)) (length (l .cells)) rests allowed-here (rw (← tokens) less)))
 
     at-once : small < count → resultOf m ≡ refusedAtOnce LedgerFull small
     unfolding result unlessFailed
-    at-once h = rw (cells, Laws.also-exceeds graph inputs (l .picks) (length (l .ledger)) (length (l .cells)) rests (m .picks) (length (m .ledger)) allowed-here (rw inputs-counted h))
+    at-once h = rw (cells, Laws.also-exceeds graph arrays inputs (l .picks) (length (l .ledger)) (length (l .cells)) rests (m .picks) (length (m .ledger)) allowed-here (rw inputs-counted h))
 
     in-firing : count ≤ small → count ≤ answer (resultOf m) .tokens
     unfolding result
     in-firing h =
-        inputs-among graph inputs (length (m .ledger)) (length (m .cells)) (check graph inputs (m .picks) (length (m .ledger)) (length (m .cells))) _
-        (rw cells (Laws.also-passes graph inputs (l .picks) (length (l .ledger)) (length (l .cells)) rests (m .picks) (length (m .ledger)) allowed-here (rw inputs-counted h)))
-        (result-invariants graph inputs (m .picks) 2048 (length (m .ledger)) (length (m .cells)))
+        inputs-among graph arrays inputs (length (m .ledger)) (length (m .cells)) (check graph arrays inputs (m .picks) (length (m .ledger)) (length (m .cells))) _
+        (rw cells (Laws.also-passes graph arrays inputs (l .picks) (length (l .ledger)) (length (l .cells)) rests (m .picks) (length (m .ledger)) allowed-here (rw inputs-counted h)))
+        (result-invariants graph arrays inputs (m .picks) 2048 (length (m .ledger)) (length (m .cells)))
 
     too-full : RefusedBy8 count small m y
     unfolding answer ledgerAfter cellsAfter
@@ -169,9 +170,9 @@ module _ (graph inputs : List ℕ) (l m : LentToRun) (x y : LeftByRun) (ranX : R
     }
 
 pub enough-room : EnoughRoom
-enough-room graph inputs l m x y ranX rest picks cells fits room ranY =
-    let enough = Laws.enough-room graph inputs (l .picks) (length (l .ledger)) (length (m .ledger)) (length (l .cells)) (rests graph inputs l m x y ranX rest ranY cells) fits (rw (← tokens graph inputs l m x y ranX rest ranY cells) room) in
-    same-end graph inputs l m x y ranX rest ranY cells (rw (picks, cells) enough)
+enough-room graph arrays inputs l m x y ranX rest picks cells fits room ranY =
+    let enough = Laws.enough-room graph arrays inputs (l .picks) (length (l .ledger)) (length (m .ledger)) (length (l .cells)) (rests graph arrays inputs l m x y ranX rest ranY cells) fits (rw (← tokens graph arrays inputs l m x y ranX rest ranY cells) room) in
+    same-end graph arrays inputs l m x y ranX rest ranY cells (rw (picks, cells) enough)
 
 pub too-small : TooSmall
-too-small graph inputs l m x y ranX rest allowed cells less ranY = too-full graph inputs l m x y ranX rest ranY cells allowed less
+too-small graph arrays inputs l m x y ranX rest allowed cells less ranY = too-full graph arrays inputs l m x y ranX rest ranY cells allowed less

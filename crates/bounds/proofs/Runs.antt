@@ -23,9 +23,9 @@ quiescent (refusedAtOnce r p) h = absurd h
 quiescent (ranTo e) h = rests (e .outcome) h
 
 pub no-run-exceeds : NoRunExceeds
-no-run-exceeds graph inputs firings tokens e budget l x ran =
-    rw (ran .answered) (never-exceeded graph inputs (l .picks) budget (length (l .ledger)) (length (l .cells)) firings tokens e)
+no-run-exceeds graph arrays inputs firings tokens e budget l x ran =
+    rw (ran .answered) (never-exceeded graph arrays inputs (l .picks) budget (length (l .ledger)) (length (l .cells)) firings tokens e)
 
 pub bounds-exact : BoundsExact
-bounds-exact graph inputs firings tokens e plain budget l x ran rest =
-    rw (ran .answered) (exact graph inputs (l .picks) budget (length (l .ledger)) (length (l .cells)) firings tokens e plain (quiescent _ (rw (ran .answered) at rest)))
+bounds-exact graph arrays inputs firings tokens e plain budget l x ran rest =
+    rw (ran .answered) (exact graph arrays inputs (l .picks) budget (length (l .ledger)) (length (l .cells)) firings tokens e plain (quiescent _ (rw (ran .answered) at rest)))

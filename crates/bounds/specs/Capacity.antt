@@ -26,9 +26,9 @@ pub record SameEnd (x y : LeftByRun) (lent : List ℕ) : Type 0 where
   pub ledger : y .ledger ≡ used (x .answer .tokens) (x .ledger) ++ drop (x .answer .tokens * tokenWidth) lent
 
 abbrev pub EnoughRoom : Type 0
-EnoughRoom = (graph inputs : List ℕ) (l m : LentToRun) (x y : LeftByRun) → RanOn graph inputs 2048 l x → Quiescent (x .answer .outcome)
+EnoughRoom = (graph arrays inputs : List ℕ) (l m : LentToRun) (x y : LeftByRun) → RanOn graph arrays inputs 2048 l x → Quiescent (x .answer .outcome)
     → m .picks ≡ l .picks → length (m .cells) ≡ length (l .cells) → whole tokenWidth mostTokens (length (m .ledger)) ≡ true → x .answer .tokens ≤ capacityOf (length (m .ledger))
-    → RanOn graph inputs 2048 m y → SameEnd x y (m .ledger)
+    → RanOn graph arrays inputs 2048 m y → SameEnd x y (m .ledger)
 
 -- ---- "with any smaller one every order is refused by 8"
 
@@ -41,6 +41,6 @@ pub record RefusedBy8 (inputs capacity : ℕ) (lent : LentToRun) (y : LeftByRun)
   pub inFiring : inputs ≤ capacity → inputs ≤ y .answer .tokens
 
 abbrev pub TooSmall : Type 0
-TooSmall = (graph inputs : List ℕ) (l m : LentToRun) (x y : LeftByRun) → RanOn graph inputs 2048 l x → Quiescent (x .answer .outcome)
+TooSmall = (graph arrays inputs : List ℕ) (l m : LentToRun) (x y : LeftByRun) → RanOn graph arrays inputs 2048 l x → Quiescent (x .answer .outcome)
     → Allowed (m .picks) (length (m .ledger)) (length (m .cells)) → length (m .cells) ≡ length (l .cells) → capacityOf (length (m .ledger)) < x .answer .tokens
-    → RanOn graph inputs 2048 m y → RefusedBy8 (length inputs / tokenWidth) (capacityOf (length (m .ledger))) m y
+    → RanOn graph arrays inputs 2048 m y → RefusedBy8 (length inputs / tokenWidth) (capacityOf (length (m .ledger))) m y

@@ -19,23 +19,23 @@ use Rattle.bounds.specs.Capacity.{SameEnd, RefusedBy8}
 
 -- whatever log is lent
 abbrev pub NoLoggedExceeds : Type 0
-NoLoggedExceeds = (graph inputs : List ℕ) (firings tokens : ℕ) → needs graph inputs ≡ AtMost firings tokens
-    → (l : LentToLogged) (x : LeftByLogged) → LoggedOn graph inputs l x → (x .answer .firings ≤ firings) × (x .answer .tokens ≤ tokens)
+NoLoggedExceeds = (graph arrays inputs : List ℕ) (firings tokens : ℕ) → needs graph inputs ≡ AtMost firings tokens
+    → (l : LentToLogged) (x : LeftByLogged) → LoggedOn graph arrays inputs l x → (x .answer .firings ≤ firings) × (x .answer .tokens ≤ tokens)
 
 abbrev pub LoggedExact : Type 0
-LoggedExact = (graph inputs : List ℕ) (firings tokens : ℕ) → needs graph inputs ≡ AtMost firings tokens → NoSwitchOrFetch graph inputs
-    → (l : LentToLogged) (x : LeftByLogged) → LoggedOn graph inputs l x → Quiescent (x .answer .outcome) → (x .answer .firings ≡ firings) × (x .answer .tokens ≡ tokens)
+LoggedExact = (graph arrays inputs : List ℕ) (firings tokens : ℕ) → needs graph inputs ≡ AtMost firings tokens → NoSwitchOrFetch graph inputs
+    → (l : LentToLogged) (x : LeftByLogged) → LoggedOn graph arrays inputs l x → Quiescent (x .answer .outcome) → (x .answer .firings ≡ firings) × (x .answer .tokens ≡ tokens)
 
 -- ---- R-12: the other run's log suffices too
 
 abbrev pub LoggedEnoughRoom : Type 0
-LoggedEnoughRoom = (graph inputs : List ℕ) (l m : LentToLogged) (x y : LeftByLogged) → l .budget ≡ 2048 → m .budget ≡ 2048 → logSuffices 2048 (length (m .log)) ≡ true
-    → LoggedOn graph inputs l x → Quiescent (x .answer .outcome) → m .picks ≡ l .picks → length (m .cells) ≡ length (l .cells)
+LoggedEnoughRoom = (graph arrays inputs : List ℕ) (l m : LentToLogged) (x y : LeftByLogged) → l .budget ≡ 2048 → m .budget ≡ 2048 → logSuffices 2048 (length (m .log)) ≡ true
+    → LoggedOn graph arrays inputs l x → Quiescent (x .answer .outcome) → m .picks ≡ l .picks → length (m .cells) ≡ length (l .cells)
     → whole tokenWidth mostTokens (length (m .ledger)) ≡ true → x .answer .tokens ≤ capacityOf (length (m .ledger))
-    → LoggedOn graph inputs m y → SameEnd (leftBesideLog x) (leftBesideLog y) (m .ledger)
+    → LoggedOn graph arrays inputs m y → SameEnd (leftBesideLog x) (leftBesideLog y) (m .ledger)
 
 abbrev pub LoggedTooSmall : Type 0
-LoggedTooSmall = (graph inputs : List ℕ) (l m : LentToLogged) (x y : LeftByLogged) → l .budget ≡ 2048 → m .budget ≡ 2048 → logSuffices 2048 (length (m .log)) ≡ true
-    → LoggedOn graph inputs l x → Quiescent (x .answer .outcome) → Allowed (m .picks) (length (m .ledger)) (length (m .cells)) → length (m .cells) ≡ length (l .cells)
+LoggedTooSmall = (graph arrays inputs : List ℕ) (l m : LentToLogged) (x y : LeftByLogged) → l .budget ≡ 2048 → m .budget ≡ 2048 → logSuffices 2048 (length (m .log)) ≡ true
+    → LoggedOn graph arrays inputs l x → Quiescent (x .answer .outcome) → Allowed (m .picks) (length (m .ledger)) (length (m .cells)) → length (m .cells) ≡ length (l .cells)
     → capacityOf (length (m .ledger)) < x .answer .tokens
-    → LoggedOn graph inputs m y → RefusedBy8 (length inputs / tokenWidth) (capacityOf (length (m .ledger))) (lentBesideLog m) (leftBesideLog y)
+    → LoggedOn graph arrays inputs m y → RefusedBy8 (length inputs / tokenWidth) (capacityOf (length (m .ledger))) (lentBesideLog m) (leftBesideLog y)

@@ -9,10 +9,10 @@ use Rattle.rules.specs.Needs.{needs, NoSwitchOrFetch}
 
 -- "No completed or hung run exceeds either", and no spent or refused one, whatever picks, budget, ledger and cells are lent
 abbrev pub NoRunExceeds : Type 0
-NoRunExceeds = (graph inputs : List ℕ) (firings tokens : ℕ) → needs graph inputs ≡ AtMost firings tokens
-    → (budget : ℕ) (l : LentToRun) (x : LeftByRun) → RanOn graph inputs budget l x → (x .answer .firings ≤ firings) × (x .answer .tokens ≤ tokens)
+NoRunExceeds = (graph arrays inputs : List ℕ) (firings tokens : ℕ) → needs graph inputs ≡ AtMost firings tokens
+    → (budget : ℕ) (l : LentToRun) (x : LeftByRun) → RanOn graph arrays inputs budget l x → (x .answer .firings ≤ firings) × (x .answer .tokens ≤ tokens)
 
 -- "and both are exact where no SWITCH or FETCH is reached": of each run that completes or hangs
 abbrev pub BoundsExact : Type 0
-BoundsExact = (graph inputs : List ℕ) (firings tokens : ℕ) → needs graph inputs ≡ AtMost firings tokens → NoSwitchOrFetch graph inputs
-    → (budget : ℕ) (l : LentToRun) (x : LeftByRun) → RanOn graph inputs budget l x → Quiescent (x .answer .outcome) → (x .answer .firings ≡ firings) × (x .answer .tokens ≡ tokens)
+BoundsExact = (graph arrays inputs : List ℕ) (firings tokens : ℕ) → needs graph inputs ≡ AtMost firings tokens → NoSwitchOrFetch graph inputs
+    → (budget : ℕ) (l : LentToRun) (x : LeftByRun) → RanOn graph arrays inputs budget l x → Quiescent (x .answer .outcome) → (x .answer .firings ≡ firings) × (x .answer .tokens ≡ tokens)

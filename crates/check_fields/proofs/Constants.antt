@@ -26,6 +26,16 @@ within-small (pos n) = go (leb n 255) refl
     go false e = rw (le-leb 0 n (omega arith))
 within-small (negsuc n) = refl
 
+-- of 0 to a number below 256
+pub within-few : (n : ℕ) → n < 256 → (k : ℤ) → within 0 n k ≡ leb (smallOf k) n
+unfolding within smallOf
+within-few n h (pos m) = go (leb m 255) refl
+  where
+    go : (b : Bool) → leb m 255 ≡ b → (leb 0 m && leb m n) ≡ leb (cond b m 256) n
+    go true e = rw (le-leb 0 m (omega arith))
+    go false e = rw (le-leb 0 m (omega arith), lt-leb m n (omega (arith, leb-false m 255 e)), lt-leb 256 n (omega arith))
+within-few n h (negsuc m) = sym (lt-leb 256 n (omega arith))
+
 pub within-site : (k : ℤ) → within 1 255 k ≡ (leb 1 (smallOf k) && ltb (smallOf k) 256)
 unfolding within smallOf
 within-site (pos n) = go (leb n 255) refl

@@ -70,6 +70,13 @@ module _ {A : Type 0} where
   all-at f (x ∷ xs) e zero h d = and-true-left (f x) (all f xs) e
   all-at f (x ∷ xs) e (suc i) h d = all-at f xs (and-true-right (f x) (all f xs) e) i (le-of-suc-le-suc h) d
 
+  -- element i decides with the rest
+  pub all-turn : (f : A → Bool) (xs : List A) (i : ℕ) (x : A) → i < length xs → getD xs i x ≡ x → all f (drop i xs) ≡ (f x && all f (drop (i + 1) xs))
+  all-turn f xs i x h g = rw (add-one i, drop-cons xs i x h, g)
+
+  pub all-end : (f : A → Bool) (xs : List A) (i : ℕ) → length xs ≤ i → all f (drop i xs) ≡ true
+  all-end f xs i h = rw (drop-of-length-le xs h)
+
   pub any-append : (f : A → Bool) (xs ys : List A) → any f (xs ++ ys) ≡ (any f xs || any f ys)
   any-append f [] ys = refl
   any-append f (x ∷ xs) ys = go (f x) (any-append f xs ys)

@@ -46,7 +46,8 @@ fn allowed(r: Instruction) -> bool
 fn uses_constant(code: u8) -> bool
     ensures { λ b. ⌜ b ≡ usesConstant code ⌝ }
 {
-    code == 4 || (code == 8 || (code == 9 || (32 <= code && code <= 39)))
+    code == 4
+        || (code == 8 || (code == 9 || (constant::names_array(code) || (32 <= code && code <= 39))))
 }
 
 // A destination is in use, or its fields are zero.

@@ -14,15 +14,16 @@ use Rattle.record.specs.declared.instruction.Instruction.{Instruction}
 use Rattle.record.specs.GraphRecords.{decode, isGraphLength, graphOf, destinations, operandsOf}
 use Rattle.number.specs.Number.{byteAt, number32}
 use Rattle.buffer.specs.Rows.{whole, allRows}
+use Rattle.record.specs.Arrays.{mostArrays}
 use Rattle.record.specs.Paths.{rootPath, isRoot}
 use Rattle.record.specs.TokensAndTags.{pathIn, tagIn, portIn, isInput}
 use Rattle.buffer.proofs.Tables.{length-rows, getD-rows}
 use Rattle.record.specs.TokensAndTags as Tokens
-use Rattle.record.specs.Widths.{tokenWidth, stateOffset, cellWidth, graphWidth, pickWidth}
+use Rattle.record.specs.Widths.{tokenWidth, stateOffset, cellWidth, graphWidth, pickWidth, arrayWidth}
 use Rattle.record.proofs.Paths.{root-words}
 use Rattle.rules.specs.declared.answer.Refusal.the-variants.{GraphLength, BadInput, SecondToken}
 use Rattle.rules.specs.declared.answer.Checked.the-variants.{Passed}
-use Rattle.rules.specs.Check.{demand, all, instructionAt, operandsAt, fanOutAllowed, unusedAreZero, goodArc, within, goodSite, checkRecord, checkGraph, checkStores, goodInput, secondInput, checkInputs, check}
+use Rattle.rules.specs.Check.{demand, all, instructionAt, operandsAt, fanOutAllowed, unusedAreZero, goodArc, within, goodSite, checkRecord, checkGraph, checkStores, checkArrays, goodInput, secondInput, checkInputs, check}
 use Rattle.check_inputs.specs.Inputs.{tokensOf}
 use Rattle.check_fields.proofs.Turns.{and-true-left, and-true-right, both-passed, demanded, each-passed, all-at}
 use Rattle.check_fields.proofs.Constants.{within-is}
@@ -171,10 +172,19 @@ passed-inputs g capacity inputs e =
 
 -- ---- all of it
 
-pub passed-check : (graph inputs picks : List ℕ) (ledger cells : ℕ) → check graph inputs picks ledger cells ≡ Passed
+-- a table that passed is short
+pub passed-arrays : (g : List Instruction) (cells : ℕ) (arrays : List ℕ) → checkArrays g cells arrays ≡ Passed → length arrays / arrayWidth ≤ mostArrays
+unfolding checkArrays
+passed-arrays g cells arrays e =
+    let b = demanded _ _ _ (both-passed _ _ e .0) in
+    passed-whole arrayWidth mostArrays (length arrays) (and-true-left (whole arrayWidth mostArrays (length arrays)) _ b) .1
+
+pub passed-check : (graph arrays inputs picks : List ℕ) (ledger cells : ℕ) → check graph arrays inputs picks ledger cells ≡ Passed
     → (checkGraph graph ≡ Passed) × (checkStores (length inputs) (length picks) ledger cells ≡ Passed) × (checkInputs (graphOf graph) (ledger / tokenWidth) inputs ≡ Passed)
+    × (length arrays / arrayWidth ≤ mostArrays)
 unfolding check
-passed-check graph inputs picks ledger cells e =
+passed-check graph arrays inputs picks ledger cells e =
     let a = both-passed (checkGraph graph) _ e in
     let b = both-passed (checkStores (length inputs) (length picks) ledger cells) _ (a .1) in
-    (a .0, b .0, b .1)
+    let c = both-passed (checkArrays (graphOf graph) (cells / cellWidth) arrays) _ (b .1) in
+    (a .0, b .0, c .1, passed-arrays (graphOf graph) (cells / cellWidth) arrays (c .0))

@@ -1,20 +1,32 @@
 // What is refused before any firing is tried (01, "The answer and the refusals"), in its order: the
-// graph record by record, the stores, the inputs.
+// graph record by record, the stores, the table of named arrays, the inputs.
+pub mod arrays;
 pub mod graph;
 pub mod stores;
 
+use record::cell;
 use record::token;
 use rules::answer::Checked;
+ghost use Prim.Native.Nat.{_/_};
 ghost use mathlib.Core.Path.{_≡_};
 ghost use Rattle.record.specs.GraphRecords.{graphOf};
 ghost use Rattle.record.specs.TokensAndTags.{capacityOf};
+ghost use Rattle.record.specs.Widths.{cellWidth};
 ghost use Rattle.rules.specs.Check as Rules;
-ghost use Rattle.rules.specs.Check.{_andThen_, checkGraph, checkInputs};
+ghost use Rattle.rules.specs.Check.{_andThen_, checkGraph, checkArrays, checkInputs};
 ghost use Rattle.rules.specs.Log.{checkLogged};
 
-// The graph, what the check of the stores said, and the inputs; the ledger by its length in bytes.
-fn in_order(graph: &[u8], lent: Checked, inputs: &[u8], ledger: usize) -> Checked
-    ensures { λ r. ⌜ r ≡ (checkGraph (now (graph .entry)) andThen lent andThen checkInputs (graphOf (now (graph .entry))) (capacityOf ledger) (now (inputs .entry))) ⌝ }
+// The graph, what the check of the stores said, the table of named arrays, and the inputs; the ledger
+// and the cells by their lengths in bytes.
+fn in_order(
+    graph: &[u8],
+    arrays: &[u8],
+    lent: Checked,
+    inputs: &[u8],
+    ledger: usize,
+    cells: usize,
+) -> Checked
+    ensures { λ r. ⌜ r ≡ (checkGraph (now (graph .entry)) andThen lent andThen checkArrays (graphOf (now (graph .entry))) (cells / cellWidth) (now (arrays .entry)) andThen checkInputs (graphOf (now (graph .entry))) (capacityOf ledger) (now (inputs .entry))) ⌝ }
 {
     let of_graph = graph::check(graph);
     let Checked::Passed = of_graph else {
@@ -23,20 +35,32 @@ fn in_order(graph: &[u8], lent: Checked, inputs: &[u8], ledger: usize) -> Checke
     let Checked::Passed = lent else {
         return lent;
     };
+    let of_arrays = arrays::check(graph, arrays, cells / cell::WIDTH);
+    let Checked::Passed = of_arrays else {
+        return of_arrays;
+    };
     check_inputs::check(graph, inputs, ledger / token::WIDTH)
 }
 
 // All of it; the ledger and the cells by their lengths in bytes.
-pub fn check(graph: &[u8], inputs: &[u8], picks: &[u8], ledger: usize, cells: usize) -> Checked
-    ensures { λ r. ⌜ r ≡ Rules.check (now (graph .entry)) (now (inputs .entry)) (now (picks .entry)) ledger cells ⌝ }
+pub fn check(
+    graph: &[u8],
+    arrays: &[u8],
+    inputs: &[u8],
+    picks: &[u8],
+    ledger: usize,
+    cells: usize,
+) -> Checked
+    ensures { λ r. ⌜ r ≡ Rules.check (now (graph .entry)) (now (arrays .entry)) (now (inputs .entry)) (now (picks .entry)) ledger cells ⌝ }
 {
     let of_stores = stores::check(inputs.len(), picks.len(), ledger, cells);
-    in_order(graph, of_stores, inputs, ledger)
+    in_order(graph, arrays, of_stores, inputs, ledger, cells)
 }
 
 // The same of a run that writes a log, by its length in bytes too.
 pub fn check_logged(
     graph: &[u8],
+    arrays: &[u8],
     inputs: &[u8],
     picks: &[u8],
     budget: usize,
@@ -44,8 +68,8 @@ pub fn check_logged(
     cells: usize,
     log: usize,
 ) -> Checked
-    ensures { λ r. ⌜ r ≡ checkLogged (now (graph .entry)) (now (inputs .entry)) (now (picks .entry)) budget ledger cells log ⌝ }
+    ensures { λ r. ⌜ r ≡ checkLogged (now (graph .entry)) (now (arrays .entry)) (now (inputs .entry)) (now (picks .entry)) budget ledger cells log ⌝ }
 {
     let of_stores = stores::check_logged(inputs.len(), picks.len(), ledger, cells, budget, log);
-    in_order(graph, of_stores, inputs, ledger)
+    in_order(graph, arrays, of_stores, inputs, ledger, cells)
 }

@@ -16,6 +16,7 @@ use borrow.Author.Tests.{eq-eqb, le-leb, leb-true, leb-false}
 use Rattle.number.specs.Number.{number64}
 use Rattle.buffer.specs.Rows.{rows, allRows, joined, whole, All}
 use Rattle.buffer.proofs.Tables.{length-joined}
+use Rattle.record.specs.declared.array.NamedArray.{NamedArray}
 use Rattle.record.specs.declared.tag.Tag.{Tag}
 use Rattle.record.specs.declared.tag.Left.the-variants.{To, NoCaller}
 use Rattle.record.specs.declared.token.Token as Record
@@ -26,6 +27,7 @@ use Rattle.record.specs.Paths.{pathNumber, pathWords, isRoot}
 use Rattle.record.specs.TokensAndTags as Tokens
 use Rattle.record.specs.TokensAndTags.{isInput, mostTokens, capacityOf, rootOf}
 use Rattle.record.specs.Calls.{leaveOf}
+use Rattle.record.specs.Arrays.{arraysOf}
 use Rattle.record.specs.GraphRecords.{graphOf, operationOf, destinations}
 use Rattle.record.proofs.Paths.{number-words, root-number}
 use Rattle.record.proofs.Records.{length-token}
@@ -39,7 +41,7 @@ use Rattle.rules.specs.declared.answer.Refusal.the-variants as Refusals
 use Rattle.rules.specs.declared.answer.Outcome.the-variants.{Refused}
 use Rattle.rules.specs.declared.answer.Checked.{Checked}
 use Rattle.rules.specs.declared.answer.Checked.the-variants.{Passed, Failed}
-use Rattle.rules.specs.Check.{demand, _andThen_, inTurn, within, instructionAt, checkGraph, checkStores, checkInputs, check, goodInput, operandsAt, mostCells, secondInput}
+use Rattle.rules.specs.Check.{demand, _andThen_, inTurn, within, instructionAt, checkGraph, checkArrays, checkStores, checkInputs, check, goodInput, operandsAt, mostCells, secondInput}
 use Rattle.rules.specs.InstructionSet.{keyUnder, effectIn, machineOf}
 use Rattle.rules.specs.Run.{tokenRecord, tokenHeld, firstState, picksOf, Result, refusedAtOnce, ranTo, unlessFailed, result, answer, outcomeOf, ledgerAfter}
 use Rattle.rules.specs.Log.{LogResult, logSuffices, checkLogStores, checkLogged, logUnlessFailed, logged, logAfter}
@@ -118,39 +120,39 @@ by-stores inputs picks ledger cells =
     by false = inr refl
 
 -- the whole check, by what it says of the stores
-same-checks : (graph inputs : List ℕ) (ledger : ℕ) (before after : Checked) → (checkGraph graph ≡ Passed → before ≡ Passed) → (before ≡ Passed → after ≡ Passed)
-    → (checkGraph graph andThen after andThen checkInputs (graphOf graph) (capacityOf (asMany ledger)) (converted tokenRest inputs))
-    ≡ (checkGraph graph andThen before andThen checkInputsBefore (graphOf graph) (ledger / oldWidth) inputs)
-same-checks graph inputs ledger before after passes also = go (checkGraph graph) refl
+same-checks : (graph inputs : List ℕ) (ledger : ℕ) (named before after : Checked) → (checkGraph graph ≡ Passed → before ≡ Passed) → (before ≡ Passed → after ≡ Passed)
+    → (checkGraph graph andThen after andThen named andThen checkInputs (graphOf graph) (capacityOf (asMany ledger)) (converted tokenRest inputs))
+    ≡ (checkGraph graph andThen before andThen named andThen checkInputsBefore (graphOf graph) (ledger / oldWidth) inputs)
+same-checks graph inputs ledger named before after passes also = go (checkGraph graph) refl
   where
     g : List Instruction
     g = graphOf graph
 
     go : (c : Checked) → checkGraph graph ≡ c
-        → (c andThen after andThen checkInputs g (capacityOf (asMany ledger)) (converted tokenRest inputs)) ≡ (c andThen before andThen checkInputsBefore g (ledger / oldWidth) inputs)
+        → (c andThen after andThen named andThen checkInputs g (capacityOf (asMany ledger)) (converted tokenRest inputs)) ≡ (c andThen before andThen named andThen checkInputsBefore g (ledger / oldWidth) inputs)
     go (Failed r p) e = refl
     go Passed e = let stores = passes e in rw (also stores, stores, records-count ledger, same-inputs g (ledger / oldWidth) inputs)
 
 -- ---- a run
 
 -- four levels are stricter than eight
-stricter : (g : List Instruction) (cells : ℕ) (τ : Tag) (v w : ℤ) → (effectBefore g cells τ v w ≡ refuse Refusals.TooDeep) ⊎ (effectBefore g cells τ v w ≡ effectIn g cells τ v w)
+stricter : (g : List Instruction) (table : List NamedArray) (cells : ℕ) (τ : Tag) (v w : ℤ) → (effectBefore g table cells τ v w ≡ refuse Refusals.TooDeep) ⊎ (effectBefore g table cells τ v w ≡ effectIn g table cells τ v w)
 unfolding effectBefore
-stricter g cells τ v w = by (atFourLevels g τ)
+stricter g table cells τ v w = by (atFourLevels g τ)
   where
-    by : (b : Bool) → (cond b (refuse Refusals.TooDeep) (effectIn g cells τ v w) ≡ refuse Refusals.TooDeep) ⊎ (cond b (refuse Refusals.TooDeep) (effectIn g cells τ v w) ≡ effectIn g cells τ v w)
+    by : (b : Bool) → (cond b (refuse Refusals.TooDeep) (effectIn g table cells τ v w) ≡ refuse Refusals.TooDeep) ⊎ (cond b (refuse Refusals.TooDeep) (effectIn g table cells τ v w) ≡ effectIn g table cells τ v w)
     by true = inl refl
     by false = inr refl
 
-module _ (graph inputs picks : List ℕ) (budget ledger cells : ℕ) where
+module _ (graph arrays inputs picks : List ℕ) (budget ledger cells : ℕ) where
   abbrev g : List Instruction
   g = graphOf graph
 
   abbrev Now : Machine
-  Now = machineOf g (ledger / oldWidth) (cells / cellWidth)
+  Now = machineOf g (arraysOf arrays) (ledger / oldWidth) (cells / cellWidth)
 
   abbrev Was : Machine
-  Was = machineBefore g (ledger / oldWidth) (cells / cellWidth)
+  Was = machineBefore g (arraysOf arrays) (ledger / oldWidth) (cells / cellWidth)
 
   abbrev first : State Tag ℤ
   first = firstStateBefore inputs (cells / cellWidth)
@@ -159,9 +161,9 @@ module _ (graph inputs picks : List ℕ) (budget ledger cells : ℕ) where
   same-run : ((place : ℕ) → run Was budget (picksOf picks) first .outcome ≡ refused Refusals.TooDeep place → ⊥)
       → (run Now budget (picksOf picks) first ≡ run Was budget (picksOf picks) first)
       × (logOf Now (byPicks Now) budget (picksOf picks) first ≡ logOf Was (byPicks Was) budget (picksOf picks) first)
-  same-run h = as-freely Now (effectBefore g (cells / cellWidth)) Refusals.TooDeep (stricter g (cells / cellWidth)) (byPicks Now) budget (picksOf picks) 0 first h
+  same-run h = as-freely Now (effectBefore g (arraysOf arrays) (cells / cellWidth)) Refusals.TooDeep (stricter g (arraysOf arrays) (cells / cellWidth)) (byPicks Now) budget (picksOf picks) 0 first h
 
-  module _ (allowed : Neither7Nor14 (answer (resultBefore graph inputs picks budget ledger cells))) where
+  module _ (allowed : Neither7Nor14 (answer (resultBefore graph arrays inputs picks budget ledger cells))) where
     stores-passed : checkGraph graph ≡ Passed → checkStoresBefore (length inputs) (length picks) ledger cells ≡ Passed
     unfolding resultBefore checkBefore unlessFailed answer
     stores-passed p = go (by-stores (length inputs) (length picks) ledger cells)
@@ -171,17 +173,17 @@ module _ (graph inputs picks : List ℕ) (budget ledger cells : ℕ) where
         go (inl e) = e
         go (inr e) = absurd (allowed .not7 0 (rw (p, e)))
 
-    same-check : check graph (converted tokenRest inputs) picks (asMany ledger) cells ≡ checkBefore graph inputs picks ledger cells
+    same-check : check graph arrays (converted tokenRest inputs) picks (asMany ledger) cells ≡ checkBefore graph arrays inputs picks ledger cells
     unfolding check checkBefore
     same-check =
-        rw (converted-length inputs) (same-checks graph inputs ledger (checkStoresBefore (length inputs) (length picks) ledger cells) (checkStores (asMany (length inputs)) (length picks) (asMany ledger) cells)
+        rw (converted-length inputs) (same-checks graph inputs ledger (checkArrays (graphOf graph) (cells / cellWidth) arrays) (checkStoresBefore (length inputs) (length picks) ledger cells) (checkStores (asMany (length inputs)) (length picks) (asMany ledger) cells)
         stores-passed (same-stores (length inputs) (length picks) ledger cells))
 
-    same-result : result graph (converted tokenRest inputs) picks budget (asMany ledger) cells ≡ resultBefore graph inputs picks budget ledger cells
+    same-result : result graph arrays (converted tokenRest inputs) picks budget (asMany ledger) cells ≡ resultBefore graph arrays inputs picks budget ledger cells
     unfolding result resultBefore unlessFailed answer
-    same-result = rw (same-check, records-count ledger, same-first inputs (cells / cellWidth)) (go (checkBefore graph inputs picks ledger cells) refl)
+    same-result = rw (same-check, records-count ledger, same-first inputs (cells / cellWidth)) (go (checkBefore graph arrays inputs picks ledger cells) refl)
       where
-        go : (c : Checked) → checkBefore graph inputs picks ledger cells ≡ c → unlessFailed c (ranTo (run Now budget (picksOf picks) first)) ≡ unlessFailed c (ranTo (run Was budget (picksOf picks) first))
+        go : (c : Checked) → checkBefore graph arrays inputs picks ledger cells ≡ c → unlessFailed c (ranTo (run Now budget (picksOf picks) first)) ≡ unlessFailed c (ranTo (run Was budget (picksOf picks) first))
         go (Failed r p) e = refl
         go Passed e = ap ranTo (same-run (λ place q. allowed .not14 place (rw (e, q))) .0)
 
@@ -225,7 +227,7 @@ unfolding within
 byte-site (pos n) e = omega (arith, leb-true n 255 (both (leb 0 n) (leb n 255) e .1))
 byte-site (negsuc n) e = let z : _≡_ {A = ℕ} 0 1 = cc in absurd (omega arith)
 
-module _ (graph : List ℕ) (passed : checkGraph graph ≡ Passed) (capacity cells : ℕ) where
+module _ (graph : List ℕ) (passed : checkGraph graph ≡ Passed) (table : List NamedArray) (capacity cells : ℕ) where
   abbrev gr : List Instruction
   gr = graphOf graph
 
@@ -244,7 +246,7 @@ module _ (graph : List ℕ) (passed : checkGraph graph ≡ Passed) (capacity cel
           record { site = byte-site _ (enter-site good e); fewer = leb-false (65536 ^ 3) (pathNumber (τ .path)) (rw (enter-code good e) at n) }
       go (no h) = let z : Operations.Enter ≡ Operations.Unknown = sym e ∙ past-operation gr (τ .instruction) (omega arith) in let y : _≡_ {A = ℕ} 0 1 = cc in absurd (omega arith)
 
-  asked : (τ : Tag) → ShallowTag τ → atFourLevels gr τ ≡ false → Asked gr capacity cells Shallow Any Any τ (instructionAt gr (τ .instruction))
+  asked : (τ : Tag) → ShallowTag τ → atFourLevels gr τ ≡ false → Asked gr table capacity cells Shallow Any Any τ (instructionAt gr (τ .instruction))
   asked τ h n =
       let r = instructionAt gr (τ .instruction) in
       record {
@@ -259,19 +261,19 @@ module _ (graph : List ℕ) (passed : checkGraph graph ≡ Passed) (capacity cel
       }
 
   abbrev N : Machine
-  N = machineBefore gr capacity cells
+  N = machineBefore gr table capacity cells
 
   keeps-shallow : Keeps N Shallow Any Any
   unfolding effectBefore
   keeps-shallow = record { effect = λ τ v w keys qv qw. by τ v w (keys .1 0 (keys .0)) (atFourLevels gr τ) refl; signal = tt }
     where
-      by : (τ : Tag) (v w : ℤ) → ShallowTag τ → (b : Bool) → atFourLevels gr τ ≡ b → OfEffect N Shallow Any Any (cond b (refuse Refusals.TooDeep) (effectIn gr cells τ v w))
+      by : (τ : Tag) (v w : ℤ) → ShallowTag τ → (b : Bool) → atFourLevels gr τ ≡ b → OfEffect N Shallow Any Any (cond b (refuse Refusals.TooDeep) (effectIn gr table cells τ v w))
       by τ v w h true e = tt
-      by τ v w h false e = effect-asked gr capacity cells Shallow Any Any τ (asked τ h e) v w tt tt
+      by τ v w h false e = effect-asked gr table capacity cells Shallow Any Any τ (asked τ h e) v w tt tt
 
   first-shallow : (inputs : List ℕ) → checkInputs gr capacity (converted tokenRest inputs) ≡ Passed → OfState N Shallow Any Any (firstStateBefore inputs cells)
   first-shallow inputs e =
-      let o = rw (same-first inputs cells) at (start-keys gr capacity cells Shallow Any (converted tokenRest inputs) (λ t root l h. rw (root, root-number) (omega arith, omega arith)) e) in
+      let o = rw (same-first inputs cells) at (start-keys gr table capacity cells Shallow Any (converted tokenRest inputs) (λ t root l h. rw (root, root-number) (omega arith, omega arith)) e) in
       record { tokens = o .tokens; cells = o .cells }
 
   -- every token that a run leaves
@@ -292,16 +294,16 @@ encode-wide t h r = let high : t .tag .path .high ≡ 0 = omega arith in rw high
 
 pub keeps-ledger : KeepsLedger
 unfolding resultBefore checkBefore unlessFailed ledgerAfter ledgerBefore converted
-keeps-ledger graph inputs picks budget ledger cells allowed =
-    rw (same-result graph inputs picks budget (length ledger) cells allowed) (go (checkBefore graph inputs picks (length ledger) cells) refl)
+keeps-ledger graph arrays inputs picks budget ledger cells allowed =
+    rw (same-result graph arrays inputs picks budget (length ledger) cells allowed) (go (checkBefore graph arrays inputs picks (length ledger) cells) refl)
   where
     M : Machine
-    M = machineBefore (graphOf graph) (length ledger / oldWidth) (cells / cellWidth)
+    M = machineBefore (graphOf graph) (arraysOf arrays) (length ledger / oldWidth) (cells / cellWidth)
 
     e : End Refusal Tag ℤ
     e = run M budget (picksOf picks) (firstStateBefore inputs (cells / cellWidth))
 
-    go : (c : Checked) → checkBefore graph inputs picks (length ledger) cells ≡ c
+    go : (c : Checked) → checkBefore graph arrays inputs picks (length ledger) cells ≡ c
         → ledgerAfter (unlessFailed c (ranTo e)) (converted tokenRest ledger) ≡ converted tokenRest (ledgerBefore (unlessFailed c (ranTo e)) ledger)
     go (Failed r p) q = refl
     go Passed q =
@@ -310,15 +312,15 @@ keeps-ledger graph inputs picks budget ledger cells allowed =
         let count = cells / cellWidth in
         let ts = map tokenRecord (e .state .tokens) in
         let parts = andThen-passed (checkGraph graph) _ q in
-        let inputsPassed = same-inputs g capacity inputs ∙ andThen-passed (checkStoresBefore (length inputs) (length picks) (length ledger) cells) _ (parts .1) .1 in
-        let first = first-shallow graph (parts .0) capacity count inputs inputsPassed in
-        let shallow = run-keeps M Shallow Any Any (keeps-shallow graph (parts .0) capacity count) (firstStateBefore inputs count) first budget (picksOf picks) in
-        let ran : resultBefore graph inputs picks budget (length ledger) cells ≡ ranTo e = rw q in
-        let lawful = subst (LawfulResult graph (converted tokenRest inputs) (asMany (length ledger)) cells) (same-result graph inputs picks budget (length ledger) cells allowed ∙ ran)
-        (result-invariants graph (converted tokenRest inputs) picks budget (asMany (length ledger)) cells) in
+        let inputsPassed = same-inputs g capacity inputs ∙ andThen-passed (checkArrays g count arrays) _ (andThen-passed (checkStoresBefore (length inputs) (length picks) (length ledger) cells) _ (parts .1) .1) .1 in
+        let first = first-shallow graph (parts .0) (arraysOf arrays) capacity count inputs inputsPassed in
+        let shallow = run-keeps M Shallow Any Any (keeps-shallow graph (parts .0) (arraysOf arrays) capacity count) (firstStateBefore inputs count) first budget (picksOf picks) in
+        let ran : resultBefore graph arrays inputs picks budget (length ledger) cells ≡ ranTo e = rw q in
+        let lawful = subst (LawfulResult graph arrays (converted tokenRest inputs) (asMany (length ledger)) cells) (same-result graph arrays inputs picks budget (length ledger) cells allowed ∙ ran)
+        (result-invariants graph arrays (converted tokenRest inputs) picks budget (asMany (length ledger)) cells) in
         let room : length ts ≤ capacity = subst (λ (k : ℕ). k ≤ capacity) (sym (length-map (e .state .tokens) tokenRecord)) (subst (λ (k : ℕ). length (e .state .tokens) ≤ k) (records-count (length ledger)) (lawful .invariants .room)) in
         wide-written oldWidth tokenWidth (widened tokenRest) (length-widened tokenRest) (λ t. pathNumber (t .tag .path) < 65536 ^ 4) encodeBefore Tokens.encode length-before length-token encode-wide
-        ts (left-paths graph (parts .0) capacity count (e .state .tokens) (shallow .tokens)) ledger room (omega arith) (omega (arith, length-joined oldWidth encodeBefore length-before ts))
+        ts (left-paths graph (parts .0) (arraysOf arrays) capacity count (e .state .tokens) (shallow .tokens)) ledger room (omega arith) (omega (arith, length-joined oldWidth encodeBefore length-before ts))
 
 -- ---- a run that writes a log
 
@@ -352,7 +354,7 @@ by-log-stores inputs picks ledger cells budget lent = go (by-stores inputs picks
     go (inl e) = rw e (by (logSufficesBefore budget lent))
     go (inr e) = inr (rw e)
 
-module _ (graph inputs picks : List ℕ) (budget ledger cells lent : ℕ) (allowed : Neither7Nor14 (answer (loggedBefore graph inputs picks budget ledger cells lent .result))) where
+module _ (graph arrays inputs picks : List ℕ) (budget ledger cells lent : ℕ) (allowed : Neither7Nor14 (answer (loggedBefore graph arrays inputs picks budget ledger cells lent .result))) where
   log-stores-passed : checkGraph graph ≡ Passed → checkLogStoresBefore (length inputs) (length picks) ledger cells budget lent ≡ Passed
   unfolding loggedBefore checkLoggedBefore logUnlessFailed answer
   log-stores-passed p = go (by-log-stores (length inputs) (length picks) ledger cells budget lent)
@@ -362,29 +364,29 @@ module _ (graph inputs picks : List ℕ) (budget ledger cells lent : ℕ) (allow
       go (inl e) = e
       go (inr e) = absurd (allowed .not7 0 (rw (p, e)))
 
-  same-log-check : checkLogged graph (converted tokenRest inputs) picks budget (asMany ledger) cells (asManyLogs lent) ≡ checkLoggedBefore graph inputs picks budget ledger cells lent
+  same-log-check : checkLogged graph arrays (converted tokenRest inputs) picks budget (asMany ledger) cells (asManyLogs lent) ≡ checkLoggedBefore graph arrays inputs picks budget ledger cells lent
   unfolding checkLogged checkLoggedBefore
   same-log-check =
-      rw (converted-length inputs) (same-checks graph inputs ledger (checkLogStoresBefore (length inputs) (length picks) ledger cells budget lent)
+      rw (converted-length inputs) (same-checks graph inputs ledger (checkArrays (graphOf graph) (cells / cellWidth) arrays) (checkLogStoresBefore (length inputs) (length picks) ledger cells budget lent)
       (checkLogStores (asMany (length inputs)) (length picks) (asMany ledger) cells budget (asManyLogs lent)) log-stores-passed (same-log-stores (length inputs) (length picks) ledger cells budget lent))
 
-  same-logged : logged graph (converted tokenRest inputs) picks budget (asMany ledger) cells (asManyLogs lent) ≡ loggedBefore graph inputs picks budget ledger cells lent
+  same-logged : logged graph arrays (converted tokenRest inputs) picks budget (asMany ledger) cells (asManyLogs lent) ≡ loggedBefore graph arrays inputs picks budget ledger cells lent
   unfolding logged loggedBefore logUnlessFailed answer
-  same-logged = rw (same-log-check, records-count ledger, same-first inputs (cells / cellWidth)) (go (checkLoggedBefore graph inputs picks budget ledger cells lent) refl)
+  same-logged = rw (same-log-check, records-count ledger, same-first inputs (cells / cellWidth)) (go (checkLoggedBefore graph arrays inputs picks budget ledger cells lent) refl)
     where
       M : Machine
-      M = Now graph inputs picks budget ledger cells
+      M = Now graph arrays inputs picks budget ledger cells
 
       N : Machine
-      N = Was graph inputs picks budget ledger cells
+      N = Was graph arrays inputs picks budget ledger cells
 
       s : State Tag ℤ
-      s = first graph inputs picks budget ledger cells
+      s = first graph arrays inputs picks budget ledger cells
 
-      go : (c : Checked) → checkLoggedBefore graph inputs picks budget ledger cells lent ≡ c
+      go : (c : Checked) → checkLoggedBefore graph arrays inputs picks budget ledger cells lent ≡ c
           → logUnlessFailed c (run M budget (picksOf picks) s) (logOf M (byPicks M) budget (picksOf picks) s) ≡ logUnlessFailed c (run N budget (picksOf picks) s) (logOf N (byPicks N) budget (picksOf picks) s)
       go (Failed r p) e = refl
-      go Passed e = let (runs, logs) = same-run graph inputs picks budget ledger cells (λ place q. allowed .not14 place (rw (e, q))) in λ i. record { result = ranTo (runs i); log = logs i }
+      go Passed e = let (runs, logs) = same-run graph arrays inputs picks budget ledger cells (λ place q. allowed .not14 place (rw (e, q))) in λ i. record { result = ranTo (runs i); log = logs i }
 
 pub keeps-logged : KeepsLogged
 keeps-logged = same-logged
@@ -401,14 +403,14 @@ tag-wide τ h r = let p = h .0 in let high : τ .path .high ≡ 0 = omega arith 
 
 pub keeps-log : KeepsLog
 unfolding loggedBefore checkLoggedBefore logUnlessFailed logAfter logBefore converted
-keeps-log graph inputs picks budget ledger cells log allowed =
-    rw (same-logged graph inputs picks budget ledger cells (length log) allowed) (go (checkLoggedBefore graph inputs picks budget ledger cells (length log)) refl)
+keeps-log graph arrays inputs picks budget ledger cells log allowed =
+    rw (same-logged graph arrays inputs picks budget ledger cells (length log) allowed) (go (checkLoggedBefore graph arrays inputs picks budget ledger cells (length log)) refl)
   where
     N : Machine
-    N = Was graph inputs picks budget ledger cells
+    N = Was graph arrays inputs picks budget ledger cells
 
     s : State Tag ℤ
-    s = first graph inputs picks budget ledger cells
+    s = first graph arrays inputs picks budget ledger cells
 
     e : End Refusal Tag ℤ
     e = run N budget (picksOf picks) s
@@ -416,18 +418,18 @@ keeps-log graph inputs picks budget ledger cells log allowed =
     τs : List Tag
     τs = logOf N (byPicks N) budget (picksOf picks) s
 
-    go : (c : Checked) → checkLoggedBefore graph inputs picks budget ledger cells (length log) ≡ c
+    go : (c : Checked) → checkLoggedBefore graph arrays inputs picks budget ledger cells (length log) ≡ c
         → logAfter (logUnlessFailed c e τs) (converted logRest log) ≡ converted logRest (logBefore (logUnlessFailed c e τs) log)
     go (Failed r p) q = refl
     go Passed q =
         let capacity = ledger / oldWidth in
         let count = cells / cellWidth in
         let parts = andThen-passed (checkGraph graph) _ q in
-        let inputsPassed = same-inputs (graphOf graph) capacity inputs ∙ andThen-passed (checkLogStoresBefore (length inputs) (length picks) ledger cells budget (length log)) _ (parts .1) .1 in
-        let shallow = log-keeps N Shallow Any Any (keeps-shallow graph (parts .0) capacity count) (byPicks N) budget (picksOf picks) s (first-shallow graph (parts .0) capacity count inputs inputsPassed) in
-        let ran : loggedBefore graph inputs picks budget ledger cells (length log) .log ≡ τs = rw q in
-        let fits = subst (λ (x : List Tag). length x * logWidth ≤ asManyLogs (length log)) (ap (λ (x : LogResult). x .log) (same-logged graph inputs picks budget ledger cells (length log) allowed) ∙ ran)
-        (log-fits graph (converted tokenRest inputs) picks budget (asMany ledger) cells (asManyLogs (length log))) in
+        let inputsPassed = same-inputs (graphOf graph) capacity inputs ∙ andThen-passed (checkArrays (graphOf graph) count arrays) _ (andThen-passed (checkLogStoresBefore (length inputs) (length picks) ledger cells budget (length log)) _ (parts .1) .1) .1 in
+        let shallow = log-keeps N Shallow Any Any (keeps-shallow graph (parts .0) (arraysOf arrays) capacity count) (byPicks N) budget (picksOf picks) s (first-shallow graph (parts .0) (arraysOf arrays) capacity count inputs inputsPassed) in
+        let ran : loggedBefore graph arrays inputs picks budget ledger cells (length log) .log ≡ τs = rw q in
+        let fits = subst (λ (x : List Tag). length x * logWidth ≤ asManyLogs (length log)) (ap (λ (x : LogResult). x .log) (same-logged graph arrays inputs picks budget ledger cells (length log) allowed) ∙ ran)
+        (log-fits graph arrays (converted tokenRest inputs) picks budget (asMany ledger) cells (asManyLogs (length log))) in
         let room : length τs ≤ length log / oldLogWidth = omega arith in
         wide-written oldLogWidth logWidth (widened logRest) (length-widened logRest) ShallowTag encodeTagBefore Logs.encode length-tag-before length-record tag-wide
         τs shallow log room (omega arith) (omega (arith, length-joined oldLogWidth encodeTagBefore length-tag-before τs))

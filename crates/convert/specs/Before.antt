@@ -9,10 +9,12 @@ use lib.Dec.{eqb, leb, ltb}
 use lib.IntN.{ℤ}
 use Rattle.number.specs.Number.{byteAt, number16, number32, number64, bytes16, bytes32, bytes64}
 use Rattle.buffer.specs.Rows.{allRows, joined, whole, writtenOver}
+use Rattle.record.specs.declared.array.NamedArray.{NamedArray}
 use Rattle.record.specs.declared.tag.Tag.{Tag}
 use Rattle.record.specs.declared.token.Token as Record
 use Rattle.record.specs.declared.instruction.Instruction.{Instruction}
 use Rattle.record.specs.Paths.{pathNumber}
+use Rattle.record.specs.Arrays.{arraysOf}
 use Rattle.record.specs.GraphRecords.{graphOf}
 use Rattle.record.specs.TokensAndTags.{contentOf, valueOf, stateOf, mostTokens}
 use Rattle.record.specs.Widths.{tokenWidth, cellWidth, pickWidth, logWidth}
@@ -23,7 +25,7 @@ use Rattle.rules.specs.declared.answer.Refusal.the-variants as Refusals
 use Rattle.rules.specs.declared.answer.Outcome.the-variants.{Refused}
 use Rattle.rules.specs.declared.answer.Answer.{Answer}
 use Rattle.rules.specs.declared.answer.Checked.{Checked}
-use Rattle.rules.specs.Check.{demand, _andThen_, inTurn, instructionAt, operandsAt, checkGraph, mostCells, secondInput}
+use Rattle.rules.specs.Check.{demand, _andThen_, inTurn, instructionAt, operandsAt, checkGraph, checkArrays, mostCells, secondInput}
 use Rattle.rules.specs.InstructionSet.{EffectHere, effectIn, arityIn, machineOf}
 use Rattle.rules.specs.Run.{tokenHeld, tokenRecord, picksOf, Result, refusedAtOnce, ranTo, unlessFailed, result, answer, ledgerAfter}
 use Rattle.rules.specs.Log.{LogResult, logUnlessFailed, logged, logAfter}
@@ -71,10 +73,11 @@ checkInputsBefore g capacity inputs =
     andThen demand (leb (length ts) capacity) Refusals.LedgerFull capacity
     andThen inTurn (λ i t. demand (not (secondInput (take i ts) t)) Refusals.SecondToken i) 0 ts
 
-unfoldable pub checkBefore : (graph inputs picks : List ℕ) → (ledger cells : ℕ) → Checked
-checkBefore graph inputs picks ledger cells =
+unfoldable pub checkBefore : (graph arrays inputs picks : List ℕ) → (ledger cells : ℕ) → Checked
+checkBefore graph arrays inputs picks ledger cells =
     checkGraph graph
     andThen checkStoresBefore (length inputs) (length picks) ledger cells
+    andThen checkArrays (graphOf graph) (cells / cellWidth) arrays
     andThen checkInputsBefore (graphOf graph) (ledger / oldWidth) inputs
 
 -- ---- the machine: "Four levels at most." 14: "ENTER at four levels". ENTER has code 8, and a path of four levels or more is at least 65,536 to the third
@@ -82,21 +85,21 @@ checkBefore graph inputs picks ledger cells =
 unfoldable pub atFourLevels : List Instruction → Tag → Bool
 atFourLevels g τ = eqb (instructionAt g (τ .instruction) .code) 8 && leb (65536 ^ 3) (pathNumber (τ .path))
 
-unfoldable pub effectBefore : List Instruction → (cells : ℕ) → Tag → (a b : ℤ) → EffectHere
-effectBefore g cells τ a b = cond (atFourLevels g τ) (refuse Refusals.TooDeep) (effectIn g cells τ a b)
+unfoldable pub effectBefore : List Instruction → List NamedArray → (cells : ℕ) → Tag → (a b : ℤ) → EffectHere
+effectBefore g table cells τ a b = cond (atFourLevels g τ) (refuse Refusals.TooDeep) (effectIn g table cells τ a b)
 
-abbrev pub machineBefore : List Instruction → (capacity cells : ℕ) → Machine
-machineBefore g capacity cells = withInstructions (machineOf g capacity cells) (arityIn g) (effectBefore g cells)
+abbrev pub machineBefore : List Instruction → List NamedArray → (capacity cells : ℕ) → Machine
+machineBefore g table capacity cells = withInstructions (machineOf g table capacity cells) (arityIn g) (effectBefore g table cells)
 
 -- ---- the run
 
 unfoldable pub firstStateBefore : (inputs : List ℕ) → (cells : ℕ) → State Tag ℤ
 firstStateBefore inputs n = record { tokens = map tokenHeld (allRows oldWidth decodeBefore inputs); cells = replicate n absent }
 
-unfoldable pub resultBefore : (graph inputs picks : List ℕ) → (budget ledger cells : ℕ) → Result
-resultBefore graph inputs picks budget ledger cells =
-    unlessFailed (checkBefore graph inputs picks ledger cells)
-    (ranTo (run (machineBefore (graphOf graph) (ledger / oldWidth) (cells / cellWidth)) budget (picksOf picks) (firstStateBefore inputs (cells / cellWidth))))
+unfoldable pub resultBefore : (graph arrays inputs picks : List ℕ) → (budget ledger cells : ℕ) → Result
+resultBefore graph arrays inputs picks budget ledger cells =
+    unlessFailed (checkBefore graph arrays inputs picks ledger cells)
+    (ranTo (run (machineBefore (graphOf graph) (arraysOf arrays) (ledger / oldWidth) (cells / cellWidth)) budget (picksOf picks) (firstStateBefore inputs (cells / cellWidth))))
 
 unfoldable pub ledgerBefore : Result → (lent : List ℕ) → List ℕ
 ledgerBefore (refusedAtOnce r p) lent = lent
@@ -112,17 +115,18 @@ unfoldable pub checkLogStoresBefore : (inputs picks ledger cells budget lent : �
 checkLogStoresBefore inputs picks ledger cells budget lent =
     checkStoresBefore inputs picks ledger cells andThen demand (logSufficesBefore budget lent) Refusals.BadStore 0
 
-unfoldable pub checkLoggedBefore : (graph inputs picks : List ℕ) → (budget ledger cells lent : ℕ) → Checked
-checkLoggedBefore graph inputs picks budget ledger cells lent =
+unfoldable pub checkLoggedBefore : (graph arrays inputs picks : List ℕ) → (budget ledger cells lent : ℕ) → Checked
+checkLoggedBefore graph arrays inputs picks budget ledger cells lent =
     checkGraph graph
     andThen checkLogStoresBefore (length inputs) (length picks) ledger cells budget lent
+    andThen checkArrays (graphOf graph) (cells / cellWidth) arrays
     andThen checkInputsBefore (graphOf graph) (ledger / oldWidth) inputs
 
-unfoldable pub loggedBefore : (graph inputs picks : List ℕ) → (budget ledger cells lent : ℕ) → LogResult
-loggedBefore graph inputs picks budget ledger cells lent =
-    let M = machineBefore (graphOf graph) (ledger / oldWidth) (cells / cellWidth) in
+unfoldable pub loggedBefore : (graph arrays inputs picks : List ℕ) → (budget ledger cells lent : ℕ) → LogResult
+loggedBefore graph arrays inputs picks budget ledger cells lent =
+    let M = machineBefore (graphOf graph) (arraysOf arrays) (ledger / oldWidth) (cells / cellWidth) in
     let s = firstStateBefore inputs (cells / cellWidth) in
-    logUnlessFailed (checkLoggedBefore graph inputs picks budget ledger cells lent) (run M budget (picksOf picks) s) (logOf M (byPicks M) budget (picksOf picks) s)
+    logUnlessFailed (checkLoggedBefore graph arrays inputs picks budget ledger cells lent) (run M budget (picksOf picks) s) (logOf M (byPicks M) budget (picksOf picks) s)
 
 unfoldable pub logBefore : LogResult → (lent : List ℕ) → List ℕ
 logBefore x lent = writtenOver encodeTagBefore (x .log) lent
@@ -140,25 +144,25 @@ asMany old = old / oldWidth * tokenWidth
 
 -- "answers as it did, with its inputs converted and buffers of as many records": its end is the same one, so that the answer and the bytes of the cells are
 abbrev pub KeepsResult : Type 0
-KeepsResult = (graph inputs picks : List ℕ) (budget ledger cells : ℕ) → Neither7Nor14 (answer (resultBefore graph inputs picks budget ledger cells))
-    → result graph (converted tokenRest inputs) picks budget (asMany ledger) cells ≡ resultBefore graph inputs picks budget ledger cells
+KeepsResult = (graph arrays inputs picks : List ℕ) (budget ledger cells : ℕ) → Neither7Nor14 (answer (resultBefore graph arrays inputs picks budget ledger cells))
+    → result graph arrays (converted tokenRest inputs) picks budget (asMany ledger) cells ≡ resultBefore graph arrays inputs picks budget ledger cells
 
--- and a converted ledger is left as what was left, converted, in every byte
+-- and a converted tokenRest ledger is left as what was left, converted, in every byte
 abbrev pub KeepsLedger : Type 0
-KeepsLedger = (graph inputs picks : List ℕ) (budget : ℕ) (ledger : List ℕ) (cells : ℕ) → Neither7Nor14 (answer (resultBefore graph inputs picks budget (length ledger) cells))
-    → ledgerAfter (result graph (converted tokenRest inputs) picks budget (asMany (length ledger)) cells) (converted tokenRest ledger)
-    ≡ converted tokenRest (ledgerBefore (resultBefore graph inputs picks budget (length ledger) cells) ledger)
+KeepsLedger = (graph arrays inputs picks : List ℕ) (budget : ℕ) (ledger : List ℕ) (cells : ℕ) → Neither7Nor14 (answer (resultBefore graph arrays inputs picks budget (length ledger) cells))
+    → ledgerAfter (result graph arrays (converted tokenRest inputs) picks budget (asMany (length ledger)) cells) (converted tokenRest ledger)
+    ≡ converted tokenRest (ledgerBefore (resultBefore graph arrays inputs picks budget (length ledger) cells) ledger)
 
 -- the same of a run that writes a log: its end and the tags of its firings are the same ones
 abbrev pub asManyLogs : (old : ℕ) → ℕ
 asManyLogs old = old / oldLogWidth * logWidth
 
 abbrev pub KeepsLogged : Type 0
-KeepsLogged = (graph inputs picks : List ℕ) (budget ledger cells lent : ℕ) → Neither7Nor14 (answer (loggedBefore graph inputs picks budget ledger cells lent .result))
-    → logged graph (converted tokenRest inputs) picks budget (asMany ledger) cells (asManyLogs lent) ≡ loggedBefore graph inputs picks budget ledger cells lent
+KeepsLogged = (graph arrays inputs picks : List ℕ) (budget ledger cells lent : ℕ) → Neither7Nor14 (answer (loggedBefore graph arrays inputs picks budget ledger cells lent .result))
+    → logged graph arrays (converted tokenRest inputs) picks budget (asMany ledger) cells (asManyLogs lent) ≡ loggedBefore graph arrays inputs picks budget ledger cells lent
 
 -- and a log is left as what was left, its records widened, in every byte
 abbrev pub KeepsLog : Type 0
-KeepsLog = (graph inputs picks : List ℕ) (budget ledger cells : ℕ) (log : List ℕ) → Neither7Nor14 (answer (loggedBefore graph inputs picks budget ledger cells (length log) .result))
-    → logAfter (logged graph (converted tokenRest inputs) picks budget (asMany ledger) cells (asManyLogs (length log))) (converted logRest log)
-    ≡ converted logRest (logBefore (loggedBefore graph inputs picks budget ledger cells (length log)) log)
+KeepsLog = (graph arrays inputs picks : List ℕ) (budget ledger cells : ℕ) (log : List ℕ) → Neither7Nor14 (answer (loggedBefore graph arrays inputs picks budget ledger cells (length log) .result))
+    → logAfter (logged graph arrays (converted tokenRest inputs) picks budget (asMany ledger) cells (asManyLogs (length log))) (converted logRest log)
+    ≡ converted logRest (logBefore (loggedBefore graph arrays inputs picks budget ledger cells (length log)) log)

@@ -7,6 +7,7 @@ use native.Mathlib.Omega.{arith}
 use lib.ListN.{length, getD, drop}
 use lib.Seq.{drop-cons, getD-drop}
 use Rattle.number.specs.Number.{byteAt, number32}
+use Rattle.record.specs.declared.array.NamedArray.{NamedArray}
 use Rattle.record.specs.declared.tag.Tag.{Tag}
 use Rattle.record.specs.declared.token.Token.{Token}
 use Rattle.record.specs.declared.cell.Cell.{Cell}
@@ -32,18 +33,18 @@ abbrev pub allBy : (tables : List ℕ) → List Token → Bool
 allBy tables [] = true
 allBy tables (t ∷ ts) = properBy tables t && allBy tables ts
 
-held-proper : (g : List Instruction) (tables : List ℕ) → Arities g tables → (capacity count : ℕ) (ts : List Token)
-    → allProper (machineOf g capacity count) (map tokenHeld ts) ≡ allBy tables ts
-held-proper g tables right capacity count [] = refl
-held-proper g tables right capacity count (t ∷ ts) = rw (right (t .tag), held-proper g tables right capacity count ts)
+held-proper : (g : List Instruction) (tables : List ℕ) → Arities g tables → (table : List NamedArray) (capacity count : ℕ) (ts : List Token)
+    → allProper (machineOf g table capacity count) (map tokenHeld ts) ≡ allBy tables ts
+held-proper g tables right table capacity count [] = refl
+held-proper g tables right table capacity count (t ∷ ts) = rw (right (t .tag), held-proper g tables right table capacity count ts)
 
 pub ends-completed : (tables : List ℕ) (ts : List Token) → allBy tables ts ≡ true → EndsAs Outcomes.Completed tables ts
 unfolding ending
-ends-completed tables ts e g right capacity count cs = rw (held-proper g tables right capacity count ts, e)
+ends-completed tables ts e g right table capacity count cs = rw (held-proper g tables right table capacity count ts, e)
 
 pub ends-hung : (tables : List ℕ) (ts : List Token) → allBy tables ts ≡ false → EndsAs Outcomes.Hung tables ts
 unfolding ending
-ends-hung tables ts e g right capacity count cs = rw (held-proper g tables right capacity count ts, e)
+ends-hung tables ts e g right table capacity count cs = rw (held-proper g tables right table capacity count ts, e)
 
 -- a record whose state is 1 is a spent token's
 spent-content : (n bits state : ℕ) → state ≡ 1 → isProper n (contentHeld (contentOf bits state)) ≡ true
@@ -89,15 +90,15 @@ rests-there M choose picks f s = go (enabled M s) refl
     go [] e = rw (runEmpty M choose 0 picks f s e)
     go (a ∷ more) e = rw (runZero M choose picks f s a more e)
 
-module _ (g : List Instruction) (capacity count : ℕ) (tables : List ℕ) (ts : List Token) (cs : List Cell) (right : Arities g tables) (ports : OnPorts g ts) where
+module _ (g : List Instruction) (table : List NamedArray) (capacity count : ℕ) (tables : List ℕ) (ts : List Token) (cs : List Cell) (right : Arities g tables) (ports : OnPorts g ts) where
   abbrev M : Machine
-  M = machineOf g capacity count
+  M = machineOf g table capacity count
 
   abbrev activity : ℕ → Activity Tag
   activity p = record { place = p; tag = getD ts p noToken .tag }
 
   enabled-here : enabled M (stateHeld ts cs) ≡ map activity (enabledPlaces tables ts)
-  enabled-here = held-enabled g capacity count tables ts cs noToken right ports
+  enabled-here = held-enabled g table capacity count tables ts cs noToken right ports
 
   -- nothing is enabled, so the run is at its end, whatever its budget
   pub ended : (choose : Choice M) (b : ℕ) (picks : List ℕ) (f : ℕ) → length (enabledPlaces tables ts) ≡ 0 → runBy M choose b picks f (stateHeld ts cs) ≡ end M (ending M (stateHeld ts cs)) f (stateHeld ts cs)
@@ -116,7 +117,7 @@ module _ (g : List Instruction) (capacity count : ℕ) (tables : List ℕ) (ts :
       go (p ∷ l) e h = runZero M choose picks f (stateHeld ts cs) (activity p) (map activity l) (enabled-here ∙ ap (map activity) e)
 
 pub rests-ended : (tables : List ℕ) (ts : List Token) → length (enabledPlaces tables ts) ≡ 0 → (o : AnswerOutcome.Outcome) → EndsAs o tables ts → RestsAs o tables ts
-rests-ended tables ts z o e g right ports capacity count cs choose picks f = rw (ended g capacity count tables ts cs right ports choose 0 picks f z) (e g right capacity count cs)
+rests-ended tables ts z o e g right ports table capacity count cs choose picks f = rw (ended g table capacity count tables ts cs right ports choose 0 picks f z) (e g right table capacity count cs)
 
 pub rests-spent : (tables : List ℕ) (ts : List Token) → (length (enabledPlaces tables ts) ≡ 0 → ⊥) → RestsAs Outcomes.Spent tables ts
-rests-spent tables ts n g right ports capacity count cs choose picks f = rw (spent-here g capacity count tables ts cs right ports choose picks f n)
+rests-spent tables ts n g right ports table capacity count cs choose picks f = rw (spent-here g table capacity count tables ts cs right ports choose picks f n)

@@ -3,6 +3,7 @@ use Prim.Native.Nat.{ℕ}
 use mathlib.Core.Path.{_≡_}
 use mathlib.Core.Bool.{Bool}
 use mathlib.Core.List.{List}
+use Rattle.record.specs.declared.array.NamedArray.{NamedArray}
 use Rattle.record.specs.declared.token.Token.{Token}
 use Rattle.record.specs.declared.cell.Cell.{Cell}
 use Rattle.record.specs.declared.instruction.Instruction.{Instruction}
@@ -20,11 +21,11 @@ properBy tables t = isProper (arityOf tables (t .tag)) (contentHeld (t .content)
 
 -- the outcome where nothing is enabled
 abbrev pub EndsAs : Outcome → (tables : List ℕ) → List Token → Type 0
-EndsAs o tables ts = (g : List Instruction) → Arities g tables → (capacity count : ℕ) (cs : List Cell)
-    → o ≡ outcomeOf (ending (machineOf g capacity count) (stateHeld ts cs))
+EndsAs o tables ts = (g : List Instruction) → Arities g tables → (table : List NamedArray) (capacity count : ℕ) (cs : List Cell)
+    → o ≡ outcomeOf (ending (machineOf g table capacity count) (stateHeld ts cs))
 
 -- the outcome of a run that has no budget left, whatever picks and firings came before
 abbrev pub RestsAs : Outcome → (tables : List ℕ) → List Token → Type 0
-RestsAs o tables ts = (g : List Instruction) → Arities g tables → OnPorts g ts → (capacity count : ℕ) (cs : List Cell)
-    (choose : Choice (machineOf g capacity count)) (picks : List ℕ) (f : ℕ)
-    → o ≡ outcomeOf (runBy (machineOf g capacity count) choose 0 picks f (stateHeld ts cs) .outcome)
+RestsAs o tables ts = (g : List Instruction) → Arities g tables → OnPorts g ts → (table : List NamedArray) (capacity count : ℕ) (cs : List Cell)
+    (choose : Choice (machineOf g table capacity count)) (picks : List ℕ) (f : ℕ)
+    → o ≡ outcomeOf (runBy (machineOf g table capacity count) choose 0 picks f (stateHeld ts cs) .outcome)

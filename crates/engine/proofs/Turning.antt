@@ -30,7 +30,7 @@ use Rattle.rules.specs.declared.answer.Outcome as AnswerOutcome
 use Rattle.rules.specs.declared.answer.Outcome.the-variants as Outcomes
 use Rattle.rules.specs.Run.{picksOf}
 use Rattle.abstraction.specs.States.{noToken}
-use Rattle.abstraction.specs.Tables.{Arities}
+use Rattle.abstraction.specs.Tables.{Arities, arraysIn}
 use Rattle.abstraction.proofs.Enabled.{held-enabled}
 use Rattle.fire_outputs.specs.Outputs.{cellsIn}
 use Rattle.fire.proofs.Place.{on-ports}
@@ -48,7 +48,7 @@ getD-map f (x ∷ xs) (suc k) d e h = getD-map f xs k d e (omega arith)
 
 module _ (g : List Instruction) (tables : List ℕ) (right : Arities g tables) (ledger cells : List ℕ) (used : ℕ) (arrived : Arrived g (tokens used ledger)) where
   abbrev M : Machine
-  M = machineFor g ledger cells
+  M = machineFor g tables ledger cells
 
   abbrev s : State Tag ℤ
   s = stateIn ledger cells used
@@ -57,7 +57,7 @@ module _ (g : List Instruction) (tables : List ℕ) (right : Arities g tables) (
   activity p = record { place = p; tag = getD (tokens used ledger) p noToken .tag }
 
   enabled-here : enabled M s ≡ map activity (enabledPlaces tables (tokens used ledger))
-  enabled-here = held-enabled g (length ledger / tokenWidth) (length cells / cellWidth) tables (tokens used ledger) (cellsIn cells) noToken right (on-ports g (tokens used ledger) arrived)
+  enabled-here = held-enabled g (arraysIn tables) (length ledger / tokenWidth) (length cells / cellWidth) tables (tokens used ledger) (cellsIn cells) noToken right (on-ports g (tokens used ledger) arrived)
 
   none-enabled : length (enabledPlaces tables (tokens used ledger)) ≡ 0 → enabled M s ≡ []
   none-enabled e = enabled-here ∙ go (enabledPlaces tables (tokens used ledger)) e
@@ -138,11 +138,11 @@ module _ (graph picks : List ℕ) {tables links flags ledger cells : List ℕ} {
   pub turn-none : (e : ℕ) → e ≡ length (places (flagsOf flags)) → e ≡ 0 → (o : AnswerOutcome.Outcome) → EndsAs o tables (tokens used ledger)
       → Halted o (graphOf graph) later-picks tables links flags ledger cells used ledger cells
   turn-none e h z o said =
-      let M₁ = machineFor (graphOf graph) ledger cells in
+      let M₁ = machineFor (graphOf graph) tables ledger cells in
       record {
         outcome = ending M₁ (stateIn ledger cells used);
-        told = sym (said (graphOf graph) (ready .aritiesRight) (length ledger / tokenWidth) (length cells / cellWidth) (cellsIn cells));
-        ends = λ b f. ended (graphOf graph) (length ledger / tokenWidth) (length cells / cellWidth) tables (tokens used ledger) (cellsIn cells) (ready .aritiesRight)
+        told = sym (said (graphOf graph) (ready .aritiesRight) (arraysIn tables) (length ledger / tokenWidth) (length cells / cellWidth) (cellsIn cells));
+        ends = λ b f. ended (graphOf graph) (arraysIn tables) (length ledger / tokenWidth) (length cells / cellWidth) tables (tokens used ledger) (cellsIn cells) (ready .aritiesRight)
             (on-ports (graphOf graph) (tokens used ledger) (now .arrived)) (byPicks M₁) (suc b) later-picks f (sym (count e h) ∙ z);
         logsNone = λ b. logEmpty M₁ (byPicks M₁) (suc b) later-picks (stateIn ledger cells used) (none-enabled (graphOf graph) tables (ready .aritiesRight) ledger cells used (now .arrived) (sym (count e h) ∙ z));
         running = now;
@@ -180,10 +180,10 @@ module _ (graph picks : List ℕ) {tables links flags ledger cells : List ℕ} {
           → Advanced (graphOf graph) τ later-picks tables links′ flags′ ledger′ cells′ n used ledger cells
       turn-done {n} τ is w = record {
         goesOn = goes-on (graphOf graph) tables (ready .aritiesRight) ledger cells used (now .arrived) later-picks place enabled-some chosen _
-            (ap (fire (machineFor (graphOf graph) ledger cells) (stateIn ledger cells used)) (sym that-tag) ∙ w .step);
+            (ap (fire (machineFor (graphOf graph) tables ledger cells) (stateIn ledger cells used)) (sym that-tag) ∙ w .step);
         logs = λ b. logs-on (graphOf graph) tables (ready .aritiesRight) ledger cells used (now .arrived) later-picks place enabled-some chosen _
-            (ap (fire (machineFor (graphOf graph) ledger cells) (stateIn ledger cells used)) (sym that-tag) ∙ w .step) b
-            ∙ ap (λ (σ : Tag). σ ∷ logOf (machineFor (graphOf graph) ledger cells) (byPicks (machineFor (graphOf graph) ledger cells)) b (laterPicks later-picks) (stateIn ledger′ cells′ n)) (sym (is ∙ that-tag));
+            (ap (fire (machineFor (graphOf graph) tables ledger cells) (stateIn ledger cells used)) (sym that-tag) ∙ w .step) b
+            ∙ ap (λ (σ : Tag). σ ∷ logOf (machineFor (graphOf graph) tables ledger cells) (byPicks (machineFor (graphOf graph) tables ledger cells)) b (laterPicks later-picks) (stateIn ledger′ cells′ n)) (sym (is ∙ that-tag));
         running = w .running;
         grown = w .grown;
         size = w .size;
@@ -197,9 +197,9 @@ module _ (graph picks : List ℕ) {tables links flags ledger cells : List ℕ} {
         outcome = Machines.refused r place;
         told = refl;
         ends = halts (graphOf graph) tables (ready .aritiesRight) ledger cells used (now .arrived) later-picks place enabled-some chosen r
-            (ap (fire (machineFor (graphOf graph) ledger cells) (stateIn ledger cells used)) (sym that-tag) ∙ w .step);
+            (ap (fire (machineFor (graphOf graph) tables ledger cells) (stateIn ledger cells used)) (sym that-tag) ∙ w .step);
         logsNone = logs-none (graphOf graph) tables (ready .aritiesRight) ledger cells used (now .arrived) later-picks place enabled-some chosen r
-            (ap (fire (machineFor (graphOf graph) ledger cells) (stateIn ledger cells used)) (sym that-tag) ∙ w .step);
+            (ap (fire (machineFor (graphOf graph) tables ledger cells) (stateIn ledger cells used)) (sym that-tag) ∙ w .step);
         running = w .running;
         sameLedger = w .sameLedger;
         sameCells = w .sameCells;

@@ -2,23 +2,32 @@
 use Prim.Native.Nat.{ℕ, _/_, _%_, _≤_}
 use mathlib.Core.Path.{_≡_}
 use mathlib.Core.List.{List}
+use lib.ListN.{length}
+use Rattle.record.specs.GraphRecords.{graphOf}
+use Rattle.record.specs.Arrays.{mostArrays, arraysOf}
 use Rattle.record.specs.TokensAndTags.{mostTokens, capacityOf}
-use Rattle.record.specs.Widths.{cellWidth}
+use Rattle.record.specs.Widths.{cellWidth, arrayWidth}
 use Rattle.machine.specs.Machine.{byPicks, runBy}
+use Rattle.rules.specs.declared.answer.Checked.{Checked}
 use Rattle.rules.specs.declared.answer.Checked.the-variants.{Passed}
 use Rattle.rules.specs.declared.answer.Refusal.the-variants.{DamagedState}
-use Rattle.rules.specs.Check.{demand, checkGraph, mostCells}
+use Rattle.rules.specs.Check.{demand, _andThen_, checkGraph, checkStores, checkArrays, mostCells}
 use Rattle.rules.specs.Run.{picksOf, Result, ranTo, unlessFailed}
 use Rattle.rules.specs.Saved.{stateSaved, machineSaved, taken}
 
--- the graph passed, and ledger and cells, by their lengths in bytes, are of allowed length
-pub record Lent (graph : List ℕ) (ledger cells : ℕ) : Type 0 where
+-- the checks of what is lent beside it; picks, ledger and cells by their lengths in bytes
+abbrev pub lentChecked : (graph arrays : List ℕ) → (picks ledger cells : ℕ) → Checked
+lentChecked graph arrays picks ledger cells = checkGraph graph andThen checkStores 0 picks ledger cells andThen checkArrays (graphOf graph) (cells / cellWidth) arrays
+
+-- the graph passed, the table of named arrays is not too long, and ledger and cells are of allowed length
+pub record Lent (graph arrays : List ℕ) (ledger cells : ℕ) : Type 0 where
   pub graphPassed : checkGraph graph ≡ Passed
+  pub fewArrays : length arrays / arrayWidth ≤ mostArrays
   pub few : capacityOf ledger ≤ mostTokens
   pub cellRecords : (cells % cellWidth ≡ 0) × (cells / cellWidth ≤ mostCells)
 
 -- refused by 24, or run to its end
-abbrev pub resumed : (graph picks : List ℕ) → (budget : ℕ) → (ledger cells : List ℕ) → (firings used : ℕ) → Result
-resumed graph picks budget ledger cells firings used =
-    let M = machineSaved graph ledger cells in
+abbrev pub resumed : (graph arrays picks : List ℕ) → (budget : ℕ) → (ledger cells : List ℕ) → (firings used : ℕ) → Result
+resumed graph arrays picks budget ledger cells firings used =
+    let M = machineSaved graph (arraysOf arrays) ledger cells in
     unlessFailed (demand (taken graph ledger cells firings used) DamagedState 0) (ranTo (runBy M (byPicks M) budget (picksOf picks) firings (stateSaved ledger cells used)))

@@ -22,10 +22,10 @@ use Rattle.engine.specs.declared.Turn.the-variants as Turns
 
 -- a turn in which τ fired left n tokens, and the run goes on from there with the picks after the first
 pub record Advanced (g : List Instruction) (τ : Tag) (picks : List ℕ) (tables links flags ledger′ cells′ : List ℕ) (n used : ℕ) (ledger cells : List ℕ) : Type 0 where
-  pub goesOn : (b f : ℕ) → runBy (machineFor g ledger cells) (byPicks (machineFor g ledger cells)) (suc b) picks f (stateIn ledger cells used)
-      ≡ runBy (machineFor g ledger cells) (byPicks (machineFor g ledger cells)) b (laterPicks picks) (suc f) (stateIn ledger′ cells′ n)
-  pub logs : (b : ℕ) → logOf (machineFor g ledger cells) (byPicks (machineFor g ledger cells)) (suc b) picks (stateIn ledger cells used)
-      ≡ τ ∷ logOf (machineFor g ledger cells) (byPicks (machineFor g ledger cells)) b (laterPicks picks) (stateIn ledger′ cells′ n)
+  pub goesOn : (b f : ℕ) → runBy (machineFor g tables ledger cells) (byPicks (machineFor g tables ledger cells)) (suc b) picks f (stateIn ledger cells used)
+      ≡ runBy (machineFor g tables ledger cells) (byPicks (machineFor g tables ledger cells)) b (laterPicks picks) (suc f) (stateIn ledger′ cells′ n)
+  pub logs : (b : ℕ) → logOf (machineFor g tables ledger cells) (byPicks (machineFor g tables ledger cells)) (suc b) picks (stateIn ledger cells used)
+      ≡ τ ∷ logOf (machineFor g tables ledger cells) (byPicks (machineFor g tables ledger cells)) b (laterPicks picks) (stateIn ledger′ cells′ n)
   pub running : Running g tables links flags ledger′ cells′ n
   pub grown : used ≤ n
   pub size : length ledger′ ≡ length ledger
@@ -36,9 +36,9 @@ pub record Advanced (g : List Instruction) (τ : Tag) (picks : List ℕ) (tables
 pub record Halted (o : AnswerOutcome.Outcome) (g : List Instruction) (picks : List ℕ) (tables links flags ledger′ cells′ : List ℕ) (used : ℕ) (ledger cells : List ℕ) : Type 0 where
   pub outcome : Outcome Refusal
   pub told : outcomeOf outcome ≡ o
-  pub ends : (b f : ℕ) → runBy (machineFor g ledger cells) (byPicks (machineFor g ledger cells)) (suc b) picks f (stateIn ledger cells used)
-      ≡ end (machineFor g ledger cells) outcome f (stateIn ledger cells used)
-  pub logsNone : (b : ℕ) → logOf (machineFor g ledger cells) (byPicks (machineFor g ledger cells)) (suc b) picks (stateIn ledger cells used) ≡ []
+  pub ends : (b f : ℕ) → runBy (machineFor g tables ledger cells) (byPicks (machineFor g tables ledger cells)) (suc b) picks f (stateIn ledger cells used)
+      ≡ end (machineFor g tables ledger cells) outcome f (stateIn ledger cells used)
+  pub logsNone : (b : ℕ) → logOf (machineFor g tables ledger cells) (byPicks (machineFor g tables ledger cells)) (suc b) picks (stateIn ledger cells used) ≡ []
   pub running : Running g tables links flags ledger′ cells′ used
   pub sameLedger : ledger′ ≡ ledger
   pub sameCells : cells′ ≡ cells
@@ -50,11 +50,11 @@ Turned (Turns.Ended o) g picks tables links flags ledger′ cells′ used ledger
     Halted o g picks tables links flags ledger′ cells′ used ledger cells
 
 -- the end of a run from a state of so many tokens, and its log
-abbrev pub endOf : List Instruction → (ledger cells : List ℕ) → (used budget : ℕ) → (picks : List ℕ) → End Refusal Tag ℤ
-endOf g ledger cells used budget picks = run (machineFor g ledger cells) budget picks (stateIn ledger cells used)
+abbrev pub endOf : List Instruction → (tables ledger cells : List ℕ) → (used budget : ℕ) → (picks : List ℕ) → End Refusal Tag ℤ
+endOf g tables ledger cells used budget picks = run (machineFor g tables ledger cells) budget picks (stateIn ledger cells used)
 
-abbrev pub firedBy : List Instruction → (ledger cells : List ℕ) → (used budget : ℕ) → (picks : List ℕ) → List Tag
-firedBy g ledger cells used budget picks = logOf (machineFor g ledger cells) (byPicks (machineFor g ledger cells)) budget picks (stateIn ledger cells used)
+abbrev pub firedBy : List Instruction → (tables ledger cells : List ℕ) → (used budget : ℕ) → (picks : List ℕ) → List Tag
+firedBy g tables ledger cells used budget picks = logOf (machineFor g tables ledger cells) (byPicks (machineFor g tables ledger cells)) budget picks (stateIn ledger cells used)
 
 -- record i of a log, if it has room for it
 unfoldable pub noted : (log : List ℕ) → (i : ℕ) → Tag → List ℕ

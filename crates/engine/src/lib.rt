@@ -1,7 +1,9 @@
 // The engine: a graph and its inputs are checked, and fired under picks. A run may write a log.
+use checks::arrays;
 use checks::graph;
 use checks::stores;
 use fire_commit::Fired;
+use record::cell;
 use record::log;
 use record::tag::Tag;
 use record::token;
@@ -19,14 +21,14 @@ ghost use Rattle.machine.specs.Machine.{byPicks};
 ghost use Rattle.machine.specs.Machine.{run as Machine·run};
 ghost use Rattle.machine.specs.Sequences.{logOf};
 ghost use Rattle.rules.specs.Answer.{valuesChecked};
-ghost use Rattle.rules.specs.Check.{_andThen_, checkGraph, checkStores};
+ghost use Rattle.rules.specs.Check.{checkGraph};
 ghost use Rattle.rules.specs.Run.{picksOf, firstState, Ran};
 ghost use Rattle.rules.specs.Saved.{CarriedOn};
-ghost use Rattle.fire.specs.Running.{machineFor, Prepared, Running};
-ghost use Rattle.start.specs.Begun.{Accepted};
+ghost use Rattle.fire.specs.Running.{Prepared, Running};
+ghost use Rattle.start.specs.Begun.{machineLent, Accepted};
 ghost use Rattle.start.specs.Ended.{EndedAt};
 ghost use Rattle.engine.specs.Promise.{lentToRun, leftByRun, RanOn, lentToLogged, leftByLogged, LoggedOn};
-ghost use Rattle.engine.specs.Resumed.{Lent, resumed};
+ghost use Rattle.engine.specs.Resumed.{lentChecked, Lent, resumed};
 ghost use Rattle.engine.specs.Turns.{Turned, endOf, firedBy, noted, recorded};
 
 // What a turn of a run comes to: the activity of a tag fired and left so many tokens, or the run is at its end.
@@ -46,7 +48,7 @@ fn number_of(pick: usize, e: usize) -> usize
 // The activity that the pick takes fires, if one is enabled.
 fn take_turn(
     graph: &[u8],
-    tables: &[u16; 512],
+    tables: &[u16; 641],
     picks: &[u8],
     firings: usize,
     links: &mut [u16; 9216],
@@ -91,7 +93,7 @@ pub struct Going {
 // A run goes on from a state under picks, and notes each firing.
 fn proceed(
     graph: &[u8],
-    tables: &[u16; 512],
+    tables: &[u16; 641],
     picks: &[u8],
     links: &mut [u16; 9216],
     flags: &mut [u64; 69],
@@ -101,8 +103,8 @@ fn proceed(
     going: Going,
 ) -> Answer
     requires { ⌜ Prepared (now graph) (now tables) × Running (graphOf (now graph)) (now tables) (now links) (now flags) (now ledger) (now cells) (going .used) ⌝ }
-    ensures { λ r. ⌜ EndedAt (endOf (graphOf (now (graph .entry))) (now (ledger .entry)) (now (cells .entry)) (going .used) (going .budget) (picksOf (now (picks .entry)))) r (now (ledger .entry)) (now (cells .entry)) (now (ledger .exit)) (now (cells .exit)) ⌝ }
-    ensures { λ _. ⌜ now (log .exit) ≡ recorded (firedBy (graphOf (now (graph .entry))) (now (ledger .entry)) (now (cells .entry)) (going .used) (going .budget) (picksOf (now (picks .entry)))) (now (log .entry)) ⌝ }
+    ensures { λ r. ⌜ EndedAt (endOf (graphOf (now (graph .entry))) (now (tables .entry)) (now (ledger .entry)) (now (cells .entry)) (going .used) (going .budget) (picksOf (now (picks .entry)))) r (now (ledger .entry)) (now (cells .entry)) (now (ledger .exit)) (now (cells .exit)) ⌝ }
+    ensures { λ _. ⌜ now (log .exit) ≡ recorded (firedBy (graphOf (now (graph .entry))) (now (tables .entry)) (now (ledger .entry)) (now (cells .entry)) (going .used) (going .budget) (picksOf (now (picks .entry)))) (now (log .entry)) ⌝ }
 {
     let budget = going.budget;
     let mut used = going.used;
@@ -136,6 +138,7 @@ fn proceed(
 // proceeds.
 fn accepted(
     graph: &[u8],
+    arrays: &[u8],
     inputs: &[u8],
     picks: &[u8],
     budget: usize,
@@ -143,15 +146,16 @@ fn accepted(
     cells: &mut [u8],
     log: &mut [u8],
 ) -> Answer
-    requires { ⌜ Accepted (now graph) (now inputs) (length (now ledger)) (length (now cells)) ⌝ }
-    ensures { λ r. ⌜ EndedAt (Machine·run (machineFor (graphOf (now (graph .entry))) (now (ledger .entry)) (now (cells .entry))) budget (picksOf (now (picks .entry))) (firstState (now (inputs .entry)) (length (now (cells .entry)) / cellWidth))) r (now (ledger .entry)) (now (cells .entry)) (now (ledger .exit)) (now (cells .exit)) ⌝ }
-    ensures { λ _. ⌜ now (log .exit) ≡ recorded (logOf (machineFor (graphOf (now (graph .entry))) (now (ledger .entry)) (now (cells .entry))) (byPicks (machineFor (graphOf (now (graph .entry))) (now (ledger .entry)) (now (cells .entry)))) budget (picksOf (now (picks .entry))) (firstState (now (inputs .entry)) (length (now (cells .entry)) / cellWidth))) (now (log .entry)) ⌝ }
+    requires { ⌜ Accepted (now graph) (now arrays) (now inputs) (length (now ledger)) (length (now cells)) ⌝ }
+    ensures { λ r. ⌜ EndedAt (Machine·run (machineLent (now (graph .entry)) (now (arrays .entry)) (now (ledger .entry)) (now (cells .entry))) budget (picksOf (now (picks .entry))) (firstState (now (inputs .entry)) (length (now (cells .entry)) / cellWidth))) r (now (ledger .entry)) (now (cells .entry)) (now (ledger .exit)) (now (cells .exit)) ⌝ }
+    ensures { λ _. ⌜ now (log .exit) ≡ recorded (logOf (machineLent (now (graph .entry)) (now (arrays .entry)) (now (ledger .entry)) (now (cells .entry))) (byPicks (machineLent (now (graph .entry)) (now (arrays .entry)) (now (ledger .entry)) (now (cells .entry)))) budget (picksOf (now (picks .entry))) (firstState (now (inputs .entry)) (length (now (cells .entry)) / cellWidth))) (now (log .entry)) ⌝ }
 {
-    let mut tables = [0u16; 512];
+    let mut tables = [0u16; 641];
     let mut links = [0u16; 9216];
     let mut flags = [0u64; 69];
     let used = start::begin(
         graph,
+        arrays,
         inputs,
         &mut tables,
         &mut links,
@@ -172,20 +176,26 @@ fn accepted(
     )
 }
 
-// The check of what is lent beside a saved state: the graph, then picks, ledger and cells by their lengths in bytes.
-fn check_lent(graph: &[u8], picks: usize, ledger: usize, cells: usize) -> Checked
-    ensures { λ r. ⌜ r ≡ (checkGraph (now (graph .entry)) andThen checkStores 0 picks ledger cells) ⌝ }
+// The check of what is lent beside a saved state: the graph, then picks, ledger and cells by their lengths in bytes, then the
+// table of named arrays.
+fn check_lent(graph: &[u8], arrays: &[u8], picks: usize, ledger: usize, cells: usize) -> Checked
+    ensures { λ r. ⌜ r ≡ lentChecked (now (graph .entry)) (now (arrays .entry)) picks ledger cells ⌝ }
 {
     let of_graph = graph::check(graph);
     let Checked::Passed = of_graph else {
         return of_graph;
     };
-    stores::check(0, picks, ledger, cells)
+    let of_stores = stores::check(0, picks, ledger, cells);
+    let Checked::Passed = of_stores else {
+        return of_stores;
+    };
+    arrays::check(graph, arrays, cells / cell::WIDTH)
 }
 
 // 02, R-13: a saved state is taken, and the run goes on from it; or it is refused by 24.
 fn resume(
     graph: &[u8],
+    arrays: &[u8],
     picks: &[u8],
     budget: usize,
     firings: usize,
@@ -193,13 +203,13 @@ fn resume(
     ledger: &mut [u8],
     cells: &mut [u8],
 ) -> Answer
-    requires { ⌜ Lent (now graph) (length (now ledger)) (length (now cells)) × (budget < 65536) × (firings < 65536) ⌝ }
-    ensures { λ r. ⌜ Ran (resumed (now (graph .entry)) (now (picks .entry)) budget (now (ledger .entry)) (now (cells .entry)) firings used) r (now (ledger .entry)) (now (ledger .exit)) (now (cells .entry)) (now (cells .exit)) ⌝ }
+    requires { ⌜ Lent (now graph) (now arrays) (length (now ledger)) (length (now cells)) × (budget < 65536) × (firings < 65536) ⌝ }
+    ensures { λ r. ⌜ Ran (resumed (now (graph .entry)) (now (arrays .entry)) (now (picks .entry)) budget (now (ledger .entry)) (now (cells .entry)) firings used) r (now (ledger .entry)) (now (ledger .exit)) (now (cells .entry)) (now (cells .exit)) ⌝ }
 {
-    let mut tables = [0u16; 512];
+    let mut tables = [0u16; 641];
     let mut links = [0u16; 9216];
     let mut flags = [0u64; 69];
-    graph_tables::make(graph, &mut tables);
+    graph_tables::make(graph, arrays, &mut tables);
     if !saved::take(
         graph,
         &tables,
@@ -238,21 +248,23 @@ pub fn check_graph(graph: &[u8]) -> Checked
 // A run over lent bytes: its answer, and what it leaves in ledger and cells, are what the rules give.
 pub fn run(
     graph: &[u8],
+    arrays: &[u8],
     inputs: &[u8],
     picks: &[u8],
     budget: u16,
     ledger: &mut [u8],
     cells: &mut [u8],
 ) -> Answer
-    ensures { λ r. ⌜ RanOn (now (graph .entry)) (now (inputs .entry)) budget (lentToRun (now (picks .entry)) (now (ledger .entry)) (now (cells .entry))) (leftByRun r (now (ledger .exit)) (now (cells .exit))) ⌝ }
+    ensures { λ r. ⌜ RanOn (now (graph .entry)) (now (arrays .entry)) (now (inputs .entry)) budget (lentToRun (now (picks .entry)) (now (ledger .entry)) (now (cells .entry))) (leftByRun r (now (ledger .exit)) (now (cells .exit))) ⌝ }
 {
-    let checked = checks::check(graph, inputs, picks, ledger.len(), cells.len());
+    let checked = checks::check(graph, arrays, inputs, picks, ledger.len(), cells.len());
     match checked {
         Checked::Failed(r, place) => answer::refused(r, place),
         Checked::Passed => {
             let mut none = [0u8; 0];
             accepted(
                 graph,
+                arrays,
                 inputs,
                 picks,
                 budget as usize,
@@ -267,6 +279,7 @@ pub fn run(
 // The same run, which also writes a log: the first records of it, one for each firing.
 pub fn run_logged(
     graph: &[u8],
+    arrays: &[u8],
     inputs: &[u8],
     picks: &[u8],
     budget: u16,
@@ -274,11 +287,12 @@ pub fn run_logged(
     cells: &mut [u8],
     log: &mut [u8],
 ) -> Answer
-    ensures { λ r. ⌜ LoggedOn (now (graph .entry)) (now (inputs .entry)) (lentToLogged (now (picks .entry)) budget (now (ledger .entry)) (now (cells .entry)) (now (log .entry))) (leftByLogged r (now (ledger .exit)) (now (cells .exit)) (now (log .exit))) ⌝ }
+    ensures { λ r. ⌜ LoggedOn (now (graph .entry)) (now (arrays .entry)) (now (inputs .entry)) (lentToLogged (now (picks .entry)) budget (now (ledger .entry)) (now (cells .entry)) (now (log .entry))) (leftByLogged r (now (ledger .exit)) (now (cells .exit)) (now (log .exit))) ⌝ }
 {
     let firings = budget as usize;
     let checked = checks::check_logged(
         graph,
+        arrays,
         inputs,
         picks,
         firings,
@@ -288,7 +302,7 @@ pub fn run_logged(
     );
     match checked {
         Checked::Failed(r, place) => answer::refused(r, place),
-        Checked::Passed => accepted(graph, inputs, picks, firings, ledger, cells, log),
+        Checked::Passed => accepted(graph, arrays, inputs, picks, firings, ledger, cells, log),
     }
 }
 
@@ -296,6 +310,7 @@ pub fn run_logged(
 // The budget and the picks are those of this part; the answer counts all firings.
 pub fn carry_on(
     graph: &[u8],
+    arrays: &[u8],
     picks: &[u8],
     budget: u16,
     firings: u16,
@@ -303,13 +318,14 @@ pub fn carry_on(
     ledger: &mut [u8],
     cells: &mut [u8],
 ) -> Answer
-    ensures { λ r. ⌜ CarriedOn (now (graph .entry)) (now (picks .entry)) budget firings tokens r (now (ledger .entry)) (now (ledger .exit)) (now (cells .entry)) (now (cells .exit)) ⌝ }
+    ensures { λ r. ⌜ CarriedOn (now (graph .entry)) (now (arrays .entry)) (now (picks .entry)) budget firings tokens r (now (ledger .entry)) (now (ledger .exit)) (now (cells .entry)) (now (cells .exit)) ⌝ }
 {
-    let checked = check_lent(graph, picks.len(), ledger.len(), cells.len());
+    let checked = check_lent(graph, arrays, picks.len(), ledger.len(), cells.len());
     match checked {
         Checked::Failed(r, place) => answer::refused(r, place),
         Checked::Passed => resume(
             graph,
+            arrays,
             picks,
             budget as usize,
             firings as usize,

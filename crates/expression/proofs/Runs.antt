@@ -162,8 +162,8 @@ expressions-run expression values lent output n made bytes passed-both l x allow
     let (e, is, r) = expressions-evaluate expression ok vs fit (l .picks) (length (l .ledger)) (length (l .cells)) allowed enough in
     let ran′ : Ran (ranTo e) (x .answer) (l .ledger) (x .ledger) (l .cells) (x .cells) =
     subst (λ (q : Result). Ran q (x .answer) (l .ledger) (x .ledger) (l .cells) (x .cells)) is
-    (subst (λ (g : List ℕ). RanOn g (inputBytes vs) 2048 l x) (w .graph) ran) in
-    let all = result-fits (graphBytes ts) (inputBytes vs) (l .picks) 2048 (length (l .ledger)) (length (l .cells)) (graph-bytes ts (passed expression ok)) (input-bytes ts (passed expression ok) vs fit) in
+    (subst (λ (g : List ℕ). RanOn g [] (inputBytes vs) 2048 l x) (w .graph) ran) in
+    let all = result-fits (graphBytes ts) [] (inputBytes vs) (l .picks) 2048 (length (l .ledger)) (length (l .cells)) (graph-bytes ts (passed expression ok)) (input-bytes ts (passed expression ok) vs fit) in
     let small = subst (λ (q : Result). AllFit q (capacityOf (length (l .ledger))) (length (l .cells) / cellWidth)) is all in
     rw (passed-both, w .many)
     (gives e (l .ledger) x (ran′ .answered) (ran′ .ledgerLeft) (small .tokens) ts (capacityOf (length (l .ledger))) (length (l .cells) / cellWidth) (valueOf ts vs) r)

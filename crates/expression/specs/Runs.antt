@@ -2,7 +2,7 @@
 -- promise, `MadeFrom`, `evaluated` and `Ran`. The statement; it is proved in proofs/Runs. Assumes nothing.
 use Prim.Native.Nat.{ℕ, suc, _+_, _*_, _≤_, _<_}
 use mathlib.Core.Path.{_≡_}
-use mathlib.Core.List.{List}
+use mathlib.Core.List.{List, []}
 use lib.ListN.{length, take}
 use lib.IntN.{ℤ}
 use Rattle.number.specs.Number.{Bytes}
@@ -32,10 +32,10 @@ abbrev pub Gives : Evaluated → (n : ℕ) → LeftByRun → Type 0
 Gives (Value v) n x = OutReceived n v x
 Gives (Refused r p) n x = (place : ℕ) × (x .answer .outcome ≡ Outcomes.Refused OutOfRange place)
 
--- "For all variable values and every firing order, budget 2,048"; "A ledger of 300 records is enough."
+-- "For all variable values and every firing order, budget 2,048"; "A ledger of 300 records is enough." The run has no table of named arrays
 abbrev pub ExpressionsRun : Type 0
 ExpressionsRun = (expression values lent output : List ℕ) (n : ℕ)
     → MadeFrom expression (Records (suc n)) lent output → Bytes values → checkValues expression (length values) ≡ Passed
     → (l : LentToRun) (x : LeftByRun) → Allowed (l .picks) (length (l .ledger)) (length (l .cells)) → 300 ≤ capacityOf (length (l .ledger))
-    → RanOn (take (suc n * graphWidth) output) (inputBytes (variablesOf values)) 2048 l x
+    → RanOn (take (suc n * graphWidth) output) [] (inputBytes (variablesOf values)) 2048 l x
     → Gives (evaluated expression values) n x

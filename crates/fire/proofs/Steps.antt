@@ -8,6 +8,7 @@ use native.Mathlib.Omega.{arith}
 use lib.ListN.{length, getD, length-append, length-map, length-set}
 use lib.Dec.{eqb}
 use lib.IntN.{ℤ}
+use Rattle.record.specs.declared.array.NamedArray.{NamedArray}
 use Rattle.record.specs.declared.tag.Tag.{Tag}
 use Rattle.record.specs.declared.token.Token as Record
 use Rattle.record.specs.declared.token.Content as RecordContent
@@ -40,6 +41,7 @@ use Rattle.fire_effect.proofs.Arrives.{arrives-port, arrives-inside}
 use Rattle.fire_effect.proofs.Does.{records}
 use Rattle.abstraction.proofs.Arities.{arity-small}
 use Rattle.store_enabled.specs.Enabled.{arityOf}
+use Rattle.abstraction.specs.Tables.{arraysIn}
 use Rattle.abstraction.specs.States.{noToken, stateHeld}
 use Rattle.fire_operands.specs.declared.Admitted.{Admitted}
 use Rattle.fire_operands.specs.declared.Admitted.the-variants.{Yes, No}
@@ -107,8 +109,8 @@ on-cells n (Read c) keys h = h
 on-cells n (Write c v) keys h = h
 
 -- what the code's commit requires of them
-pub fitting : (g : List Instruction) (cells : ℕ) (τ : Tag) (a b : ℤ) (x : Action) (o : Outputs) → Effected g cells τ a b x o → Fitting cells x o
-fitting g cells τ a b x o h =
+pub fitting : (g : List Instruction) (table : List NamedArray) (cells : ℕ) (τ : Tag) (a b : ℤ) (x : Action) (o : Outputs) → Effected g table cells τ a b x o → Fitting cells x o
+fitting g table cells τ a b x o h =
     (h .counted, low-ports g (o .count) (o .first) (o .second) (sent-keys (Arrives g) x (keysOf o) (h .arrives)), on-cells cells x (keysOf o) (h .cellsBelow))
 
 -- ---- tokens after a firing
@@ -174,7 +176,7 @@ module _ (graph : List ℕ) (passed : checkGraph graph ≡ Passed) {tables links
   g = graphOf graph
 
   abbrev M : Machine
-  M = machineFor (graphOf graph) ledger cells
+  M = machineFor (graphOf graph) tables ledger cells
 
   abbrev s : State Tag ℤ
   s = stateIn ledger cells used
@@ -182,31 +184,31 @@ module _ (graph : List ℕ) (passed : checkGraph graph ≡ Passed) {tables links
   -- operands that are missing
   pub fire-missing : matchedAt (arityIn (graphOf graph) τ) (tokens used ledger) τ ≡ Missing → fire M s τ ≡ notFired SecondToken
   unfolding fire
-  fire-missing e = rw (held-operands (graphOf graph) (length ledger / tokenWidth) (length cells / cellWidth) (tokens used ledger) (cellsIn cells) τ few ∙ ap valuesOf e)
+  fire-missing e = rw (held-operands (graphOf graph) (arraysIn tables) (length ledger / tokenWidth) (length cells / cellWidth) (tokens used ledger) (cellsIn cells) τ few ∙ ap valuesOf e)
 
   -- operands that matching found
   module _ (i j : ℕ) (v w : ℤ) (matched : matchedAt (arityIn (graphOf graph) τ) (tokens used ledger) τ ≡ Both i j v w) where
     pub places : Places (arityIn (graphOf graph) τ) (tokens used ledger) τ i j v w
     places = matched-places (tokens used ledger) τ (arityIn (graphOf graph) τ) few matched
 
-    fire-found : fire M s τ ≡ commit M s τ (effectIn (graphOf graph) (length cells / cellWidth) τ v w)
+    fire-found : fire M s τ ≡ commit M s τ (effectIn (graphOf graph) (arraysIn tables) (length cells / cellWidth) τ v w)
     unfolding fire
-    fire-found = rw (held-operands (graphOf graph) (length ledger / tokenWidth) (length cells / cellWidth) (tokens used ledger) (cellsIn cells) τ few ∙ ap valuesOf matched)
+    fire-found = rw (held-operands (graphOf graph) (arraysIn tables) (length ledger / tokenWidth) (length cells / cellWidth) (tokens used ledger) (cellsIn cells) τ few ∙ ap valuesOf matched)
 
     -- an effect that is a refusal
-    pub fire-refused : {r : Refusal} → effectIn (graphOf graph) (length cells / cellWidth) τ v w ≡ refuse r → fire M s τ ≡ notFired r
+    pub fire-refused : {r : Refusal} → effectIn (graphOf graph) (arraysIn tables) (length cells / cellWidth) τ v w ≡ refuse r → fire M s τ ≡ notFired r
     unfolding commit
     fire-refused e = fire-found ∙ ap (commit M s τ) e
 
-    module _ (x : Action) (o : Outputs) (does : Effected (graphOf graph) (length cells / cellWidth) τ v w x o) where
+    module _ (x : Action) (o : Outputs) (does : Effected (graphOf graph) (arraysIn tables) (length cells / cellWidth) τ v w x o) where
       fire-committed : fire M s τ ≡ firedOf (committedOf (length ledger / tokenWidth) (tokens used ledger) (cellsIn cells) i j x o)
       fire-committed =
           fire-found
           ∙ ap (commit M s τ) (sym (does .held))
-          ∙ commit-held (graphOf graph) (length ledger / tokenWidth) (length cells / cellWidth) (tokens used ledger) (cellsIn cells) τ i j v w (now .good .distinct) places x o (does .counted)
+          ∙ commit-held (graphOf graph) (arraysIn tables) (length ledger / tokenWidth) (length cells / cellWidth) (tokens used ledger) (cellsIn cells) τ i j v w (now .good .distinct) places x o (does .counted)
 
       good-after : (x : State Tag ℤ) → fire M s τ ≡ fired x → Good M x
-      good-after x f = reached-good M (lawful graph passed (length ledger / tokenWidth) (length cells / cellWidth)) s (now .good) 1 (0 + outputs M s τ) x (s, 0, τ, (refl, refl), f, refl)
+      good-after x f = reached-good M (lawful graph passed (arraysIn tables) (length ledger / tokenWidth) (length cells / cellWidth)) s (now .good) 1 (0 + outputs M s τ) x (s, 0, τ, (refl, refl), f, refl)
 
       module _ (links′ flags′ ledger′ cells′ : List ℕ) where
         -- done: the tokens and cells that it left are those of the machine
@@ -223,8 +225,8 @@ module _ (graph : List ℕ) (passed : checkGraph graph ≡ Passed) {tables links
                 store = c .store;
                 arrived = rw (k .held) (a .0);
                 good =
-                    subst (λ (b : ℕ). Good (machineOf (graphOf graph) (b / tokenWidth) (length cells′ / cellWidth)) (stateIn ledger′ cells′ n)) (sym (k .size))
-                    (subst (λ (b : ℕ). Good (machineOf (graphOf graph) (length ledger / tokenWidth) (b / cellWidth)) (stateIn ledger′ cells′ n)) (sym (c .size))
+                    subst (λ (b : ℕ). Good (machineOf (graphOf graph) (arraysIn tables) (b / tokenWidth) (length cells′ / cellWidth)) (stateIn ledger′ cells′ n)) (sym (k .size))
+                    (subst (λ (b : ℕ). Good (machineOf (graphOf graph) (arraysIn tables) (length ledger / tokenWidth) (b / cellWidth)) (stateIn ledger′ cells′ n)) (sym (c .size))
                     (subst (λ (x : State Tag ℤ). Good M x) same (good-after (stateHeld us ds) f)));
               };
               grown = omega (arith, a .1, length-rows tokenWidth Tokens.decode used ledger, length-rows tokenWidth Tokens.decode n ledger′, ap length (k .held));
@@ -311,19 +313,19 @@ module _ (graph : List ℕ) {tables links flags ledger cells : List ℕ} {used :
     τ = tokenAt ledger place .tag
 
     -- the operation or the new tags are refused: nothing was written
-    pub stopped-here : {r : Refusal} → effectIn (graphOf graph) (length cells / cellWidth) (t .tag) v w ≡ refuse r → Stopped r (graphOf graph) τ tables links flags ledger cells used ledger cells
+    pub stopped-here : {r : Refusal} → effectIn (graphOf graph) (arraysIn tables) (length cells / cellWidth) (t .tag) v w ≡ refuse r → Stopped r (graphOf graph) τ tables links flags ledger cells used ledger cells
     stopped-here e = record {
-      step = fire-refused graph (ready .passed) now τ (arity-small (graphOf graph) τ) i j v w matched (ap (λ (u : Record.Token). effectIn (graphOf graph) (length cells / cellWidth) (u .tag) v w) (sym same) ∙ e);
+      step = fire-refused graph (ready .passed) now τ (arity-small (graphOf graph) τ) i j v w matched (ap (λ (u : Record.Token). effectIn (graphOf graph) (arraysIn tables) (length cells / cellWidth) (u .tag) v w) (sym same) ∙ e);
       running = now;
       sameLedger = refl;
       sameCells = refl;
     }
 
     -- from matching to output
-    pub stepped-here : (x : Action) (o : Outputs) → Effected (graphOf graph) (length cells / cellWidth) (t .tag) v w x o
+    pub stepped-here : (x : Action) (o : Outputs) → Effected (graphOf graph) (arraysIn tables) (length cells / cellWidth) (t .tag) v w x o
         → (links′ flags′ ledger′ cells′ : List ℕ) (r : Fired)
         → CommittedTo r (committedOf (length ledger / tokenWidth) (tokens used ledger) (cellsIn cells) i j x o) tables links′ flags′ ledger′ cells′ used ledger cells
         → Stepped r (graphOf graph) τ tables links′ flags′ ledger′ cells′ used ledger cells
     stepped-here x o does links′ flags′ ledger′ cells′ r left =
         stepped graph (ready .passed) now τ (arity-small (graphOf graph) τ) i j v w matched x o
-        (subst (λ (u : Record.Token). Effected (graphOf graph) (length cells / cellWidth) (u .tag) v w x o) same does) links′ flags′ ledger′ cells′ r left
+        (subst (λ (u : Record.Token). Effected (graphOf graph) (arraysIn tables) (length cells / cellWidth) (u .tag) v w x o) same does) links′ flags′ ledger′ cells′ r left

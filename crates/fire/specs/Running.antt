@@ -18,15 +18,15 @@ use Rattle.rules.specs.declared.answer.Checked.the-variants.{Passed}
 use Rattle.rules.specs.Check.{operandsAt, checkGraph}
 use Rattle.rules.specs.InstructionSet.{machineOf}
 use Rattle.abstraction.specs.States.{stateHeld}
-use Rattle.abstraction.specs.Tables.{Arities, Returns}
+use Rattle.abstraction.specs.Tables.{Arities, Returns, arraysIn}
 use Rattle.store.specs.Matching.{Matching}
 use Rattle.fire_outputs.specs.Outputs.{cellsIn, CellStore}
 use Rattle.fire_commit.specs.declared.Fired.{Fired}
 use Rattle.fire_commit.specs.declared.Fired.the-variants as Fires
 
--- the machine of a graph over a ledger and cells, and its state there
-abbrev pub machineFor : List Instruction → (ledger cells : List ℕ) → Machine
-machineFor g ledger cells = machineOf g (length ledger / tokenWidth) (length cells / cellWidth)
+-- the machine of a graph and of the named arrays in the tables, over a ledger and cells, and its state there
+abbrev pub machineFor : List Instruction → (tables ledger cells : List ℕ) → Machine
+machineFor g tables ledger cells = machineOf g (arraysIn tables) (length ledger / tokenWidth) (length cells / cellWidth)
 
 abbrev pub stateIn : (ledger cells : List ℕ) → (used : ℕ) → State Tag ℤ
 stateIn ledger cells used = stateHeld (tokens used ledger) (cellsIn cells)
@@ -41,11 +41,11 @@ pub record Running (g : List Instruction) (tables links flags ledger cells : Lis
   pub few : length ledger / tokenWidth ≤ 2048
   pub store : CellStore cells
   pub arrived : Arrived g (tokens used ledger)
-  pub good : Good (machineFor g ledger cells) (stateIn ledger cells used)
+  pub good : Good (machineFor g tables ledger cells) (stateIn ledger cells used)
 
 -- a firing that was done left n tokens
 pub record Went (g : List Instruction) (τ : Tag) (tables links flags ledger′ cells′ : List ℕ) (n used : ℕ) (ledger cells : List ℕ) : Type 0 where
-  pub step : fire (machineFor g ledger cells) (stateIn ledger cells used) τ ≡ fired (stateIn ledger′ cells′ n)
+  pub step : fire (machineFor g tables ledger cells) (stateIn ledger cells used) τ ≡ fired (stateIn ledger′ cells′ n)
   pub running : Running g tables links flags ledger′ cells′ n
   pub grown : used ≤ n
   pub size : length ledger′ ≡ length ledger
@@ -54,7 +54,7 @@ pub record Went (g : List Instruction) (τ : Tag) (tables links flags ledger′ 
 
 -- a firing that was refused left ledger and cells as it found them
 pub record Stopped (r : Refusal) (g : List Instruction) (τ : Tag) (tables links flags ledger′ cells′ : List ℕ) (used : ℕ) (ledger cells : List ℕ) : Type 0 where
-  pub step : fire (machineFor g ledger cells) (stateIn ledger cells used) τ ≡ notFired r
+  pub step : fire (machineFor g tables ledger cells) (stateIn ledger cells used) τ ≡ notFired r
   pub running : Running g tables links flags ledger′ cells′ used
   pub sameLedger : ledger′ ≡ ledger
   pub sameCells : cells′ ≡ cells

@@ -35,7 +35,7 @@ ghost use Rattle.fire.specs.Running.{Prepared, Running, Stepped};
 // The enabled activity whose place this is fires, or is refused with ledger and cells as they were.
 pub fn fire(
     graph: &[u8],
-    tables: &[u16; 512],
+    tables: &[u16; 641],
     links: &mut [u16; 9216],
     flags: &mut [u64; 69],
     ledger: &mut [u8],
@@ -66,7 +66,14 @@ pub fn fire(
     let r = instruction::instruction_at(graph, tag.instruction as usize);
     let o = operation::decode(r.code);
     // Operation.
-    let operated = operate::operate(o, r.constant, cells.len() / cell::WIDTH, left, right);
+    let operated = operate::operate(
+        tables,
+        o,
+        r.constant,
+        cells.len() / cell::WIDTH,
+        left,
+        right,
+    );
     let action = match operated {
         Operated::Refuse(refusal) => return Fired::Refused(refusal),
         Operated::Act(action) => action,

@@ -6,6 +6,7 @@ use mathlib.Core.List.{List, _++_, map, map-append}
 use mathlib.Core.Logic.{_⊎_, ⊎-elim}
 use lib.ListN.{getD, set}
 use lib.IntN.{ℤ, pos}
+use Rattle.record.specs.declared.array.NamedArray.{NamedArray}
 use Rattle.record.specs.declared.tag.Tag.{Tag}
 use Rattle.record.specs.declared.token.Token as Record
 use Rattle.record.specs.declared.token.Content as RecordContent
@@ -44,16 +45,16 @@ unfolding ifAdmitted
 admitted-held Yes x f e = e
 admitted-held (No r) x f e = refl
 
-module _ (g : List Instruction) (capacity cells : ℕ) (ts : List Record.Token) (cs : List RecordCell.Cell) where
+module _ (g : List Instruction) (table : List NamedArray) (capacity cells : ℕ) (ts : List Record.Token) (cs : List RecordCell.Cell) where
   abbrev M : Machine
-  M = machineOf g capacity cells
+  M = machineOf g table capacity cells
 
   -- the operands at the places that matching found are spent
   pub spent-held : (tag : Tag) (i j : ℕ) (v w : ℤ) → Distinct M (map tokenHeld ts) → Places (arityIn g tag) ts tag i j v w → map (changed (spendAt M tag)) (map tokenHeld ts) ≡ map tokenHeld (spentAt i j ts)
   spent-held tag i j v w d p =
       ⊎-elim
-      (λ h. spent-one g capacity cells tag i ts (h .0) d (p .firstFound) ∙ ap (λ (n : ℕ). map tokenHeld (spentAt i n ts)) (sym (h .1)))
-      (λ h. spent-two g capacity cells tag i j ts (h .0) d (p .firstFound) (h .1))
+      (λ h. spent-one g table capacity cells tag i ts (h .0) d (p .firstFound) ∙ ap (λ (n : ℕ). map tokenHeld (spentAt i n ts)) (sym (h .1)))
+      (λ h. spent-two g table capacity cells tag i j ts (h .0) d (p .firstFound) (h .1))
       (p .secondFound)
 
   -- tokens and outputs in one list
@@ -65,7 +66,7 @@ module _ (g : List Instruction) (capacity cells : ℕ) (ts : List Record.Token) 
       → old ≡ map tokenHeld us → cells′ ≡ map cellHeld ds → y ≡ contentHeld x
       → admit M (stateHeld ts cs) old cells′ y (keysOf o) ≡ firedOf (ifAdmitted (admittedOf capacity ts o) (done (us ++ outputsOf x o) ds))
   goes-in o h old us cells′ ds y x p q r =
-      held-admitted g capacity cells ts cs o h old cells′ y
+      held-admitted g table capacity cells ts cs o h old cells′ y
       ∙ admitted-held (admittedOf capacity ts o) (done (us ++ outputsOf x o) ds) _
       (λ i. fired (record { tokens = (ap (λ l. l ++ map (output y) (keysOf o)) p ∙ ap (λ z. map tokenHeld us ++ map (output z) (keysOf o)) r ∙ appended us o x) i; cells = q i }))
 

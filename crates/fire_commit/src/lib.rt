@@ -20,7 +20,7 @@ pub enum Fired {
 // An action on ledger and cells, and its outputs. What refuses them is asked before anything is written:
 // 11, then 8 and 9. A refusal leaves both as they were.
 pub fn commit(
-    tables: &[u16; 512],
+    tables: &[u16; 641],
     links: &mut [u16; 9216],
     flags: &mut [u64; 69],
     ledger: &mut [u8],

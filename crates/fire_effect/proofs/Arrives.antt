@@ -10,6 +10,7 @@ use borrow.Author.Tests.{ltb-true, leb-true}
 use lib.ListN.{length, List·getD-eq-default}
 use lib.Dec.{ltb}
 use lib.IntN.{ℤ, pos, negsuc, natAbs}
+use Rattle.record.specs.declared.array.NamedArray.{NamedArray}
 use Rattle.record.specs.declared.tag.Tag.{Tag}
 use Rattle.record.specs.declared.tag.Entered.{Entered}
 use Rattle.record.specs.declared.tag.Entered.the-variants.{In, TooDeep}
@@ -34,7 +35,7 @@ use Rattle.machine.specs.Orders.{CellsBelow}
 use Rattle.rules.specs.declared.answer.Refusal.the-variants as Refusals
 use Rattle.rules.specs.declared.answer.Checked.the-variants.{Passed}
 use Rattle.rules.specs.Check.{all, goodArc, instructionAt, operandsAt, checkGraph}
-use Rattle.rules.specs.InstructionSet.{EffectHere, keyUnder, allUnder, sideOf, sendComputed, sendNext, sendEntered, sendReturned, sendLeft, returnOf, onCell, effectOf, effectIn}
+use Rattle.rules.specs.InstructionSet.{EffectHere, keyUnder, allUnder, sideOf, sendComputed, sendNext, sendEntered, sendReturned, sendLeft, returnOf, onCell, cellNumber, effectOf, effectIn}
 use Rattle.fire_effect.specs.Effects.{Arrives, AllSent}
 use Rattle.rules.proofs.Passed.{both}
 use Rattle.rules.proofs.PassedGraph.{Good, of-graph, two-operands}
@@ -58,7 +59,7 @@ arrives-inside g k h = go (decLe (suc (k .tag .instruction)) (length g))
     go (yes p) = p
     go (no n) = absurd (omega (arith, rw (past g (k .tag .instruction) (omega arith)) at h))
 
-module _ (g : List Instruction) (cells : ℕ) where
+module _ (g : List Instruction) (table : List NamedArray) (cells : ℕ) where
   -- what is shown of an effect
   abbrev Fine : EffectHere → Type 0
   Fine e = CellsBelow cells e × AllSent (Arrives g) e
@@ -128,7 +129,7 @@ module _ (g : List Instruction) (cells : ℕ) where
   left-fine h NoCaller r v = (tt, tt)
 
   operation-fine : ((i : ℕ) → i < length g → 0 < operandsAt g i) → (τ : Tag) (r : Instruction) {i : ℕ} → Good g i r
-      → (o : Operation) → operationOf (r .code) ≡ o → (a b : ℤ) → Fine (effectOf o g cells τ r a b (allUnder τ r))
+      → (o : Operation) → operationOf (r .code) ≡ o → (a b : ℤ) → Fine (effectOf o g table cells τ r a b (allUnder τ r))
   unfolding effectOf
   operation-fine known τ r good Copy e a b = (tt, all-under good τ)
   operation-fine known τ r good Sink e a b = (tt, tt)
@@ -139,33 +140,33 @@ module _ (g : List Instruction) (cells : ℕ) where
   operation-fine known τ r good Next e a b = next-fine (nextOf τ) r a (all-under good)
   operation-fine known τ r good Enter e a b = entered-fine (enterOf τ _) r a (λ υ. both-under good (enter-two good e) υ .0)
   operation-fine known τ r good Leave e a b = left-fine known (leaveOf τ) r a
-  operation-fine known τ r good Fetch e a b = cell-fine a _ (λ c h. (h, all-under good τ))
-  operation-fine known τ r good Store e a b = cell-fine a _ (λ c h. (h, all-under good τ))
+  operation-fine known τ r good Fetch e a b = cell-fine (cellNumber table (r .constant) a) _ (λ c h. (h, all-under good τ))
+  operation-fine known τ r good Store e a b = cell-fine (cellNumber table (r .constant) a) _ (λ c h. (h, all-under good τ))
   operation-fine known τ r good (OnTwo o) e a b = computed-fine (computeOf o a b) _ (all-under good τ)
   operation-fine known τ r good (OnConstant o) e a b = computed-fine (computeOf o a (r .constant)) _ (all-under good τ)
   operation-fine known τ r good Unknown e a b = (tt, tt)
 
 -- ---- in a graph that passed
 
-module _ (graph : List ℕ) (passed : checkGraph graph ≡ Passed) (cells : ℕ) (τ : Tag) (a b : ℤ) where
+module _ (graph : List ℕ) (passed : checkGraph graph ≡ Passed) (table : List NamedArray) (cells : ℕ) (τ : Tag) (a b : ℤ) where
   known : (i : ℕ) → i < length (graphOf graph) → 0 < operandsAt (graphOf graph) i
   unfolding operandsAt
   known i h = leb-true 1 _ (of-graph graph passed i h .known)
 
-  absent-fine : (r : Instruction) → r ≡ Graph.decode [] → Fine (graphOf graph) cells (effectOf (operationOf (r .code)) (graphOf graph) cells τ r a b (allUnder τ r))
+  absent-fine : (r : Instruction) → r ≡ Graph.decode [] → Fine (graphOf graph) table cells (effectOf (operationOf (r .code)) (graphOf graph) table cells τ r a b (allUnder τ r))
   unfolding effectOf Graph.decode rowOf
   absent-fine r e = rw e (tt, tt)
 
-  fine : Fine (graphOf graph) cells (effectIn (graphOf graph) cells τ a b)
+  fine : Fine (graphOf graph) table cells (effectIn (graphOf graph) table cells τ a b)
   unfolding effectIn
   fine = go (decLe (suc (τ .instruction)) (length (graphOf graph)))
     where
-      go : Dec (suc (τ .instruction) ≤ length (graphOf graph)) → Fine (graphOf graph) cells (effectIn (graphOf graph) cells τ a b)
-      go (yes h) = operation-fine (graphOf graph) cells known τ _ (of-graph graph passed (τ .instruction) h) _ refl a b
+      go : Dec (suc (τ .instruction) ≤ length (graphOf graph)) → Fine (graphOf graph) table cells (effectIn (graphOf graph) table cells τ a b)
+      go (yes h) = operation-fine (graphOf graph) table cells known τ _ (of-graph graph passed (τ .instruction) h) _ refl a b
       go (no n) = absent-fine _ (past (graphOf graph) (τ .instruction) (omega arith))
 
-  pub cells-below : CellsBelow cells (effectIn (graphOf graph) cells τ a b)
+  pub cells-below : CellsBelow cells (effectIn (graphOf graph) table cells τ a b)
   cells-below = fine .0
 
-  pub all-arrive : AllSent (Arrives (graphOf graph)) (effectIn (graphOf graph) cells τ a b)
+  pub all-arrive : AllSent (Arrives (graphOf graph)) (effectIn (graphOf graph) table cells τ a b)
   all-arrive = fine .1

@@ -1,16 +1,18 @@
 -- The promises of operation and new tags, case by case: what is sent, what is refused, the cell that an operand names, a return. Assumes nothing.
-use Prim.Native.Nat.{ℕ, zero, suc, _+_, _/_, _≤_, _<_}
+use Prim.Native.Nat.{ℕ, zero, suc, _+_, _-_, _/_, _≤_, _<_}
 use mathlib.Core.Path.{_≡_, refl, sym, ap, _∙_}
 use mathlib.Core.Bool.{Bool, true, false, _&&_}
 use mathlib.Core.List.{List, [], _∷_}
 use native.Mathlib.Omega.{arith}
-use borrow.Author.Tests.{leb-true, lt-ltb, le-ltb}
-use lib.ListN.{length}
+use native.Mathlib.Nat.{zero-add}
+use borrow.Author.Tests.{leb-true, le-leb, lt-leb, ltb-true, ltb-false, lt-ltb, le-ltb}
+use lib.ListN.{length, getD}
 use lib.Dec.{T, leb}
 use lib.IntN.{ℤ, pos, negsuc, natAbs}
-use lib.Signed.{nonNeg}
-use mir.Syntax.{w8}
-use mir.Val.{Fits}
+use lib.Signed.{ltZ, nonNeg}
+use mir.Syntax.{w8, w32}
+use mir.Val.{Fits, SFits}
+use Rattle.record.specs.declared.array.NamedArray.{NamedArray}
 use Rattle.record.specs.declared.tag.Tag.{Tag}
 use Rattle.record.specs.declared.instruction.Destination.{Destination}
 use Rattle.record.specs.GraphRecords.{decode, graphOf, inUse}
@@ -22,7 +24,9 @@ use Rattle.machine.specs.Machine.{refuse, send}
 use Rattle.rules.specs.declared.answer.Refusal.{Refusal}
 use Rattle.rules.specs.declared.answer.Refusal.the-variants as Refusals
 use Rattle.rules.specs.Check.{within}
-use Rattle.rules.specs.InstructionSet.{EffectHere, sendReturned}
+use Rattle.rules.specs.InstructionSet.{EffectHere, sendReturned, numberIn, arrayAt, cellNumber}
+use Rattle.rules.proofs.Below.{listed, unlisted}
+use Rattle.abstraction.specs.Tables.{arrayFrom, arraysIn}
 use Rattle.fire_effect.specs.declared.output.Key.{Key}
 use Rattle.fire_effect.specs.declared.output.Outputs.{Outputs}
 use Rattle.fire_effect.specs.declared.tags.NewTags.{NewTags}
@@ -91,6 +95,65 @@ module _ (cells : ℕ) {a : ℤ} {n : ℕ} (e : a ≡ pos n) where
 
   pub past-cells : cells ≤ n → NoSuchCell ≡ namedOf cells a
   past-cells h = rw (e, le-ltb n cells h)
+
+-- ---- the cell that an index names in an array
+
+module _ (a : NamedArray) where
+  pub below-one : (k : ℤ) → ltZ k (pos 1) ≡ true → numberIn a k ≡ negsuc 0
+  unfolding numberIn within
+  below-one (pos zero) e = refl
+  below-one (pos (suc n)) e = absurd (omega (arith, ltb-true (suc n) 1 e))
+  below-one (negsuc n) e = refl
+
+  pub past-length : (k : ℤ) → k ≡ pos (natAbs k) → 1 ≤ natAbs k → a .length < natAbs k → numberIn a k ≡ negsuc 0
+  unfolding numberIn within
+  past-length (pos n) e p h = rw (le-leb 1 n p, lt-leb n (a .length) h)
+  past-length (negsuc n) e p h = refl
+
+  pub inside-length : (k : ℤ) → k ≡ pos (natAbs k) → 1 ≤ natAbs k → natAbs k ≤ a .length → numberIn a k ≡ pos (a .first + natAbs k - 1)
+  unfolding numberIn within
+  inside-length (pos n) e p h = rw (le-leb 1 n p, le-leb n (a .length) h)
+  inside-length (negsuc n) e p h = clash cc
+
+pub from-one : (k : ℤ) → ltZ k (pos 1) ≡ false → (k ≡ pos (natAbs k)) × (1 ≤ natAbs k)
+from-one (pos n) e = (refl, ltb-false n 1 e)
+from-one (negsuc n) e = clash cc
+
+-- a number of 32 signed bits that is not negative
+pub size-fits : (k : ℤ) → SFits w32 k → k ≡ pos (natAbs k) → natAbs k < 2147483648
+size-fits (pos n) f e = omega (arith, f .sfits)
+size-fits (negsuc n) f e = clash cc
+
+-- ---- the number of a cell, by a constant
+
+module _ (table : List NamedArray) (a : ℤ) where
+  pub by-negative : (k : ℤ) → ltZ k (pos 0) ≡ true → cellNumber table k a ≡ negsuc 0
+  unfolding cellNumber
+  by-negative (pos n) e = absurd (omega (arith, ltb-true n 0 e))
+  by-negative (negsuc n) e = refl
+
+  pub by-zero : (k : ℤ) → ltZ k (pos 0) ≡ false → ltZ k (pos 1) ≡ true → cellNumber table k a ≡ a
+  unfolding cellNumber
+  by-zero (pos zero) e f = refl
+  by-zero (pos (suc n)) e f = absurd (omega (arith, ltb-true (suc n) 1 f))
+  by-zero (negsuc n) e f = clash cc
+
+  pub by-array : (k : ℤ) → ltZ k (pos 1) ≡ false → cellNumber table k a ≡ numberIn (arrayAt table (natAbs k - 1)) a
+  unfolding cellNumber
+  by-array (pos zero) e = absurd (omega (arith, ltb-false 0 1 e))
+  by-array (pos (suc n)) e = let same : n ≡ suc n - 1 = omega arith in ap (λ (m : ℕ). numberIn (arrayAt table m) a) same
+  by-array (negsuc n) e = clash cc
+
+-- ---- the arrays of the tables
+
+module _ (tables : List ℕ) (n : ℕ) where
+  pub in-table : n < getD tables 256 0 → arrayAt (arraysIn tables) n ≡ arrayFrom tables n
+  unfolding arrayAt arraysIn
+  in-table h = listed (arrayFrom tables) _ 0 (getD tables 256 0) n h ∙ ap (arrayFrom tables) (zero-add n)
+
+  pub past-table : getD tables 256 0 ≤ n → arrayAt (arraysIn tables) n ≡ record { first = 0; length = 0 }
+  unfolding arrayAt arraysIn
+  past-table h = unlisted (arrayFrom tables) _ 0 (getD tables 256 0) n h
 
 -- ---- a return
 

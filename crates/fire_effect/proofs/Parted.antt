@@ -7,6 +7,7 @@ use mathlib.Core.List.{List}
 use lib.ListN.{length}
 use lib.Dec.{ltb}
 use lib.IntN.{ℤ, pos, negsuc}
+use Rattle.record.specs.declared.array.NamedArray.{NamedArray}
 use Rattle.record.specs.declared.tag.Tag.{Tag}
 use Rattle.record.specs.declared.instruction.Instruction.{Instruction}
 use Rattle.record.specs.declared.operation.Operation.{Operation}
@@ -22,7 +23,7 @@ use Rattle.rules.specs.declared.answer.Refusal.{Refusal}
 use Rattle.rules.specs.declared.answer.Refusal.the-variants as Refusals
 use Rattle.rules.specs.declared.answer.Checked.the-variants.{Passed}
 use Rattle.rules.specs.Check.{checkGraph}
-use Rattle.rules.specs.InstructionSet.{EffectHere, allUnder, sendComputed, onCell, effectOf, effectIn}
+use Rattle.rules.specs.InstructionSet.{EffectHere, allUnder, sendComputed, onCell, cellNumber, effectOf, effectIn}
 use Rattle.fire_effect.specs.declared.output.Outputs.{Outputs}
 use Rattle.fire_effect.specs.declared.operate.Action.{Action}
 use Rattle.fire_effect.specs.declared.operate.Action.the-variants.{Send, Read, Write}
@@ -52,23 +53,23 @@ unfolding sendComputed
 computed-parted (Value v) keys = refl
 computed-parted OutOfRange keys = refl
 
-pub parted : (o : Operation) (g : List Instruction) (cells : ℕ) (τ : Tag) (r : Instruction) (a b : ℤ)
-    → effectOf o g cells τ r a b (allUnder τ r) ≡ thenTags (operatedOf o (r .constant) cells a b) (newTagsOf o g τ r b)
+pub parted : (o : Operation) (g : List Instruction) (table : List NamedArray) (cells : ℕ) (τ : Tag) (r : Instruction) (a b : ℤ)
+    → effectOf o g table cells τ r a b (allUnder τ r) ≡ thenTags (operatedOf o table (r .constant) cells a b) (newTagsOf o g τ r b)
 unfolding effectOf operatedOf newTagsOf
-parted Operations.Copy g cells τ r a b = refl
-parted Operations.Sink g cells τ r a b = refl
-parted Operations.Out g cells τ r a b = refl
-parted Operations.Const g cells τ r a b = refl
-parted Operations.Switch g cells τ r a b = refl
-parted Operations.Gate g cells τ r a b = refl
-parted Operations.Next g cells τ r a b = refl
-parted Operations.Enter g cells τ r a b = refl
-parted Operations.Leave g cells τ r a b = refl
-parted Operations.Fetch g cells τ r a b = cell-parted cells a (λ c. Read c) (λ v. send v (allUnder τ r)) _ (λ c. refl)
-parted Operations.Store g cells τ r a b = cell-parted cells a (λ c. Write c b) (λ v. send v (allUnder τ r)) _ (λ c. refl)
-parted (Operations.OnTwo o) g cells τ r a b = computed-parted (computeOf o a b) (allUnder τ r)
-parted (Operations.OnConstant o) g cells τ r a b = computed-parted (computeOf o a (r .constant)) (allUnder τ r)
-parted Operations.Unknown g cells τ r a b = refl
+parted Operations.Copy g table cells τ r a b = refl
+parted Operations.Sink g table cells τ r a b = refl
+parted Operations.Out g table cells τ r a b = refl
+parted Operations.Const g table cells τ r a b = refl
+parted Operations.Switch g table cells τ r a b = refl
+parted Operations.Gate g table cells τ r a b = refl
+parted Operations.Next g table cells τ r a b = refl
+parted Operations.Enter g table cells τ r a b = refl
+parted Operations.Leave g table cells τ r a b = refl
+parted Operations.Fetch g table cells τ r a b = cell-parted cells (cellNumber table (r .constant) a) (λ c. Read c) (λ v. send v (allUnder τ r)) _ (λ c. refl)
+parted Operations.Store g table cells τ r a b = cell-parted cells (cellNumber table (r .constant) a) (λ c. Write c b) (λ v. send v (allUnder τ r)) _ (λ c. refl)
+parted (Operations.OnTwo o) g table cells τ r a b = computed-parted (computeOf o a b) (allUnder τ r)
+parted (Operations.OnConstant o) g table cells τ r a b = computed-parted (computeOf o a (r .constant)) (allUnder τ r)
+parted Operations.Unknown g table cells τ r a b = refl
 
 -- ---- the code
 
@@ -86,28 +87,28 @@ then-done (Write c v) (Tags.Refuse q) f d = rw (← d .held (pos 0))
 then-done (Write c v) (Tags.To o) f d = rw (← d .held (pos 0))
 
 -- the instruction r of a tag's instruction number, and its operation o
-module _ (graph : List ℕ) (cells : ℕ) (τ : Tag) (inside : τ .instruction < length graph / graphWidth) (a b : ℤ) (r : Instruction) (o : Operation)
+module _ (graph : List ℕ) (table : List NamedArray) (cells : ℕ) (τ : Tag) (inside : τ .instruction < length graph / graphWidth) (a b : ℤ) (r : Instruction) (o : Operation)
     (fetched : r ≡ instructionIn graph (τ .instruction)) (decoded : o ≡ operationOf (r .code)) where
-  in-turn : effectIn (graphOf graph) cells τ a b ≡ thenTags (operatedOf o (r .constant) cells a b) (newTagsOf o (graphOf graph) τ r b)
+  in-turn : effectIn (graphOf graph) table cells τ a b ≡ thenTags (operatedOf o table (r .constant) cells a b) (newTagsOf o (graphOf graph) τ r b)
   unfolding effectIn
-  in-turn = rw (in-bytes graph (τ .instruction) inside, ← fetched, ← decoded) (parted o (graphOf graph) cells τ r a b)
+  in-turn = rw (in-bytes graph (τ .instruction) inside, ← fetched, ← decoded) (parted o (graphOf graph) table cells τ r a b)
 
-  pub operation-refused : {q : Refusal} → operatedOf o (r .constant) cells a b ≡ Refuse q → effectIn (graphOf graph) cells τ a b ≡ refuse q
+  pub operation-refused : {q : Refusal} → operatedOf o table (r .constant) cells a b ≡ Refuse q → effectIn (graphOf graph) table cells τ a b ≡ refuse q
   operation-refused e = in-turn ∙ rw e
 
-  module _ {x : Action} (operated : operatedOf o (r .constant) cells a b ≡ Act x) {m : NewTags} (made : Makes m (newTagsOf o (graphOf graph) τ r b)) where
-    both-done : effectIn (graphOf graph) cells τ a b ≡ done x m
+  module _ {x : Action} (operated : operatedOf o table (r .constant) cells a b ≡ Act x) {m : NewTags} (made : Makes m (newTagsOf o (graphOf graph) τ r b)) where
+    both-done : effectIn (graphOf graph) table cells τ a b ≡ done x m
     both-done = in-turn ∙ ap (λ y. thenTags y (newTagsOf o (graphOf graph) τ r b)) operated ∙ then-done x m _ made
 
-    pub tags-refused : {q : Refusal} → m ≡ Tags.Refuse q → effectIn (graphOf graph) cells τ a b ≡ refuse q
+    pub tags-refused : {q : Refusal} → m ≡ Tags.Refuse q → effectIn (graphOf graph) table cells τ a b ≡ refuse q
     tags-refused e = both-done ∙ ap (done x) e
 
-    pub effected : checkGraph graph ≡ Passed → {s : Outputs} → m ≡ Tags.To s → Effected (graphOf graph) cells τ a b x s
+    pub effected : checkGraph graph ≡ Passed → {s : Outputs} → m ≡ Tags.To s → Effected (graphOf graph) table cells τ a b x s
     effected passed {s} e =
-        let held : actionHeld x (keysOf s) ≡ effectIn (graphOf graph) cells τ a b = sym (both-done ∙ ap (done x) e) in
+        let held : actionHeld x (keysOf s) ≡ effectIn (graphOf graph) table cells τ a b = sym (both-done ∙ ap (done x) e) in
         record {
           held = held;
           counted = rw e at (made .counted);
-          cellsBelow = rw held (cells-below graph passed _ _ _ _);
-          arrives = rw held (all-arrive graph passed _ _ _ _);
+          cellsBelow = rw held (cells-below graph passed _ _ _ _ _);
+          arrives = rw held (all-arrive graph passed _ _ _ _ _);
         }

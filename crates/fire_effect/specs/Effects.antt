@@ -7,6 +7,7 @@ use mathlib.Core.List.{List, [], _∷_}
 use lib.ListN.{length}
 use lib.IntN.{ℤ, pos, negsuc, natAbs}
 use lib.Dec.{ltb}
+use Rattle.record.specs.declared.array.NamedArray.{NamedArray}
 use Rattle.record.specs.declared.tag.Tag.{Tag}
 use Rattle.record.specs.declared.instruction.Instruction.{Instruction}
 use Rattle.record.specs.declared.operation.Operation.{Operation}
@@ -23,7 +24,7 @@ use Rattle.machine.specs.Machine.{refuse, send, read, write}
 use Rattle.machine.specs.Orders.{CellsBelow}
 use Rattle.rules.specs.declared.answer.Refusal.the-variants as Refusals
 use Rattle.rules.specs.Check.{within, operandsAt}
-use Rattle.rules.specs.InstructionSet.{EffectHere, keyUnder, allUnder, sideOf, sendNext, sendEntered, sendLeft, effectIn}
+use Rattle.rules.specs.InstructionSet.{EffectHere, keyUnder, allUnder, sideOf, sendNext, sendEntered, sendLeft, cellNumber, effectIn}
 use Rattle.abstraction.specs.Tables.{Returns}
 use Rattle.fire_effect.specs.declared.output.Key.{Key}
 use Rattle.fire_effect.specs.declared.output.Outputs.{Outputs}
@@ -78,21 +79,21 @@ onComputed (Value v) = Act (Send v)
 onComputed OutOfRange = Refuse Refusals.OutOfRange
 
 -- a value, a request to a cell, or a refusal: k is the constant, a and b are the operands on ports 0 and 1
-unfoldable pub operatedOf : Operation → (k : ℤ) → (cells : ℕ) → (a b : ℤ) → Operated
-operatedOf Operations.Copy k cells a b = Act (Send a)
-operatedOf Operations.Sink k cells a b = Act (Send a)
-operatedOf Operations.Out k cells a b = Act (Send a)
-operatedOf Operations.Const k cells a b = Act (Send k)
-operatedOf Operations.Switch k cells a b = Act (Send a)
-operatedOf Operations.Gate k cells a b = Act (Send a)
-operatedOf Operations.Next k cells a b = Act (Send a)
-operatedOf Operations.Enter k cells a b = Act (Send a)
-operatedOf Operations.Leave k cells a b = Act (Send a)
-operatedOf Operations.Fetch k cells a b = onNamed (namedOf cells a) (λ c. Read c)
-operatedOf Operations.Store k cells a b = onNamed (namedOf cells a) (λ c. Write c b)
-operatedOf (Operations.OnTwo o) k cells a b = onComputed (computeOf o a b)
-operatedOf (Operations.OnConstant o) k cells a b = onComputed (computeOf o a k)
-operatedOf Operations.Unknown k cells a b = Act (Send a)
+unfoldable pub operatedOf : Operation → List NamedArray → (k : ℤ) → (cells : ℕ) → (a b : ℤ) → Operated
+operatedOf Operations.Copy table k cells a b = Act (Send a)
+operatedOf Operations.Sink table k cells a b = Act (Send a)
+operatedOf Operations.Out table k cells a b = Act (Send a)
+operatedOf Operations.Const table k cells a b = Act (Send k)
+operatedOf Operations.Switch table k cells a b = Act (Send a)
+operatedOf Operations.Gate table k cells a b = Act (Send a)
+operatedOf Operations.Next table k cells a b = Act (Send a)
+operatedOf Operations.Enter table k cells a b = Act (Send a)
+operatedOf Operations.Leave table k cells a b = Act (Send a)
+operatedOf Operations.Fetch table k cells a b = onNamed (namedOf cells (cellNumber table k a)) (λ c. Read c)
+operatedOf Operations.Store table k cells a b = onNamed (namedOf cells (cellNumber table k a)) (λ c. Write c b)
+operatedOf (Operations.OnTwo o) table k cells a b = onComputed (computeOf o a b)
+operatedOf (Operations.OnConstant o) table k cells a b = onComputed (computeOf o a k)
+operatedOf Operations.Unknown table k cells a b = Act (Send a)
 
 -- ---- new tags
 
@@ -156,8 +157,8 @@ AllSent P (read c keys) = All P keys
 AllSent P (write c v keys) = All P keys
 
 -- they are the effect of the rules, and what a caller needs of it besides
-pub record Effected (g : List Instruction) (cells : ℕ) (τ : Tag) (a b : ℤ) (x : Action) (o : Outputs) : Type 0 where
-  pub held : actionHeld x (keysOf o) ≡ effectIn g cells τ a b
+pub record Effected (g : List Instruction) (table : List NamedArray) (cells : ℕ) (τ : Tag) (a b : ℤ) (x : Action) (o : Outputs) : Type 0 where
+  pub held : actionHeld x (keysOf o) ≡ effectIn g table cells τ a b
   pub counted : o .count ≤ 2
   pub cellsBelow : CellsBelow cells (actionHeld x (keysOf o))
   pub arrives : AllSent (Arrives g) (actionHeld x (keysOf o))

@@ -10,6 +10,7 @@ use native.Mathlib.Omega.{arith}
 use lib.Dec.{eqb, ltb}
 use lib.IntN.{ℤ}
 use lib.ListN.{length, getD, length-map}
+use Rattle.record.specs.declared.array.NamedArray.{NamedArray}
 use Rattle.record.specs.declared.tag.Tag.{Tag}
 use Rattle.record.specs.declared.token.Token as Record
 use Rattle.record.specs.declared.token.Content as RecordContent
@@ -206,20 +207,20 @@ keyed k = record { tag = k .tag; port = k .port; content = Deferred 0 }
 
 -- ---- the machine and the records
 
-module _ (g : List Instruction) (capacity cells : ℕ) (ts : List Record.Token) (cs : List RecordCell.Cell) where
+module _ (g : List Instruction) (table : List NamedArray) (capacity cells : ℕ) (ts : List Record.Token) (cs : List RecordCell.Cell) where
   abbrev M : Machine
-  M = machineOf g capacity cells
+  M = machineOf g table capacity cells
 
   held-value : (tag : Tag) (port : ℕ) → liveAt M (look M (stateHeld ts cs)) tag port ≡ valueOf (operandAt ts tag port)
   unfolding operandAt
-  held-value tag port = rw (held-find g capacity cells tag port noToken ts) (found-value ts (firstFrom (standsAt tag port) 0 ts))
+  held-value tag port = rw (held-find g table capacity cells tag port noToken ts) (found-value ts (firstFrom (standsAt tag port) 0 ts))
 
   pub held-operands : (tag : Tag) → arityIn g tag ≤ 2 → operands M (look M (stateHeld ts cs)) tag ≡ valuesOf (matchedAt (arityIn g tag) ts tag)
   held-operands tag h = values (liveAt M (look M (stateHeld ts cs)) tag) ts tag (arityIn g tag) h (held-value tag 0) (held-value tag 1)
 
   pub held-taken : (k : Key) → taken M (keyHeld k) (map tokenHeld ts) ≡ isTaken ts k
   unfolding isTaken
-  held-taken k = rw (held-find g capacity cells (k .tag) (k .port) noToken ts) (found-there ts (firstFrom (standsAt (k .tag) (k .port)) 0 ts))
+  held-taken k = rw (held-find g table capacity cells (k .tag) (k .port) noToken ts) (found-there ts (firstFrom (standsAt (k .tag) (k .port)) 0 ts))
 
   held-among : (j k : Key) → among M (keyHeld j) (keyHeld k ∷ []) ≡ sameKeys j k
   unfolding sameKeys standsAt keyed

@@ -10,6 +10,7 @@ use lib.ListN.{length, getD, set, length-map}
 use lib.Dec.{eqb, ltb}
 use lib.IntN.{ℤ}
 use borrow.Author.Tests.{le-ltb, ne-eqb, eq-eqb}
+use Rattle.record.specs.declared.array.NamedArray.{NamedArray}
 use Rattle.record.specs.declared.tag.Tag.{Tag}
 use Rattle.record.specs.declared.token.Token as Record
 use Rattle.record.specs.declared.token.Content.{Content}
@@ -115,9 +116,9 @@ twice true false t h = refl
 twice false true t h = refl
 twice false false t h = refl
 
-module _ (g : List Instruction) (capacity cells : ℕ) where
+module _ (g : List Instruction) (table : List NamedArray) (capacity cells : ℕ) where
   abbrev M : Machine
-  M = machineOf g capacity cells
+  M = machineOf g table capacity cells
 
   -- of tokens whose keys differ, those after one stand elsewhere
   later-elsewhere : (tag : Tag) (port : ℕ) (ts : List Record.Token) → Distinct M (map tokenHeld ts) → (i k : ℕ) → i < k → k < length ts
@@ -131,7 +132,7 @@ module _ (g : List Instruction) (capacity cells : ℕ) where
 
       go : (f : Found) → firstFrom (standsAt tag port) 0 ts ≡ f → standsAt tag port (getD ts k noToken) ≡ false
       go Nothing q = none-stands tag port ts noToken q k (omega arith)
-      go (At n) q = noneSome (sym gone ∙ held-find g capacity cells tag port noToken ts ∙ ap (foundContent noToken ts) q)
+      go (At n) q = noneSome (sym gone ∙ held-find g table capacity cells tag port noToken ts ∙ ap (foundContent noToken ts) q)
   later-elsewhere tag port (t ∷ ts) d (suc i) zero h l e = absurd (omega arith)
   later-elsewhere tag port (t ∷ ts) d (suc i) (suc k) h l e = later-elsewhere tag port ts (d .1) i k (omega arith) (omega arith) e
 
@@ -170,7 +171,7 @@ module _ (g : List Instruction) (capacity cells : ℕ) where
   unfolding spentAt standsAt
   spent-one tag i ts a d e =
       by-key tag (standsAt tag 0)
-      (λ t. held-operand g capacity cells tag t ∙ ap (λ (n : ℕ). cond (sameTag (t .tag) tag) (ltb (t .port) n) false) a ∙ ap (λ (b : Bool). cond (sameTag (t .tag) tag) b false) (port-below-1 (t .port)) ∙ cond-and (sameTag (t .tag) tag) (eqb (t .port) 0))
+      (λ t. held-operand g table capacity cells tag t ∙ ap (λ (n : ℕ). cond (sameTag (t .tag) tag) (ltb (t .port) n) false) a ∙ ap (λ (b : Bool). cond (sameTag (t .tag) tag) b false) (port-below-1 (t .port)) ∙ cond-and (sameTag (t .tag) tag) (eqb (t .port) 0))
       ts
       ∙ ap (map tokenHeld) (spend-found tag 0 i ts d e)
       ∙ sym (ap (λ (b : Bool). map tokenHeld (cond b (spendOne i ts) (spendOne i (spendOne i ts)))) (eq-eqb i i refl))
@@ -183,7 +184,7 @@ module _ (g : List Instruction) (capacity cells : ℕ) where
   both-ports : (tag : Tag) (t : Record.Token) → arityIn g tag ≡ 2 → operandOf M tag (tokenHeld t .key) ≡ (standsAt tag 0 t || standsAt tag 1 t)
   unfolding standsAt
   both-ports tag t a =
-      held-operand g capacity cells tag t
+      held-operand g table capacity cells tag t
       ∙ ap (λ (n : ℕ). cond (sameTag (t .tag) tag) (ltb (t .port) n) false) a
       ∙ ap (λ (b : Bool). cond (sameTag (t .tag) tag) b false) (port-below-2 (t .port))
       ∙ cond-or (sameTag (t .tag) tag) (eqb (t .port) 0) (eqb (t .port) 1)

@@ -27,7 +27,7 @@ pub struct Places {
 
 // An output goes in as record `used`.
 fn append_one(
-    tables: &[u16; 512],
+    tables: &[u16; 641],
     links: &mut [u16; 9216],
     flags: &mut [u64; 69],
     ledger: &mut [u8],
@@ -56,7 +56,7 @@ fn append_one(
 
 // The outputs go into the ledger, destination 1 first: how many tokens it then has.
 fn append_outputs(
-    tables: &[u16; 512],
+    tables: &[u16; 641],
     links: &mut [u16; 9216],
     flags: &mut [u64; 69],
     ledger: &mut [u8],
@@ -114,7 +114,7 @@ fn change_cells(cells: &mut [u8], action: Action) -> Content
 
 // A write wakes the tokens that are deferred on its cell.
 fn wake(
-    tables: &[u16; 512],
+    tables: &[u16; 641],
     links: &mut [u16; 9216],
     flags: &mut [u64; 69],
     ledger: &mut [u8],
@@ -133,7 +133,7 @@ fn wake(
 
 // A firing that nothing refuses: how many tokens the ledger then has.
 pub fn carry_out(
-    tables: &[u16; 512],
+    tables: &[u16; 641],
     links: &mut [u16; 9216],
     flags: &mut [u64; 69],
     ledger: &mut [u8],

@@ -38,18 +38,18 @@ pub entry-in : (l : List ℕ) (i v : ℕ) → i < length l / graphWidth → ((τ
 entry-in l i v h by τ e = by τ ∙ sym (arity-in l τ (omega arith) ∙ ap (λ (k : ℕ). arityBy (getD l (k * graphWidth) 0) τ) e)
 
 -- one entry more
-pub entry-next : (g : List Instruction) (t : List ℕ) (i v : ℕ) → i + 256 < length t → ((τ : Tag) → τ .instruction < i → arityOf t τ ≡ arityIn g τ)
-    → ((τ : Tag) → τ .instruction ≡ i → waitedFor v τ ≡ arityIn g τ) → (τ : Tag) → τ .instruction < i + 1 → arityOf (set t (i + 256) v) τ ≡ arityIn g τ
+pub entry-next : (g : List Instruction) (t : List ℕ) (i v : ℕ) → i + 385 < length t → ((τ : Tag) → τ .instruction < i → arityOf t τ ≡ arityIn g τ)
+    → ((τ : Tag) → τ .instruction ≡ i → waitedFor v τ ≡ arityIn g τ) → (τ : Tag) → τ .instruction < i + 1 → arityOf (set t (i + 385) v) τ ≡ arityIn g τ
 entry-next g t i v h before here τ l = go (eqb (τ .instruction) i) refl
   where
-    go : (b : Bool) → eqb (τ .instruction) i ≡ b → arityOf (set t (i + 256) v) τ ≡ arityIn g τ
+    go : (b : Bool) → eqb (τ .instruction) i ≡ b → arityOf (set t (i + 385) v) τ ≡ arityIn g τ
     go true p =
         let e = eqb-true (τ .instruction) i p in
-        let put : getD (set t (i + 256) v) (τ .instruction + 256) 0 ≡ v = rw e (getD-set-same t (i + 256) v 0 h) in
+        let put : getD (set t (i + 385) v) (τ .instruction + 385) 0 ≡ v = rw e (getD-set-same t (i + 385) v 0 h) in
         ap (λ (n : ℕ). waitedFor n τ) put ∙ here τ e
     go false p =
         let n = eqb-false (τ .instruction) i p in
-        rw (getD-set-other t (i + 256) (τ .instruction + 256) v 0 (λ q. n (omega arith))) (before τ (omega arith))
+        rw (getD-set-other t (i + 385) (τ .instruction + 385) v 0 (λ q. n (omega arith))) (before τ (omega arith))
 
 past-end : (l : List ℕ) (k : ℕ) → length l ≤ k → getD l k 0 ≡ 0
 past-end [] k h = refl
@@ -57,7 +57,7 @@ past-end (x ∷ l) zero h = absurd (omega arith)
 past-end (x ∷ l) (suc k) h = past-end l k (omega arith)
 
 -- an instruction past the table is past the graph too
-pub all-arities : (graph tables : List ℕ) → checkGraph graph ≡ Passed → length tables ≡ 512
+pub all-arities : (graph tables : List ℕ) → checkGraph graph ≡ Passed → length tables ≡ 641
     → ((τ : Tag) → τ .instruction < 256 → arityOf tables τ ≡ arityIn (graphOf graph) τ) → Arities (graphOf graph) tables
 unfolding waitedFor
 all-arities graph tables passed size right τ = go (decLe (suc (τ .instruction)) 256)
@@ -66,13 +66,13 @@ all-arities graph tables passed size right τ = go (decLe (suc (τ .instruction)
     go (yes h) = right τ h
     go (no n) =
         let none = arity-past graph τ (omega (arith, passed-length graph passed .1, passed-length graph passed .2)) in
-        rw (past-end tables (τ .instruction + 256) (omega arith)) (sym none)
+        rw (past-end tables (τ .instruction + 385) (omega arith)) (sym none)
 
 -- ---- returns
 
-pub no-returns : Returns [] (replicate 512 0)
+pub no-returns : Returns [] (replicate 641 0)
 unfolding returnOf
-no-returns site h = getD-replicate 512 site 0 0 (omega arith)
+no-returns site h = getD-replicate 641 site 0 0 (omega arith)
 
 -- one record more, before the others
 pub note-returns : (rs : List Instruction) (t : List ℕ) (r : Instruction) → Returns rs t → 256 ≤ length t

@@ -1,11 +1,15 @@
-// Two tables of a graph in one array, by which a run need not look through it: returns by site in the first half, entries for
-// operand counts by instruction in the second.
+// The tables of a run in one array, by which a firing need not look through the graph: returns by site, the named arrays, and
+// entries for operand counts by instruction.
 use check_fields::constant;
+use record::array;
 use record::instruction;
 use record::instruction::Instruction;
 use record::operation;
 ghost use mathlib.Core.Path.{_≡_};
-ghost use lib.ListN.{length};
+ghost use Prim.Native.Nat.{ℕ, _+_, _/_, _≤_, _<_};
+ghost use lib.ListN.{length, getD};
+ghost use Rattle.record.specs.Widths.{arrayWidth};
+ghost use Rattle.record.specs.Arrays.{mostArrays, arraysOf};
 ghost use Rattle.record.specs.GraphRecords.{graphOf};
 ghost use Rattle.record.specs.declared.tag.Tag.{Tag};
 ghost use Rattle.rules.specs.InstructionSet.{arityIn};
@@ -13,7 +17,7 @@ ghost use Rattle.store_enabled.specs.Enabled.{waitedFor};
 ghost use Rattle.check_fields.specs.Sites.{atSite};
 ghost use Rattle.rules.specs.declared.answer.Checked.the-variants.{Passed};
 ghost use Rattle.rules.specs.Check.{checkGraph};
-ghost use Rattle.abstraction.specs.Tables.{Arities, Returns};
+ghost use Rattle.abstraction.specs.Tables.{Arities, Returns, arraysIn, TablesOf};
 
 // The entry of instruction i, which says for each of its activities how many operands that waits for.
 fn entry_at(graph: &[u8], i: usize) -> u16
@@ -31,21 +35,21 @@ fn entry_at(graph: &[u8], i: usize) -> u16
     }
 }
 
-// The entries for operand counts, behind the returns.
-fn arities(graph: &[u8], out: &mut [u16; 512])
-    requires { ⌜ (checkGraph (now graph) ≡ Passed) × (length (now out) ≡ 512) ⌝ }
-    ensures { λ _. ⌜ Arities (graphOf (now (graph .entry))) (now (out .exit)) ⌝ }
+// The entries for operand counts, behind all else.
+fn arities(graph: &[u8], out: &mut [u16; 641])
+    requires { ⌜ (checkGraph (now graph) ≡ Passed) × (length (now out) ≡ 641) ⌝ }
+    ensures { λ _. ⌜ Arities (graphOf (now (graph .entry))) (now (out .exit)) × (length (now (out .exit)) ≡ 641) ⌝ }
     ensures { λ _. ⌜ (Returns (graphOf (now (graph .entry))) (now (out .entry)) → Returns (graphOf (now (graph .entry))) (now (out .exit))) ⌝ }
 {
     let mut i = 0;
     while i < 256 {
-        out[i + 256] = entry_at(graph, i);
+        out[i + 385] = entry_at(graph, i);
         i += 1;
     }
 }
 
 // Puts the return of an ENTER into the table.
-fn note(out: &mut [u16; 512], r: Instruction)
+fn note(out: &mut [u16; 641], r: Instruction)
     ensures { λ _. ⌜ now (out .exit) ≡ atSite (now (out .entry)) r (r .second .instruction) ⌝ }
 {
     let back = r.second;
@@ -59,10 +63,10 @@ fn note(out: &mut [u16; 512], r: Instruction)
 }
 
 // The returns. The records are gone through from the last to the first, since the first ENTER of a site counts.
-fn returns(graph: &[u8], out: &mut [u16; 512])
-    ensures { λ _. ⌜ Returns (graphOf (now (graph .entry))) (now (out .exit)) × (length (now (out .exit)) ≡ 512) ⌝ }
+fn returns(graph: &[u8], out: &mut [u16; 641])
+    ensures { λ _. ⌜ Returns (graphOf (now (graph .entry))) (now (out .exit)) × (length (now (out .exit)) ≡ 641) ⌝ }
 {
-    *out = [0u16; 512];
+    *out = [0u16; 641];
     let mut i = graph.len() / instruction::WIDTH;
     while 0 < i {
         i -= 1;
@@ -70,11 +74,30 @@ fn returns(graph: &[u8], out: &mut [u16; 512])
     }
 }
 
-// Both tables, of a graph that passed its check.
-pub fn make(graph: &[u8], out: &mut [u16; 512])
-    requires { ⌜ checkGraph (now graph) ≡ Passed ⌝ }
-    ensures { λ _. ⌜ Arities (graphOf (now (graph .entry))) (now (out .exit)) × Returns (graphOf (now (graph .entry))) (now (out .exit)) ⌝ }
+// The named arrays, behind the returns: their number, then the first cell and the length of each.
+fn name(arrays: &[u8], out: &mut [u16; 641])
+    requires { ⌜ (length (now arrays) / arrayWidth ≤ mostArrays) × (length (now out) ≡ 641) ⌝ }
+    ensures { λ _. ⌜ arraysIn (now (out .exit)) ≡ arraysOf (now (arrays .entry)) ⌝ }
+    ensures { λ _. ⌜ ((k : ℕ) → k < 256 → getD (now (out .exit)) k 0 ≡ getD (now (out .entry)) k 0) ⌝ }
+    ensures { λ _. ⌜ ((k : ℕ) → getD (now (out .exit)) (k + 385) 0 ≡ getD (now (out .entry)) (k + 385) 0) ⌝ }
+{
+    let n = arrays.len() / array::WIDTH;
+    out[256] = n as u16;
+    let mut i = 0;
+    while i < n {
+        let a = array::array_at(arrays, i);
+        out[i * 2 + 257] = a.first;
+        out[i * 2 + 258] = a.length;
+        i += 1;
+    }
+}
+
+// All of them, of a graph that passed its check and a table that is not too long.
+pub fn make(graph: &[u8], arrays: &[u8], out: &mut [u16; 641])
+    requires { ⌜ (checkGraph (now graph) ≡ Passed) × (length (now arrays) / arrayWidth ≤ mostArrays) ⌝ }
+    ensures { λ _. ⌜ TablesOf (now (graph .entry)) (now (arrays .entry)) (now (out .exit)) ⌝ }
 {
     returns(graph, out);
     arities(graph, out);
+    name(arrays, out);
 }

@@ -200,38 +200,38 @@ held x inputs picks ledger cells stores f =
 -- ---- from inputs
 
 pub demand3 : Demand3
-demand3 graph inputs graphBytes inputBytes l m a b capacities counts x y ranX ranY =
+demand3 graph arrays inputs graphBytes inputBytes l m a b capacities counts x y ranX ranY =
     agree-in-bytes (resultOf l) (resultOf m) l m x y ranX ranY
-    (any-two-orders graph inputs (l .picks) (m .picks) (length (l .ledger)) (length (m .ledger)) (length (l .cells)) (length (m .cells)) a b capacities counts)
+    (any-two-orders graph arrays inputs (l .picks) (m .picks) (length (l .ledger)) (length (m .ledger)) (length (l .cells)) (length (m .cells)) a b capacities counts)
     (holds l) (holds m)
   where
     resultOf : LentToRun → Result
-    resultOf k = result graph inputs (k .picks) 2048 (length (k .ledger)) (length (k .cells))
+    resultOf k = result graph arrays inputs (k .picks) 2048 (length (k .ledger)) (length (k .cells))
 
     -- a run that completes or hangs passed the check of its stores
     holds : (k : LentToRun) → Rules.Quiescent (resultOf k) → Held (resultOf k) (k .cells)
     holds k c =
         held (resultOf k) (length inputs) (length (k .picks)) (k .ledger) (k .cells)
-        (stores-whole (length inputs) (length (k .picks)) (length (k .ledger)) (length (k .cells)) (begun-stores graph inputs (k .picks) 2048 (length (k .ledger)) (length (k .cells)) (quiescent-begun (resultOf k) c)))
-        (result-fits graph inputs (k .picks) 2048 (length (k .ledger)) (length (k .cells)) graphBytes inputBytes)
+        (stores-whole (length inputs) (length (k .picks)) (length (k .ledger)) (length (k .cells)) (begun-stores graph arrays inputs (k .picks) 2048 (length (k .ledger)) (length (k .cells)) (quiescent-begun (resultOf k) c)))
+        (result-fits graph arrays inputs (k .picks) 2048 (length (k .ledger)) (length (k .cells)) graphBytes inputBytes)
 
 -- ---- two budgets
 
-module _ (graph inputs : List ℕ) (graphBytes : Bytes graph) (inputBytes : Bytes inputs) (a b : ℕ) (l m : LentToRun) (allowed : Rules.Allowed (m .picks) (length (m .ledger)) (length (m .cells)))
+module _ (graph arrays inputs : List ℕ) (graphBytes : Bytes graph) (inputBytes : Bytes inputs) (a b : ℕ) (l m : LentToRun) (allowed : Rules.Allowed (m .picks) (length (m .ledger)) (length (m .cells)))
     (capacities : capacityOf (length (l .ledger)) ≡ capacityOf (length (m .ledger))) (counts : length (l .cells) / cellWidth ≡ length (m .cells) / cellWidth)
-    (x y : LeftByRun) (ranX : RanOn graph inputs a l x) (ranY : RanOn graph inputs b m y) (done : Quiescent (x .answer .outcome)) (enough : x .answer .firings ≤ b) where
+    (x y : LeftByRun) (ranX : RanOn graph arrays inputs a l x) (ranY : RanOn graph arrays inputs b m y) (done : Quiescent (x .answer .outcome)) (enough : x .answer .firings ≤ b) where
   abbrev first : Result
-  first = result graph inputs (l .picks) a (length (l .ledger)) (length (l .cells))
+  first = result graph arrays inputs (l .picks) a (length (l .ledger)) (length (l .cells))
 
   abbrev second : Result
-  second = result graph inputs (m .picks) b (length (m .ledger)) (length (m .cells))
+  second = result graph arrays inputs (m .picks) b (length (m .ledger)) (length (m .cells))
 
   rests : Rules.Quiescent first
   rests = same-end first .rests .1 (subst (λ (r : Answer). Quiescent (r .outcome)) (ranX .answered) done)
 
   ends : Rules.EndsAlike first second
   ends =
-      any-two-budgets graph inputs (l .picks) (m .picks) a b (length (l .ledger)) (length (m .ledger)) (length (l .cells)) (length (m .cells)) rests allowed capacities counts
+      any-two-budgets graph arrays inputs (l .picks) (m .picks) a b (length (l .ledger)) (length (m .ledger)) (length (l .cells)) (length (m .cells)) rests allowed capacities counts
       (subst (λ (r : Answer). r .firings ≤ b) (ranX .answered) enough)
 
   outcomes : x .answer .outcome ≡ y .answer .outcome
@@ -240,24 +240,24 @@ module _ (graph inputs : List ℕ) (graphBytes : Bytes graph) (inputBytes : Byte
   stores : Whole (length inputs) (length (l .picks)) (length (l .ledger)) (length (l .cells))
   stores =
       stores-whole (length inputs) (length (l .picks)) (length (l .ledger)) (length (l .cells))
-      (begun-stores graph inputs (l .picks) a (length (l .ledger)) (length (l .cells)) (quiescent-begun first rests))
+      (begun-stores graph arrays inputs (l .picks) a (length (l .ledger)) (length (l .cells)) (quiescent-begun first rests))
 
   budgets-alike : Alike x y
   budgets-alike =
-      let fits = result-fits graph inputs (l .picks) a (length (l .ledger)) (length (l .cells)) graphBytes inputBytes in
-      let others = result-fits graph inputs (m .picks) b (length (m .ledger)) (length (m .cells)) graphBytes inputBytes in
+      let fits = result-fits graph arrays inputs (l .picks) a (length (l .ledger)) (length (l .cells)) graphBytes inputBytes in
+      let others = result-fits graph arrays inputs (m .picks) b (length (m .ledger)) (length (m .cells)) graphBytes inputBytes in
       let few = whole-bytes tokenWidth mostTokens (length (l .ledger)) (stores .wholeLedger) .1 in
       let also = same-end second .rests .1 (subst Quiescent (outcomes ∙ ap (λ (r : Answer). r .outcome) (ranY .answered)) done) in
       bytes-alike first second ranX ranY rests also outcomes (ends .alike) (fits .tokens) (omega (arith, fits .room, few))
       (whole-bytes cellWidth mostCells (length (l .cells)) (stores .wholeCells) .0, fits .cellCount) (whole-bytes cellWidth mostCells (length (m .cells)) (allowed .allowedCells) .0, others .cellCount)
 
 pub two-budgets : AnyTwoBudgets
-two-budgets graph inputs bg bi a b l m allowed c d x y rx ry done enough = budgets-alike graph inputs bg bi a b l m allowed c d x y rx ry done enough
+two-budgets graph arrays inputs bg bi a b l m allowed c d x y rx ry done enough = budgets-alike graph arrays inputs bg bi a b l m allowed c d x y rx ry done enough
 
 -- ---- runs that write a log
 
 pub demand3-logged : Demand3Logged
-demand3-logged graph inputs bg bi l m bl bm sl sm a b c d x y rx ry =
-    let ran : (k : LentToLogged) (z : LeftByLogged) → k .budget ≡ 2048 → logSuffices 2048 (length (k .log)) ≡ true → LoggedOn graph inputs k z → RanOn graph inputs 2048 (lentBesideLog k) (leftBesideLog z) =
-    λ k z e enough h. subst (λ (n : ℕ). RanOn graph inputs n (lentBesideLog k) (leftBesideLog z)) e (logged-runs-on graph inputs k z h (rw e enough)) in
-    demand3 graph inputs bg bi (lentBesideLog l) (lentBesideLog m) a b c d (leftBesideLog x) (leftBesideLog y) (ran l x bl sl rx) (ran m y bm sm ry)
+demand3-logged graph arrays inputs bg bi l m bl bm sl sm a b c d x y rx ry =
+    let ran : (k : LentToLogged) (z : LeftByLogged) → k .budget ≡ 2048 → logSuffices 2048 (length (k .log)) ≡ true → LoggedOn graph arrays inputs k z → RanOn graph arrays inputs 2048 (lentBesideLog k) (leftBesideLog z) =
+    λ k z e enough h. subst (λ (n : ℕ). RanOn graph arrays inputs n (lentBesideLog k) (leftBesideLog z)) e (logged-runs-on graph arrays inputs k z h (rw e enough)) in
+    demand3 graph arrays inputs bg bi (lentBesideLog l) (lentBesideLog m) a b c d (leftBesideLog x) (leftBesideLog y) (ran l x bl sl rx) (ran m y bm sm ry)

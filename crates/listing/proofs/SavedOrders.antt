@@ -21,20 +21,20 @@ quiescent-began (refusedAtOnce r p) h = h
 quiescent-began (ranTo e) h = tt
 
 pub demand3-from : Demand3From
-demand3-from graph firings n graphBytes l m ledgerBytes otherBytes cellBytes a b one x y ranX ranY =
+demand3-from graph arrays firings n graphBytes l m ledgerBytes otherBytes cellBytes a b one x y ranX ranY =
     agree-in-bytes (resultOf l) (resultOf m) l m x y ranX ranY agreed (holds l ledgerBytes cellBytes) (holds m otherBytes (subst Bytes (one .cells) cellBytes))
   where
     resultOf : LentToRun → Result
-    resultOf k = carried graph (k .picks) 2048 (k .ledger) (k .cells) firings n
+    resultOf k = carried graph arrays (k .picks) 2048 (k .ledger) (k .cells) firings n
 
     -- both are lent the same cells
     agreed : Rules.Agree (resultOf l) (resultOf m)
     agreed =
-        subst (λ (c : List ℕ). Rules.Agree (resultOf l) (carried graph (m .picks) 2048 (m .ledger) c firings n)) (one .cells)
-        (orders-from graph (l .picks) (m .picks) (l .ledger) (m .ledger) (l .cells) firings n a (subst (λ (c : List ℕ). checkGraph graph ≡ Passed → Rules.Allowed (m .picks) (length (m .ledger)) (length c)) (sym (one .cells)) b) (one .capacity) (one .records))
+        subst (λ (c : List ℕ). Rules.Agree (resultOf l) (carried graph arrays (m .picks) 2048 (m .ledger) c firings n)) (one .cells)
+        (orders-from graph arrays (l .picks) (m .picks) (l .ledger) (m .ledger) (l .cells) firings n a (subst (λ (c : List ℕ). checkGraph graph ≡ Passed → Rules.Allowed (m .picks) (length (m .ledger)) (length c)) (sym (one .cells)) b) (one .capacity) (one .records))
 
     holds : (k : LentToRun) → Bytes (k .ledger) → Bytes (k .cells) → Rules.Quiescent (resultOf k) → Held (resultOf k) (k .cells)
     holds k lb cb c =
         held (resultOf k) 0 (length (k .picks)) (k .ledger) (k .cells)
-        (carried-stores graph (k .picks) (k .ledger) (k .cells) 2048 firings n (quiescent-began (resultOf k) c))
-        (carried-fits graph (k .picks) (k .ledger) (k .cells) 2048 firings n graphBytes lb cb)
+        (carried-stores graph arrays (k .picks) (k .ledger) (k .cells) 2048 firings n (quiescent-began (resultOf k) c))
+        (carried-fits graph arrays (k .picks) (k .ledger) (k .cells) 2048 firings n graphBytes lb cb)

@@ -57,26 +57,26 @@ pub record Agree (x y : LeftByRun) : Type 0 where
 -- 01: "two whole runs over one graph and one list of inputs, for every two lists of picks [..] Capacity and cell count are equal [..] What ledger and
 -- cells held beforehand may differ." They are "at a budget of 2,048"
 abbrev pub Demand3 : Type 0
-Demand3 = (graph inputs : List ℕ) → Bytes graph → Bytes inputs → (l m : LentToRun) → NotForOthers graph inputs l → NotForOthers graph inputs m
+Demand3 = (graph arrays inputs : List ℕ) → Bytes graph → Bytes inputs → (l m : LentToRun) → NotForOthers graph inputs l → NotForOthers graph inputs m
     → capacityOf (length (l .ledger)) ≡ capacityOf (length (m .ledger)) → length (l .cells) / cellWidth ≡ length (m .cells) / cellWidth
-    → (x y : LeftByRun) → RanOn graph inputs 2048 l x → RanOn graph inputs 2048 m y → Agree x y
+    → (x y : LeftByRun) → RanOn graph arrays inputs 2048 l x → RanOn graph arrays inputs 2048 m y → Agree x y
 
 -- ---- two budgets
 
 -- the same with any two budgets that are each enough, and not 2,048 alone: if a run completes or hangs, so does every order that may do as many firings
 abbrev pub AnyTwoBudgets : Type 0
-AnyTwoBudgets = (graph inputs : List ℕ) → Bytes graph → Bytes inputs → (budget budget′ : ℕ) (l m : LentToRun) → Allowed (m .picks) (length (m .ledger)) (length (m .cells))
+AnyTwoBudgets = (graph arrays inputs : List ℕ) → Bytes graph → Bytes inputs → (budget budget′ : ℕ) (l m : LentToRun) → Allowed (m .picks) (length (m .ledger)) (length (m .cells))
     → capacityOf (length (l .ledger)) ≡ capacityOf (length (m .ledger))
     → length (l .cells) / cellWidth ≡ length (m .cells) / cellWidth
-    → (x y : LeftByRun) → RanOn graph inputs budget l x → RanOn graph inputs budget′ m y → Quiescent (x .answer .outcome) → x .answer .firings ≤ budget′ → Alike x y
+    → (x y : LeftByRun) → RanOn graph arrays inputs budget l x → RanOn graph arrays inputs budget′ m y → Quiescent (x .answer .outcome) → x .answer .firings ≤ budget′ → Alike x y
 
 -- ---- runs that write a log
 
 -- demand 3 of two runs with logs that suffice for 2,048 firings
 abbrev pub Demand3Logged : Type 0
-Demand3Logged = (graph inputs : List ℕ) → Bytes graph → Bytes inputs → (l m : LentToLogged) → l .budget ≡ 2048 → m .budget ≡ 2048
+Demand3Logged = (graph arrays inputs : List ℕ) → Bytes graph → Bytes inputs → (l m : LentToLogged) → l .budget ≡ 2048 → m .budget ≡ 2048
     → logSuffices 2048 (length (l .log)) ≡ true → logSuffices 2048 (length (m .log)) ≡ true
     → NotForOthers graph inputs (lentBesideLog l) → NotForOthers graph inputs (lentBesideLog m)
     → capacityOf (length (l .ledger)) ≡ capacityOf (length (m .ledger))
     → length (l .cells) / cellWidth ≡ length (m .cells) / cellWidth
-    → (x y : LeftByLogged) → LoggedOn graph inputs l x → LoggedOn graph inputs m y → Agree (leftBesideLog x) (leftBesideLog y)
+    → (x y : LeftByLogged) → LoggedOn graph arrays inputs l x → LoggedOn graph arrays inputs m y → Agree (leftBesideLog x) (leftBesideLog y)

@@ -14,8 +14,8 @@ use Rattle.rules.specs.Saved.{CarriedOn}
 use Rattle.listing.specs.Demand3.{Agree}
 
 -- the promise of `carry_on`
-abbrev pub CarriedTo : (graph : List ℕ) → (budget firings tokens : ℕ) → LentToRun → LeftByRun → Type 0
-CarriedTo graph budget firings n l x = CarriedOn graph (l .picks) budget firings n (x .answer) (l .ledger) (x .ledger) (l .cells) (x .cells)
+abbrev pub CarriedTo : (graph arrays : List ℕ) → (budget firings tokens : ℕ) → LentToRun → LeftByRun → Type 0
+CarriedTo graph arrays budget firings n l x = CarriedOn graph arrays (l .picks) budget firings n (x .answer) (l .ledger) (x .ledger) (l .cells) (x .cells)
 
 -- neither run is refused by 7; where the graph fails its check, lengths do not count
 abbrev pub NotBadStore : (graph : List ℕ) → LentToRun → Type 0
@@ -29,6 +29,6 @@ pub record OneState (tokens : ℕ) (l m : LentToRun) : Type 0 where
 
 -- completed or hung alike, with equal answers, cells, tokens and listings, or both refused. It is said of any state: one that is not taken is refused in both
 abbrev pub Demand3From : Type 0
-Demand3From = (graph : List ℕ) (firings tokens : ℕ) → Bytes graph → (l m : LentToRun) → Bytes (l .ledger) → Bytes (m .ledger) → Bytes (l .cells)
+Demand3From = (graph arrays : List ℕ) (firings tokens : ℕ) → Bytes graph → (l m : LentToRun) → Bytes (l .ledger) → Bytes (m .ledger) → Bytes (l .cells)
     → NotBadStore graph l → NotBadStore graph m → OneState tokens l m
-    → (x y : LeftByRun) → CarriedTo graph 2048 firings tokens l x → CarriedTo graph 2048 firings tokens m y → Agree x y
+    → (x y : LeftByRun) → CarriedTo graph arrays 2048 firings tokens l x → CarriedTo graph arrays 2048 firings tokens m y → Agree x y

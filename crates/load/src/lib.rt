@@ -50,7 +50,7 @@ pub fn pick_at(picks: &[u8], k: usize) -> usize
 
 // The input tokens arrive in their order in an empty ledger. The answer is how many they are.
 pub fn inputs(
-    tables: &[u16; 512],
+    tables: &[u16; 641],
     links: &mut [u16; 9216],
     flags: &mut [u64; 69],
     ledger: &mut [u8],

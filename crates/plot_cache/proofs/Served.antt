@@ -49,9 +49,9 @@ count-tokens (refusedAtOnce r p) = refl
 count-tokens (ranTo e) = length-map (e .state .tokens) tokenRecord
 
 -- two runs with one result, whatever their buffers held
-module _ (graph inputs : List ℕ) (graphBytes : Bytes graph) (inputBytes : Bytes inputs) (budget : ℕ) (l m : LentToRun) (size : length (m .cells) ≡ length (l .cells)) (x y : LeftByRun) where
+module _ (graph arrays inputs : List ℕ) (graphBytes : Bytes graph) (inputBytes : Bytes inputs) (budget : ℕ) (l m : LentToRun) (size : length (m .cells) ≡ length (l .cells)) (x y : LeftByRun) where
   abbrev both-give : Result
-  both-give = result graph inputs (l .picks) budget (length (l .ledger)) (length (l .cells))
+  both-give = result graph arrays inputs (l .picks) budget (length (l .ledger)) (length (l .cells))
 
   abbrev Leaves : LentToRun → LeftByRun → Type 0
   Leaves k z = Ran both-give (z .answer) (k .ledger) (z .ledger) (k .cells) (z .cells)
@@ -63,7 +63,7 @@ module _ (graph inputs : List ℕ) (graphBytes : Bytes graph) (inputBytes : Byte
       → (answer (used z) out ≡ 0) × (outAfter (used z) out ≡ listing (joined Tokens.encode (tokensOf both-give)))
   listed k z ran out e =
       let ts = tokensOf both-give in
-      let small = answer-small graph inputs (l .picks) budget (length (l .ledger)) (length (l .cells)) in
+      let small = answer-small graph arrays inputs (l .picks) budget (length (l .ledger)) (length (l .cells)) in
       let u = used-is k z ran in
       let n = ap length u ∙ length-tokens ts in
       let c = count-tokens both-give in
@@ -78,9 +78,9 @@ module _ (graph inputs : List ℕ) (graphBytes : Bytes graph) (inputBytes : Byte
       go : (z : Result) → both-give ≡ z → (x .cells ≡ y .cells) ⊎ ((x .cells ≡ l .cells) × (y .cells ≡ m .cells))
       go (refusedAtOnce r p) e = inr (rx .cellsLeft ∙ ap (λ (w : Result). cellsAfter w (l .cells)) e, ry .cellsLeft ∙ ap (λ (w : Result). cellsAfter w (m .cells)) e)
       go (ranTo d) e =
-          let w = stores-whole (length inputs) (length (l .picks)) (length (l .ledger)) (length (l .cells)) (begun-stores graph inputs (l .picks) budget (length (l .ledger)) (length (l .cells)) (rw e tt)) in
+          let w = stores-whole (length inputs) (length (l .picks)) (length (l .ledger)) (length (l .cells)) (begun-stores graph arrays inputs (l .picks) budget (length (l .ledger)) (length (l .cells)) (rw e tt)) in
           let bytes = whole-bytes cellWidth mostCells (length (l .cells)) (w .wholeCells) .0 in
-          let count : CellCount (ranTo d) (length (l .cells) / cellWidth) = subst (λ (z : Result). CellCount z (length (l .cells) / cellWidth)) e (result-fits graph inputs (l .picks) budget (length (l .ledger)) (length (l .cells)) graphBytes inputBytes .cellCount) in
+          let count : CellCount (ranTo d) (length (l .cells) / cellWidth) = subst (λ (z : Result). CellCount z (length (l .cells) / cellWidth)) e (result-fits graph arrays inputs (l .picks) budget (length (l .ledger)) (length (l .cells)) graphBytes inputBytes .cellCount) in
           let first = ap (λ (z : Result). cellsAfter z (l .cells)) e ∙ ran-cells d (l .cells) bytes count in
           let second = ap (λ (z : Result). cellsAfter z (m .cells)) e ∙ ran-cells d (m .cells) (rw size bytes) (rw size count) in
           inl (rx .cellsLeft ∙ first ∙ sym (ry .cellsLeft ∙ second))
@@ -110,18 +110,21 @@ resting (Outcomes.Refused r p) e = let z : _≡_ {A = ℕ} 0 1 = cc in absurd (o
 
 record Alike (k a : Request) : Type 0 where
   graphs : k .graph ≡ a .graph
+  tables : k .arrays ≡ a .arrays
   inputs : k .inputs ≡ a .inputs
   ledgers : k .limits .ledger ≡ a .limits .ledger
   cells : k .limits .cells ≡ a .limits .cells
 
-machines-alike : (k a : Request) → sameMachine (k .graph) (a .graph) (k .inputs) (a .inputs) (k .limits) (a .limits) ≡ true → Alike k a
+machines-alike : (k a : Request) → sameMachine (k .graph) (a .graph) (k .arrays) (a .arrays) (k .inputs) (a .inputs) (k .limits) (a .limits) ≡ true → Alike k a
 unfolding sameMachine
 machines-alike k a e =
     let (g, later) = both (sameBytes (k .graph) (a .graph)) _ e in
-    let (i, sizes) = both (sameBytes (k .inputs) (a .inputs)) _ later in
+    let (t, rest) = both (sameBytes (k .arrays) (a .arrays)) _ later in
+    let (i, sizes) = both (sameBytes (k .inputs) (a .inputs)) _ rest in
     let (l, c) = both (eqb (k .limits .ledger) (a .limits .ledger)) _ sizes in
     record {
       graphs = same-list (k .graph) (a .graph) g;
+      tables = same-list (k .arrays) (a .arrays) t;
       inputs = same-list (k .inputs) (a .inputs) i;
       ledgers = eqb-true (k .limits .ledger) (a .limits .ledger) l;
       cells = eqb-true (k .limits .cells) (a .limits .cells) c;
@@ -135,10 +138,11 @@ module _ (k a : Request) (r : Answer) (graphBytes : Bytes (k .graph)) (inputByte
     cells-size : length (m .cells) ≡ length (l .cells)
     cells-size = asked .cells ∙ sym (same .cells) ∙ sym (kept .cells)
 
-    -- the run that was asked for, over the kept graph and inputs
-    ran : RanOn (k .graph) (k .inputs) (a .limits .budget) m y
-    ran = subst (λ (g : List ℕ). RanOn g (k .inputs) (a .limits .budget) m y) (sym (same .graphs))
-        (subst (λ (i : List ℕ). RanOn (a .graph) i (a .limits .budget) m y) (sym (same .inputs)) (asked .ran))
+    -- the run that was asked for, over the kept graph, table and inputs
+    ran : RanOn (k .graph) (k .arrays) (k .inputs) (a .limits .budget) m y
+    ran = subst (λ (g : List ℕ). RanOn g (k .arrays) (k .inputs) (a .limits .budget) m y) (sym (same .graphs))
+        (subst (λ (t : List ℕ). RanOn (a .graph) t (k .inputs) (a .limits .budget) m y) (sym (same .tables))
+        (subst (λ (i : List ℕ). RanOn (a .graph) (a .arrays) i (a .limits .budget) m y) (sym (same .inputs)) (asked .ran)))
 
     by-same : sameOrder (k .picks) (a .picks) (k .limits .budget) (a .limits .budget) ≡ true → ShownAlike l m x y
     unfolding sameOrder
@@ -146,9 +150,9 @@ module _ (k a : Request) (r : Answer) (graphBytes : Bytes (k .graph)) (inputByte
         let (b, p) = both (eqb (k .limits .budget) (a .limits .budget)) _ e in
         let budgets : a .limits .budget ≡ k .limits .budget = sym (eqb-true (k .limits .budget) (a .limits .budget) b) in
         let picks : m .picks ≡ l .picks = asked .picks ∙ sym (same-list (k .picks) (a .picks) p) ∙ sym (kept .picks) in
-        let one : result (k .graph) (k .inputs) (m .picks) (a .limits .budget) (length (m .ledger)) (length (m .cells)) ≡ result (k .graph) (k .inputs) (l .picks) (k .limits .budget) (length (l .ledger)) (length (l .cells)) =
-        λ i. result (k .graph) (k .inputs) (picks i) (budgets i) (ledger-size i) (cells-size i) in
-        shown (k .graph) (k .inputs) graphBytes inputBytes (k .limits .budget) l m cells-size x y (kept .ran)
+        let one : result (k .graph) (k .arrays) (k .inputs) (m .picks) (a .limits .budget) (length (m .ledger)) (length (m .cells)) ≡ result (k .graph) (k .arrays) (k .inputs) (l .picks) (k .limits .budget) (length (l .ledger)) (length (l .cells)) =
+        λ i. result (k .graph) (k .arrays) (k .inputs) (picks i) (budgets i) (ledger-size i) (cells-size i) in
+        shown (k .graph) (k .arrays) (k .inputs) graphBytes inputBytes (k .limits .budget) l m cells-size x y (kept .ran)
         (subst (λ (z : Result). Ran z (y .answer) (m .ledger) (y .ledger) (m .cells) (y .cells)) one ran)
 
     by-order : x .answer ≡ r → anyOrder r (length (a .picks)) (a .limits .budget) ≡ true → ShownAlike l m x y
@@ -157,11 +161,11 @@ module _ (k a : Request) (r : Answer) (graphBytes : Bytes (k .graph)) (inputByte
         let (q, later) = both (rests (r .outcome)) _ e in
         let (w, f) = both (whole pickWidth mostTokens (length (a .picks))) _ later in
         let done : Quiescent (x .answer .outcome) = subst (λ (z : Answer). Quiescent (z .outcome)) (sym told) (resting (r .outcome) q) in
-        let given = result (k .graph) (k .inputs) (l .picks) (k .limits .budget) (length (l .ledger)) (length (l .cells)) in
+        let given = result (k .graph) (k .arrays) (k .inputs) (l .picks) (k .limits .budget) (length (l .ledger)) (length (l .cells)) in
         let quiet : Rules.Quiescent given = same-end given .rests .1 (subst (λ (z : Answer). Quiescent (z .outcome)) (kept .ran .answered) done) in
-        let stores = stores-whole (length (k .inputs)) (length (l .picks)) (length (l .ledger)) (length (l .cells)) (begun-stores (k .graph) (k .inputs) (l .picks) (k .limits .budget) (length (l .ledger)) (length (l .cells)) (quiescent-begun given quiet)) in
+        let stores = stores-whole (length (k .inputs)) (length (l .picks)) (length (l .ledger)) (length (l .cells)) (begun-stores (k .graph) (k .arrays) (k .inputs) (l .picks) (k .limits .budget) (length (l .ledger)) (length (l .cells)) (quiescent-begun given quiet)) in
         let allowed : Allowed (m .picks) (length (m .ledger)) (length (m .cells)) = record { allowedPicks = rw (asked .picks) w; allowedLedger = rw ledger-size (stores .wholeLedger); allowedCells = rw cells-size (stores .wholeCells) } in
-        let z = two-budgets (k .graph) (k .inputs) graphBytes inputBytes (k .limits .budget) (a .limits .budget) l m allowed (ap capacityOf (sym ledger-size)) (ap (λ (n : ℕ). n / cellWidth) (sym cells-size)) x y (kept .ran) ran done
+        let z = two-budgets (k .graph) (k .arrays) (k .inputs) graphBytes inputBytes (k .limits .budget) (a .limits .budget) l m allowed (ap capacityOf (sym ledger-size)) (ap (λ (n : ℕ). n / cellWidth) (sym cells-size)) x y (kept .ran) ran done
         (subst (λ (s : Answer). s .firings ≤ a .limits .budget) (sym told) (leb-true (r .firings) (a .limits .budget) f)) in
         record { answers = z .answers; cells = inl (z .cells); listings = z .listings }
 
@@ -169,11 +173,11 @@ module _ (k a : Request) (r : Answer) (graphBytes : Bytes (k .graph)) (inputByte
 
   module _ (l m : LentToProfile) (x y : LeftByProfile) (kept : ProfiledAs k l x) (asked : ProfiledAs a m y) (room : length (l .profile) ≡ length (m .profile)) where
     abbrev first : ProfileResult
-    first = profiled (k .graph) (k .inputs) (length (l .ledger)) (length (l .cells)) (length (l .profile))
+    first = profiled (k .graph) (k .arrays) (k .inputs) (length (l .ledger)) (length (l .cells)) (length (l .profile))
 
-    one-profile : profiled (a .graph) (a .inputs) (length (m .ledger)) (length (m .cells)) (length (m .profile)) ≡ first
+    one-profile : profiled (a .graph) (a .arrays) (a .inputs) (length (m .ledger)) (length (m .cells)) (length (m .profile)) ≡ first
     one-profile = λ i.
-        profiled (sym (same .graphs) i) (sym (same .inputs) i) ((asked .ledger ∙ sym (same .ledgers) ∙ sym (kept .ledger)) i) ((asked .cells ∙ sym (same .cells) ∙ sym (kept .cells)) i) (sym room i)
+        profiled (sym (same .graphs) i) (sym (same .tables) i) (sym (same .inputs) i) ((asked .ledger ∙ sym (same .ledgers) ∙ sym (kept .ledger)) i) ((asked .cells ∙ sym (same .cells) ∙ sym (kept .cells)) i) (sym room i)
 
     first-records : (lent : List ℕ) → take (length (first .records) * stepWidth) (profileAfter first lent) ≡ joined encode (first .records)
     unfolding profileAfter encode
@@ -192,7 +196,7 @@ module _ (k a : Request) (r : Answer) (graphBytes : Bytes (k .graph)) (inputByte
 served : (k : Request) (r : Answer) (a : Request) → serves k r a ≡ true → Bytes (k .graph) → Bytes (k .inputs) → Served k r a
 unfolding serves
 served k r a e graphBytes inputBytes =
-    let (p, q) = both (sameMachine (k .graph) (a .graph) (k .inputs) (a .inputs) (k .limits) (a .limits)) _ e in
+    let (p, q) = both (sameMachine (k .graph) (a .graph) (k .arrays) (a .arrays) (k .inputs) (a .inputs) (k .limits) (a .limits)) _ e in
     let same = machines-alike k a p in
     record {
       runs = λ l m x y kept told asked. by-either same l m x y kept told asked (or-cases (sameOrder (k .picks) (a .picks) (k .limits .budget) (a .limits .budget)) _ q);

@@ -24,16 +24,17 @@ use Rattle.plot_cache.specs.declared.Limits.{Limits}
 -- all that a run depends on; ledger and cells by their lengths in bytes
 pub record Request : Type 0 where
   pub graph : List ℕ
+  pub arrays : List ℕ
   pub inputs : List ℕ
   pub picks : List ℕ
   pub limits : Limits
 
-abbrev pub request : (graph inputs picks : List ℕ) → Limits → Request
-request graph inputs picks limits = record { graph = graph; inputs = inputs; picks = picks; limits = limits }
+abbrev pub request : (graph arrays inputs picks : List ℕ) → Limits → Request
+request graph arrays inputs picks limits = record { graph = graph; arrays = arrays; inputs = inputs; picks = picks; limits = limits }
 
 -- by its numbers
-abbrev pub requestOf : (graph inputs picks : List ℕ) → (budget ledger cells : ℕ) → Request
-requestOf graph inputs picks budget ledger cells = request graph inputs picks (record { budget = budget; ledger = ledger; cells = cells })
+abbrev pub requestOf : (graph arrays inputs picks : List ℕ) → (budget ledger cells : ℕ) → Request
+requestOf graph arrays inputs picks budget ledger cells = request graph arrays inputs picks (record { budget = budget; ledger = ledger; cells = cells })
 
 -- ---- when one serves for another
 
@@ -43,9 +44,10 @@ sameBytes [] (b ∷ m) = false
 sameBytes (a ∷ l) [] = false
 sameBytes (a ∷ l) (b ∷ m) = eqb a b && sameBytes l m
 
--- 01, "Any two orders": "over one graph and one list of inputs [..] Capacity and cell count are equal"
-unfoldable pub sameMachine : (graph graph′ inputs inputs′ : List ℕ) → Limits → Limits → Bool
-sameMachine graph graph′ inputs inputs′ l l′ = sameBytes graph graph′ && (sameBytes inputs inputs′ && (eqb (l .ledger) (l′ .ledger) && eqb (l .cells) (l′ .cells)))
+-- 01, "Any two orders": "over one graph and one list of inputs [..] Capacity and cell count are equal"; R-10: "Orders are compared [..] under one table"
+unfoldable pub sameMachine : (graph graph′ arrays arrays′ inputs inputs′ : List ℕ) → Limits → Limits → Bool
+sameMachine graph graph′ arrays arrays′ inputs inputs′ l l′ =
+    sameBytes graph graph′ && (sameBytes arrays arrays′ && (sameBytes inputs inputs′ && (eqb (l .ledger) (l′ .ledger) && eqb (l .cells) (l′ .cells))))
 
 -- and the same order in every byte
 unfoldable pub sameOrder : (picks picks′ : List ℕ) → (budget budget′ : ℕ) → Bool
@@ -64,7 +66,7 @@ anyOrder r picks budget = rests (r .outcome) && (whole pickWidth mostTokens pick
 -- of a run that gave the answer r
 unfoldable pub serves : (kept : Request) → (r : Answer) → (asked : Request) → Bool
 serves k r a =
-    sameMachine (k .graph) (a .graph) (k .inputs) (a .inputs) (k .limits) (a .limits)
+    sameMachine (k .graph) (a .graph) (k .arrays) (a .arrays) (k .inputs) (a .inputs) (k .limits) (a .limits)
     && (sameOrder (k .picks) (a .picks) (k .limits .budget) (a .limits .budget) || anyOrder r (length (a .picks)) (a .limits .budget))
 
 -- ---- what is promised then
@@ -74,13 +76,13 @@ pub record RanAs (q : Request) (l : LentToRun) (x : LeftByRun) : Type 0 where
   pub picks : l .picks ≡ q .picks
   pub ledger : length (l .ledger) ≡ q .limits .ledger
   pub cells : length (l .cells) ≡ q .limits .cells
-  pub ran : RanOn (q .graph) (q .inputs) (q .limits .budget) l x
+  pub ran : RanOn (q .graph) (q .arrays) (q .inputs) (q .limits .budget) l x
 
 -- and `profile`, which takes no picks and no budget
 pub record ProfiledAs (q : Request) (l : LentToProfile) (x : LeftByProfile) : Type 0 where
   pub ledger : length (l .ledger) ≡ q .limits .ledger
   pub cells : length (l .cells) ≡ q .limits .cells
-  pub profiled : ProfiledOn (q .graph) (q .inputs) l x
+  pub profiled : ProfiledOn (q .graph) (q .arrays) (q .inputs) l x
 
 -- all that is shown of two runs is the same
 pub record ShownAlike (l m : LentToRun) (x y : LeftByRun) : Type 0 where

@@ -7,7 +7,7 @@ ghost use mathlib.Core.Path.{_≡_};
 ghost use mathlib.Core.Bool.{true};
 ghost use Rattle.plot_cache.specs.Serves.{sameBytes, sameMachine, sameOrder, rests, anyOrder, request, Decided};
 
-// What a run is given beside graph, inputs and picks: its budget, and the lengths in bytes of ledger and cells.
+// What a run is given beside graph, table of named arrays, inputs and picks: its budget, and the lengths in bytes of ledger and cells.
 pub struct Limits {
     pub budget: u16,
     pub ledger: usize,
@@ -20,19 +20,23 @@ fn same(a: &[u8], b: &[u8]) -> bool
     check::same(a, b)
 }
 
-// Whether two runs start alike: one graph, one list of inputs, one capacity and one cell count.
+// Whether two runs start alike: one graph, one table of named arrays, one list of inputs, one capacity and one cell count.
 fn same_machine(
     kept_graph: &[u8],
+    kept_arrays: &[u8],
     kept_inputs: &[u8],
     kept: Limits,
     graph: &[u8],
+    arrays: &[u8],
     inputs: &[u8],
     asked: Limits,
 ) -> bool
-    ensures { λ r. ⌜ r ≡ sameMachine (now («kept_graph» .entry)) (now (graph .entry)) (now («kept_inputs» .entry)) (now (inputs .entry)) kept asked ⌝ }
+    ensures { λ r. ⌜ r ≡ sameMachine (now («kept_graph» .entry)) (now (graph .entry)) (now («kept_arrays» .entry)) (now (arrays .entry)) (now («kept_inputs» .entry)) (now (inputs .entry)) kept asked ⌝ }
 {
     same(kept_graph, graph)
-        && (same(kept_inputs, inputs) && (kept.ledger == asked.ledger && kept.cells == asked.cells))
+        && (same(kept_arrays, arrays)
+            && (same(kept_inputs, inputs)
+                && (kept.ledger == asked.ledger && kept.cells == asked.cells)))
 }
 
 // Whether two runs fire alike: equal picks and budgets.
@@ -65,18 +69,29 @@ fn any_order(answer: Answer, picks: usize, budget: u16) -> bool
 // Whether what is kept of a run with this answer serves for the run that is asked for.
 pub fn serves(
     kept_graph: &[u8],
+    kept_arrays: &[u8],
     kept_inputs: &[u8],
     kept_picks: &[u8],
     kept: Limits,
     answer: Answer,
     graph: &[u8],
+    arrays: &[u8],
     inputs: &[u8],
     picks: &[u8],
     asked: Limits,
 ) -> bool
-    ensures { λ r. ⌜ Decided (request (now («kept_graph» .entry)) (now («kept_inputs» .entry)) (now («kept_picks» .entry)) kept) answer (request (now (graph .entry)) (now (inputs .entry)) (now (picks .entry)) asked) r ⌝ }
+    ensures { λ r. ⌜ Decided (request (now («kept_graph» .entry)) (now («kept_arrays» .entry)) (now («kept_inputs» .entry)) (now («kept_picks» .entry)) kept) answer (request (now (graph .entry)) (now (arrays .entry)) (now (inputs .entry)) (now (picks .entry)) asked) r ⌝ }
 {
-    same_machine(kept_graph, kept_inputs, kept, graph, inputs, asked)
+    same_machine(
+        kept_graph,
+        kept_arrays,
+        kept_inputs,
+        kept,
+        graph,
+        arrays,
+        inputs,
+        asked,
+    )
         && (same_order(kept_picks, kept.budget, picks, asked.budget)
             || any_order(answer, picks.len(), asked.budget))
 }

@@ -30,15 +30,15 @@ listed ledger sorted x rest t few fits room e =
     ap (λ (k : ℕ). take k (x ++ rest)) all ∙ take-at x rest n long ∙ done
 
 -- a run answers no more tokens than a ledger can have
-pub few-tokens : (graph inputs picks : List ℕ) (budget size count : ℕ) {r : Answer} {ledger ledger′ cells cells′ : List ℕ} → Ran (result graph inputs picks budget size count) r ledger ledger′ cells cells′ → r .tokens ≤ mostTokens
-few-tokens graph inputs picks budget size count ran = rw (ran .answered) (answer-small graph inputs picks budget size count .tokens)
+pub few-tokens : (graph arrays inputs picks : List ℕ) (budget size count : ℕ) {r : Answer} {ledger ledger′ cells cells′ : List ℕ} → Ran (result graph arrays inputs picks budget size count) r ledger ledger′ cells cells′ → r .tokens ≤ mostTokens
+few-tokens graph arrays inputs picks budget size count ran = rw (ran .answered) (answer-small graph arrays inputs picks budget size count .tokens)
 
 -- and the program's ledger has so many
 pub within : (t size : ℕ) → t ≤ mostTokens → size ≡ ledgerBytes → t ≤ capacityOf size
 within t size few e = omega arith
 
-pub left-printed : (graph inputs picks : List ℕ) {r : Answer} {ledger′ cells′ : List ℕ}
-    → Ran (result graph inputs picks 2048 (length (replicate {A = ℕ} ledgerBytes 0)) (length (replicate {A = ℕ} cellBytes 0))) r (replicate ledgerBytes 0) ledger′ (replicate cellBytes 0) cells′
-    → textOf r ledger′ cells′ ≡ printedRun graph inputs picks
+pub left-printed : (graph arrays inputs picks : List ℕ) {r : Answer} {ledger′ cells′ : List ℕ}
+    → Ran (result graph arrays inputs picks 2048 (length (replicate {A = ℕ} ledgerBytes 0)) (length (replicate {A = ℕ} cellBytes 0))) r (replicate ledgerBytes 0) ledger′ (replicate cellBytes 0) cells′
+    → textOf r ledger′ cells′ ≡ printedRun graph arrays inputs picks
 unfolding printedRun runOf
-left-printed graph inputs picks ran = rw (ran .answered, ran .ledgerLeft, ran .cellsLeft, length-replicate {A = ℕ} ledgerBytes 0, length-replicate {A = ℕ} cellBytes 0)
+left-printed graph arrays inputs picks ran = rw (ran .answered, ran .ledgerLeft, ran .cellsLeft, length-replicate {A = ℕ} ledgerBytes 0, length-replicate {A = ℕ} cellBytes 0)

@@ -93,10 +93,10 @@ cells-left (ranTo e) a =
 
 pub every-text-fits : EveryTextFits
 unfolding printedRun runOf
-every-text-fits graph inputs picks bg bi =
-    let x = runOf graph inputs picks in
-    let fits = result-fits graph inputs picks 2048 ledgerBytes cellBytes bg bi in
-    let small = answer-small graph inputs picks 2048 ledgerBytes cellBytes in
+every-text-fits graph arrays inputs picks bg bi =
+    let x = runOf graph arrays inputs picks in
+    let fits = result-fits graph arrays inputs picks 2048 ledgerBytes cellBytes bg bi in
+    let small = answer-small graph arrays inputs picks 2048 ledgerBytes cellBytes in
     let ts = tokens-left x fits in
     let cs = cells-left x fits in
     let within = fitting-within (answer x) (ledgerLeft x) (cellsLeft x) (record { firings = omega (arith, small .firings); tokens = omega (arith, small .tokens); place = omega (arith, small .place) }) (ts .fit) (cs .fit) (omega (arith, cs .few)) in

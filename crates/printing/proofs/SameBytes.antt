@@ -42,22 +42,22 @@ same-answer text out out′ e = rw e
 
 -- ---- two runs
 
-module _ (graph inputs : List ℕ) (graphBytes : Bytes graph) (inputBytes : Bytes inputs) where
+module _ (graph arrays inputs : List ℕ) (graphBytes : Bytes graph) (inputBytes : Bytes inputs) where
   abbrev lent : List ℕ → LentToRun
   lent picks = record { picks = picks; ledger = replicate ledgerBytes 0; cells = replicate cellBytes 0 }
 
   abbrev ended : List ℕ → Result
-  ended picks = result graph inputs picks 2048 (length (replicate {A = ℕ} ledgerBytes 0)) (length (replicate {A = ℕ} cellBytes 0))
+  ended picks = result graph arrays inputs picks 2048 (length (replicate {A = ℕ} ledgerBytes 0)) (length (replicate {A = ℕ} cellBytes 0))
 
   -- the program's run is one with buffers of so many zeros
-  same-run : (picks : List ℕ) → ended picks ≡ runOf graph inputs picks
+  same-run : (picks : List ℕ) → ended picks ≡ runOf graph arrays inputs picks
   unfolding runOf
   same-run picks = rw (length-replicate {A = ℕ} ledgerBytes 0, length-replicate {A = ℕ} cellBytes 0)
 
   abbrev leftBy : Result → LeftByRun
   leftBy x = record { answer = answer x; ledger = ledgerAfter x (replicate ledgerBytes 0); cells = cellsAfter x (replicate cellBytes 0) }
 
-  ran : (picks : List ℕ) → RanOn graph inputs 2048 (lent picks) (leftBy (ended picks))
+  ran : (picks : List ℕ) → RanOn graph arrays inputs 2048 (lent picks) (leftBy (ended picks))
   ran picks = record { answered = refl; numbers = refl; ledgerLeft = refl; cellsLeft = refl }
 
   allowed : (picks : List ℕ) → whole pickWidth mostTokens (length picks) ≡ true → NotForOthers graph inputs (lent picks)
@@ -75,20 +75,20 @@ module _ (graph inputs : List ℕ) (graphBytes : Bytes graph) (inputBytes : Byte
       let sorted : listing u ≡ listing v = sym (done u u (l .0) .1) ∙ l .2 ∙ done v v (l .1) .1 in
       same-text (answer x) (answer y) (listing u) (listing v) (cellsAfter x (replicate cellBytes 0)) (cellsAfter y (replicate cellBytes 0)) (ap valuesOf (a .answers)) sorted (a .cells)
 
-  same-texts : (picks picks′ : List ℕ) → whole pickWidth mostTokens (length picks) ≡ true → whole pickWidth mostTokens (length picks′) ≡ true → Quiescent (runOf graph inputs picks)
-      → printedRun graph inputs picks ≡ printedRun graph inputs picks′
+  same-texts : (picks picks′ : List ℕ) → whole pickWidth mostTokens (length picks) ≡ true → whole pickWidth mostTokens (length picks′) ≡ true → Quiescent (runOf graph arrays inputs picks)
+      → printedRun graph arrays inputs picks ≡ printedRun graph arrays inputs picks′
   unfolding printedRun
   same-texts picks picks′ w w′ c =
       let rests : Quiescent (ended picks) = subst Quiescent (sym (same-run picks)) c in
-      let agreed = demand3 graph inputs graphBytes inputBytes (lent picks) (lent picks′) (allowed picks w) (allowed picks′ w′) refl refl (leftBy (ended picks)) (leftBy (ended picks′)) (ran picks) (ran picks′) in
+      let agreed = demand3 graph arrays inputs graphBytes inputBytes (lent picks) (lent picks′) (allowed picks w) (allowed picks′ w′) refl refl (leftBy (ended picks)) (leftBy (ended picks′)) (ran picks) (ran picks′) in
       let alike = agreed .alike (same-end (ended picks) .rests .0 rests) in
       ap textLeft (sym (same-run picks)) ∙ same-left (ended picks) (ended picks′) alike ∙ ap textLeft (same-run picks′)
 
 pub orders-print-alike : OrdersPrintAlike
-orders-print-alike graph inputs picks picks′ bg bi w w′ c r r′ out out′ left left′ p q size =
-    let t = printedRun graph inputs picks in
-    let t′ = printedRun graph inputs picks′ in
-    let texts = same-texts graph inputs bg bi picks picks′ w w′ c in
+orders-print-alike graph arrays inputs picks picks′ bg bi w w′ c r r′ out out′ left left′ p q size =
+    let t = printedRun graph arrays inputs picks in
+    let t′ = printedRun graph arrays inputs picks′ in
+    let texts = same-texts graph arrays inputs bg bi picks picks′ w w′ c in
     let answers : r ≡ r′ = p .answered ∙ same-answer t out out′ size ∙ ap (λ (z : List ℕ). printedOf z out′) texts ∙ sym (q .answered) in
     record {
       texts = texts;

@@ -1,4 +1,4 @@
--- 01, "The printed listing": what the printing program prints, for all bytes of `graph`, `inputs` and `picks`. Assumes nothing.
+-- 01, "The printed listing": what the printing program prints, for all bytes of `graph`, `arrays`, `inputs` and `picks`. Assumes nothing.
 use Prim.Native.Nat.{ℕ, _*_, _≤_}
 use mathlib.Core.Path.{_≡_}
 use mathlib.Core.List.{List}
@@ -20,8 +20,8 @@ ledgerBytes = mostTokens * tokenWidth
 abbrev pub cellBytes : ℕ
 cellBytes = mostCells * cellWidth
 
-unfoldable pub runOf : (graph inputs picks : List ℕ) → Result
-runOf graph inputs picks = result graph inputs picks 2048 ledgerBytes cellBytes
+unfoldable pub runOf : (graph arrays inputs picks : List ℕ) → Result
+runOf graph arrays inputs picks = result graph arrays inputs picks 2048 ledgerBytes cellBytes
 
 -- the answer, the listing, which "is lent the used records only", and the cells
 abbrev pub textOf : Answer → (ledger cells : List ℕ) → List ℕ
@@ -31,17 +31,17 @@ textOf a ledger cells = printed a (listing (take (a .tokens * tokenWidth) ledger
 abbrev pub textLeft : Result → List ℕ
 textLeft x = textOf (answer x) (ledgerAfter x (replicate ledgerBytes 0)) (cellsAfter x (replicate cellBytes 0))
 
-unfoldable pub printedRun : (graph inputs picks : List ℕ) → List ℕ
-printedRun graph inputs picks = textLeft (runOf graph inputs picks)
+unfoldable pub printedRun : (graph arrays inputs picks : List ℕ) → List ℕ
+printedRun graph arrays inputs picks = textLeft (runOf graph arrays inputs picks)
 
 -- what `print_run` promises: how many bytes it wrote, and the end contents of its output
-pub record PrintedRun (graph inputs picks : List ℕ) (r : Printed) (out out′ : List ℕ) : Type 0 where
-  pub answered : r ≡ printedOf (printedRun graph inputs picks) out
-  pub outLeft : out′ ≡ outAfter (printedRun graph inputs picks) out
+pub record PrintedRun (graph arrays inputs picks : List ℕ) (r : Printed) (out out′ : List ℕ) : Type 0 where
+  pub answered : r ≡ printedOf (printedRun graph arrays inputs picks) out
+  pub outLeft : out′ ≡ outAfter (printedRun graph arrays inputs picks) out
 
 -- an output of so many bytes has room for every text; it is proved in proofs/Room
 abbrev pub mostBytes : ℕ
 mostBytes = 200778
 
 abbrev pub EveryTextFits : Type 0
-EveryTextFits = (graph inputs picks : List ℕ) → Bytes graph → Bytes inputs → length (printedRun graph inputs picks) ≤ mostBytes
+EveryTextFits = (graph arrays inputs picks : List ℕ) → Bytes graph → Bytes inputs → length (printedRun graph arrays inputs picks) ≤ mostBytes

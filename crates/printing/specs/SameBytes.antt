@@ -22,7 +22,7 @@ pub record SameBytes (text text′ : List ℕ) (r r′ : Printed) (left left′ 
 
 -- one graph, one list of inputs, any two lists of picks of allowed length: if one order completes or hangs, both print the same, in outputs of one length
 abbrev pub OrdersPrintAlike : Type 0
-OrdersPrintAlike = (graph inputs picks picks′ : List ℕ) → Bytes graph → Bytes inputs
-    → whole pickWidth mostTokens (length picks) ≡ true → whole pickWidth mostTokens (length picks′) ≡ true → Quiescent (runOf graph inputs picks)
-    → (r r′ : Printed) (out out′ left left′ : List ℕ) → PrintedRun graph inputs picks r out left → PrintedRun graph inputs picks′ r′ out′ left′ → length out ≡ length out′
-    → SameBytes (printedRun graph inputs picks) (printedRun graph inputs picks′) r r′ left left′
+OrdersPrintAlike = (graph arrays inputs picks picks′ : List ℕ) → Bytes graph → Bytes inputs
+    → whole pickWidth mostTokens (length picks) ≡ true → whole pickWidth mostTokens (length picks′) ≡ true → Quiescent (runOf graph arrays inputs picks)
+    → (r r′ : Printed) (out out′ left left′ : List ℕ) → PrintedRun graph arrays inputs picks r out left → PrintedRun graph arrays inputs picks′ r′ out′ left′ → length out ≡ length out′
+    → SameBytes (printedRun graph arrays inputs picks) (printedRun graph arrays inputs picks′) r r′ left left′

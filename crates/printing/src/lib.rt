@@ -34,14 +34,28 @@ fn print_left(
     text::print(answer, &sorted[0..used], cells, out)
 }
 
-// Prints the run of a graph, inputs and picks to the start of `out`: the answer, the sorted tokens and the cells that are
-// not absent. `out` stays untouched unless the whole text fits.
-pub fn print_run(graph: &[u8], inputs: &[u8], picks: &[u8], out: &mut [u8]) -> Printed
-    ensures { λ r. ⌜ PrintedRun (now (graph .entry)) (now (inputs .entry)) (now (picks .entry)) r (now (out .entry)) (now (out .exit)) ⌝ }
+// Prints the run of a graph, a table of named arrays, inputs and picks to the start of `out`: the answer, the sorted tokens and
+// the cells that are not absent. `out` stays untouched unless the whole text fits.
+pub fn print_run(
+    graph: &[u8],
+    arrays: &[u8],
+    inputs: &[u8],
+    picks: &[u8],
+    out: &mut [u8],
+) -> Printed
+    ensures { λ r. ⌜ PrintedRun (now (graph .entry)) (now (arrays .entry)) (now (inputs .entry)) (now (picks .entry)) r (now (out .entry)) (now (out .exit)) ⌝ }
 {
     let mut ledger = [0u8; RECORDS * token::WIDTH];
     let mut cells = [0u8; CELLS * cell::WIDTH];
     let mut sorted = [0u8; RECORDS * token::WIDTH];
-    let answer = engine::run(graph, inputs, picks, BUDGET, &mut ledger, &mut cells);
+    let answer = engine::run(
+        graph,
+        arrays,
+        inputs,
+        picks,
+        BUDGET,
+        &mut ledger,
+        &mut cells,
+    );
     print_left(answer, &ledger, &cells, &mut sorted, out)
 }

@@ -80,14 +80,14 @@ cell-count (ranTo e) (ranTo f) n h k q c = ap length q ∙ c
 
 -- ---- a profile and a run
 
-module _ (graph inputs : List ℕ) (graphBytes : Bytes graph) (inputBytes : Bytes inputs) (l : LentToProfile) (m : LentToRun) (allowed : Allowed (m .picks) (length (m .ledger)) (length (m .cells)))
+module _ (graph arrays inputs : List ℕ) (graphBytes : Bytes graph) (inputBytes : Bytes inputs) (l : LentToProfile) (m : LentToRun) (allowed : Allowed (m .picks) (length (m .ledger)) (length (m .cells)))
     (capacities : capacityOf (length (l .ledger)) ≡ capacityOf (length (m .ledger))) (counts : length (l .cells) / cellWidth ≡ length (m .cells) / cellWidth)
-    (x : LeftByProfile) (y : LeftByRun) (profiledX : ProfiledOn graph inputs l x) (ranY : RanOn graph inputs 2048 m y) (unrefused : ¬ (Refused (x .answer .answer .outcome))) where
+    (x : LeftByProfile) (y : LeftByRun) (profiledX : ProfiledOn graph arrays inputs l x) (ranY : RanOn graph arrays inputs 2048 m y) (unrefused : ¬ (Refused (x .answer .answer .outcome))) where
   abbrev p : ProfileResult
-  p = profiled graph inputs (length (l .ledger)) (length (l .cells)) (length (l .profile))
+  p = profiled graph arrays inputs (length (l .ledger)) (length (l .cells)) (length (l .profile))
 
   abbrev r : Result
-  r = result graph inputs (m .picks) 2048 (length (m .ledger)) (length (m .cells))
+  r = result graph arrays inputs (m .picks) 2048 (length (m .ledger)) (length (m .cells))
 
   ranX : Ran (p .result) (x .answer .answer) (l .ledger) (x .ledger) (l .cells) (x .cells)
   unfolding profileAnswer
@@ -98,7 +98,7 @@ module _ (graph inputs : List ℕ) (graphBytes : Bytes graph) (inputBytes : Byte
 
   ends : EndsAs p r
   ends =
-      as-every-order graph inputs (m .picks) (length (l .ledger)) (length (m .ledger)) (length (l .cells)) (length (m .cells)) (length (l .profile))
+      as-every-order graph arrays inputs (m .picks) (length (l .ledger)) (length (m .ledger)) (length (l .cells)) (length (m .cells)) (length (l .profile))
       (λ h. unrefused (subst Refused (sym outcome-is) (same-end (p .result) .refuses .0 h))) allowed capacities counts
 
   rests-y : Rules.Quiescent r
@@ -106,10 +106,10 @@ module _ (graph inputs : List ℕ) (graphBytes : Bytes graph) (inputBytes : Byte
 
   alike : Alike (asRun x) y
   alike =
-      let fits = result-fits graph inputs (m .picks) 2048 (length (m .ledger)) (length (m .cells)) graphBytes inputBytes in
-      let small = answer-small graph inputs (m .picks) 2048 (length (m .ledger)) (length (m .cells)) in
-      let passed = passes graph inputs (length (l .ledger)) (length (l .cells)) (length (l .profile)) (λ h. unrefused (subst Refused (sym outcome-is) (same-end (p .result) .refuses .0 h))) in
-      let w = wholes graph inputs (length (l .ledger)) (length (l .cells)) (length (l .profile)) passed .0 in
+      let fits = result-fits graph arrays inputs (m .picks) 2048 (length (m .ledger)) (length (m .cells)) graphBytes inputBytes in
+      let small = answer-small graph arrays inputs (m .picks) 2048 (length (m .ledger)) (length (m .cells)) in
+      let passed = passes graph arrays inputs (length (l .ledger)) (length (l .cells)) (length (l .profile)) (λ h. unrefused (subst Refused (sym outcome-is) (same-end (p .result) .refuses .0 h))) in
+      let w = wholes graph arrays inputs (length (l .ledger)) (length (l .cells)) (length (l .profile)) passed .0 in
       let count : CellCount (p .result) (length (l .cells) / cellWidth) = cell-count (p .result) r (length (l .cells) / cellWidth) (ends .rests) rests-y (ends .alike .cells) (subst (CellCount r) (sym counts) (fits .cellCount)) in
       bytes-alike (p .result) r ranX ranY (ends .rests) rests-y (outcome-is ∙ ends .outcome ∙ sym (ap (λ a. a .outcome) (ranY .answered))) (ends .alike)
       (all-perm TokenFits (Permᴰ·symm (ends .alike .sameTokens)) (fits .tokens))
@@ -121,7 +121,7 @@ module _ (graph inputs : List ℕ) (graphBytes : Bytes graph) (inputBytes : Byte
   told : firingsOf x ≡ eachOf (p .records)
   unfolding profileAnswer profileAfter
   told =
-      let small = answer-small graph inputs (m .picks) 2048 (length (m .ledger)) (length (m .cells)) in
+      let small = answer-small graph arrays inputs (m .picks) 2048 (length (m .ledger)) (length (m .cells)) in
       let few : firingsIn (p .records) < 65536 = omega (arith, ends .firings, ends .alike .firings, small .byTokens, small .tokens) in
       (λ i. rows stepWidth (λ b. number16 b 0) (profiledX .answered i .records) (profiledX .profileLeft i)) ∙ firings-read (p .records) _ few
 
@@ -134,4 +134,4 @@ module _ (graph inputs : List ℕ) (graphBytes : Bytes graph) (inputBytes : Byte
   }
 
 pub profile-ends-as-run : ProfileEndsAsRun
-profile-ends-as-run graph inputs bg bi l m a c d x y px ry n = ends-as-run graph inputs bg bi l m a c d x y px ry n
+profile-ends-as-run graph arrays inputs bg bi l m a c d x y px ry n = ends-as-run graph arrays inputs bg bi l m a c d x y px ry n

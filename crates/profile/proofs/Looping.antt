@@ -31,6 +31,7 @@ use Rattle.rules.proofs.Lawful.{lawful}
 use Rattle.store.proofs.Laws.{matching-few}
 use Rattle.fire_outputs.specs.Outputs.{cellsIn}
 use Rattle.fire_outputs.proofs.Laws.{rest-on}
+use Rattle.abstraction.specs.Tables.{arraysIn}
 use Rattle.fire.specs.Running.{machineFor, stateIn, Running, Prepared}
 use Rattle.fire.proofs.Place.{on-ports}
 use Rattle.start.specs.Ended.{EndedAt}
@@ -53,7 +54,7 @@ module _ (g : List Instruction) (ledger₀ cells₀ : List ℕ) (start : ℕ) {t
       let x = stateIn ledger′ cells′ n in
       record {
         log = so .log ++ w .log;
-        fires = joined (machineFor g ledger₀ cells₀) (so .log) (w .log) (stateIn ledger₀ cells₀ start) s x (so .fires) (as-first (λ p q. Fires (machineOf g p q) s (w .log) x) (w .fires));
+        fires = joined (machineFor g tables ledger₀ cells₀) (so .log) (w .log) (stateIn ledger₀ cells₀ start) s x (so .fires) (as-first (λ p q. Fires (machineOf g (arraysIn tables) p q) s (w .log) x) (w .fires));
         counted = omega (arith, length-append (so .log) (w .log), so .counted, w .counted);
         running = w .running;
         grown = omega (arith, so .grown, w .grown);
@@ -65,9 +66,9 @@ module _ (g : List Instruction) (ledger₀ cells₀ : List ℕ) (start : ℕ) {t
 -- "Firings never exceed tokens"
 pub firings-few : (graph : List ℕ) {tables links₀ flags₀ links flags ledger₀ cells₀ ledger cells : List ℕ} {start firings used : ℕ} → Prepared graph tables
     → Running (graphOf graph) tables links₀ flags₀ ledger₀ cells₀ start → Went (graphOf graph) tables links flags ledger cells firings used start ledger₀ cells₀ → firings ≤ 2048
-firings-few graph {ledger₀ = ledger₀} {cells₀ = cells₀} {ledger = ledger} {cells = cells} {start = start} {used = used} ready now₀ w =
-    let M = machineFor (graphOf graph) ledger₀ cells₀ in
-    let z = noLonger M (lawful graph (ready .passed) (length ledger₀ / tokenWidth) (length cells₀ / cellWidth)) (stateIn ledger₀ cells₀ start) (now₀ .good) (w .log) (stateIn ledger cells used) (w .fires) .0 in
+firings-few graph {tables = tables} {ledger₀ = ledger₀} {cells₀ = cells₀} {ledger = ledger} {cells = cells} {start = start} {used = used} ready now₀ w =
+    let M = machineFor (graphOf graph) tables ledger₀ cells₀ in
+    let z = noLonger M (lawful graph (ready .passed) (arraysIn tables) (length ledger₀ / tokenWidth) (length cells₀ / cellWidth)) (stateIn ledger₀ cells₀ start) (now₀ .good) (w .log) (stateIn ledger cells used) (w .fires) .0 in
     omega (arith, z, w .counted, held-size used ledger, matching-few (w .running .matching))
 
 -- ---- records after records
@@ -85,10 +86,10 @@ pub record SoFar (g : List Instruction) (ledger₀ cells₀ profile₀ : List �
   pub counted : length rs ≡ records
   pub within : records ≤ room
   pub written : profile′ ≡ Rows.joined encode rs ++ drop (records * stepWidth) profile₀
-  pub unspentLeft : unspent ≡ unspentAt g ledger cells used
+  pub unspentLeft : unspent ≡ unspentAt g tables ledger cells used
   pub went : Went g tables links flags ledger cells firings used start ledger₀ cells₀
   -- the profile that is left to do
-  pub toDo : profileFrom g room 0 ledger₀ cells₀ start ≡ after rs (profile (machineFor g ledger₀ cells₀) ProfileFull (room - records) firings (stateIn ledger cells used))
+  pub toDo : profileFrom g room 0 tables ledger₀ cells₀ start ≡ after rs (profile (machineFor g tables ledger₀ cells₀) ProfileFull (room - records) firings (stateIn ledger cells used))
 
 module _ (graph : List ℕ) {tables links₀ flags₀ ledger₀ cells₀ : List ℕ} (profile₀ : List ℕ) {start : ℕ} (room : ℕ) (ready : Prepared graph tables)
     (now₀ : Running (graphOf graph) tables links₀ flags₀ ledger₀ cells₀ start) where
@@ -96,9 +97,9 @@ module _ (graph : List ℕ) {tables links₀ flags₀ ledger₀ cells₀ : List 
   g = graphOf graph
 
   abbrev M₀ : Machine
-  M₀ = machineFor g ledger₀ cells₀
+  M₀ = machineFor g tables ledger₀ cells₀
 
-  pub begun : start ≡ unspentAt g ledger₀ cells₀ start → SoFar g ledger₀ cells₀ profile₀ start room tables links₀ flags₀ ledger₀ cells₀ profile₀ start start 0 0
+  pub begun : start ≡ unspentAt g tables ledger₀ cells₀ start → SoFar g ledger₀ cells₀ profile₀ start room tables links₀ flags₀ ledger₀ cells₀ profile₀ start start 0 0
   begun e = record {
     rs = [];
     counted = refl;
@@ -106,11 +107,11 @@ module _ (graph : List ℕ) {tables links₀ flags₀ ledger₀ cells₀ : List 
     written = refl;
     unspentLeft = e;
     went = record { log = []; fires = refl; counted = refl; running = now₀; grown = omega arith; size = refl; rest = refl; cellSize = refl };
-    toDo = let b : room ≡ room - 0 = omega arith in ap (λ (n : ℕ). profileFrom g n 0 ledger₀ cells₀ start) b;
+    toDo = let b : room ≡ room - 0 = omega arith in ap (λ (n : ℕ). profileFrom g n 0 tables ledger₀ cells₀ start) b;
   }
 
   module _ {links flags ledger cells profile′ : List ℕ} {used unspent firings records : ℕ} (so : SoFar g ledger₀ cells₀ profile₀ start room tables links flags ledger cells profile′ used unspent firings records) where
-    to-do : (b : ℕ) → room - records ≡ b → profileFrom g room 0 ledger₀ cells₀ start ≡ after (so .rs) (profile M₀ ProfileFull b firings (stateIn ledger cells used))
+    to-do : (b : ℕ) → room - records ≡ b → profileFrom g room 0 tables ledger₀ cells₀ start ≡ after (so .rs) (profile M₀ ProfileFull b firings (stateIn ledger cells used))
     to-do b e = so .toDo ∙ ap (λ (n : ℕ). after (so .rs) (profile M₀ ProfileFull n firings (stateIn ledger cells used))) e
 
     pub same-profile : room * stepWidth ≤ length profile₀ → length profile′ ≡ length profile₀
@@ -130,7 +131,7 @@ module _ (graph : List ℕ) {tables links₀ flags₀ ledger₀ cells₀ : List 
         let more : records * stepWidth + stepWidth ≡ suc records * stepWidth = omega arith in
         let step : profile M₀ ProfileFull (suc b) firings s ≡ afterStep M₀ r (profile M₀ ProfileFull b (firings + count) x) =
         as-first g ledger₀ cells₀ start (so .went)
-        (λ p q. profile (machineOf g p q) ProfileFull (suc b) firings s ≡ afterStep (machineOf g p q) r (profile (machineOf g p q) ProfileFull b (firings + count) x)) (w .goesOn b firings) in
+        (λ p q. profile (machineOf g (arraysIn tables) p q) ProfileFull (suc b) firings s ≡ afterStep (machineOf g (arraysIn tables) p q) r (profile (machineOf g (arraysIn tables) p q) ProfileFull b (firings + count) x)) (w .goesOn b firings) in
         rw (add-one records) (record {
           rs = so .rs ++ (r ∷ []);
           counted = omega (arith, length-append (so .rs) (r ∷ []), so .counted);
@@ -151,8 +152,8 @@ module _ (graph : List ℕ) {tables links₀ flags₀ ledger₀ cells₀ : List 
 
     ends-at : (o : Outcome Refusal) (w : AnswerOutcome.Outcome) {links′ flags′ ledger′ cells′ : List ℕ} {f n : ℕ} → outcomeOf o ≡ w
         → Went g tables links′ flags′ ledger′ cells′ f n start ledger₀ cells₀
-        → profileFrom g room 0 ledger₀ cells₀ start ≡ after (so .rs) (endsHere M₀ (end M₀ o f (stateIn ledger′ cells′ n)))
-        → ProfiledTo (profileFrom g room 0 ledger₀ cells₀ start) (record { answer = record { outcome = w; firings = f; tokens = n }; records = records }) ledger₀ cells₀ profile₀ ledger′ cells′ profile′
+        → profileFrom g room 0 tables ledger₀ cells₀ start ≡ after (so .rs) (endsHere M₀ (end M₀ o f (stateIn ledger′ cells′ n)))
+        → ProfiledTo (profileFrom g room 0 tables ledger₀ cells₀ start) (record { answer = record { outcome = w; firings = f; tokens = n }; records = records }) ledger₀ cells₀ profile₀ ledger′ cells′ profile′
     ends-at o w {ledger′ = ledger′} {cells′ = cells′} {f = f} {n = n} told went e =
         subst (λ (p : Profile Refusal Tag ℤ). ProfiledTo p (record { answer = record { outcome = w; firings = f; tokens = n }; records = records }) ledger₀ cells₀ profile₀ ledger′ cells′ profile′) (sym e)
         (record {
@@ -167,19 +168,19 @@ module _ (graph : List ℕ) {tables links₀ flags₀ ledger₀ cells₀ : List 
 
     -- a step that ended the profile
     pub halted : records < room → {o : AnswerOutcome.Outcome} {links′ flags′ ledger′ cells′ : List ℕ} {done n : ℕ} → Halted o g tables links′ flags′ ledger′ cells′ done n used ledger cells
-        → ProfiledTo (profileFrom g room 0 ledger₀ cells₀ start) (record { answer = record { outcome = o; firings = firings + done; tokens = n }; records = records }) ledger₀ cells₀ profile₀ ledger′ cells′ profile′
+        → ProfiledTo (profileFrom g room 0 tables ledger₀ cells₀ start) (record { answer = record { outcome = o; firings = firings + done; tokens = n }; records = records }) ledger₀ cells₀ profile₀ ledger′ cells′ profile′
     halted h {o} {ledger′ = ledger′} {cells′ = cells′} {done = done} {n = n} w =
         let s = stateIn ledger cells used in
         let b = room - suc records in
         let step : profile M₀ ProfileFull (suc b) firings s ≡ endsHere M₀ (end M₀ (w .outcome) (firings + done) (stateIn ledger′ cells′ n)) =
         as-first g ledger₀ cells₀ start (so .went)
-        (λ p q. profile (machineOf g p q) ProfileFull (suc b) firings s ≡ endsHere (machineOf g p q) (end (machineOf g p q) (w .outcome) (firings + done) (stateIn ledger′ cells′ n))) (w .ends b firings) in
+        (λ p q. profile (machineOf g (arraysIn tables) p q) ProfileFull (suc b) firings s ≡ endsHere (machineOf g (arraysIn tables) p q) (end (machineOf g (arraysIn tables) p q) (w .outcome) (firings + done) (stateIn ledger′ cells′ n))) (w .ends b firings) in
         ends-at (w .outcome) o (w .told) (went-joined g ledger₀ cells₀ start (so .went) (w .went)) (to-do (suc b) (omega arith) ∙ ap (after (so .rs)) step)
 
     -- no record is left
     pub finished : room ≤ records → (o : AnswerOutcome.Outcome) → LastAs o tables (tokens used ledger)
-        → ProfiledTo (profileFrom g room 0 ledger₀ cells₀ start) (record { answer = record { outcome = o; firings = firings; tokens = used }; records = records }) ledger₀ cells₀ profile₀ ledger cells profile′
+        → ProfiledTo (profileFrom g room 0 tables ledger₀ cells₀ start) (record { answer = record { outcome = o; firings = firings; tokens = used }; records = records }) ledger₀ cells₀ profile₀ ledger cells profile′
     finished h o said =
-        let (w, told, e) = said g (ready .aritiesRight) (on-ports g (tokens used ledger) (so .went .running .arrived)) (length ledger₀ / tokenWidth) (length cells₀ / cellWidth)
-        (lawful graph (ready .passed) (length ledger₀ / tokenWidth) (length cells₀ / cellWidth)) (cellsIn cells) firings in
+        let (w, told, e) = said g (ready .aritiesRight) (on-ports g (tokens used ledger) (so .went .running .arrived)) (arraysIn tables) (length ledger₀ / tokenWidth) (length cells₀ / cellWidth)
+        (lawful graph (ready .passed) (arraysIn tables) (length ledger₀ / tokenWidth) (length cells₀ / cellWidth)) (cellsIn cells) firings in
         ends-at w o told (so .went) (to-do 0 (omega arith) ∙ ap (after (so .rs)) e)

@@ -11,6 +11,7 @@ use lib.ListN.{length, getD, take, drop, length-map, drop-of-length-le}
 use lib.Seq.{drop-cons, take-suc, split-at, length-take-le}
 use lib.IntN.{ℤ}
 use Rattle.record.specs.declared.tag.Tag.{Tag}
+use Rattle.record.specs.declared.array.NamedArray.{NamedArray}
 use Rattle.record.specs.declared.token.Token as Record
 use Rattle.record.specs.declared.cell.Cell.{Cell}
 use Rattle.record.specs.declared.instruction.Instruction.{Instruction}
@@ -36,7 +37,7 @@ use Rattle.store_flags.specs.Flags.{places, flagsOf}
 use Rattle.store.proofs.Laws.{matching-places, matching-enabled-below, matching-leads, matching-few}
 use Rattle.store_enabled.specs.Enabled.{arityOf, leads, enabledPlaces}
 use Rattle.abstraction.specs.States.{noToken, stateHeld, OnPorts}
-use Rattle.abstraction.specs.Tables.{Arities}
+use Rattle.abstraction.specs.Tables.{Arities, arraysIn}
 use Rattle.abstraction.proofs.Enabled.{held-enabled}
 use Rattle.ending.specs.Endings.{EndsAs}
 use Rattle.fire_outputs.specs.Outputs.{cellsIn}
@@ -82,15 +83,15 @@ held-size used ledger = length-map (tokens used ledger) tokenHeld ∙ length-row
 
 -- ---- what is enabled
 
-module _ (g : List Instruction) (capacity count : ℕ) (tables : List ℕ) (ts : List Record.Token) (cs : List Cell) (right : Arities g tables) (ports : OnPorts g ts) where
+module _ (g : List Instruction) (table : List NamedArray) (capacity count : ℕ) (tables : List ℕ) (ts : List Record.Token) (cs : List Cell) (right : Arities g tables) (ports : OnPorts g ts) where
   abbrev M : Machine
-  M = machineOf g capacity count
+  M = machineOf g table capacity count
 
   abbrev activity : ℕ → Activity Tag
   activity p = record { place = p; tag = getD ts p noToken .tag }
 
   enabled-here : enabled M (stateHeld ts cs) ≡ map activity (enabledPlaces tables ts)
-  enabled-here = held-enabled g capacity count tables ts cs noToken right ports
+  enabled-here = held-enabled g table capacity count tables ts cs noToken right ports
 
   none-enabled : length (enabledPlaces tables ts) ≡ 0 → enabled M (stateHeld ts cs) ≡ []
   none-enabled e = enabled-here ∙ go (enabledPlaces tables ts) e
@@ -109,25 +110,25 @@ module _ (g : List Instruction) (capacity count : ℕ) (tables : List ℕ) (ts :
 -- ---- no record left
 
 pub last-ended : (tables : List ℕ) (ts : List Record.Token) → length (enabledPlaces tables ts) ≡ 0 → (o : AnswerOutcome.Outcome) → EndsAs o tables ts → LastAs o tables ts
-last-ended tables ts z o e g right ports capacity count law cs f =
-    let M₁ = machineOf g capacity count in
-    (ending M₁ (stateHeld ts cs), sym (e g right capacity count cs), profileRests M₁ law ProfileFull 0 f (stateHeld ts cs) (none-enabled g capacity count tables ts cs right ports z))
+last-ended tables ts z o e g right ports table capacity count law cs f =
+    let M₁ = machineOf g table capacity count in
+    (ending M₁ (stateHeld ts cs), sym (e g right table capacity count cs), profileRests M₁ law ProfileFull 0 f (stateHeld ts cs) (none-enabled g table capacity count tables ts cs right ports z))
 
 pub last-full : (tables : List ℕ) (ts : List Record.Token) → (length (enabledPlaces tables ts) ≡ 0 → ⊥) → LastAs (Outcomes.Refused ProfileFull 0) tables ts
-last-full tables ts n g right ports capacity count law cs f = (refused ProfileFull 0, refl, full-here g capacity count tables ts cs right ports law f n)
+last-full tables ts n g right ports table capacity count law cs f = (refused ProfileFull 0, refl, full-here g table capacity count tables ts cs right ports law f n)
 
 -- ---- a step
 
 -- after k firings of a step
 pub record InStep (g : List Instruction) (ledger₀ cells₀ : List ℕ) (start : ℕ) (tables links flags ledger cells : List ℕ) (used unspent k : ℕ) : Type 0 where
   -- those before fired
-  pub fires : Fires (machineFor g ledger₀ cells₀) (stateIn ledger₀ cells₀ start) (tagsOf (machineFor g ledger₀ cells₀) (take k (enabled (machineFor g ledger₀ cells₀) (stateIn ledger₀ cells₀ start)))) (stateIn ledger cells used)
+  pub fires : Fires (machineFor g tables ledger₀ cells₀) (stateIn ledger₀ cells₀ start) (tagsOf (machineFor g tables ledger₀ cells₀) (take k (enabled (machineFor g tables ledger₀ cells₀) (stateIn ledger₀ cells₀ start)))) (stateIn ledger cells used)
   -- the others are left to do
   pub toDo : (f : ℕ) (next : ℕ → State Tag ℤ → Profile Refusal Tag ℤ)
-      → inTurn (machineFor g ledger₀ cells₀) (enabled (machineFor g ledger₀ cells₀) (stateIn ledger₀ cells₀ start)) f (stateIn ledger₀ cells₀ start) next
-      ≡ inTurn (machineFor g ledger₀ cells₀) (drop k (enabled (machineFor g ledger₀ cells₀) (stateIn ledger₀ cells₀ start))) (f + k) (stateIn ledger cells used) next
-  pub within : k ≤ length (enabled (machineFor g ledger₀ cells₀) (stateIn ledger₀ cells₀ start))
-  pub unspentLeft : unspent ≡ unspentAt g ledger cells used
+      → inTurn (machineFor g tables ledger₀ cells₀) (enabled (machineFor g tables ledger₀ cells₀) (stateIn ledger₀ cells₀ start)) f (stateIn ledger₀ cells₀ start) next
+      ≡ inTurn (machineFor g tables ledger₀ cells₀) (drop k (enabled (machineFor g tables ledger₀ cells₀) (stateIn ledger₀ cells₀ start))) (f + k) (stateIn ledger cells used) next
+  pub within : k ≤ length (enabled (machineFor g tables ledger₀ cells₀) (stateIn ledger₀ cells₀ start))
+  pub unspentLeft : unspent ≡ unspentAt g tables ledger cells used
   pub running : Running g tables links flags ledger cells used
   pub grown : start ≤ used
   pub size : length ledger ≡ length ledger₀
@@ -140,7 +141,7 @@ module _ (graph : List ℕ) {tables links₀ flags₀ ledger₀ cells₀ : List 
   g = graphOf graph
 
   abbrev M₀ : Machine
-  M₀ = machineFor g ledger₀ cells₀
+  M₀ = machineFor g tables ledger₀ cells₀
 
   abbrev s₀ : State Tag ℤ
   s₀ = stateIn ledger₀ cells₀ start
@@ -152,10 +153,10 @@ module _ (graph : List ℕ) {tables links₀ flags₀ ledger₀ cells₀ : List 
   started p = record { place = p; tag = getD (tokens start ledger₀) p noToken .tag }
 
   law : Lawful M₀
-  law = lawful graph (ready .passed) (length ledger₀ / tokenWidth) (length cells₀ / cellWidth)
+  law = lawful graph (ready .passed) (arraysIn tables) (length ledger₀ / tokenWidth) (length cells₀ / cellWidth)
 
   acts-here : acts ≡ map started (enabledPlaces tables (tokens start ledger₀))
-  acts-here = enabled-here g (length ledger₀ / tokenWidth) (length cells₀ / cellWidth) tables (tokens start ledger₀) (cellsIn cells₀) (ready .aritiesRight) (on-ports g (tokens start ledger₀) (now₀ .arrived))
+  acts-here = enabled-here g (arraysIn tables) (length ledger₀ / tokenWidth) (length cells₀ / cellWidth) tables (tokens start ledger₀) (cellsIn cells₀) (ready .aritiesRight) (on-ports g (tokens start ledger₀) (now₀ .arrived))
 
   acts-count : length acts ≡ length (enabledPlaces tables (tokens start ledger₀))
   acts-count = ap length acts-here ∙ length-map (enabledPlaces tables (tokens start ledger₀)) started
@@ -163,7 +164,7 @@ module _ (graph : List ℕ) {tables links₀ flags₀ ledger₀ cells₀ : List 
   acts-all : (count : ℕ) → count ≡ length (places (flagsOf flags₀)) → count ≡ length acts
   acts-all count e = e ∙ ap length (matching-places (now₀ .matching)) ∙ sym acts-count
 
-  pub in-step : (unspent : ℕ) → unspent ≡ unspentAt g ledger₀ cells₀ start → InStep g ledger₀ cells₀ start tables links₀ flags₀ ledger₀ cells₀ start unspent 0
+  pub in-step : (unspent : ℕ) → unspent ≡ unspentAt g tables ledger₀ cells₀ start → InStep g ledger₀ cells₀ start tables links₀ flags₀ ledger₀ cells₀ start unspent 0
   in-step unspent e = record {
     fires = refl;
     toDo = λ f next. let z : f ≡ f + 0 = omega arith in ap (λ (n : ℕ). inTurn M₀ acts n s₀ next) z;
@@ -182,11 +183,11 @@ module _ (graph : List ℕ) {tables links₀ flags₀ ledger₀ cells₀ : List 
   step-none count e z o said = record {
     went = record { log = []; fires = refl; counted = refl; running = now₀; grown = omega arith; size = refl; rest = refl; cellSize = refl };
     outcome = ending M₀ s₀;
-    told = sym (said g (ready .aritiesRight) (length ledger₀ / tokenWidth) (length cells₀ / cellWidth) (cellsIn cells₀));
+    told = sym (said g (ready .aritiesRight) (arraysIn tables) (length ledger₀ / tokenWidth) (length cells₀ / cellWidth) (cellsIn cells₀));
     ends = λ left f.
         let same : f ≡ f + 0 = omega arith in
         profileRests M₀ law ProfileFull (suc left) f s₀
-        (none-enabled g (length ledger₀ / tokenWidth) (length cells₀ / cellWidth) tables (tokens start ledger₀) (cellsIn cells₀) (ready .aritiesRight) (on-ports g (tokens start ledger₀) (now₀ .arrived))
+        (none-enabled g (arraysIn tables) (length ledger₀ / tokenWidth) (length cells₀ / cellWidth) tables (tokens start ledger₀) (cellsIn cells₀) (ready .aritiesRight) (on-ports g (tokens start ledger₀) (now₀ .arrived))
         (sym (e ∙ ap length (matching-places (now₀ .matching))) ∙ z))
         ∙ ap (λ (n : ℕ). endsHere M₀ (end M₀ (ending M₀ s₀) n s₀)) same;
   }
@@ -210,7 +211,7 @@ module _ (graph : List ℕ) {tables links₀ flags₀ ledger₀ cells₀ : List 
     as-first P h = subst (λ (b : ℕ). P (length ledger₀ / tokenWidth) (b / cellWidth)) (so .cellSize) (subst (λ (b : ℕ). P (b / tokenWidth) (length cells / cellWidth)) (so .size) h)
 
     pub unspent-below : unspent ≤ used
-    unspent-below = omega (arith, so .unspentLeft, unspent-few (machineFor g ledger cells) (s .tokens), held-size used ledger)
+    unspent-below = omega (arith, so .unspentLeft, unspent-few (machineFor g tables ledger cells) (s .tokens), held-size used ledger)
 
     pub used-few : used ≤ 2048
     used-few = matching-few (so .running .matching)
@@ -234,7 +235,7 @@ module _ (graph : List ℕ) {tables links₀ flags₀ ledger₀ cells₀ : List 
         let all : k ≡ count = omega (arith, so .within) in
         let past : length acts ≤ k = omega arith in
         let none : drop k acts ≡ [] = drop-of-length-le acts past in
-        let same : unspentIn M₀ (s .tokens) ≡ unspent = as-first (λ p q. unspentIn (machineOf g p q) (s .tokens) ≡ unspent) (sym (so .unspentLeft)) in
+        let same : unspentIn M₀ (s .tokens) ≡ unspent = as-first (λ p q. unspentIn (machineOf g (arraysIn tables) p q) (s .tokens) ≡ unspent) (sym (so .unspentLeft)) in
         record {
           went = subst (λ (n : ℕ). Went g tables links flags ledger cells n used start ledger₀ cells₀) all (went-on (so .running) refl refl);
           unspentLeft = so .unspentLeft;
@@ -272,7 +273,7 @@ module _ (graph : List ℕ) {tables links₀ flags₀ ledger₀ cells₀ : List 
       found : (j : ℕ) × (j < length (enabledPlaces tables (tokens used ledger))) × (started place ≡ record { place = getD (enabledPlaces tables (tokens used ledger)) j 0; tag = getD (tokens used ledger) (getD (enabledPlaces tables (tokens used ledger)) j 0) noToken .tag })
       found =
           mem-at (λ (p : ℕ). record { place = p; tag = getD (tokens used ledger) p noToken .tag }) (enabledPlaces tables (tokens used ledger)) (started place)
-          (subst (List·Memᴰ (started place)) (enabled-here g (length ledger₀ / tokenWidth) (length cells₀ / cellWidth) tables (tokens used ledger) (cellsIn cells) (ready .aritiesRight) (on-ports g (tokens used ledger) (so .running .arrived))) still)
+          (subst (List·Memᴰ (started place)) (enabled-here g (arraysIn tables) (length ledger₀ / tokenWidth) (length cells₀ / cellWidth) tables (tokens used ledger) (cellsIn cells) (ready .aritiesRight) (on-ports g (tokens used ledger) (so .running .arrived))) still)
 
       pub place-enabled : (place < used) × (leads tables (tokens used ledger) place (tokenAt ledger place) ≡ true)
       place-enabled =
@@ -291,15 +292,15 @@ module _ (graph : List ℕ) {tables links₀ flags₀ ledger₀ cells₀ : List 
       module _ {links′ flags′ ledger′ cells′ : List ℕ} where
         module _ {n : ℕ} (w : Firing.Went g (tokenAt ledger place .tag) tables links′ flags′ ledger′ cells′ n used ledger cells) where
           fired-now : fire M₀ s (started place .tag) ≡ fired (stateIn ledger′ cells′ n)
-          fired-now = ap (fire M₀ s) (sym that-tag) ∙ as-first (λ p q. fire (machineOf g p q) s (tokenAt ledger place .tag) ≡ fired (stateIn ledger′ cells′ n)) (w .step)
+          fired-now = ap (fire M₀ s) (sym that-tag) ∙ as-first (λ p q. fire (machineOf g (arraysIn tables) p q) s (tokenAt ledger place .tag) ≡ fired (stateIn ledger′ cells′ n)) (w .step)
 
           -- less its operands, and more what it sent
-          pub unspent-now : (arity : ℕ) → arity ≡ arityOf tables (tokenAt ledger place .tag) → unspentAt g ledger′ cells′ n + arity ≡ unspent + (n - used)
+          pub unspent-now : (arity : ℕ) → arity ≡ arityOf tables (tokenAt ledger place .tag) → unspentAt g tables ledger′ cells′ n + arity ≡ unspent + (n - used)
           unspent-now arity e =
-              let u = unspentFired (machineFor g ledger cells) (lawful graph (ready .passed) (length ledger / tokenWidth) (length cells / cellWidth)) s (so .running .good) (tokenAt ledger place .tag) (stateIn ledger′ cells′ n) (w .step) .1 in
+              let u = unspentFired (machineFor g tables ledger cells) (lawful graph (ready .passed) (arraysIn tables) (length ledger / tokenWidth) (length cells / cellWidth)) s (so .running .good) (tokenAt ledger place .tag) (stateIn ledger′ cells′ n) (w .step) .1 in
               let a = ready .aritiesRight (tokenAt ledger place .tag) in
-              let same : unspentAt g ledger′ cells′ n ≡ unspentIn (machineFor g ledger cells) (stateIn ledger′ cells′ n .tokens) =
-              λ i. unspentIn (machineOf g (w .size i / tokenWidth) (w .cellSize i / cellWidth)) (stateIn ledger′ cells′ n .tokens) in
+              let same : unspentAt g tables ledger′ cells′ n ≡ unspentIn (machineFor g tables ledger cells) (stateIn ledger′ cells′ n .tokens) =
+              λ i. unspentIn (machineOf g (arraysIn tables) (w .size i / tokenWidth) (w .cellSize i / cellWidth)) (stateIn ledger′ cells′ n .tokens) in
               omega (arith, u, a, same, so .unspentLeft, held-size used ledger, held-size n ledger′)
 
           pub turn-done : (arity : ℕ) → arity ≡ arityOf tables (tokenAt ledger place .tag)
@@ -331,7 +332,7 @@ module _ (graph : List ℕ) {tables links₀ flags₀ ledger₀ cells₀ : List 
           told = refl;
           ends = λ left f.
               let next : ℕ → State Tag ℤ → Profile Refusal Tag ℤ = λ n x. afterStep M₀ (record { firings = length acts; unspent = unspentIn M₀ (x .tokens) }) (profile M₀ ProfileFull left n x) in
-              let stopped : fire M₀ s (started place .tag) ≡ notFired r = ap (fire M₀ s) (sym that-tag) ∙ as-first (λ p q. fire (machineOf g p q) s (tokenAt ledger place .tag) ≡ notFired r) (w .step) in
+              let stopped : fire M₀ s (started place .tag) ≡ notFired r = ap (fire M₀ s) (sym that-tag) ∙ as-first (λ p q. fire (machineOf g (arraysIn tables) p q) s (tokenAt ledger place .tag) ≡ notFired r) (w .step) in
               by-turns left f (omega (arith, left-one))
               ∙ so .toDo f next
               ∙ ap (λ (l : List (Activity Tag)). inTurn M₀ l (f + k) s next) turns-left

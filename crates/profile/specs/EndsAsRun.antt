@@ -37,6 +37,6 @@ pub record EndsAsRun (x : LeftByProfile) (y : LeftByRun) : Type 0 where
   pub eachFires : All (λ n. 0 < n) (firingsOf x)
 
 abbrev pub ProfileEndsAsRun : Type 0
-ProfileEndsAsRun = (graph inputs : List ℕ) → Bytes graph → Bytes inputs → (l : LentToProfile) (m : LentToRun) → Allowed (m .picks) (length (m .ledger)) (length (m .cells))
+ProfileEndsAsRun = (graph arrays inputs : List ℕ) → Bytes graph → Bytes inputs → (l : LentToProfile) (m : LentToRun) → Allowed (m .picks) (length (m .ledger)) (length (m .cells))
     → capacityOf (length (l .ledger)) ≡ capacityOf (length (m .ledger)) → length (l .cells) / cellWidth ≡ length (m .cells) / cellWidth
-    → (x : LeftByProfile) (y : LeftByRun) → ProfiledOn graph inputs l x → RanOn graph inputs 2048 m y → ¬ (Refused (x .answer .answer .outcome)) → EndsAsRun x y
+    → (x : LeftByProfile) (y : LeftByRun) → ProfiledOn graph arrays inputs l x → RanOn graph arrays inputs 2048 m y → ¬ (Refused (x .answer .answer .outcome)) → EndsAsRun x y

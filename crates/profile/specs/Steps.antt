@@ -5,6 +5,7 @@ use mathlib.Core.List.{List}
 use lib.ListN.{length, drop}
 use lib.IntN.{ℤ}
 use Rattle.record.specs.declared.tag.Tag.{Tag}
+use Rattle.record.specs.declared.array.NamedArray.{NamedArray}
 use Rattle.record.specs.declared.token.Token.{Token}
 use Rattle.record.specs.declared.cell.Cell.{Cell}
 use Rattle.record.specs.declared.instruction.Instruction.{Instruction}
@@ -29,19 +30,19 @@ use Rattle.profile.specs.declared.StepEnd.{StepEnd}
 use Rattle.profile.specs.declared.StepEnd.the-variants as StepEnds
 
 -- live plus deferred tokens
-abbrev pub unspentAt : List Instruction → (ledger cells : List ℕ) → (used : ℕ) → ℕ
-unspentAt g ledger cells used = unspentIn (machineFor g ledger cells) (stateIn ledger cells used .tokens)
+abbrev pub unspentAt : List Instruction → (tables ledger cells : List ℕ) → (used : ℕ) → ℕ
+unspentAt g tables ledger cells used = unspentIn (machineFor g tables ledger cells) (stateIn ledger cells used .tokens)
 
 -- the profile from a state, with so many records left and so many firings done
-abbrev pub profileFrom : List Instruction → (left firings : ℕ) → (ledger cells : List ℕ) → (used : ℕ) → Profile Refusal Tag ℤ
-profileFrom g left f ledger cells used = profile (machineFor g ledger cells) ProfileFull left f (stateIn ledger cells used)
+abbrev pub profileFrom : List Instruction → (left firings : ℕ) → (tables ledger cells : List ℕ) → (used : ℕ) → Profile Refusal Tag ℤ
+profileFrom g left f tables ledger cells used = profile (machineFor g tables ledger cells) ProfileFull left f (stateIn ledger cells used)
 
 -- ---- a step
 
 -- so many firings led from one state of the buffers to another
 pub record Went (g : List Instruction) (tables links flags ledger′ cells′ : List ℕ) (done n used : ℕ) (ledger cells : List ℕ) : Type 0 where
   pub log : List Tag
-  pub fires : Fires (machineFor g ledger cells) (stateIn ledger cells used) log (stateIn ledger′ cells′ n)
+  pub fires : Fires (machineFor g tables ledger cells) (stateIn ledger cells used) log (stateIn ledger′ cells′ n)
   pub counted : length log ≡ done
   pub running : Running g tables links flags ledger′ cells′ n
   pub grown : used ≤ n
@@ -52,16 +53,16 @@ pub record Went (g : List Instruction) (tables links flags ledger′ cells′ : 
 -- a whole step gave one record
 pub record Stepped (g : List Instruction) (tables links flags ledger′ cells′ : List ℕ) (count n unspent used : ℕ) (ledger cells : List ℕ) : Type 0 where
   pub went : Went g tables links flags ledger′ cells′ count n used ledger cells
-  pub unspentLeft : unspent ≡ unspentAt g ledger′ cells′ n
-  pub goesOn : (left f : ℕ) → profileFrom g (suc left) f ledger cells used
-      ≡ afterStep (machineFor g ledger cells) (record { firings = count; unspent = unspent }) (profile (machineFor g ledger cells) ProfileFull left (f + count) (stateIn ledger′ cells′ n))
+  pub unspentLeft : unspent ≡ unspentAt g tables ledger′ cells′ n
+  pub goesOn : (left f : ℕ) → profileFrom g (suc left) f tables ledger cells used
+      ≡ afterStep (machineFor g tables ledger cells) (record { firings = count; unspent = unspent }) (profile (machineFor g tables ledger cells) ProfileFull left (f + count) (stateIn ledger′ cells′ n))
 
 -- a step that ended the profile gave none
 pub record Halted (o : AnswerOutcome.Outcome) (g : List Instruction) (tables links flags ledger′ cells′ : List ℕ) (done n used : ℕ) (ledger cells : List ℕ) : Type 0 where
   pub went : Went g tables links flags ledger′ cells′ done n used ledger cells
   pub outcome : Outcome Refusal
   pub told : outcomeOf outcome ≡ o
-  pub ends : (left f : ℕ) → profileFrom g (suc left) f ledger cells used ≡ endsHere (machineFor g ledger cells) (end (machineFor g ledger cells) outcome (f + done) (stateIn ledger′ cells′ n))
+  pub ends : (left f : ℕ) → profileFrom g (suc left) f tables ledger cells used ≡ endsHere (machineFor g tables ledger cells) (end (machineFor g tables ledger cells) outcome (f + done) (stateIn ledger′ cells′ n))
 
 abbrev pub StepDone : StepEnd → List Instruction → (tables links flags ledger′ cells′ : List ℕ) → (used : ℕ) → (ledger cells : List ℕ) → Type 0
 StepDone (StepEnds.Whole count n unspent) g tables links flags ledger′ cells′ used ledger cells =
@@ -71,9 +72,9 @@ StepDone (StepEnds.Ended o done n) g tables links flags ledger′ cells′ used 
 
 -- the outcome where no record is left, whatever firings came before
 abbrev pub LastAs : AnswerOutcome.Outcome → (tables : List ℕ) → List Token → Type 0
-LastAs o tables ts = (g : List Instruction) → Arities g tables → OnPorts g ts → (capacity count : ℕ) → Lawful (machineOf g capacity count) → (cs : List Cell) (f : ℕ)
+LastAs o tables ts = (g : List Instruction) → Arities g tables → OnPorts g ts → (table : List NamedArray) (capacity count : ℕ) → Lawful (machineOf g table capacity count) → (cs : List Cell) (f : ℕ)
     → (outcome : Outcome Refusal) × (outcomeOf outcome ≡ o)
-    × (profile (machineOf g capacity count) ProfileFull 0 f (stateHeld ts cs) ≡ endsHere (machineOf g capacity count) (end (machineOf g capacity count) outcome f (stateHeld ts cs)))
+    × (profile (machineOf g table capacity count) ProfileFull 0 f (stateHeld ts cs) ≡ endsHere (machineOf g table capacity count) (end (machineOf g table capacity count) outcome f (stateHeld ts cs)))
 
 -- ---- a profile
 

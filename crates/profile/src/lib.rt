@@ -1,8 +1,10 @@
 // Profiles for the plotter (02, R-1): a run by ideal steps. In a step every activity that is enabled at its start fires, in ledger
 // order, and each whole step leaves a record.
+use checks::arrays;
 use checks::graph;
 use checks::stores;
 use fire_commit::Fired;
+use record::cell;
 use record::token;
 use rules::answer::Answer;
 use rules::answer::Checked;
@@ -24,7 +26,8 @@ ghost use Rattle.rules.specs.Profile.{stepWidth, checkProfileStores, checkProfi
 ghost use Rattle.rules.specs.Runs.{lentToProfile, leftByProfile, ProfiledOn};
 ghost use Rattle.store_flags.specs.Flags.{Counted, places, flagsOf};
 ghost use Rattle.store_enabled.specs.Enabled.{arityOf, enabledPlaces};
-ghost use Rattle.fire.specs.Running.{machineFor, Prepared, Running};
+ghost use Rattle.fire.specs.Running.{Prepared, Running};
+ghost use Rattle.start.specs.Begun.{machineLent};
 ghost use Rattle.profile.specs.Steps.{unspentAt, profileFrom, LastAs, StepDone, ProfiledTo};
 
 // The bytes of a step's record.
@@ -53,8 +56,15 @@ fn check_stores(inputs: usize, ledger: usize, cells: usize, profile: usize) -> C
 }
 
 // What is refused before the inputs are written; ledger, cells and profile by their lengths in bytes.
-fn check(graph: &[u8], inputs: &[u8], ledger: usize, cells: usize, profile: usize) -> Checked
-    ensures { λ r. ⌜ r ≡ checkProfile (now (graph .entry)) (now (inputs .entry)) ledger cells profile ⌝ }
+fn check(
+    graph: &[u8],
+    arrays: &[u8],
+    inputs: &[u8],
+    ledger: usize,
+    cells: usize,
+    profile: usize,
+) -> Checked
+    ensures { λ r. ⌜ r ≡ checkProfile (now (graph .entry)) (now (arrays .entry)) (now (inputs .entry)) ledger cells profile ⌝ }
 {
     let of_graph = graph::check(graph);
     let Checked::Passed = of_graph else {
@@ -63,6 +73,10 @@ fn check(graph: &[u8], inputs: &[u8], ledger: usize, cells: usize, profile: usiz
     let of_stores = check_stores(inputs.len(), ledger, cells, profile);
     let Checked::Passed = of_stores else {
         return of_stores;
+    };
+    let of_arrays = arrays::check(graph, arrays, cells / cell::WIDTH);
+    let Checked::Passed = of_arrays else {
+        return of_arrays;
     };
     check_inputs::check(graph, inputs, ledger / token::WIDTH)
 }
@@ -89,7 +103,7 @@ fn put_record(profile: &mut [u8], i: usize, firings: usize, unspent: usize)
 }
 
 // How many operands the activity waits for whose place this is.
-fn arity_at(tables: &[u16; 512], ledger: &[u8], place: usize) -> usize
+fn arity_at(tables: &[u16; 641], ledger: &[u8], place: usize) -> usize
     requires { ⌜ place < length (now ledger) / tokenWidth ⌝ }
     ensures { λ r. ⌜ r ≡ arityOf (now (tables .entry)) (tokenAt (now (ledger .entry)) place .tag) ⌝ }
 {
@@ -99,7 +113,7 @@ fn arity_at(tables: &[u16; 512], ledger: &[u8], place: usize) -> usize
 }
 
 // How a profile ends that has no record left: 18, unless nothing is enabled.
-fn no_record(tables: &[u16; 512], flags: &[u64; 69], ledger: &[u8], used: usize) -> Outcome
+fn no_record(tables: &[u16; 641], flags: &[u64; 69], ledger: &[u8], used: usize) -> Outcome
     requires { ⌜ Counted (now flags) × (places (flagsOf (now flags)) ≡ enabledPlaces (now tables) (tokens used (now ledger))) × (used ≤ length (now ledger) / tokenWidth) ⌝ }
     ensures { λ r. ⌜ LastAs r (now (tables .entry)) (tokens used (now (ledger .entry))) ⌝ }
 {
@@ -129,7 +143,7 @@ fn enabled_places(flags: &[u64; 69], out: &mut [u16; 2048]) -> usize
 // the next step at the earliest, so the places are taken first.
 fn step(
     graph: &[u8],
-    tables: &[u16; 512],
+    tables: &[u16; 641],
     links: &mut [u16; 9216],
     flags: &mut [u64; 69],
     ledger: &mut [u8],
@@ -138,7 +152,7 @@ fn step(
     start: usize,
     live: usize,
 ) -> StepEnd
-    requires { ⌜ Prepared (now graph) (now tables) × Running (graphOf (now graph)) (now tables) (now links) (now flags) (now ledger) (now cells) start × (live ≡ unspentAt (graphOf (now graph)) (now ledger) (now cells) start) × (length (now turns) ≡ 2048) ⌝ }
+    requires { ⌜ Prepared (now graph) (now tables) × Running (graphOf (now graph)) (now tables) (now links) (now flags) (now ledger) (now cells) start × (live ≡ unspentAt (graphOf (now graph)) (now tables) (now ledger) (now cells) start) × (length (now turns) ≡ 2048) ⌝ }
     ensures { λ r. ⌜ StepDone r (graphOf (now (graph .entry))) (now (tables .entry)) (now (links .exit)) (now (flags .exit)) (now (ledger .exit)) (now (cells .exit)) start (now (ledger .entry)) (now (cells .entry)) ⌝ }
     ensures { λ _. ⌜ length (now (turns .exit)) ≡ 2048 ⌝ }
 {
@@ -182,7 +196,7 @@ fn answered(outcome: Outcome, firings: usize, tokens: usize, records: usize) -> 
 // A profile goes on from a state of `start` tokens, all live.
 fn proceed(
     graph: &[u8],
-    tables: &[u16; 512],
+    tables: &[u16; 641],
     links: &mut [u16; 9216],
     flags: &mut [u64; 69],
     ledger: &mut [u8],
@@ -190,8 +204,8 @@ fn proceed(
     profile: &mut [u8],
     start: usize,
 ) -> Profiled
-    requires { ⌜ Prepared (now graph) (now tables) × Running (graphOf (now graph)) (now tables) (now links) (now flags) (now ledger) (now cells) start × (start ≡ unspentAt (graphOf (now graph)) (now ledger) (now cells) start) ⌝ }
-    ensures { λ r. ⌜ ProfiledTo (profileFrom (graphOf (now (graph .entry))) (length (now (profile .entry)) / stepWidth) 0 (now (ledger .entry)) (now (cells .entry)) start) r (now (ledger .entry)) (now (cells .entry)) (now (profile .entry)) (now (ledger .exit)) (now (cells .exit)) (now (profile .exit)) ⌝ }
+    requires { ⌜ Prepared (now graph) (now tables) × Running (graphOf (now graph)) (now tables) (now links) (now flags) (now ledger) (now cells) start × (start ≡ unspentAt (graphOf (now graph)) (now tables) (now ledger) (now cells) start) ⌝ }
+    ensures { λ r. ⌜ ProfiledTo (profileFrom (graphOf (now (graph .entry))) (length (now (profile .entry)) / stepWidth) 0 (now (tables .entry)) (now (ledger .entry)) (now (cells .entry)) start) r (now (ledger .entry)) (now (cells .entry)) (now (profile .entry)) (now (ledger .exit)) (now (cells .exit)) (now (profile .exit)) ⌝ }
 {
     let room = profile.len() / WIDTH;
     let mut turns = [0u16; 2048];
@@ -232,19 +246,21 @@ fn proceed(
 // proceeds.
 fn accepted(
     graph: &[u8],
+    arrays: &[u8],
     inputs: &[u8],
     ledger: &mut [u8],
     cells: &mut [u8],
     profile: &mut [u8],
 ) -> Profiled
-    requires { ⌜ checkProfile (now graph) (now inputs) (length (now ledger)) (length (now cells)) (length (now profile)) ≡ Passed ⌝ }
-    ensures { λ r. ⌜ ProfiledTo (Machine·profile (machineFor (graphOf (now (graph .entry))) (now (ledger .entry)) (now (cells .entry))) ProfileFull (length (now (profile .entry)) / stepWidth) 0 (firstState (now (inputs .entry)) (length (now (cells .entry)) / cellWidth))) r (now (ledger .entry)) (now (cells .entry)) (now (profile .entry)) (now (ledger .exit)) (now (cells .exit)) (now (profile .exit)) ⌝ }
+    requires { ⌜ checkProfile (now graph) (now arrays) (now inputs) (length (now ledger)) (length (now cells)) (length (now profile)) ≡ Passed ⌝ }
+    ensures { λ r. ⌜ ProfiledTo (Machine·profile (machineLent (now (graph .entry)) (now (arrays .entry)) (now (ledger .entry)) (now (cells .entry))) ProfileFull (length (now (profile .entry)) / stepWidth) 0 (firstState (now (inputs .entry)) (length (now (cells .entry)) / cellWidth))) r (now (ledger .entry)) (now (cells .entry)) (now (profile .entry)) (now (ledger .exit)) (now (cells .exit)) (now (profile .exit)) ⌝ }
 {
-    let mut tables = [0u16; 512];
+    let mut tables = [0u16; 641];
     let mut links = [0u16; 9216];
     let mut flags = [0u64; 69];
     let used = start::begin(
         graph,
+        arrays,
         inputs,
         &mut tables,
         &mut links,
@@ -267,16 +283,24 @@ fn accepted(
 // A profile over lent bytes: its answer, and what it leaves in ledger, cells and profile, are what the rules give.
 pub fn profile(
     graph: &[u8],
+    arrays: &[u8],
     inputs: &[u8],
     ledger: &mut [u8],
     cells: &mut [u8],
     profile: &mut [u8],
 ) -> Profiled
-    ensures { λ r. ⌜ ProfiledOn (now (graph .entry)) (now (inputs .entry)) (lentToProfile (now (ledger .entry)) (now (cells .entry)) (now (profile .entry))) (leftByProfile r (now (ledger .exit)) (now (cells .exit)) (now (profile .exit))) ⌝ }
+    ensures { λ r. ⌜ ProfiledOn (now (graph .entry)) (now (arrays .entry)) (now (inputs .entry)) (lentToProfile (now (ledger .entry)) (now (cells .entry)) (now (profile .entry))) (leftByProfile r (now (ledger .exit)) (now (cells .exit)) (now (profile .exit))) ⌝ }
 {
-    let checked = check(graph, inputs, ledger.len(), cells.len(), profile.len());
+    let checked = check(
+        graph,
+        arrays,
+        inputs,
+        ledger.len(),
+        cells.len(),
+        profile.len(),
+    );
     match checked {
         Checked::Failed(r, place) => answered(Outcome::Refused(r, place), 0, 0, 0),
-        Checked::Passed => accepted(graph, inputs, ledger, cells, profile),
+        Checked::Passed => accepted(graph, arrays, inputs, ledger, cells, profile),
     }
 }

@@ -127,10 +127,13 @@ rowOf n = lookup table n
 abbrev pub operationOf : (code : ℕ) → Operation
 operationOf n = rowOf n .operation
 
--- ---- "The constant is used by 4, 8, 9 and 32-39."
+-- ---- "The constant is used by 4, 8, 9 and 32-39."; R-10: "The constant of FETCH and STORE, until now zero, names an array" (codes 10 and 11)
+
+unfoldable pub namesArray : (code : ℕ) → Bool
+namesArray n = eqb n 10 || eqb n 11
 
 unfoldable pub usesConstant : (code : ℕ) → Bool
-usesConstant n = eqb n 4 || (eqb n 8 || (eqb n 9 || (leb 32 n && leb n 39)))
+usesConstant n = eqb n 4 || (eqb n 8 || (eqb n 9 || (namesArray n || (leb 32 n && leb n 39))))
 
 -- ---- "The operand count of all 256 codes stands in one constant table, 0 for an unknown code."
 

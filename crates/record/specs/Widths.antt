@@ -28,6 +28,10 @@ pickWidth = 2
 abbrev pub logWidth : ℕ
 logWidth = 20
 
+-- 02, R-10: "records of 4 bytes"
+abbrev pub arrayWidth : ℕ
+arrayWidth = 4
+
 -- 02, R-14: "records of 8 bytes"
 abbrev pub termWidth : ℕ
 termWidth = 8

@@ -1,4 +1,5 @@
-// Bytes and values: the records of a graph, of a ledger, of the cells, of a log and of an expression, and the tags of tokens.
+// Bytes and values: the records of a graph, of a ledger, of the cells, of a log, of a table of arrays and of an expression, and the tags of tokens.
+pub mod array;
 pub mod cell;
 pub mod instruction;
 pub mod log;

@@ -12,6 +12,7 @@ use Rattle.number.specs.Number.{Bytes}
 use Rattle.buffer.specs.Rows.{rows, joined, All}
 use Rattle.record.specs.declared.tag.Tag.{Tag}
 use Rattle.record.specs.GraphRecords.{graphOf}
+use Rattle.record.specs.Arrays.{arraysOf}
 use Rattle.record.specs.TokensAndTags.{capacityOf}
 use Rattle.record.specs.Logs.{encode}
 use Rattle.record.specs.Widths.{cellWidth, logWidth}
@@ -70,13 +71,13 @@ at-rest (ranTo e) q = go (e .outcome) q
 -- ---- a replay
 
 pub log-replays : LogReplays
-log-replays graph inputs graphBytes inputBytes l x h other r ledger′ cells′ p =
-    let R = logged graph inputs (l .picks) (l .budget) (length (l .ledger)) (length (l .cells)) (length (l .log)) in
+log-replays graph arrays inputs graphBytes inputBytes l x h other r ledger′ cells′ p =
+    let R = logged graph arrays inputs (l .picks) (l .budget) (length (l .ledger)) (length (l .cells)) (length (l .log)) in
     let same : logIn x ≡ take (answer (R .result) .firings * logWidth) (logAfter R (l .log)) = λ i. take (h .answered i .firings * logWidth) (h .logLeft i) in
-    let q = subst (λ (log : List ℕ). ReplayedOn graph inputs log (l .ledger) (l .cells) r ledger′ cells′) same p in
+    let q = subst (λ (log : List ℕ). ReplayedOn graph arrays inputs log (l .ledger) (l .cells) r ledger′ cells′) same p in
     let n = not-by7 (R .result) (subst (λ (a : Answer). ¬ (By7 (a .outcome))) (h .answered) other) in
-    let holds = refused-holds graph inputs (l .picks) (l .budget) (length (l .ledger)) (length (l .cells)) (length (l .log)) in
-    let a = Replays.log-replays graph inputs (l .picks) (l .budget) (length (l .ledger)) (length (l .cells)) (l .log) graphBytes inputBytes n in
+    let holds = refused-holds graph arrays inputs (l .picks) (l .budget) (length (l .ledger)) (length (l .cells)) (length (l .log)) in
+    let a = Replays.log-replays graph arrays inputs (l .picks) (l .budget) (length (l .ledger)) (length (l .cells)) (l .log) graphBytes inputBytes n in
     record {
       ledger = q .ledgerLeft ∙ a .ledgerLeft (l .ledger) ∙ sym (h .ledgerLeft);
       cells = q .cellsLeft ∙ a .cellsLeft (l .cells) ∙ sym (h .cellsLeft);
@@ -114,9 +115,9 @@ once-back (τ ∷ τs) fs o = (λ m. o .0 (tag-member τ τs (fs .0) (fs .1) m),
 
 -- ---- the log of a run
 
-module _ (graph inputs : List ℕ) (l : LentToLogged) where
+module _ (graph arrays inputs : List ℕ) (l : LentToLogged) where
   abbrev whole : LogResult
-  whole = logged graph inputs (l .picks) (l .budget) (length (l .ledger)) (length (l .cells)) (length (l .log))
+  whole = logged graph arrays inputs (l .picks) (l .budget) (length (l .ledger)) (length (l .cells)) (length (l .log))
 
   abbrev capacity : ℕ
   capacity = capacityOf (length (l .ledger))
@@ -127,43 +128,43 @@ module _ (graph inputs : List ℕ) (l : LentToLogged) where
   -- one record a firing
   log-counted : answer (whole .result) .firings ≡ length (whole .log)
   unfolding logged logUnlessFailed answer
-  log-counted = go (checkLogged graph inputs (l .picks) (l .budget) (length (l .ledger)) (length (l .cells)) (length (l .log)))
+  log-counted = go (checkLogged graph arrays inputs (l .picks) (l .budget) (length (l .ledger)) (length (l .cells)) (length (l .log)))
     where
-      go : (c : Checked) → let M = machineOf (graphOf graph) capacity count in let s = firstState inputs count in
+      go : (c : Checked) → let M = machineOf (graphOf graph) (arraysOf arrays) capacity count in let s = firstState inputs count in
           let x = logUnlessFailed c (run M (l .budget) (picksOf (l .picks)) s) (logOf M (byPicks M) (l .budget) (picksOf (l .picks)) s) in
           answer (x .result) .firings ≡ length (x .log)
-      go Passed = let M = machineOf (graphOf graph) capacity count in
+      go Passed = let M = machineOf (graphOf graph) (arraysOf arrays) capacity count in
           ran M (byPicks M) (byPicksLawful M) (l .budget) (picksOf (l .picks)) 0 (firstState inputs count) .logged .firings ∙ zero-add _
       go (Failed r p) = refl
 
   log-fit : Bytes graph → Bytes inputs → All TagFits (whole .log)
   unfolding logged logUnlessFailed
-  log-fit graphBytes inputBytes = go (checkLogged graph inputs (l .picks) (l .budget) (length (l .ledger)) (length (l .cells)) (length (l .log))) refl
+  log-fit graphBytes inputBytes = go (checkLogged graph arrays inputs (l .picks) (l .budget) (length (l .ledger)) (length (l .cells)) (length (l .log))) refl
     where
-      go : (c : Checked) → checkLogged graph inputs (l .picks) (l .budget) (length (l .ledger)) (length (l .cells)) (length (l .log)) ≡ c
-          → let M = machineOf (graphOf graph) capacity count in let s = firstState inputs count in
+      go : (c : Checked) → checkLogged graph arrays inputs (l .picks) (l .budget) (length (l .ledger)) (length (l .cells)) (length (l .log)) ≡ c
+          → let M = machineOf (graphOf graph) (arraysOf arrays) capacity count in let s = firstState inputs count in
           All TagFits (logUnlessFailed c (run M (l .budget) (picksOf (l .picks)) s) (logOf M (byPicks M) (l .budget) (picksOf (l .picks)) s) .log)
       go (Failed r p) e = tt
       go Passed e =
-          let h = log-passed graph inputs (l .picks) (l .budget) (length (l .ledger)) (length (l .cells)) (length (l .log)) e in
-          tags-fit graph inputs capacity count (h .start) (whole-bytes cellWidth mostCells (length (l .cells)) (h .stores .wholeCells) .1) graphBytes inputBytes (l .budget) (picksOf (l .picks)) (l .log)
+          let h = log-passed graph arrays inputs (l .picks) (l .budget) (length (l .ledger)) (length (l .cells)) (length (l .log)) e in
+          tags-fit graph inputs (arraysOf arrays) capacity count (h .start) (whole-bytes cellWidth mostCells (length (l .cells)) (h .stores .wholeCells) .1) graphBytes inputBytes (l .budget) (picksOf (l .picks)) (l .log)
 
-  records-are : (x : LeftByLogged) → LoggedOn graph inputs l x → recordsIn x ≡ map encode (whole .log)
+  records-are : (x : LeftByLogged) → LoggedOn graph arrays inputs l x → recordsIn x ≡ map encode (whole .log)
   unfolding logAfter
   records-are x h =
       (λ i. rows logWidth (take logWidth) (h .answered i .firings) (h .logLeft i))
       ∙ ap (λ (n : ℕ). rows logWidth (take logWidth) n (logAfter whole (l .log))) log-counted
       ∙ records-back (whole .log) (drop (length (joined encode (whole .log))) (l .log))
 
-  ends-at-rest : (x : LeftByLogged) → LoggedOn graph inputs l x → Quiescent (x .answer .outcome) → Results.Quiescent (whole .result)
+  ends-at-rest : (x : LeftByLogged) → LoggedOn graph arrays inputs l x → Quiescent (x .answer .outcome) → Results.Quiescent (whole .result)
   ends-at-rest x h q = at-rest (whole .result) (subst (λ (a : Answer). Quiescent (a .outcome)) (h .answered) q)
 
 pub logs-agree : LogsAgree
-logs-agree graph inputs graphBytes inputBytes l m c d x y h k p q =
-    let both = Logs.logs-agree graph inputs (l .picks) (m .picks) (l .budget) (m .budget) (length (l .ledger)) (length (m .ledger)) (length (l .cells)) (length (m .cells)) (length (l .log)) (length (m .log)) c d
-    (ends-at-rest graph inputs l x h p) (ends-at-rest graph inputs m y k q) in
-    let a = records-are graph inputs l x h in
-    let b = records-are graph inputs m y k in (
+logs-agree graph arrays inputs graphBytes inputBytes l m c d x y h k p q =
+    let both = Logs.logs-agree graph arrays inputs (l .picks) (m .picks) (l .budget) (m .budget) (length (l .ledger)) (length (m .ledger)) (length (l .cells)) (length (m .cells)) (length (l .log)) (length (m .log)) c d
+    (ends-at-rest graph arrays inputs l x h p) (ends-at-rest graph arrays inputs m y k q) in
+    let a = records-are graph arrays inputs l x h in
+    let b = records-are graph arrays inputs m y k in (
       rw (a, b) (Permᴰ·map encode (both .0)),
-      rw a (once-back (whole graph inputs l .log) (log-fit graph inputs l graphBytes inputBytes) (both .1)),
+      rw a (once-back (whole graph arrays inputs l .log) (log-fit graph arrays inputs l graphBytes inputBytes) (both .1)),
     )

@@ -28,7 +28,7 @@ use Rattle.rules.specs.declared.answer.Outcome as AnswerOutcome
 use Rattle.rules.specs.InstructionSet.{machineOf}
 use Rattle.rules.specs.Run.{outcomeOf}
 use Rattle.rules.specs.Log.{namesIn}
-use Rattle.abstraction.specs.Tables.{Arities}
+use Rattle.abstraction.specs.Tables.{Arities, arraysIn}
 use Rattle.fire_outputs.specs.Outputs.{cellsIn}
 use Rattle.fire.proofs.Place.{on-ports}
 use Rattle.fire.specs.Running.{machineFor, stateIn, Running}
@@ -80,7 +80,7 @@ pub record SoFar (g : List Instruction) (log ledger₀ cells₀ : List ℕ) (sta
   pub rest : drop (used * tokenWidth) ledger ≡ drop (used * tokenWidth) ledger₀
   pub cellSize : length cells ≡ length cells₀
   -- the replay that is left to do
-  pub toDo : endOf g ledger₀ cells₀ start (namesIn log) ≡ replay (machineFor g ledger₀ cells₀) NotEnabled (drop firings (namesIn log)) firings (stateIn ledger cells used)
+  pub toDo : endOf g tables ledger₀ cells₀ start (namesIn log) ≡ replay (machineFor g tables ledger₀ cells₀) NotEnabled (drop firings (namesIn log)) firings (stateIn ledger cells used)
 
 module _ (g : List Instruction) (log ledger₀ cells₀ : List ℕ) (start : ℕ) {tables links flags : List ℕ} where
   pub begun : Running g tables links flags ledger₀ cells₀ start → SoFar g log ledger₀ cells₀ start tables links flags ledger₀ cells₀ start 0
@@ -88,7 +88,7 @@ module _ (g : List Instruction) (log ledger₀ cells₀ : List ℕ) (start : ℕ
 
   module _ {ledger cells : List ℕ} {used firings : ℕ} (so : SoFar g log ledger₀ cells₀ start tables links flags ledger cells used firings) where
     abbrev M₀ : Machine
-    M₀ = machineFor g ledger₀ cells₀
+    M₀ = machineFor g tables ledger₀ cells₀
 
     abbrev s : StateOf M₀
     s = stateIn ledger cells used
@@ -100,7 +100,7 @@ module _ (g : List Instruction) (log ledger₀ cells₀ : List ℕ) (start : ℕ
     as-lent : (P : (capacity count : ℕ) → Type 0) → P (length ledger / tokenWidth) (length cells / cellWidth) → P (length ledger₀ / tokenWidth) (length cells₀ / cellWidth)
     as-lent P h = subst (λ (b : ℕ). P (length ledger₀ / tokenWidth) (b / cellWidth)) (so .cellSize) (subst (λ (b : ℕ). P (b / tokenWidth) (length cells / cellWidth)) (so .size) h)
 
-    to-do : (names : List (Option Tag)) → drop firings (namesIn log) ≡ names → endOf g ledger₀ cells₀ start (namesIn log) ≡ replay M₀ NotEnabled names firings s
+    to-do : (names : List (Option Tag)) → drop firings (namesIn log) ≡ names → endOf g tables ledger₀ cells₀ start (namesIn log) ≡ replay M₀ NotEnabled names firings s
     to-do names e = so .toDo ∙ ap (λ (l : List (Option Tag)). replay M₀ NotEnabled l firings s) e
 
     -- a record whose activity fired
@@ -112,8 +112,8 @@ module _ (g : List Instruction) (log ledger₀ cells₀ : List ℕ) (start : ℕ
         let more = drop (suc firings) (namesIn log) in
         let w = a .went in
         let step : replay M₀ NotEnabled (name ∷ more) firings s ≡ replay M₀ NotEnabled more (suc firings) s′ =
-        as-lent (λ p q. replay (machineOf g p q) NotEnabled (name ∷ more) firings s ≡ replay (machineOf g p q) NotEnabled more (suc firings) s′)
-        (replayFired (machineFor g ledger cells) NotEnabled name more firings s s′ (a .activity) (a .isNamed) (w .step)) in
+        as-lent (λ p q. replay (machineOf g (arraysIn tables) p q) NotEnabled (name ∷ more) firings s ≡ replay (machineOf g (arraysIn tables) p q) NotEnabled more (suc firings) s′)
+        (replayFired (machineFor g tables ledger cells) NotEnabled name more firings s s′ (a .activity) (a .isNamed) (w .step)) in
         let whole : logWidth ≤ length (drop (firings * logWidth) log) = named-whole name refl (a .isNamed) in
         record {
           within = omega (arith, whole, length-drop (firings * logWidth) log);
@@ -124,35 +124,35 @@ module _ (g : List Instruction) (log ledger₀ cells₀ : List ℕ) (start : ℕ
           toDo = rw (add-one firings) (to-do (name ∷ more) (next-name log firings h) ∙ step);
         }
       where
-        named-whole : (x : Option Tag) → name ≡ x → named (machineFor g ledger cells) x (enabled (machineFor g ledger cells) (stateIn ledger cells used)) ≡ some (a .activity) → logWidth ≤ length (drop (firings * logWidth) log)
+        named-whole : (x : Option Tag) → name ≡ x → named (machineFor g tables ledger cells) x (enabled (machineFor g tables ledger cells) (stateIn ledger cells used)) ≡ some (a .activity) → logWidth ≤ length (drop (firings * logWidth) log)
         named-whole none e q = let z : _≡_ {A = ℕ} 0 1 = cc in absurd (omega arith)
         named-whole (some τ) e q = whole-name (drop (firings * logWidth) log) τ e
 
     ends-as : (o : Outcome Refusal) (w : AnswerOutcome.Outcome) {links′ flags′ ledger′ cells′ : List ℕ} → outcomeOf o ≡ w
-        → endOf g ledger₀ cells₀ start (namesIn log) ≡ end M₀ o firings s
+        → endOf g tables ledger₀ cells₀ start (namesIn log) ≡ end M₀ o firings s
         → Running g tables links′ flags′ ledger′ cells′ used → ledger′ ≡ ledger → cells′ ≡ cells
-        → EndedAt (endOf g ledger₀ cells₀ start (namesIn log)) (record { outcome = w; firings = firings; tokens = used }) ledger₀ cells₀ ledger′ cells′
+        → EndedAt (endOf g tables ledger₀ cells₀ start (namesIn log)) (record { outcome = w; firings = firings; tokens = used }) ledger₀ cells₀ ledger′ cells′
     ends-as o w {ledger′ = ledger′} {cells′ = cells′} told e r l c =
-        let there : end M₀ o firings (stateIn ledger′ cells′ used) ≡ endOf g ledger₀ cells₀ start (namesIn log) =
+        let there : end M₀ o firings (stateIn ledger′ cells′ used) ≡ endOf g tables ledger₀ cells₀ start (namesIn log) =
         (λ i. end M₀ o firings (stateIn (l i) (c i) used)) ∙ sym e in
-        subst (λ (x : AnswerOutcome.Outcome). EndedAt (endOf g ledger₀ cells₀ start (namesIn log)) (record { outcome = x; firings = firings; tokens = used }) ledger₀ cells₀ ledger′ cells′) told
+        subst (λ (x : AnswerOutcome.Outcome). EndedAt (endOf g tables ledger₀ cells₀ start (namesIn log)) (record { outcome = x; firings = firings; tokens = used }) ledger₀ cells₀ ledger′ cells′) told
         (subst (λ (x : End Refusal Tag ℤ). EndedAt x (record { outcome = outcomeOf o; firings = firings; tokens = used }) ledger₀ cells₀ ledger′ cells′) there
         (left g r ledger₀ cells₀ (ap (drop (used * tokenWidth)) l ∙ so .rest) (ap length c ∙ so .cellSize) o firings))
 
     -- a record that ended the replay
     pub halted : firings * logWidth < length log → (o : AnswerOutcome.Outcome) (links′ flags′ ledger′ cells′ : List ℕ)
         → Halted o g name firings tables links′ flags′ ledger′ cells′ used ledger cells
-        → EndedAt (endOf g ledger₀ cells₀ start (namesIn log)) (record { outcome = o; firings = firings; tokens = used }) ledger₀ cells₀ ledger′ cells′
+        → EndedAt (endOf g tables ledger₀ cells₀ start (namesIn log)) (record { outcome = o; firings = firings; tokens = used }) ledger₀ cells₀ ledger′ cells′
     halted h o links′ flags′ ledger′ cells′ a =
         let more = drop (suc firings) (namesIn log) in
         let step : replay M₀ NotEnabled (name ∷ more) firings s ≡ end M₀ (a .outcome) firings s =
-        as-lent (λ p q. replay (machineOf g p q) NotEnabled (name ∷ more) firings s ≡ end (machineOf g p q) (a .outcome) firings s) (a .ends more) in
+        as-lent (λ p q. replay (machineOf g (arraysIn tables) p q) NotEnabled (name ∷ more) firings s ≡ end (machineOf g (arraysIn tables) p q) (a .outcome) firings s) (a .ends more) in
         ends-as (a .outcome) o (a .told) (to-do (name ∷ more) (next-name log firings h) ∙ step) (a .running) (a .sameLedger) (a .sameCells)
 
     -- the log has ended
     pub finished : length log ≤ firings * logWidth → Arities g tables → (w : AnswerOutcome.Outcome) → RestsAs w tables (tokens used ledger)
-        → EndedAt (endOf g ledger₀ cells₀ start (namesIn log)) (record { outcome = w; firings = firings; tokens = used }) ledger₀ cells₀ ledger cells
+        → EndedAt (endOf g tables ledger₀ cells₀ start (namesIn log)) (record { outcome = w; firings = firings; tokens = used }) ledger₀ cells₀ ledger cells
     finished h right w said =
         let o = runBy M₀ (byPicks M₀) 0 [] firings s .outcome in
-        let told = said g right (on-ports g (tokens used ledger) (so .running .arrived)) (length ledger₀ / tokenWidth) (length cells₀ / cellWidth) (cellsIn cells) (byPicks M₀) [] firings in
+        let told = said g right (on-ports g (tokens used ledger) (so .running .arrived)) (arraysIn tables) (length ledger₀ / tokenWidth) (length cells₀ / cellWidth) (cellsIn cells) (byPicks M₀) [] firings in
         ends-as o w (sym told) (to-do [] (no-name log firings h) ∙ rest-is M₀ NotEnabled firings s ∙ rests-there M₀ (byPicks M₀) [] firings s) (so .running) refl refl

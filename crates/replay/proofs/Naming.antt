@@ -31,6 +31,7 @@ use Rattle.abstraction.specs.States.{noToken}
 use Rattle.abstraction.proofs.Arities.{arity-small}
 use Rattle.abstraction.proofs.Enabled.{held-below, held-place}
 use Rattle.fire.proofs.Place.{on-ports}
+use Rattle.abstraction.specs.Tables.{arraysIn}
 use Rattle.fire.specs.Running.{machineFor, stateIn, Running, Went, Stopped, Prepared}
 use Rattle.replay.specs.Turns.{Advanced, Halted}
 
@@ -70,14 +71,14 @@ module _ (graph : List ℕ) {tables links flags ledger cells : List ℕ} {used :
   ts = tokens used ledger
 
   abbrev M : Machine
-  M = machineFor g ledger cells
+  M = machineFor g tables ledger cells
 
   abbrev s : StateOf M
   s = stateIn ledger cells used
 
   -- all operands of a tag are live, in the machine's words and in those of the records
   all-live : (τ : Tag) → 0 < arityIn g τ → Machines.allLive M (look M s) τ ≡ isEnabled tables ts τ
-  all-live τ l = held-below g (length ledger / tokenWidth) (length cells / cellWidth) (arityIn g τ) τ ts l (arity-small g τ) ∙ ap (λ (n : ℕ). allLive n ts τ) (sym (ready .aritiesRight τ))
+  all-live τ l = held-below g (arraysIn tables) (length ledger / tokenWidth) (length cells / cellWidth) (arityIn g τ) τ ts l (arity-small g τ) ∙ ap (λ (n : ℕ). allLive n ts τ) (sym (ready .aritiesRight τ))
 
   absent : (τ : Tag) → isEnabled tables ts τ ≡ false → withTag M τ (enabled M s) ≡ none
   absent τ e = foundByTag M s τ .absent (λ h. let z : _≡_ {A = Bool} false true = sym e ∙ sym (all-live τ (h .0)) ∙ h .1 in let y : _≡_ {A = ℕ} 0 1 = cc in omega arith)
@@ -85,7 +86,7 @@ module _ (graph : List ℕ) {tables links flags ledger cells : List ℕ} {used :
   present : (τ : Tag) → isEnabled tables ts τ ≡ true → withTag M τ (enabled M s) ≡ some (record { place = placeOf ts τ; tag = τ })
   present τ e =
       let l : 0 < arityIn g τ = subst (λ (n : ℕ). 0 < n) (ready .aritiesRight τ) (live-some _ ts τ e) in
-      let p = held-place g (length ledger / tokenWidth) (length cells / cellWidth) τ ts l (on-ports g ts (now .arrived)) in
+      let p = held-place g (arraysIn tables) (length ledger / tokenWidth) (length cells / cellWidth) τ ts l (on-ports g ts (now .arrived)) in
       foundByTag M s τ .present l (all-live τ l ∙ e) ∙ ap (λ (n : ℕ). some (record { place = n; tag = τ })) p
 
   module _ (name : Option Tag) (firings : ℕ) where

@@ -51,13 +51,13 @@ pub record Again (x : LeftByLogged) (r : Answer) (ledger′ cells′ : List ℕ)
 
 -- "Replaying the log of a run not refused by 7, buffers lent alike"
 abbrev pub LogReplays : Type 0
-LogReplays = (graph inputs : List ℕ) → Bytes graph → Bytes inputs → (l : LentToLogged) (x : LeftByLogged) → LoggedOn graph inputs l x → ¬ (By7 (x .answer .outcome))
-    → (r : Answer) (ledger′ cells′ : List ℕ) → ReplayedOn graph inputs (logIn x) (l .ledger) (l .cells) r ledger′ cells′ → Again x r ledger′ cells′
+LogReplays = (graph arrays inputs : List ℕ) → Bytes graph → Bytes inputs → (l : LentToLogged) (x : LeftByLogged) → LoggedOn graph arrays inputs l x → ¬ (By7 (x .answer .outcome))
+    → (r : Answer) (ledger′ cells′ : List ℕ) → ReplayedOn graph arrays inputs (logIn x) (l .ledger) (l .cells) r ledger′ cells′ → Again x r ledger′ cells′
 
 -- "The logs of two completed runs of one graph with equal inputs, capacity and cell count hold the same records, each once.": and of two that hang;
 -- the budgets may differ
 abbrev pub LogsAgree : Type 0
-LogsAgree = (graph inputs : List ℕ) → Bytes graph → Bytes inputs → (l m : LentToLogged)
+LogsAgree = (graph arrays inputs : List ℕ) → Bytes graph → Bytes inputs → (l m : LentToLogged)
     → capacityOf (length (l .ledger)) ≡ capacityOf (length (m .ledger)) → length (l .cells) / cellWidth ≡ length (m .cells) / cellWidth
-    → (x y : LeftByLogged) → LoggedOn graph inputs l x → LoggedOn graph inputs m y → Quiescent (x .answer .outcome) → Quiescent (y .answer .outcome)
+    → (x y : LeftByLogged) → LoggedOn graph arrays inputs l x → LoggedOn graph arrays inputs m y → Quiescent (x .answer .outcome) → Quiescent (y .answer .outcome)
     → List·Permᴰ (recordsIn x) (recordsIn y) × Once (recordsIn x)

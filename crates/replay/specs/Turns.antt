@@ -19,15 +19,15 @@ use Rattle.replay.specs.declared.Turn.the-variants as Turns
 -- a record that names an enabled activity, which fired and left n tokens
 pub record Advanced (g : List Instruction) (name : Option Tag) (tables links flags ledger′ cells′ : List ℕ) (n used : ℕ) (ledger cells : List ℕ) : Type 0 where
   pub activity : Activity Tag
-  pub isNamed : named (machineFor g ledger cells) name (enabled (machineFor g ledger cells) (stateIn ledger cells used)) ≡ some activity
+  pub isNamed : named (machineFor g tables ledger cells) name (enabled (machineFor g tables ledger cells) (stateIn ledger cells used)) ≡ some activity
   pub went : Went g (activity .tag) tables links flags ledger′ cells′ n used ledger cells
 
 -- a record that ended the replay, after f firings, left ledger and cells as it found them
 pub record Halted (o : AnswerOutcome.Outcome) (g : List Instruction) (name : Option Tag) (f : ℕ) (tables links flags ledger′ cells′ : List ℕ) (used : ℕ) (ledger cells : List ℕ) : Type 0 where
   pub outcome : Outcome Refusal
   pub told : outcomeOf outcome ≡ o
-  pub ends : (more : List (Option Tag)) → replay (machineFor g ledger cells) NotEnabled (name ∷ more) f (stateIn ledger cells used)
-      ≡ end (machineFor g ledger cells) outcome f (stateIn ledger cells used)
+  pub ends : (more : List (Option Tag)) → replay (machineFor g tables ledger cells) NotEnabled (name ∷ more) f (stateIn ledger cells used)
+      ≡ end (machineFor g tables ledger cells) outcome f (stateIn ledger cells used)
   pub running : Running g tables links flags ledger′ cells′ used
   pub sameLedger : ledger′ ≡ ledger
   pub sameCells : cells′ ≡ cells
@@ -39,5 +39,5 @@ Turned (Turns.Ended o) g name f tables links flags ledger′ cells′ used ledge
     Halted o g name f tables links flags ledger′ cells′ used ledger cells
 
 -- the end of a replay from a state of so many tokens
-abbrev pub endOf : List Instruction → (ledger cells : List ℕ) → (used : ℕ) → (names : List (Option Tag)) → End Refusal Tag ℤ
-endOf g ledger cells used names = replay (machineFor g ledger cells) NotEnabled names 0 (stateIn ledger cells used)
+abbrev pub endOf : List Instruction → (tables ledger cells : List ℕ) → (used : ℕ) → (names : List (Option Tag)) → End Refusal Tag ℤ
+endOf g tables ledger cells used names = replay (machineFor g tables ledger cells) NotEnabled names 0 (stateIn ledger cells used)

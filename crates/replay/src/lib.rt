@@ -22,7 +22,8 @@ ghost use Rattle.rules.specs.Check.{check};
 ghost use Rattle.rules.specs.Run.{firstState};
 ghost use Rattle.rules.specs.Log.{namesIn};
 ghost use Rattle.rules.specs.Runs.{ReplayedOn};
-ghost use Rattle.fire.specs.Running.{machineFor, Prepared, Running};
+ghost use Rattle.fire.specs.Running.{Prepared, Running};
+ghost use Rattle.start.specs.Begun.{machineLent};
 ghost use Rattle.start.specs.Ended.{EndedAt};
 ghost use Rattle.replay.specs.Turns.{Turned, endOf};
 
@@ -35,7 +36,7 @@ pub enum Turn {
 // The activity that record `firings` names fires, if it is enabled. As many have fired as there are records before it.
 fn take_record(
     graph: &[u8],
-    tables: &[u16; 512],
+    tables: &[u16; 641],
     log: &[u8],
     firings: usize,
     links: &mut [u16; 9216],
@@ -64,7 +65,7 @@ fn take_record(
 // The records of a log in turn, from a state.
 fn proceed(
     graph: &[u8],
-    tables: &[u16; 512],
+    tables: &[u16; 641],
     log: &[u8],
     links: &mut [u16; 9216],
     flags: &mut [u64; 69],
@@ -73,7 +74,7 @@ fn proceed(
     start: usize,
 ) -> Answer
     requires { ⌜ Prepared (now graph) (now tables) × Running (graphOf (now graph)) (now tables) (now links) (now flags) (now ledger) (now cells) start ⌝ }
-    ensures { λ r. ⌜ EndedAt (endOf (graphOf (now (graph .entry))) (now (ledger .entry)) (now (cells .entry)) start (namesIn (now (log .entry)))) r (now (ledger .entry)) (now (cells .entry)) (now (ledger .exit)) (now (cells .exit)) ⌝ }
+    ensures { λ r. ⌜ EndedAt (endOf (graphOf (now (graph .entry))) (now (tables .entry)) (now (ledger .entry)) (now (cells .entry)) start (namesIn (now (log .entry)))) r (now (ledger .entry)) (now (cells .entry)) (now (ledger .exit)) (now (cells .exit)) ⌝ }
 {
     let mut used = start;
     let mut firings = 0;
@@ -102,15 +103,23 @@ fn proceed(
 }
 
 // A replay that passed every check begins as a run does.
-fn accepted(graph: &[u8], inputs: &[u8], log: &[u8], ledger: &mut [u8], cells: &mut [u8]) -> Answer
-    requires { ⌜ check (now graph) (now inputs) [] (length (now ledger)) (length (now cells)) ≡ Passed ⌝ }
-    ensures { λ r. ⌜ EndedAt (Machine·replay (machineFor (graphOf (now (graph .entry))) (now (ledger .entry)) (now (cells .entry))) NotEnabled (namesIn (now (log .entry))) 0 (firstState (now (inputs .entry)) (length (now (cells .entry)) / cellWidth))) r (now (ledger .entry)) (now (cells .entry)) (now (ledger .exit)) (now (cells .exit)) ⌝ }
+fn accepted(
+    graph: &[u8],
+    arrays: &[u8],
+    inputs: &[u8],
+    log: &[u8],
+    ledger: &mut [u8],
+    cells: &mut [u8],
+) -> Answer
+    requires { ⌜ check (now graph) (now arrays) (now inputs) [] (length (now ledger)) (length (now cells)) ≡ Passed ⌝ }
+    ensures { λ r. ⌜ EndedAt (Machine·replay (machineLent (now (graph .entry)) (now (arrays .entry)) (now (ledger .entry)) (now (cells .entry))) NotEnabled (namesIn (now (log .entry))) 0 (firstState (now (inputs .entry)) (length (now (cells .entry)) / cellWidth))) r (now (ledger .entry)) (now (cells .entry)) (now (ledger .exit)) (now (cells .exit)) ⌝ }
 {
-    let mut tables = [0u16; 512];
+    let mut tables = [0u16; 641];
     let mut links = [0u16; 9216];
     let mut flags = [0u64; 69];
     let used = start::begin(
         graph,
+        arrays,
         inputs,
         &mut tables,
         &mut links,
@@ -133,16 +142,17 @@ fn accepted(graph: &[u8], inputs: &[u8], log: &[u8], ledger: &mut [u8], cells: &
 // A replay over lent bytes: its answer, and what it leaves in ledger and cells, are what the rules give. It takes no picks.
 pub fn replay(
     graph: &[u8],
+    arrays: &[u8],
     inputs: &[u8],
     log: &[u8],
     ledger: &mut [u8],
     cells: &mut [u8],
 ) -> Answer
-    ensures { λ r. ⌜ ReplayedOn (now (graph .entry)) (now (inputs .entry)) (now (log .entry)) (now (ledger .entry)) (now (cells .entry)) r (now (ledger .exit)) (now (cells .exit)) ⌝ }
+    ensures { λ r. ⌜ ReplayedOn (now (graph .entry)) (now (arrays .entry)) (now (inputs .entry)) (now (log .entry)) (now (ledger .entry)) (now (cells .entry)) r (now (ledger .exit)) (now (cells .exit)) ⌝ }
 {
-    let checked = checks::check(graph, inputs, &log[0..0], ledger.len(), cells.len());
+    let checked = checks::check(graph, arrays, inputs, &log[0..0], ledger.len(), cells.len());
     match checked {
         Checked::Failed(r, place) => answer::refused(r, place),
-        Checked::Passed => accepted(graph, inputs, log, ledger, cells),
+        Checked::Passed => accepted(graph, arrays, inputs, log, ledger, cells),
     }
 }

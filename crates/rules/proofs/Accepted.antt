@@ -8,6 +8,7 @@ use lib.ListN.{length}
 use lib.Dec.{eqb, leb}
 use borrow.Author.Tests.{eqb-true, leb-true}
 use Rattle.buffer.specs.Rows.{whole}
+use Rattle.record.specs.declared.array.NamedArray.{NamedArray}
 use Rattle.record.specs.GraphRecords.{graphOf}
 use Rattle.record.specs.TokensAndTags.{mostTokens, capacityOf}
 use Rattle.record.specs.Widths.{tokenWidth, cellWidth, pickWidth}
@@ -17,7 +18,7 @@ use Rattle.rules.specs.declared.answer.Refusal.{Refusal}
 use Rattle.rules.specs.declared.answer.Refusal.the-variants.{BadStore}
 use Rattle.rules.specs.declared.answer.Checked.{Checked}
 use Rattle.rules.specs.declared.answer.Checked.the-variants.{Passed, Failed}
-use Rattle.rules.specs.Check.{_andThen_, checkGraph, checkStores, checkInputs, check, mostCells}
+use Rattle.rules.specs.Check.{_andThen_, checkGraph, checkStores, checkArrays, checkInputs, check, mostCells}
 use Rattle.rules.specs.InstructionSet.{machineOf}
 use Rattle.rules.specs.Run.{firstState, Result, refusedAtOnce, ranTo, unlessFailed, result}
 use Rattle.rules.proofs.Passed.{both, demand-passed, andThen-passed}
@@ -53,22 +54,24 @@ pub record Accepted (graph inputs : List ℕ) (capacity : ℕ) : Type 0 where
   pub graphPassed : checkGraph graph ≡ Passed
   pub inputsPassed : checkInputs (graphOf graph) capacity inputs ≡ Passed
 
-pub accepted : (graph inputs : List ℕ) (capacity : ℕ) (stores : Checked) → (checkGraph graph andThen stores andThen checkInputs (graphOf graph) capacity inputs) ≡ Passed
-    → (stores ≡ Passed) × Accepted graph inputs capacity
-accepted graph inputs capacity stores e =
+-- the checks between the two are of the stores and of the table of arrays
+pub accepted : (graph inputs : List ℕ) (capacity : ℕ) (stores arrays : Checked) → (checkGraph graph andThen stores andThen arrays andThen checkInputs (graphOf graph) capacity inputs) ≡ Passed
+    → (stores ≡ Passed) × ((arrays ≡ Passed) × Accepted graph inputs capacity)
+accepted graph inputs capacity stores arrays e =
     let parts = andThen-passed (checkGraph graph) _ e in
     let later = andThen-passed stores _ (parts .1) in
-    (later .0, record { graphPassed = parts .0; inputsPassed = later .1 })
+    let last = andThen-passed arrays _ (later .1) in
+    (later .0, (last .0, record { graphPassed = parts .0; inputsPassed = last .1 }))
 
-module _ (graph inputs : List ℕ) (capacity cells : ℕ) (a : Accepted graph inputs capacity) where
-  pub law : Lawful (machineOf (graphOf graph) capacity cells)
-  law = lawful graph (a .graphPassed) capacity cells
+module _ (graph inputs : List ℕ) (table : List NamedArray) (capacity cells : ℕ) (a : Accepted graph inputs capacity) where
+  pub law : Lawful (machineOf (graphOf graph) table capacity cells)
+  law = lawful graph (a .graphPassed) table capacity cells
 
-  pub begins : Start (machineOf (graphOf graph) capacity cells) (firstState inputs cells)
-  begins = start (graphOf graph) capacity cells inputs (a .inputsPassed)
+  pub begins : Start (machineOf (graphOf graph) table capacity cells) (firstState inputs cells)
+  begins = start (graphOf graph) table capacity cells inputs (a .inputsPassed)
 
-  pub good : Good (machineOf (graphOf graph) capacity cells) (firstState inputs cells)
-  good = startGood (machineOf (graphOf graph) capacity cells) (firstState inputs cells) begins
+  pub good : Good (machineOf (graphOf graph) table capacity cells) (firstState inputs cells)
+  good = startGood (machineOf (graphOf graph) table capacity cells) (firstState inputs cells) begins
 
 -- ---- results
 
@@ -83,14 +86,14 @@ Begun (refusedAtOnce r p) = ⊥
 Begun (ranTo e) = Unit {0}
 
 -- passed its check
-pub begun-passed : (graph inputs picks : List ℕ) (budget ledger cells : ℕ) → Begun (result graph inputs picks budget ledger cells) → check graph inputs picks ledger cells ≡ Passed
+pub begun-passed : (graph arrays inputs picks : List ℕ) (budget ledger cells : ℕ) → Begun (result graph arrays inputs picks budget ledger cells) → check graph arrays inputs picks ledger cells ≡ Passed
 unfolding result
-begun-passed graph inputs picks budget ledger cells =
-    by-check (check graph inputs picks ledger cells) _ (λ x. Begun x → check graph inputs picks ledger cells ≡ Passed) (λ r p e h. absurd h) (λ e h. e)
+begun-passed graph arrays inputs picks budget ledger cells =
+    by-check (check graph arrays inputs picks ledger cells) _ (λ x. Begun x → check graph arrays inputs picks ledger cells ≡ Passed) (λ r p e h. absurd h) (λ e h. e)
 
 -- and that of its stores
-pub begun-stores : (graph inputs picks : List ℕ) (budget ledger cells : ℕ) → Begun (result graph inputs picks budget ledger cells) → checkStores (length inputs) (length picks) ledger cells ≡ Passed
+pub begun-stores : (graph arrays inputs picks : List ℕ) (budget ledger cells : ℕ) → Begun (result graph arrays inputs picks budget ledger cells) → checkStores (length inputs) (length picks) ledger cells ≡ Passed
 unfolding result check
-begun-stores graph inputs picks budget ledger cells =
-    by-check (check graph inputs picks ledger cells) _ (λ x. Begun x → checkStores (length inputs) (length picks) ledger cells ≡ Passed) (λ r p e h. absurd h)
-    (λ e h. accepted graph inputs (capacityOf ledger) (checkStores (length inputs) (length picks) ledger cells) e .0)
+begun-stores graph arrays inputs picks budget ledger cells =
+    by-check (check graph arrays inputs picks ledger cells) _ (λ x. Begun x → checkStores (length inputs) (length picks) ledger cells ≡ Passed) (λ r p e h. absurd h)
+    (λ e h. accepted graph inputs (capacityOf ledger) (checkStores (length inputs) (length picks) ledger cells) (checkArrays (graphOf graph) (cells / cellWidth) arrays) e .0)

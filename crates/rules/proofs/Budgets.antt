@@ -6,7 +6,9 @@ use native.Mathlib.Omega.{arith}
 use lib.ListN.{length}
 use lib.IntN.{ℤ}
 use Rattle.record.specs.declared.tag.Tag.{Tag}
+use Rattle.record.specs.declared.array.NamedArray.{NamedArray}
 use Rattle.record.specs.GraphRecords.{graphOf}
+use Rattle.record.specs.Arrays.{arraysOf}
 use Rattle.record.specs.TokensAndTags.{mostTokens, capacityOf}
 use Rattle.record.specs.Widths.{tokenWidth, cellWidth}
 use Rattle.machine.specs.Machine.{Machine, State, byPicks, run}
@@ -14,7 +16,7 @@ use Rattle.machine.specs.Orders as Ends
 use Rattle.machine.proofs.Orders.{byPicksLawful, budgetsBy}
 use Rattle.machine.proofs.Reached.{reached-good, reached-picks}
 use Rattle.rules.specs.declared.answer.Checked.the-variants.{Passed}
-use Rattle.rules.specs.Check.{checkStores, check, mostCells}
+use Rattle.rules.specs.Check.{checkStores, checkArrays, check, mostCells}
 use Rattle.rules.specs.InstructionSet.{machineOf}
 use Rattle.rules.specs.Run.{firstState, picksOf, Result, refusedAtOnce, ranTo, outcomeOf, unlessFailed, result, answer}
 use Rattle.rules.specs.Orders.{Quiescent, Allowed, EndsAlike, AnyTwoBudgets}
@@ -27,9 +29,9 @@ quiescent-begun (ranTo e) h = tt
 
 -- ---- from inputs that passed
 
-module _ (graph inputs : List ℕ) (capacity cells : ℕ) (a : Accepted graph inputs capacity) where
+module _ (graph inputs : List ℕ) (table : List NamedArray) (capacity cells : ℕ) (a : Accepted graph inputs capacity) where
   abbrev M : Machine
-  M = machineOf (graphOf graph) capacity cells
+  M = machineOf (graphOf graph) table capacity cells
 
   abbrev s : State Tag ℤ
   s = firstState inputs cells
@@ -38,40 +40,40 @@ module _ (graph inputs : List ℕ) (capacity cells : ℕ) (a : Accepted graph in
       → EndsAlike (ranTo (run M budget picks s)) (ranTo (run M budget′ picks′ s))
   unfolding answer
   ends-alike b b′ ps qs rests enough =
-      let lawful = law graph inputs capacity cells a in
-      let first = good graph inputs capacity cells a in
+      let lawful = law graph inputs table capacity cells a in
+      let first = good graph inputs table capacity cells a in
       let z = budgetsBy M lawful (byPicks M) (byPicks M) (byPicksLawful M) (byPicksLawful M) s first b b′ ps qs 0 rests (omega arith) in
       let e = reached-picks M s b ps in
       let end = reached-good M lawful s first (e .done) (e .sent) _ (e .reached) in
-      record { outcomes = ap outcomeOf (z .outcome); alike = alike-ends (graphOf graph) capacity cells (run M b ps s) (run M b′ qs s) (end .distinct) z }
+      record { outcomes = ap outcomeOf (z .outcome); alike = alike-ends (graphOf graph) table capacity cells (run M b ps s) (run M b′ qs s) (end .distinct) z }
 
 -- ---- whole runs
 
-module _ (graph inputs picks : List ℕ) (budget ledger cells : ℕ) (rests : Quiescent (result graph inputs picks budget ledger cells)) where
-  passed : check graph inputs picks ledger cells ≡ Passed
-  passed = begun-passed graph inputs picks budget ledger cells (quiescent-begun (result graph inputs picks budget ledger cells) rests)
+module _ (graph arrays inputs picks : List ℕ) (budget ledger cells : ℕ) (rests : Quiescent (result graph arrays inputs picks budget ledger cells)) where
+  passed : check graph arrays inputs picks ledger cells ≡ Passed
+  passed = begun-passed graph arrays inputs picks budget ledger cells (quiescent-begun (result graph arrays inputs picks budget ledger cells) rests)
 
-  parts : (checkStores (length inputs) (length picks) ledger cells ≡ Passed) × Accepted graph inputs (capacityOf ledger)
+  parts : (checkStores (length inputs) (length picks) ledger cells ≡ Passed) × ((checkArrays (graphOf graph) (cells / cellWidth) arrays ≡ Passed) × Accepted graph inputs (capacityOf ledger))
   unfolding check
-  parts = accepted graph inputs (capacityOf ledger) (checkStores (length inputs) (length picks) ledger cells) passed
+  parts = accepted graph inputs (capacityOf ledger) (checkStores (length inputs) (length picks) ledger cells) (checkArrays (graphOf graph) (cells / cellWidth) arrays) passed
 
   wholes : Whole (length inputs) (length picks) ledger cells
   wholes = stores-whole (length inputs) (length picks) ledger cells (parts .0)
 
-  also-passed : (picks′ : List ℕ) → Allowed picks′ ledger cells → check graph inputs picks′ ledger cells ≡ Passed
+  also-passed : (picks′ : List ℕ) → Allowed picks′ ledger cells → check graph arrays inputs picks′ ledger cells ≡ Passed
   unfolding check checkStores
-  also-passed picks′ a = rw (parts .1 .graphPassed, wholes .wholeInputs, a .allowedPicks, a .allowedLedger, a .allowedCells) (parts .1 .inputsPassed)
+  also-passed picks′ a = rw (parts .1 .1 .graphPassed, wholes .wholeInputs, a .allowedPicks, a .allowedLedger, a .allowedCells, parts .1 .0) (parts .1 .1 .inputsPassed)
 
-  with-lengths : (picks′ : List ℕ) (budget′ : ℕ) → Allowed picks′ ledger cells → answer (result graph inputs picks budget ledger cells) .firings ≤ budget′
-      → EndsAlike (result graph inputs picks budget ledger cells) (result graph inputs picks′ budget′ ledger cells)
+  with-lengths : (picks′ : List ℕ) (budget′ : ℕ) → Allowed picks′ ledger cells → answer (result graph arrays inputs picks budget ledger cells) .firings ≤ budget′
+      → EndsAlike (result graph arrays inputs picks budget ledger cells) (result graph arrays inputs picks′ budget′ ledger cells)
   unfolding result unlessFailed answer
   with-lengths picks′ budget′ a enough =
       rw (passed, also-passed picks′ a)
-      (ends-alike graph inputs (capacityOf ledger) (cells / cellWidth) (parts .1) budget budget′ (picksOf picks) (picksOf picks′) (rw passed at rests) (rw passed at enough))
+      (ends-alike graph inputs (arraysOf arrays) (capacityOf ledger) (cells / cellWidth) (parts .1 .1) budget budget′ (picksOf picks) (picksOf picks′) (rw passed at rests) (rw passed at enough))
 
 pub any-two-budgets : AnyTwoBudgets
-any-two-budgets graph inputs picks picks′ budget budget′ ledger ledger′ cells cells′ rests a c d enough =
-    let w = wholes graph inputs picks budget ledger cells rests in
+any-two-budgets graph arrays inputs picks picks′ budget budget′ ledger ledger′ cells cells′ rests a c d enough =
+    let w = wholes graph arrays inputs picks budget ledger cells rests in
     let l = same-length ledger ledger′ (whole-bytes tokenWidth mostTokens ledger (w .wholeLedger) .0) (whole-bytes tokenWidth mostTokens ledger′ (a .allowedLedger) .0) c in
     let k = same-cells cells cells′ (whole-bytes cellWidth mostCells cells (w .wholeCells) .0) (whole-bytes cellWidth mostCells cells′ (a .allowedCells) .0) d in
-    rw (← l, ← k) (with-lengths graph inputs picks budget ledger cells rests picks′ budget′ (rw (l, k) a) enough)
+    rw (← l, ← k) (with-lengths graph arrays inputs picks budget ledger cells rests picks′ budget′ (rw (l, k) a) enough)

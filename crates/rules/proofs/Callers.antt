@@ -12,6 +12,7 @@ use lib.ListN.{length, getD, take}
 use lib.Dec.{eqb, leb}
 use lib.IntN.{ℤ, pos, negsuc, natAbs}
 use Rattle.record.specs.declared.tag.Tag.{Tag}
+use Rattle.record.specs.declared.array.NamedArray.{NamedArray}
 use Rattle.record.specs.declared.tag.Left.{Left}
 use Rattle.record.specs.declared.tag.Left.the-variants.{To, NoCaller}
 use Rattle.record.specs.declared.instruction.Destination.{Destination}
@@ -166,14 +167,14 @@ module _ (graph : List ℕ) (passed : checkGraph graph ≡ Passed) where
   abbrev Any : {A : Type 0} → A → Type 0
   Any x = Unit {0}
 
-  module _ (capacity cells : ℕ) where
+  module _ (table : List NamedArray) (capacity cells : ℕ) where
     abbrev M : Machine
-    M = machineOf g capacity cells
+    M = machineOf g table capacity cells
 
     under-all : (τ : Tag) → PathIn g (pathNumber (τ .path)) × (τ .iteration < 256) → (ds : List Destination) → Each Called (map (keyUnder τ) ds)
     under-all τ h ds = each-map (λ d. Unit {0}) Called (keyUnder τ) (λ d k. h) ds (each-all (λ d. Unit {0}) (λ d. tt) ds)
 
-    asked : (τ : Tag) → PathIn g (pathNumber (τ .path)) → τ .iteration < 256 → Asked g capacity cells Called Any Any τ (instructionAt g (τ .instruction))
+    asked : (τ : Tag) → PathIn g (pathNumber (τ .path)) → τ .iteration < 256 → Asked g table capacity cells Called Any Any τ (instructionAt g (τ .instruction))
     asked τ p low =
         let r = instructionAt g (τ .instruction) in
         record {
@@ -188,7 +189,7 @@ module _ (graph : List ℕ) (passed : checkGraph graph ≡ Passed) where
         }
 
     pub keeps : Keeps M Called Any Any
-    keeps = keeps-asked g capacity cells Called Any Any (λ τ (waits, keys). asked τ (keys 0 waits .0) (keys 0 waits .1)) tt
+    keeps = keeps-asked g table capacity cells Called Any Any (λ τ (waits, keys). asked τ (keys 0 waits .0) (keys 0 waits .1)) tt
 
     -- ---- of every token
 
@@ -224,13 +225,13 @@ module _ (graph : List ℕ) (passed : checkGraph graph ≡ Passed) where
       go (To site to) e = (found g (t .key .tag) site to (h .path) e .enter, returns site)
 
 pub callers-kept : CallersKept
-callers-kept graph capacity cells passed s x τ h e = kept graph passed capacity cells s x τ h e
+callers-kept graph table capacity cells passed s x τ h e = kept graph passed table capacity cells s x τ h e
 
 pub caller-found : CallerFound
 caller-found graph passed t h = found-known graph passed t h
 
 pub callers-known : CallersKnown
-callers-known graph inputs capacity cells passed accepted f o x r =
+callers-known graph inputs table capacity cells passed accepted f o x r =
     let g = graphOf graph in
-    let first = start-keys g capacity cells (Called graph passed) (λ c. Unit {0}) inputs (λ t e l h. rw (e, root-number) (root-path g, omega arith)) accepted in
-    known graph passed capacity cells (x .tokens) (reached-keeps (machineOf g capacity cells) (Called graph passed) (λ v. Unit {0}) (λ c. Unit {0}) (keeps graph passed capacity cells) _ first f o x r .tokens)
+    let first = start-keys g table capacity cells (Called graph passed) (λ c. Unit {0}) inputs (λ t e l h. rw (e, root-number) (root-path g, omega arith)) accepted in
+    known graph passed table capacity cells (x .tokens) (reached-keeps (machineOf g table capacity cells) (Called graph passed) (λ v. Unit {0}) (λ c. Unit {0}) (keeps graph passed table capacity cells) _ first f o x r .tokens)

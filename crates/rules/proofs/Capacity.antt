@@ -13,6 +13,7 @@ use Rattle.record.specs.declared.tag.Tag.{Tag}
 use Rattle.record.specs.declared.instruction.Instruction.{Instruction}
 use Rattle.buffer.specs.Rows.{allRows}
 use Rattle.record.specs.GraphRecords.{graphOf}
+use Rattle.record.specs.Arrays.{arraysOf}
 use Rattle.record.specs.TokensAndTags.{mostTokens, capacityOf}
 use Rattle.record.specs.TokensAndTags as Tokens
 use Rattle.record.specs.Widths.{tokenWidth, cellWidth}
@@ -25,7 +26,7 @@ use Rattle.rules.specs.declared.answer.Refusal.{Refusal}
 use Rattle.rules.specs.declared.answer.Refusal.the-variants.{BadInput, LedgerFull}
 use Rattle.rules.specs.declared.answer.Checked.{Checked}
 use Rattle.rules.specs.declared.answer.Checked.the-variants.{Passed, Failed}
-use Rattle.rules.specs.Check.{demand, inTurn, goodInput, checkStores, checkInputs, check}
+use Rattle.rules.specs.Check.{demand, inTurn, goodInput, checkStores, checkArrays, checkInputs, check}
 use Rattle.rules.specs.InstructionSet.{machineOf}
 use Rattle.rules.specs.Run.{firstState, picksOf, ranTo, unlessFailed, result, answer}
 use Rattle.rules.specs.Orders.{Quiescent, Allowed}
@@ -56,9 +57,9 @@ module _ (g : List Instruction) (capacity n : ℕ) (inputs : List ℕ) (passed :
 
 -- ---- a run that completed or hung
 
-module _ (graph inputs picks : List ℕ) (ledger cells : ℕ) (rests : Quiescent (result graph inputs picks 2048 ledger cells)) where
+module _ (graph arrays inputs picks : List ℕ) (ledger cells : ℕ) (rests : Quiescent (result graph arrays inputs picks 2048 ledger cells)) where
   abbrev M : Machine
-  M = machineOf (graphOf graph) (capacityOf ledger) (cells / cellWidth)
+  M = machineOf (graphOf graph) (arraysOf arrays) (capacityOf ledger) (cells / cellWidth)
 
   abbrev s : State Tag ℤ
   s = firstState inputs (cells / cellWidth)
@@ -66,17 +67,17 @@ module _ (graph inputs picks : List ℕ) (ledger cells : ℕ) (rests : Quiescent
   abbrev e : End Refusal Tag ℤ
   e = run M 2048 (picksOf picks) s
 
-  pub passes : check graph inputs picks ledger cells ≡ Passed
+  pub passes : check graph arrays inputs picks ledger cells ≡ Passed
   unfolding result unlessFailed
-  passes = go (check graph inputs picks ledger cells) refl
+  passes = go (check graph arrays inputs picks ledger cells) refl
     where
-      go : (c : Checked) → check graph inputs picks ledger cells ≡ c → c ≡ Passed
+      go : (c : Checked) → check graph arrays inputs picks ledger cells ≡ c → c ≡ Passed
       go Passed h = refl
       go (Failed r p) h = absurd (rw h at rests)
 
-  parts : (checkStores (length inputs) (length picks) ledger cells ≡ Passed) × Accepted graph inputs (capacityOf ledger)
+  parts : (checkStores (length inputs) (length picks) ledger cells ≡ Passed) × ((checkArrays (graphOf graph) (cells / cellWidth) arrays ≡ Passed) × Accepted graph inputs (capacityOf ledger))
   unfolding check
-  parts = accepted graph inputs (capacityOf ledger) (checkStores (length inputs) (length picks) ledger cells) passes
+  parts = accepted graph inputs (capacityOf ledger) (checkStores (length inputs) (length picks) ledger cells) (checkArrays (graphOf graph) (cells / cellWidth) arrays) passes
 
   wholes : Whole (length inputs) (length picks) ledger cells
   wholes = stores-whole (length inputs) (length picks) ledger cells (parts .0)
@@ -85,7 +86,7 @@ module _ (graph inputs picks : List ℕ) (ledger cells : ℕ) (rests : Quiescent
   unfolding result unlessFailed
   quiet = rw passes at rests
 
-  used : answer (result graph inputs picks 2048 ledger cells) .tokens ≡ length (e .state .tokens)
+  used : answer (result graph arrays inputs picks 2048 ledger cells) .tokens ≡ length (e .state .tokens)
   unfolding result unlessFailed answer
   used = rw passes
 
@@ -93,40 +94,40 @@ module _ (graph inputs picks : List ℕ) (ledger cells : ℕ) (rests : Quiescent
   inputs-used : length (allRows tokenWidth Tokens.decode inputs) ≤ length (e .state .tokens)
   inputs-used =
       let r = reached-picks M s 2048 (picksOf picks) in
-      let c = reached-count M (law graph inputs (capacityOf ledger) (cells / cellWidth) (parts .1)) s (good graph inputs (capacityOf ledger) (cells / cellWidth) (parts .1)) (r .done) (r .sent) (e .state) (r .reached) in
+      let c = reached-count M (law graph inputs (arraysOf arrays) (capacityOf ledger) (cells / cellWidth) (parts .1 .1)) s (good graph inputs (arraysOf arrays) (capacityOf ledger) (cells / cellWidth) (parts .1 .1)) (r .done) (r .sent) (e .state) (r .reached) in
       omega (arith, c, tokens-first inputs (cells / cellWidth))
 
   -- with a ledger that has room for the inputs too
-  pub also-passes : (picks′ : List ℕ) (ledger′ : ℕ) → Allowed picks′ ledger′ cells → length (allRows tokenWidth Tokens.decode inputs) ≤ capacityOf ledger′ → check graph inputs picks′ ledger′ cells ≡ Passed
+  pub also-passes : (picks′ : List ℕ) (ledger′ : ℕ) → Allowed picks′ ledger′ cells → length (allRows tokenWidth Tokens.decode inputs) ≤ capacityOf ledger′ → check graph arrays inputs picks′ ledger′ cells ≡ Passed
   unfolding check checkStores
   also-passes picks′ ledger′ a l =
-      rw (parts .1 .graphPassed, wholes .wholeInputs, a .allowedPicks, a .allowedLedger, a .allowedCells) (inputs-fit (graphOf graph) (capacityOf ledger) (capacityOf ledger′) inputs (parts .1 .inputsPassed) l)
+      rw (parts .1 .1 .graphPassed, wholes .wholeInputs, a .allowedPicks, a .allowedLedger, a .allowedCells, parts .1 .0) (inputs-fit (graphOf graph) (capacityOf ledger) (capacityOf ledger′) inputs (parts .1 .1 .inputsPassed) l)
 
-  pub also-exceeds : (picks′ : List ℕ) (ledger′ : ℕ) → Allowed picks′ ledger′ cells → capacityOf ledger′ < length (allRows tokenWidth Tokens.decode inputs) → check graph inputs picks′ ledger′ cells ≡ Failed LedgerFull (capacityOf ledger′)
+  pub also-exceeds : (picks′ : List ℕ) (ledger′ : ℕ) → Allowed picks′ ledger′ cells → capacityOf ledger′ < length (allRows tokenWidth Tokens.decode inputs) → check graph arrays inputs picks′ ledger′ cells ≡ Failed LedgerFull (capacityOf ledger′)
   unfolding check checkStores
   also-exceeds picks′ ledger′ a l =
-      rw (parts .1 .graphPassed, wholes .wholeInputs, a .allowedPicks, a .allowedLedger, a .allowedCells) (inputs-exceed (graphOf graph) (capacityOf ledger) (capacityOf ledger′) inputs (parts .1 .inputsPassed) l)
+      rw (parts .1 .1 .graphPassed, wholes .wholeInputs, a .allowedPicks, a .allowedLedger, a .allowedCells, parts .1 .0) (inputs-exceed (graphOf graph) (capacityOf ledger) (capacityOf ledger′) inputs (parts .1 .1 .inputsPassed) l)
 
 pub enough-room : EnoughRoom
 unfolding result unlessFailed
-enough-room graph inputs picks ledger ledger′ cells rests fits enough =
-    let w = wholes graph inputs picks ledger cells rests in
+enough-room graph arrays inputs picks ledger ledger′ cells rests fits enough =
+    let w = wholes graph arrays inputs picks ledger cells rests in
     let allowed : Allowed picks ledger′ cells = record { allowedPicks = w .wholePicks; allowedLedger = fits; allowedCells = w .wholeCells } in
-    let M = machineOf (graphOf graph) (capacityOf ledger) (cells / cellWidth) in
-    rw (passes graph inputs picks ledger cells rests, also-passes graph inputs picks ledger cells rests picks ledger′ allowed (omega (arith, inputs-used graph inputs picks ledger cells rests, enough, used graph inputs picks ledger cells rests)))
-    (ap ranTo (Machines.enough-room M (byPicks M) (firstState inputs (cells / cellWidth)) 2048 (picksOf picks) 0 (quiet graph inputs picks ledger cells rests) (capacityOf ledger′) (omega (arith, enough, used graph inputs picks ledger cells rests))))
+    let M = machineOf (graphOf graph) (arraysOf arrays) (capacityOf ledger) (cells / cellWidth) in
+    rw (passes graph arrays inputs picks ledger cells rests, also-passes graph arrays inputs picks ledger cells rests picks ledger′ allowed (omega (arith, inputs-used graph arrays inputs picks ledger cells rests, enough, used graph arrays inputs picks ledger cells rests)))
+    (ap ranTo (Machines.enough-room M (byPicks M) (firstState inputs (cells / cellWidth)) 2048 (picksOf picks) 0 (quiet graph arrays inputs picks ledger cells rests) (capacityOf ledger′) (omega (arith, enough, used graph arrays inputs picks ledger cells rests))))
 
 pub too-small : TooSmall
 unfolding result unlessFailed
-too-small graph inputs picks picks′ ledger ledger′ cells rests allowed less = go (decLe (length (allRows tokenWidth Tokens.decode inputs)) (capacityOf ledger′))
+too-small graph arrays inputs picks picks′ ledger ledger′ cells rests allowed less = go (decLe (length (allRows tokenWidth Tokens.decode inputs)) (capacityOf ledger′))
   where
-    go : Dec (length (allRows tokenWidth Tokens.decode inputs) ≤ capacityOf ledger′) → RefusedBy8 (result graph inputs picks′ 2048 ledger′ cells)
-    go (no n) = rw (also-exceeds graph inputs picks ledger cells rests picks′ ledger′ allowed (omega arith)) refl
+    go : Dec (length (allRows tokenWidth Tokens.decode inputs) ≤ capacityOf ledger′) → RefusedBy8 (result graph arrays inputs picks′ 2048 ledger′ cells)
+    go (no n) = rw (also-exceeds graph arrays inputs picks ledger cells rests picks′ ledger′ allowed (omega arith)) refl
     go (yes l) =
-        let M = machineOf (graphOf graph) (capacityOf ledger) (cells / cellWidth) in
+        let M = machineOf (graphOf graph) (arraysOf arrays) (capacityOf ledger) (cells / cellWidth) in
         let s = firstState inputs (cells / cellWidth) in
-        let a = parts graph inputs picks ledger cells rests .1 in
-        rw (also-passes graph inputs picks ledger cells rests picks′ ledger′ allowed l)
-        (Machines.too-small M (law graph inputs (capacityOf ledger) (cells / cellWidth) a) (byPicks M) (byPicks M) (byPicksLawful M) (byPicksLawful M) s (good graph inputs (capacityOf ledger) (cells / cellWidth) a)
-        2048 2048 (picksOf picks) (picksOf picks′) 0 (quiet graph inputs picks ledger cells rests) (capacityOf ledger′) (omega (arith, less, used graph inputs picks ledger cells rests))
+        let a = parts graph arrays inputs picks ledger cells rests .1 .1 in
+        rw (also-passes graph arrays inputs picks ledger cells rests picks′ ledger′ allowed l)
+        (Machines.too-small M (law graph inputs (arraysOf arrays) (capacityOf ledger) (cells / cellWidth) a) (byPicks M) (byPicks M) (byPicksLawful M) (byPicksLawful M) s (good graph inputs (arraysOf arrays) (capacityOf ledger) (cells / cellWidth) a)
+        2048 2048 (picksOf picks) (picksOf picks′) 0 (quiet graph arrays inputs picks ledger cells rests) (capacityOf ledger′) (omega (arith, less, used graph arrays inputs picks ledger cells rests))
         (omega (arith, l, tokens-first inputs (cells / cellWidth))) (whole-bytes tokenWidth mostTokens ledger′ (allowed .allowedLedger) .1))

@@ -10,6 +10,7 @@ use lib.Dec.{ltb}
 use lib.IntN.{ℤ, pos, negsuc, natAbs}
 use borrow.Author.Tests.{ltb-true}
 use Rattle.record.specs.declared.tag.Tag.{Tag}
+use Rattle.record.specs.declared.array.NamedArray.{NamedArray}
 use Rattle.record.specs.declared.tag.Next.the-variants.{Is, Last}
 use Rattle.record.specs.declared.tag.Entered.the-variants.{In, TooDeep}
 use Rattle.record.specs.declared.tag.Left.{Left}
@@ -30,7 +31,7 @@ use Rattle.machine.specs.Machine.{Key, refuse, send, read, write, Machine}
 use Rattle.machine.proofs.Kept.{Each, OfEffect, OfOperands, Keeps}
 use Rattle.rules.specs.declared.answer.Refusal.the-variants as Refusals
 use Rattle.rules.specs.Check.{instructionAt}
-use Rattle.rules.specs.InstructionSet.{EffectHere, keyUnder, allUnder, sideOf, sendComputed, sendNext, sendEntered, returnOf, sendReturned, sendLeft, onCell, effectOf, effectIn, machineOf}
+use Rattle.rules.specs.InstructionSet.{EffectHere, keyUnder, allUnder, sideOf, sendComputed, sendNext, sendEntered, returnOf, sendReturned, sendLeft, onCell, cellNumber, effectOf, effectIn, machineOf}
 
 -- the tag that NEXT makes
 abbrev pub later : Tag → Tag
@@ -42,9 +43,9 @@ both-sides Q τ zero d e l h = absurd (omega arith)
 both-sides Q τ (suc zero) d e l h = absurd (omega arith)
 both-sides Q τ (suc (suc n)) d e l h = (h .0, h .1 .0)
 
-module _ (g : List Instruction) (capacity cells : ℕ) (P : Key Tag → Type 0) (Q : ℤ → Type 0) (R : (cell : ℕ) → Type 0) where
+module _ (g : List Instruction) (table : List NamedArray) (capacity cells : ℕ) (P : Key Tag → Type 0) (Q : ℤ → Type 0) (R : (cell : ℕ) → Type 0) where
   abbrev M : Machine
-  M = machineOf g capacity cells
+  M = machineOf g table capacity cells
 
   abbrev Holds : EffectHere → Type 0
   Holds e = OfEffect M P Q R e
@@ -109,7 +110,7 @@ module _ (g : List Instruction) (capacity cells : ℕ) (P : Key Tag → Type 0) 
         of-cond (ltb i (length g)) (send v (record { tag = toOf caller i; port = 0 } ∷ [])) (refuse Refusals.NoReturn)
         (λ l. (h, (asked .leave e site caller f i (ltb-true i (length g) l), tt))) tt
 
-    of-operation : (o : Operation) → operationOf (r .code) ≡ o → (a b : ℤ) → Q a → Q b → Holds (effectOf o g cells τ r a b (allUnder τ r))
+    of-operation : (o : Operation) → operationOf (r .code) ≡ o → (a b : ℤ) → Q a → Q b → Holds (effectOf o g table cells τ r a b (allUnder τ r))
     unfolding effectOf
     of-operation Operations.Copy e a b qa qb = (qa, asked .all)
     of-operation Operations.Sink e a b qa qb = (qa, tt)
@@ -120,15 +121,15 @@ module _ (g : List Instruction) (capacity cells : ℕ) (P : Key Tag → Type 0) 
     of-operation Operations.Next e a b qa qb = of-next a qa e
     of-operation Operations.Enter e a b qa qb = of-enter a qa e
     of-operation Operations.Leave e a b qa qb = of-leave a qa e (leaveOf τ) refl
-    of-operation Operations.Fetch e a b qa qb = of-cell a (λ c. read c (allUnder τ r)) (λ c h. (asked .fetch e c h, asked .all))
-    of-operation Operations.Store e a b qa qb = of-cell a (λ c. write c b (allUnder τ r)) (λ c h. (qb, asked .all))
+    of-operation Operations.Fetch e a b qa qb = of-cell (cellNumber table (r .constant) a) (λ c. read c (allUnder τ r)) (λ c h. (asked .fetch e c h, asked .all))
+    of-operation Operations.Store e a b qa qb = of-cell (cellNumber table (r .constant) a) (λ c. write c b (allUnder τ r)) (λ c h. (qb, asked .all))
     of-operation (Operations.OnTwo o) e a b qa qb = of-computed (computeOf o a b) (allUnder τ r) (λ v f. asked .computed o a b v f) (asked .all)
     of-operation (Operations.OnConstant o) e a b qa qb = of-computed (computeOf o a (r .constant)) (allUnder τ r) (λ v f. asked .computed o a (r .constant) v f) (asked .all)
     of-operation Operations.Unknown e a b qa qb = (qa, tt)
 
   -- ---- of the machine
 
-  pub effect-asked : (τ : Tag) → Asked τ (instructionAt g (τ .instruction)) → (v w : ℤ) → Q v → Q w → Holds (effectIn g cells τ v w)
+  pub effect-asked : (τ : Tag) → Asked τ (instructionAt g (τ .instruction)) → (v w : ℤ) → Q v → Q w → Holds (effectIn g table cells τ v w)
   unfolding effectIn
   effect-asked τ ask v w qv qw = let r = instructionAt g (τ .instruction) in of-operation τ r ask (operationOf (r .code)) refl v w qv qw
 

@@ -38,13 +38,13 @@ use Rattle.rules.proofs.Inputs.{start}
 use Rattle.rules.proofs.ExpressionPassed.{Proper, passed}
 use Rattle.rules.proofs.ExpressionGraph.{counted, count-both, variable-number, operation-number, variable-low}
 use Rattle.rules.proofs.ExpressionTree.{optional, number, portsOf, sourceOf, tree, is-tree}
-use Rattle.rules.proofs.ExpressionAccepted.{graph-back, graph-passes, length-inputs, few-values, length-input-bytes, inputs-back, inputs-pass}
+use Rattle.rules.proofs.ExpressionAccepted.{graph-back, graph-passes, arrays-pass, length-inputs, few-values, length-input-bytes, inputs-back, inputs-pass}
 
 -- ---- the inputs by key
 
 module _ (g : List Instruction) (capacity cells : ℕ) where
   abbrev M : Machine
-  M = machineOf g capacity cells
+  M = machineOf g [] capacity cells
 
   abbrev held : (i : ℕ) → List ℤ → List (Token Tag ℤ)
   held i values = map tokenHeld (inputsFor i values)
@@ -71,7 +71,7 @@ module _ (g : List Instruction) (capacity cells : ℕ) where
 
 module _ (ts : List Term) (ok : Proper ts) (values : List ℤ) (fit : ValuesFor ts values) (capacity cells : ℕ) (room : count isVariable ts + length ts ≤ capacity) where
   abbrev T : Machine
-  T = machineOf (graphFor ts) capacity cells
+  T = machineOf (graphFor ts) [] capacity cells
 
   abbrev s : State Tag ℤ
   s = firstState (inputBytes values) cells
@@ -126,7 +126,7 @@ module _ (ts : List Term) (ok : Proper ts) (values : List ℤ) (fit : ValuesFor 
 
   fed : Fed T (tree ts ok values capacity cells) s
   fed = record {
-    distinct = start (graphFor ts) capacity cells (inputBytes values) (inputs-pass ts ok values fit capacity (let many = fit .number in omega arith)) .distinct;
+    distinct = start (graphFor ts) [] capacity cells (inputBytes values) (inputs-pass ts ok values fit capacity (let many = fit .number in omega arith)) .distinct;
     inputs = inputs-there;
     only = only-inputs;
     room = rw (tokens-first, length-map (inputsFor 0 values) tokenHeld, length-inputs 0 values, fit .number) room;
@@ -190,11 +190,12 @@ expressions-evaluate expression e values fit picks ledger cells allowed enough =
         let bytes = length-input-bytes ts ok values fit in
         rw (eq-eqb (length (inputBytes values) % tokenWidth) 0 (omega arith), le-leb (length (inputBytes values) / tokenWidth) mostTokens (omega arith))
 
-    ran : result (graphBytes ts) (inputBytes values) picks 2048 ledger cells ≡ ranTo (run T 2048 (picksOf picks) (firstState (inputBytes values) (cells / cellWidth)))
+    ran : result (graphBytes ts) [] (inputBytes values) picks 2048 ledger cells ≡ ranTo (run T 2048 (picksOf picks) (firstState (inputBytes values) (cells / cellWidth)))
     ran =
         rw (
           graph-passes ts ok,
           stores-pass (inputBytes values) picks ledger cells whole-inputs allowed,
           graph-back ts ok,
+          arrays-pass ts ok (cells / cellWidth),
           inputs-pass ts ok values fit capacity (let few = few-values ts ok values fit in omega arith),
         )

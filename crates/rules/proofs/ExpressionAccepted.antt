@@ -22,7 +22,7 @@ use Rattle.record.specs.declared.instruction.Instruction.{Instruction}
 use Rattle.number.proofs.Numbers.{number16-bytes, fits16}
 use Rattle.buffer.specs.Rows.{rows, allRows, joined, All}
 use Rattle.buffer.proofs.Tables.{length-joined, rows-joined}
-use Rattle.record.specs.GraphRecords.{Row, rowOf, usesConstant, operandsOf, graphOf, isGraphLength, InstructionFits}
+use Rattle.record.specs.GraphRecords.{Row, rowOf, namesArray, usesConstant, operandsOf, graphOf, isGraphLength, InstructionFits}
 use Rattle.record.specs.GraphRecords as Graph
 use Rattle.record.specs.TokensAndTags.{rootOf, isInput, sameTag, standsAt, TokenFits}
 use Rattle.record.specs.TokensAndTags as Tokens
@@ -34,7 +34,7 @@ use Rattle.record.proofs.Records.{length-instruction, instruction-back, length-
 use Rattle.rules.specs.declared.answer.Refusal.the-variants as Refusals
 use Rattle.rules.specs.declared.answer.Checked.{Checked}
 use Rattle.rules.specs.declared.answer.Checked.the-variants.{Passed}
-use Rattle.rules.specs.Check.{demand, any, inTurn, operandsAt, fanOutAllowed, isZero, unusedAreZero, goodArc, goodSite, checkRecord, checkGraph, goodInput, secondInput, checkInputs}
+use Rattle.rules.specs.Check.{demand, any, inTurn, operandsAt, fanOutAllowed, isZero, unusedAreZero, goodArc, goodSite, checkRecord, checkGraph, namesGood, checkArrays, goodInput, secondInput, checkInputs}
 use Rattle.rules.specs.Expression.{termAt, isVariable, isOperation, instructionFor, goesTo, codeFor, sending, out, made, graphFor, graphBytes, inputsFor, inputBytes, ValuesFor, GraphsReadBack, GraphsAccepted, InputsAccepted}
 use Rattle.rules.proofs.Lists.{or-right}
 use Rattle.rules.proofs.ExpressionPassed.{Proper, passed}
@@ -161,7 +161,7 @@ module _ (ts : List Term) (ok : Proper ts) where
       (ne-eqb code 8 (λ q. omega arith)) (ne-eqb code 9 (λ q. omega arith)) (goes j l .there))
 
   out-passes : (k : ℕ) → checkRecord (graphFor ts) k out ≡ Passed
-  unfolding checkRecord fanOutAllowed unusedAreZero isZero goodSite usesConstant rowOf
+  unfolding checkRecord fanOutAllowed unusedAreZero isZero goodSite namesArray usesConstant rowOf
   out-passes k = refl
 
   pub graph-passes : checkGraph (graphBytes ts) ≡ Passed
@@ -173,6 +173,28 @@ module _ (ts : List Term) (ok : Proper ts) where
           let few = ok .few in
           let a = length-bytes in
           rw (le-leb 1 (length (graphBytes ts)) (omega arith), eq-eqb (length (graphBytes ts) % graphWidth) 0 (omega arith), le-leb (length (graphBytes ts) / graphWidth) 256 (omega arith))
+
+  -- it has no FETCH and no STORE, so it names no array
+  none-named : (r : Instruction) → namesArray (r .code) ≡ false → (k : ℕ) → demand (namesGood 0 r) Refusals.BadArray k ≡ Passed
+  unfolding namesGood
+  none-named r h k = rw h
+
+  record-names-none : (j : ℕ) → j < n → (k : ℕ) → demand (namesGood 0 (sending (codeFor (termAt ts j)) (goesTo ts j))) Refusals.BadArray k ≡ Passed
+  unfolding namesArray
+  record-names-none j l =
+      by-kind (λ code. (k : ℕ) → demand (namesGood 0 (sending code (goesTo ts j))) Refusals.BadArray k ≡ Passed) j l
+      (none-named (sending 1 (goesTo ts j)) refl)
+      (λ code least most. none-named (sending code (goesTo ts j)) (rw (ne-eqb code 10 (λ q. omega arith), ne-eqb code 11 (λ q. omega arith))))
+
+  out-names-none : (k : ℕ) → demand (namesGood 0 out) Refusals.BadArray k ≡ Passed
+  unfolding namesArray
+  out-names-none = none-named out refl
+
+  pub arrays-pass : (cells : ℕ) → checkArrays (graphFor ts) cells [] ≡ Passed
+  unfolding checkArrays
+  arrays-pass cells =
+      turn-passes (λ i r. demand (namesGood 0 r) Refusals.BadArray i) 0 (graphFor ts)
+      (each-instruction (λ r. (k : ℕ) → demand (namesGood 0 r) Refusals.BadArray k ≡ Passed) record-names-none out-names-none)
 
 pub graphs-read-back : GraphsReadBack
 graphs-read-back expression e = graph-back (expressionOf expression) (passed expression e)

@@ -237,14 +237,14 @@ module _ (ts : List Term) (ok : Proper ts) where
   -- ---- effects
 
   module _ (cells : ℕ) (τ : Tag) (d : Destination) (a b : ℤ) where
-    copies : instructionAt (graphFor ts) (τ .instruction) ≡ sending 1 d → effectIn (graphFor ts) cells τ a b ≡ send a (keyUnder τ d ∷ [])
+    copies : instructionAt (graphFor ts) (τ .instruction) ≡ sending 1 d → effectIn (graphFor ts) [] cells τ a b ≡ send a (keyUnder τ d ∷ [])
     unfolding effectIn effectOf rowOf
     copies e = rw e
 
     computes : (code : ℕ) → rowOf code ≡ arithmeticRow code → instructionAt (graphFor ts) (τ .instruction) ≡ sending code d
-        → effectIn (graphFor ts) cells τ a b ≡ sendComputed (computeOf (arithmeticOf code) a b) (keyUnder τ d ∷ [])
+        → effectIn (graphFor ts) [] cells τ a b ≡ sendComputed (computeOf (arithmeticOf code) a b) (keyUnder τ d ∷ [])
     unfolding effectIn effectOf
-    computes code row e = rw e (ap (λ (r : Row). effectOf (r .operation) (graphFor ts) cells τ (sending code d) a b (keyUnder τ d ∷ [])) row)
+    computes code row e = rw e (ap (λ (r : Row). effectOf (r .operation) (graphFor ts) [] cells τ (sending code d) a b (keyUnder τ d ∷ [])) row)
 
   sent : (c : Computed) (keys : List (Key Tag)) → sendComputed c keys ≡ onOption (optional c) (refuse Refusals.OutOfRange) (λ v. send v keys)
   unfolding sendComputed
@@ -260,7 +260,7 @@ module _ (ts : List Term) (ok : Proper ts) where
 
   module _ (values : List ℤ) (capacity cells : ℕ) where
     abbrev M : Machine
-    M = machineOf (graphFor ts) capacity cells
+    M = machineOf (graphFor ts) [] capacity cells
 
     abbrev pub tree : Tree M
     tree = record {
@@ -323,7 +323,7 @@ module _ (ts : List Term) (ok : Proper ts) where
 
     abbrev Does : (i : ℕ) → Type 0
     Does i = (o : Operands ℤ) → twoValues (portsOf ts i) (comes (tree .value) (sourceOf ts values i 0)) (comes (tree .value) (sourceOf ts values i 1)) ≡ some o
-        → effectIn (graphFor ts) cells (rootOf (number ts i)) (o .left) (o .right) ≡ onOption (optional (valueAt ts values i)) (refuse Refusals.OutOfRange) (λ v. send v (outOf ts i ∷ []))
+        → effectIn (graphFor ts) [] cells (rootOf (number ts i)) (o .left) (o .right) ≡ onOption (optional (valueAt ts values i)) (refuse Refusals.OutOfRange) (λ v. send v (outOf ts i ∷ []))
 
     variable-does : (i : ℕ) → i < n → isVariable (termAt ts i) ≡ true → Does i
     variable-does i low v o e =

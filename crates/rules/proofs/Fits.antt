@@ -14,6 +14,7 @@ use mir.Syntax.{w32}
 use mir.Val.{SFits}
 use borrow.Author.Tests.{leb-true}
 use Rattle.record.specs.declared.tag.Tag.{Tag}
+use Rattle.record.specs.declared.array.NamedArray.{NamedArray}
 use Rattle.record.specs.declared.tag.Left.the-variants.{To, NoCaller}
 use Rattle.record.specs.declared.instruction.Destination.{Destination}
 use Rattle.record.specs.declared.instruction.Instruction.{Instruction}
@@ -29,6 +30,7 @@ use Rattle.record.specs.Cells.{CellFits}
 use Rattle.record.specs.Paths.{pathNumber, pathWords, isRoot, PathFits}
 use Rattle.record.specs.Calls.{entered, leaveOf}
 use Rattle.record.specs.GraphRecords.{inUse, operationOf, graphOf, InstructionFits}
+use Rattle.record.specs.Arrays.{arraysOf}
 use Rattle.record.specs.GraphRecords as Graph
 use Rattle.record.proofs.Paths.{entered-fits, left-fits}
 use Rattle.record.proofs.Fitting.{token-fits, instruction-fits, rows-fit}
@@ -46,7 +48,7 @@ use Rattle.rules.specs.declared.answer.Checked.{Checked}
 use Rattle.rules.specs.declared.answer.Checked.the-variants.{Passed, Failed}
 use Rattle.rules.specs.declared.answer.Refusal.{Refusal}
 use Rattle.rules.specs.declared.answer.Refusal.the-variants.{ProfileFull, NotEnabled}
-use Rattle.rules.specs.Check.{instructionAt, within, checkGraph, checkStores, check, mostCells}
+use Rattle.rules.specs.Check.{instructionAt, within, checkGraph, checkStores, checkArrays, check, mostCells}
 use Rattle.rules.specs.InstructionSet.{keyUnder, allUnder, machineOf}
 use Rattle.rules.specs.Run.{contentHeld, contentRecord, tokenHeld, tokenRecord, cellRecord, firstState, picksOf, Result, refusedAtOnce, ranTo, result}
 use Rattle.rules.specs.Profile.{checkProfileStores, checkProfile, profileUnlessFailed, profiled}
@@ -113,7 +115,7 @@ unfolding within
 byte-site (pos n) e = omega (arith, leb-true n 255 (both (leb 0 n) (leb n 255) e .1))
 byte-site (negsuc n) e = let z : _≡_ {A = ℕ} 0 1 = cc in absurd (omega arith)
 
-module _ (graph : List ℕ) (bytes : Bytes graph) (passed : checkGraph graph ≡ Passed) (capacity cells : ℕ) where
+module _ (graph : List ℕ) (bytes : Bytes graph) (passed : checkGraph graph ≡ Passed) (table : List NamedArray) (capacity cells : ℕ) where
   abbrev g : List Instruction
   g = graphOf graph
 
@@ -136,10 +138,10 @@ module _ (graph : List ℕ) (bytes : Bytes graph) (passed : checkGraph graph ≡
       go (yes h) = byte-site _ (enter-site (of-graph graph passed i h) e)
       go (no n) = let z : Operations.Enter ≡ Operations.Unknown = sym e ∙ past-operation g i (omega arith) in let y : _≡_ {A = ℕ} 0 1 = cc in absurd (omega arith)
 
-  pub keeps : Keeps (machineOf g capacity cells) KeyFits (SFits w32) (λ c. c < cells)
-  keeps = keeps-asked g capacity cells KeyFits (SFits w32) (λ c. c < cells) (λ τ (waits, keys). asked τ (keys 0 waits .0)) (record { sfits = omega arith })
+  pub keeps : Keeps (machineOf g table capacity cells) KeyFits (SFits w32) (λ c. c < cells)
+  keeps = keeps-asked g table capacity cells KeyFits (SFits w32) (λ c. c < cells) (λ τ (waits, keys). asked τ (keys 0 waits .0)) (record { sfits = omega arith })
     where
-      asked : (τ : Tag) → Path τ → Asked g capacity cells KeyFits (SFits w32) (λ c. c < cells) τ (instructionAt g (τ .instruction))
+      asked : (τ : Tag) → Path τ → Asked g table capacity cells KeyFits (SFits w32) (λ c. c < cells) τ (instructionAt g (τ .instruction))
       asked τ p =
           let r = instructionAt g (τ .instruction) in
           let f = at-fits (τ .instruction) in
@@ -157,65 +159,65 @@ module _ (graph : List ℕ) (bytes : Bytes graph) (passed : checkGraph graph ≡
   -- ---- from the inputs on
 
   abbrev pub Fits : State Tag ℤ → Type 0
-  Fits s = OfState (machineOf g capacity cells) KeyFits (SFits w32) (λ c. c < cells) s
+  Fits s = OfState (machineOf g table capacity cells) KeyFits (SFits w32) (λ c. c < cells) s
 
   -- an input is live: it names no cell
-  content-fits : (x : RecordContent.Content) → ContentFits x → Live (some (contentHeld x)) → OfContent (machineOf g capacity cells) KeyFits (SFits w32) (λ c. c < cells) (contentHeld x)
+  content-fits : (x : RecordContent.Content) → ContentFits x → Live (some (contentHeld x)) → OfContent (machineOf g table capacity cells) KeyFits (SFits w32) (λ c. c < cells) (contentHeld x)
   content-fits (Contents.Live v) f h = f
   content-fits (Contents.Spent v) f h = f
   content-fits (Contents.Deferred c) f (v, e) = let z : _≡_ {A = ℕ} 0 1 = cc in absurd (omega arith)
 
-  inputs-fit : (ts : List Record.Token) → All TokenFits ts → AllLive (machineOf g capacity cells) (map tokenHeld ts) → Each (OfToken (machineOf g capacity cells) KeyFits (SFits w32) (λ c. c < cells)) (map tokenHeld ts)
+  inputs-fit : (ts : List Record.Token) → All TokenFits ts → AllLive (machineOf g table capacity cells) (map tokenHeld ts) → Each (OfToken (machineOf g table capacity cells) KeyFits (SFits w32) (λ c. c < cells)) (map tokenHeld ts)
   inputs-fit [] f h = tt
   inputs-fit (t ∷ ts) f h =
       let k = f .0 in
       ((((k .path, k .iteration), k .instruction, k .port), content-fits (t .content) (k .content) (h .0)), inputs-fit ts (f .1) (h .1))
 
-  pub start-fits : (inputs : List ℕ) → Bytes inputs → Start (machineOf g capacity cells) (firstState inputs cells) → Fits (firstState inputs cells)
+  pub start-fits : (inputs : List ℕ) → Bytes inputs → Start (machineOf g table capacity cells) (firstState inputs cells) → Fits (firstState inputs cells)
   unfolding firstState
   start-fits inputs b s = record {
     tokens = inputs-fit (allRows tokenWidth Tokens.decode inputs) (rows-fit TokenFits Tokens.decode token-fits tokenWidth (length inputs / tokenWidth) inputs b) (s .allLive);
-    cells = absent-of g capacity cells KeyFits (SFits w32) (λ c. c < cells) cells;
+    cells = absent-of g table capacity cells KeyFits (SFits w32) (λ c. c < cells) cells;
   }
 
   -- ---- as records
 
   module _ (few-cells : cells ≤ 1024) where
-    content-record : (x : Content ℤ) → OfContent (machineOf g capacity cells) KeyFits (SFits w32) (λ c. c < cells) x → ContentFits (contentRecord x)
+    content-record : (x : Content ℤ) → OfContent (machineOf g table capacity cells) KeyFits (SFits w32) (λ c. c < cells) x → ContentFits (contentRecord x)
     content-record (live v) h = h
     content-record (spent v) h = h
     content-record (deferred c) h = omega arith
 
-    pub token-records : (ts : List (Token Tag ℤ)) → Each (OfToken (machineOf g capacity cells) KeyFits (SFits w32) (λ c. c < cells)) ts → All TokenFits (map tokenRecord ts)
+    pub token-records : (ts : List (Token Tag ℤ)) → Each (OfToken (machineOf g table capacity cells) KeyFits (SFits w32) (λ c. c < cells)) ts → All TokenFits (map tokenRecord ts)
     token-records [] h = tt
     token-records (t ∷ ts) h =
         let k = h .0 .0 in
         (record { path = k .0 .0; iteration = k .0 .1; instruction = k .1; port = k .2; content = content-record (t .content) (h .0 .1) }, token-records ts (h .1))
 
-  cell-record : (x : Cell ℤ) → OfCell (machineOf g capacity cells) KeyFits (SFits w32) (λ c. c < cells) x → CellFits (cellRecord x)
+  cell-record : (x : Cell ℤ) → OfCell (machineOf g table capacity cells) KeyFits (SFits w32) (λ c. c < cells) x → CellFits (cellRecord x)
   cell-record absent h = tt
   cell-record waiting h = tt
   cell-record (present v) h = h
 
-  pub cell-records : (xs : List (Cell ℤ)) → Each (OfCell (machineOf g capacity cells) KeyFits (SFits w32) (λ c. c < cells)) xs → All CellFits (map cellRecord xs)
+  pub cell-records : (xs : List (Cell ℤ)) → Each (OfCell (machineOf g table capacity cells) KeyFits (SFits w32) (λ c. c < cells)) xs → All CellFits (map cellRecord xs)
   cell-records [] h = tt
   cell-records (x ∷ xs) h = (cell-record x (h .0), cell-records xs (h .1))
 
 -- ---- whole runs
 
 -- of every end that is reached from the inputs
-pub ended-fits : (graph : List ℕ) → Bytes graph → checkGraph graph ≡ Passed → (capacity cells : ℕ) → cells ≤ mostCells → (inputs : List ℕ) → Bytes inputs
-    → Start (machineOf (graphOf graph) capacity cells) (firstState inputs cells) → (e : End Refusal Tag ℤ) (n o : ℕ) → Reached (machineOf (graphOf graph) capacity cells) (firstState inputs cells) n o (e .state)
+pub ended-fits : (graph : List ℕ) → Bytes graph → checkGraph graph ≡ Passed → (table : List NamedArray) (capacity cells : ℕ) → cells ≤ mostCells → (inputs : List ℕ) → Bytes inputs
+    → Start (machineOf (graphOf graph) table capacity cells) (firstState inputs cells) → (e : End Refusal Tag ℤ) (n o : ℕ) → Reached (machineOf (graphOf graph) table capacity cells) (firstState inputs cells) n o (e .state)
     → AllFit (ranTo e) capacity cells
-ended-fits graph graphBytes passed capacity cells few inputs inputBytes begun e n o r =
-    let M = machineOf (graphOf graph) capacity cells in
+ended-fits graph graphBytes passed table capacity cells few inputs inputBytes begun e n o r =
+    let M = machineOf (graphOf graph) table capacity cells in
     let s = firstState inputs cells in
     let x = e .state in
-    let fits = reached-keeps M KeyFits (SFits w32) (λ c. c < cells) (keeps graph graphBytes passed capacity cells) s (start-fits graph graphBytes passed capacity cells inputs inputBytes begun) n o x r in
-    let good = reached-good M (lawful graph passed capacity cells) s (startGood M s begun) n o x r in
+    let fits = reached-keeps M KeyFits (SFits w32) (λ c. c < cells) (keeps graph graphBytes passed table capacity cells) s (start-fits graph graphBytes passed table capacity cells inputs inputBytes begun) n o x r in
+    let good = reached-good M (lawful graph passed table capacity cells) s (startGood M s begun) n o x r in
     record {
-      tokens = token-records graph graphBytes passed capacity cells few (x .tokens) (fits .tokens);
-      cells = cell-records graph graphBytes passed capacity cells (x .cells) (fits .cells);
+      tokens = token-records graph graphBytes passed table capacity cells few (x .tokens) (fits .tokens);
+      cells = cell-records graph graphBytes passed table capacity cells (x .cells) (fits .cells);
       room = rw (length-map (x .tokens) tokenRecord) (good .room);
       cellCount = length-map (x .cells) cellRecord ∙ good .cellCount;
     }
@@ -223,39 +225,39 @@ ended-fits graph graphBytes passed capacity cells few inputs inputBytes begun e 
 pub none-fits : (r : Refusal) (p capacity count : ℕ) → AllFit (refusedAtOnce r p) capacity count
 none-fits r p capacity count = record { tokens = tt; cells = tt; room = omega arith; cellCount = tt }
 
-module _ (graph inputs : List ℕ) (ledger cells : ℕ) (graphBytes : Bytes graph) (inputBytes : Bytes inputs) where
+module _ (graph arrays inputs : List ℕ) (ledger cells : ℕ) (graphBytes : Bytes graph) (inputBytes : Bytes inputs) where
   -- what is lawful fits, where the check passed
-  lawful-fits : (picks : ℕ) → checkStores (length inputs) picks ledger cells ≡ Passed → Accepted graph inputs (capacityOf ledger) → (e : End Refusal Tag ℤ) → LawfulResult graph inputs ledger cells (ranTo e)
+  lawful-fits : (picks : ℕ) → checkStores (length inputs) picks ledger cells ≡ Passed → Accepted graph inputs (capacityOf ledger) → (e : End Refusal Tag ℤ) → LawfulResult graph arrays inputs ledger cells (ranTo e)
       → AllFit (ranTo e) (capacityOf ledger) (cells / cellWidth)
   lawful-fits picks stores a e h =
-      ended-fits graph graphBytes (a .graphPassed) (capacityOf ledger) (cells / cellWidth) (whole-bytes cellWidth mostCells cells (stores-whole (length inputs) picks ledger cells stores .wholeCells) .1) inputs inputBytes
-      (begins graph inputs (capacityOf ledger) (cells / cellWidth) a) e (e .firings) (h .sent) (h .reached)
+      ended-fits graph graphBytes (a .graphPassed) (arraysOf arrays) (capacityOf ledger) (cells / cellWidth) (whole-bytes cellWidth mostCells cells (stores-whole (length inputs) picks ledger cells stores .wholeCells) .1) inputs inputBytes
+      (begins graph inputs (arraysOf arrays) (capacityOf ledger) (cells / cellWidth) a) e (e .firings) (h .sent) (h .reached)
 
-  pub profile-result-fits : (lent : ℕ) → AllFit (profiled graph inputs ledger cells lent .result) (capacityOf ledger) (cells / cellWidth)
+  pub profile-result-fits : (lent : ℕ) → AllFit (profiled graph arrays inputs ledger cells lent .result) (capacityOf ledger) (cells / cellWidth)
   unfolding profiled profileUnlessFailed checkProfile checkProfileStores
-  profile-result-fits lent = go (checkProfile graph inputs ledger cells lent) refl (profile-invariants graph inputs ledger cells lent)
+  profile-result-fits lent = go (checkProfile graph arrays inputs ledger cells lent) refl (profile-invariants graph arrays inputs ledger cells lent)
     where
       p : Profile Refusal Tag ℤ
-      p = profile (machineOf (graphOf graph) (capacityOf ledger) (cells / cellWidth)) ProfileFull (lent / 4) 0 (firstState inputs (cells / cellWidth))
+      p = profile (machineOf (graphOf graph) (arraysOf arrays) (capacityOf ledger) (cells / cellWidth)) ProfileFull (lent / 4) 0 (firstState inputs (cells / cellWidth))
 
-      go : (c : Checked) → checkProfile graph inputs ledger cells lent ≡ c → LawfulResult graph inputs ledger cells (profileUnlessFailed c p .result) → AllFit (profileUnlessFailed c p .result) (capacityOf ledger) (cells / cellWidth)
+      go : (c : Checked) → checkProfile graph arrays inputs ledger cells lent ≡ c → LawfulResult graph arrays inputs ledger cells (profileUnlessFailed c p .result) → AllFit (profileUnlessFailed c p .result) (capacityOf ledger) (cells / cellWidth)
       go (Failed r n) e h = none-fits r n (capacityOf ledger) (cells / cellWidth)
       go Passed e h =
-          let (stores, a) = accepted graph inputs (capacityOf ledger) (checkProfileStores (length inputs) ledger cells lent) e in
+          let (stores, (named, a)) = accepted graph inputs (capacityOf ledger) (checkProfileStores (length inputs) ledger cells lent) (checkArrays (graphOf graph) (cells / cellWidth) arrays) e in
           lawful-fits 0 (andThen-passed (checkStores (length inputs) 0 ledger cells) _ stores .0) a (p .ended) h
 
-  pub replay-result-fits : (log : List ℕ) → AllFit (replayed graph inputs log ledger cells) (capacityOf ledger) (cells / cellWidth)
+  pub replay-result-fits : (log : List ℕ) → AllFit (replayed graph arrays inputs log ledger cells) (capacityOf ledger) (cells / cellWidth)
   unfolding replayed check
   replay-result-fits log =
-      by-check (check graph inputs [] ledger cells) _ (λ x. LawfulResult graph inputs ledger cells x → AllFit x (capacityOf ledger) (cells / cellWidth)) (λ r n e h. none-fits r n (capacityOf ledger) (cells / cellWidth)) (λ e h.
-      let (stores, a) = accepted graph inputs (capacityOf ledger) (checkStores (length inputs) 0 ledger cells) e in
-      lawful-fits 0 stores a (replay (machineOf (graphOf graph) (capacityOf ledger) (cells / cellWidth)) NotEnabled (namesIn log) 0 (firstState inputs (cells / cellWidth))) h)
-      (replay-invariants graph inputs log ledger cells)
+      by-check (check graph arrays inputs [] ledger cells) _ (λ x. LawfulResult graph arrays inputs ledger cells x → AllFit x (capacityOf ledger) (cells / cellWidth)) (λ r n e h. none-fits r n (capacityOf ledger) (cells / cellWidth)) (λ e h.
+      let (stores, (named, a)) = accepted graph inputs (capacityOf ledger) (checkStores (length inputs) 0 ledger cells) (checkArrays (graphOf graph) (cells / cellWidth) arrays) e in
+      lawful-fits 0 stores a (replay (machineOf (graphOf graph) (arraysOf arrays) (capacityOf ledger) (cells / cellWidth)) NotEnabled (namesIn log) 0 (firstState inputs (cells / cellWidth))) h)
+      (replay-invariants graph arrays inputs log ledger cells)
 
 pub result-fits : ResultsFit
 unfolding result check
-result-fits graph inputs picks budget ledger cells graphBytes inputBytes =
-    by-check (check graph inputs picks ledger cells) _ (λ x. LawfulResult graph inputs ledger cells x → AllFit x (capacityOf ledger) (cells / cellWidth)) (λ r n e h. none-fits r n (capacityOf ledger) (cells / cellWidth)) (λ e h.
-    let (stores, a) = accepted graph inputs (capacityOf ledger) (checkStores (length inputs) (length picks) ledger cells) e in
-    lawful-fits graph inputs ledger cells graphBytes inputBytes (length picks) stores a (run (machineOf (graphOf graph) (capacityOf ledger) (cells / cellWidth)) budget (picksOf picks) (firstState inputs (cells / cellWidth))) h)
-    (result-invariants graph inputs picks budget ledger cells)
+result-fits graph arrays inputs picks budget ledger cells graphBytes inputBytes =
+    by-check (check graph arrays inputs picks ledger cells) _ (λ x. LawfulResult graph arrays inputs ledger cells x → AllFit x (capacityOf ledger) (cells / cellWidth)) (λ r n e h. none-fits r n (capacityOf ledger) (cells / cellWidth)) (λ e h.
+    let (stores, (named, a)) = accepted graph inputs (capacityOf ledger) (checkStores (length inputs) (length picks) ledger cells) (checkArrays (graphOf graph) (cells / cellWidth) arrays) e in
+    lawful-fits graph arrays inputs ledger cells graphBytes inputBytes (length picks) stores a (run (machineOf (graphOf graph) (arraysOf arrays) (capacityOf ledger) (cells / cellWidth)) budget (picksOf picks) (firstState inputs (cells / cellWidth))) h)
+    (result-invariants graph arrays inputs picks budget ledger cells)

@@ -8,7 +8,9 @@ use native.Mathlib.Omega.{arith}
 use lib.ListN.{length}
 use lib.IntN.{ℤ}
 use Rattle.record.specs.declared.tag.Tag.{Tag}
+use Rattle.record.specs.declared.array.NamedArray.{NamedArray}
 use Rattle.record.specs.GraphRecords.{graphOf}
+use Rattle.record.specs.Arrays.{arraysOf}
 use Rattle.record.specs.TokensAndTags.{mostTokens, capacityOf}
 use Rattle.record.specs.Widths.{tokenWidth, cellWidth}
 use Rattle.machine.specs.Machine.{Machine, State, End, Outcome, completed, hung, budgetSpent, refused, enabled}
@@ -29,7 +31,7 @@ use Rattle.rules.specs.Run.{firstState, ranTo, outcomeOf, answer}
 use Rattle.rules.specs.Profile.{stepWidth, checkProfile, ProfileResult, profileUnlessFailed, profiled, NoMoreSteps, Full, WhereFull, NeverFull}
 use Rattle.rules.proofs.Accepted.{whole-bytes, Accepted, law, good}
 use Rattle.rules.proofs.Profile.{wholes}
-use Rattle.rules.proofs.Refusals.{profile-early, firing-early}
+use Rattle.rules.proofs.Refusals.{Common, profile-early, firing-early}
 
 -- 18 and place, in an answer's outcome
 full-word : (o : AnswerOutcome.Outcome) (place : ℕ) → o ≡ Outcomes.Refused ProfileFull place → (wordOf o ≡ 18) × (placeIn o ≡ place)
@@ -37,9 +39,9 @@ full-word o place e = (ap wordOf e, ap placeIn e)
 
 -- ---- from inputs that passed
 
-module _ (graph inputs : List ℕ) (capacity cells : ℕ) (few : capacity ≤ mostTokens) (a : Accepted graph inputs capacity) (left : ℕ) where
+module _ (graph inputs : List ℕ) (table : List NamedArray) (capacity cells : ℕ) (few : capacity ≤ mostTokens) (a : Accepted graph inputs capacity) (left : ℕ) where
   abbrev M : Machine
-  M = machineOf (graphOf graph) capacity cells
+  M = machineOf (graphOf graph) table capacity cells
 
   abbrev s : State Tag ℤ
   s = firstState inputs cells
@@ -48,12 +50,12 @@ module _ (graph inputs : List ℕ) (capacity cells : ℕ) (few : capacity ≤ mo
   p = profile M ProfileFull left 0 s
 
   steps : Profiled M ProfileFull s left 0 p
-  steps = everyProfile M (law graph inputs capacity cells a) ProfileFull s (good graph inputs capacity cells a) left 0
+  steps = everyProfile M (law graph inputs table capacity cells a) ProfileFull s (good graph inputs table capacity cells a) left 0
 
   counts : (length (p .records) ≤ p .ended .firings) × (p .ended .firings ≤ mostTokens)
   counts =
-      let l = noLonger M (law graph inputs capacity cells a) s (good graph inputs capacity cells a) (steps .log) (p .ended .state) (steps .logged .fires) in
-      let n = noMoreThanFirings M (law graph inputs capacity cells a) ProfileFull s left 0 p steps in
+      let l = noLonger M (law graph inputs table capacity cells a) s (good graph inputs table capacity cells a) (steps .log) (p .ended .state) (steps .logged .fires) in
+      let n = noMoreThanFirings M (law graph inputs table capacity cells a) ProfileFull s left 0 p steps in
       (omega (arith, n, steps .logged .firings), omega (arith, steps .logged .firings, l .0, l .1))
 
   -- where it is refused by 18
@@ -78,55 +80,55 @@ module _ (graph inputs : List ℕ) (capacity cells : ℕ) (few : capacity ≤ mo
         atNone = sym (full-word _ place h .1) ∙ ap (λ (o : Outcome Refusal). placeIn (outcomeOf o)) e;
         written = q;
         firings = omega (arith, steps .logged .firings, steps .counted, c);
-        goesOn = shorter M (law graph inputs capacity cells a) s (good graph inputs capacity cells a) (steps .log) (p .ended .state) (steps .logged .fires) b m;
+        goesOn = shorter M (law graph inputs table capacity cells a) s (good graph inputs table capacity cells a) (steps .log) (p .ended .state) (steps .logged .fires) b m;
       }
       go (oneRefused b m r f e) =
           let z : numberOf r ≡ 18 = sym (ap (λ (o : Outcome Refusal). wordOf (outcomeOf o)) e) ∙ full-word _ place h .0 in
-          absurd (omega (arith, z, firing-early (graphOf graph) capacity cells (p .ended .state) (b .tag) r f))
+          absurd (omega (arith, z, firing-early (graphOf graph) table capacity cells (p .ended .state) (b .tag) r f))
 
   not-full : (place : ℕ) → mostTokens ≤ left → ¬ (outcomeOf (p .ended .outcome) ≡ Outcomes.Refused ProfileFull place)
   not-full place h e =
       let z = stopped place e in
-      omega (arith, z .written, z .goesOn, noMoreThanFirings M (law graph inputs capacity cells a) ProfileFull s left 0 p steps)
+      omega (arith, z .written, z .goesOn, noMoreThanFirings M (law graph inputs table capacity cells a) ProfileFull s left 0 p steps)
 
 -- ---- over bytes
 
 -- no check gives 18
-checked-not : (graph inputs : List ℕ) (ledger cells lent place : ℕ) (r : Refusal) (n : ℕ) → checkProfile graph inputs ledger cells lent ≡ Failed r n → ¬ (Outcomes.Refused r n ≡ Outcomes.Refused ProfileFull place)
-checked-not graph inputs ledger cells lent place r n e h =
+checked-not : (graph arrays inputs : List ℕ) (ledger cells lent place : ℕ) (r : Refusal) (n : ℕ) → checkProfile graph arrays inputs ledger cells lent ≡ Failed r n → ¬ (Outcomes.Refused r n ≡ Outcomes.Refused ProfileFull place)
+checked-not graph arrays inputs ledger cells lent place r n e h =
     let z : numberOf r ≡ 18 = full-word _ place h .0 in
-    let early : numberOf r < 18 = rw e at (profile-early graph inputs ledger cells lent) in
-    omega arith
+    let common : Common r = rw e at (profile-early graph arrays inputs ledger cells lent) in
+    common .notFull z
 
-module _ (graph inputs : List ℕ) (ledger cells lent : ℕ) where
-  few-records : (e : checkProfile graph inputs ledger cells lent ≡ Passed) → capacityOf ledger ≤ mostTokens
-  few-records e = whole-bytes tokenWidth mostTokens ledger (wholes graph inputs ledger cells lent e .0 .wholeLedger) .1
+module _ (graph arrays inputs : List ℕ) (ledger cells lent : ℕ) where
+  few-records : (e : checkProfile graph arrays inputs ledger cells lent ≡ Passed) → capacityOf ledger ≤ mostTokens
+  few-records e = whole-bytes tokenWidth mostTokens ledger (wholes graph arrays inputs ledger cells lent e .0 .wholeLedger) .1
 
 pub no-more-steps : NoMoreSteps
 unfolding profiled profileUnlessFailed answer
-no-more-steps graph inputs ledger cells lent = go (checkProfile graph inputs ledger cells lent) refl
+no-more-steps graph arrays inputs ledger cells lent = go (checkProfile graph arrays inputs ledger cells lent) refl
   where
-    go : (c : Checked) → checkProfile graph inputs ledger cells lent ≡ c
-        → (length (profiled graph inputs ledger cells lent .records) ≤ answer (profiled graph inputs ledger cells lent .result) .firings) × (answer (profiled graph inputs ledger cells lent .result) .firings ≤ mostTokens)
+    go : (c : Checked) → checkProfile graph arrays inputs ledger cells lent ≡ c
+        → (length (profiled graph arrays inputs ledger cells lent .records) ≤ answer (profiled graph arrays inputs ledger cells lent .result) .firings) × (answer (profiled graph arrays inputs ledger cells lent .result) .firings ≤ mostTokens)
     go (Failed r n) e = rw e (omega arith, omega arith)
-    go Passed e = rw e (counts graph inputs (capacityOf ledger) (cells / cellWidth) (few-records graph inputs ledger cells lent e) (wholes graph inputs ledger cells lent e .1) (lent / stepWidth))
+    go Passed e = rw e (counts graph inputs (arraysOf arrays) (capacityOf ledger) (cells / cellWidth) (few-records graph arrays inputs ledger cells lent e) (wholes graph arrays inputs ledger cells lent e .1 .1) (lent / stepWidth))
 
 pub where-full : WhereFull
 unfolding profiled profileUnlessFailed answer
-where-full graph inputs ledger cells lent place = go (checkProfile graph inputs ledger cells lent) refl
+where-full graph arrays inputs ledger cells lent place = go (checkProfile graph arrays inputs ledger cells lent) refl
   where
-    go : (c : Checked) → checkProfile graph inputs ledger cells lent ≡ c → answer (profiled graph inputs ledger cells lent .result) .outcome ≡ Outcomes.Refused ProfileFull place
-        → Full (profiled graph inputs ledger cells lent) place lent
-    go (Failed r n) e h = absurd (checked-not graph inputs ledger cells lent place r n e (rw e at h))
+    go : (c : Checked) → checkProfile graph arrays inputs ledger cells lent ≡ c → answer (profiled graph arrays inputs ledger cells lent .result) .outcome ≡ Outcomes.Refused ProfileFull place
+        → Full (profiled graph arrays inputs ledger cells lent) place lent
+    go (Failed r n) e h = absurd (checked-not graph arrays inputs ledger cells lent place r n e (rw e at h))
     go Passed e h =
-        let z = stopped graph inputs (capacityOf ledger) (cells / cellWidth) (few-records graph inputs ledger cells lent e) (wholes graph inputs ledger cells lent e .1) (lent / stepWidth) place (rw e at h) in
+        let z = stopped graph inputs (arraysOf arrays) (capacityOf ledger) (cells / cellWidth) (few-records graph arrays inputs ledger cells lent e) (wholes graph arrays inputs ledger cells lent e .1 .1) (lent / stepWidth) place (rw e at h) in
         rw e (record { atNone = z .atNone; written = z .written; firings = z .firings })
 
 pub never-full : NeverFull
 unfolding profiled profileUnlessFailed answer
-never-full graph inputs ledger cells lent place enough = go (checkProfile graph inputs ledger cells lent) refl
+never-full graph arrays inputs ledger cells lent place enough = go (checkProfile graph arrays inputs ledger cells lent) refl
   where
-    go : (c : Checked) → checkProfile graph inputs ledger cells lent ≡ c → ¬ (answer (profiled graph inputs ledger cells lent .result) .outcome ≡ Outcomes.Refused ProfileFull place)
-    go (Failed r n) e h = checked-not graph inputs ledger cells lent place r n e (rw e at h)
+    go : (c : Checked) → checkProfile graph arrays inputs ledger cells lent ≡ c → ¬ (answer (profiled graph arrays inputs ledger cells lent .result) .outcome ≡ Outcomes.Refused ProfileFull place)
+    go (Failed r n) e h = checked-not graph arrays inputs ledger cells lent place r n e (rw e at h)
     go Passed e h =
-        not-full graph inputs (capacityOf ledger) (cells / cellWidth) (few-records graph inputs ledger cells lent e) (wholes graph inputs ledger cells lent e .1) (lent / stepWidth) place (omega arith) (rw e at h)
+        not-full graph inputs (arraysOf arrays) (capacityOf ledger) (cells / cellWidth) (few-records graph arrays inputs ledger cells lent e) (wholes graph arrays inputs ledger cells lent e .1 .1) (lent / stepWidth) place (omega arith) (rw e at h)

@@ -12,6 +12,7 @@ use lib.Dec.{eqb, leb, ltb}
 use lib.IntN.{ℤ}
 use borrow.Author.Tests.{ltb-true, leb-true, eqb-true, eq-eqb, not-true}
 use Rattle.record.specs.declared.tag.Tag.{Tag}
+use Rattle.record.specs.declared.array.NamedArray.{NamedArray}
 use Rattle.record.specs.declared.token.Token.{Token}
 use Rattle.record.specs.declared.instruction.Instruction.{Instruction}
 use Rattle.number.specs.Number.{byteAt, number32, signedOf}
@@ -81,9 +82,9 @@ stands-there t u e =
       eq-eqb (t .tag .instruction) (u .tag .instruction) (ap (λ (k : Key Tag). k .tag .instruction) e),
     )
 
-module _ (g : List Instruction) (capacity cells : ℕ) where
+module _ (g : List Instruction) (table : List NamedArray) (capacity cells : ℕ) where
   abbrev M : Machine
-  M = machineOf g capacity cells
+  M = machineOf g table capacity cells
 
   inputs-live : (n i : ℕ) (l : List ℕ) → inTurn (λ k good. demand good Refusals.BadInput k) i (rows tokenWidth (goodInput g) n l) ≡ Passed → AllLive M (map tokenHeld (rows tokenWidth Tokens.decode n l))
   unfolding goodInput

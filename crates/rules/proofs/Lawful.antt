@@ -12,6 +12,7 @@ use lib.Dec.{eqb, leb, ltb}
 use lib.IntN.{ℤ, pos, negsuc, natAbs}
 use borrow.Author.Tests.{ltb-true, leb-true}
 use Rattle.record.specs.declared.tag.Tag.{Tag}
+use Rattle.record.specs.declared.array.NamedArray.{NamedArray}
 use Rattle.record.specs.declared.tag.Entered.{Entered}
 use Rattle.record.specs.declared.tag.Entered.the-variants.{In, TooDeep}
 use Rattle.record.specs.declared.tag.Left.{Left}
@@ -22,7 +23,7 @@ use Rattle.record.specs.declared.instruction.Destination.{Destination}
 use Rattle.record.specs.declared.instruction.Instruction.{Instruction}
 use Rattle.record.specs.declared.operation.Operation.{Operation}
 use Rattle.record.specs.declared.operation.Operation.the-variants as Operations
-use Rattle.record.specs.GraphRecords.{Row, table, lookup, rowOf, operationOf, inUse, destinations, graphOf, isGraphLength}
+use Rattle.record.specs.GraphRecords.{Row, lookup, rowOf, operationOf, inUse, destinations, graphOf, isGraphLength}
 use Rattle.record.specs.GraphRecords as Graph
 use Rattle.record.specs.Calls.{nextOf, enterOf, leaveOf}
 use Rattle.arithmetic.specs.declared.Computed.{Computed}
@@ -33,7 +34,7 @@ use Rattle.machine.specs.Orders.{CellsBelow, ReadsForSome, Lawful}
 use Rattle.rules.specs.declared.answer.Refusal.the-variants as Refusals
 use Rattle.rules.specs.declared.answer.Checked.the-variants.{Passed}
 use Rattle.rules.specs.Check.{demand, _andThen_, inTurn, fanOutAllowed, unusedAreZero, checkRecord, checkGraph, instructionAt}
-use Rattle.rules.specs.InstructionSet.{EffectHere, keyUnder, allUnder, sendComputed, sendNext, sendEntered, sendReturned, returnOf, sendLeft, onCell, effectOf, effectIn, machineOf}
+use Rattle.rules.specs.InstructionSet.{EffectHere, keyUnder, allUnder, sendComputed, sendNext, sendEntered, sendReturned, returnOf, sendLeft, onCell, cellNumber, effectOf, effectIn, machineOf}
 use Rattle.rules.proofs.Passed.{both, demand-passed, andThen-passed, turn-passed, getD-past}
 
 -- ---- what holds of every row of the table
@@ -73,7 +74,7 @@ readsForOne r = cond (reads (r .operation)) (leb 1 (r .leastFanOut)) true
 reader-sends : (n : ℕ) → readsForOne (rowOf n) ≡ true
 unfolding rowOf readsForOne
 reader-sends n =
-    looked-up readsForOne table n
+    looked-up readsForOne Graph.table n
     (refl, (refl, (refl, (refl, (refl, (refl, (refl, (refl, (refl, (refl, (refl, (refl, (refl, (refl, (refl, (refl, (refl, (refl, (refl, (refl, (refl, (refl, (refl, (refl, (refl, (refl, (refl, tt)))))))))))))))))))))))))))
     refl
 
@@ -135,27 +136,27 @@ on-cell cells (pos c) f h = go (ltb c cells) refl
     go true e = h c (ltb-true c cells e)
     go false e = (tt, tt)
 
-operation-lawful : (o : Operation) (g : List Instruction) (cells : ℕ) (τ : Tag) (r : Instruction) (a b : ℤ) (keys : List (Key Tag))
-    → (reads o ≡ true → 0 < length keys) → LawfulEffect cells (effectOf o g cells τ r a b keys)
+operation-lawful : (o : Operation) (g : List Instruction) (table : List NamedArray) (cells : ℕ) (τ : Tag) (r : Instruction) (a b : ℤ) (keys : List (Key Tag))
+    → (reads o ≡ true → 0 < length keys) → LawfulEffect cells (effectOf o g table cells τ r a b keys)
 unfolding effectOf
-operation-lawful Operations.Copy g cells τ r a b keys h = (tt, tt)
-operation-lawful Operations.Sink g cells τ r a b keys h = (tt, tt)
-operation-lawful Operations.Out g cells τ r a b keys h = (tt, tt)
-operation-lawful Operations.Const g cells τ r a b keys h = (tt, tt)
-operation-lawful Operations.Switch g cells τ r a b keys h = (tt, tt)
-operation-lawful Operations.Gate g cells τ r a b keys h = (tt, tt)
-operation-lawful Operations.Next g cells τ r a b keys h = plain-lawful cells (sendNext (nextOf τ) r a) (next-plain (nextOf τ) r a)
-operation-lawful Operations.Enter g cells τ r a b keys h =
+operation-lawful Operations.Copy g table cells τ r a b keys h = (tt, tt)
+operation-lawful Operations.Sink g table cells τ r a b keys h = (tt, tt)
+operation-lawful Operations.Out g table cells τ r a b keys h = (tt, tt)
+operation-lawful Operations.Const g table cells τ r a b keys h = (tt, tt)
+operation-lawful Operations.Switch g table cells τ r a b keys h = (tt, tt)
+operation-lawful Operations.Gate g table cells τ r a b keys h = (tt, tt)
+operation-lawful Operations.Next g table cells τ r a b keys h = plain-lawful cells (sendNext (nextOf τ) r a) (next-plain (nextOf τ) r a)
+operation-lawful Operations.Enter g table cells τ r a b keys h =
     let e = enterOf τ (natAbs (r .constant)) in
     plain-lawful cells (sendEntered e r a) (entered-plain e r a)
-operation-lawful Operations.Leave g cells τ r a b keys h = plain-lawful cells (sendLeft g (leaveOf τ) r a) (left-plain g (leaveOf τ) r a)
-operation-lawful Operations.Fetch g cells τ r a b keys h = on-cell cells a (λ c. read c keys) (λ c k. (k, h refl))
-operation-lawful Operations.Store g cells τ r a b keys h = on-cell cells a (λ c. write c b keys) (λ c k. (k, tt))
-operation-lawful (Operations.OnTwo o) g cells τ r a b keys h = plain-lawful cells (sendComputed (computeOf o a b) keys) (computed-plain (computeOf o a b) keys)
-operation-lawful (Operations.OnConstant o) g cells τ r a b keys h =
+operation-lawful Operations.Leave g table cells τ r a b keys h = plain-lawful cells (sendLeft g (leaveOf τ) r a) (left-plain g (leaveOf τ) r a)
+operation-lawful Operations.Fetch g table cells τ r a b keys h = on-cell cells (cellNumber table (r .constant) a) (λ c. read c keys) (λ c k. (k, h refl))
+operation-lawful Operations.Store g table cells τ r a b keys h = on-cell cells (cellNumber table (r .constant) a) (λ c. write c b keys) (λ c k. (k, tt))
+operation-lawful (Operations.OnTwo o) g table cells τ r a b keys h = plain-lawful cells (sendComputed (computeOf o a b) keys) (computed-plain (computeOf o a b) keys)
+operation-lawful (Operations.OnConstant o) g table cells τ r a b keys h =
     let c = computeOf o a (r .constant) in
     plain-lawful cells (sendComputed c keys) (computed-plain c keys)
-operation-lawful Operations.Unknown g cells τ r a b keys h = (tt, tt)
+operation-lawful Operations.Unknown g table cells τ r a b keys h = (tt, tt)
 
 -- ---- of a graph that passed
 
@@ -204,11 +205,11 @@ module _ (graph : List ℕ) (passed : checkGraph graph ≡ Passed) where
       go (yes h) = reader-inside i τ h e
       go (no n) = let z : true ≡ false = sym e ∙ reader-past i (omega arith) in let y : _≡_ {A = ℕ} 0 1 = cc in absurd (omega arith)
 
-  effect-lawful : (cells : ℕ) (τ : Tag) (a b : ℤ) → LawfulEffect cells (effectIn (graphOf graph) cells τ a b)
+  effect-lawful : (table : List NamedArray) (cells : ℕ) (τ : Tag) (a b : ℤ) → LawfulEffect cells (effectIn (graphOf graph) table cells τ a b)
   unfolding effectIn
-  effect-lawful cells τ a b =
+  effect-lawful table cells τ a b =
       let r = instructionAt (graphOf graph) (τ .instruction) in
-      operation-lawful (operationOf (r .code)) (graphOf graph) cells τ r a b (allUnder τ r) (reader-has-key (τ .instruction) τ)
+      operation-lawful (operationOf (r .code)) (graphOf graph) table cells τ r a b (allUnder τ r) (reader-has-key (τ .instruction) τ)
 
-  pub lawful : (capacity cells : ℕ) → Lawful (machineOf (graphOf graph) capacity cells)
-  lawful capacity cells = record { cellsBelow = λ τ a b. effect-lawful cells τ a b .0; readsForSome = λ τ a b. effect-lawful cells τ a b .1 }
+  pub lawful : (table : List NamedArray) (capacity cells : ℕ) → Lawful (machineOf (graphOf graph) table capacity cells)
+  lawful table capacity cells = record { cellsBelow = λ τ a b. effect-lawful table cells τ a b .0; readsForSome = λ τ a b. effect-lawful table cells τ a b .1 }

@@ -14,6 +14,7 @@ use lib.IntN.{ℤ}
 use lib.ListN.{length, take, drop, replicate, length-map, length-drop, length-replicate, replicate-append-replicate, drop-of-length-le}
 use lib.Seq.{getD-take, length-take-le, drop-at, take-all}
 use Rattle.record.specs.declared.tag.Tag.{Tag}
+use Rattle.record.specs.declared.array.NamedArray.{NamedArray}
 use Rattle.record.specs.declared.token.Token as Record
 use Rattle.record.specs.declared.token.Content.the-variants.{Live, Spent, Deferred}
 use Rattle.record.specs.declared.token.Content as RecordContent
@@ -23,6 +24,7 @@ use Rattle.buffer.specs.Rows.{rows, allRows, joined, writtenOver}
 use Rattle.record.specs.GraphRecords.{graphOf}
 use Rattle.record.specs.Paths.{isRoot}
 use Rattle.record.specs.TokensAndTags.{pathIn, tagIn, portIn, isInput, mostTokens, capacityOf, ledgerOf}
+use Rattle.record.specs.Arrays.{arraysOf}
 use Rattle.record.specs.TokensAndTags as Tokens
 use Rattle.record.specs.Cells as Cells
 use Rattle.record.proofs.Records.{token-bytes-back, token-front, length-token}
@@ -37,7 +39,7 @@ use Rattle.rules.specs.declared.answer.Refusal.{Refusal}
 use Rattle.rules.specs.declared.answer.Refusal.the-variants as Refusals
 use Rattle.rules.specs.declared.answer.Outcome.the-variants as Outcomes
 use Rattle.rules.specs.declared.answer.Checked.the-variants.{Passed, Failed}
-use Rattle.rules.specs.Check.{demand, inTurn, goodInput, operandsAt, checkStores, checkInputs, check, mostCells}
+use Rattle.rules.specs.Check.{demand, inTurn, goodInput, operandsAt, checkStores, checkArrays, checkInputs, check, mostCells}
 use Rattle.rules.specs.InstructionSet.{machineOf}
 use Rattle.rules.specs.Run.{contentHeld, contentRecord, tokenHeld, tokenRecord, cellRecord, firstState, picksOf, Result, refusedAtOnce, ranTo, outcomeOf, unlessFailed, result, answer, ledgerAfter, cellsAfter}
 use Rattle.rules.specs.Demand1.{Untouched, AsBefore, Demand1}
@@ -52,9 +54,9 @@ unfolding answer ledgerAfter cellsAfter
 at-once r place ledger cells = record { answered = refl; ledgerLeft = refl; cellsLeft = refl }
 
 -- for a refusal that the check finds, whatever ledger and cells held
-refused-before-firing : (graph inputs picks : List ℕ) (budget : ℕ) (ledger cells : List ℕ) (r : Refusal) (place : ℕ) → check graph inputs picks (length ledger) (length cells) ≡ Failed r place → Untouched (result graph inputs picks budget (length ledger) (length cells)) r place ledger cells
+refused-before-firing : (graph arrays inputs picks : List ℕ) (budget : ℕ) (ledger cells : List ℕ) (r : Refusal) (place : ℕ) → check graph arrays inputs picks (length ledger) (length cells) ≡ Failed r place → Untouched (result graph arrays inputs picks budget (length ledger) (length cells)) r place ledger cells
 unfolding result unlessFailed
-refused-before-firing graph inputs picks budget ledger cells r place failed = rw failed (at-once r place ledger cells)
+refused-before-firing graph arrays inputs picks budget ledger cells r place failed = rw failed (at-once r place ledger cells)
 
 -- ---- "Here and in every other buffer, bytes past what is written stay as lent."
 
@@ -73,14 +75,14 @@ as-before : (e d : End Refusal Tag ℤ) → d ≡ record { outcome = budgetSpent
 unfolding answer ledgerAfter cellsAfter
 as-before e d same ledger cells = rw same (record { stopped = refl; ledgerLeft = refl; cellsLeft = refl })
 
-refused-firing : (graph inputs picks : List ℕ) (budget : ℕ) (ledger cells : List ℕ) → check graph inputs picks (length ledger) (length cells) ≡ Passed → (r : Refusal) (place : ℕ)
-    → answer (result graph inputs picks budget (length ledger) (length cells)) .outcome ≡ Outcomes.Refused r place
-    → AsBefore (result graph inputs picks budget (length ledger) (length cells))
-    (result graph inputs picks (answer (result graph inputs picks budget (length ledger) (length cells)) .firings) (length ledger) (length cells))
+refused-firing : (graph arrays inputs picks : List ℕ) (budget : ℕ) (ledger cells : List ℕ) → check graph arrays inputs picks (length ledger) (length cells) ≡ Passed → (r : Refusal) (place : ℕ)
+    → answer (result graph arrays inputs picks budget (length ledger) (length cells)) .outcome ≡ Outcomes.Refused r place
+    → AsBefore (result graph arrays inputs picks budget (length ledger) (length cells))
+    (result graph arrays inputs picks (answer (result graph arrays inputs picks budget (length ledger) (length cells)) .firings) (length ledger) (length cells))
     ledger cells
 unfolding result unlessFailed answer
-refused-firing graph inputs picks budget ledger cells passed r place refusing =
-    let M = machineOf (graphOf graph) (capacityOf (length ledger)) (length cells / cellWidth) in
+refused-firing graph arrays inputs picks budget ledger cells passed r place refusing =
+    let M = machineOf (graphOf graph) (arraysOf arrays) (capacityOf (length ledger)) (length cells / cellWidth) in
     let s = firstState inputs (length cells / cellWidth) in
     let e = run M budget (picksOf picks) s in
     rw passed (as-before e (run M (e .firings) (picksOf picks) s) (refused-picks M s budget (picksOf picks) r place (is-refused (e .outcome) r place (rw passed at refusing))) ledger cells)
@@ -160,14 +162,14 @@ first-left g capacity e inputs ledger cells state b wi wc passed =
     )
 
 -- before the first firing the ledger has the inputs' bytes and then what it was lent with, and every byte of the cells is 0
-accepted-first : (graph inputs picks : List ℕ) (ledger cells : List ℕ) → Bytes inputs → check graph inputs picks (length ledger) (length cells) ≡ Passed
-    → (ledgerAfter (result graph inputs picks 0 (length ledger) (length cells)) ledger ≡ inputs ++ drop (length inputs) ledger)
-    × (cellsAfter (result graph inputs picks 0 (length ledger) (length cells)) cells ≡ replicate (length cells) 0)
+accepted-first : (graph arrays inputs picks : List ℕ) (ledger cells : List ℕ) → Bytes inputs → check graph arrays inputs picks (length ledger) (length cells) ≡ Passed
+    → (ledgerAfter (result graph arrays inputs picks 0 (length ledger) (length cells)) ledger ≡ inputs ++ drop (length inputs) ledger)
+    × (cellsAfter (result graph arrays inputs picks 0 (length ledger) (length cells)) cells ≡ replicate (length cells) 0)
 unfolding result unlessFailed check
-accepted-first graph inputs picks ledger cells b passed =
-    let (stores, a) = accepted graph inputs (capacityOf (length ledger)) (checkStores (length inputs) (length picks) (length ledger) (length cells)) passed in
+accepted-first graph arrays inputs picks ledger cells b passed =
+    let (stores, (named, a)) = accepted graph inputs (capacityOf (length ledger)) (checkStores (length inputs) (length picks) (length ledger) (length cells)) (checkArrays (graphOf graph) (length cells / cellWidth) arrays) passed in
     let wholes = stores-whole (length inputs) (length picks) (length ledger) (length cells) stores in
-    let M = machineOf (graphOf graph) (capacityOf (length ledger)) (length cells / cellWidth) in
+    let M = machineOf (graphOf graph) (arraysOf arrays) (capacityOf (length ledger)) (length cells / cellWidth) in
     let s = firstState inputs (length cells / cellWidth) in
     rw passed (first-left (graphOf graph) (capacityOf (length ledger)) (run M 0 (picksOf picks) s) inputs ledger cells (run-zero M s (picksOf picks)) b
     (whole-bytes tokenWidth mostTokens (length inputs) (wholes .wholeInputs) .0) (whole-bytes cellWidth mostCells (length cells) (wholes .wholeCells) .0) (a .inputsPassed))
@@ -175,10 +177,10 @@ accepted-first graph inputs picks ledger cells b passed =
 -- ---- the demands
 
 pub demand1 : Demand1
-demand1 graph inputs picks ledger cells budget = record {
-  refusedBeforeFiring = refused-before-firing graph inputs picks budget ledger cells;
-  refusedFiring = refused-firing graph inputs picks budget ledger cells;
-  restAsLent = rest-as-lent (result graph inputs picks budget (length ledger) (length cells)) ledger;
+demand1 graph arrays inputs picks ledger cells budget = record {
+  refusedBeforeFiring = refused-before-firing graph arrays inputs picks budget ledger cells;
+  refusedFiring = refused-firing graph arrays inputs picks budget ledger cells;
+  restAsLent = rest-as-lent (result graph arrays inputs picks budget (length ledger) (length cells)) ledger;
 }
 
 ended-at : {x y : End Refusal Tag ℤ} → ranTo x ≡ ranTo y → x ≡ y
@@ -186,9 +188,9 @@ ended-at e = cc
 
 pub demand2 : Demand2
 unfolding result unlessFailed
-demand2 graph inputs picks ledger cells b passed = record {
-  starts = accepted-first graph inputs picks ledger cells b passed;
+demand2 graph arrays inputs picks ledger cells b passed = record {
+  starts = accepted-first graph arrays inputs picks ledger cells b passed;
   fires = λ n budget less x a more stopped some.
       rw passed
-      (ap ranTo (next-firing (machineOf (graphOf graph) (capacityOf (length ledger)) (length cells / cellWidth)) (firstState inputs (length cells / cellWidth)) (picksOf picks) n budget less x a more (ended-at (rw passed at stopped)) some));
+      (ap ranTo (next-firing (machineOf (graphOf graph) (arraysOf arrays) (capacityOf (length ledger)) (length cells / cellWidth)) (firstState inputs (length cells / cellWidth)) (picksOf picks) n budget less x a more (ended-at (rw passed at stopped)) some));
 }

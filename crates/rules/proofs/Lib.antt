@@ -24,6 +24,7 @@ pub mod Rounds
 pub mod LoopFree
 pub mod Needs
 pub mod Capacity
+pub mod NamedArrays
 pub mod Left
 pub mod Small
 pub mod ExpressionCases

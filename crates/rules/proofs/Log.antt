@@ -15,6 +15,7 @@ use Rattle.number.proofs.Numbers.{number16-bytes, number64-bytes, fits16, fits6
 use Rattle.buffer.specs.Rows.{rows, joined, All}
 use Rattle.buffer.proofs.Tables.{length-joined}
 use Rattle.record.specs.GraphRecords.{graphOf}
+use Rattle.record.specs.Arrays.{arraysOf}
 use Rattle.record.specs.TokensAndTags.{mostTokens, capacityOf}
 use Rattle.record.specs.Paths.{PathFits}
 use Rattle.record.specs.Logs.{encode, nameOf}
@@ -29,7 +30,7 @@ use Rattle.rules.specs.declared.answer.Refusal.{Refusal}
 use Rattle.rules.specs.declared.answer.Refusal.the-variants.{BadStore}
 use Rattle.rules.specs.declared.answer.Checked.{Checked}
 use Rattle.rules.specs.declared.answer.Checked.the-variants.{Passed, Failed}
-use Rattle.rules.specs.Check.{_andThen_, checkGraph, checkStores, checkInputs, check}
+use Rattle.rules.specs.Check.{_andThen_, checkGraph, checkStores, checkArrays, checkInputs, check}
 use Rattle.rules.specs.InstructionSet.{machineOf}
 use Rattle.rules.specs.Run.{firstState, picksOf, ranTo, unlessFailed, result}
 use Rattle.rules.specs.Orders.{Quiescent}
@@ -84,16 +85,16 @@ log-stores inputs picks ledger cells budget lent e =
     let (p, q) = andThen-passed (checkStores inputs picks ledger cells) _ e in
     (stores-whole inputs picks ledger cells p, both (eqb (lent % logWidth) 0) _ (demand-passed (logSuffices budget lent) BadStore 0 q) .1)
 
-pub record LogPassed (graph inputs picks : List ℕ) (budget ledger cells lent : ℕ) : Type 0 where
+pub record LogPassed (graph arrays inputs picks : List ℕ) (budget ledger cells lent : ℕ) : Type 0 where
   pub stores : Whole (length inputs) (length picks) ledger cells
   -- so many records, at least
   pub room : (leb budget (lent / logWidth) || leb mostTokens (lent / logWidth)) ≡ true
   pub start : Accepted graph inputs (capacityOf ledger)
 
-pub log-passed : (graph inputs picks : List ℕ) (budget ledger cells lent : ℕ) → checkLogged graph inputs picks budget ledger cells lent ≡ Passed → LogPassed graph inputs picks budget ledger cells lent
+pub log-passed : (graph arrays inputs picks : List ℕ) (budget ledger cells lent : ℕ) → checkLogged graph arrays inputs picks budget ledger cells lent ≡ Passed → LogPassed graph arrays inputs picks budget ledger cells lent
 unfolding checkLogged
-log-passed graph inputs picks budget ledger cells lent e =
-    let (c, a) = accepted graph inputs (capacityOf ledger) (checkLogStores (length inputs) (length picks) ledger cells budget lent) e in
+log-passed graph arrays inputs picks budget ledger cells lent e =
+    let (c, (named, a)) = accepted graph inputs (capacityOf ledger) (checkLogStores (length inputs) (length picks) ledger cells budget lent) (checkArrays (graphOf graph) (cells / cellWidth) arrays) e in
     let (w, r) = log-stores (length inputs) (length picks) ledger cells budget lent c in
     record { stores = w; room = r; start = a }
 
@@ -101,21 +102,21 @@ log-passed graph inputs picks budget ledger cells lent e =
 
 pub log-fits : LogFits
 unfolding logged logUnlessFailed
-log-fits graph inputs picks budget ledger cells lent = go (checkLogged graph inputs picks budget ledger cells lent) refl
+log-fits graph arrays inputs picks budget ledger cells lent = go (checkLogged graph arrays inputs picks budget ledger cells lent) refl
   where
     enough : (n : ℕ) → n ≤ budget → n ≤ mostTokens → (a b : Bool) → leb budget (lent / logWidth) ≡ a → leb mostTokens (lent / logWidth) ≡ b → (a || b) ≡ true → n * logWidth ≤ lent
     enough n l m true b p q h = omega (arith, leb-true budget (lent / logWidth) p)
     enough n l m false true p q h = omega (arith, leb-true mostTokens (lent / logWidth) q)
     enough n l m false false p q h = let z : _≡_ {A = ℕ} 0 1 = cc in absurd (omega arith)
 
-    go : (c : Checked) → checkLogged graph inputs picks budget ledger cells lent ≡ c → length (logged graph inputs picks budget ledger cells lent .log) * logWidth ≤ lent
+    go : (c : Checked) → checkLogged graph arrays inputs picks budget ledger cells lent ≡ c → length (logged graph arrays inputs picks budget ledger cells lent .log) * logWidth ≤ lent
     go (Failed r p) e = rw e (omega arith)
     go Passed e =
-        let h = log-passed graph inputs picks budget ledger cells lent e in
-        let M = machineOf (graphOf graph) (capacityOf ledger) (cells / cellWidth) in
+        let h = log-passed graph arrays inputs picks budget ledger cells lent e in
+        let M = machineOf (graphOf graph) (arraysOf arrays) (capacityOf ledger) (cells / cellWidth) in
         let s = firstState inputs (cells / cellWidth) in
         let r = ran M (byPicks M) (byPicksLawful M) budget (picksOf picks) 0 s in
-        let l = noLonger M (law graph inputs (capacityOf ledger) (cells / cellWidth) (h .start)) s (good graph inputs (capacityOf ledger) (cells / cellWidth) (h .start)) (logOf M (byPicks M) budget (picksOf picks) s) _ (r .logged .fires) in
+        let l = noLonger M (law graph inputs (arraysOf arrays) (capacityOf ledger) (cells / cellWidth) (h .start)) s (good graph inputs (arraysOf arrays) (capacityOf ledger) (cells / cellWidth) (h .start)) (logOf M (byPicks M) budget (picksOf picks) s) _ (r .logged .fires) in
         let few = whole-bytes tokenWidth mostTokens ledger (h .stores .wholeLedger) .1 in
         rw e (enough (length (logOf M (byPicks M) budget (picksOf picks) s)) (r .within) (omega (arith, l .0, l .1)) (leb budget (lent / logWidth)) (leb mostTokens (lent / logWidth)) refl refl (h .room))
 
@@ -123,10 +124,10 @@ log-fits graph inputs picks budget ledger cells lent = go (checkLogged graph inp
 
 pub logged-runs : LoggedRuns
 unfolding logged logUnlessFailed result unlessFailed checkLogged checkLogStores check
-logged-runs graph inputs picks budget ledger cells lent enough = rw enough (go (checkGraph graph) (checkStores (length inputs) (length picks) ledger cells) (checkInputs (graphOf graph) (capacityOf ledger) inputs))
+logged-runs graph arrays inputs picks budget ledger cells lent enough = rw enough (go (checkGraph graph) (checkStores (length inputs) (length picks) ledger cells) (checkArrays (graphOf graph) (cells / cellWidth) arrays andThen checkInputs (graphOf graph) (capacityOf ledger) inputs))
   where
     M : Machine
-    M = machineOf (graphOf graph) (capacityOf ledger) (cells / cellWidth)
+    M = machineOf (graphOf graph) (arraysOf arrays) (capacityOf ledger) (cells / cellWidth)
 
     e : End Refusal Tag ℤ
     e = run M budget (picksOf picks) (firstState inputs (cells / cellWidth))
@@ -140,23 +141,23 @@ logged-runs graph inputs picks budget ledger cells lent enough = rw enough (go (
 
 -- ---- two logs
 
-module _ (graph inputs picks : List ℕ) (budget ledger cells lent : ℕ) where
+module _ (graph arrays inputs picks : List ℕ) (budget ledger cells lent : ℕ) where
   -- a run that completes or hangs was not refused at once
-  rests-passed : Quiescent (logged graph inputs picks budget ledger cells lent .result) → checkLogged graph inputs picks budget ledger cells lent ≡ Passed
+  rests-passed : Quiescent (logged graph arrays inputs picks budget ledger cells lent .result) → checkLogged graph arrays inputs picks budget ledger cells lent ≡ Passed
   unfolding logged logUnlessFailed
-  rests-passed q = go (checkLogged graph inputs picks budget ledger cells lent) refl
+  rests-passed q = go (checkLogged graph arrays inputs picks budget ledger cells lent) refl
     where
-      go : (c : Checked) → checkLogged graph inputs picks budget ledger cells lent ≡ c → c ≡ Passed
+      go : (c : Checked) → checkLogged graph arrays inputs picks budget ledger cells lent ≡ c → c ≡ Passed
       go Passed e = refl
       go (Failed r p) e = absurd (rw e at q)
 
 pub logs-agree : LogsAgree
 unfolding logged logUnlessFailed
-logs-agree graph inputs picks picks′ budget budget′ ledger ledger′ cells cells′ lent lent′ c d p q =
-    let e = rests-passed graph inputs picks budget ledger cells lent p in
-    let f = rests-passed graph inputs picks′ budget′ ledger′ cells′ lent′ q in
-    let a = log-passed graph inputs picks budget ledger cells lent e .start in
-    let M = machineOf (graphOf graph) (capacityOf ledger) (cells / cellWidth) in
+logs-agree graph arrays inputs picks picks′ budget budget′ ledger ledger′ cells cells′ lent lent′ c d p q =
+    let e = rests-passed graph arrays inputs picks budget ledger cells lent p in
+    let f = rests-passed graph arrays inputs picks′ budget′ ledger′ cells′ lent′ q in
+    let a = log-passed graph arrays inputs picks budget ledger cells lent e .start in
+    let M = machineOf (graphOf graph) (arraysOf arrays) (capacityOf ledger) (cells / cellWidth) in
     rw (e, f, ← c, ← d)
-    (logsAgree M (law graph inputs (capacityOf ledger) (cells / cellWidth) a) (byPicks M) (byPicks M) (byPicksLawful M) (byPicksLawful M) (firstState inputs (cells / cellWidth)) (good graph inputs (capacityOf ledger) (cells / cellWidth) a)
+    (logsAgree M (law graph inputs (arraysOf arrays) (capacityOf ledger) (cells / cellWidth) a) (byPicks M) (byPicks M) (byPicksLawful M) (byPicksLawful M) (firstState inputs (cells / cellWidth)) (good graph inputs (arraysOf arrays) (capacityOf ledger) (cells / cellWidth) a)
     budget budget′ (picksOf picks) (picksOf picks′) 0 (rw e at p) (rw (f, ← c, ← d) at q))

@@ -9,6 +9,7 @@ use lib.ListN.{length}
 use lib.IntN.{ℤ}
 use Rattle.record.specs.declared.tag.Tag.{Tag}
 use Rattle.record.specs.GraphRecords.{graphOf}
+use Rattle.record.specs.Arrays.{arraysOf}
 use Rattle.record.specs.TokensAndTags.{capacityOf}
 use Rattle.record.specs.Widths.{cellWidth}
 use Rattle.machine.specs.Machine.{Machine, State, End, Outcome, completed, hung, budgetSpent, refused, StateOf, byPicks, run}
@@ -24,7 +25,7 @@ use Rattle.rules.specs.declared.answer.Refusal.the-variants.{BadStore}
 use Rattle.rules.specs.declared.answer.Checked.{Checked}
 use Rattle.rules.specs.declared.answer.Checked.the-variants.{Passed, Failed}
 use Rattle.rules.specs.Answer.{valuesOf}
-use Rattle.rules.specs.Check.{_andThen_, checkGraph, checkStores, checkInputs}
+use Rattle.rules.specs.Check.{_andThen_, checkGraph, checkStores, checkArrays, checkInputs}
 use Rattle.rules.specs.InstructionSet.{machineOf}
 use Rattle.rules.specs.Run.{firstState, picksOf, Result, answer, ledgerAfter, cellsAfter}
 use Rattle.rules.specs.Log.{logSuffices, checkLogStores, checkLogged, logUnlessFailed, logged, InFiring}
@@ -32,8 +33,8 @@ use Rattle.rules.specs.Runs.{LoggedRunsOn, LoggedElse, Refused}
 use Rattle.rules.proofs.Log.{logged-runs}
 
 pub logged-runs-on : LoggedRunsOn
-logged-runs-on graph inputs l x h enough =
-    let e = logged-runs graph inputs (l .picks) (l .budget) (length (l .ledger)) (length (l .cells)) (length (l .log)) enough in
+logged-runs-on graph arrays inputs l x h enough =
+    let e = logged-runs graph arrays inputs (l .picks) (l .budget) (length (l .ledger)) (length (l .cells)) (length (l .log)) enough in
     record {
       answered = h .answered ∙ ap answer e;
       numbers = h .numbers ∙ ap (λ (y : Result). valuesOf (answer y)) e;
@@ -44,10 +45,11 @@ logged-runs-on graph inputs l x h enough =
 abbrev AtOnce : Answer → Type 0
 AtOnce a = Refused (a .outcome) × (a .firings ≡ 0) × (a .tokens ≡ 0)
 
-too-short : (graph inputs picks : List ℕ) (budget ledger cells lent : ℕ) → logSuffices budget lent ≡ false → AtOnce (answer (logged graph inputs picks budget ledger cells lent .result))
+too-short : (graph arrays inputs picks : List ℕ) (budget ledger cells lent : ℕ) → logSuffices budget lent ≡ false → AtOnce (answer (logged graph arrays inputs picks budget ledger cells lent .result))
 unfolding logged logUnlessFailed checkLogged checkLogStores answer
-too-short graph inputs picks budget ledger cells lent e =
-    rw e (go (checkGraph graph) (checkStores (length inputs) (length picks) ledger cells) (checkInputs (graphOf graph) (capacityOf ledger) inputs) _ _)
+too-short graph arrays inputs picks budget ledger cells lent e =
+    rw e (go (checkGraph graph) (checkStores (length inputs) (length picks) ledger cells)
+    (checkArrays (graphOf graph) (cells / cellWidth) arrays andThen checkInputs (graphOf graph) (capacityOf ledger) inputs) _ _)
   where
     go : (g s i : Checked) (d : End Refusal Tag ℤ) (τs : List Tag) → AtOnce (answer (logUnlessFailed (g andThen (s andThen Failed BadStore 0) andThen i) d τs .result))
     go (Failed r p) s i d τs = (tt, refl, refl)
@@ -55,8 +57,8 @@ too-short graph inputs picks budget ledger cells lent e =
     go Passed Passed i d τs = (tt, refl, refl)
 
 pub logged-else : LoggedElse
-logged-else graph inputs l x h e =
-    subst AtOnce (sym (h .answered)) (too-short graph inputs (l .picks) (l .budget) (length (l .ledger)) (length (l .cells)) (length (l .log)) e)
+logged-else graph arrays inputs l x h e =
+    subst AtOnce (sym (h .answered)) (too-short graph arrays inputs (l .picks) (l .budget) (length (l .ledger)) (length (l .cells)) (length (l .log)) e)
 
 -- ---- a refused firing has operands
 
@@ -66,13 +68,13 @@ tokens-there M hung b n x h r = absurd r
 tokens-there M budgetSpent b n x h r = absurd r
 tokens-there M (refused q p) b n x (l, a, m, i, e) r = omega (arith, enabledPlace M x a m)
 
-pub refused-holds : (graph inputs picks : List ℕ) (budget ledger cells lent : ℕ) → InFiring (logged graph inputs picks budget ledger cells lent .result)
-    → 0 < answer (logged graph inputs picks budget ledger cells lent .result) .tokens
+pub refused-holds : (graph arrays inputs picks : List ℕ) (budget ledger cells lent : ℕ) → InFiring (logged graph arrays inputs picks budget ledger cells lent .result)
+    → 0 < answer (logged graph arrays inputs picks budget ledger cells lent .result) .tokens
 unfolding logged logUnlessFailed answer
-refused-holds graph inputs picks budget ledger cells lent = go (checkLogged graph inputs picks budget ledger cells lent)
+refused-holds graph arrays inputs picks budget ledger cells lent = go (checkLogged graph arrays inputs picks budget ledger cells lent)
   where
     M : Machine
-    M = machineOf (graphOf graph) (capacityOf ledger) (cells / cellWidth)
+    M = machineOf (graphOf graph) (arraysOf arrays) (capacityOf ledger) (cells / cellWidth)
 
     s : State Tag ℤ
     s = firstState inputs (cells / cellWidth)

@@ -8,8 +8,9 @@ use native.Mathlib.Omega.{arith}
 use borrow.Author.Tests.{eqb-true, le-leb}
 use lib.ListN.{length, length-map}
 use lib.Dec.{eqb, ltb}
-use lib.IntN.{ℤ, pos, negsuc}
+use lib.IntN.{ℤ, pos, negsuc, natAbs}
 use Rattle.record.specs.declared.tag.Tag.{Tag}
+use Rattle.record.specs.declared.array.NamedArray.{NamedArray}
 use Rattle.record.specs.declared.instruction.Destination.{Destination}
 use Rattle.record.specs.declared.instruction.Instruction.{Instruction}
 use Rattle.record.specs.declared.operation.Operation.{Operation}
@@ -23,7 +24,7 @@ use Rattle.machine.specs.Orders.{keysOf}
 use Rattle.machine.proofs.View.{falseTrue}
 use Rattle.machine.proofs.Fired.{Done}
 use Rattle.rules.specs.declared.answer.Refusal.the-variants as Refusals
-use Rattle.rules.specs.InstructionSet.{EffectHere, keyUnder, allUnder, sendComputed, onCell, effectOf, machineOf}
+use Rattle.rules.specs.InstructionSet.{EffectHere, keyUnder, allUnder, sendComputed, onCell, cellNumber, effectOf, machineOf}
 use Rattle.rules.specs.Needs.{outputsOf, loopFree}
 use Rattle.rules.proofs.PassedGraph.{Good, coded, most-fan-out}
 
@@ -47,9 +48,9 @@ five-switches : (n : ℕ) → eqb n 5 ≡ true → operationOf n ≡ Operations.
 unfolding rowOf
 five-switches n e = rw (eqb-true n 5 e)
 
-module _ (g : List Instruction) (capacity cells : ℕ) where
+module _ (g : List Instruction) (table : List NamedArray) (capacity cells : ℕ) where
   abbrev M : Machine
-  M = machineOf g capacity cells
+  M = machineOf g table capacity cells
 
   keys-computed : (c : Computed) (keys : List (Key Tag)) → Done M (sendComputed c keys) → keysOf M (sendComputed c keys) ≡ keys
   unfolding sendComputed
@@ -69,8 +70,8 @@ module _ (g : List Instruction) (capacity cells : ℕ) where
     none-under : eqb (rowOf (r .code) .mostFanOut) 0 ≡ true → [] ≡ allUnder τ r
     none-under e = ap (map (keyUnder τ)) (sym (no-destinations good e))
 
-    pub keys-sent : (o : Operation) → operationOf (r .code) ≡ o → ¬ (o ≡ Operations.Switch) → (a b : ℤ) → Done M (effectOf o g cells τ r a b (allUnder τ r))
-        → keysOf M (effectOf o g cells τ r a b (allUnder τ r)) ≡ allUnder τ r
+    pub keys-sent : (o : Operation) → operationOf (r .code) ≡ o → ¬ (o ≡ Operations.Switch) → (a b : ℤ) → Done M (effectOf o g table cells τ r a b (allUnder τ r))
+        → keysOf M (effectOf o g table cells τ r a b (allUnder τ r)) ≡ allUnder τ r
     unfolding effectOf
     keys-sent Operations.Copy e n a b d = refl
     keys-sent Operations.Sink e n a b d = none-under (coded (r .code) e)
@@ -81,14 +82,14 @@ module _ (g : List Instruction) (capacity cells : ℕ) where
     keys-sent Operations.Next e n a b d = absurd (no-loop r free 7 (coded (r .code) e) (omega arith) (omega arith))
     keys-sent Operations.Enter e n a b d = absurd (no-loop r free 8 (coded (r .code) e) (omega arith) (omega arith))
     keys-sent Operations.Leave e n a b d = absurd (no-loop r free 9 (coded (r .code) e) (omega arith) (omega arith))
-    keys-sent Operations.Fetch e n a b d = keys-cell a (λ c. read c (allUnder τ r)) (allUnder τ r) (λ c. refl) d
-    keys-sent Operations.Store e n a b d = keys-cell a (λ c. write c b (allUnder τ r)) (allUnder τ r) (λ c. refl) d
+    keys-sent Operations.Fetch e n a b d = keys-cell (cellNumber table (r .constant) a) (λ c. read c (allUnder τ r)) (allUnder τ r) (λ c. refl) d
+    keys-sent Operations.Store e n a b d = keys-cell (cellNumber table (r .constant) a) (λ c. write c b (allUnder τ r)) (allUnder τ r) (λ c. refl) d
     keys-sent (Operations.OnTwo o) e n a b d = keys-computed (computeOf o a b) (allUnder τ r) d
     keys-sent (Operations.OnConstant o) e n a b d = keys-computed (computeOf o a (r .constant)) (allUnder τ r) d
     keys-sent Operations.Unknown e n a b d = none-under (coded (r .code) e)
 
     abbrev effect : (a b : ℤ) → EffectHere
-    effect a b = effectOf (operationOf (r .code)) g cells τ r a b (allUnder τ r)
+    effect a b = effectOf (operationOf (r .code)) g table cells τ r a b (allUnder τ r)
 
     pub outputs-counted : (a b : ℤ) → Done M (effect a b) → length (keysOf M (effect a b)) ≡ outputsOf r
     unfolding outputsOf effectOf

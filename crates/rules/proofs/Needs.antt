@@ -14,6 +14,7 @@ use lib.ListN.{length}
 use lib.Dec.{eqb}
 use lib.IntN.{ℤ}
 use Rattle.record.specs.declared.tag.Tag.{Tag}
+use Rattle.record.specs.declared.array.NamedArray.{NamedArray}
 use Rattle.record.specs.declared.token.Token.{Token}
 use Rattle.record.specs.declared.instruction.Destination.{Destination}
 use Rattle.record.specs.declared.instruction.Instruction.{Instruction}
@@ -22,6 +23,7 @@ use Rattle.buffer.specs.Rows.{allRows}
 use Rattle.record.specs.Paths.{rootPath, samePath}
 use Rattle.record.specs.TokensAndTags.{rootOf, sameTag, standsAt, capacityOf}
 use Rattle.record.specs.GraphRecords.{destinations, operationOf, operandsOf, rowOf, graphOf}
+use Rattle.record.specs.Arrays.{arraysOf}
 use Rattle.record.specs.GraphRecords as Graph
 use Rattle.record.proofs.Paths.{is-root, same-path}
 use Rattle.record.specs.Widths.{tokenWidth, cellWidth}
@@ -39,7 +41,7 @@ use Rattle.rules.specs.declared.answer.Refusal.{Refusal}
 use Rattle.rules.specs.declared.answer.Checked.{Checked}
 use Rattle.rules.specs.declared.answer.Checked.the-variants.{Passed, Failed}
 use Rattle.rules.specs.declared.answer.Needs.the-variants.{AtMost}
-use Rattle.rules.specs.Check.{demand, any, inTurn, instructionAt, operandsAt, goodInput, checkGraph, checkStores, checkInputs, check}
+use Rattle.rules.specs.Check.{demand, any, inTurn, instructionAt, operandsAt, goodInput, checkGraph, checkStores, checkArrays, checkInputs, check}
 use Rattle.rules.specs.InstructionSet.{keyUnder, allUnder, effectIn, isResult, arityIn, machineOf}
 use Rattle.rules.specs.Run.{tokenHeld, firstState, picksOf, result, answer}
 use Rattle.rules.specs.Orders.{Quiescent}
@@ -84,9 +86,9 @@ stands-key t tag port e =
 
 -- ---- tokens at the root
 
-module _ (g : List Instruction) (capacity cells : ℕ) (i p : ℕ) where
+module _ (g : List Instruction) (table : List NamedArray) (capacity cells : ℕ) (i p : ℕ) where
   abbrev Root : Machine
-  Root = machineOf g capacity cells
+  Root = machineOf g table capacity cells
 
   -- an input that stands there is found there
   input-there : (us : List Token) → any (standsAt (rootOf i) p) us ≡ true → isThere (find Root (at Root (rootOf i) p) (map tokenHeld us)) ≡ true
@@ -119,7 +121,7 @@ module _ (g : List Instruction) (capacity cells : ℕ) (i p : ℕ) where
 
 -- ---- a graph and inputs that passed
 
-module _ (graph inputs : List ℕ) (capacity cells : ℕ) (passed : checkGraph graph ≡ Passed)
+module _ (graph inputs : List ℕ) (table : List NamedArray) (capacity cells : ℕ) (passed : checkGraph graph ≡ Passed)
     (free : inTurn (λ i r. demand (loopFree r) Refusals.NotLoopFree i) 0 (graphOf graph) ≡ Passed) (accepted : checkInputs (graphOf graph) capacity inputs ≡ Passed) where
   abbrev g : List Instruction
   g = graphOf graph
@@ -128,7 +130,7 @@ module _ (graph inputs : List ℕ) (capacity cells : ℕ) (passed : checkGraph g
   ts = inputsOf inputs
 
   abbrev M : Machine
-  M = machineOf g capacity cells
+  M = machineOf g table capacity cells
 
   abbrev s : State Tag ℤ
   s = firstState inputs cells
@@ -138,10 +140,10 @@ module _ (graph inputs : List ℕ) (capacity cells : ℕ) (passed : checkGraph g
   S = reached ts g
 
   begun : Start M s
-  begun = start g capacity cells inputs accepted
+  begun = start g table capacity cells inputs accepted
 
   law : Lawful M
-  law = lawful graph passed capacity cells
+  law = lawful graph passed table capacity cells
 
   good-at : (i : ℕ) → i < length g → Good g i (instructionAt g i)
   good-at i h = of-graph graph passed i h
@@ -213,7 +215,7 @@ module _ (graph inputs : List ℕ) (capacity cells : ℕ) (passed : checkGraph g
     abbrev Any : ℤ → Type 0
     Any v = Unit {0}
 
-    asked : (i : ℕ) → S i ≡ true → Asked g capacity cells P Any R (rootOf i) (instructionAt g i)
+    asked : (i : ℕ) → S i ≡ true → Asked g table capacity cells P Any R (rootOf i) (instructionAt g i)
     asked i e =
         let r = instructionAt g i in
         let inside = reached-inside ts g i e in
@@ -229,19 +231,19 @@ module _ (graph inputs : List ℕ) (capacity cells : ℕ) (passed : checkGraph g
           computed = λ o a b v h. tt;
         }
 
-    asked-of : (τ : Tag) → OfOperands M P Any R τ → Asked g capacity cells P Any R τ (instructionAt g (τ .instruction))
+    asked-of : (τ : Tag) → OfOperands M P Any R τ → Asked g table capacity cells P Any R τ (instructionAt g (τ .instruction))
     asked-of τ (waits, keys) =
         let i = τ .instruction in
         let root : τ ≡ rootOf i = keys 0 waits .0 in
         let e = reaches i (rw (← root) waits) (λ p l. keys p (rw root l) .1) in
-        subst (λ (x : Tag). Asked g capacity cells P Any R x (instructionAt g i)) (sym root) (asked i e)
+        subst (λ (x : Tag). Asked g table capacity cells P Any R x (instructionAt g i)) (sym root) (asked i e)
 
     keeps : Keeps M P Any R
-    keeps = keeps-asked g capacity cells P Any R asked-of tt
+    keeps = keeps-asked g table capacity cells P Any R asked-of tt
 
     first : OfState M P Any R s
     unfolding portReached
-    first = start-keys g capacity cells P R inputs here accepted
+    first = start-keys g table capacity cells P R inputs here accepted
       where
         here : (t : Token) → t .tag ≡ rootOf (t .tag .instruction) → t .port < operandsAt g (t .tag .instruction) → any (standsAt (t .tag) (t .port)) ts ≡ true → P (tokenHeld t .key)
         here t e l h = (e, or-left _ _ (subst (λ (x : Tag). any (standsAt x (t .port)) ts ≡ true) e h))
@@ -308,7 +310,7 @@ module _ (graph inputs : List ℕ) (capacity cells : ℕ) (passed : checkGraph g
   unfolding effectIn
   sent-counted y x τ l now =
       let i = τ .instruction in
-      now .sent ∙ outputs-counted g capacity cells (good-at i l) (free-at i l) τ (now .left) (now .right) (now .done)
+      now .sent ∙ outputs-counted g table capacity cells (good-at i l) (free-at i l) τ (now .left) (now .right) (now .done)
 
   none-done : (w : ℕ → ℕ) → done s w ≡ 0
   none-done w = sum-none (length g) (λ i. cond (Fired s i) (w i) 0) (λ i. ap (λ (b : Bool). cond b (w i) 0) (start-none M law s begun (rootOf i)))
@@ -399,16 +401,16 @@ module _ (graph inputs : List ℕ) (capacity cells : ℕ) (passed : checkGraph g
         go (inl e) =
             let sent = fired-sent M law s begun f o x r (rootOf j) e in
             let code = instructionAt g j .code in
-            let keys = keys-sent g capacity cells (good-at j inside) (free-at j inside) (rootOf j) (operationOf code) refl (not-switch code (neither (eqb code 5) _ (plain j (parts .0)) .0))
+            let keys = keys-sent g table capacity cells (good-at j inside) (free-at j inside) (rootOf j) (operationOf code) refl (not-switch code (neither (eqb code 5) _ (plain j (parts .0)) .0))
             (sent .left) (sent .right) (sent .done) in
-            sent .there (at M (rootOf i) p) (rw keys (port-among g capacity cells i p j (destinations (instructionAt g j)) h))
+            sent .there (at M (rootOf i) p) (rw keys (port-among g table capacity cells i p j (destinations (instructionAt g j)) h))
 
     port-there : (i p : ℕ) → portReached ts g T i p ≡ true → isThere (look M x (at M (rootOf i) p)) ≡ true
     unfolding portReached firstState
     port-there i p h = go (either (any (standsAt (rootOf i) p) ts) _ h)
       where
         go : (any (standsAt (rootOf i) p) ts ≡ true) ⊎ (anyBelow (length g) (λ j. T j && sendsTo i p (instructionAt g j)) ≡ true) → isThere (look M x (at M (rootOf i) p)) ≡ true
-        go (inl k) = there-stays M law s begun f o x r (at M (rootOf i) p) (input-there g capacity cells i p ts k)
+        go (inl k) = there-stays M law s begun f o x r (at M (rootOf i) p) (input-there g table capacity cells i p ts k)
         go (inr k) =
             let (j, l, m) = one-below (length g) (λ j. T j && sendsTo i p (instructionAt g j)) k in
             let q = both (T j) (sendsTo i p (instructionAt g j)) m in
@@ -486,26 +488,26 @@ taken graph inputs firings tokens e = go (checkNeeds graph inputs) refl e
         record { passed = a .0; free = andThen-passed (inTurn (λ i good. demand good Refusals.BadInput i) 0 (allRows tokenWidth (goodInput (graphOf graph)) inputs)) _ (b .1) .1; isFirings = cc; isTokens = cc }
 
 pub no-state-exceeds : NoStateExceeds
-no-state-exceeds graph inputs capacity cells firings tokens e accepted f o x r =
+no-state-exceeds graph inputs table capacity cells firings tokens e accepted f o x r =
     let t = taken graph inputs firings tokens e in
-    let begun = begun graph inputs capacity cells (t .passed) (t .free) accepted in
-    let (a, b) = within graph inputs capacity cells (t .passed) (t .free) accepted f o x r in
-    let c = reached-invariants (machineOf (graphOf graph) capacity cells) (lawful graph (t .passed) capacity cells) (firstState inputs cells) begun f o x r .count in
+    let begun = begun graph inputs table capacity cells (t .passed) (t .free) accepted in
+    let (a, b) = within graph inputs table capacity cells (t .passed) (t .free) accepted f o x r in
+    let c = reached-invariants (machineOf (graphOf graph) table capacity cells) (lawful graph (t .passed) table capacity cells) (firstState inputs cells) begun f o x r .count in
     (omega (arith, t .isFirings), omega (arith, t .isTokens, tokens-first inputs cells))
 
 pub exact-at-rest : ExactAtRest
-exact-at-rest graph inputs capacity cells firings tokens e plain accepted f o x r rest =
+exact-at-rest graph inputs table capacity cells firings tokens e plain accepted f o x r rest =
     let t = taken graph inputs firings tokens e in
-    let begun = begun graph inputs capacity cells (t .passed) (t .free) accepted in
-    let (a, b) = at-rest graph inputs capacity cells (t .passed) (t .free) accepted plain f o x r rest in
-    let c = reached-invariants (machineOf (graphOf graph) capacity cells) (lawful graph (t .passed) capacity cells) (firstState inputs cells) begun f o x r .count in
+    let begun = begun graph inputs table capacity cells (t .passed) (t .free) accepted in
+    let (a, b) = at-rest graph inputs table capacity cells (t .passed) (t .free) accepted plain f o x r rest in
+    let c = reached-invariants (machineOf (graphOf graph) table capacity cells) (lawful graph (t .passed) table capacity cells) (firstState inputs cells) begun f o x r .count in
     (omega (arith, t .isFirings), omega (arith, t .isTokens, tokens-first inputs cells))
 
 -- ---- whole runs
 
-module _ (graph inputs picks : List ℕ) (budget ledger cells firings tokens : ℕ) (e : needs graph inputs ≡ AtMost firings tokens) where
+module _ (graph arrays inputs picks : List ℕ) (budget ledger cells firings tokens : ℕ) (e : needs graph inputs ≡ AtMost firings tokens) where
   abbrev Whole : Machine
-  Whole = machineOf (graphOf graph) (capacityOf ledger) (cells / cellWidth)
+  Whole = machineOf (graphOf graph) (arraysOf arrays) (capacityOf ledger) (cells / cellWidth)
 
   abbrev last : End Refusal Tag ℤ
   last = run Whole budget (picksOf picks) (firstState inputs (cells / cellWidth))
@@ -513,22 +515,22 @@ module _ (graph inputs picks : List ℕ) (budget ledger cells firings tokens : �
   reach : Ended Whole (firstState inputs (cells / cellWidth)) budget 0 last
   reach = reached-picks Whole (firstState inputs (cells / cellWidth)) budget (picksOf picks)
 
-  passes : check graph inputs picks ledger cells ≡ Passed → checkInputs (graphOf graph) (capacityOf ledger) inputs ≡ Passed
+  passes : check graph arrays inputs picks ledger cells ≡ Passed → checkInputs (graphOf graph) (capacityOf ledger) inputs ≡ Passed
   unfolding check
-  passes h = accepted graph inputs (capacityOf ledger) (checkStores (length inputs) (length picks) ledger cells) h .1 .inputsPassed
+  passes h = accepted graph inputs (capacityOf ledger) (checkStores (length inputs) (length picks) ledger cells) (checkArrays (graphOf graph) (cells / cellWidth) arrays) h .1 .1 .inputsPassed
 
-  exceeds-neither : (answer (result graph inputs picks budget ledger cells) .firings ≤ firings) × (answer (result graph inputs picks budget ledger cells) .tokens ≤ tokens)
+  exceeds-neither : (answer (result graph arrays inputs picks budget ledger cells) .firings ≤ firings) × (answer (result graph arrays inputs picks budget ledger cells) .tokens ≤ tokens)
   unfolding answer result
-  exceeds-neither = by-check (check graph inputs picks ledger cells) _ (λ x. (answer x .firings ≤ firings) × (answer x .tokens ≤ tokens)) (λ r p f. (omega arith, omega arith)) (λ h.
-      let (f, t) = no-state-exceeds graph inputs (capacityOf ledger) (cells / cellWidth) firings tokens e (passes h) (reach .done) (reach .sent) (last .state) (reach .reached) in
+  exceeds-neither = by-check (check graph arrays inputs picks ledger cells) _ (λ x. (answer x .firings ≤ firings) × (answer x .tokens ≤ tokens)) (λ r p f. (omega arith, omega arith)) (λ h.
+      let (f, t) = no-state-exceeds graph inputs (arraysOf arrays) (capacityOf ledger) (cells / cellWidth) firings tokens e (passes h) (reach .done) (reach .sent) (last .state) (reach .reached) in
       (omega (arith, reach .firings), t))
 
-  is-exact : NoSwitchOrFetch graph inputs → Quiescent (result graph inputs picks budget ledger cells)
-      → (answer (result graph inputs picks budget ledger cells) .firings ≡ firings) × (answer (result graph inputs picks budget ledger cells) .tokens ≡ tokens)
+  is-exact : NoSwitchOrFetch graph inputs → Quiescent (result graph arrays inputs picks budget ledger cells)
+      → (answer (result graph arrays inputs picks budget ledger cells) .firings ≡ firings) × (answer (result graph arrays inputs picks budget ledger cells) .tokens ≡ tokens)
   unfolding answer result
-  is-exact plain = by-check (check graph inputs picks ledger cells) _ (λ x. Quiescent x → (answer x .firings ≡ firings) × (answer x .tokens ≡ tokens)) (λ r p f h. absurd h) (λ h q.
+  is-exact plain = by-check (check graph arrays inputs picks ledger cells) _ (λ x. Quiescent x → (answer x .firings ≡ firings) × (answer x .tokens ≡ tokens)) (λ r p f h. absurd h) (λ h q.
       let rest = rested Whole (last .outcome) budget (reach .done) (last .state) q (reach .says) .0 in
-      let (f, t) = exact-at-rest graph inputs (capacityOf ledger) (cells / cellWidth) firings tokens e plain (passes h) (reach .done) (reach .sent) (last .state) (reach .reached) rest in
+      let (f, t) = exact-at-rest graph inputs (arraysOf arrays) (capacityOf ledger) (cells / cellWidth) firings tokens e plain (passes h) (reach .done) (reach .sent) (last .state) (reach .reached) rest in
       (omega (arith, reach .firings), t))
 
 pub never-exceeded : NeverExceeded

@@ -9,10 +9,12 @@ use native.Mathlib.Omega.{arith}
 use lib.ListN.{length}
 use lib.IntN.{ℤ}
 use Rattle.record.specs.declared.tag.Tag.{Tag}
+use Rattle.record.specs.declared.array.NamedArray.{NamedArray}
 use Rattle.record.specs.declared.token.Token as Record
 use Rattle.record.specs.declared.instruction.Instruction.{Instruction}
 use Rattle.buffer.specs.Rows.{All, whole}
 use Rattle.record.specs.GraphRecords.{graphOf}
+use Rattle.record.specs.Arrays.{arraysOf}
 use Rattle.record.specs.TokensAndTags.{mostTokens, capacityOf}
 use Rattle.record.specs.Widths.{tokenWidth, cellWidth}
 use Rattle.machine.specs.Machine.{Token, Machine, State, End, when, find, sameKey, run}
@@ -25,7 +27,7 @@ use Rattle.rules.specs.declared.answer.Refusal.{Refusal}
 use Rattle.rules.specs.declared.answer.Refusal.the-variants.{BadStore}
 use Rattle.rules.specs.declared.answer.Checked.{Checked}
 use Rattle.rules.specs.declared.answer.Checked.the-variants.{Passed, Failed}
-use Rattle.rules.specs.Check.{checkGraph, checkStores, check, mostCells}
+use Rattle.rules.specs.Check.{checkGraph, checkStores, checkArrays, check, mostCells}
 use Rattle.rules.specs.InstructionSet.{machineOf}
 use Rattle.rules.specs.Run.{tokenRecord, cellRecord, firstState, picksOf, Result, refusedAtOnce, ranTo, unlessFailed, result, answer}
 use Rattle.rules.specs.Orders.{EachOnce, Alike, Agree, Allowed, AnyTwoOrders}
@@ -49,9 +51,9 @@ same-cells n m p q e = omega arith
 
 -- ---- ends as records
 
-module _ (g : List Instruction) (capacity cells : ℕ) where
+module _ (g : List Instruction) (table : List NamedArray) (capacity cells : ℕ) where
   abbrev M₀ : Machine
-  M₀ = machineOf g capacity cells
+  M₀ = machineOf g table capacity cells
 
   -- keys that differ in the machine differ as records
   others : (t : Token Tag ℤ) (us : List (Token Tag ℤ)) → find M₀ (t .key) us ≡ none
@@ -84,9 +86,9 @@ module _ (g : List Instruction) (capacity cells : ℕ) where
 
 -- ---- runs from inputs that passed
 
-module _ (graph inputs : List ℕ) (capacity cells : ℕ) (few : capacity ≤ 2048) (a : Accepted graph inputs capacity) where
+module _ (graph inputs : List ℕ) (table : List NamedArray) (capacity cells : ℕ) (few : capacity ≤ 2048) (a : Accepted graph inputs capacity) where
   abbrev M : Machine
-  M = machineOf (graphOf graph) capacity cells
+  M = machineOf (graphOf graph) table capacity cells
 
   abbrev s : State Tag ℤ
   s = firstState inputs cells
@@ -94,30 +96,30 @@ module _ (graph inputs : List ℕ) (capacity cells : ℕ) (few : capacity ≤ 20
   end : (picks : List ℕ) → Good M (run M 2048 picks s .state)
   end picks =
       let e = reached-picks M s 2048 picks in
-      reached-good M (law graph inputs capacity cells a) s (good graph inputs capacity cells a) (e .done) (e .sent) _ (e .reached)
+      reached-good M (law graph inputs table capacity cells a) s (good graph inputs table capacity cells a) (e .done) (e .sent) _ (e .reached)
 
   agree : (picks picks′ : List ℕ) → Agree (ranTo (run M 2048 picks s)) (ranTo (run M 2048 picks′ s))
   agree picks picks′ =
-      let lawful = law graph inputs capacity cells a in
-      let first = good graph inputs capacity cells a in
+      let lawful = law graph inputs table capacity cells a in
+      let first = good graph inputs table capacity cells a in
       let same = orders M lawful s first 2048 picks picks′ in
       record {
         completes = same .completes;
         hangs = same .hangs;
-        alike = λ c. alike-ends (graphOf graph) capacity cells (run M 2048 picks s) (run M 2048 picks′ s) (end picks .distinct) (same .alike c);
+        alike = λ c. alike-ends (graphOf graph) table capacity cells (run M 2048 picks s) (run M 2048 picks′ s) (end picks .distinct) (same .alike c);
         refused = refuses M lawful s first 2048 picks picks′ few;
         neverSpent = neverSpent M lawful s first 2048 picks few;
       }
 
 -- ---- whole runs
 
-module _ (graph inputs picks picks′ : List ℕ) (ledger cells : ℕ) (a : Allowed picks ledger cells) (b : Allowed picks′ ledger cells) where
+module _ (graph arrays inputs picks picks′ : List ℕ) (ledger cells : ℕ) (a : Allowed picks ledger cells) (b : Allowed picks′ ledger cells) where
   -- the checks look at no pick
-  same-check : check graph inputs picks ledger cells ≡ check graph inputs picks′ ledger cells
+  same-check : check graph arrays inputs picks ledger cells ≡ check graph arrays inputs picks′ ledger cells
   unfolding check checkStores
   same-check = rw (a .allowedPicks, b .allowedPicks)
 
-  unfolded : (c : Checked) → check graph inputs picks ledger cells ≡ c → Agree (result graph inputs picks 2048 ledger cells) (result graph inputs picks′ 2048 ledger cells)
+  unfolded : (c : Checked) → check graph arrays inputs picks ledger cells ≡ c → Agree (result graph arrays inputs picks 2048 ledger cells) (result graph arrays inputs picks′ 2048 ledger cells)
   unfolding result unlessFailed check
   unfolded (Failed r p) e =
       let e′ = sym same-check ∙ e in
@@ -125,36 +127,36 @@ module _ (graph inputs picks picks′ : List ℕ) (ledger cells : ℕ) (a : Allo
   unfolded Passed e =
       let e′ = sym same-check ∙ e in
       let few = whole-bytes tokenWidth mostTokens ledger (a .allowedLedger) .1 in
-      rw (e, e′) (agree graph inputs (capacityOf ledger) (cells / cellWidth) few (accepted graph inputs (capacityOf ledger) (checkStores (length inputs) (length picks) ledger cells) e .1) (picksOf picks) (picksOf picks′))
+      rw (e, e′) (agree graph inputs (arraysOf arrays) (capacityOf ledger) (cells / cellWidth) few (accepted graph inputs (capacityOf ledger) (checkStores (length inputs) (length picks) ledger cells) (checkArrays (graphOf graph) (cells / cellWidth) arrays) e .1 .1) (picksOf picks) (picksOf picks′))
 
 -- with picks, ledger and cells of allowed length
-allowed-orders : (graph inputs picks picks′ : List ℕ) (ledger ledger′ cells cells′ : ℕ) → Allowed picks ledger cells → Allowed picks′ ledger′ cells′
+allowed-orders : (graph arrays inputs picks picks′ : List ℕ) (ledger ledger′ cells cells′ : ℕ) → Allowed picks ledger cells → Allowed picks′ ledger′ cells′
     → capacityOf ledger ≡ capacityOf ledger′ → cells / cellWidth ≡ cells′ / cellWidth
-    → Agree (result graph inputs picks 2048 ledger cells) (result graph inputs picks′ 2048 ledger′ cells′)
-allowed-orders graph inputs picks picks′ ledger ledger′ cells cells′ a b c d =
+    → Agree (result graph arrays inputs picks 2048 ledger cells) (result graph arrays inputs picks′ 2048 ledger′ cells′)
+allowed-orders graph arrays inputs picks picks′ ledger ledger′ cells cells′ a b c d =
     let l = same-length ledger ledger′ (whole-bytes tokenWidth mostTokens ledger (a .allowedLedger) .0) (whole-bytes tokenWidth mostTokens ledger′ (b .allowedLedger) .0) c in
     let k = same-cells cells cells′ (whole-bytes cellWidth mostCells cells (a .allowedCells) .0) (whole-bytes cellWidth mostCells cells′ (b .allowedCells) .0) d in
     let b′ : Allowed picks′ ledger cells = rw (l, k) b in
-    rw (← l, ← k) (unfolded graph inputs picks picks′ ledger cells a b′ (check graph inputs picks ledger cells) refl)
+    rw (← l, ← k) (unfolded graph arrays inputs picks picks′ ledger cells a b′ (check graph arrays inputs picks ledger cells) refl)
 
 -- two runs that are refused before any firing
 pub both-refused : {x y : Result} (q r : Refusal) (m n : ℕ) → x ≡ refusedAtOnce q m → y ≡ refusedAtOnce r n → Agree x y
 both-refused q r m n e f = rw (e, f) (record { completes = (λ h. h, λ h. h); hangs = (λ h. h, λ h. h); alike = λ h. absurd h; refused = (λ h. h, λ h. h); neverSpent = λ h. h })
 
 -- a graph that fails its check is refused whatever else is lent, and so are inputs that are not whole records
-graph-refused : (graph inputs picks : List ℕ) (ledger cells : ℕ) (r : Refusal) (p : ℕ) → checkGraph graph ≡ Failed r p → result graph inputs picks 2048 ledger cells ≡ refusedAtOnce r p
+graph-refused : (graph arrays inputs picks : List ℕ) (ledger cells : ℕ) (r : Refusal) (p : ℕ) → checkGraph graph ≡ Failed r p → result graph arrays inputs picks 2048 ledger cells ≡ refusedAtOnce r p
 unfolding result check unlessFailed
-graph-refused graph inputs picks ledger cells r p e = rw e
+graph-refused graph arrays inputs picks ledger cells r p e = rw e
 
-inputs-refused : (graph inputs picks : List ℕ) (ledger cells : ℕ) → checkGraph graph ≡ Passed → whole tokenWidth mostTokens (length inputs) ≡ false → result graph inputs picks 2048 ledger cells ≡ refusedAtOnce BadStore 0
+inputs-refused : (graph arrays inputs picks : List ℕ) (ledger cells : ℕ) → checkGraph graph ≡ Passed → whole tokenWidth mostTokens (length inputs) ≡ false → result graph arrays inputs picks 2048 ledger cells ≡ refusedAtOnce BadStore 0
 unfolding result check checkStores unlessFailed
-inputs-refused graph inputs picks ledger cells e w = rw (e, w)
+inputs-refused graph arrays inputs picks ledger cells e w = rw (e, w)
 
 pub any-two-orders : AnyTwoOrders
-any-two-orders graph inputs picks picks′ ledger ledger′ cells cells′ a b c d = go (checkGraph graph) refl (whole tokenWidth mostTokens (length inputs)) refl
+any-two-orders graph arrays inputs picks picks′ ledger ledger′ cells cells′ a b c d = go (checkGraph graph) refl (whole tokenWidth mostTokens (length inputs)) refl
   where
     go : (x : Checked) → checkGraph graph ≡ x → (w : Bool) → whole tokenWidth mostTokens (length inputs) ≡ w
-        → Agree (result graph inputs picks 2048 ledger cells) (result graph inputs picks′ 2048 ledger′ cells′)
-    go (Failed r p) e w f = both-refused r r p p (graph-refused graph inputs picks ledger cells r p e) (graph-refused graph inputs picks′ ledger′ cells′ r p e)
-    go Passed e false f = both-refused BadStore BadStore 0 0 (inputs-refused graph inputs picks ledger cells e f) (inputs-refused graph inputs picks′ ledger′ cells′ e f)
-    go Passed e true f = allowed-orders graph inputs picks picks′ ledger ledger′ cells cells′ (a e f) (b e f) c d
+        → Agree (result graph arrays inputs picks 2048 ledger cells) (result graph arrays inputs picks′ 2048 ledger′ cells′)
+    go (Failed r p) e w f = both-refused r r p p (graph-refused graph arrays inputs picks ledger cells r p e) (graph-refused graph arrays inputs picks′ ledger′ cells′ r p e)
+    go Passed e false f = both-refused BadStore BadStore 0 0 (inputs-refused graph arrays inputs picks ledger cells e f) (inputs-refused graph arrays inputs picks′ ledger′ cells′ e f)
+    go Passed e true f = allowed-orders graph arrays inputs picks picks′ ledger ledger′ cells cells′ (a e f) (b e f) c d

@@ -14,10 +14,12 @@ use lib.ListN.{length, take, drop, length-append, length-map}
 use lib.Seq.{take-at, take-all, take-take, length-take-le}
 use lib.IntN.{ℤ}
 use Rattle.record.specs.declared.tag.Tag.{Tag}
+use Rattle.record.specs.declared.array.NamedArray.{NamedArray}
 use Rattle.number.specs.Number.{Bytes}
 use Rattle.buffer.specs.Rows.{rows}
 use Rattle.buffer.proofs.Tables.{length-rows}
 use Rattle.record.specs.GraphRecords.{graphOf}
+use Rattle.record.specs.Arrays.{arraysOf}
 use Rattle.record.specs.TokensAndTags.{tagIn, portIn, mostTokens, capacityOf}
 use Rattle.record.specs.Logs.{nameOf}
 use Rattle.record.specs.Widths.{tokenWidth, cellWidth, logWidth}
@@ -37,7 +39,7 @@ use Rattle.rules.specs.declared.answer.Outcome.the-variants as Outcomes
 use Rattle.rules.specs.declared.answer.Checked.{Checked}
 use Rattle.rules.specs.declared.answer.Checked.the-variants.{Passed, Failed}
 use Rattle.rules.specs.Answer.{numberOf, wordOf, placeIn}
-use Rattle.rules.specs.Check.{checkStores, check, mostCells}
+use Rattle.rules.specs.Check.{checkStores, checkArrays, check, mostCells}
 use Rattle.rules.specs.InstructionSet.{machineOf}
 use Rattle.rules.specs.Run.{firstState, Result, refusedAtOnce, ranTo, outcomeOf, unlessFailed, answer, ledgerAfter, cellsAfter}
 use Rattle.rules.specs.Log.{namesIn, replayed}
@@ -46,47 +48,48 @@ use Rattle.rules.specs.Demand2.{InputsWritten, OthersStart, StoppedBefor
 use Rattle.rules.proofs.Accepted.{whole-bytes, Whole, stores-whole, Accepted, accepted, law, good}
 use Rattle.rules.proofs.Left.{first-left}
 use Rattle.rules.proofs.Profile.{wholes}
-use Rattle.rules.proofs.Refusals.{check-early, firing-early}
+use Rattle.rules.proofs.Refusals.{Common, check-early, firing-early}
 use Rattle.rules.proofs.Rows.{rows-own, take-rows}
 
 -- ---- nothing fired
 
 -- a sequence of no firing ends where it starts
-none-fired : (graph : List ℕ) (capacity cells : ℕ) (s : State Tag ℤ) (τs : List Tag) (e : End Refusal Tag ℤ) → Logged (machineOf (graphOf graph) capacity cells) s 0 τs e → e .firings ≡ 0 → e .state ≡ s
-none-fired graph capacity cells s [] e h n = sym (h .fires)
-none-fired graph capacity cells s (τ ∷ τs) e h n = absurd (omega (arith, h .firings))
+none-fired : (graph : List ℕ) (table : List NamedArray) (capacity cells : ℕ) (s : State Tag ℤ) (τs : List Tag) (e : End Refusal Tag ℤ) → Logged (machineOf (graphOf graph) table capacity cells) s 0 τs e → e .firings ≡ 0 → e .state ≡ s
+none-fired graph table capacity cells s [] e h n = sym (h .fires)
+none-fired graph table capacity cells s (τ ∷ τs) e h n = absurd (omega (arith, h .firings))
 
-module _ (graph inputs ledger cells : List ℕ) (bytes : Bytes inputs) (w : Whole (length inputs) 0 (length ledger) (length cells)) (a : Accepted graph inputs (capacityOf (length ledger))) where
+module _ (graph arrays inputs ledger cells : List ℕ) (bytes : Bytes inputs) (w : Whole (length inputs) 0 (length ledger) (length cells)) (a : Accepted graph inputs (capacityOf (length ledger))) where
   abbrev count : ℕ
   count = length cells / cellWidth
 
-  written : (e : End Refusal Tag ℤ) (τs : List Tag) → Logged (machineOf (graphOf graph) (capacityOf (length ledger)) count) (firstState inputs count) 0 τs e → e .firings ≡ 0 → InputsWritten (ranTo e) inputs ledger cells
+  written : (e : End Refusal Tag ℤ) (τs : List Tag) → Logged (machineOf (graphOf graph) (arraysOf arrays) (capacityOf (length ledger)) count) (firstState inputs count) 0 τs e → e .firings ≡ 0 → InputsWritten (ranTo e) inputs ledger cells
   written e τs h n =
-      let z = first-left (graphOf graph) (capacityOf (length ledger)) e inputs ledger cells (none-fired graph (capacityOf (length ledger)) count (firstState inputs count) τs e h n) bytes
+      let z = first-left (graphOf graph) (capacityOf (length ledger)) e inputs ledger cells (none-fired graph (arraysOf arrays) (capacityOf (length ledger)) count (firstState inputs count) τs e h n) bytes
       (whole-bytes tokenWidth mostTokens (length inputs) (w .wholeInputs) .0) (whole-bytes cellWidth mostCells (length cells) (w .wholeCells) .0) (a .inputsPassed) in
       record { ledgerLeft = z .0; cellsLeft = z .1 }
 
-replay-starts : (graph inputs log ledger cells : List ℕ) → Bytes inputs → check graph inputs [] (length ledger) (length cells) ≡ Passed
-    → answer (replayed graph inputs log (length ledger) (length cells)) .firings ≡ 0 → InputsWritten (replayed graph inputs log (length ledger) (length cells)) inputs ledger cells
+replay-starts : (graph arrays inputs log ledger cells : List ℕ) → Bytes inputs → check graph arrays inputs [] (length ledger) (length cells) ≡ Passed
+    → answer (replayed graph arrays inputs log (length ledger) (length cells)) .firings ≡ 0 → InputsWritten (replayed graph arrays inputs log (length ledger) (length cells)) inputs ledger cells
 unfolding replayed unlessFailed answer check
-replay-starts graph inputs log ledger cells b passed n =
-    let (stores, a) = accepted graph inputs (capacityOf (length ledger)) (checkStores (length inputs) 0 (length ledger) (length cells)) passed in
-    let M = machineOf (graphOf graph) (capacityOf (length ledger)) (length cells / cellWidth) in
+replay-starts graph arrays inputs log ledger cells b passed n =
+    let (stores, (named, a)) = accepted graph inputs (capacityOf (length ledger)) (checkStores (length inputs) 0 (length ledger) (length cells)) (checkArrays (graphOf graph) (length cells / cellWidth) arrays) passed in
+    let M = machineOf (graphOf graph) (arraysOf arrays) (capacityOf (length ledger)) (length cells / cellWidth) in
     let s = firstState inputs (length cells / cellWidth) in
     let h = everyReplay M NotEnabled (namesIn log) 0 s in
-    rw passed (written graph inputs ledger cells b (stores-whole (length inputs) 0 (length ledger) (length cells) stores) a (replay M NotEnabled (namesIn log) 0 s) (h .done) (h .logged) (rw passed at n))
+    rw passed (written graph arrays inputs ledger cells b (stores-whole (length inputs) 0 (length ledger) (length cells) stores) a (replay M NotEnabled (namesIn log) 0 s) (h .done) (h .logged) (rw passed at n))
 
-profile-starts : (graph inputs ledger cells : List ℕ) (lent : ℕ) → Bytes inputs → checkProfile graph inputs (length ledger) (length cells) lent ≡ Passed
-    → answer (profiled graph inputs (length ledger) (length cells) lent .result) .firings ≡ 0 → InputsWritten (profiled graph inputs (length ledger) (length cells) lent .result) inputs ledger cells
+profile-starts : (graph arrays inputs ledger cells : List ℕ) (lent : ℕ) → Bytes inputs → checkProfile graph arrays inputs (length ledger) (length cells) lent ≡ Passed
+    → answer (profiled graph arrays inputs (length ledger) (length cells) lent .result) .firings ≡ 0 → InputsWritten (profiled graph arrays inputs (length ledger) (length cells) lent .result) inputs ledger cells
 unfolding profiled profileUnlessFailed answer
-profile-starts graph inputs ledger cells lent b passed n =
-    let (w, a) = wholes graph inputs (length ledger) (length cells) lent passed in
+profile-starts graph arrays inputs ledger cells lent b passed n =
+    let (w, (named, a)) = wholes graph arrays inputs (length ledger) (length cells) lent passed in
     let capacity = capacityOf (length ledger) in
     let count = length cells / cellWidth in
-    let M = machineOf (graphOf graph) capacity count in
+    let table = arraysOf arrays in
+    let M = machineOf (graphOf graph) table capacity count in
     let s = firstState inputs count in
-    let h = everyProfile M (law graph inputs capacity count a) ProfileFull s (good graph inputs capacity count a) (lent / stepWidth) 0 in
-    rw passed (written graph inputs ledger cells b w a (profile M ProfileFull (lent / stepWidth) 0 s .ended) (h .log) (h .logged) (rw passed at n))
+    let h = everyProfile M (law graph inputs table capacity count a) ProfileFull s (good graph inputs table capacity count a) (lent / stepWidth) 0 in
+    rw passed (written graph arrays inputs ledger cells b w a (profile M ProfileFull (lent / stepWidth) 0 s .ended) (h .log) (h .logged) (rw passed at n))
 
 pub others-start : OthersStart
 others-start = record { byReplay = replay-starts; byProfile = profile-starts }
@@ -142,9 +145,9 @@ count-names log = length-rows logWidth nameOf ((length log + (logWidth - 1)) / l
 not-enabled-word : (o : AnswerOutcome.Outcome) (place : ℕ) → o ≡ Outcomes.Refused NotEnabled place → (wordOf o ≡ 20) × (placeIn o ≡ place)
 not-enabled-word o place e = (ap wordOf e, ap placeIn e)
 
-module _ (g : List ℕ) (capacity cells : ℕ) (s : State Tag ℤ) (log : List ℕ) (place : ℕ) where
+module _ (g : List ℕ) (table : List NamedArray) (capacity cells : ℕ) (s : State Tag ℤ) (log : List ℕ) (place : ℕ) where
   abbrev M : Machine
-  M = machineOf (graphOf g) capacity cells
+  M = machineOf (graphOf g) table capacity cells
 
   abbrev e : End Refusal Tag ℤ
   e = replay M NotEnabled (namesIn log) 0 s
@@ -174,7 +177,7 @@ module _ (g : List ℕ) (capacity cells : ℕ) (s : State Tag ℤ) (log : List �
               let z : _≡_ {A = ℕ} 100 20 = sym (ap (λ (o : Outcome Refusal). wordOf (outcomeOf o)) d) ∙ not-enabled-word _ place h .0 in absurd (omega arith)
           byStop (oneRefused b more p q t f d) =
               let z : numberOf t ≡ 20 = sym (ap (λ (o : Outcome Refusal). wordOf (outcomeOf o)) d) ∙ not-enabled-word _ place h .0 in
-              absurd (omega (arith, z, firing-early (graphOf g) capacity cells (e .state) (b .tag) t f))
+              absurd (omega (arith, z, firing-early (graphOf g) table capacity cells (e .state) (b .tag) t f))
           byStop (noneNamed name more p q d) =
               let at : place ≡ n = sym (not-enabled-word _ place h .1) ∙ ap (λ (o : Outcome Refusal). placeIn (outcomeOf o)) d ∙ zero-add n in
               let names : namesIn log ≡ map some (r .done) ++ (name ∷ more) = r .whole ∙ ap (λ (l : List (Option Tag)). map some (r .done) ++ l) p in
@@ -189,14 +192,14 @@ module _ (g : List ℕ) (capacity cells : ℕ) (s : State Tag ℤ) (log : List �
 
 pub not-enabled-stops : NotEnabledStops
 unfolding replayed unlessFailed answer ledgerAfter cellsAfter
-not-enabled-stops graph inputs log ledger cells place = go (check graph inputs [] ledger cells) refl
+not-enabled-stops graph arrays inputs log ledger cells place = go (check graph arrays inputs [] ledger cells) refl
   where
-    go : (c : Checked) → check graph inputs [] ledger cells ≡ c → answer (replayed graph inputs log ledger cells) .outcome ≡ Outcomes.Refused NotEnabled place
-        → StoppedBefore (replayed graph inputs log ledger cells) (replayed graph inputs (take (place * logWidth) log) ledger cells) place
+    go : (c : Checked) → check graph arrays inputs [] ledger cells ≡ c → answer (replayed graph arrays inputs log ledger cells) .outcome ≡ Outcomes.Refused NotEnabled place
+        → StoppedBefore (replayed graph arrays inputs log ledger cells) (replayed graph arrays inputs (take (place * logWidth) log) ledger cells) place
     go (Failed r n) e h =
         let z : numberOf r ≡ 20 = not-enabled-word _ place (rw e at h) .0 in
-        let early : numberOf r < 18 = rw e at (check-early graph inputs [] ledger cells) in
-        absurd (omega arith)
+        let common : Common r = rw e at (check-early graph arrays inputs [] ledger cells) in
+        absurd (common .notNamed z)
     go Passed e h =
-        let z = stops graph (capacityOf ledger) (cells / cellWidth) (firstState inputs (cells / cellWidth)) log place (rw e at h) in
+        let z = stops graph (arraysOf arrays) (capacityOf ledger) (cells / cellWidth) (firstState inputs (cells / cellWidth)) log place (rw e at h) in
         rw e (record { counted = z .0; ledgerLeft = λ l. rw (z .1); cellsLeft = λ l. rw (z .1) })

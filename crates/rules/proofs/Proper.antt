@@ -12,10 +12,12 @@ use lib.ListN.{length}
 use lib.IntN.{ℤ, natAbs}
 use lib.Dec.{eqb, leb}
 use Rattle.record.specs.declared.tag.Tag.{Tag}
+use Rattle.record.specs.declared.array.NamedArray.{NamedArray}
 use Rattle.record.specs.declared.instruction.Destination.{Destination}
 use Rattle.record.specs.declared.instruction.Instruction.{Instruction}
 use Rattle.buffer.specs.Rows.{All}
 use Rattle.record.specs.GraphRecords.{destinations, operandsOf, rowOf, graphOf}
+use Rattle.record.specs.Arrays.{arraysOf}
 use Rattle.record.specs.Calls.{entered}
 use Rattle.record.specs.TokensAndTags.{capacityOf}
 use Rattle.record.specs.Widths.{cellWidth}
@@ -27,7 +29,7 @@ use Rattle.machine.proofs.Kept.{Each, OfToken, Keeps, reached-keeps}
 use Rattle.machine.proofs.Reached.{reached-picks}
 use Rattle.rules.specs.declared.answer.Refusal.{Refusal}
 use Rattle.rules.specs.declared.answer.Checked.the-variants.{Passed}
-use Rattle.rules.specs.Check.{all, instructionAt, operandsAt, goodArc, checkGraph, checkStores, check}
+use Rattle.rules.specs.Check.{all, instructionAt, operandsAt, goodArc, checkGraph, checkStores, checkArrays, check}
 use Rattle.rules.specs.InstructionSet.{keyUnder, allUnder, isResult, arityIn, machineOf}
 use Rattle.rules.specs.Run.{contentRecord, tokenRecord, firstState, picksOf, result}
 use Rattle.rules.specs.Orders.{Completed, Quiescent, tokensOf}
@@ -49,12 +51,12 @@ module _ (g : List Instruction) where
   arcs-in τ [] e = tt
   arcs-in τ (d ∷ ds) e = let p = both (goodArc g d) (all (goodArc g) ds) e in (ltb-true _ _ (p .0), arcs-in τ ds (p .1))
 
-module _ (graph : List ℕ) (passed : checkGraph graph ≡ Passed) (capacity cells : ℕ) where
+module _ (graph : List ℕ) (passed : checkGraph graph ≡ Passed) (table : List NamedArray) (capacity cells : ℕ) where
   abbrev g : List Instruction
   g = graphOf graph
 
   abbrev M : Machine
-  M = machineOf g capacity cells
+  M = machineOf g table capacity cells
 
   abbrev Any : {A : Type 0} → A → Type 0
   Any x = Unit {0}
@@ -71,7 +73,7 @@ module _ (graph : List ℕ) (passed : checkGraph graph ≡ Passed) (capacity cel
   unfolding operandsAt
   has-port i l = leb-true 1 (operandsOf (instructionAt g i .code)) (of-graph graph passed i l .known)
 
-  asked : (τ : Tag) → τ .instruction < length g → Asked g capacity cells (AtPort g) Any Any τ (instructionAt g (τ .instruction))
+  asked : (τ : Tag) → τ .instruction < length g → Asked g table capacity cells (AtPort g) Any Any τ (instructionAt g (τ .instruction))
   asked τ l =
       let r = instructionAt g (τ .instruction) in
       let good = of-graph graph passed (τ .instruction) l in
@@ -90,7 +92,7 @@ module _ (graph : List ℕ) (passed : checkGraph graph ≡ Passed) (capacity cel
       }
 
   pub keeps : Keeps M (AtPort g) Any Any
-  keeps = keeps-asked g capacity cells (AtPort g) Any Any (λ τ (waits, keys). asked τ (inside (τ .instruction) 0 (keys 0 waits))) tt
+  keeps = keeps-asked g table capacity cells (AtPort g) Any Any (λ τ (waits, keys). asked τ (inside (τ .instruction) 0 (keys 0 waits))) tt
 
   -- ---- what is proper for the machine is proper
 
@@ -127,15 +129,15 @@ module _ (graph : List ℕ) (passed : checkGraph graph ≡ Passed) (capacity cel
 
 pub completed-exactly : CompletedExactly
 unfolding result check
-completed-exactly graph inputs picks budget ledger cells =
-    by-check (check graph inputs picks ledger cells) _ (λ x. Quiescent x → Completed x ↔ All (ProperToken (graphOf graph)) (tokensOf x)) (λ r p e q. absurd q) (λ h q.
-    let a = accepted graph inputs (capacityOf ledger) (checkStores (length inputs) (length picks) ledger cells) h .1 in
-    let M = machineOf (graphOf graph) (capacityOf ledger) (cells / cellWidth) in
+completed-exactly graph arrays inputs picks budget ledger cells =
+    by-check (check graph arrays inputs picks ledger cells) _ (λ x. Quiescent x → Completed x ↔ All (ProperToken (graphOf graph)) (tokensOf x)) (λ r p e q. absurd q) (λ h q.
+    let a = accepted graph inputs (capacityOf ledger) (checkStores (length inputs) (length picks) ledger cells) (checkArrays (graphOf graph) (cells / cellWidth) arrays) h .1 .1 in
+    let M = machineOf (graphOf graph) (arraysOf arrays) (capacityOf ledger) (cells / cellWidth) in
     let s = firstState inputs (cells / cellWidth) in
     let e = run M budget (picksOf picks) s in
     let r = reached-picks M s budget (picksOf picks) in
-    let first = start-keys (graphOf graph) (capacityOf ledger) (cells / cellWidth) (AtPort (graphOf graph)) (λ c. Unit {0}) inputs (λ t root port own. port) (a .inputsPassed) in
-    let held = reached-keeps M (AtPort (graphOf graph)) (λ v. Unit {0}) (λ c. Unit {0}) (keeps graph (a .graphPassed) (capacityOf ledger) (cells / cellWidth)) s first (r .done) (r .sent) (e .state) (r .reached) .tokens in
-    let (to, fro) = by-outcome graph (a .graphPassed) (capacityOf ledger) (cells / cellWidth) (e .outcome) budget (r .done) (e .state) q (r .says) in
-    let (tos, fros) = properly graph (a .graphPassed) (capacityOf ledger) (cells / cellWidth) (e .state .tokens) held in
+    let first = start-keys (graphOf graph) (arraysOf arrays) (capacityOf ledger) (cells / cellWidth) (AtPort (graphOf graph)) (λ c. Unit {0}) inputs (λ t root port own. port) (a .inputsPassed) in
+    let held = reached-keeps M (AtPort (graphOf graph)) (λ v. Unit {0}) (λ c. Unit {0}) (keeps graph (a .graphPassed) (arraysOf arrays) (capacityOf ledger) (cells / cellWidth)) s first (r .done) (r .sent) (e .state) (r .reached) .tokens in
+    let (to, fro) = by-outcome graph (a .graphPassed) (arraysOf arrays) (capacityOf ledger) (cells / cellWidth) (e .outcome) budget (r .done) (e .state) q (r .says) in
+    let (tos, fros) = properly graph (a .graphPassed) (arraysOf arrays) (capacityOf ledger) (cells / cellWidth) (e .state .tokens) held in
     (λ c. tos (to c), λ k. fro (fros k)))

@@ -12,10 +12,12 @@ use lib.Seq.{take-at}
 use lib.IntN.{ℤ}
 use lib.Dec.{eqb, leb}
 use Rattle.record.specs.declared.tag.Tag.{Tag}
+use Rattle.record.specs.declared.array.NamedArray.{NamedArray}
 use Rattle.number.specs.Number.{Bytes}
 use Rattle.buffer.specs.Rows.{whole, joined, All}
 use Rattle.buffer.proofs.Tables.{length-joined}
 use Rattle.record.specs.GraphRecords.{graphOf}
+use Rattle.record.specs.Arrays.{arraysOf}
 use Rattle.record.specs.TokensAndTags.{mostTokens, capacityOf, TokenFits}
 use Rattle.record.specs.Logs.{encode}
 use Rattle.record.specs.Widths.{tokenWidth, cellWidth, pickWidth, logWidth}
@@ -32,7 +34,7 @@ use Rattle.rules.specs.declared.answer.Refusal.{Refusal}
 use Rattle.rules.specs.declared.answer.Refusal.the-variants.{BadStore, NotEnabled}
 use Rattle.rules.specs.declared.answer.Checked.{Checked}
 use Rattle.rules.specs.declared.answer.Checked.the-variants.{Passed, Failed}
-use Rattle.rules.specs.Check.{demand, _andThen_, checkGraph, checkStores, checkInputs, check, mostCells}
+use Rattle.rules.specs.Check.{demand, _andThen_, checkGraph, checkStores, checkArrays, checkInputs, check, mostCells}
 use Rattle.rules.specs.InstructionSet.{machineOf}
 use Rattle.rules.specs.Run.{tokenRecord, firstState, picksOf, ranTo, unlessFailed, answer, ledgerAfter, cellsAfter}
 use Rattle.rules.specs.Log.{namesIn, logSuffices, checkLogStores, checkLogged, LogResult, logUnlessFailed, logged, logAfter, replayed, NotBy7, Again, LogReplays}
@@ -67,9 +69,9 @@ two-demands false b q n e = cc
 
 -- ---- the tags of a log are those of tokens
 
-module _ (g : List ℕ) (capacity cells : ℕ) where
+module _ (g : List ℕ) (table : List NamedArray) (capacity cells : ℕ) where
   abbrev M : Machine
-  M = machineOf (graphOf g) capacity cells
+  M = machineOf (graphOf g) table capacity cells
 
   spent-fits : (ts : List (Token Tag ℤ)) → All TokenFits (map tokenRecord ts) → (τ : Tag) → List·Memᴰ τ (spentTags M ts) → TagFits τ
   spent-fits [] f τ m = absurd (List·Memᴰ·not-nil m)
@@ -92,7 +94,7 @@ members-all P (a ∷ l) h = (h a (List·Memᴰ·head refl), members-all P l (λ 
 
 -- ---- the replay
 
-module _ (graph inputs picks : List ℕ) (budget ledger cells lent : ℕ) where
+module _ (graph arrays inputs picks : List ℕ) (budget ledger cells lent : ℕ) where
   -- what the run accepts the replay accepts
   stores-pass : checkLogStores (length inputs) (length picks) ledger cells budget lent ≡ Passed → checkStores (length inputs) 0 ledger cells ≡ Passed
   unfolding checkStores
@@ -106,37 +108,37 @@ module _ (graph inputs picks : List ℕ) (budget ledger cells lent : ℕ) where
       two-demands (whole tokenWidth mostTokens (length inputs) && (whole pickWidth mostTokens (length picks) && (whole tokenWidth mostTokens ledger && whole cellWidth mostCells cells)))
       (logSuffices budget lent) q n p
 
-  replay-passes : checkLogged graph inputs picks budget ledger cells lent ≡ Passed → check graph inputs [] ledger cells ≡ Passed
+  replay-passes : checkLogged graph arrays inputs picks budget ledger cells lent ≡ Passed → check graph arrays inputs [] ledger cells ≡ Passed
   unfolding checkLogged check
-  replay-passes = also-passed (checkGraph graph) (checkLogStores (length inputs) (length picks) ledger cells budget lent) (checkStores (length inputs) 0 ledger cells) (checkInputs (graphOf graph) (capacityOf ledger) inputs) stores-pass
+  replay-passes = also-passed (checkGraph graph) (checkLogStores (length inputs) (length picks) ledger cells budget lent) (checkStores (length inputs) 0 ledger cells) (checkArrays (graphOf graph) (cells / cellWidth) arrays andThen checkInputs (graphOf graph) (capacityOf ledger) inputs) stores-pass
 
-  replay-fails : (r : Refusal) (p : ℕ) → checkLogged graph inputs picks budget ledger cells lent ≡ Failed r p → ¬ (r ≡ BadStore) → check graph inputs [] ledger cells ≡ Failed r p
+  replay-fails : (r : Refusal) (p : ℕ) → checkLogged graph arrays inputs picks budget ledger cells lent ≡ Failed r p → ¬ (r ≡ BadStore) → check graph arrays inputs [] ledger cells ≡ Failed r p
   unfolding checkLogged check
   replay-fails =
-      also-failed (checkGraph graph) (checkLogStores (length inputs) (length picks) ledger cells budget lent) (checkStores (length inputs) 0 ledger cells) (checkInputs (graphOf graph) (capacityOf ledger) inputs) stores-pass
+      also-failed (checkGraph graph) (checkLogStores (length inputs) (length picks) ledger cells budget lent) (checkStores (length inputs) 0 ledger cells) (checkArrays (graphOf graph) (cells / cellWidth) arrays andThen checkInputs (graphOf graph) (capacityOf ledger) inputs) stores-pass
       stores-fail
 
-module _ (graph inputs : List ℕ) (capacity cells : ℕ) (a : Accepted graph inputs capacity) (few : cells ≤ mostCells) (graphBytes : Bytes graph) (inputBytes : Bytes inputs)
+module _ (graph inputs : List ℕ) (table : List NamedArray) (capacity cells : ℕ) (a : Accepted graph inputs capacity) (few : cells ≤ mostCells) (graphBytes : Bytes graph) (inputBytes : Bytes inputs)
     (budget : ℕ) (picks lent : List ℕ) where
   abbrev s : State Tag ℤ
   s = firstState inputs cells
 
   abbrev e : End Refusal Tag ℤ
-  e = run (M graph capacity cells) budget picks s
+  e = run (M graph table capacity cells) budget picks s
 
   abbrev τs : List Tag
-  τs = logOf (M graph capacity cells) (byPicks (M graph capacity cells)) budget picks s
+  τs = logOf (M graph table capacity cells) (byPicks (M graph table capacity cells)) budget picks s
 
-  ranHere : Ran (M graph capacity cells) s budget 0 τs e
-  ranHere = ran (M graph capacity cells) (byPicks (M graph capacity cells)) (byPicksLawful (M graph capacity cells)) budget picks 0 s
+  ranHere : Ran (M graph table capacity cells) s budget 0 τs e
+  ranHere = ran (M graph table capacity cells) (byPicks (M graph table capacity cells)) (byPicksLawful (M graph table capacity cells)) budget picks 0 s
 
   -- each has a token, and so fits a record
   pub tags-fit : All TagFits τs
   tags-fit =
-      let told = ledgerTells (M graph capacity cells) (law graph inputs capacity cells a) s (good graph inputs capacity cells a) τs (e .state) (ranHere .logged .fires) in
-      let (o, r) = sequenceReaches (M graph capacity cells) τs s (e .state) (ranHere .logged .fires) in
-      let fits = ended-fits graph graphBytes (a .graphPassed) capacity cells few inputs inputBytes (begins graph inputs capacity cells a) e (length τs) o r .tokens in
-      members-all TagFits τs (λ τ m. spent-fits graph capacity cells (e .state .tokens) fits τ (perm-member (Permᴰ·symm told) (Memᴰ·append-left (spentTags (M graph capacity cells) (s .tokens)) m)))
+      let told = ledgerTells (M graph table capacity cells) (law graph inputs table capacity cells a) s (good graph inputs table capacity cells a) τs (e .state) (ranHere .logged .fires) in
+      let (o, r) = sequenceReaches (M graph table capacity cells) τs s (e .state) (ranHere .logged .fires) in
+      let fits = ended-fits graph graphBytes (a .graphPassed) table capacity cells few inputs inputBytes (begins graph inputs table capacity cells a) e (length τs) o r .tokens in
+      members-all TagFits τs (λ τ m. spent-fits graph table capacity cells (e .state .tokens) fits τ (perm-member (Permᴰ·symm told) (Memᴰ·append-left (spentTags (M graph table capacity cells) (s .tokens)) m)))
 
   -- the first records are the log
   first-records : namesIn (take (e .firings * logWidth) (joined encode τs ++ drop (length (joined encode τs)) lent)) ≡ map some τs
@@ -144,10 +146,10 @@ module _ (graph inputs : List ℕ) (capacity cells : ℕ) (a : Accepted graph in
       let n : length (joined encode τs) ≡ e .firings * logWidth = length-joined logWidth encode length-record τs ∙ ap (λ (k : ℕ). k * logWidth) (sym (ranHere .logged .firings ∙ zero-add (length τs))) in
       ap namesIn (take-at (joined encode τs) (drop (length (joined encode τs)) lent) (e .firings * logWidth) n) ∙ names-back τs tags-fit
 
-  again : Again (ranTo e) (ranTo (replay (M graph capacity cells) NotEnabled (namesIn (take (e .firings * logWidth) (joined encode τs ++ drop (length (joined encode τs)) lent))) 0 s))
+  again : Again (ranTo e) (ranTo (replay (M graph table capacity cells) NotEnabled (namesIn (take (e .firings * logWidth) (joined encode τs ++ drop (length (joined encode τs)) lent))) 0 s))
   unfolding answer ledgerAfter cellsAfter
   again =
-      let h : SameAs (M graph capacity cells) NotEnabled e (replay (M graph capacity cells) NotEnabled (map some τs) 0 s) = runReplays (M graph capacity cells) NotEnabled (byPicks (M graph capacity cells)) (byPicksLawful (M graph capacity cells)) budget picks 0 s in
+      let h : SameAs (M graph table capacity cells) NotEnabled e (replay (M graph table capacity cells) NotEnabled (map some τs) 0 s) = runReplays (M graph table capacity cells) NotEnabled (byPicks (M graph table capacity cells)) (byPicksLawful (M graph table capacity cells)) budget picks 0 s in
       rw first-records (record {
         ledgerLeft = λ l. rw (h .state);
         cellsLeft = λ l. rw (h .state);
@@ -158,16 +160,16 @@ module _ (graph inputs : List ℕ) (capacity cells : ℕ) (a : Accepted graph in
 
 pub log-replays : LogReplays
 unfolding logged logUnlessFailed logAfter replayed unlessFailed answer
-log-replays graph inputs picks budget ledger cells lent graphBytes inputBytes = go (checkLogged graph inputs picks budget ledger cells (length lent)) refl
+log-replays graph arrays inputs picks budget ledger cells lent graphBytes inputBytes = go (checkLogged graph arrays inputs picks budget ledger cells (length lent)) refl
   where
     x : Checked → LogResult
-    x c = logUnlessFailed c (run (machineOf (graphOf graph) (capacityOf ledger) (cells / cellWidth)) budget (picksOf picks) (firstState inputs (cells / cellWidth)))
-        (logOf (machineOf (graphOf graph) (capacityOf ledger) (cells / cellWidth)) (byPicks (machineOf (graphOf graph) (capacityOf ledger) (cells / cellWidth))) budget (picksOf picks) (firstState inputs (cells / cellWidth)))
+    x c = logUnlessFailed c (run (machineOf (graphOf graph) (arraysOf arrays) (capacityOf ledger) (cells / cellWidth)) budget (picksOf picks) (firstState inputs (cells / cellWidth)))
+        (logOf (machineOf (graphOf graph) (arraysOf arrays) (capacityOf ledger) (cells / cellWidth)) (byPicks (machineOf (graphOf graph) (arraysOf arrays) (capacityOf ledger) (cells / cellWidth))) budget (picksOf picks) (firstState inputs (cells / cellWidth)))
 
-    go : (c : Checked) → checkLogged graph inputs picks budget ledger cells (length lent) ≡ c → NotBy7 (x c .result)
-        → Again (x c .result) (replayed graph inputs (take (answer (x c .result) .firings * logWidth) (logAfter (x c) lent)) ledger cells)
-    go (Failed r p) f other = rw (replay-fails graph inputs picks budget ledger cells (length lent) r p f other) (record { ledgerLeft = λ l. refl; cellsLeft = λ l. refl; firings = refl; tokens = refl; answered = λ n. refl })
+    go : (c : Checked) → checkLogged graph arrays inputs picks budget ledger cells (length lent) ≡ c → NotBy7 (x c .result)
+        → Again (x c .result) (replayed graph arrays inputs (take (answer (x c .result) .firings * logWidth) (logAfter (x c) lent)) ledger cells)
+    go (Failed r p) f other = rw (replay-fails graph arrays inputs picks budget ledger cells (length lent) r p f other) (record { ledgerLeft = λ l. refl; cellsLeft = λ l. refl; firings = refl; tokens = refl; answered = λ n. refl })
     go Passed f other =
-        let h = log-passed graph inputs picks budget ledger cells (length lent) f in
-        rw (replay-passes graph inputs picks budget ledger cells (length lent) f)
-        (again graph inputs (capacityOf ledger) (cells / cellWidth) (h .start) (whole-bytes cellWidth mostCells cells (h .stores .wholeCells) .1) graphBytes inputBytes budget (picksOf picks) lent)
+        let h = log-passed graph arrays inputs picks budget ledger cells (length lent) f in
+        rw (replay-passes graph arrays inputs picks budget ledger cells (length lent) f)
+        (again graph inputs (arraysOf arrays) (capacityOf ledger) (cells / cellWidth) (h .start) (whole-bytes cellWidth mostCells cells (h .stores .wholeCells) .1) graphBytes inputBytes budget (picksOf picks) lent)

@@ -8,6 +8,7 @@ use mathlib.Core.List.{List, [], _∷_}
 use lib.IntN.{ℤ}
 use lib.Dec.{eqb}
 use Rattle.record.specs.declared.tag.Tag.{Tag}
+use Rattle.record.specs.declared.array.NamedArray.{NamedArray}
 use Rattle.record.specs.declared.instruction.Instruction.{Instruction}
 use Rattle.record.specs.GraphRecords.{operandsOf, graphOf}
 use Rattle.machine.specs.Machine.{Key, Token, refuse, Machine, isThere, when, find, sameKey, byPicks, run}
@@ -23,12 +24,12 @@ use Rattle.rules.specs.Run.{firstState}
 use Rattle.rules.specs.RootLeave.{isRootLeave, arityBefore, effectBefore, machineBefore, NoneAtRootLeave, KeepsAnswer}
 use Rattle.rules.proofs.Accepted.{Accepted, law, good}
 
-module _ (word : Refusal) (g : List Instruction) (capacity cells : ℕ) where
+module _ (word : Refusal) (g : List Instruction) (table : List NamedArray) (capacity cells : ℕ) where
   abbrev M : Machine
-  M = machineOf g capacity cells
+  M = machineOf g table capacity cells
 
   abbrev N : Machine
-  N = machineBefore word g capacity cells
+  N = machineBefore word g table capacity cells
 
   -- ---- elsewhere the two instruction sets agree
 
@@ -40,14 +41,14 @@ module _ (word : Refusal) (g : List Instruction) (capacity cells : ℕ) where
       go true n = refl
       go false n = refl
 
-  same-effect : (τ : Tag) → isRootLeave g τ ≡ false → (v w : ℤ) → effectBefore word g cells τ v w ≡ effectIn g cells τ v w
+  same-effect : (τ : Tag) → isRootLeave g τ ≡ false → (v w : ℤ) → effectBefore word g table cells τ v w ≡ effectIn g table cells τ v w
   unfolding effectBefore
   same-effect τ e v w = rw e
 
-  before-agrees : (τ : Tag) → isRootLeave g τ ≡ false → AgreeAt M (arityBefore g) (effectBefore word g cells) τ
+  before-agrees : (τ : Tag) → isRootLeave g τ ≡ false → AgreeAt M (arityBefore g) (effectBefore word g table cells) τ
   before-agrees τ e = record { arities = same-arity τ e; effects = same-effect τ e }
 
-  now-agrees : (τ : Tag) → isRootLeave g τ ≡ false → AgreeAt N (arityIn g) (effectIn g cells) τ
+  now-agrees : (τ : Tag) → isRootLeave g τ ≡ false → AgreeAt N (arityIn g) (effectIn g table cells) τ
   now-agrees τ e = record { arities = sym (same-arity τ e); effects = λ v w. sym (same-effect τ e v w) }
 
   -- a key that is found is one of a token
@@ -68,32 +69,32 @@ module _ (word : Refusal) (g : List Instruction) (capacity cells : ℕ) where
     readsForSome = λ τ v w. reads (isRootLeave g τ) τ v w;
   }
     where
-      below : (b : Bool) (τ : Tag) (v w : ℤ) → CellsBelow cells (cond b (refuse word) (effectIn g cells τ v w))
+      below : (b : Bool) (τ : Tag) (v w : ℤ) → CellsBelow cells (cond b (refuse word) (effectIn g table cells τ v w))
       below true τ v w = tt
       below false τ v w = l .cellsBelow τ v w
 
-      reads : (b : Bool) (τ : Tag) (v w : ℤ) → ReadsForSome (cond b (refuse word) (effectIn g cells τ v w))
+      reads : (b : Bool) (τ : Tag) (v w : ℤ) → ReadsForSome (cond b (refuse word) (effectIn g table cells τ v w))
       reads true τ v w = tt
       reads false τ v w = l .readsForSome τ v w
 
 pub keeps-answer : KeepsAnswer
-keeps-answer graph inputs capacity cells passed accepted word budget picks = go
+keeps-answer graph inputs table capacity cells passed accepted word budget picks = go
   where
     a : Accepted graph inputs capacity
     a = record { graphPassed = passed; inputsPassed = accepted }
 
-    first : Good (machineOf (graphOf graph) capacity cells) (firstState inputs cells)
-    first = good graph inputs capacity cells a
+    first : Good (machineOf (graphOf graph) table capacity cells) (firstState inputs cells)
+    first = good graph inputs table capacity cells a
 
-    go : NoneAtRootLeave (graphOf graph) (run (machineBefore word (graphOf graph) capacity cells) budget picks (firstState inputs cells) .state .tokens)
-        ⊎ NoneAtRootLeave (graphOf graph) (run (machineOf (graphOf graph) capacity cells) budget picks (firstState inputs cells) .state .tokens)
-        → run (machineOf (graphOf graph) capacity cells) budget picks (firstState inputs cells) ≡ run (machineBefore word (graphOf graph) capacity cells) budget picks (firstState inputs cells)
+    go : NoneAtRootLeave (graphOf graph) (run (machineBefore word (graphOf graph) table capacity cells) budget picks (firstState inputs cells) .state .tokens)
+        ⊎ NoneAtRootLeave (graphOf graph) (run (machineOf (graphOf graph) table capacity cells) budget picks (firstState inputs cells) .state .tokens)
+        → run (machineOf (graphOf graph) table capacity cells) budget picks (firstState inputs cells) ≡ run (machineBefore word (graphOf graph) table capacity cells) budget picks (firstState inputs cells)
     go (inl h) =
-        let N = machineBefore word (graphOf graph) capacity cells in
-        sameRun N (arityIn (graphOf graph)) (effectIn (graphOf graph) cells) (lawful-before word (graphOf graph) capacity cells (law graph inputs capacity cells a)) (byPicks N) (byPicksLawful N) (firstState inputs cells)
+        let N = machineBefore word (graphOf graph) table capacity cells in
+        sameRun N (arityIn (graphOf graph)) (effectIn (graphOf graph) table cells) (lawful-before word (graphOf graph) table capacity cells (law graph inputs table capacity cells a)) (byPicks N) (byPicksLawful N) (firstState inputs cells)
         (record { distinct = first .distinct; room = first .room; cellCount = first .cellCount }) budget picks 0
-        (λ k e. now-agrees word (graphOf graph) capacity cells (k .tag) (found-none word (graphOf graph) capacity cells (run N budget picks (firstState inputs cells) .state .tokens) h k e))
+        (λ k e. now-agrees word (graphOf graph) table capacity cells (k .tag) (found-none word (graphOf graph) table capacity cells (run N budget picks (firstState inputs cells) .state .tokens) h k e))
     go (inr h) =
-        let M = machineOf (graphOf graph) capacity cells in
-        sym (sameRun M (arityBefore (graphOf graph)) (effectBefore word (graphOf graph) cells) (law graph inputs capacity cells a) (byPicks M) (byPicksLawful M) (firstState inputs cells) first budget picks 0
-        (λ k e. before-agrees word (graphOf graph) capacity cells (k .tag) (found-none word (graphOf graph) capacity cells (run M budget picks (firstState inputs cells) .state .tokens) h k e)))
+        let M = machineOf (graphOf graph) table capacity cells in
+        sym (sameRun M (arityBefore (graphOf graph)) (effectBefore word (graphOf graph) table cells) (law graph inputs table capacity cells a) (byPicks M) (byPicksLawful M) (firstState inputs cells) first budget picks 0
+        (λ k e. before-agrees word (graphOf graph) table capacity cells (k .tag) (found-none word (graphOf graph) table capacity cells (run M budget picks (firstState inputs cells) .state .tokens) h k e)))

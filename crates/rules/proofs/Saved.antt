@@ -14,6 +14,7 @@ use lib.IntN.{ℤ}
 use mir.Syntax.{w32}
 use mir.Val.{SFits}
 use Rattle.record.specs.declared.tag.Tag.{Tag}
+use Rattle.record.specs.declared.array.NamedArray.{NamedArray}
 use Rattle.record.specs.declared.token.Token as Record
 use Rattle.record.specs.declared.token.Content as RecordContent
 use Rattle.record.specs.declared.token.Content.the-variants as Contents
@@ -58,12 +59,17 @@ use Rattle.rules.proofs.Fits.{KeyFits, start-fits, token-records, cell-
 use Rattle.rules.proofs.Paths.{path-made, path-in}
 use Rattle.rules.proofs.Written.{Rooms, ledger-size, cells-size, tokens-read, state-back, tokens-allowed, cells-allowed}
 
-module _ (graph : List ℕ) (bytes : Bytes graph) (passed : checkGraph graph ≡ Passed) (capacity count : ℕ) where
+-- no table is looked at
+any-table : (g : List Instruction) (table : List NamedArray) (capacity count f : ℕ) (s : State Tag ℤ) → isSaved (machineOf g [] capacity count) f s ≡ isSaved (machineOf g table capacity count) f s
+unfolding isSaved
+any-table g table capacity count f s = refl
+
+module _ (graph : List ℕ) (bytes : Bytes graph) (passed : checkGraph graph ≡ Passed) (table : List NamedArray) (capacity count : ℕ) where
   abbrev g : List Instruction
   g = graphOf graph
 
   abbrev M : Machine
-  M = machineOf g capacity count
+  M = machineOf g table capacity count
 
   abbrev Any : {A : Type 0} → A → Type 0
   Any x = Unit {0}
@@ -77,28 +83,28 @@ module _ (graph : List ℕ) (bytes : Bytes graph) (passed : checkGraph graph ≡
 
   pub resumable-reached : (f : ℕ) (s : State Tag ℤ) → Resumable f s → (n o : ℕ) (x : State Tag ℤ) → Reached M s n o x → Resumable (f + n) x
   resumable-reached f s h n o x r = record {
-    saved = saved-reached M (lawful graph passed capacity count) f s (h .saved) n o x r;
-    called = reached-keeps M (Called graph passed) Any Any (Callers.keeps graph passed capacity count) s (h .called) n o x r;
-    placed = reached-keeps M (AtPort g) Any Any (Proper.keeps graph passed capacity count) s (h .placed) n o x r;
-    fits = reached-keeps M KeyFits (SFits w32) (λ c. c < count) (Fits.keeps graph bytes passed capacity count) s (h .fits) n o x r;
+    saved = saved-reached M (lawful graph passed table capacity count) f s (h .saved) n o x r;
+    called = reached-keeps M (Called graph passed) Any Any (Callers.keeps graph passed table capacity count) s (h .called) n o x r;
+    placed = reached-keeps M (AtPort g) Any Any (Proper.keeps graph passed table capacity count) s (h .placed) n o x r;
+    fits = reached-keeps M KeyFits (SFits w32) (λ c. c < count) (Fits.keeps graph bytes passed table capacity count) s (h .fits) n o x r;
   }
 
   pub resumable-start : (inputs : List ℕ) → Bytes inputs → Accepted graph inputs capacity → Resumable 0 (firstState inputs count)
   resumable-start inputs inputBytes a = record {
-    saved = saved-start M (firstState inputs count) (begins graph inputs capacity count a);
-    called = start-keys g capacity count (Called graph passed) Any inputs (λ t e l h. rw (e, root-number) (root-path g, omega arith)) (a .inputsPassed);
-    placed = start-keys g capacity count (AtPort g) Any inputs (λ t root port own. port) (a .inputsPassed);
-    fits = start-fits graph bytes passed capacity count inputs inputBytes (begins graph inputs capacity count a);
+    saved = saved-start M (firstState inputs count) (begins graph inputs table capacity count a);
+    called = start-keys g table capacity count (Called graph passed) Any inputs (λ t e l h. rw (e, root-number) (root-path g, omega arith)) (a .inputsPassed);
+    placed = start-keys g table capacity count (AtPort g) Any inputs (λ t root port own. port) (a .inputsPassed);
+    fits = start-fits graph bytes passed table capacity count inputs inputBytes (begins graph inputs table capacity count a);
   }
 
   -- ---- it is taken again
 
   module _ (few : count ≤ mostCells) (f : ℕ) (s : State Tag ℤ) (h : Resumable f s) where
     pub tokens-fit : All TokenFits (map tokenRecord (s .tokens))
-    tokens-fit = token-records graph bytes passed capacity count few (s .tokens) (h .fits .tokens)
+    tokens-fit = token-records graph bytes passed table capacity count few (s .tokens) (h .fits .tokens)
 
     pub cells-fit : All CellFits (map cellRecord (s .cells))
-    cells-fit = cell-records graph bytes passed capacity count (s .cells) (h .fits .cells)
+    cells-fit = cell-records graph bytes passed table capacity count (s .cells) (h .fits .cells)
 
     at-ports : (ts : List (Token Tag ℤ)) → Each (OfToken M (AtPort g) Any Any) ts → All TokenFits (map tokenRecord ts)
         → All (λ (t : Record.Token). TokenFits t × (t .port < operandsAt g (t .tag .instruction))) (map tokenRecord ts)
@@ -127,7 +133,7 @@ module _ (graph : List ℕ) (bytes : Bytes graph) (passed : checkGraph graph ≡
             paths (s .tokens) (h .called .tokens),
             cells-allowed s ledger cells room,
           )
-          (resumed (λ m n x. isSaved (machineOf g m n) f x) ∙ taken-exactly M f s .1 (h .saved))
+          (resumed (λ m n x. isSaved (machineOf g [] m n) f x) ∙ any-table g table capacity count f s ∙ taken-exactly M f s .1 (h .saved))
 
 -- ---- what is taken
 
@@ -143,7 +149,7 @@ pub record Tests (graph ledger cells : List ℕ) (firings n : ℕ) : Type 0 wher
   pub fields : all (tokenAllowed (graphOf graph)) (rows tokenWidth (λ l. l) n ledger) ≡ true
   pub paths : all (λ (t : Record.Token). pathMade (graphOf graph) mostLevels (t .tag)) (Tokens.tokens n ledger) ≡ true
   pub cellFields : all cellAllowed (allRows cellWidth (λ l. l) cells) ≡ true
-  pub machine : isSaved (machineSaved graph ledger cells) firings (stateSaved ledger cells n) ≡ true
+  pub machine : isSaved (machineSaved graph [] ledger cells) firings (stateSaved ledger cells n) ≡ true
 
 pub tests : (graph ledger cells : List ℕ) (firings n : ℕ) → taken graph ledger cells firings n ≡ true → Tests graph ledger cells firings n
 unfolding taken
@@ -152,6 +158,17 @@ tests graph ledger cells firings n e =
     let (b, e2) = both (all (λ (t : Record.Token). pathMade (graphOf graph) mostLevels (t .tag)) (Tokens.tokens n ledger)) _ e1 in
     let (c, d) = both (all cellAllowed (allRows cellWidth (λ l. l) cells)) _ e2 in
     record { fields = a; paths = b; cellFields = c; machine = d }
+
+-- whatever the table is
+saved-so : (graph : List ℕ) (table : List NamedArray) (ledger cells : List ℕ) (firings n : ℕ) → taken graph ledger cells firings n ≡ true
+    → isSaved (machineSaved graph table ledger cells) firings (stateSaved ledger cells n) ≡ true
+saved-so graph table ledger cells firings n e =
+    sym (any-table (graphOf graph) table (capacityOf (length ledger)) (length cells / cellWidth) firings (stateSaved ledger cells n)) ∙ tests graph ledger cells firings n e .machine
+
+pub saved-under : (graph : List ℕ) (table : List NamedArray) (ledger cells : List ℕ) (firings n : ℕ) → taken graph ledger cells firings n ≡ true
+    → Saved (machineSaved graph table ledger cells) firings (stateSaved ledger cells n)
+saved-under graph table ledger cells firings n e =
+    taken-exactly (machineSaved graph table ledger cells) firings (stateSaved ledger cells n) .0 (saved-so graph table ledger cells firings n e)
 
 -- ---- by each condition
 
@@ -213,7 +230,7 @@ module _ (graph ledger cells : List ℕ) (firings n : ℕ) (passed : checkGraph 
         cellStates = cell-states .0 c;
         paths = paths-exactly .0 (t .paths);
         cellValues = cell-values .0 d;
-        saved = taken-exactly (machineSaved graph ledger cells) firings (stateSaved ledger cells n) .0 (t .machine);
+        saved = taken-exactly (machineSaved graph [] ledger cells) firings (stateSaved ledger cells n) .0 (t .machine);
       }
 
   passes : Takes graph ledger cells firings n → taken graph ledger cells firings n ≡ true
@@ -224,14 +241,14 @@ module _ (graph ledger cells : List ℕ) (firings n : ℕ) (passed : checkGraph 
         paths-exactly .1 (h .paths),
         all-both Cells.stateAllowed Cells.zeroUntilPresent (allRows cellWidth (λ l. l) cells) .1 (cell-states .1 (h .cellStates), cell-values .1 (h .cellValues)),
       )
-      (taken-exactly (machineSaved graph ledger cells) firings (stateSaved ledger cells n) .1 (h .saved))
+      (taken-exactly (machineSaved graph [] ledger cells) firings (stateSaved ledger cells n) .1 (h .saved))
 
 pub saved-exactly : TakenExactly
 saved-exactly graph ledger cells firings n passed = (λ e. words graph ledger cells firings n passed (tests graph ledger cells firings n e), λ h. passes graph ledger cells firings n passed h)
 
 -- ---- what is taken goes on
 
-module _ (graph ledger cells : List ℕ) (graphBytes : Bytes graph) (passed : checkGraph graph ≡ Passed) (ledgerBytes : Bytes ledger) (cellBytes : Bytes cells) (firings n : ℕ) (e : taken graph ledger cells firings n ≡ true) where
+module _ (graph ledger cells : List ℕ) (graphBytes : Bytes graph) (passed : checkGraph graph ≡ Passed) (table : List NamedArray) (ledgerBytes : Bytes ledger) (cellBytes : Bytes cells) (firings n : ℕ) (e : taken graph ledger cells firings n ≡ true) where
   abbrev c₀ : ℕ
   c₀ = capacityOf (length ledger)
 
@@ -239,7 +256,7 @@ module _ (graph ledger cells : List ℕ) (graphBytes : Bytes graph) (passed : ch
   k₀ = length cells / cellWidth
 
   abbrev N : Machine
-  N = machineOf (graphOf graph) c₀ k₀
+  N = machineOf (graphOf graph) table c₀ k₀
 
   told : Tests graph ledger cells firings n
   told = tests graph ledger cells firings n e
@@ -293,17 +310,17 @@ module _ (graph ledger cells : List ℕ) (graphBytes : Bytes graph) (passed : ch
   cells-fit-all [] f = tt
   cells-fit-all (x ∷ xs) f = (cell-fit x (f .0), cells-fit-all xs (f .1))
 
-  pub resumable-saved : Resumable graph graphBytes passed c₀ k₀ firings (stateSaved ledger cells n)
+  pub resumable-saved : Resumable graph graphBytes passed table c₀ k₀ firings (stateSaved ledger cells n)
   unfolding stateSaved
   resumable-saved = record {
-    saved = taken-exactly N firings (stateSaved ledger cells n) .0 (told .machine);
+    saved = saved-under graph table ledger cells firings n e;
     called = record { tokens = called-all (Tokens.tokens n ledger) tokensFit (told .paths); cells = each-all (OfCell N (AtPort (graphOf graph)) (λ v. Unit {0}) (λ d. Unit {0})) any-cell (map cellHeld (allRows cellWidth Cells.decode cells)) };
     placed = record {
       tokens = placed-all (Tokens.tokens n ledger) (rows-hold (tokenAllowed (graphOf graph)) (λ (t : Record.Token). AtPort (graphOf graph) (tokenHeld t .key)) Tokens.decode tokenWidth atPort n ledger ledgerBytes (told .fields));
       cells = each-all (OfCell N (AtPort (graphOf graph)) (λ v. Unit {0}) (λ d. Unit {0})) any-cell (map cellHeld (allRows cellWidth Cells.decode cells));
     };
     fits = record {
-      tokens = fits-all (Tokens.tokens n ledger) tokensFit (tested N firings (stateSaved ledger cells n) (told .machine) .named);
+      tokens = fits-all (Tokens.tokens n ledger) tokensFit (tested N firings (stateSaved ledger cells n) (saved-so graph table ledger cells firings n e) .named);
       cells = cells-fit-all (allRows cellWidth Cells.decode cells) (rows-fit CellFits Cells.decode cell-fits cellWidth k₀ cells cellBytes);
     };
   }

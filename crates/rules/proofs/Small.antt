@@ -10,27 +10,29 @@ use lib.Dec.{leb}
 use lib.ListN.{length, take}
 use lib.IntN.{ℤ}
 use Rattle.record.specs.declared.tag.Tag.{Tag}
+use Rattle.record.specs.declared.array.NamedArray.{NamedArray}
 use Rattle.record.specs.declared.instruction.Instruction.{Instruction}
 use Rattle.buffer.specs.Rows.{whole, allRows}
 use Rattle.buffer.proofs.Tables.{length-rows}
 use Rattle.record.specs.GraphRecords.{isGraphLength, graphOf, destinations, operandsOf}
+use Rattle.record.specs.Arrays.{mostArrays, arraysOf}
 use Rattle.record.specs.GraphRecords as Graph
 use Rattle.record.specs.TokensAndTags.{mostTokens, capacityOf}
 use Rattle.record.specs.TokensAndTags as Tokens
-use Rattle.record.specs.Widths.{tokenWidth, cellWidth, graphWidth, pickWidth}
+use Rattle.record.specs.Widths.{tokenWidth, cellWidth, graphWidth, pickWidth, arrayWidth}
 use Rattle.machine.specs.Machine.{Machine, State, completed, hung, budgetSpent, refused, Ledger, run}
 use Rattle.machine.specs.Machine as Machine
 use Rattle.machine.proofs.Bounds.{PlaceWithin, picks-bounded, picks-firings}
 use Rattle.rules.specs.declared.answer.Refusal.{Refusal}
-use Rattle.rules.specs.declared.answer.Refusal.the-variants.{GraphLength, UnknownOperation, FanOut, BadArc, BadSite, BadInput, BadStore, LedgerFull, SecondToken}
+use Rattle.rules.specs.declared.answer.Refusal.the-variants.{GraphLength, UnknownOperation, FanOut, BadArc, BadSite, BadInput, BadStore, LedgerFull, SecondToken, BadArray}
 use Rattle.rules.specs.declared.answer.Checked.{Checked}
 use Rattle.rules.specs.declared.answer.Checked.the-variants.{Passed, Failed}
 use Rattle.rules.specs.Answer.{placeIn}
-use Rattle.rules.specs.Check.{demand, _andThen_, all, inTurn, fanOutAllowed, unusedAreZero, goodArc, goodSite, checkRecord, checkGraph, checkStores, goodInput, secondInput, checkInputs, check, mostCells}
+use Rattle.rules.specs.Check.{demand, _andThen_, all, inTurn, fanOutAllowed, unusedAreZero, goodArc, goodSite, checkRecord, checkGraph, checkStores, insideStore, namesGood, checkArrays, goodInput, secondInput, checkInputs, check, mostCells}
 use Rattle.rules.specs.InstructionSet.{machineOf}
 use Rattle.rules.specs.Run.{firstState, picksOf, refusedAtOnce, ranTo, outcomeOf, result, answer}
 use Rattle.rules.specs.Small.{Small, AnswersSmall}
-use Rattle.rules.proofs.Passed.{both}
+use Rattle.rules.proofs.Passed.{both, demand-passed, andThen-passed}
 use Rattle.rules.proofs.Accepted.{whole-bytes, stores-whole, Accepted, accepted, law, good, by-check}
 
 -- ---- a refusal before any firing: its place is below 2,048
@@ -64,12 +66,23 @@ record-below g i r h =
     first-below (all (goodArc g) (destinations r)) BadArc i _ (λ k. h) (λ k.
     demand-below (goodSite (take i g) r) BadSite i (λ l. h))))
 
+graph-few : (graph : List ℕ) → isGraphLength (length graph) ≡ true → length (graphOf graph) ≤ 256
+graph-few graph e =
+    let size = whole-bytes graphWidth 256 (length graph) (both (leb 1 (length graph)) (whole graphWidth 256 (length graph)) e .1) .1 in
+    omega (arith, length-rows graphWidth Graph.decode (length graph / graphWidth) graph)
+
 pub graph-below : (graph : List ℕ) → Below (checkGraph graph)
 unfolding checkGraph
 graph-below graph =
     first-below (isGraphLength (length graph)) GraphLength 0 _ (λ e. omega arith) (λ e.
-    let size = whole-bytes graphWidth 256 (length graph) (both (leb 1 (length graph)) (whole graphWidth 256 (length graph)) e .1) .1 in
-    turn-below (checkRecord (graphOf graph)) (record-below (graphOf graph)) 0 (graphOf graph) (omega (arith, length-rows graphWidth Graph.decode (length graph / graphWidth) graph)))
+    turn-below (checkRecord (graphOf graph)) (record-below (graphOf graph)) 0 (graphOf graph) (omega (arith, graph-few graph e)))
+
+pub arrays-below : (graph : List ℕ) (cells : ℕ) (arrays : List ℕ) → checkGraph graph ≡ Passed → Below (checkArrays (graphOf graph) cells arrays)
+unfolding checkGraph checkArrays
+arrays-below graph cells arrays e =
+    let long = demand-passed (isGraphLength (length graph)) GraphLength 0 (andThen-passed (demand (isGraphLength (length graph)) GraphLength 0) _ e .0) in
+    first-below (whole arrayWidth mostArrays (length arrays) && all (insideStore cells) (arraysOf arrays)) BadArray 0 _ (λ f. omega arith) (λ f.
+    turn-below (λ i r. demand (namesGood (length (arraysOf arrays)) r) BadArray i) (λ i r h. demand-below (namesGood (length (arraysOf arrays)) r) BadArray i (λ k. h)) 0 (graphOf graph) (omega (arith, graph-few graph long)))
 
 -- the place of 8 is the capacity, and where the inputs exceed it, it is less than their number
 pub inputs-below : (g : List Instruction) (capacity : ℕ) (inputs : List ℕ) → length inputs / tokenWidth ≤ mostTokens → Below (checkInputs g capacity inputs)
@@ -90,18 +103,19 @@ unfolding checkStores
 stores-below inputs picks ledger cells =
     demand-below (whole tokenWidth mostTokens inputs && (whole pickWidth mostTokens picks && (whole tokenWidth mostTokens ledger && whole cellWidth mostCells cells))) BadStore 0 (λ e. omega arith)
 
-pub check-below : (graph inputs picks : List ℕ) (ledger cells : ℕ) → Below (check graph inputs picks ledger cells)
+pub check-below : (graph arrays inputs picks : List ℕ) (ledger cells : ℕ) → Below (check graph arrays inputs picks ledger cells)
 unfolding check
-check-below graph inputs picks ledger cells =
+check-below graph arrays inputs picks ledger cells =
     then-below (checkGraph graph) _ (graph-below graph) (λ e.
     then-below (checkStores (length inputs) (length picks) ledger cells) _ (stores-below (length inputs) (length picks) ledger cells) (λ f.
-    inputs-below (graphOf graph) (capacityOf ledger) inputs (whole-bytes tokenWidth mostTokens (length inputs) (stores-whole (length inputs) (length picks) ledger cells f .wholeInputs) .1)))
+    then-below (checkArrays (graphOf graph) (cells / cellWidth) arrays) _ (arrays-below graph (cells / cellWidth) arrays e) (λ h.
+    inputs-below (graphOf graph) (capacityOf ledger) inputs (whole-bytes tokenWidth mostTokens (length inputs) (stores-whole (length inputs) (length picks) ledger cells f .wholeInputs) .1))))
 
 -- ---- a run from inputs that passed
 
-module _ (graph inputs : List ℕ) (capacity cells : ℕ) (few : capacity ≤ mostTokens) (a : Accepted graph inputs capacity) where
+module _ (graph inputs : List ℕ) (table : List NamedArray) (capacity cells : ℕ) (few : capacity ≤ mostTokens) (a : Accepted graph inputs capacity) where
   abbrev M : Machine
-  M = machineOf (graphOf graph) capacity cells
+  M = machineOf (graphOf graph) table capacity cells
 
   abbrev s : State Tag ℤ
   s = firstState inputs cells
@@ -115,13 +129,13 @@ module _ (graph inputs : List ℕ) (capacity cells : ℕ) (few : capacity ≤ mo
   run-small : (budget : ℕ) (picks : List ℕ) → Small budget (answer (ranTo (run M budget picks s)))
   unfolding answer
   run-small budget picks =
-      let first = good graph inputs capacity cells a in
+      let first = good graph inputs table capacity cells a in
       let e = run M budget picks s in
       let bounds = picks-bounded M s (first .room) budget picks in
       let room = bounds .tokens in
       record {
         firings = bounds .firings;
-        byTokens = picks-firings M (law graph inputs capacity cells a) s first budget picks;
+        byTokens = picks-firings M (law graph inputs table capacity cells a) s first budget picks;
         tokens = omega arith;
         place = place-small (e .outcome) (e .state .tokens) (bounds .place) room;
       }
@@ -135,8 +149,8 @@ refused-small budget r p h = record { firings = omega arith; byTokens = omega ar
 
 pub answer-small : AnswersSmall
 unfolding result check
-answer-small graph inputs picks budget ledger cells =
-    by-check (check graph inputs picks ledger cells) _ (λ x. Small budget (answer x)) (λ r p e. refused-small budget r p (rw e at (check-below graph inputs picks ledger cells))) (λ e.
-    let (stores, a) = accepted graph inputs (capacityOf ledger) (checkStores (length inputs) (length picks) ledger cells) e in
+answer-small graph arrays inputs picks budget ledger cells =
+    by-check (check graph arrays inputs picks ledger cells) _ (λ x. Small budget (answer x)) (λ r p e. refused-small budget r p (rw e at (check-below graph arrays inputs picks ledger cells))) (λ e.
+    let (stores, (named, a)) = accepted graph inputs (capacityOf ledger) (checkStores (length inputs) (length picks) ledger cells) (checkArrays (graphOf graph) (cells / cellWidth) arrays) e in
     let few = whole-bytes tokenWidth mostTokens ledger (stores-whole (length inputs) (length picks) ledger cells stores .wholeLedger) .1 in
-    run-small graph inputs (capacityOf ledger) (cells / cellWidth) few a budget (picksOf picks))
+    run-small graph inputs (arraysOf arrays) (capacityOf ledger) (cells / cellWidth) few a budget (picksOf picks))

@@ -7,6 +7,7 @@ use mathlib.Core.List.{List}
 use lib.ListN.{length}
 use lib.IntN.{ℤ, pos}
 use Rattle.record.specs.declared.tag.Tag.{Tag}
+use Rattle.record.specs.declared.array.NamedArray.{NamedArray}
 use Rattle.record.specs.declared.tag.Left.{Left}
 use Rattle.record.specs.declared.tag.Left.the-variants.{To, NoCaller}
 use Rattle.record.specs.declared.instruction.Instruction.{Instruction}
@@ -58,8 +59,8 @@ pub record TokenIn (g : List Instruction) (t : Token Tag ℤ) : Type 0 where
 
 -- a firing keeps it of all tokens, from any state that has it
 abbrev pub CallersKept : Type 0
-CallersKept = (graph : List ℕ) (capacity cells : ℕ) → checkGraph graph ≡ Passed → (s x : State Tag ℤ) (τ : Tag)
-    → All (TokenIn (graphOf graph)) (s .tokens) → fire (machineOf (graphOf graph) capacity cells) s τ ≡ fired x → All (TokenIn (graphOf graph)) (x .tokens)
+CallersKept = (graph : List ℕ) (table : List NamedArray) (capacity cells : ℕ) → checkGraph graph ≡ Passed → (s x : State Tag ℤ) (τ : Tag)
+    → All (TokenIn (graphOf graph)) (s .tokens) → fire (machineOf (graphOf graph) table capacity cells) s τ ≡ fired x → All (TokenIn (graphOf graph)) (x .tokens)
 
 -- and what LEAVE finds for such a token has its ENTER
 abbrev pub CallerFound : Type 0
@@ -67,6 +68,6 @@ CallerFound = (graph : List ℕ) → checkGraph graph ≡ Passed → (t : Token 
 
 -- so it holds of every token of every state that a run from inputs reaches
 abbrev pub CallersKnown : Type 0
-CallersKnown = (graph inputs : List ℕ) (capacity cells : ℕ) → checkGraph graph ≡ Passed → checkInputs (graphOf graph) capacity inputs ≡ Passed
-    → (firings sent : ℕ) (x : State Tag ℤ) → Reached (machineOf (graphOf graph) capacity cells) (firstState inputs cells) firings sent x
+CallersKnown = (graph inputs : List ℕ) (table : List NamedArray) (capacity cells : ℕ) → checkGraph graph ≡ Passed → checkInputs (graphOf graph) capacity inputs ≡ Passed
+    → (firings sent : ℕ) (x : State Tag ℤ) → Reached (machineOf (graphOf graph) table capacity cells) (firstState inputs cells) firings sent x
     → All (TokenIn (graphOf graph)) (x .tokens)

@@ -14,9 +14,9 @@ use Rattle.rules.specs.Orders.{Quiescent, Allowed}
 -- a run that "completed or hung with t tokens, budget 2,048: with any capacity from t to 2,048 and equal picks the end is the same": what it answers, and what
 -- it leaves in the records that it uses
 abbrev pub EnoughRoom : Type 0
-EnoughRoom = (graph inputs picks : List ℕ) (ledger ledger′ cells : ℕ) → Quiescent (result graph inputs picks 2048 ledger cells)
-    → whole tokenWidth mostTokens ledger′ ≡ true → answer (result graph inputs picks 2048 ledger cells) .tokens ≤ capacityOf ledger′
-    → result graph inputs picks 2048 ledger′ cells ≡ result graph inputs picks 2048 ledger cells
+EnoughRoom = (graph arrays inputs picks : List ℕ) (ledger ledger′ cells : ℕ) → Quiescent (result graph arrays inputs picks 2048 ledger cells)
+    → whole tokenWidth mostTokens ledger′ ≡ true → answer (result graph arrays inputs picks 2048 ledger cells) .tokens ≤ capacityOf ledger′
+    → result graph arrays inputs picks 2048 ledger′ cells ≡ result graph arrays inputs picks 2048 ledger cells
 
 abbrev pub RefusedBy8 : Result → Type 0
 RefusedBy8 (refusedAtOnce r place) = r ≡ LedgerFull
@@ -24,6 +24,6 @@ RefusedBy8 (ranTo e) = RefusedBy LedgerFull (e .outcome)
 
 -- "with any smaller one every order is refused by 8"
 abbrev pub TooSmall : Type 0
-TooSmall = (graph inputs picks picks′ : List ℕ) (ledger ledger′ cells : ℕ) → Quiescent (result graph inputs picks 2048 ledger cells)
-    → Allowed picks′ ledger′ cells → capacityOf ledger′ < answer (result graph inputs picks 2048 ledger cells) .tokens
-    → RefusedBy8 (result graph inputs picks′ 2048 ledger′ cells)
+TooSmall = (graph arrays inputs picks picks′ : List ℕ) (ledger ledger′ cells : ℕ) → Quiescent (result graph arrays inputs picks 2048 ledger cells)
+    → Allowed picks′ ledger′ cells → capacityOf ledger′ < answer (result graph arrays inputs picks 2048 ledger cells) .tokens
+    → RefusedBy8 (result graph arrays inputs picks′ 2048 ledger′ cells)

@@ -71,6 +71,8 @@ pub data Numbered : Type 0 where
 pub data Case : Type 0 where
   -- a run: what is lent; the answer, the tokens of the ledger in order of arrival, the cells that are not absent
   running : (graph inputs picks : List ℕ) → (budget capacity cells : ℕ) → Values → List (Token Tag ℤ) → List Numbered → Case
+  -- a run with a table of arrays: what is lent, with the records of the table; the answer, the tokens, the cells that are not absent
+  naming : (graph arrays inputs : List ℕ) → (cells : ℕ) → Values → List (Token Tag ℤ) → List Numbered → Case
   -- a profile of so many bytes: what is lent; the answer, its records, the tokens
   profiling : (graph inputs : List ℕ) → (capacity cells lent : ℕ) → Values → List StepRecord → List (Token Tag ℤ) → Case
   -- a run with a log of so many bytes: what is lent; the answer, the log's bytes
@@ -112,16 +114,18 @@ seenLog x = wrote (valuesOf (answer (x .result))) (logAfter x [])
 
 -- by the rules
 unfoldable pub seen : Case → Seen
-seen (running graph inputs picks budget capacity cells a ts cs) = seenIn (result graph inputs picks budget (tokenWidth * capacity) (cellWidth * cells))
-seen (profiling graph inputs capacity cells lent a rs ts) = seenSteps (profiled graph inputs (tokenWidth * capacity) (cellWidth * cells) lent)
-seen (logging graph inputs picks budget lent a l) = seenLog (logged graph inputs picks budget (tokenWidth * 2048) 64 lent)
-seen (replaying graph inputs log a) = again (valuesOf (answer (replayed graph inputs log (tokenWidth * 2048) 64)))
+seen (running graph inputs picks budget capacity cells a ts cs) = seenIn (result graph [] inputs picks budget (tokenWidth * capacity) (cellWidth * cells))
+seen (naming graph arrays inputs cells a ts cs) = seenIn (result graph arrays inputs [] 2048 (tokenWidth * 2048) (cellWidth * cells))
+seen (profiling graph inputs capacity cells lent a rs ts) = seenSteps (profiled graph [] inputs (tokenWidth * capacity) (cellWidth * cells) lent)
+seen (logging graph inputs picks budget lent a l) = seenLog (logged graph [] inputs picks budget (tokenWidth * 2048) 64 lent)
+seen (replaying graph inputs log a) = again (valuesOf (answer (replayed graph [] inputs log (tokenWidth * 2048) 64)))
 seen (needing graph inputs n) = needed (needs graph inputs)
-seen (firing graph cells τ a b e) = did (effectIn (graphOf graph) cells τ a b)
+seen (firing graph cells τ a b e) = did (effectIn (graphOf graph) [] cells τ a b)
 
 -- by the table
 unfoldable pub expected : Case → Seen
 expected (running graph inputs picks budget capacity cells a ts cs) = ran a ts cs
+expected (naming graph arrays inputs cells a ts cs) = ran a ts cs
 expected (profiling graph inputs capacity cells lent a rs ts) = plotted a rs ts
 expected (logging graph inputs picks budget lent a l) = wrote a l
 expected (replaying graph inputs log a) = again a
@@ -587,5 +591,57 @@ sized =
     ∷ needing (to1 7 (pos 0) 0 1 ++ to0 3 (pos 0)) (0 ∷ []) (Refused BadStore 0)
     ∷ []
 
+-- ---- R-10, named arrays
+
+abbrev pub array : (first length : ℕ) → List ℕ
+array first n = bytes16 first ++ bytes16 n
+
+-- 0 is STORE to the array with this constant, of 40 at an index; array 1 has cells 2 and 3, array 2 has cells 3 to 5
+abbrev pub storeIn : (constant index : ℤ) → Values → (Content ℤ × Content ℤ) → List Numbered → Case
+storeIn k index a tokens cs = naming (to0 11 k) (array 2 2 ++ array 3 3) (input 0 0 index ++ input 0 1 (pos 40)) 6 a (root 0 0 (tokens .0) ∷ root 0 1 (tokens .1) ∷ []) cs
+
+abbrev pub storedIn : (constant index : ℤ) → (number : ℕ) → Case
+storedIn k index n = storeIn k index (values completed 1 2 0) (spent index, spent (pos 40)) (cell n (present (pos 40)) ∷ [])
+
+abbrev pub outsideOf : (constant index : ℤ) → Case
+outsideOf k index = storeIn k index (values 10 0 2 0) (live index, live (pos 40)) []
+
+-- refused before any firing: 0 is COPY to 1, which is FETCH by this constant
+abbrev pub badArray : (arrays inputs : List ℕ) → (constant : ℤ) → (word place : ℕ) → Case
+badArray arrays inputs k word place = naming (to1 1 (pos 0) 0 1 ++ to1 10 k 0 2 ++ to0 3 (pos 0)) arrays inputs 6 (values word 0 0 place) [] []
+
+abbrev pub named : List Case
+named =
+    -- index 1 is the first cell; the length is the last; 0, one more and -1 are none of its cells
+    storedIn (pos 1) (pos 1) 2
+    ∷ storedIn (pos 1) (pos 2) 3
+    ∷ storedIn (pos 2) (pos 3) 5
+    ∷ outsideOf (pos 1) (pos 0)
+    ∷ outsideOf (pos 1) (pos 3)
+    ∷ outsideOf (pos 2) (negsuc 0)
+    -- constant 0 keeps the whole store, and numbers from 0
+    ∷ storedIn (pos 0) (pos 0) 0
+    ∷ storedIn (pos 0) (pos 5) 5
+    ∷ outsideOf (pos 0) (pos 6)
+    -- a deferred token holds the number of the cell, not the index
+    ∷ naming (to1 10 (pos 1) 0 1 ++ to0 3 (pos 0)) (array 2 2) (input 0 0 (pos 1)) 6 (values hung 1 2 0) (root 0 0 (spent (pos 1)) ∷ root 1 0 (deferred 2) ∷ []) (cell 2 waiting ∷ [])
+    -- an array of no cells at the end of the store is allowed; one that ends a cell past it, 5 bytes and 65 records are not
+    ∷ naming (to0 2 (pos 0)) (array 6 0 ++ array 0 6) [] 6 (values completed 0 0 0) [] []
+    ∷ badArray (array 4 3) [] (pos 0) 22 0
+    ∷ badArray (array 4 2 ++ 0 ∷ []) [] (pos 0) 22 0
+    ∷ badArray (replicate 260 0) [] (pos 0) 22 0
+    -- a constant outside the table, at its instruction; the table is looked at first
+    ∷ badArray (array 4 2) [] (pos 2) 22 1
+    ∷ badArray (array 4 2) [] (negsuc 0) 22 1
+    ∷ badArray [] [] (pos 1) 22 1
+    ∷ badArray (array 4 3) [] (pos 2) 22 0
+    -- 7 comes before 22, and 22 before 6
+    ∷ badArray (array 4 3) (0 ∷ []) (pos 0) 7 0
+    ∷ badArray (array 4 3) (input 0 1 (pos 7)) (pos 0) 22 0
+    ∷ badArray (array 4 2) (input 0 1 (pos 7)) (pos 1) 6 0
+    -- the bounds let the constant by
+    ∷ needing (to0 11 (pos 9)) (operands (pos 1) (pos 40)) (AtMost 1 2)
+    ∷ []
+
 abbrev pub cases : List Case
-cases = starred ++ distinguishing ++ profiles ++ logs ++ sized
+cases = starred ++ distinguishing ++ profiles ++ logs ++ sized ++ named

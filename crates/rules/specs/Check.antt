@@ -1,6 +1,6 @@
 -- 01, "The answer and the refusals": what is refused before any firing is tried. "Order: 1; records in turn, each 2 to 5; 7; inputs in turn for 6;
--- then 8 if they exceed the capacity; then 9 by input in turn, against the inputs before it." Assumes nothing.
-use Prim.Native.Nat.{ℕ, zero, suc, _/_}
+-- then 8 if they exceed the capacity; then 9 by input in turn, against the inputs before it."; R-10: 22 "before inputs". Assumes nothing.
+use Prim.Native.Nat.{ℕ, zero, suc, _+_, _/_}
 use mathlib.Core.Bool.{Bool, true, false, not, _&&_, _||_, cond}
 use mathlib.Core.List.{List, [], _∷_}
 use lib.ListN.{length, take, getD}
@@ -8,18 +8,20 @@ use lib.IntN.{ℤ, pos}
 use lib.Signed.{leZ}
 use lib.Dec.{eqb, leb, ltb}
 use Rattle.record.specs.declared.tag.Tag.{Tag}
+use Rattle.record.specs.declared.array.NamedArray.{NamedArray}
 use Rattle.record.specs.declared.token.Token.{Token}
 use Rattle.record.specs.declared.instruction.Destination.{Destination}
 use Rattle.record.specs.declared.instruction.Instruction.{Instruction}
 use Rattle.buffer.specs.Rows.{whole, allRows}
-use Rattle.record.specs.GraphRecords.{isGraphLength, graphOf, destinations, rowOf, operandsOf, usesConstant}
+use Rattle.record.specs.GraphRecords.{isGraphLength, graphOf, destinations, rowOf, operandsOf, namesArray, usesConstant}
 use Rattle.record.specs.GraphRecords as Graph
+use Rattle.record.specs.Arrays.{mostArrays, arraysOf}
 use Rattle.record.specs.TokensAndTags.{tagIn, portIn, isInput, standsAt, mostTokens, capacityOf}
 use Rattle.record.specs.TokensAndTags as Tokens
-use Rattle.record.specs.Widths.{tokenWidth, cellWidth, pickWidth}
+use Rattle.record.specs.Widths.{tokenWidth, cellWidth, pickWidth, arrayWidth}
 use Rattle.arithmetic.specs.Arithmetic.{eqZ}
 use Rattle.rules.specs.declared.answer.Refusal.{Refusal}
-use Rattle.rules.specs.declared.answer.Refusal.the-variants.{GraphLength, UnknownOperation, FanOut, BadArc, BadSite, BadInput, BadStore, LedgerFull, SecondToken}
+use Rattle.rules.specs.declared.answer.Refusal.the-variants.{GraphLength, UnknownOperation, FanOut, BadArc, BadSite, BadInput, BadStore, LedgerFull, SecondToken, BadArray}
 use Rattle.rules.specs.declared.answer.Checked.{Checked}
 use Rattle.rules.specs.declared.answer.Checked.the-variants.{Passed, Failed}
 
@@ -115,6 +117,22 @@ unfoldable pub checkStores : (inputs picks ledger cells : ℕ) → Checked
 checkStores inputs picks ledger cells =
     demand (whole tokenWidth mostTokens inputs && (whole pickWidth mostTokens picks && (whole tokenWidth mostTokens ledger && whole cellWidth mostCells cells))) BadStore 0
 
+-- ---- R-10, the table of named arrays. 22: "for a table not in whole records, too long or with a first cell plus length above the cell count (place 0), else for
+-- a constant outside it (the first such instruction)"
+
+unfoldable pub insideStore : (cells : ℕ) → NamedArray → Bool
+insideStore cells a = leb (a .first + a .length) cells
+
+-- of a FETCH or a STORE: its constant is 0 or the number of an array, counted from 1
+unfoldable pub namesGood : (arrays : ℕ) → Instruction → Bool
+namesGood arrays r = not (namesArray (r .code)) || within 0 arrays (r .constant)
+
+-- by the number of cells
+unfoldable pub checkArrays : List Instruction → (cells : ℕ) → (arrays : List ℕ) → Checked
+checkArrays g cells arrays =
+    demand (whole arrayWidth mostArrays (length arrays) && all (insideStore cells) (arraysOf arrays)) BadArray 0
+    andThen inTurn (λ i r. demand (namesGood (length (arraysOf arrays)) r) BadArray i) 0 g
+
 -- ---- the inputs
 
 -- 6: "an input field not as above, instruction or port absent", of the record that l starts with
@@ -134,8 +152,9 @@ checkInputs g capacity inputs =
 
 -- ---- all of it; ledger and cells by their lengths in bytes
 
-unfoldable pub check : (graph inputs picks : List ℕ) → (ledger cells : ℕ) → Checked
-check graph inputs picks ledger cells =
+unfoldable pub check : (graph arrays inputs picks : List ℕ) → (ledger cells : ℕ) → Checked
+check graph arrays inputs picks ledger cells =
     checkGraph graph
     andThen checkStores (length inputs) (length picks) ledger cells
+    andThen checkArrays (graphOf graph) (cells / cellWidth) arrays
     andThen checkInputs (graphOf graph) (capacityOf ledger) inputs

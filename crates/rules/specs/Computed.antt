@@ -1,6 +1,6 @@
 -- What a computed case looks through: a proof with the line `unfolding rules` computes with every definition of 01 and 02. Assumes nothing.
 use Rattle.number.specs.Number.{signedOf, bitsOf}
-use Rattle.record.specs.GraphRecords.{rowOf, usesConstant}
+use Rattle.record.specs.GraphRecords.{rowOf, namesArray, usesConstant}
 use Rattle.record.specs.GraphRecords as Graph
 use Rattle.record.specs.Paths.{pathNumber, pathWords, isRoot, samePath}
 use Rattle.record.specs.TokensAndTags.{contentOf, isInput, sameTag, standsAt}
@@ -8,10 +8,11 @@ use Rattle.record.specs.TokensAndTags as Tokens
 use Rattle.record.specs.Calls.{nextOf, enterWithin, leaveOf}
 use Rattle.record.specs.Cells as Cells
 use Rattle.record.specs.Logs as Logs
+use Rattle.record.specs.Arrays as Arrays
 use Rattle.arithmetic.specs.Arithmetic.{ranged, divided, computeOf}
 use Rattle.machine.specs.Machine.{machine}
-use Rattle.rules.specs.Check.{instructionAt, operandsAt, fanOutAllowed, isZero, unusedAreZero, goodArc, within, entersSite, otherReturn, goodSite, checkRecord, checkGraph, checkStores, goodInput, secondInput, checkInputs, check}
-use Rattle.rules.specs.InstructionSet.{sendComputed, sideOf, sendNext, sendEntered, returnOf, sendReturned, sendLeft, onCell, effectOf, effectIn, isResult, arityIn, decidePath, decideTag}
+use Rattle.rules.specs.Check.{instructionAt, operandsAt, fanOutAllowed, isZero, unusedAreZero, goodArc, within, entersSite, otherReturn, goodSite, checkRecord, checkGraph, checkStores, insideStore, namesGood, checkArrays, goodInput, secondInput, checkInputs, check}
+use Rattle.rules.specs.InstructionSet.{sendComputed, sideOf, sendNext, sendEntered, returnOf, sendReturned, sendLeft, onCell, numberIn, arrayAt, cellNumber, effectOf, effectIn, isResult, arityIn, decidePath, decideTag}
 use Rattle.rules.specs.Profile.{checkProfileStores, checkProfile, profileUnlessFailed, profiled}
 use Rattle.rules.specs.Log.{namesIn, checkLogStores, checkLogged, logUnlessFailed, logged, logAfter, replayed}
 use Rattle.rules.specs.Needs.{sendsTo, portReached, allReached, rounds, reached, firingsOf, outputsOf, total, loopFree, checkNeeds, needs}
@@ -21,5 +22,5 @@ use Rattle.machine.specs.Replay.{replay}
 use Rattle.rules.specs.Run.{firstState, picksOf, unlessFailed, result, answer, ledgerAfter, cellsAfter}
 
 unfoldable pub rules : Unit {0}
-unfolding signedOf bitsOf rowOf usesConstant Graph.decode Graph.encode pathNumber pathWords isRoot samePath contentOf isInput sameTag standsAt Tokens.decode Tokens.encode nextOf enterWithin leaveOf Cells.cellOf Cells.decode Cells.encode ranged divided computeOf machine instructionAt operandsAt fanOutAllowed isZero unusedAreZero goodArc within entersSite otherReturn goodSite checkRecord checkGraph checkStores goodInput secondInput checkInputs check sendComputed sideOf sendNext sendEntered returnOf sendReturned sendLeft onCell effectOf effectIn isResult arityIn decidePath decideTag firstState picksOf unlessFailed result answer ledgerAfter cellsAfter profile checkProfileStores checkProfile profileUnlessFailed profiled logOf replay Logs.encode Logs.nameOf namesIn checkLogStores checkLogged logUnlessFailed logged logAfter replayed sendsTo portReached allReached rounds reached firingsOf outputsOf total loopFree checkNeeds needs
+unfolding signedOf bitsOf rowOf namesArray usesConstant Graph.decode Graph.encode pathNumber pathWords isRoot samePath contentOf isInput sameTag standsAt Tokens.decode Tokens.encode nextOf enterWithin leaveOf Cells.cellOf Cells.decode Cells.encode Arrays.decode ranged divided computeOf machine instructionAt operandsAt fanOutAllowed isZero unusedAreZero goodArc within entersSite otherReturn goodSite checkRecord checkGraph checkStores insideStore namesGood checkArrays goodInput secondInput checkInputs check sendComputed sideOf sendNext sendEntered returnOf sendReturned sendLeft onCell numberIn arrayAt cellNumber effectOf effectIn isResult arityIn decidePath decideTag firstState picksOf unlessFailed result answer ledgerAfter cellsAfter profile checkProfileStores checkProfile profileUnlessFailed profiled logOf replay Logs.encode Logs.nameOf namesIn checkLogStores checkLogged logUnlessFailed logged logAfter replayed sendsTo portReached allReached rounds reached firingsOf outputsOf total loopFree checkNeeds needs
 rules = tt

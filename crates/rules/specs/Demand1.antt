@@ -25,19 +25,19 @@ pub record AsBefore (x before : Result) (ledger cells : List ℕ) : Type 0 where
   pub ledgerLeft : ledgerAfter x ledger ≡ ledgerAfter before ledger
   pub cellsLeft : cellsAfter x cells ≡ cellsAfter before cells
 
-module _ (graph inputs picks ledger cells : List ℕ) where
+module _ (graph arrays inputs picks ledger cells : List ℕ) where
   -- with so large a budget
   abbrev at : (budget : ℕ) → Result
-  at budget = result graph inputs picks budget (length ledger) (length cells)
+  at budget = result graph arrays inputs picks budget (length ledger) (length cells)
 
   pub record RefusesByTheRules (budget : ℕ) : Type 0 where
     -- "A refusal before any firing is tried leaves ledger and cells untouched"
-    pub refusedBeforeFiring : (r : Refusal) (place : ℕ) → check graph inputs picks (length ledger) (length cells) ≡ Failed r place → Untouched (at budget) r place ledger cells
+    pub refusedBeforeFiring : (r : Refusal) (place : ℕ) → check graph arrays inputs picks (length ledger) (length cells) ≡ Failed r place → Untouched (at budget) r place ledger cells
     -- "a refused firing leaves both exactly as it found them"
-    pub refusedFiring : check graph inputs picks (length ledger) (length cells) ≡ Passed → (r : Refusal) (place : ℕ) → answer (at budget) .outcome ≡ Outcomes.Refused r place
+    pub refusedFiring : check graph arrays inputs picks (length ledger) (length cells) ≡ Passed → (r : Refusal) (place : ℕ) → answer (at budget) .outcome ≡ Outcomes.Refused r place
         → AsBefore (at budget) (at (answer (at budget) .firings)) ledger cells
     -- 01: "bytes past what is written stay as lent": the used records are as many as the answer has tokens
     pub restAsLent : drop (answer (at budget) .tokens * tokenWidth) (ledgerAfter (at budget) ledger) ≡ drop (answer (at budget) .tokens * tokenWidth) ledger
 
 abbrev pub Demand1 : Type 0
-Demand1 = (graph inputs picks ledger cells : List ℕ) (budget : ℕ) → RefusesByTheRules graph inputs picks ledger cells budget
+Demand1 = (graph arrays inputs picks ledger cells : List ℕ) (budget : ℕ) → RefusesByTheRules graph arrays inputs picks ledger cells budget

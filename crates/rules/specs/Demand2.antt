@@ -10,6 +10,7 @@ use lib.IntN.{ℤ}
 use Rattle.number.specs.Number.{Bytes}
 use Rattle.record.specs.declared.tag.Tag.{Tag}
 use Rattle.record.specs.GraphRecords.{graphOf}
+use Rattle.record.specs.Arrays.{arraysOf}
 use Rattle.record.specs.TokensAndTags.{capacityOf}
 use Rattle.record.specs.Widths.{cellWidth, logWidth}
 use Rattle.machine.specs.Machine.{Machine, State, Activity, budgetSpent, enabled, pickOf, byPicks, fire, after, end, runBy}
@@ -22,13 +23,13 @@ use Rattle.rules.specs.Run.{picksOf, Result, ranTo, result, answer, ledg
 use Rattle.rules.specs.Log.{replayed}
 use Rattle.rules.specs.Profile.{checkProfile, profiled}
 
-module _ (graph inputs picks ledger cells : List ℕ) where
+module _ (graph arrays inputs picks ledger cells : List ℕ) where
   abbrev M : Machine
-  M = machineOf (graphOf graph) (capacityOf (length ledger)) (length cells / cellWidth)
+  M = machineOf (graphOf graph) (arraysOf arrays) (capacityOf (length ledger)) (length cells / cellWidth)
 
   -- with so large a budget
   abbrev at : (budget : ℕ) → Result
-  at budget = result graph inputs picks budget (length ledger) (length cells)
+  at budget = result graph arrays inputs picks budget (length ledger) (length cells)
 
   -- "Once picks run out, the first is taken": pick 0
   abbrev pickAt : ℕ → ℕ
@@ -45,7 +46,7 @@ module _ (graph inputs picks ledger cells : List ℕ) where
         at budget ≡ ranTo (after M b x chosen (fire M x (chosen .tag)) (λ y. runBy M (byPicks M) (budget - suc b) (drop (suc b) (picksOf picks)) (suc b) y))
 
 abbrev pub Demand2 : Type 0
-Demand2 = (graph inputs picks ledger cells : List ℕ) → Bytes inputs → check graph inputs picks (length ledger) (length cells) ≡ Passed → FiresByTheRules graph inputs picks ledger cells
+Demand2 = (graph arrays inputs picks ledger cells : List ℕ) → Bytes inputs → check graph arrays inputs picks (length ledger) (length cells) ≡ Passed → FiresByTheRules graph arrays inputs picks ledger cells
 
 -- ---- the same of a replay and a profile
 
@@ -56,10 +57,10 @@ pub record InputsWritten (x : Result) (inputs ledger cells : List ℕ) : Type 0 
 
 -- 18 and 20 are refused after the checks, so that one that is refused before its first firing leaves the inputs in the ledger and all cells absent
 pub record OthersStart : Type 0 where
-  pub byReplay : (graph inputs log ledger cells : List ℕ) → Bytes inputs → check graph inputs [] (length ledger) (length cells) ≡ Passed
-      → let x = replayed graph inputs log (length ledger) (length cells) in answer x .firings ≡ 0 → InputsWritten x inputs ledger cells
-  pub byProfile : (graph inputs ledger cells : List ℕ) (lent : ℕ) → Bytes inputs → checkProfile graph inputs (length ledger) (length cells) lent ≡ Passed
-      → let x = profiled graph inputs (length ledger) (length cells) lent .result in answer x .firings ≡ 0 → InputsWritten x inputs ledger cells
+  pub byReplay : (graph arrays inputs log ledger cells : List ℕ) → Bytes inputs → check graph arrays inputs [] (length ledger) (length cells) ≡ Passed
+      → let x = replayed graph arrays inputs log (length ledger) (length cells) in answer x .firings ≡ 0 → InputsWritten x inputs ledger cells
+  pub byProfile : (graph arrays inputs ledger cells : List ℕ) (lent : ℕ) → Bytes inputs → checkProfile graph arrays inputs (length ledger) (length cells) lent ≡ Passed
+      → let x = profiled graph arrays inputs (length ledger) (length cells) lent .result in answer x .firings ≡ 0 → InputsWritten x inputs ledger cells
 
 -- 20 stops a replay before the record at its place, the number of the firings done: ledger and cells are as a replay of the records before it leaves them
 pub record StoppedBefore (x before : Result) (place : ℕ) : Type 0 where
@@ -68,5 +69,5 @@ pub record StoppedBefore (x before : Result) (place : ℕ) : Type 0 where
   pub cellsLeft : (cells : List ℕ) → cellsAfter x cells ≡ cellsAfter before cells
 
 abbrev pub NotEnabledStops : Type 0
-NotEnabledStops = (graph inputs log : List ℕ) (ledger cells place : ℕ) → answer (replayed graph inputs log ledger cells) .outcome ≡ Outcomes.Refused NotEnabled place
-    → StoppedBefore (replayed graph inputs log ledger cells) (replayed graph inputs (take (place * logWidth) log) ledger cells) place
+NotEnabledStops = (graph arrays inputs log : List ℕ) (ledger cells place : ℕ) → answer (replayed graph arrays inputs log ledger cells) .outcome ≡ Outcomes.Refused NotEnabled place
+    → StoppedBefore (replayed graph arrays inputs log ledger cells) (replayed graph arrays inputs (take (place * logWidth) log) ledger cells) place

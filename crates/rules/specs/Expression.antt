@@ -288,7 +288,7 @@ InputsAccepted = OfEvery (λ ts. (values : List ℤ) → ValuesFor ts values →
 
 module _ (ts : List Term) (capacity cells : ℕ) where
   abbrev pub machineFor : Machine
-  machineFor = machineOf (graphFor ts) capacity cells
+  machineFor = machineOf (graphFor ts) [] capacity cells
 
   -- "OUT receives the expression's value": each record has fired, and no token came but one for each variable and one from each record
   pub record Received (v : ℤ) (e : End Refusal Tag ℤ) : Type 0 where
@@ -310,11 +310,11 @@ ExpressionsEvaluateBy = OfEvery (λ ts. (values : List ℤ) → ValuesFor ts val
     → (budget : ℕ) → length ts ≤ budget → (picks : List ℕ)
     → Evaluates ts capacity cells (valueOf ts values) (runBy (machineFor ts capacity cells) c budget picks 0 (firstState (inputBytes values) cells)))
 
--- of whole runs, by picks: "budget 2,048", and "A ledger of 300 records is enough."
+-- of whole runs, by picks and without named arrays: "budget 2,048", and "A ledger of 300 records is enough."
 abbrev pub ExpressionsEvaluate : Type 0
 ExpressionsEvaluate = OfEvery (λ ts. (values : List ℤ) → ValuesFor ts values
     → (picks : List ℕ) (ledger cells : ℕ) → Allowed picks ledger cells → 300 ≤ capacityOf ledger
-    → (e : End Refusal Tag ℤ) × (result (graphBytes ts) (inputBytes values) picks 2048 ledger cells ≡ ranTo e)
+    → (e : End Refusal Tag ℤ) × (result (graphBytes ts) [] (inputBytes values) picks 2048 ledger cells ≡ ranTo e)
     × Evaluates ts (capacityOf ledger) (cells / cellWidth) (valueOf ts values) e)
 
 -- a computed proof with the line `unfolding expressions` computes with all of this

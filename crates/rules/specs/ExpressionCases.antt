@@ -41,7 +41,7 @@ pub data Seen : Type 0 where
 unfoldable pub seen : Case → Seen
 seen (making e n a) = answered (madeOf (checkMade e n) (length (graphFor (expressionOf e))))
 seen (writing e lent left) = wrote (outputOf (checkMade e (length lent)) (graphFor (expressionOf e)) lent)
-seen (running e vs picks v a) = ran (valueOf (expressionOf e) vs) (valuesOf (answer (result (graphBytes (expressionOf e)) (inputBytes vs) picks 2048 (tokenWidth * 300) 0)))
+seen (running e vs picks v a) = ran (valueOf (expressionOf e) vs) (valuesOf (answer (result (graphBytes (expressionOf e)) [] (inputBytes vs) picks 2048 (tokenWidth * 300) 0)))
 
 -- by the table
 unfoldable pub expected : Case → Seen

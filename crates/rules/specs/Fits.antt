@@ -26,10 +26,10 @@ pub record AllFit (x : Result) (capacity count : ℕ) : Type 0 where
 
 -- of every run, where graph and inputs are bytes
 abbrev pub ResultsFit : Type 0
-ResultsFit = (graph inputs picks : List ℕ) (budget ledger cells : ℕ) → Bytes graph → Bytes inputs
-    → AllFit (result graph inputs picks budget ledger cells) (capacityOf ledger) (cells / cellWidth)
+ResultsFit = (graph arrays inputs picks : List ℕ) (budget ledger cells : ℕ) → Bytes graph → Bytes inputs
+    → AllFit (result graph arrays inputs picks budget ledger cells) (capacityOf ledger) (cells / cellWidth)
 
 -- and of every run from a saved state, where graph, ledger and cells are
 abbrev pub CarriedFit : Type 0
-CarriedFit = (graph picks ledger cells : List ℕ) (budget firings tokens : ℕ) → Bytes graph → Bytes ledger → Bytes cells
-    → AllFit (carried graph picks budget ledger cells firings tokens) (capacityOf (length ledger)) (length cells / cellWidth)
+CarriedFit = (graph arrays picks ledger cells : List ℕ) (budget firings tokens : ℕ) → Bytes graph → Bytes ledger → Bytes cells
+    → AllFit (carried graph arrays picks budget ledger cells firings tokens) (capacityOf (length ledger)) (length cells / cellWidth)

@@ -1,15 +1,16 @@
 -- 01, "Firing": the operations as an instance of the machine. An effect goes by the tag and the operands alone: it does not look at ledger or cells.
 -- Refusals 10, 12 to 14 and 17 are here. Assumes nothing.
-use Prim.Native.Nat.{ℕ, _+_}
+use Prim.Native.Nat.{ℕ, zero, suc, _+_, _-_}
 use native.Mathlib.Decide.{ℕ-discrete}
 use mathlib.Core.Path.{_≡_, ap}
 use mathlib.Core.Bool.{Bool, _&&_, _||_, cond}
 use mathlib.Core.List.{List, [], _∷_, map}
-use lib.ListN.{length}
+use lib.ListN.{length, getD}
 use lib.IntN.{ℤ, pos, negsuc, natAbs}
 use lib.Dec.{eqb, ltb}
 use Rattle.record.specs.declared.tag.Path.{Path}
 use Rattle.record.specs.declared.tag.Tag.{Tag}
+use Rattle.record.specs.declared.array.NamedArray.{NamedArray}
 use Rattle.record.specs.declared.tag.Entered.{Entered}
 use Rattle.record.specs.declared.tag.Entered.the-variants.{In, TooDeep}
 use Rattle.record.specs.declared.tag.Left.{Left}
@@ -30,7 +31,7 @@ use Rattle.arithmetic.specs.Arithmetic.{computeOf, eqZ}
 use Rattle.machine.specs.Machine.{Key, Effect, refuse, send, read, write, Machine, decideBoth}
 use Rattle.rules.specs.declared.answer.Refusal.{Refusal}
 use Rattle.rules.specs.declared.answer.Refusal.the-variants as Refusals
-use Rattle.rules.specs.Check.{instructionAt, entersSite}
+use Rattle.rules.specs.Check.{instructionAt, within, entersSite}
 
 abbrev pub EffectHere : Type 0
 EffectHere = Effect Refusal Tag ℤ
@@ -85,29 +86,45 @@ unfoldable pub onCell : (cells : ℕ) → ℤ → (ℕ → EffectHere) → Effec
 onCell cells (pos c) f = cond (ltb c cells) (f c) (refuse Refusals.NoSuchCell)
 onCell cells (negsuc c) f = refuse Refusals.NoSuchCell
 
+-- the number of the cell that an index names in an array. R-10: "index 1 is its first cell, and an index below 1 or past the length is refused by 10": -1 is no
+-- cell's number
+unfoldable pub numberIn : NamedArray → (index : ℤ) → ℤ
+numberIn a index = cond (within 1 (a .length) index) (pos (a .first + natAbs index - 1)) (negsuc 0)
+
+-- array n of the table, counted from 0; past the table stands one of no cells
+unfoldable pub arrayAt : List NamedArray → ℕ → NamedArray
+arrayAt table n = getD table n (record { first = 0; length = 0 })
+
+-- what FETCH and STORE make of their operand, by their constant: it "names an array, counted from 1", and "Constant 0 keeps the whole store and cell numbers from 0"
+-- 22 refuses a negative constant before any firing: it names no cell
+unfoldable pub cellNumber : List NamedArray → (constant : ℤ) → ℤ → ℤ
+cellNumber table (pos zero) operand = operand
+cellNumber table (pos (suc n)) operand = numberIn (arrayAt table n) operand
+cellNumber table (negsuc n) operand = negsuc 0
+
 -- the table's operations: a and b are the operands on ports 0 and 1, keys the destinations in use under the same path and iteration
-unfoldable pub effectOf : Operation → List Instruction → (cells : ℕ) → Tag → Instruction → (a b : ℤ) → (keys : List (Key Tag)) → EffectHere
-effectOf Operations.Copy g cells τ r a b keys = send a keys
-effectOf Operations.Sink g cells τ r a b keys = send a []
-effectOf Operations.Out g cells τ r a b keys = send a []
-effectOf Operations.Const g cells τ r a b keys = send (r .constant) keys
-effectOf Operations.Switch g cells τ r a b keys = send a (keyUnder τ (sideOf b r) ∷ [])
-effectOf Operations.Gate g cells τ r a b keys = send a keys
-effectOf Operations.Next g cells τ r a b keys = sendNext (nextOf τ) r a
-effectOf Operations.Enter g cells τ r a b keys = sendEntered (enterOf τ (natAbs (r .constant))) r a
-effectOf Operations.Leave g cells τ r a b keys = sendLeft g (leaveOf τ) r a
-effectOf Operations.Fetch g cells τ r a b keys = onCell cells a (λ c. read c keys)
-effectOf Operations.Store g cells τ r a b keys = onCell cells a (λ c. write c b keys)
-effectOf (Operations.OnTwo o) g cells τ r a b keys = sendComputed (computeOf o a b) keys
-effectOf (Operations.OnConstant o) g cells τ r a b keys = sendComputed (computeOf o a (r .constant)) keys
-effectOf Operations.Unknown g cells τ r a b keys = send a []
+unfoldable pub effectOf : Operation → List Instruction → List NamedArray → (cells : ℕ) → Tag → Instruction → (a b : ℤ) → (keys : List (Key Tag)) → EffectHere
+effectOf Operations.Copy g table cells τ r a b keys = send a keys
+effectOf Operations.Sink g table cells τ r a b keys = send a []
+effectOf Operations.Out g table cells τ r a b keys = send a []
+effectOf Operations.Const g table cells τ r a b keys = send (r .constant) keys
+effectOf Operations.Switch g table cells τ r a b keys = send a (keyUnder τ (sideOf b r) ∷ [])
+effectOf Operations.Gate g table cells τ r a b keys = send a keys
+effectOf Operations.Next g table cells τ r a b keys = sendNext (nextOf τ) r a
+effectOf Operations.Enter g table cells τ r a b keys = sendEntered (enterOf τ (natAbs (r .constant))) r a
+effectOf Operations.Leave g table cells τ r a b keys = sendLeft g (leaveOf τ) r a
+effectOf Operations.Fetch g table cells τ r a b keys = onCell cells (cellNumber table (r .constant) a) (λ c. read c keys)
+effectOf Operations.Store g table cells τ r a b keys = onCell cells (cellNumber table (r .constant) a) (λ c. write c b keys)
+effectOf (Operations.OnTwo o) g table cells τ r a b keys = sendComputed (computeOf o a b) keys
+effectOf (Operations.OnConstant o) g table cells τ r a b keys = sendComputed (computeOf o a (r .constant)) keys
+effectOf Operations.Unknown g table cells τ r a b keys = send a []
 
-unfoldable pub effectIn : List Instruction → (cells : ℕ) → Tag → (a b : ℤ) → EffectHere
-effectIn g cells τ a b =
+unfoldable pub effectIn : List Instruction → List NamedArray → (cells : ℕ) → Tag → (a b : ℤ) → EffectHere
+effectIn g table cells τ a b =
     let r = instructionAt g (τ .instruction) in
-    effectOf (operationOf (r .code)) g cells τ r a b (allUnder τ r)
+    effectOf (operationOf (r .code)) g table cells τ r a b (allUnder τ r)
 
--- ---- the machine of a graph
+-- ---- the machine of a graph and of a table of named arrays
 
 -- "OUT, a result; never fires" (code 3). R-5: "A token at a LEAVE under path 0 now counts as a result like one at an OUT" (code 9)
 unfoldable pub isResult : Instruction → Tag → Bool
@@ -134,14 +151,14 @@ decideTag a b =
     (decideBoth (λ p q. (p, q)) (λ e. e .0) (λ e. e .1) (ℕ-discrete (a .iteration) (b .iteration)) (decidePath (a .path) (b .path)))
 
 -- "signals of value 0"
-abbrev pub machineOf : List Instruction → (capacity cells : ℕ) → Machine
-machineOf g capacity cells = record {
+abbrev pub machineOf : List Instruction → List NamedArray → (capacity cells : ℕ) → Machine
+machineOf g table capacity cells = record {
   Tag = Tag;
   Value = ℤ;
   Refusal = Refusal;
   same = decideTag;
   arity = arityIn g;
-  effect = effectIn g cells;
+  effect = effectIn g table cells;
   signal = pos 0;
   ledgerFull = Refusals.LedgerFull;
   secondToken = Refusals.SecondToken;

@@ -4,6 +4,7 @@ use mathlib.Core.List.{List}
 use lib.IntN.{ℤ}
 use Rattle.record.specs.declared.tag.Tag.{Tag}
 use Rattle.record.specs.GraphRecords.{graphOf}
+use Rattle.record.specs.Arrays.{arraysOf}
 use Rattle.record.specs.TokensAndTags.{capacityOf}
 use Rattle.record.specs.Widths.{cellWidth}
 use Rattle.machine.specs.Machine.{Machine, State}
@@ -13,9 +14,9 @@ use Rattle.rules.specs.Run.{firstState, Result, refusedAtOnce, ranTo, re
 use Rattle.rules.specs.Profile.{profiled}
 use Rattle.rules.specs.Log.{replayed}
 
-module _ (graph inputs : List ℕ) (ledger cells : ℕ) where
+module _ (graph arrays inputs : List ℕ) (ledger cells : ℕ) where
   abbrev M : Machine
-  M = machineOf (graphOf graph) (capacityOf ledger) (cells / cellWidth)
+  M = machineOf (graphOf graph) (arraysOf arrays) (capacityOf ledger) (cells / cellWidth)
 
   abbrev s : State Tag ℤ
   s = firstState inputs (cells / cellWidth)
@@ -34,10 +35,10 @@ module _ (graph inputs : List ℕ) (ledger cells : ℕ) where
 
 -- of every run, every profile and every replay
 abbrev pub ResultInvariants : Type 0
-ResultInvariants = (graph inputs picks : List ℕ) (budget ledger cells : ℕ) → LawfulResult graph inputs ledger cells (result graph inputs picks budget ledger cells)
+ResultInvariants = (graph arrays inputs picks : List ℕ) (budget ledger cells : ℕ) → LawfulResult graph arrays inputs ledger cells (result graph arrays inputs picks budget ledger cells)
 
 abbrev pub ProfileInvariants : Type 0
-ProfileInvariants = (graph inputs : List ℕ) (ledger cells lent : ℕ) → LawfulResult graph inputs ledger cells (profiled graph inputs ledger cells lent .result)
+ProfileInvariants = (graph arrays inputs : List ℕ) (ledger cells lent : ℕ) → LawfulResult graph arrays inputs ledger cells (profiled graph arrays inputs ledger cells lent .result)
 
 abbrev pub ReplayInvariants : Type 0
-ReplayInvariants = (graph inputs log : List ℕ) (ledger cells : ℕ) → LawfulResult graph inputs ledger cells (replayed graph inputs log ledger cells)
+ReplayInvariants = (graph arrays inputs log : List ℕ) (ledger cells : ℕ) → LawfulResult graph arrays inputs ledger cells (replayed graph arrays inputs log ledger cells)

@@ -19,6 +19,7 @@ pub mod Profile
 pub mod Log
 pub mod Needs
 pub mod Capacity
+pub mod NamedArrays
 pub mod Expression
 pub mod ExpressionCases
 pub mod Saved

@@ -12,6 +12,7 @@ use Rattle.record.specs.declared.tag.Tag.{Tag}
 use Rattle.number.specs.Number.{Bytes}
 use Rattle.buffer.specs.Rows.{rows, writtenOver}
 use Rattle.record.specs.GraphRecords.{graphOf}
+use Rattle.record.specs.Arrays.{arraysOf}
 use Rattle.record.specs.TokensAndTags.{mostTokens, capacityOf}
 use Rattle.record.specs.Logs.{encode, nameOf}
 use Rattle.record.specs.Widths.{cellWidth, logWidth}
@@ -25,7 +26,7 @@ use Rattle.rules.specs.declared.answer.Answer.{Answer}
 use Rattle.rules.specs.declared.answer.Checked.{Checked}
 use Rattle.rules.specs.declared.answer.Checked.the-variants.{Passed, Failed}
 use Rattle.rules.specs.Answer.{valuesOf}
-use Rattle.rules.specs.Check.{demand, _andThen_, checkGraph, checkStores, checkInputs, check}
+use Rattle.rules.specs.Check.{demand, _andThen_, checkGraph, checkStores, checkArrays, checkInputs, check}
 use Rattle.rules.specs.InstructionSet.{machineOf}
 use Rattle.rules.specs.Run.{firstState, picksOf, Result, refusedAtOnce, ranTo, unlessFailed, result, answer, ledgerAfter, cellsAfter}
 use Rattle.rules.specs.Orders.{Quiescent}
@@ -46,10 +47,11 @@ unfoldable pub checkLogStores : (inputs picks ledger cells budget lent : ℕ) �
 checkLogStores inputs picks ledger cells budget lent =
     checkStores inputs picks ledger cells andThen demand (logSuffices budget lent) BadStore 0
 
-unfoldable pub checkLogged : (graph inputs picks : List ℕ) → (budget ledger cells lent : ℕ) → Checked
-checkLogged graph inputs picks budget ledger cells lent =
+unfoldable pub checkLogged : (graph arrays inputs picks : List ℕ) → (budget ledger cells lent : ℕ) → Checked
+checkLogged graph arrays inputs picks budget ledger cells lent =
     checkGraph graph
     andThen checkLogStores (length inputs) (length picks) ledger cells budget lent
+    andThen checkArrays (graphOf graph) (cells / cellWidth) arrays
     andThen checkInputs (graphOf graph) (capacityOf ledger) inputs
 
 -- a run's result, and the tags of its firings in turn
@@ -62,11 +64,11 @@ logUnlessFailed Passed e log = record { result = ranTo e; log = log }
 logUnlessFailed (Failed r place) e log = record { result = refusedAtOnce r place; log = [] }
 
 -- ledger, cells and log by their lengths in bytes
-unfoldable pub logged : (graph inputs picks : List ℕ) → (budget ledger cells lent : ℕ) → LogResult
-logged graph inputs picks budget ledger cells lent =
-    let M = machineOf (graphOf graph) (capacityOf ledger) (cells / cellWidth) in
+unfoldable pub logged : (graph arrays inputs picks : List ℕ) → (budget ledger cells lent : ℕ) → LogResult
+logged graph arrays inputs picks budget ledger cells lent =
+    let M = machineOf (graphOf graph) (arraysOf arrays) (capacityOf ledger) (cells / cellWidth) in
     let s = firstState inputs (cells / cellWidth) in
-    logUnlessFailed (checkLogged graph inputs picks budget ledger cells lent) (run M budget (picksOf picks) s) (logOf M (byPicks M) budget (picksOf picks) s)
+    logUnlessFailed (checkLogged graph arrays inputs picks budget ledger cells lent) (run M budget (picksOf picks) s) (logOf M (byPicks M) budget (picksOf picks) s)
 
 unfoldable pub logAfter : LogResult → (lent : List ℕ) → List ℕ
 logAfter x lent = writtenOver encode (x .log) lent
@@ -79,23 +81,23 @@ pub record LogRan (x : LogResult) (r : Answer) (ledger ledger′ cells cells′ 
   pub cellsLeft : cells′ ≡ cellsAfter (x .result) cells
   pub logLeft : log′ ≡ logAfter x log
 
--- ---- a replay: "takes graph, inputs, log, ledger and cells". Its check is that of a run without picks
+-- ---- a replay: "takes graph, inputs, log, ledger and cells"; R-10: "Profile and replay take [the table] as a run does". Its check is that of a run without picks
 
-unfoldable pub replayed : (graph inputs log : List ℕ) → (ledger cells : ℕ) → Result
-replayed graph inputs log ledger cells =
-    unlessFailed (check graph inputs [] ledger cells)
-    (ranTo (replay (machineOf (graphOf graph) (capacityOf ledger) (cells / cellWidth)) NotEnabled (namesIn log) 0 (firstState inputs (cells / cellWidth))))
+unfoldable pub replayed : (graph arrays inputs log : List ℕ) → (ledger cells : ℕ) → Result
+replayed graph arrays inputs log ledger cells =
+    unlessFailed (check graph arrays inputs [] ledger cells)
+    (ranTo (replay (machineOf (graphOf graph) (arraysOf arrays) (capacityOf ledger) (cells / cellWidth)) NotEnabled (namesIn log) 0 (firstState inputs (cells / cellWidth))))
 
 -- ---- what is stated
 
 -- a run that writes a log is the run, if the log suffices
 abbrev pub LoggedRuns : Type 0
-LoggedRuns = (graph inputs picks : List ℕ) (budget ledger cells lent : ℕ) → logSuffices budget lent ≡ true
-    → logged graph inputs picks budget ledger cells lent .result ≡ result graph inputs picks budget ledger cells
+LoggedRuns = (graph arrays inputs picks : List ℕ) (budget ledger cells lent : ℕ) → logSuffices budget lent ≡ true
+    → logged graph arrays inputs picks budget ledger cells lent .result ≡ result graph arrays inputs picks budget ledger cells
 
 -- the log has room in what is lent
 abbrev pub LogFits : Type 0
-LogFits = (graph inputs picks : List ℕ) (budget ledger cells lent : ℕ) → length (logged graph inputs picks budget ledger cells lent .log) * logWidth ≤ lent
+LogFits = (graph arrays inputs picks : List ℕ) (budget ledger cells lent : ℕ) → length (logged graph arrays inputs picks budget ledger cells lent .log) * logWidth ≤ lent
 
 abbrev pub NotBy7 : Result → Type 0
 NotBy7 (refusedAtOnce r place) = ¬ (r ≡ BadStore)
@@ -115,14 +117,14 @@ pub record Again (x y : Result) : Type 0 where
 
 -- "Replaying the log of a run not refused by 7, buffers lent alike": the log of a run is its first records, as many as it has firings
 abbrev pub LogReplays : Type 0
-LogReplays = (graph inputs picks : List ℕ) (budget ledger cells : ℕ) (lent : List ℕ) → Bytes graph → Bytes inputs
-    → NotBy7 (logged graph inputs picks budget ledger cells (length lent) .result)
-    → Again (logged graph inputs picks budget ledger cells (length lent) .result)
-    (replayed graph inputs (take (answer (logged graph inputs picks budget ledger cells (length lent) .result) .firings * logWidth) (logAfter (logged graph inputs picks budget ledger cells (length lent)) lent)) ledger cells)
+LogReplays = (graph arrays inputs picks : List ℕ) (budget ledger cells : ℕ) (lent : List ℕ) → Bytes graph → Bytes inputs
+    → NotBy7 (logged graph arrays inputs picks budget ledger cells (length lent) .result)
+    → Again (logged graph arrays inputs picks budget ledger cells (length lent) .result)
+    (replayed graph arrays inputs (take (answer (logged graph arrays inputs picks budget ledger cells (length lent) .result) .firings * logWidth) (logAfter (logged graph arrays inputs picks budget ledger cells (length lent)) lent)) ledger cells)
 
 -- "The logs of two completed runs of one graph with equal inputs, capacity and cell count hold the same records, each once.": and of two that hang
 abbrev pub LogsAgree : Type 0
-LogsAgree = (graph inputs picks picks′ : List ℕ) (budget budget′ ledger ledger′ cells cells′ lent lent′ : ℕ)
+LogsAgree = (graph arrays inputs picks picks′ : List ℕ) (budget budget′ ledger ledger′ cells cells′ lent lent′ : ℕ)
     → capacityOf ledger ≡ capacityOf ledger′ → cells / cellWidth ≡ cells′ / cellWidth
-    → Quiescent (logged graph inputs picks budget ledger cells lent .result) → Quiescent (logged graph inputs picks′ budget′ ledger′ cells′ lent′ .result)
-    → List·Permᴰ (logged graph inputs picks budget ledger cells lent .log) (logged graph inputs picks′ budget′ ledger′ cells′ lent′ .log) × Once (logged graph inputs picks budget ledger cells lent .log)
+    → Quiescent (logged graph arrays inputs picks budget ledger cells lent .result) → Quiescent (logged graph arrays inputs picks′ budget′ ledger′ cells′ lent′ .result)
+    → List·Permᴰ (logged graph arrays inputs picks budget ledger cells lent .log) (logged graph arrays inputs picks′ budget′ ledger′ cells′ lent′ .log) × Once (logged graph arrays inputs picks budget ledger cells lent .log)

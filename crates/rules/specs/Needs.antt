@@ -8,6 +8,7 @@ use lib.ListN.{length, getD}
 use lib.IntN.{ℤ}
 use lib.Dec.{eqb, leb}
 use Rattle.record.specs.declared.tag.Tag.{Tag}
+use Rattle.record.specs.declared.array.NamedArray.{NamedArray}
 use Rattle.record.specs.declared.token.Token.{Token}
 use Rattle.record.specs.declared.instruction.Instruction.{Instruction}
 use Rattle.buffer.specs.Rows.{allRows}
@@ -96,7 +97,8 @@ outputsOf r = cond (eqb (r .code) 5) 1 (length (destinations r))
 unfoldable pub total : List Token → List Instruction → (Instruction → ℕ) → ℕ
 total inputs g f = let flags = rounds inputs g (length g) in sumBelow (length g) (λ i. cond (getD flags i false) (f (instructionAt g i)) 0)
 
--- ---- "Refused: 19, not loop-free, at the first such record, after refusals 1 to 7; 8 and 9 aren't tested."
+-- ---- "Refused: 19, not loop-free, at the first such record, after refusals 1 to 7; 8 and 9 aren't tested." R-10: the bounds take no table of arrays "and let that
+-- constant by"
 
 -- "without NEXT, ENTER and LEAVE" (codes 7, 8 and 9)
 unfoldable pub loopFree : Instruction → Bool
@@ -139,21 +141,21 @@ NoSwitchOrFetch graph inputs = (i : ℕ) → reached (inputsOf inputs) (graphOf 
 
 -- of every state that a run from inputs reaches
 abbrev pub NoStateExceeds : Type 0
-NoStateExceeds = (graph inputs : List ℕ) (capacity cells firings tokens : ℕ) → needs graph inputs ≡ AtMost firings tokens → checkInputs (graphOf graph) capacity inputs ≡ Passed
-    → (f o : ℕ) (x : State Tag ℤ) → Reached (machineOf (graphOf graph) capacity cells) (firstState inputs cells) f o x → (f ≤ firings) × (length (x .tokens) ≤ tokens)
+NoStateExceeds = (graph inputs : List ℕ) (table : List NamedArray) (capacity cells firings tokens : ℕ) → needs graph inputs ≡ AtMost firings tokens → checkInputs (graphOf graph) capacity inputs ≡ Passed
+    → (f o : ℕ) (x : State Tag ℤ) → Reached (machineOf (graphOf graph) table capacity cells) (firstState inputs cells) f o x → (f ≤ firings) × (length (x .tokens) ≤ tokens)
 
 abbrev pub ExactAtRest : Type 0
-ExactAtRest = (graph inputs : List ℕ) (capacity cells firings tokens : ℕ) → needs graph inputs ≡ AtMost firings tokens → NoSwitchOrFetch graph inputs → checkInputs (graphOf graph) capacity inputs ≡ Passed
-    → (f o : ℕ) (x : State Tag ℤ) → Reached (machineOf (graphOf graph) capacity cells) (firstState inputs cells) f o x → enabled (machineOf (graphOf graph) capacity cells) x ≡ []
+ExactAtRest = (graph inputs : List ℕ) (table : List NamedArray) (capacity cells firings tokens : ℕ) → needs graph inputs ≡ AtMost firings tokens → NoSwitchOrFetch graph inputs → checkInputs (graphOf graph) capacity inputs ≡ Passed
+    → (f o : ℕ) (x : State Tag ℤ) → Reached (machineOf (graphOf graph) table capacity cells) (firstState inputs cells) f o x → enabled (machineOf (graphOf graph) table capacity cells) x ≡ []
     → (f ≡ firings) × (length (x .tokens) ≡ tokens)
 
 -- "No completed or hung run exceeds either", and no other
 abbrev pub NeverExceeded : Type 0
-NeverExceeded = (graph inputs picks : List ℕ) (budget ledger cells firings tokens : ℕ) → needs graph inputs ≡ AtMost firings tokens
-    → (answer (result graph inputs picks budget ledger cells) .firings ≤ firings) × (answer (result graph inputs picks budget ledger cells) .tokens ≤ tokens)
+NeverExceeded = (graph arrays inputs picks : List ℕ) (budget ledger cells firings tokens : ℕ) → needs graph inputs ≡ AtMost firings tokens
+    → (answer (result graph arrays inputs picks budget ledger cells) .firings ≤ firings) × (answer (result graph arrays inputs picks budget ledger cells) .tokens ≤ tokens)
 
 -- "and both are exact where no SWITCH or FETCH is reached"
 abbrev pub Exact : Type 0
-Exact = (graph inputs picks : List ℕ) (budget ledger cells firings tokens : ℕ) → needs graph inputs ≡ AtMost firings tokens → NoSwitchOrFetch graph inputs
-    → Quiescent (result graph inputs picks budget ledger cells)
-    → (answer (result graph inputs picks budget ledger cells) .firings ≡ firings) × (answer (result graph inputs picks budget ledger cells) .tokens ≡ tokens)
+Exact = (graph arrays inputs picks : List ℕ) (budget ledger cells firings tokens : ℕ) → needs graph inputs ≡ AtMost firings tokens → NoSwitchOrFetch graph inputs
+    → Quiescent (result graph arrays inputs picks budget ledger cells)
+    → (answer (result graph arrays inputs picks budget ledger cells) .firings ≡ firings) × (answer (result graph arrays inputs picks budget ledger cells) .tokens ≡ tokens)

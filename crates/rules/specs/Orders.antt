@@ -87,12 +87,12 @@ pub record Allowed (picks : List ℕ) (ledger cells : ℕ) : Type 0 where
 abbrev pub NotForOtherBuffers : (graph inputs picks : List ℕ) (ledger cells : ℕ) → Type 0
 NotForOtherBuffers graph inputs picks ledger cells = checkGraph graph ≡ Passed → whole tokenWidth mostTokens (length inputs) ≡ true → Allowed picks ledger cells
 
--- "Whatever graph and inputs are lent, and whichever two lists of picks order the firings, with equal ledger capacity and cell count, a budget of 2,048"
+-- R-10: "Orders are compared [..] under one table." "Whatever graph and inputs are lent, and whichever two lists of picks order the firings, with equal ledger capacity and cell count, a budget of 2,048"
 abbrev pub AnyTwoOrders : Type 0
-AnyTwoOrders = (graph inputs picks picks′ : List ℕ) (ledger ledger′ cells cells′ : ℕ)
+AnyTwoOrders = (graph arrays inputs picks picks′ : List ℕ) (ledger ledger′ cells cells′ : ℕ)
     → NotForOtherBuffers graph inputs picks ledger cells → NotForOtherBuffers graph inputs picks′ ledger′ cells′
     → capacityOf ledger ≡ capacityOf ledger′ → cells / cellWidth ≡ cells′ / cellWidth
-    → Agree (result graph inputs picks 2048 ledger cells) (result graph inputs picks′ 2048 ledger′ cells′)
+    → Agree (result graph arrays inputs picks 2048 ledger cells) (result graph arrays inputs picks′ 2048 ledger′ cells′)
 
 -- ---- two budgets
 
@@ -103,7 +103,7 @@ pub record EndsAlike (x y : Result) : Type 0 where
 
 -- demand 3 with any two budgets that are each enough: if a run completes or hangs, so does every order that may do as many firings
 abbrev pub AnyTwoBudgets : Type 0
-AnyTwoBudgets = (graph inputs picks picks′ : List ℕ) (budget budget′ ledger ledger′ cells cells′ : ℕ) → Quiescent (result graph inputs picks budget ledger cells)
+AnyTwoBudgets = (graph arrays inputs picks picks′ : List ℕ) (budget budget′ ledger ledger′ cells cells′ : ℕ) → Quiescent (result graph arrays inputs picks budget ledger cells)
     → Allowed picks′ ledger′ cells′ → capacityOf ledger ≡ capacityOf ledger′ → cells / cellWidth ≡ cells′ / cellWidth
-    → answer (result graph inputs picks budget ledger cells) .firings ≤ budget′
-    → EndsAlike (result graph inputs picks budget ledger cells) (result graph inputs picks′ budget′ ledger′ cells′)
+    → answer (result graph arrays inputs picks budget ledger cells) .firings ≤ budget′
+    → EndsAlike (result graph arrays inputs picks budget ledger cells) (result graph arrays inputs picks′ budget′ ledger′ cells′)

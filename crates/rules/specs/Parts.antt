@@ -24,8 +24,8 @@ use Rattle.rules.specs.Saved.{taken, carried}
 abbrev pub leftBy : Result → (ledger cells : List ℕ) → LeftByRun
 leftBy x ledger cells = record { answer = answer x; ledger = ledgerAfter x ledger; cells = cellsAfter x cells }
 
-abbrev pub nextPart : (graph picks : List ℕ) → (budget : ℕ) → LeftByRun → LeftByRun
-nextPart graph picks budget x = leftBy (carried graph picks budget (x .ledger) (x .cells) (x .answer .firings) (x .answer .tokens)) (x .ledger) (x .cells)
+abbrev pub nextPart : (graph arrays picks : List ℕ) → (budget : ℕ) → LeftByRun → LeftByRun
+nextPart graph arrays picks budget x = leftBy (carried graph arrays picks budget (x .ledger) (x .cells) (x .answer .firings) (x .answer .tokens)) (x .ledger) (x .cells)
 
 -- a refused part is no cut by a budget: none follows it
 abbrev pub unlessRefused : {A : Type 0} → Outcome → A → A → A
@@ -35,23 +35,23 @@ unlessRefused Outcomes.Spent a b = b
 unlessRefused (Outcomes.Refused r place) a b = a
 
 -- the parts that follow, by their budgets: "its picks divided alike", to each part those of its own firings
-abbrev pub laterParts : (graph : List ℕ) → (budgets : List ℕ) → (picks : List ℕ) → LeftByRun → LeftByRun
-laterParts graph [] picks x = x
-laterParts graph (b ∷ bs) picks x =
-    unlessRefused (x .answer .outcome) x (laterParts graph bs (drop (b * pickWidth) picks) (nextPart graph (take (b * pickWidth) picks) b x))
+abbrev pub laterParts : (graph arrays : List ℕ) → (budgets : List ℕ) → (picks : List ℕ) → LeftByRun → LeftByRun
+laterParts graph arrays [] picks x = x
+laterParts graph arrays (b ∷ bs) picks x =
+    unlessRefused (x .answer .outcome) x (laterParts graph arrays bs (drop (b * pickWidth) picks) (nextPart graph arrays (take (b * pickWidth) picks) b x))
 
 -- "A run cut by budgets at any firings, its picks divided alike and all else equal, ends as the uncut run in every byte of answer, ledger and cells.", "and the uncut budget
 -- is their sum", which may be any number here
 abbrev pub CutRuns : Type 0
-CutRuns = (graph inputs picks ledger cells : List ℕ) (a : ℕ) (later : List ℕ) → Bytes graph → Bytes inputs → whole pickWidth mostTokens (length picks) ≡ true
-    → laterParts graph later (drop (a * pickWidth) picks) (leftBy (result graph inputs (take (a * pickWidth) picks) a (length ledger) (length cells)) ledger cells)
-    ≡ leftBy (result graph inputs picks (a + sum later) (length ledger) (length cells)) ledger cells
+CutRuns = (graph arrays inputs picks ledger cells : List ℕ) (a : ℕ) (later : List ℕ) → Bytes graph → Bytes inputs → whole pickWidth mostTokens (length picks) ≡ true
+    → laterParts graph arrays later (drop (a * pickWidth) picks) (leftBy (result graph arrays inputs (take (a * pickWidth) picks) a (length ledger) (length cells)) ledger cells)
+    ≡ leftBy (result graph arrays inputs picks (a + sum later) (length ledger) (length cells)) ledger cells
 
 -- the same of a run that goes on from a saved state
 abbrev pub CutAgain : Type 0
-CutAgain = (graph picks ledger cells : List ℕ) (firings tokens a : ℕ) (later : List ℕ) → Bytes graph → Bytes ledger → Bytes cells → whole pickWidth mostTokens (length picks) ≡ true
-    → laterParts graph later (drop (a * pickWidth) picks) (leftBy (carried graph (take (a * pickWidth) picks) a ledger cells firings tokens) ledger cells)
-    ≡ leftBy (carried graph picks (a + sum later) ledger cells firings tokens) ledger cells
+CutAgain = (graph arrays picks ledger cells : List ℕ) (firings tokens a : ℕ) (later : List ℕ) → Bytes graph → Bytes ledger → Bytes cells → whole pickWidth mostTokens (length picks) ≡ true
+    → laterParts graph arrays later (drop (a * pickWidth) picks) (leftBy (carried graph arrays (take (a * pickWidth) picks) a ledger cells firings tokens) ledger cells)
+    ≡ leftBy (carried graph arrays picks (a + sum later) ledger cells firings tokens) ledger cells
 
 -- ---- what a run leaves is taken
 
@@ -65,17 +65,17 @@ TakenAfter graph x = taken graph (x .ledger) (x .cells) (x .answer .firings) (x 
 
 -- whatever its answer is: completed, hung, spent, or refused in a firing
 pub record LeavesTaken : Type 0 where
-  pub byRun : (graph inputs picks ledger cells : List ℕ) (budget : ℕ) → Bytes graph → Bytes inputs
-      → Began (result graph inputs picks budget (length ledger) (length cells)) → TakenAfter graph (leftBy (result graph inputs picks budget (length ledger) (length cells)) ledger cells)
-  pub byCarried : (graph picks ledger cells : List ℕ) (budget firings tokens : ℕ) → Bytes graph → Bytes ledger → Bytes cells
-      → Began (carried graph picks budget ledger cells firings tokens) → TakenAfter graph (leftBy (carried graph picks budget ledger cells firings tokens) ledger cells)
+  pub byRun : (graph arrays inputs picks ledger cells : List ℕ) (budget : ℕ) → Bytes graph → Bytes inputs
+      → Began (result graph arrays inputs picks budget (length ledger) (length cells)) → TakenAfter graph (leftBy (result graph arrays inputs picks budget (length ledger) (length cells)) ledger cells)
+  pub byCarried : (graph arrays picks ledger cells : List ℕ) (budget firings tokens : ℕ) → Bytes graph → Bytes ledger → Bytes cells
+      → Began (carried graph arrays picks budget ledger cells firings tokens) → TakenAfter graph (leftBy (carried graph arrays picks budget ledger cells firings tokens) ledger cells)
 
 -- ---- "For any state taken, the same orders theorem applies from there, with that state in the place of the inputs."
 
 -- two runs from one state: equal counts, equal cells, and ledgers that are equal in the state's records, of one capacity. 24 looks at nothing else, so that it is said of any
 -- state: if it is not taken, both are refused. Neither is refused by 7 for its picks
 abbrev pub AnyTwoOrdersFrom : Type 0
-AnyTwoOrdersFrom = (graph picks picks′ ledger ledger′ cells : List ℕ) (firings tokens : ℕ)
+AnyTwoOrdersFrom = (graph arrays picks picks′ ledger ledger′ cells : List ℕ) (firings tokens : ℕ)
     → (checkGraph graph ≡ Passed → Allowed picks (length ledger) (length cells)) → (checkGraph graph ≡ Passed → Allowed picks′ (length ledger′) (length cells))
     → length ledger ≡ length ledger′ → take (tokens * tokenWidth) ledger ≡ take (tokens * tokenWidth) ledger′
-    → Agree (carried graph picks 2048 ledger cells firings tokens) (carried graph picks′ 2048 ledger′ cells firings tokens)
+    → Agree (carried graph arrays picks 2048 ledger cells firings tokens) (carried graph arrays picks′ 2048 ledger′ cells firings tokens)

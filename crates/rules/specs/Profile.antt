@@ -10,6 +10,7 @@ use Rattle.record.specs.declared.tag.Tag.{Tag}
 use Rattle.number.specs.Number.{bytes16}
 use Rattle.buffer.specs.Rows.{writtenOver}
 use Rattle.record.specs.GraphRecords.{graphOf}
+use Rattle.record.specs.Arrays.{arraysOf}
 use Rattle.record.specs.TokensAndTags.{mostTokens, capacityOf}
 use Rattle.record.specs.Widths.{cellWidth}
 use Rattle.machine.specs.Steps.{StepRecord, Profile, firingsIn, EachFires, profile}
@@ -20,7 +21,7 @@ use Rattle.rules.specs.declared.answer.Profiled.{Profiled}
 use Rattle.rules.specs.declared.answer.Checked.{Checked}
 use Rattle.rules.specs.declared.answer.Checked.the-variants.{Passed, Failed}
 use Rattle.rules.specs.Answer.{valuesOf}
-use Rattle.rules.specs.Check.{demand, _andThen_, checkGraph, checkStores, checkInputs}
+use Rattle.rules.specs.Check.{demand, _andThen_, checkGraph, checkStores, checkArrays, checkInputs}
 use Rattle.rules.specs.InstructionSet.{machineOf}
 use Rattle.rules.specs.Run.{firstState, Result, refusedAtOnce, ranTo, result, answer, ledgerAfter, cellsAfter}
 use Rattle.rules.specs.Orders.{Quiescent, Refused, Alike, Allowed}
@@ -35,10 +36,11 @@ stepWidth = 4
 unfoldable pub checkProfileStores : (inputs ledger cells profile : ℕ) → Checked
 checkProfileStores inputs ledger cells profile = checkStores inputs 0 ledger cells andThen demand (eqb (profile % stepWidth) 0) BadStore 0
 
-unfoldable pub checkProfile : (graph inputs : List ℕ) → (ledger cells profile : ℕ) → Checked
-checkProfile graph inputs ledger cells profile =
+unfoldable pub checkProfile : (graph arrays inputs : List ℕ) → (ledger cells profile : ℕ) → Checked
+checkProfile graph arrays inputs ledger cells profile =
     checkGraph graph
     andThen checkProfileStores (length inputs) ledger cells profile
+    andThen checkArrays (graphOf graph) (cells / cellWidth) arrays
     andThen checkInputs (graphOf graph) (capacityOf ledger) inputs
 
 -- a result as a run has it, and the records of the whole steps
@@ -51,10 +53,10 @@ profileUnlessFailed Passed p = record { result = ranTo (p .ended); records = p .
 profileUnlessFailed (Failed r place) p = record { result = refusedAtOnce r place; records = [] }
 
 -- ledger, cells and profile by their lengths in bytes
-unfoldable pub profiled : (graph inputs : List ℕ) → (ledger cells lent : ℕ) → ProfileResult
-profiled graph inputs ledger cells lent =
-    profileUnlessFailed (checkProfile graph inputs ledger cells lent)
-    (profile (machineOf (graphOf graph) (capacityOf ledger) (cells / cellWidth)) ProfileFull (lent / stepWidth) 0 (firstState inputs (cells / cellWidth)))
+unfoldable pub profiled : (graph arrays inputs : List ℕ) → (ledger cells lent : ℕ) → ProfileResult
+profiled graph arrays inputs ledger cells lent =
+    profileUnlessFailed (checkProfile graph arrays inputs ledger cells lent)
+    (profile (machineOf (graphOf graph) (arraysOf arrays) (capacityOf ledger) (cells / cellWidth)) ProfileFull (lent / stepWidth) 0 (firstState inputs (cells / cellWidth)))
 
 -- ---- what it answers and leaves
 
@@ -80,15 +82,15 @@ pub record ProfileRan (x : ProfileResult) (r : Profiled) (ledger ledger′ cells
 -- ---- the records have room in what is lent
 
 abbrev pub ProfileFits : Type 0
-ProfileFits = (graph inputs : List ℕ) (ledger cells lent : ℕ) → length (profiled graph inputs ledger cells lent .records) * stepWidth ≤ lent
+ProfileFits = (graph arrays inputs : List ℕ) (ledger cells lent : ℕ) → length (profiled graph arrays inputs ledger cells lent .records) * stepWidth ≤ lent
 
 -- ---- how many there can be
 
 -- a step has one firing at least: so no more records than firings, and 2,048 at most
 abbrev pub NoMoreSteps : Type 0
-NoMoreSteps = (graph inputs : List ℕ) (ledger cells lent : ℕ)
-    → (length (profiled graph inputs ledger cells lent .records) ≤ answer (profiled graph inputs ledger cells lent .result) .firings)
-    × (answer (profiled graph inputs ledger cells lent .result) .firings ≤ mostTokens)
+NoMoreSteps = (graph arrays inputs : List ℕ) (ledger cells lent : ℕ)
+    → (length (profiled graph arrays inputs ledger cells lent .records) ≤ answer (profiled graph arrays inputs ledger cells lent .result) .firings)
+    × (answer (profiled graph arrays inputs ledger cells lent .result) .firings ≤ mostTokens)
 
 -- 18 is given exactly where no record is left before a step: all that are lent are written, and each of their firings is done
 pub record Full (x : ProfileResult) (place lent : ℕ) : Type 0 where
@@ -97,12 +99,12 @@ pub record Full (x : ProfileResult) (place lent : ℕ) : Type 0 where
   pub firings : answer (x .result) .firings ≡ firingsIn (x .records)
 
 abbrev pub WhereFull : Type 0
-WhereFull = (graph inputs : List ℕ) (ledger cells lent place : ℕ) → answer (profiled graph inputs ledger cells lent .result) .outcome ≡ Outcomes.Refused ProfileFull place
-    → Full (profiled graph inputs ledger cells lent) place lent
+WhereFull = (graph arrays inputs : List ℕ) (ledger cells lent place : ℕ) → answer (profiled graph arrays inputs ledger cells lent .result) .outcome ≡ Outcomes.Refused ProfileFull place
+    → Full (profiled graph arrays inputs ledger cells lent) place lent
 
 -- so 2,048 records are always enough
 abbrev pub NeverFull : Type 0
-NeverFull = (graph inputs : List ℕ) (ledger cells lent place : ℕ) → mostTokens * stepWidth ≤ lent → ¬ (answer (profiled graph inputs ledger cells lent .result) .outcome ≡ Outcomes.Refused ProfileFull place)
+NeverFull = (graph arrays inputs : List ℕ) (ledger cells lent place : ℕ) → mostTokens * stepWidth ≤ lent → ¬ (answer (profiled graph arrays inputs ledger cells lent .result) .outcome ≡ Outcomes.Refused ProfileFull place)
 
 -- ---- "if it isn't refused, its end must equal every order's as demand 3 compares them"
 
@@ -116,6 +118,6 @@ pub record EndsAs (x : ProfileResult) (y : Result) : Type 0 where
   pub eachFires : EachFires (x .records)
 
 abbrev pub AsEveryOrder : Type 0
-AsEveryOrder = (graph inputs picks : List ℕ) (ledger ledger′ cells cells′ lent : ℕ) → ¬ (Refused (profiled graph inputs ledger cells lent .result))
+AsEveryOrder = (graph arrays inputs picks : List ℕ) (ledger ledger′ cells cells′ lent : ℕ) → ¬ (Refused (profiled graph arrays inputs ledger cells lent .result))
     → Allowed picks ledger′ cells′ → capacityOf ledger ≡ capacityOf ledger′ → cells / cellWidth ≡ cells′ / cellWidth
-    → EndsAs (profiled graph inputs ledger cells lent) (result graph inputs picks 2048 ledger′ cells′)
+    → EndsAs (profiled graph arrays inputs ledger cells lent) (result graph arrays inputs picks 2048 ledger′ cells′)

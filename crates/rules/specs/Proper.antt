@@ -26,5 +26,5 @@ ProperToken g t = ProperContent (isResult (instructionAt g (t .tag .instruction)
 
 -- "a run with nothing enabled is completed only if" all are proper. "Otherwise the answer is hung"
 abbrev pub CompletedExactly : Type 0
-CompletedExactly = (graph inputs picks : List ℕ) (budget ledger cells : ℕ) → Quiescent (result graph inputs picks budget ledger cells)
-    → Completed (result graph inputs picks budget ledger cells) ↔ All (ProperToken (graphOf graph)) (tokensOf (result graph inputs picks budget ledger cells))
+CompletedExactly = (graph arrays inputs picks : List ℕ) (budget ledger cells : ℕ) → Quiescent (result graph arrays inputs picks budget ledger cells)
+    → Completed (result graph arrays inputs picks budget ledger cells) ↔ All (ProperToken (graphOf graph)) (tokensOf (result graph arrays inputs picks budget ledger cells))

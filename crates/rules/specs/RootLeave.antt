@@ -8,6 +8,7 @@ use mathlib.Core.List.{List}
 use lib.IntN.{ℤ}
 use lib.Dec.{eqb}
 use Rattle.record.specs.declared.tag.Tag.{Tag}
+use Rattle.record.specs.declared.array.NamedArray.{NamedArray}
 use Rattle.record.specs.declared.instruction.Instruction.{Instruction}
 use Rattle.buffer.specs.Rows.{All}
 use Rattle.record.specs.Paths.{isRoot}
@@ -29,11 +30,11 @@ isRootLeave g τ = eqb (instructionAt g (τ .instruction) .code) 9 && isRoot (τ
 unfoldable pub arityBefore : List Instruction → Tag → ℕ
 arityBefore g τ = let r = instructionAt g (τ .instruction) in cond (eqb (r .code) 3) 0 (operandsOf (r .code))
 
-unfoldable pub effectBefore : Refusal → List Instruction → (cells : ℕ) → Tag → (a b : ℤ) → EffectHere
-effectBefore word g cells τ a b = cond (isRootLeave g τ) (refuse word) (effectIn g cells τ a b)
+unfoldable pub effectBefore : Refusal → List Instruction → List NamedArray → (cells : ℕ) → Tag → (a b : ℤ) → EffectHere
+effectBefore word g table cells τ a b = cond (isRootLeave g τ) (refuse word) (effectIn g table cells τ a b)
 
-abbrev pub machineBefore : Refusal → List Instruction → (capacity cells : ℕ) → Machine
-machineBefore word g capacity cells = withInstructions (machineOf g capacity cells) (arityBefore g) (effectBefore word g cells)
+abbrev pub machineBefore : Refusal → List Instruction → List NamedArray → (capacity cells : ℕ) → Machine
+machineBefore word g table capacity cells = withInstructions (machineOf g table capacity cells) (arityBefore g) (effectBefore word g table cells)
 
 -- ---- the claim
 
@@ -43,8 +44,8 @@ NoneAtRootLeave g ts = All (λ t. isRootLeave g (t .key .tag) ≡ false) ts
 
 -- the run as it was and as it is, where no token comes to such a LEAVE in the one or in the other
 abbrev pub KeepsAnswer : Type 0
-KeepsAnswer = (graph inputs : List ℕ) (capacity cells : ℕ) → checkGraph graph ≡ Passed → checkInputs (graphOf graph) capacity inputs ≡ Passed
+KeepsAnswer = (graph inputs : List ℕ) (table : List NamedArray) (capacity cells : ℕ) → checkGraph graph ≡ Passed → checkInputs (graphOf graph) capacity inputs ≡ Passed
     → (word : Refusal) (budget : ℕ) (picks : List ℕ)
-    → NoneAtRootLeave (graphOf graph) (run (machineBefore word (graphOf graph) capacity cells) budget picks (firstState inputs cells) .state .tokens)
-    ⊎ NoneAtRootLeave (graphOf graph) (run (machineOf (graphOf graph) capacity cells) budget picks (firstState inputs cells) .state .tokens)
-    → run (machineOf (graphOf graph) capacity cells) budget picks (firstState inputs cells) ≡ run (machineBefore word (graphOf graph) capacity cells) budget picks (firstState inputs cells)
+    → NoneAtRootLeave (graphOf graph) (run (machineBefore word (graphOf graph) table capacity cells) budget picks (firstState inputs cells) .state .tokens)
+    ⊎ NoneAtRootLeave (graphOf graph) (run (machineOf (graphOf graph) table capacity cells) budget picks (firstState inputs cells) .state .tokens)
+    → run (machineOf (graphOf graph) table capacity cells) budget picks (firstState inputs cells) ≡ run (machineBefore word (graphOf graph) table capacity cells) budget picks (firstState inputs cells)

@@ -13,6 +13,7 @@ use Rattle.record.specs.declared.cell.Cell.the-variants.{Absent, Waiting, Prese
 use Rattle.number.specs.Number.{number16}
 use Rattle.buffer.specs.Rows.{allRows, writtenOver}
 use Rattle.record.specs.GraphRecords.{graphOf}
+use Rattle.record.specs.Arrays.{arraysOf}
 use Rattle.record.specs.TokensAndTags.{capacityOf, ledgerOf}
 use Rattle.record.specs.TokensAndTags as Tokens
 use Rattle.record.specs.Cells as Cells
@@ -76,10 +77,10 @@ unlessFailed Passed x = x
 unlessFailed (Failed r p) x = refusedAtOnce r p
 
 -- ledger and cells by their lengths in bytes
-unfoldable pub result : (graph inputs picks : List ℕ) → (budget ledger cells : ℕ) → Result
-result graph inputs picks budget ledger cells =
-    unlessFailed (check graph inputs picks ledger cells)
-    (ranTo (run (machineOf (graphOf graph) (capacityOf ledger) (cells / cellWidth)) budget (picksOf picks) (firstState inputs (cells / cellWidth))))
+unfoldable pub result : (graph arrays inputs picks : List ℕ) → (budget ledger cells : ℕ) → Result
+result graph arrays inputs picks budget ledger cells =
+    unlessFailed (check graph arrays inputs picks ledger cells)
+    (ranTo (run (machineOf (graphOf graph) (arraysOf arrays) (capacityOf ledger) (cells / cellWidth)) budget (picksOf picks) (firstState inputs (cells / cellWidth))))
 
 -- ---- what it answers
 

@@ -15,7 +15,7 @@ use Rattle.rules.specs.Profile.{profiled, ProfileRan}
 
 -- ---- a run
 
--- what a run is lent beside graph and inputs
+-- what a run is lent beside graph, table of arrays and inputs
 pub record LentToRun : Type 0 where
   pub picks : List ℕ
   pub ledger : List ℕ
@@ -35,8 +35,8 @@ abbrev pub leftByRun : Answer → (ledger cells : List ℕ) → LeftByRun
 leftByRun r ledger cells = record { answer = r; ledger = ledger; cells = cells }
 
 -- the promise of `run`
-abbrev pub RanOn : (graph inputs : List ℕ) → (budget : ℕ) → LentToRun → LeftByRun → Type 0
-RanOn graph inputs budget l x = Ran (result graph inputs (l .picks) budget (length (l .ledger)) (length (l .cells))) (x .answer) (l .ledger) (x .ledger) (l .cells) (x .cells)
+abbrev pub RanOn : (graph arrays inputs : List ℕ) → (budget : ℕ) → LentToRun → LeftByRun → Type 0
+RanOn graph arrays inputs budget l x = Ran (result graph arrays inputs (l .picks) budget (length (l .ledger)) (length (l .cells))) (x .answer) (l .ledger) (x .ledger) (l .cells) (x .cells)
 
 -- ---- a run that writes a log (02, R-7)
 
@@ -62,8 +62,8 @@ abbrev pub leftByLogged : Answer → (ledger cells log : List ℕ) → LeftByLog
 leftByLogged r ledger cells log = record { answer = r; ledger = ledger; cells = cells; log = log }
 
 -- the promise of `run_logged`
-abbrev pub LoggedOn : (graph inputs : List ℕ) → LentToLogged → LeftByLogged → Type 0
-LoggedOn graph inputs l x = LogRan (logged graph inputs (l .picks) (l .budget) (length (l .ledger)) (length (l .cells)) (length (l .log)))
+abbrev pub LoggedOn : (graph arrays inputs : List ℕ) → LentToLogged → LeftByLogged → Type 0
+LoggedOn graph arrays inputs l x = LogRan (logged graph arrays inputs (l .picks) (l .budget) (length (l .ledger)) (length (l .cells)) (length (l .log)))
     (x .answer) (l .ledger) (x .ledger) (l .cells) (x .cells) (l .log) (x .log)
 
 -- what a run without a log is lent and leaves of it
@@ -75,12 +75,12 @@ leftBesideLog x = leftByRun (x .answer) (x .ledger) (x .cells)
 
 -- a log that suffices changes nothing of the run: what is claimed of `run` holds of `run_logged` too (`logged-runs-on` in proofs/Logged)
 abbrev pub LoggedRunsOn : Type 0
-LoggedRunsOn = (graph inputs : List ℕ) (l : LentToLogged) (x : LeftByLogged) → LoggedOn graph inputs l x → logSuffices (l .budget) (length (l .log)) ≡ true
-    → RanOn graph inputs (l .budget) (lentBesideLog l) (leftBesideLog x)
+LoggedRunsOn = (graph arrays inputs : List ℕ) (l : LentToLogged) (x : LeftByLogged) → LoggedOn graph arrays inputs l x → logSuffices (l .budget) (length (l .log)) ≡ true
+    → RanOn graph arrays inputs (l .budget) (lentBesideLog l) (leftBesideLog x)
 
 -- the promise of `replay`
-abbrev pub ReplayedOn : (graph inputs log ledger cells : List ℕ) → Answer → (ledger′ cells′ : List ℕ) → Type 0
-ReplayedOn graph inputs log ledger cells r ledger′ cells′ = Ran (replayed graph inputs log (length ledger) (length cells)) r ledger ledger′ cells cells′
+abbrev pub ReplayedOn : (graph arrays inputs log ledger cells : List ℕ) → Answer → (ledger′ cells′ : List ℕ) → Type 0
+ReplayedOn graph arrays inputs log ledger cells r ledger′ cells′ = Ran (replayed graph arrays inputs log (length ledger) (length cells)) r ledger ledger′ cells cells′
 
 -- ---- a profile (02, R-1)
 
@@ -104,9 +104,9 @@ abbrev pub leftByProfile : Profiled → (ledger cells profile : List ℕ) → Le
 leftByProfile r ledger cells profile = record { answer = r; ledger = ledger; cells = cells; profile = profile }
 
 -- the promise of `profile`
-abbrev pub ProfiledOn : (graph inputs : List ℕ) → LentToProfile → LeftByProfile → Type 0
-ProfiledOn graph inputs l x =
-    ProfileRan (profiled graph inputs (length (l .ledger)) (length (l .cells)) (length (l .profile))) (x .answer)
+abbrev pub ProfiledOn : (graph arrays inputs : List ℕ) → LentToProfile → LeftByProfile → Type 0
+ProfiledOn graph arrays inputs l x =
+    ProfileRan (profiled graph arrays inputs (length (l .ledger)) (length (l .cells)) (length (l .profile))) (x .answer)
     (l .ledger) (x .ledger) (l .cells) (x .cells) (l .profile) (x .profile)
 
 -- ---- how a run ended
@@ -144,5 +144,5 @@ Refused (Outcomes.Refused r place) = Unit {0}
 
 -- and with one that does not suffice it is refused before any firing (`logged-else` in proofs/Logged)
 abbrev pub LoggedElse : Type 0
-LoggedElse = (graph inputs : List ℕ) (l : LentToLogged) (x : LeftByLogged) → LoggedOn graph inputs l x → logSuffices (l .budget) (length (l .log)) ≡ false
+LoggedElse = (graph arrays inputs : List ℕ) (l : LentToLogged) (x : LeftByLogged) → LoggedOn graph arrays inputs l x → logSuffices (l .budget) (length (l .log)) ≡ false
     → Refused (x .answer .outcome) × (x .answer .firings ≡ 0) × (x .answer .tokens ≡ 0)

@@ -3,16 +3,18 @@ use Prim.Native.Nat.{ℕ, zero, suc, _/_, _<_}
 use mathlib.Core.Path.{_≡_}
 use mathlib.Core.Logic.{_↔_}
 use mathlib.Core.Bool.{Bool, true, false, _&&_}
-use mathlib.Core.List.{List, map}
+use mathlib.Core.List.{List, [], map}
 use lib.Dec.{ltb}
 use lib.ListN.{length}
 use lib.IntN.{ℤ, pos}
 use Rattle.record.specs.declared.tag.Tag.{Tag}
+use Rattle.record.specs.declared.array.NamedArray.{NamedArray}
 use Rattle.record.specs.declared.tag.Left.{Left}
 use Rattle.record.specs.declared.tag.Left.the-variants.{To, NoCaller}
 use Rattle.record.specs.declared.instruction.Instruction.{Instruction}
 use Rattle.buffer.specs.Rows.{All, rows, allRows}
 use Rattle.record.specs.GraphRecords.{graphOf}
+use Rattle.record.specs.Arrays.{arraysOf}
 use Rattle.record.specs.Paths.{pathNumber}
 use Rattle.record.specs.TokensAndTags.{capacityOf}
 use Rattle.record.specs.TokensAndTags as Tokens
@@ -25,7 +27,7 @@ use Rattle.rules.specs.declared.answer.Refusal.the-variants.{DamagedStat
 use Rattle.rules.specs.declared.answer.Checked.{Checked}
 use Rattle.rules.specs.declared.answer.Checked.the-variants.{Passed}
 use Rattle.rules.specs.declared.answer.Answer.{Answer}
-use Rattle.rules.specs.Check.{demand, _andThen_, all, any, operandsAt, entersSite, checkGraph, checkStores}
+use Rattle.rules.specs.Check.{demand, _andThen_, all, any, operandsAt, entersSite, checkGraph, checkStores, checkArrays}
 use Rattle.rules.specs.InstructionSet.{machineOf}
 use Rattle.rules.specs.Callers.{PathIn}
 use Rattle.rules.specs.Run.{tokenHeld, cellHeld, picksOf, Result, ranTo, unlessFailed, Ran}
@@ -35,8 +37,8 @@ use Rattle.rules.specs.Run.{tokenHeld, cellHeld, picksOf, Result, ranTo,
 unfoldable pub stateSaved : (ledger cells : List ℕ) → (tokens : ℕ) → State Tag ℤ
 stateSaved ledger cells n = record { tokens = map tokenHeld (Tokens.tokens n ledger); cells = map cellHeld (allRows cellWidth Cells.decode cells) }
 
-abbrev pub machineSaved : (graph ledger cells : List ℕ) → Machine
-machineSaved graph ledger cells = machineOf (graphOf graph) (capacityOf (length ledger)) (length cells / cellWidth)
+abbrev pub machineSaved : (graph : List ℕ) → List NamedArray → (ledger cells : List ℕ) → Machine
+machineSaved graph table ledger cells = machineOf (graphOf graph) table (capacityOf (length ledger)) (length cells / cellWidth)
 
 -- ---- what is asked of it, "by the graph"
 
@@ -60,13 +62,14 @@ pathMade g (suc n) τ = onLeft (leaveOf τ) true (λ site caller. any (entersSit
 
 -- "A saved state is taken exactly if, by the graph, all of this holds". The rest of 02's list is the machine's: "tag and port never twice", "a tag's operands all present
 -- and spent or none spent", "results never spent", "each deferred token naming a cell of the store", "cells waiting exactly where one is deferred on them", "tokens within
--- the capacity", "the firings as many as the tags with spent operands"
+-- the capacity", "the firings as many as the tags with spent operands". The table of named arrays is no part of the state, and none of this looks at one: it is said with
+-- the empty table
 unfoldable pub taken : (graph ledger cells : List ℕ) → (firings tokens : ℕ) → Bool
 taken graph ledger cells firings n =
     all (tokenAllowed (graphOf graph)) (rows tokenWidth (λ l. l) n ledger)
     && (all (λ t. pathMade (graphOf graph) mostLevels (t .tag)) (Tokens.tokens n ledger)
     && (all cellAllowed (allRows cellWidth (λ l. l) cells)
-    && isSaved (machineSaved graph ledger cells) firings (stateSaved ledger cells n)))
+    && isSaved (machineSaved graph [] ledger cells) firings (stateSaved ledger cells n)))
 
 -- the same in 02's words, where the graph passed its check
 pub record Takes (graph ledger cells : List ℕ) (firings n : ℕ) : Type 0 where
@@ -79,26 +82,27 @@ pub record Takes (graph ledger cells : List ℕ) (firings n : ℕ) : Type 0 wher
   -- "cell values 0 until present"
   pub cellValues : All (λ l. Cells.zeroUntilPresent l ≡ true) (allRows cellWidth (λ l. l) cells)
   -- the rest, each a field of `Saved`
-  pub saved : Saved (machineSaved graph ledger cells) firings (stateSaved ledger cells n)
+  pub saved : Saved (machineSaved graph [] ledger cells) firings (stateSaved ledger cells n)
 
 abbrev pub TakenExactly : Type 0
 TakenExactly = (graph ledger cells : List ℕ) (firings n : ℕ) → checkGraph graph ≡ Passed → (taken graph ledger cells firings n ≡ true) ↔ Takes graph ledger cells firings n
 
 -- ---- a run from there
 
--- "Refused: 24, damaged state, after 7 and in the place of 6, with place 0."; no inputs are lent
-unfoldable pub checkSaved : (graph picks ledger cells : List ℕ) → (firings tokens : ℕ) → Checked
-checkSaved graph picks ledger cells firings n =
+-- "Refused: 24, damaged state, after 7 and in the place of 6, with place 0."; no inputs are lent. R-10: 22 "before inputs"
+unfoldable pub checkSaved : (graph arrays picks ledger cells : List ℕ) → (firings tokens : ℕ) → Checked
+checkSaved graph arrays picks ledger cells firings n =
     checkGraph graph
     andThen checkStores 0 (length picks) (length ledger) (length cells)
+    andThen checkArrays (graphOf graph) (length cells / cellWidth) arrays
     andThen demand (taken graph ledger cells firings n) DamagedState 0
 
 -- "Each part's budget counts its own firings", and the answer counts those before too
-unfoldable pub carried : (graph picks : List ℕ) → (budget : ℕ) → (ledger cells : List ℕ) → (firings tokens : ℕ) → Result
-carried graph picks budget ledger cells firings n =
-    let M = machineSaved graph ledger cells in
-    unlessFailed (checkSaved graph picks ledger cells firings n) (ranTo (runBy M (byPicks M) budget (picksOf picks) firings (stateSaved ledger cells n)))
+unfoldable pub carried : (graph arrays picks : List ℕ) → (budget : ℕ) → (ledger cells : List ℕ) → (firings tokens : ℕ) → Result
+carried graph arrays picks budget ledger cells firings n =
+    let M = machineSaved graph (arraysOf arrays) ledger cells in
+    unlessFailed (checkSaved graph arrays picks ledger cells firings n) (ranTo (runBy M (byPicks M) budget (picksOf picks) firings (stateSaved ledger cells n)))
 
 -- what such a run promises: its answer and the end contents of ledger and cells
-abbrev pub CarriedOn : (graph picks : List ℕ) → (budget firings tokens : ℕ) → Answer → (ledger ledger′ cells cells′ : List ℕ) → Type 0
-CarriedOn graph picks budget firings n r ledger ledger′ cells cells′ = Ran (carried graph picks budget ledger cells firings n) r ledger ledger′ cells cells′
+abbrev pub CarriedOn : (graph arrays picks : List ℕ) → (budget firings tokens : ℕ) → Answer → (ledger ledger′ cells cells′ : List ℕ) → Type 0
+CarriedOn graph arrays picks budget firings n r ledger ledger′ cells cells′ = Ran (carried graph arrays picks budget ledger cells firings n) r ledger ledger′ cells cells′

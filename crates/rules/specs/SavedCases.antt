@@ -14,7 +14,7 @@ use Rattle.rules.specs.Answer.{Values}
 use Rattle.rules.specs.Run.{tokenRecord, cellRecord}
 use Rattle.machine.specs.Saved.{isSaved}
 use Rattle.rules.specs.Saved.{stateSaved, tokenAllowed, cellAllowed, taken, checkSaved, carried}
-use Rattle.rules.specs.Cases.{to0, to1, to2, token, root, values, completed, spentWord, hung, binary, Numbered, cell, Seen, ran, seenIn}
+use Rattle.rules.specs.Cases.{array, to0, to1, to2, token, root, values, completed, spentWord, hung, binary, Numbered, cell, Seen, ran, seenIn}
 
 -- ---- how the rows are written
 
@@ -27,14 +27,18 @@ cellsFrom cs = joined (λ (c : Cell ℤ). Cells.encode (cellRecord c)) cs
 -- a run from a saved state: what is lent; the answer, the tokens of the ledger, the cells that are not absent
 pub data Case : Type 0 where
   carrying : (graph picks : List ℕ) → (budget firings tokens : ℕ) → (ledger cells : List ℕ) → Values → List (Token Tag ℤ) → List Numbered → Case
+  -- with a table of named arrays too, budget 2,048 and no firing before
+  naming : (graph arrays picks : List ℕ) → (tokens : ℕ) → (ledger cells : List ℕ) → Values → List (Token Tag ℤ) → List Numbered → Case
 
 -- by the rules
 unfoldable pub seen : Case → Seen
-seen (carrying graph picks budget firings n ledger cells a ts cs) = seenIn (carried graph picks budget ledger cells firings n)
+seen (carrying graph picks budget firings n ledger cells a ts cs) = seenIn (carried graph [] picks budget ledger cells firings n)
+seen (naming graph arrays picks n ledger cells a ts cs) = seenIn (carried graph arrays picks 2048 ledger cells 0 n)
 
 -- by the table
 unfoldable pub expected : Case → Seen
 expected (carrying graph picks budget firings n ledger cells a ts cs) = ran a ts cs
+expected (naming graph arrays picks n ledger cells a ts cs) = ran a ts cs
 
 -- ---- a state with each thing that 02 lists
 
@@ -145,8 +149,25 @@ turn =
     ∷ carrying graph (0 ∷ []) 2048 1 0 [] [] (values 7 0 0 0) [] []
     ∷ []
 
+-- ---- R-10: the table is lent again, and 22 stands between 7 and 24
+
+-- 0 is FETCH from array 1 to 1, OUT
+abbrev pub fetching : List ℕ
+fetching = to1 10 (pos 1) 0 1 ++ to0 3 (pos 0)
+
+abbrev pub named : List Case
+named =
+    -- index 2 of the array that has cells 1 and 2
+    naming fetching (array 1 2) [] 1 (ledgerFrom (root 0 0 (live (pos 2)) ∷ []) ++ behind) (cellsFrom (absent ∷ absent ∷ present (pos 9) ∷ [])) (values completed 1 2 0)
+    (root 0 0 (spent (pos 2)) ∷ root 1 0 (live (pos 9)) ∷ []) (cell 2 (present (pos 9)) ∷ [])
+    -- it ends past the cells, of a state that is damaged too; with 7; no table is lent
+    ∷ naming fetching (array 1 3) [] 1 (ledgerFrom (root 2 0 (live (pos 2)) ∷ [])) (cellsFrom (absent ∷ absent ∷ absent ∷ [])) (values 22 0 0 0) [] []
+    ∷ naming fetching (array 1 3) (0 ∷ []) 0 [] [] (values 7 0 0 0) [] []
+    ∷ naming fetching [] [] 0 [] [] (values 22 0 0 0) [] []
+    ∷ []
+
 abbrev pub cases : List Case
-cases = good ++ bad ++ turn
+cases = good ++ bad ++ turn ++ named
 
 -- a computed proof with the line `unfolding states` computes with all of R-13, beside `rules`
 unfoldable pub states : Unit {0}

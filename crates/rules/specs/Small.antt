@@ -24,7 +24,7 @@ pub record Small (budget : ℕ) (a : Answer) : Type 0 where
 
 -- of every run, one that is refused before any firing included
 abbrev pub AnswersSmall : Type 0
-AnswersSmall = (graph inputs picks : List ℕ) (budget ledger cells : ℕ) → Small budget (answer (result graph inputs picks budget ledger cells))
+AnswersSmall = (graph arrays inputs picks : List ℕ) (budget ledger cells : ℕ) → Small budget (answer (result graph arrays inputs picks budget ledger cells))
 
 -- of the answer of any call that runs a graph: 16 bits are enough for each number. The place of 20 is a record's number, which is at most that of the firings
 pub record Counted (a : Answer) : Type 0 where
@@ -34,7 +34,7 @@ pub record Counted (a : Answer) : Type 0 where
 
 -- of a run that writes a log, a replay, a profile, and a run from a saved state
 pub record AllCounted : Type 0 where
-  pub byLogged : (graph inputs picks : List ℕ) (budget ledger cells lent : ℕ) → Counted (answer (logged graph inputs picks budget ledger cells lent .result))
-  pub byReplay : (graph inputs log : List ℕ) (ledger cells : ℕ) → Counted (answer (replayed graph inputs log ledger cells))
-  pub byProfile : (graph inputs : List ℕ) (ledger cells lent : ℕ) → Counted (answer (profiled graph inputs ledger cells lent .result))
-  pub byCarried : (graph picks ledger cells : List ℕ) (budget firings tokens : ℕ) → Counted (answer (carried graph picks budget ledger cells firings tokens))
+  pub byLogged : (graph arrays inputs picks : List ℕ) (budget ledger cells lent : ℕ) → Counted (answer (logged graph arrays inputs picks budget ledger cells lent .result))
+  pub byReplay : (graph arrays inputs log : List ℕ) (ledger cells : ℕ) → Counted (answer (replayed graph arrays inputs log ledger cells))
+  pub byProfile : (graph arrays inputs : List ℕ) (ledger cells lent : ℕ) → Counted (answer (profiled graph arrays inputs ledger cells lent .result))
+  pub byCarried : (graph arrays picks ledger cells : List ℕ) (budget firings tokens : ℕ) → Counted (answer (carried graph arrays picks budget ledger cells firings tokens))

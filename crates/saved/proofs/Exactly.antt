@@ -105,7 +105,7 @@ module _ (graph ledger cells tables : List ℕ) (used : ℕ) (right : Arities (g
   count = length cells / cellWidth
 
   abbrev M : Machine
-  M = machineSaved graph ledger cells
+  M = machineSaved graph [] ledger cells
 
   abbrev ts : List Record.Token
   ts = tokens used ledger
@@ -179,7 +179,7 @@ module _ (graph ledger cells tables : List ℕ) (used : ℕ) (right : Arities (g
 
   before-free : ((i : ℕ) → i < used → firstFrom (standsAt (tok i .tag) (tok i .port)) 0 (tokens i ledger) ≡ Nothing) → Distinct M hs
   before-free h =
-      all-different g (capacityOf (length ledger)) count noToken ts (λ k l.
+      all-different g [] (capacityOf (length ledger)) count noToken ts (λ k l.
       let j : k < used = rw (← size) l in
       rw (here k noToken j, tokens-take k used ledger (omega arith)) (any-none (standsAt (tok k .tag) (tok k .port)) (tokens k ledger) (search-nothing (standsAt (tok k .tag) (tok k .port)) noToken (tokens k ledger) (h k j))))
 
@@ -203,7 +203,7 @@ module _ (graph ledger cells tables : List ℕ) (used : ℕ) (right : Arities (g
 
   -- what is found on a port is spent
   spent-port : (tag : Tag) (p : ℕ) → isSpentThere (find M (at M tag p) hs) ≡ spentFound tok (firstFrom (standsAt tag p) 0 ts)
-  spent-port tag p = ap isSpentThere (held-find g (capacityOf (length ledger)) count tag p noToken ts) ∙ go (firstFrom (standsAt tag p) 0 ts) refl
+  spent-port tag p = ap isSpentThere (held-find g [] (capacityOf (length ledger)) count tag p noToken ts) ∙ go (firstFrom (standsAt tag p) 0 ts) refl
     where
       go : (f : Found) → firstFrom (standsAt tag p) 0 ts ≡ f → isSpentThere (foundContent noToken ts f) ≡ spentFound tok f
       go Nothing e = refl

@@ -2,7 +2,7 @@
 use Prim.Native.Nat.{ℕ, zero, suc, _+_, _*_, _/_, _%_, _≤_, _<_}
 use mathlib.Core.Path.{_≡_, refl, sym, ap, _∙_, subst}
 use mathlib.Core.Bool.{Bool, true, false}
-use mathlib.Core.List.{List, _++_}
+use mathlib.Core.List.{List, [], _++_}
 use native.Mathlib.Omega.{arith}
 use native.Mathlib.Nat.{suc-mul, zero-mul, add-comm}
 use borrow.Author.Tests.{ltb-true}
@@ -21,13 +21,13 @@ use Rattle.record.specs.Widths.{tokenWidth, cellWidth}
 use Rattle.machine.specs.Saved.{allUpTo}
 use Rattle.machine.proofs.View.{falseTrue}
 use Rattle.machine.proofs.Taken as Taken
-use Rattle.machine.proofs.Taken.{upTo, taken-exactly}
+use Rattle.machine.proofs.Taken.{upTo}
 use Rattle.rules.specs.Check.{operandsAt}
 use Rattle.rules.specs.Run.{tokenHeld}
 use Rattle.rules.specs.Saved.{stateSaved, machineSaved, tokenAllowed, taken}
 use Rattle.rules.proofs.Passed.{both}
-use Rattle.rules.proofs.Saved.{tests}
-use Rattle.abstraction.specs.Tables.{Arities}
+use Rattle.rules.proofs.Saved.{tests, saved-under}
+use Rattle.abstraction.specs.Tables.{Arities, arraysIn}
 use Rattle.store.specs.Matching.{Matching}
 use Rattle.fire_outputs.specs.Outputs.{CellStore}
 use Rattle.fire.specs.Running.{Arrived, Running}
@@ -74,7 +74,7 @@ module _ (graph ledger cells tables : List ℕ) (firings used : ℕ) (right : Ar
   pub too-many : length ledger / tokenWidth < used → false ≡ taken graph ledger cells firings used
   unfolding stateSaved
   too-many h = by-taken (λ e.
-      let r = Taken.tested (machineSaved graph ledger cells) firings (stateSaved ledger cells used) (tests graph ledger cells firings used e .machine) .room in
+      let r = Taken.tested (machineSaved graph [] ledger cells) firings (stateSaved ledger cells used) (tests graph ledger cells firings used e .machine) .room in
       omega (arith, length-map (tokens used ledger) tokenHeld, length-rows tokenWidth Tokens.decode used ledger))
 
   pub not-taken : (Passes g tables ledger cells firings used → ⊥) → false ≡ taken graph ledger cells firings used
@@ -106,7 +106,7 @@ module _ (graph ledger cells tables : List ℕ) (firings used : ℕ) (right : Ar
         few = few;
         store = store;
         arrived = arrived;
-        good = taken-exactly (machineSaved graph ledger cells) firings (stateSaved ledger cells used) .0 (tests graph ledger cells firings used (sym is-taken) .machine) .good;
+        good = saved-under graph (arraysIn tables) ledger cells firings used (sym is-taken) .good;
       }
 
   -- where the first two passes are through, the third decides

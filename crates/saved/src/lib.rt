@@ -88,7 +88,7 @@ fn wide32(x: u32) -> usize
 }
 
 // Whether a spent token was an operand, and a deferred one names a cell of the store.
-fn content_allowed(tables: &[u16; 512], count: usize, t: Token) -> bool
+fn content_allowed(tables: &[u16; 641], count: usize, t: Token) -> bool
     ensures { λ r. ⌜ r ≡ contentAllowed (now (tables .entry)) count t ⌝ }
 {
     let tag = t.tag;
@@ -101,7 +101,7 @@ fn content_allowed(tables: &[u16; 512], count: usize, t: Token) -> bool
 }
 
 // Whether the port of a token is one of its instruction's. Where operands are waited for, the tables have their number.
-fn port_allowed(graph: &[u8], tables: &[u16; 512], t: Token) -> bool
+fn port_allowed(graph: &[u8], tables: &[u16; 641], t: Token) -> bool
     requires { ⌜ Arities (graphOf (now graph)) (now tables) ⌝ }
     ensures { λ r. ⌜ r ≡ ltb (t .port) (operandsAt (graphOf (now (graph .entry))) (t .tag .instruction)) ⌝ }
 {
@@ -114,7 +114,7 @@ fn port_allowed(graph: &[u8], tables: &[u16; 512], t: Token) -> bool
 }
 
 // Whether fields and state of the record that s starts with are allowed; then its bytes are those of its token.
-fn token_allowed(graph: &[u8], tables: &[u16; 512], s: &[u8]) -> bool
+fn token_allowed(graph: &[u8], tables: &[u16; 641], s: &[u8]) -> bool
     requires { ⌜ (tokenWidth ≤ length (now s)) × Arities (graphOf (now graph)) (now tables) ⌝ }
     ensures { λ r. ⌜ r ≡ tokenAllowed (graphOf (now (graph .entry))) (now (s .entry)) ⌝ }
     ensures { λ r. ⌜ (r ≡ true → (encode (decode (now (s .entry))) ≡ take tokenWidth (now (s .entry))) × TokenFits (decode (now (s .entry)))) ⌝ }
@@ -134,7 +134,7 @@ fn is_nothing(f: Found) -> bool
 // Whether record i can arrive in the matching store of those before it.
 fn arrives(
     graph: &[u8],
-    tables: &[u16; 512],
+    tables: &[u16; 641],
     sites: &[u32; 256],
     links: &[u16; 9216],
     ledger: &[u8],
@@ -184,7 +184,7 @@ fn spent_found(ledger: &[u8], used: usize, f: Found) -> bool
 }
 
 // Whether t is a spent operand of a tag that waits for two.
-fn spent_of_two(tables: &[u16; 512], t: Token) -> bool
+fn spent_of_two(tables: &[u16; 641], t: Token) -> bool
     ensures { λ r. ⌜ ((ledger : List ℕ) (i : ℕ) → t ≡ tokenAt ledger i → r ≡ spentOfTwo (now (tables .entry)) ledger i) ⌝ }
 {
     let tag = t.tag;
@@ -193,7 +193,7 @@ fn spent_of_two(tables: &[u16; 512], t: Token) -> bool
 }
 
 // Whether record i, which is t, is such an operand and the other one came before it, spent too.
-fn closes(tables: &[u16; 512], links: &[u16; 9216], ledger: &[u8], i: usize, t: Token) -> bool
+fn closes(tables: &[u16; 641], links: &[u16; 9216], ledger: &[u8], i: usize, t: Token) -> bool
     requires { ⌜ (t ≡ tokenAt (now ledger) i) × (t .port < 2) × Known (now links) (now ledger) i ⌝ }
     ensures { λ r. ⌜ r ≡ closesAt (now (tables .entry)) (now (ledger .entry)) i ⌝ }
 {
@@ -228,7 +228,7 @@ fn same(a: usize, b: usize) -> bool
 // that are spent, of two, close a pair.
 fn enter(
     graph: &[u8],
-    tables: &[u16; 512],
+    tables: &[u16; 641],
     sites: &[u32; 256],
     links: &mut [u16; 9216],
     flags: &mut [u64; 69],
@@ -314,7 +314,7 @@ fn cells_right(links: &[u16; 9216], cells: &[u8]) -> bool
 // Whether a saved state is taken. If it is, the arrays, which are lent empty, are its matching store, and a run can go on from there.
 pub fn take(
     graph: &[u8],
-    tables: &[u16; 512],
+    tables: &[u16; 641],
     links: &mut [u16; 9216],
     flags: &mut [u64; 69],
     ledger: &[u8],

@@ -71,7 +71,7 @@ module _ (g : List Instruction) {tables links flags ledger′ cells′ : List �
       ∙ ap (λ (l : List ℕ). joined Cells.encode (cellsIn cells′) ++ l) (sym none)
       ∙ sym (ap (λ (cs : List RecordCell.Cell). writtenOver Cells.encode cs cells) (cells-back (cellsIn cells′)))
 
-  pub left : (o : Outcome Refusal) (f : ℕ) → EndedAt (end (machineFor g ledger cells) o f (stateIn ledger′ cells′ n)) (record { outcome = outcomeOf o; firings = f; tokens = n }) ledger cells ledger′ cells′
+  pub left : (o : Outcome Refusal) (f : ℕ) → EndedAt (end (machineFor g tables ledger cells) o f (stateIn ledger′ cells′ n)) (record { outcome = outcomeOf o; firings = f; tokens = n }) ledger cells ledger′ cells′
   left o f = record {
     answered = λ i. record { outcome = outcomeOf o; firings = f; tokens = sym (length-map (tokens n ledger′) tokenHeld ∙ size) i };
     ledgerLeft = ledger-left;

@@ -10,12 +10,14 @@ use lib.Seq.{drop-drop}
 use lib.ListN.{length, take, drop, replicate, length-replicate, length-map, drop-of-length-le}
 use lib.IntN.{ℤ}
 use Rattle.record.specs.declared.tag.Tag.{Tag}
+use Rattle.record.specs.declared.array.NamedArray.{NamedArray}
 use Rattle.record.specs.declared.token.Token as Record
 use Rattle.record.specs.declared.token.Content as RecordContent
 use Rattle.record.specs.declared.token.Content.the-variants.{Live, Spent, Deferred}
 use Rattle.record.specs.declared.cell.Cell.the-variants.{Absent}
 use Rattle.buffer.specs.Rows.{All, rows, allRows, joined}
 use Rattle.record.specs.GraphRecords.{graphOf}
+use Rattle.record.specs.Arrays.{arraysOf}
 use Rattle.record.specs.TokensAndTags.{tokens}
 use Rattle.record.specs.TokensAndTags as Tokens
 use Rattle.record.specs.Cells as Cells
@@ -40,14 +42,14 @@ use Rattle.rules.proofs.Lawful.{lawful}
 use Rattle.checks.proofs.Passed.{GoodInputs, passed-inputs, passed-input, passed-check, passed-stores}
 use Rattle.fire_effect.proofs.Arrives.{arrives-port}
 use Rattle.abstraction.specs.States.{cellHeld}
-use Rattle.abstraction.specs.Tables.{Arities, Returns}
+use Rattle.abstraction.specs.Tables.{arraysIn, TablesOf}
 use Rattle.abstraction.proofs.Keys.{alone-free}
 use Rattle.fire_outputs.specs.Outputs.{cellsIn, CellStore}
 use Rattle.fire_outputs.proofs.Laws.{rest-on}
 use Rattle.load.specs.Loaded.{Proper, Alone, Loaded}
 use Rattle.load.proofs.Laws.{zeros-joined, absent-fit, zeros-cells}
 use Rattle.fire.specs.Running.{stateIn, Arrived, Running}
-use Rattle.start.specs.Begun.{Accepted, Begun}
+use Rattle.start.specs.Begun.{machineLent, Accepted, Begun}
 use Rattle.start.specs.Ended.{EndedAt}
 
 -- ---- the inputs
@@ -75,7 +77,7 @@ module _ (graph inputs : List ℕ) (capacity count : ℕ) (accepted : checkInput
   inputs-arrive = rows-all (λ (t : Record.Token). t .port < operandsAt (graphOf graph) (t .tag .instruction)) (length inputs / tokenWidth) inputs
       (λ i h. passed-input (graphOf graph) (drop (i * tokenWidth) inputs) (inputs-good .good i h) .port)
 
-  low-cells : (ts : List Record.Token) → Orders.AllLive (machineOf (graphOf graph) capacity count) (map tokenHeld ts) → All (λ (t : Record.Token). LowCell (t .content)) ts
+  low-cells : (ts : List Record.Token) → Orders.AllLive (machineOf (graphOf graph) [] capacity count) (map tokenHeld ts) → All (λ (t : Record.Token). LowCell (t .content)) ts
   low-cells [] a = tt
   low-cells (t ∷ ts) a = (low-live (t .content) (a .0), low-cells ts (a .1))
 
@@ -85,7 +87,7 @@ module _ (graph inputs : List ℕ) (capacity count : ℕ) (accepted : checkInput
 
   pub inputs-proper : All Proper (allRows tokenWidth Tokens.decode inputs)
   unfolding firstState
-  inputs-proper = both-all (allRows tokenWidth Tokens.decode inputs) inputs-arrive (low-cells (allRows tokenWidth Tokens.decode inputs) (start (graphOf graph) capacity count inputs accepted .allLive))
+  inputs-proper = both-all (allRows tokenWidth Tokens.decode inputs) inputs-arrive (low-cells (allRows tokenWidth Tokens.decode inputs) (start (graphOf graph) [] capacity count inputs accepted .allLive))
 
   pub inputs-alone : Alone inputs
   inputs-alone i h = alone-free (take i (allRows tokenWidth Tokens.decode inputs)) (Tokens.tokenAt inputs i) (inputs-good .alone i h)
@@ -113,18 +115,18 @@ zeros-store l n e h =
       few = omega (arith, ap length e, length-replicate {A = ℕ} (n * cellWidth) 0);
     }
 
-module _ (graph inputs ledger cells : List ℕ) (accepted : Accepted graph inputs (length ledger) (length cells)) where
+module _ (graph arrays inputs ledger cells : List ℕ) (accepted : Accepted graph arrays inputs (length ledger) (length cells)) where
   abbrev M : Machine
-  M = machineOf (graphOf graph) (length ledger / tokenWidth) (length cells / cellWidth)
+  M = machineLent graph arrays ledger cells
 
   bytes : length cells ≡ (length cells / cellWidth) * cellWidth
   bytes = omega (arith, accepted .cellRecords)
 
   pub good-start : Good M (firstState inputs (length cells / cellWidth))
-  good-start = startGood M (firstState inputs (length cells / cellWidth)) (start (graphOf graph) (length ledger / tokenWidth) (length cells / cellWidth) inputs (accepted .inputsPassed))
+  good-start = startGood M (firstState inputs (length cells / cellWidth)) (start (graphOf graph) (arraysOf arrays) (length ledger / tokenWidth) (length cells / cellWidth) inputs (accepted .inputsPassed))
 
   module _ {tables links flags ledger₁ cells₁ : List ℕ} {used : ℕ} (a : Loaded tables links flags ledger ledger₁ inputs used)
-      (cleared : cells₁ ≡ replicate (length cells) 0) (right : Arities (graphOf graph) tables × Returns (graphOf graph) tables) where
+      (cleared : cells₁ ≡ replicate (length cells) 0) (right : TablesOf graph arrays tables) where
     zeros : cells₁ ≡ replicate ((length cells / cellWidth) * cellWidth) 0
     zeros = cleared ∙ ap (λ (n : ℕ). replicate n 0) bytes
 
@@ -142,14 +144,16 @@ module _ (graph inputs ledger cells : List ℕ) (accepted : Accepted graph input
       store = zeros-store cells₁ (length cells / cellWidth) zeros (omega (arith, accepted .cellRecords));
       arrived = subst (Arrived (graphOf graph)) (sym (a .taken)) (inputs-arrive graph inputs (length ledger / tokenWidth) (length cells / cellWidth) (accepted .inputsPassed));
       good =
-          subst (λ (n : ℕ). Good (machineOf (graphOf graph) (n / tokenWidth) (length cells₁ / cellWidth)) (stateIn ledger₁ cells₁ used)) (sym (a .size))
-          (subst (λ (n : ℕ). Good (machineOf (graphOf graph) (length ledger / tokenWidth) (n / cellWidth)) (stateIn ledger₁ cells₁ used)) (sym cell-size)
-          (subst (λ (x : State Tag ℤ). Good M x) (sym same-state) good-start));
+          subst (λ (n : ℕ). Good (machineOf (graphOf graph) (arraysIn tables) (n / tokenWidth) (length cells₁ / cellWidth)) (stateIn ledger₁ cells₁ used)) (sym (a .size))
+          (subst (λ (n : ℕ). Good (machineOf (graphOf graph) (arraysIn tables) (length ledger / tokenWidth) (n / cellWidth)) (stateIn ledger₁ cells₁ used)) (sym cell-size)
+          (subst (λ (t : List NamedArray). Good (machineOf (graphOf graph) t (length ledger / tokenWidth) (length cells / cellWidth)) (stateIn ledger₁ cells₁ used)) (sym (right .named))
+          (subst (λ (x : State Tag ℤ). Good M x) (sym same-state) good-start)));
     }
 
-    pub begun : Begun graph inputs tables links flags ledger ledger₁ cells cells₁ used
+    pub begun : Begun graph arrays inputs tables links flags ledger ledger₁ cells cells₁ used
     begun = record {
-      prepared = record { passed = accepted .graphPassed; returnsRight = right .1; aritiesRight = right .0 };
+      prepared = record { passed = accepted .graphPassed; returnsRight = right .returns; aritiesRight = right .arities };
+      named = right .named;
       running = started;
       state = same-state;
       size = a .size;
@@ -158,27 +162,27 @@ module _ (graph inputs ledger cells : List ℕ) (accepted : Accepted graph input
     }
 
 -- a run's check says so
-pub accepted-by : (graph inputs picks : List ℕ) (ledger cells : ℕ) → check graph inputs picks ledger cells ≡ Passed → Accepted graph inputs ledger cells
-accepted-by graph inputs picks ledger cells e =
-    let parts = passed-check graph inputs picks ledger cells e in
+pub accepted-by : (graph arrays inputs picks : List ℕ) (ledger cells : ℕ) → check graph arrays inputs picks ledger cells ≡ Passed → Accepted graph arrays inputs ledger cells
+accepted-by graph arrays inputs picks ledger cells e =
+    let parts = passed-check graph arrays inputs picks ledger cells e in
     let stores = passed-stores (length inputs) (length picks) ledger cells (parts .1) in
-    record { graphPassed = parts .0; inputsPassed = parts .2; few = stores .tokenRecords .1; cellRecords = stores .cellRecords }
+    record { graphPassed = parts .0; fewArrays = parts .3; inputsPassed = parts .2; few = stores .tokenRecords .1; cellRecords = stores .cellRecords }
 
 -- ---- the end
 
 -- the machine's end from the state that `begin` left is the end from 01's first state, and what it leaves is said of the buffers as lent
-module _ (graph inputs ledger cells : List ℕ) (accepted : Accepted graph inputs (length ledger) (length cells))
-    {tables links flags ledger₁ cells₁ : List ℕ} {used : ℕ} (b : Begun graph inputs tables links flags ledger ledger₁ cells cells₁ used) where
+module _ (graph arrays inputs ledger cells : List ℕ) (accepted : Accepted graph arrays inputs (length ledger) (length cells))
+    {tables links flags ledger₁ cells₁ : List ℕ} {used : ℕ} (b : Begun graph arrays inputs tables links flags ledger ledger₁ cells cells₁ used) where
   abbrev N : Machine
-  N = machineOf (graphOf graph) (length ledger / tokenWidth) (length cells / cellWidth)
+  N = machineLent graph arrays ledger cells
 
   abbrev s₀ : State Tag ℤ
   s₀ = firstState inputs (length cells / cellWidth)
 
   -- whatever is made of a machine and of a state
-  pub from-start : {A : Type 0} (f : (capacity count : ℕ) → State Tag ℤ → A)
-      → f (length ledger₁ / tokenWidth) (length cells₁ / cellWidth) (stateIn ledger₁ cells₁ used) ≡ f (length ledger / tokenWidth) (length cells / cellWidth) s₀
-  from-start f = λ i. f (b .size i / tokenWidth) (b .cellSize i / cellWidth) (b .state i)
+  pub from-start : {A : Type 0} (f : List NamedArray → (capacity count : ℕ) → State Tag ℤ → A)
+      → f (arraysIn tables) (length ledger₁ / tokenWidth) (length cells₁ / cellWidth) (stateIn ledger₁ cells₁ used) ≡ f (arraysOf arrays) (length ledger / tokenWidth) (length cells / cellWidth) s₀
+  from-start f = λ i. f (b .named i) (b .size i / tokenWidth) (b .cellSize i / cellWidth) (b .state i)
 
   module _ (e : End Refusal Tag ℤ) (τs : List Tag) (fires : Fires N s₀ τs (e .state)) where
     reached : (sent : ℕ) × Reached N s₀ (length τs) sent (e .state)
@@ -187,18 +191,18 @@ module _ (graph inputs ledger cells : List ℕ) (accepted : Accepted graph input
     token-count : used ≤ length (e .state .tokens)
     unfolding firstState
     token-count =
-        let n = reached-count N (lawful graph (accepted .graphPassed) (length ledger / tokenWidth) (length cells / cellWidth)) s₀ (good-start graph inputs ledger cells accepted) (length τs) (reached .0) (e .state) (reached .1) in
+        let n = reached-count N (lawful graph (accepted .graphPassed) (arraysOf arrays) (length ledger / tokenWidth) (length cells / cellWidth)) s₀ (good-start graph arrays inputs ledger cells accepted) (length τs) (reached .0) (e .state) (reached .1) in
         omega (arith, n, ap (λ (x : State Tag ℤ). length (x .tokens)) (b .state), length-map (tokens used ledger₁) tokenHeld, length-rows tokenWidth Tokens.decode used ledger₁)
 
     cell-count : length (e .state .cells) ≡ length cells / cellWidth
-    cell-count = reached-good N (lawful graph (accepted .graphPassed) (length ledger / tokenWidth) (length cells / cellWidth)) s₀ (good-start graph inputs ledger cells accepted) (length τs) (reached .0) (e .state) (reached .1) .cellCount
+    cell-count = reached-good N (lawful graph (accepted .graphPassed) (arraysOf arrays) (length ledger / tokenWidth) (length cells / cellWidth)) s₀ (good-start graph arrays inputs ledger cells accepted) (length τs) (reached .0) (e .state) (reached .1) .cellCount
 
     pub as-lent : (r : Answer) (ledger′ cells′ : List ℕ) → EndedAt e r ledger₁ cells₁ ledger′ cells′ → EndedAt e r ledger cells ledger′ cells′
     as-lent r ledger′ cells′ h =
         let ts = map tokenRecord (e .state .tokens) in
         let cs = map cellRecord (e .state .cells) in
         let tokenBytes : length (joined Tokens.encode ts) ≡ length (e .state .tokens) * tokenWidth = length-joined tokenWidth Tokens.encode length-token ts ∙ ap (λ (n : ℕ). n * tokenWidth) (length-map (e .state .tokens) tokenRecord) in
-        let cellBytes : length (joined Cells.encode cs) ≡ length cells = length-joined cellWidth Cells.encode length-cell cs ∙ ap (λ (n : ℕ). n * cellWidth) (length-map (e .state .cells) cellRecord ∙ cell-count) ∙ sym (bytes graph inputs ledger cells accepted) in
+        let cellBytes : length (joined Cells.encode cs) ≡ length cells = length-joined cellWidth Cells.encode length-cell cs ∙ ap (λ (n : ℕ). n * cellWidth) (length-map (e .state .cells) cellRecord ∙ cell-count) ∙ sym (bytes graph arrays inputs ledger cells accepted) in
         let rest : drop (length (joined Tokens.encode ts)) ledger₁ ≡ drop (length (joined Tokens.encode ts)) ledger =
         ap (λ (n : ℕ). drop n ledger₁) tokenBytes ∙ rest-on ledger₁ ledger used (length (e .state .tokens)) token-count (b .rest) ∙ sym (ap (λ (n : ℕ). drop n ledger) tokenBytes) in
         let short₁ : length cells₁ ≤ length (joined Cells.encode cs) = omega (arith, cellBytes, b .cellSize) in

@@ -45,7 +45,7 @@ pub fn enabled_at(flags: &[u64; 69], k: usize) -> usize
 
 // The place of the activity of a tag, if it is enabled.
 pub fn enabled_by_tag(
-    tables: &[u16; 512],
+    tables: &[u16; 641],
     links: &[u16; 9216],
     ledger: &[u8],
     used: usize,
@@ -59,7 +59,7 @@ pub fn enabled_by_tag(
 
 // A token arrives where none stands: it becomes record `used`.
 pub fn arrive(
-    tables: &[u16; 512],
+    tables: &[u16; 641],
     links: &mut [u16; 9216],
     flags: &mut [u64; 69],
     ledger: &mut [u8],
@@ -76,7 +76,7 @@ pub fn arrive(
 
 // The token that stands in record `used` already arrives, and nothing is written.
 pub fn enter(
-    tables: &[u16; 512],
+    tables: &[u16; 641],
     links: &mut [u16; 9216],
     flags: &mut [u64; 69],
     ledger: &[u8],
@@ -130,7 +130,7 @@ fn woken(t: Token, cell: u32, v: i32) -> Token
 
 // Every token that is deferred on a cell becomes live, with the cell's value. The cost is that of the tokens woken.
 pub fn wake(
-    tables: &[u16; 512],
+    tables: &[u16; 641],
     links: &mut [u16; 9216],
     flags: &mut [u64; 69],
     ledger: &mut [u8],

@@ -37,9 +37,9 @@ leaveEntry = 3
 unfoldable pub waitedFor : (entry : ℕ) → Tag → ℕ
 waitedFor entry tag = cond (eqb entry leaveEntry) (cond (isRoot (tag .path)) 0 1) entry
 
--- the entries stand in the second half of a graph's tables
+-- the entries stand last in the tables of a run, one for each instruction
 abbrev pub arityOf : (tables : List ℕ) → Tag → ℕ
-arityOf tables tag = waitedFor (getD tables (tag .instruction + 256) 0) tag
+arityOf tables tag = waitedFor (getD tables (tag .instruction + 385) 0) tag
 
 abbrev pub isEnabled : (tables : List ℕ) → List Token → Tag → Bool
 isEnabled tables ts tag = allLive (arityOf tables tag) ts tag

@@ -135,11 +135,11 @@ fn waited_for(entry: u16, tag: Tag) -> u16
     if path.is_root() { 0 } else { 1 }
 }
 
-// The same by the tables of a graph, whose second half has the entries.
+// The same by the tables of a run, whose last part has the entries.
 pub fn arity(tables: &[u16], tag: Tag) -> u16
     ensures { λ r. ⌜ r ≡ arityOf (now (tables .entry)) tag ⌝ }
 {
-    let i = (tag.instruction as usize) + 256;
+    let i = (tag.instruction as usize) + 385;
     if i < tables.len() {
         waited_for(tables[i], tag)
     } else {
@@ -149,7 +149,7 @@ pub fn arity(tables: &[u16], tag: Tag) -> u16
 
 // The place of the activity of a tag, if it is enabled: its operands are found by their ports.
 pub fn enabled_by_tag(
-    tables: &[u16; 512],
+    tables: &[u16; 641],
     links: &[u16; 9216],
     ledger: &[u8],
     used: usize,
@@ -169,7 +169,7 @@ pub fn enabled_by_tag(
 
 // Adds t after the used records, where none stands on its port of its tag. A flag that was raised stays.
 pub fn append(
-    tables: &[u16; 512],
+    tables: &[u16; 641],
     links: &mut [u16; 9216],
     flags: &mut [u64; 69],
     ledger: &mut [u8],
@@ -192,7 +192,7 @@ pub fn append(
 // Enters the token t that stands in record `used` already, where none before it stands on its port of its tag. One that is not live
 // enables nothing. `settle_arrived` is not called: a second caller would cost each arrival of a run a call.
 pub fn enter(
-    tables: &[u16; 512],
+    tables: &[u16; 641],
     links: &mut [u16; 9216],
     flags: &mut [u64; 69],
     ledger: &[u8],
@@ -217,7 +217,7 @@ pub fn enter(
 
 // Puts t, of the same tag and port, in the place of token i. What was live stays so, and so does a flag that was raised.
 pub fn change(
-    tables: &[u16; 512],
+    tables: &[u16; 641],
     links: &[u16; 9216],
     flags: &mut [u64; 69],
     ledger: &mut [u8],

@@ -1,9 +1,10 @@
-// Prints what a run of the files `graph`, `inputs` and `picks` leaves (01, "The printed listing"), or says
-// on standard error why it cannot. The files are those of the folder that the first argument names, or
+// Prints what a run of the files `graph`, `arrays`, `inputs` and `picks` leaves (01, "The printed
+// listing"), or says on standard error why it cannot. The files are those of the folder that the first argument names, or
 // of the current one.
 use libc::ENAMETOOLONG;
 use libc::ENOENT;
 use libc::STDOUT_FILENO;
+use record::array;
 use record::instruction;
 use record::pick;
 use record::token;
@@ -67,9 +68,9 @@ fn folder_in(buf: &mut [u8]) -> isize {
     n as isize
 }
 
-// Prints the run of a graph, inputs and picks or, where it cannot, a line on standard error.
-fn show(graph: &[u8], inputs: &[u8], picks: &[u8], out: &mut [u8]) {
-    match printing::print_run(graph, inputs, picks, out) {
+// Prints the run of what the files hold or, where it cannot, a line on standard error.
+fn show(graph: &[u8], arrays: &[u8], inputs: &[u8], picks: &[u8], out: &mut [u8]) {
+    match printing::print_run(graph, arrays, inputs, picks, out) {
         Printed::Done(n) => {
             if !io::write_all(STDOUT_FILENO, &out[..n]) {
                 os::fail(b"write");
@@ -81,26 +82,35 @@ fn show(graph: &[u8], inputs: &[u8], picks: &[u8], out: &mut [u8]) {
     }
 }
 
-// Reads the three files of the folder whose name is the first n bytes of path, and shows their run.
+// Reads the four files of the folder whose name is the first n bytes of path, and shows their run.
 fn show_folder(path: &mut [u8], n: usize)
     requires { ⌜ (length (now path) ≡ 4096) × (n ≤ 4000) ⌝ }
 {
     // Each a record longer than the longest that a run accepts.
     let mut graph = [0u8; 257 * instruction::WIDTH];
+    let mut arrays = [0u8; 65 * array::WIDTH];
     let mut inputs = [0u8; 2049 * token::WIDTH];
     let mut picks = [0u8; 2049 * pick::WIDTH];
     let g = read_in(path, n, b"graph", &mut graph);
+    let a = read_in(path, n, b"arrays", &mut arrays);
     let i = read_in(path, n, b"inputs", &mut inputs);
     let p = read_in(path, n, b"picks", &mut picks);
-    if g < 0 || i < 0 || p < 0 {
+    if g < 0 || a < 0 || i < 0 || p < 0 {
         return;
     }
     let g = io::count(g, &graph);
+    let a = io::count(a, &arrays);
     let i = io::count(i, &inputs);
     let p = io::count(p, &picks);
     // Room for every text (`EveryTextFits` of the crate printing).
     let mut out = [0u8; 200778];
-    show(&graph[..g], &inputs[..i], &picks[..p], &mut out);
+    show(
+        &graph[..g],
+        &arrays[..a],
+        &inputs[..i],
+        &picks[..p],
+        &mut out,
+    );
 }
 
 fn main() {

@@ -13,13 +13,14 @@
 //! - `procedures`: a LEAVE under path 0 is a result (02, R-5);
 //! - `sites`: every LEAVE in an entered path has its caller (02, R-6);
 //! - `levels`: calls nest eight levels deep (02, R-8);
-//! - `profiles`, `logs`, `bounds`, `expressions`, `saved`: profiles in ideal steps (02,
-//!   R-1), logs and replays, bounds, expressions and saved states
-//!   which the tests of these names call through the C functions, apart from the
-//!   program;
+//! - `profiles`, `logs`, `bounds`, `arrays`, `expressions`, `saved`: profiles in ideal
+//!   steps (02, R-1), logs and replays, bounds, named arrays,
+//!   expressions and saved states, which the tests of these names call
+//!   through the C functions, apart from the program;
 //! - `apart`: which cases tell the wrong emulators of 01 and 02 from a right one.
 
 pub mod apart;
+pub mod arrays;
 pub mod bounds;
 pub mod expressions;
 mod hung;
@@ -36,7 +37,7 @@ pub mod saved;
 mod sites;
 
 use lent::{Lent, Part, TOKEN_RECORD};
-use second::Answer;
+use second::{Answer, Program, Schedule};
 
 /// A case: its name, what is lent, and the first line of what the run prints.
 pub struct Case {
@@ -83,10 +84,9 @@ pub fn run(lent: &Lent) -> Left {
     let mut ledger = lent.ledger.bytes();
     let mut cells = lent.cells.bytes();
     let answer = second::run(
-        &lent.graph.bytes(),
+        Program::plain(&lent.graph.bytes()),
         &lent.inputs.bytes(),
-        &lent.picks.bytes(),
-        lent.budget,
+        Schedule::new(&lent.picks.bytes(), lent.budget),
         &mut ledger,
         &mut cells,
     );

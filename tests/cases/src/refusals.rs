@@ -13,6 +13,7 @@ pub fn cases() -> Vec<Case> {
     cases.extend(bad_site());
     cases.extend(bad_input());
     cases.extend(bad_store());
+    cases.extend(bad_array());
     cases.extend(ledger_full());
     cases.extend(second_token());
     cases.extend(cell_refusals());
@@ -146,7 +147,7 @@ fn unused_fields() -> Vec<Case> {
         ));
     }
     let two = [(2, 0), (2, 0)];
-    for code in [COPY, SWITCH, GATE, NEXT, FETCH, STORE, ADD, EQ] {
+    for code in [COPY, SWITCH, GATE, NEXT, ADD, EQ] {
         let graph = plain_with(0, with(code, 256, &two));
         cases.push(case(
             format!("3 a constant at code {code}"),
@@ -161,6 +162,22 @@ fn unused_fields() -> Vec<Case> {
             of(&graph),
             at_once(3, 2),
         ));
+    }
+    cases
+}
+
+/// Without a table of named arrays no constant of FETCH and STORE names one (02, R-10).
+fn bad_array() -> Vec<Case> {
+    let mut cases = Vec::new();
+    for code in [FETCH, STORE] {
+        for constant in [1, 256, -1, i32::MIN] {
+            let graph = plain_with(3, with(code, constant, &[(1, 1)]));
+            cases.push(case(
+                format!("22 constant {constant} at code {code}"),
+                of(&graph),
+                at_once(22, 3),
+            ));
+        }
     }
     cases
 }

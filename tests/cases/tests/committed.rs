@@ -4,6 +4,8 @@ use std::collections::HashSet;
 use std::fs;
 use std::path::PathBuf;
 
+use second::{Program, Schedule};
+
 fn committed(name: &str) -> Vec<u8> {
     let folder = PathBuf::from(env!("CARGO_MANIFEST_DIR")).join("../../crates/engine_main");
     fs::read(folder.join(name)).expect("engine_main has its input and output")
@@ -67,6 +69,8 @@ fn every_refusal_is_reached_at_once_or_in_a_firing() {
         let fires = number >= 8 && number != 15 && number != 16;
         assert_eq!(firing(number), fires, "{number} in a firing");
     }
+    // Without a table every constant of FETCH and STORE is refused.
+    assert!(at_once(22) && !firing(22));
 }
 
 /// The engine through its C function; the program is another build of it.
@@ -77,10 +81,9 @@ fn the_committed_output_is_that_of_the_library() {
         let (mut ledger, mut cells) = (lent.ledger.bytes(), lent.cells.bytes());
         let (graph, inputs, picks) = (lent.graph.bytes(), lent.inputs.bytes(), lent.picks.bytes());
         let answer = engine::run(
-            &graph,
+            Program::plain(&graph),
             &inputs,
-            &picks,
-            lent.budget,
+            Schedule::new(&picks, lent.budget),
             &mut ledger,
             &mut cells,
         );

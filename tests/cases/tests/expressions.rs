@@ -2,7 +2,7 @@
 
 use cases::expressions::{cases, ExpressionCase};
 use cases::lent::{garbage, GRAPH_RECORD, TOKEN_RECORD};
-use second::Refusal;
+use second::{Program, Refusal, Schedule};
 
 fn values(case: &ExpressionCase) -> Vec<u8> {
     case.values.iter().flat_map(|v| v.to_le_bytes()).collect()
@@ -64,10 +64,12 @@ fn out_receives_the_value_or_the_run_is_refused_by_12() {
         let graph = &graph[..graph.len() / GRAPH_RECORD * GRAPH_RECORD];
         let fed = |(variable, &value)| layout::input(variable as u16, 0, value);
         let inputs: Vec<u8> = case.values.iter().enumerate().flat_map(fed).collect();
-        let newest = second::picks_newest_first(graph, &inputs, 300, 0);
+        let program = Program::plain(graph);
+        let newest = second::picks_newest_first(program, &inputs, 300, 0);
         for picks in [Vec::new(), newest] {
             let mut ledger = garbage(300 * TOKEN_RECORD);
-            let answer = engine::run(graph, &inputs, &picks, 2048, &mut ledger, &mut []);
+            let schedule = Schedule::new(&picks, 2048);
+            let answer = engine::run(program, &inputs, schedule, &mut ledger, &mut []);
             let (word, _, tokens, _) = engine::unpacked(answer);
             let last = &ledger[TOKEN_RECORD * (tokens as usize - 1)..];
             match case.value {

@@ -3,7 +3,7 @@
 use cases::lent::{garbage, Lent, Part};
 use cases::line_of;
 use cases::logs::{logged_cases, replay_cases, LoggedCase};
-use second::{Answer, Outcome};
+use second::{Answer, Outcome, Program, Schedule};
 
 /// The ledger and the cells as they are lent.
 fn stores(lent: &Lent) -> [Vec<u8>; 2] {
@@ -11,19 +11,19 @@ fn stores(lent: &Lent) -> [Vec<u8>; 2] {
 }
 
 /// A replay by either emulator, and its answer.
-type Replay<A> = fn(&[u8], &[u8], &[u8], &mut [u8], &mut [u8]) -> A;
+type Replay<A> = fn(Program, &[u8], &[u8], &mut [u8], &mut [u8]) -> A;
 
 /// The answer with ledger and cells.
 fn replayed<A>(lent: &Lent, log: &[u8], replay: Replay<A>) -> (A, [Vec<u8>; 2]) {
     let mut left = stores(lent);
     let [ledger, cells] = &mut left;
     let (graph, inputs) = (lent.graph.bytes(), lent.inputs.bytes());
-    let answer = replay(&graph, &inputs, log, ledger, cells);
+    let answer = replay(Program::plain(&graph), &inputs, log, ledger, cells);
     (answer, left)
 }
 
 /// A run with a log by either emulator, and its answer.
-type RunLogged<A> = fn(&[u8], &[u8], &[u8], u16, &mut [u8], &mut [u8], &mut [u8]) -> A;
+type RunLogged<A> = fn(Program, &[u8], Schedule, &mut [u8], &mut [u8], &mut [u8]) -> A;
 
 /// The answer with ledger and cells, and the log.
 fn logged<A>(case: &LoggedCase, run: RunLogged<A>) -> (A, [Vec<u8>; 2], Vec<u8>) {
@@ -32,8 +32,8 @@ fn logged<A>(case: &LoggedCase, run: RunLogged<A>) -> (A, [Vec<u8>; 2], Vec<u8>)
     let mut log = garbage(case.bytes);
     let [ledger, cells] = &mut left;
     let (graph, inputs, picks) = (lent.graph.bytes(), lent.inputs.bytes(), lent.picks.bytes());
-    let budget = lent.budget;
-    let answer = run(&graph, &inputs, &picks, budget, ledger, cells, &mut log);
+    let (program, schedule) = (Program::plain(&graph), Schedule::new(&picks, lent.budget));
+    let answer = run(program, &inputs, schedule, ledger, cells, &mut log);
     (answer, left, log)
 }
 

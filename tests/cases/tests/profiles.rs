@@ -3,7 +3,7 @@
 use cases::lent::{garbage, Part};
 use cases::line_of;
 use cases::profiles::{cases, ProfileCase};
-use second::Profiled;
+use second::{Profiled, Program};
 
 /// The buffers that a profile is lent: ledger, cells and profile.
 fn buffers(case: &ProfileCase) -> [Vec<u8>; 3] {
@@ -15,7 +15,7 @@ fn second_profile(case: &ProfileCase) -> (Profiled, [Vec<u8>; 3]) {
     let mut left = buffers(case);
     let [ledger, cells, profile] = &mut left;
     let (graph, inputs) = (case.lent.graph.bytes(), case.lent.inputs.bytes());
-    let profiled = second::profile(&graph, &inputs, ledger, cells, profile);
+    let profiled = second::profile(Program::plain(&graph), &inputs, ledger, cells, profile);
     (profiled, left)
 }
 
@@ -47,7 +47,8 @@ fn the_engine_leaves_what_the_second_emulator_leaves() {
         let mut left = buffers(&case);
         let [ledger, cells, profile] = &mut left;
         let (graph, inputs) = (case.lent.graph.bytes(), case.lent.inputs.bytes());
-        let (answer, records) = engine::profile(&graph, &inputs, ledger, cells, profile);
+        let program = Program::plain(&graph);
+        let (answer, records) = engine::profile(program, &inputs, ledger, cells, profile);
         let due_answer = engine::packed_answer(&profiled.answer);
         assert_eq!(answer, due_answer, "{}", case.name);
         assert_eq!(records, profiled.records as u64, "{}", case.name);

@@ -2,17 +2,18 @@
 
 use cases::line_of;
 use cases::saved::{cases, cut_cases, CutCase, Saved};
-use second::{Answer, Counts, Outcome};
+use second::{Answer, Counts, Outcome, Program, Schedule};
 
 /// A run from a saved state by either emulator, and its answer.
-type CarryOn<A> = fn(&[u8], &[u8], u16, Counts, &mut [u8], &mut [u8]) -> A;
+type CarryOn<A> = fn(Program, Schedule, Counts, &mut [u8], &mut [u8]) -> A;
 
 /// The answer, and ledger and cells.
 fn carried<A>(saved: &Saved, carry_on: CarryOn<A>) -> (A, [Vec<u8>; 2]) {
     let mut left = [saved.ledger.clone(), saved.cells.clone()];
     let [ledger, cells] = &mut left;
-    let (graph, picks) = (&saved.graph, &saved.picks);
-    let answer = carry_on(graph, picks, saved.budget, saved.counts, ledger, cells);
+    let program = Program::plain(&saved.graph);
+    let schedule = Schedule::new(&saved.picks, saved.budget);
+    let answer = carry_on(program, schedule, saved.counts, ledger, cells);
     (answer, left)
 }
 

@@ -1,7 +1,7 @@
 //! The engine under test, and what the second emulator expects of it. Answers stay packed as the C functions give them,
 //! so that a comparison sees every bit.
 
-use second::{Bounds, Counts, Outcome, Refusal};
+use second::{Bounds, Counts, Outcome, Program, Refusal, Schedule};
 use ttda::{Answer, Printed, Word};
 
 /// The word of a completed run in a packed answer; a refused run has the refusal's number.
@@ -17,7 +17,7 @@ pub const NO_ANSWER: u64 = Printed::NO_ANSWER.0;
 
 /// Whether a word is the number of a refusal. Numbers 15 and 16 have left the table.
 pub fn is_refusal(word: u64) -> bool {
-    matches!(word, 1..=14 | 17..=20 | 24..=26)
+    matches!(word, 1..=14 | 17..=20 | 22 | 24..=26)
 }
 
 /// The packed answer of a word with its firings, tokens and place.
@@ -68,40 +68,34 @@ pub fn unpacked(answer: u64) -> (u64, u64, u64, u64) {
 
 /// Runs the engine.
 pub fn run(
-    graph: &[u8],
+    program: Program,
     inputs: &[u8],
-    picks: &[u8],
-    budget: u16,
+    schedule: Schedule,
     ledger: &mut [u8],
     cells: &mut [u8],
 ) -> u64 {
-    ttda::run(graph, inputs, picks, budget, ledger, cells).0
+    let Program { graph, arrays } = program;
+    let Schedule { picks, budget } = schedule;
+    ttda::run(graph, arrays, inputs, picks, budget, ledger, cells).0
 }
 
 /// Goes on from the state that ledger and cells hold.
 pub fn carry_on(
-    graph: &[u8],
-    picks: &[u8],
-    budget: u16,
+    program: Program,
+    schedule: Schedule,
     saved: Counts,
     ledger: &mut [u8],
     cells: &mut [u8],
 ) -> u64 {
-    ttda::carry_on(
-        graph,
-        picks,
-        budget,
-        saved.firings,
-        saved.tokens,
-        ledger,
-        cells,
-    )
-    .0
+    let Program { graph, arrays } = program;
+    let Schedule { picks, budget } = schedule;
+    let Counts { firings, tokens } = saved;
+    ttda::carry_on(graph, arrays, picks, budget, firings, tokens, ledger, cells).0
 }
 
 /// The engine's profile in ideal steps; the answer and the number of records.
 pub fn profile(
-    graph: &[u8],
+    program: Program,
     inputs: &[u8],
     ledger: &mut [u8],
     cells: &mut [u8],
@@ -109,26 +103,35 @@ pub fn profile(
 ) -> (u64, u64) {
     // A number that no profile has, so that one left unwritten shows.
     let mut records = u64::MAX;
-    let answer = ttda::profile(graph, inputs, ledger, cells, profile, &mut records);
+    let Program { graph, arrays } = program;
+    let answer = ttda::profile(graph, arrays, inputs, ledger, cells, profile, &mut records);
     (answer.0, records)
 }
 
 /// Runs the engine and writes the log of its firings.
 pub fn run_logged(
-    graph: &[u8],
+    program: Program,
     inputs: &[u8],
-    picks: &[u8],
-    budget: u16,
+    schedule: Schedule,
     ledger: &mut [u8],
     cells: &mut [u8],
     log: &mut [u8],
 ) -> u64 {
-    ttda::run_logged(graph, inputs, picks, budget, ledger, cells, log).0
+    let Program { graph, arrays } = program;
+    let Schedule { picks, budget } = schedule;
+    ttda::run_logged(graph, arrays, inputs, picks, budget, ledger, cells, log).0
 }
 
 /// Fires what a log names.
-pub fn replay(graph: &[u8], inputs: &[u8], log: &[u8], ledger: &mut [u8], cells: &mut [u8]) -> u64 {
-    ttda::replay(graph, inputs, log, ledger, cells).0
+pub fn replay(
+    program: Program,
+    inputs: &[u8],
+    log: &[u8],
+    ledger: &mut [u8],
+    cells: &mut [u8],
+) -> u64 {
+    let Program { graph, arrays } = program;
+    ttda::replay(graph, arrays, inputs, log, ledger, cells).0
 }
 
 /// The engine's bounds of a graph: word 0 or a refusal, most firings, most tokens, place.
@@ -154,6 +157,38 @@ pub fn convert(old: &[u8], out: &mut [u8]) -> u64 {
 /// The same of log records, 12 bytes made 20.
 pub fn convert_log(old: &[u8], out: &mut [u8]) -> u64 {
     ttda::convert_log(old, out).0
+}
+
+/// A run as a cache knows it: what is lent, ledger and cells by their lengths in bytes.
+#[derive(Clone, Copy)]
+pub struct Request<'a> {
+    pub program: Program<'a>,
+    pub inputs: &'a [u8],
+    pub schedule: Schedule<'a>,
+    pub ledger: usize,
+    pub cells: usize,
+}
+
+/// Whether what was kept of a run with its packed answer serves for a run that is asked for: 1 or 0.
+pub fn serves(kept: &Request, kept_answer: u64, asked: &Request) -> u64 {
+    ttda::serves(
+        kept.program.graph,
+        kept.program.arrays,
+        kept.inputs,
+        kept.schedule.picks,
+        asked.program.graph,
+        asked.program.arrays,
+        asked.inputs,
+        asked.schedule.picks,
+        kept.schedule.budget,
+        asked.schedule.budget,
+        kept.ledger,
+        asked.ledger,
+        kept.cells,
+        asked.cells,
+        Answer(kept_answer),
+    )
+    .0
 }
 
 /// Sorts the used records of a ledger into `out`; answers 0 or 7.

@@ -84,8 +84,8 @@ fn second_profile(files: &Files) -> Profile {
     let mut ledger = vec![0; asm::TOKEN_RECORD * RECORDS];
     let mut cells = vec![0; 8 * CELLS];
     let mut records = vec![0; 4 * RECORDS];
-    let (graph, inputs) = (&files.graph, &files.inputs);
-    let profiled = second::profile(graph, inputs, &mut ledger, &mut cells, &mut records);
+    let (program, inputs) = (runs::program(files), &files.inputs);
+    let profiled = second::profile(program, inputs, &mut ledger, &mut cells, &mut records);
     records.truncate(4 * profiled.records);
     Profile {
         answer: profiled.answer,
@@ -113,8 +113,8 @@ fn profile_agrees(files: &Files, profile: &Profile, run: &Left) -> Result<(), St
     let mut ledger = vec![0; asm::TOKEN_RECORD * RECORDS];
     let mut cells = vec![0; 8 * CELLS];
     let mut records = vec![0; 4 * RECORDS];
-    let (graph, inputs) = (&files.graph, &files.inputs);
-    let (answer, steps) = engine::profile(graph, inputs, &mut ledger, &mut cells, &mut records);
+    let (program, inputs) = (runs::program(files), &files.inputs);
+    let (answer, steps) = engine::profile(program, inputs, &mut ledger, &mut cells, &mut records);
     records.truncate(4 * steps as usize);
     if answer != engine::packed_answer(&profile.answer) || records != profile.records {
         return Err("the engine gives another profile".to_string());

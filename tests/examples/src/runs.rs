@@ -1,7 +1,7 @@
 //! Runs of an example: by the engine and by the second emulator, in many orders.
 
 use asm::Files;
-use second::Answer;
+use second::{Answer, Program, Schedule};
 
 use crate::{CELLS, RECORDS};
 
@@ -68,12 +68,19 @@ pub fn other_orders(files: &Files, first: &Left) -> Result<usize, String> {
     Ok(lists.len())
 }
 
+/// The graph with its table of arrays.
+pub fn program(files: &Files) -> Program<'_> {
+    let (graph, arrays) = (&files.graph, &files.arrays);
+    Program { graph, arrays }
+}
+
 /// Runs and lists as the program does.
 fn engine_run(files: &Files, picks: &[u8]) -> Left {
     let mut ledger = vec![0; asm::TOKEN_RECORD * RECORDS];
     let mut cells = vec![0; 8 * CELLS];
-    let (graph, inputs) = (&files.graph, &files.inputs);
-    let answer = engine::run(graph, inputs, picks, BUDGET, &mut ledger, &mut cells);
+    let (program, inputs) = (program(files), &files.inputs);
+    let schedule = Schedule::new(picks, BUDGET);
+    let answer = engine::run(program, inputs, schedule, &mut ledger, &mut cells);
     Left::of_engine(answer, &ledger, cells)
 }
 
@@ -93,15 +100,15 @@ pub fn agree(first: &Left, other: &Left) -> Result<(), String> {
 
 /// Oldest first, newest first and random lists.
 fn pick_lists(files: &Files) -> Vec<Vec<u8>> {
-    let (graph, inputs) = (&files.graph, &files.inputs);
+    let (program, inputs) = (program(files), &files.inputs);
     let mut lists = vec![
         Vec::new(),
-        second::picks_newest_first(graph, inputs, RECORDS, CELLS),
+        second::picks_newest_first(program, inputs, RECORDS, CELLS),
     ];
     for seed in 1..=RANDOM_LISTS {
         let mut state = seed;
         lists.push(second::picks_of(
-            graph,
+            program,
             inputs,
             RECORDS,
             CELLS,
@@ -132,12 +139,9 @@ impl Second {
 pub fn second_run(files: &Files) -> Second {
     let mut ledger = vec![0; asm::TOKEN_RECORD * RECORDS];
     let mut cells = vec![0; 8 * CELLS];
-    let Files {
-        graph,
-        inputs,
-        picks,
-    } = files;
-    let answer = second::run(graph, inputs, picks, BUDGET, &mut ledger, &mut cells);
+    let (program, inputs) = (program(files), &files.inputs);
+    let schedule = Schedule::new(&files.picks, BUDGET);
+    let answer = second::run(program, inputs, schedule, &mut ledger, &mut cells);
     let used = &ledger[..asm::TOKEN_RECORD * answer.tokens];
     let mut listing = vec![0; used.len()];
     second::list(used, &mut listing);

@@ -36,6 +36,13 @@ pub fn instruction(code: u8, arcs: &[(u16, u8)], constant: i32) -> [u8; 16] {
     record
 }
 
+/// A record of the table of named arrays.
+pub fn array(first: u16, length: u16) -> [u8; 4] {
+    let [low, high] = first.to_le_bytes();
+    let [length_low, length_high] = length.to_le_bytes();
+    [low, high, length_low, length_high]
+}
+
 /// A token record.
 pub fn token(
     path: u128,

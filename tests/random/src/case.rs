@@ -2,7 +2,7 @@
 
 use std::time::{Duration, Instant};
 
-use second::{Answer, Counts, Outcome, Refusal, LOG_RECORD, TOKEN_RECORD};
+use second::{Answer, Counts, Outcome, Program, Refusal, Schedule, LOG_RECORD, TOKEN_RECORD};
 
 use crate::conversions::Records;
 use crate::prng::Prng;
@@ -48,6 +48,8 @@ pub struct Case {
     pub kind: &'static str,
     pub call: Call,
     pub graph: Vec<u8>,
+    /// The table of named arrays.
+    pub arrays: Vec<u8>,
     pub inputs: Vec<u8>,
     pub picks: Vec<u8>,
     pub budget: u16,
@@ -163,6 +165,17 @@ struct Buffers<B> {
 }
 
 impl Case {
+    pub fn program(&self) -> Program<'_> {
+        Program {
+            graph: &self.graph,
+            arrays: &self.arrays,
+        }
+    }
+
+    pub fn schedule(&self) -> Schedule<'_> {
+        Schedule::new(&self.picks, self.budget)
+    }
+
     /// Whether inputs, ledger and cells are whole records and not too many.
     pub fn stores_fit(&self) -> bool {
         [
@@ -201,40 +214,36 @@ impl Case {
 
     /// The second emulator's answer, and the number of records of a profile.
     fn second(&self, lent: &mut Buffers<Vec<u8>>) -> (Answer, usize) {
-        let (graph, inputs, picks) = (&self.graph, &self.inputs, &self.picks);
+        let (program, inputs, schedule) = (self.program(), &self.inputs, self.schedule());
         let (ledger, cells, further) = (&mut lent.ledger, &mut lent.cells, &mut lent.further);
         let answer = match &self.call {
-            Call::Run => second::run(graph, inputs, picks, self.budget, ledger, cells),
+            Call::Run => second::run(program, inputs, schedule, ledger, cells),
             Call::Logged(_) => {
-                second::run_logged(graph, inputs, picks, self.budget, ledger, cells, further)
+                second::run_logged(program, inputs, schedule, ledger, cells, further)
             }
             Call::Profile(_) => {
-                let profiled = second::profile(graph, inputs, ledger, cells, further);
+                let profiled = second::profile(program, inputs, ledger, cells, further);
                 return (profiled.answer, profiled.records);
             }
-            Call::Replay(log) => second::replay(graph, inputs, log, ledger, cells),
-            Call::CarryOn(state) => {
-                second::carry_on(graph, picks, self.budget, state.saved, ledger, cells)
-            }
+            Call::Replay(log) => second::replay(program, inputs, log, ledger, cells),
+            Call::CarryOn(state) => second::carry_on(program, schedule, state.saved, ledger, cells),
         };
         (answer, 0)
     }
 
     /// The engine's answer, packed, and the number of records of a profile.
     fn engine(&self, lent: &mut Buffers<Guarded>) -> (u64, u64) {
-        let (graph, inputs, picks) = (&self.graph, &self.inputs, &self.picks);
+        let (program, inputs, schedule) = (self.program(), &self.inputs, self.schedule());
         let (ledger, cells) = (lent.ledger.lent(), lent.cells.lent());
         let further = lent.further.lent();
         let answer = match &self.call {
-            Call::Run => engine::run(graph, inputs, picks, self.budget, ledger, cells),
+            Call::Run => engine::run(program, inputs, schedule, ledger, cells),
             Call::Logged(_) => {
-                engine::run_logged(graph, inputs, picks, self.budget, ledger, cells, further)
+                engine::run_logged(program, inputs, schedule, ledger, cells, further)
             }
-            Call::Profile(_) => return engine::profile(graph, inputs, ledger, cells, further),
-            Call::Replay(log) => engine::replay(graph, inputs, log, ledger, cells),
-            Call::CarryOn(state) => {
-                engine::carry_on(graph, picks, self.budget, state.saved, ledger, cells)
-            }
+            Call::Profile(_) => return engine::profile(program, inputs, ledger, cells, further),
+            Call::Replay(log) => engine::replay(program, inputs, log, ledger, cells),
+            Call::CarryOn(state) => engine::carry_on(program, schedule, state.saved, ledger, cells),
         };
         (answer, 0)
     }

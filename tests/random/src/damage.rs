@@ -2,6 +2,7 @@
 
 use second::TOKEN_RECORD;
 
+use crate::arrays;
 use crate::case::Case;
 use crate::prng::Prng;
 
@@ -10,12 +11,13 @@ pub fn damage(case: &mut Case, prng: &mut Prng) {
     case.kind = "damaged";
     let times = if prng.one_in(2) { 1 } else { 1 + prng.below(3) };
     for _ in 0..times {
-        match prng.below(12) {
+        match prng.below(14) {
             0..=3 => damage_graph(&mut case.graph, prng),
             4..=6 => damage_inputs(&mut case.inputs, prng),
             7 => damage_picks(&mut case.picks, prng),
             8 | 9 => case.ledger_bytes = length(case.ledger_bytes, TOKEN_RECORD, 2048, prng),
             10 => case.cells_bytes = length(case.cells_bytes, 8, 1024, prng),
+            11 | 12 => arrays::damage(case, prng),
             _ => case.budget = prng.word() as u16,
         }
     }

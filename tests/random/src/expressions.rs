@@ -122,6 +122,7 @@ fn case_of(expression: &Expression, graph: Vec<u8>, prng: &mut Prng) -> Case {
         kind: "expression",
         call: Call::Run,
         graph,
+        arrays: Vec::new(),
         inputs: inputs.collect(),
         picks: Vec::new(),
         budget: 2048,
@@ -292,7 +293,7 @@ fn names(
 /// Why 25 is given at a place.
 fn reason(records: &[u8], place: usize) -> &'static str {
     let count = records.len() / EXPRESSION_RECORD;
-    if !records.len().is_multiple_of(EXPRESSION_RECORD) || !(1..=100).contains(&count) {
+    if records.len() % EXPRESSION_RECORD != 0 || !(1..=100).contains(&count) {
         return "25 wrong length";
     }
     let record = &records[EXPRESSION_RECORD * place..][..EXPRESSION_RECORD];

@@ -60,6 +60,8 @@ pub struct Generator<'a> {
     sites: i32,
     cells: i32,
     unwritten: Vec<i32>,
+    /// Whether cells are often reached by the name of an array.
+    named: bool,
 }
 
 /// No step is made past this, so that each source left over can get its OUT or SINK.
@@ -67,8 +69,10 @@ const MOST_INSTRUCTIONS: usize = 150;
 
 impl<'a> Generator<'a> {
     pub fn new(prng: &'a mut Prng, size: Size) -> Generator<'a> {
+        let named = prng.one_in(2);
         Generator {
             prng,
+            named,
             draft: Draft::default(),
             size,
             pool: Vec::new(),
@@ -93,6 +97,9 @@ impl<'a> Generator<'a> {
         let steps = 1 + self.prng.below(self.size.steps);
         self.grow(steps, 0);
         self.finish();
+        for (first, length) in &mut self.draft.arrays {
+            *length = (*length).min(self.cells as u16 - *first);
+        }
         self.cells as usize
     }
 
@@ -366,14 +373,52 @@ impl<'a> Generator<'a> {
     }
 
     fn fetch_cell(&mut self, cell: i32, trigger: Source) -> Vec<Source> {
-        let cell = if self.prng.one_in(60) {
+        let (name, index) = self.index_of(cell);
+        let index = if self.prng.one_in(60) {
             self.value()
         } else {
-            cell
+            index
         };
-        let address = self.one(CONST, cell, vec![trigger]);
+        let address = self.one(CONST, index, vec![trigger]);
         let fan_out = self.fan_out();
-        self.instruction(FETCH, fan_out, 0, vec![address])
+        self.instruction(FETCH, fan_out, name, vec![address])
+    }
+
+    /// A constant of FETCH and STORE for so many cells, and the operand that means the
+    /// first of them: an array that has them and its index, or 0 and the cell's number.
+    fn name(&mut self, first: i32, length: i32) -> (i32, i32) {
+        if !self.named || self.prng.one_in(3) {
+            return (0, first);
+        }
+        let has = |&(start, cells): &(u16, u16)| {
+            i32::from(start) <= first && first + length <= i32::from(start) + i32::from(cells)
+        };
+        let mut known = self.draft.arrays.iter().position(has);
+        if known.is_none() && self.draft.arrays.len() < second::MOST_ARRAYS {
+            let before = self.prng.between(0, first.min(2));
+            let cells = before + length + self.prng.between(0, 2);
+            self.draft
+                .arrays
+                .push(((first - before) as u16, cells as u16));
+            known = Some(self.draft.arrays.len() - 1);
+        }
+        match known {
+            Some(number) => {
+                let start = i32::from(self.draft.arrays[number].0);
+                (number as i32 + 1, first - start + 1)
+            }
+            None => (0, first),
+        }
+    }
+
+    /// A name for one cell and its index, now and then one next to the array's cells.
+    fn index_of(&mut self, cell: i32) -> (i32, i32) {
+        let (name, index) = self.name(cell, 1);
+        if name > 0 && self.prng.one_in(20) {
+            let length = i32::from(self.draft.arrays[name as usize - 1].1);
+            return (name, [-1, 0, length + 1][self.prng.below(3)]);
+        }
+        (name, index)
     }
 
     fn store(&mut self, base: usize) {
@@ -393,8 +438,9 @@ impl<'a> Generator<'a> {
 
     fn store_value(&mut self, cell: i32, value: Source, fan_out: usize) {
         let (trigger, value) = self.copy(value);
-        let address = self.one(CONST, cell, vec![trigger]);
-        let signals = self.instruction(STORE, fan_out, 0, vec![address, value]);
+        let (name, index) = self.index_of(cell);
+        let address = self.one(CONST, index, vec![trigger]);
+        let signals = self.instruction(STORE, fan_out, name, vec![address, value]);
         self.pool.extend(signals);
     }
 
@@ -405,13 +451,14 @@ impl<'a> Generator<'a> {
         let length = 2 + self.prng.below(4);
         let first = self.cells;
         self.cells += length as i32;
-        let mut value = self.one(CONST, first, vec![source]);
+        let (name, index) = self.name(first, length as i32);
+        let mut value = self.one(CONST, index, vec![source]);
         for _ in 0..length {
-            value = self.one(FETCH, 0, vec![value]);
+            value = self.one(FETCH, name, vec![value]);
         }
         self.pool.push(value);
         for step in 0..length as i32 {
-            let next = self.input_of(first + step + 1);
+            let next = self.input_of(index + step + 1);
             self.store_value(first + step, next, 0);
         }
     }
@@ -659,10 +706,11 @@ impl<'a> Generator<'a> {
     fn through_cell(&mut self, index: Source, passes: i32) -> Source {
         let first = self.cells;
         self.cells += passes.max(1);
+        let (name, first) = self.name(first, passes.max(1));
         let mut sources = self.copies(index, 3);
         let address = self.one(ADD + WITH_CONSTANT, first, vec![sources.remove(0)]);
         let value = self.one(MUL + WITH_CONSTANT, 3, vec![sources.remove(0)]);
-        self.instruction(STORE, 0, 0, vec![address, value]);
+        self.instruction(STORE, 0, name, vec![address, value]);
         let index = sources.remove(0);
         let read = if self.prng.one_in(2) {
             let negated = self.one(MUL + WITH_CONSTANT, -1, vec![index]);
@@ -670,7 +718,7 @@ impl<'a> Generator<'a> {
         } else {
             self.one(ADD + WITH_CONSTANT, first, vec![index])
         };
-        self.one(FETCH, 0, vec![read])
+        self.one(FETCH, name, vec![read])
     }
 
     /// A call inside the loop: the path has the iteration of its pass.

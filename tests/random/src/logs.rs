@@ -165,8 +165,8 @@ pub const RUN_NAMES: [&str; 7] = [
 /// Which of the names a run with a log has.
 pub fn run_names(case: &Case, left: &Left) -> Vec<&'static str> {
     let room = left.further.len() / LOG_RECORD;
-    let whole = left.further.len().is_multiple_of(LOG_RECORD);
-    let picks_fit = case.picks.len().is_multiple_of(2) && case.picks.len() <= 2 * 2048;
+    let whole = left.further.len() % LOG_RECORD == 0;
+    let picks_fit = case.picks.len() % 2 == 0 && case.picks.len() <= 2 * 2048;
     let mut names = match left.answer.outcome {
         Outcome::Completed => vec!["completed"],
         Outcome::Hung => vec!["hung"],
@@ -262,6 +262,7 @@ fn at_rest(case: &Case, log: &[u8], left: &Left) -> bool {
     let fired = &log[..LOG_RECORD * left.answer.firings];
     let mut ledger = left.ledger.clone();
     let mut cells = left.cells.clone();
-    let answer = second::replay(&case.graph, &case.inputs, fired, &mut ledger, &mut cells);
+    let (program, inputs) = (case.program(), &case.inputs);
+    let answer = second::replay(program, inputs, fired, &mut ledger, &mut cells);
     answer.outcome != Outcome::Spent
 }

@@ -3,11 +3,12 @@
 //! Usage: random [RUNS [SEED]] [--keep] [--first]. The same numbers give the same runs. The
 //! last line is "N passed, M failed"; the exit status is 1 if a run failed or if
 //! an answer, refusal or operation that can be reached never came up, so fewer
-//! than a few thousand runs may fail for that. A failed run's files graph, inputs
-//! and picks, and the log of a replay, are written to random-failures/SEED-RUN; with --keep every run's files
+//! than a few thousand runs may fail for that. A failed run's files graph, arrays,
+//! inputs and picks, and the log of a replay, are written to random-failures/SEED-RUN; with --keep every run's files
 //! are written to random-failures/current beforehand, for an engine that crashes.
 //! With --first the runs end with the group in which the first one failed.
 
+mod arrays;
 mod bounds;
 mod capacities;
 mod case;
@@ -22,6 +23,7 @@ mod prng;
 mod profiles;
 mod records;
 mod saved;
+mod serves;
 mod shapes;
 mod states;
 mod tally;
@@ -55,6 +57,7 @@ struct Harness {
     expressions: u64,
     groups: u64,
     listings: u64,
+    requests: u64,
     conversions: u64,
     agreements: u64,
     profile_ends: u64,
@@ -133,6 +136,7 @@ impl Harness {
         self.all_capacities(&ends, prng);
         self.all_conversions(&case, &ends[0].left);
         self.all_states(&ends, prng);
+        self.all_requests(&ends, prng);
         for _ in 0..2 {
             let mut case = case.clone();
             case.budget = [0, 1, 2, prng.below(40) as u16, 65_535][prng.below(5)];
@@ -268,6 +272,7 @@ fn write_files(case: &Case, folder: &str) {
     let path = Path::new(folder);
     let written = fs::create_dir_all(path)
         .and_then(|()| fs::write(path.join("graph"), &case.graph))
+        .and_then(|()| fs::write(path.join("arrays"), &case.arrays))
         .and_then(|()| fs::write(path.join("inputs"), &case.inputs))
         .and_then(|()| fs::write(path.join("picks"), &case.picks))
         .and_then(|()| match &case.call {
@@ -293,6 +298,7 @@ fn first_case(prng: &mut Prng) -> Case {
         kind: subject.kind,
         call: Call::Run,
         graph: subject.graph,
+        arrays: subject.arrays,
         inputs: subject.inputs,
         picks: Vec::new(),
         budget: 2048,
@@ -302,8 +308,8 @@ fn first_case(prng: &mut Prng) -> Case {
     };
     let mut ledger = vec![0; case.ledger_bytes];
     let mut room = vec![0; case.cells_bytes];
-    let (graph, inputs) = (&case.graph, &case.inputs);
-    let used = second::run(graph, inputs, &[], 2048, &mut ledger, &mut room).tokens;
+    let (program, schedule) = (case.program(), case.schedule());
+    let used = second::run(program, &case.inputs, schedule, &mut ledger, &mut room).tokens;
     let capacity = match prng.below(16) {
         0 => 2048,
         1 | 2 => used,
@@ -358,6 +364,7 @@ fn main() -> ExitCode {
         expressions: 0,
         groups: 0,
         listings: 0,
+        requests: 0,
         conversions: 0,
         agreements: 0,
         profile_ends: 0,
@@ -391,6 +398,7 @@ fn report(harness: &Harness) -> ExitCode {
     println!("expressions: {}", harness.expressions);
     println!("listings of arbitrary records: {}", harness.listings);
     println!("conversions: {}", harness.conversions);
+    println!("runs asked of the cache: {}", harness.requests);
     println!(
         "time in the engine {:.2?}, in the second {:.2?}",
         harness.clock.engine, harness.clock.second

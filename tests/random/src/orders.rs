@@ -15,11 +15,11 @@ pub struct End {
 pub fn pick_lists(case: &Case, prng: &mut Prng) -> Vec<Vec<u8>> {
     let (capacity, cells) = (case.ledger_bytes / TOKEN_RECORD, case.cells_bytes / 8);
     let chosen = |choose: &mut dyn FnMut(usize, usize) -> u16| {
-        second::picks_of(&case.graph, &case.inputs, capacity, cells, |f, e| {
+        second::picks_of(case.program(), &case.inputs, capacity, cells, |f, e| {
             choose(f, e)
         })
     };
-    let newest = second::picks_newest_first(&case.graph, &case.inputs, capacity, cells);
+    let newest = second::picks_newest_first(case.program(), &case.inputs, capacity, cells);
     let middle = chosen(&mut |_, enabled| (enabled / 2) as u16);
     let alternating = chosen(&mut |f, e| if f % 2 == 0 { 0 } else { (e - 1) as u16 });
     let half = newest[..newest.len() / 4 * 2].to_vec();

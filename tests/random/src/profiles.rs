@@ -57,7 +57,7 @@ pub const NAMES: [&str; 11] = [
 
 /// Which of the names a profile has.
 pub fn names(case: &Case, left: &Left) -> Vec<&'static str> {
-    let whole = left.further.len().is_multiple_of(4);
+    let whole = left.further.len() % 4 == 0;
     let room = left.further.len() / 4;
     let stepped = left.records > 0;
     let mut names = match left.answer.outcome {

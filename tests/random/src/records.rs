@@ -28,6 +28,8 @@ pub type Input = (u16, u8, i32);
 #[derive(Clone, Default)]
 pub struct Draft {
     pub instructions: Vec<Instruction>,
+    /// Named arrays, each by its first cell and its length.
+    pub arrays: Vec<(u16, u16)>,
     pub inputs: Vec<Input>,
 }
 
@@ -88,6 +90,13 @@ impl Draft {
         self.instructions
             .iter()
             .flat_map(Instruction::record)
+            .collect()
+    }
+
+    pub fn array_bytes(&self) -> Vec<u8> {
+        self.arrays
+            .iter()
+            .flat_map(|&(first, length)| layout::array(first, length))
             .collect()
     }
 

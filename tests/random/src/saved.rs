@@ -3,6 +3,7 @@
 
 use second::{Condition, Counts, Outcome, TOKEN_RECORD};
 
+use crate::arrays;
 use crate::case::{Call, Case, Left, State};
 use crate::damage;
 use crate::orders::{self, End};
@@ -71,6 +72,7 @@ impl Harness {
             match prng.below(24) {
                 0 => damage::damage_graph(&mut case.graph, prng),
                 1 => damage::damage_picks(&mut case.picks, prng),
+                2 => arrays::damage(&mut case, prng),
                 _ => {}
             }
             self.carry_on(&case);
@@ -167,7 +169,7 @@ fn same_end(uncut: &Left, cut: &Left) -> Result<(), String> {
 
 /// What has to come up among the saved states. The names behind 24 say which condition
 /// alone is broken.
-pub const NAMES: [&str; 31] = [
+pub const NAMES: [&str; 32] = [
     "completed",
     "completed, nothing fired",
     "hung",
@@ -176,6 +178,7 @@ pub const NAMES: [&str; 31] = [
     "refused in a firing",
     "1 to 5",
     "7",
+    "22",
     "24 tokens past the capacity",
     "24 fields or states",
     "24 tag and port twice",
@@ -229,6 +232,7 @@ fn names(case: &Case, state: &State, left: &Left) -> Vec<&'static str> {
             24 => broken_name(case, state),
             1..=5 => "1 to 5",
             7 => "7",
+            22 => "22",
             _ => "refused in a firing",
         },
     }];
@@ -240,8 +244,8 @@ fn names(case: &Case, state: &State, left: &Left) -> Vec<&'static str> {
 
 /// The condition that a state breaks, if it breaks only one.
 fn broken_name(case: &Case, state: &State) -> &'static str {
-    let (graph, ledger, cells) = (&case.graph, &state.ledger, &state.cells);
-    match second::broken_conditions(graph, state.saved, ledger, cells).as_deref() {
+    let (ledger, cells) = (&state.ledger, &state.cells);
+    match second::broken_conditions(case.program(), state.saved, ledger, cells).as_deref() {
         Some(&[condition]) => condition_name(condition),
         _ => "24 by several conditions",
     }

@@ -1,6 +1,7 @@
 //! What the runs are made of: generated graphs, changed ones, long loops and
 //! graphs of arbitrary arcs.
 
+use crate::arrays;
 use crate::generate::{Generator, Size};
 use crate::meetings;
 use crate::prng::Prng;
@@ -10,6 +11,7 @@ use crate::records::*;
 pub struct Subject {
     pub kind: &'static str,
     pub graph: Vec<u8>,
+    pub arrays: Vec<u8>,
     pub inputs: Vec<u8>,
     pub cells: usize,
 }
@@ -22,11 +24,12 @@ pub fn subject(prng: &mut Prng) -> Subject {
                 draft.fill();
             }
             draft.shuffle(prng);
-            let (graph, inputs) = (draft.graph_bytes(), draft.input_bytes());
+            arrays::fill(&mut draft, cells, prng);
             return Subject {
                 kind,
-                graph,
-                inputs,
+                graph: draft.graph_bytes(),
+                arrays: draft.array_bytes(),
+                inputs: draft.input_bytes(),
                 cells,
             };
         }
@@ -196,7 +199,10 @@ fn change(draft: &mut Draft, prng: &mut Prng) {
                 draft.instructions[number].code = code & !7 | prng.below(8) as u8;
             }
         }
-        5 => change_constant(&mut draft.instructions[number], prng),
+        5 => {
+            let names = draft.arrays.len();
+            change_constant(&mut draft.instructions[number], names, prng);
+        }
         6 if !draft.inputs.is_empty() => {
             let input = prng.below(draft.inputs.len());
             draft.inputs.swap_remove(input);
@@ -235,8 +241,10 @@ fn share_arc(draft: &mut Draft, prng: &mut Prng) {
     }
 }
 
-fn change_constant(instruction: &mut Instruction, prng: &mut Prng) {
+/// Another constant, the name of one of so many arrays at FETCH and STORE.
+fn change_constant(instruction: &mut Instruction, names: usize, prng: &mut Prng) {
     match instruction.code {
+        FETCH | STORE => instruction.constant = prng.below(names + 1) as i32,
         CONST | 32..=39 => instruction.constant = prng.between(-2, 5),
         LEAVE => instruction.constant = prng.between(0, 255),
         ENTER => instruction.constant = prng.between(1, 4),
@@ -251,6 +259,13 @@ fn arbitrary(prng: &mut Prng) -> Drafted {
         38, 39,
     ];
     let mut draft = Draft::default();
+    let names = prng.below(2) * prng.below(4);
+    for _ in 0..names {
+        let first = prng.below(8);
+        draft
+            .arrays
+            .push((first as u16, prng.below(9 - first) as u16));
+    }
     let count = 1 + prng.below(24);
     for _ in 0..count {
         let code = CODES[prng.below(CODES.len())];
@@ -262,7 +277,7 @@ fn arbitrary(prng: &mut Prng) -> Drafted {
         };
         draft.add(code, fan_out, 0);
         let last = draft.instructions.len() - 1;
-        change_constant(&mut draft.instructions[last], prng);
+        change_constant(&mut draft.instructions[last], names, prng);
     }
     for number in 0..count {
         for arc in 0..draft.instructions[number].arcs.len() {

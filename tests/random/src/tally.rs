@@ -4,7 +4,9 @@ use layout::{LEAVE, OUT};
 use second::{Outcome, TOKEN_RECORD};
 
 use crate::case::{Call, Case, Left};
-use crate::{bounds, capacities, conversions, expressions, logs, meetings, profiles, saved};
+use crate::{
+    arrays, bounds, capacities, conversions, expressions, logs, meetings, profiles, saved, serves,
+};
 
 const NAMES: [(u8, &str); 27] = [
     (1, "COPY"),
@@ -36,7 +38,7 @@ const NAMES: [(u8, &str); 27] = [
     (39, "EQ constant"),
 ];
 
-const REFUSALS: [(usize, &str); 15] = [
+const REFUSALS: [(usize, &str); 16] = [
     (1, "graph length"),
     (2, "unknown operation"),
     (3, "fan-out"),
@@ -52,6 +54,7 @@ const REFUSALS: [(usize, &str); 15] = [
     (13, "iteration"),
     (14, "too deep"),
     (17, "no return"),
+    (22, "bad array"),
 ];
 
 /// Most levels of a path (02, R-8), each of two bytes, the site in the second.
@@ -67,8 +70,8 @@ pub struct Tally {
     hung: u64,
     spent: u64,
     refused: u64,
-    refusals: [u64; 18],
-    refused_inputs: [u64; 18],
+    refusals: [u64; 23],
+    refused_inputs: [u64; 23],
     fired: [u64; 256],
     /// Pairs of orders that hang with ledgers that differ: with an operand that waits
     /// for its partner, and with a deferred token.
@@ -86,6 +89,7 @@ pub struct Tally {
     /// Runs refused by 9 where the token that has the port is deferred.
     met_deferred: u64,
     largest: usize,
+    arrays: Named,
     profiles: Named,
     logged: Named,
     replays: Named,
@@ -94,6 +98,7 @@ pub struct Tally {
     conversions: Named,
     expressions: Named,
     saved: Named,
+    requests: Named,
 }
 
 impl Tally {
@@ -103,8 +108,8 @@ impl Tally {
             hung: 0,
             spent: 0,
             refused: 0,
-            refusals: [0; 18],
-            refused_inputs: [0; 18],
+            refusals: [0; 23],
+            refused_inputs: [0; 23],
             fired: [0; 256],
             hung_waiting: 0,
             hung_deferred: 0,
@@ -115,6 +120,7 @@ impl Tally {
             levels: [0; MOST_LEVELS + 1],
             met_deferred: 0,
             largest: 0,
+            arrays: Named::new(&arrays::NAMES),
             profiles: Named::new(&profiles::NAMES),
             logged: Named::new(&logs::RUN_NAMES),
             replays: Named::new(&logs::REPLAY_NAMES),
@@ -123,10 +129,12 @@ impl Tally {
             conversions: Named::new(&conversions::NAMES),
             expressions: Named::new(&expressions::NAMES),
             saved: Named::new(&saved::NAMES),
+            requests: Named::new(&serves::NAMES),
         }
     }
 
     pub fn count(&mut self, case: &Case, left: &Left) {
+        self.arrays.count(arrays::names(case, left));
         match &case.call {
             Call::Run => self.count_run(case, left),
             Call::Logged(_) => {
@@ -153,6 +161,10 @@ impl Tally {
 
     pub fn count_saved(&mut self, names: Vec<&'static str>) {
         self.saved.count(names);
+    }
+
+    pub fn count_request(&mut self, name: &'static str) {
+        self.requests.count(vec![name]);
     }
 
     pub fn count_expression(&mut self, names: Vec<&'static str>) {
@@ -229,6 +241,8 @@ impl Tally {
                 _ => lines.count(&format!("{code} {name}"), self.fired[usize::from(code)]),
             }
         }
+        println!("named arrays:");
+        self.arrays.print(&mut lines);
         println!("profiles:");
         self.profiles.print(&mut lines);
         println!("runs with a log:");
@@ -243,6 +257,8 @@ impl Tally {
         self.conversions.print(&mut lines);
         println!("saved states:");
         self.saved.print(&mut lines);
+        println!("runs asked of the cache:");
+        self.requests.print(&mut lines);
         println!("expressions:");
         self.expressions.print(&mut lines);
         println!("further:");

@@ -1,7 +1,7 @@
 //! Bounds of a graph without loops and calls, worked out without firing (02, R-3).
 
 use crate::graph::{Destination, Graph, Operation};
-use crate::{parse, Refusal};
+use crate::{fits, parse_inputs, Refusal, MOST_RECORDS, TOKEN_RECORD};
 
 /// The most firings and tokens of a run, and whether every run that completes or hangs
 /// has just so many, since no SWITCH or FETCH is reached.
@@ -14,7 +14,11 @@ pub struct Bounds {
 
 /// The bounds, or one of 1 to 7, then 19 at the first NEXT, ENTER or LEAVE.
 pub fn bounds(graph: &[u8], inputs: &[u8]) -> Result<Bounds, Refusal> {
-    let (graph, tokens) = parse(graph, inputs, true)?;
+    let graph = Graph::parse(graph)?;
+    if !fits(inputs.len(), TOKEN_RECORD, MOST_RECORDS) {
+        return Err(Refusal::BAD_STORE);
+    }
+    let tokens = parse_inputs(inputs, &graph)?;
     if let Some(place) = graph.instructions.iter().position(|i| loops(i.operation)) {
         return Err(Refusal { number: 19, place });
     }

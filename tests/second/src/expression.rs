@@ -53,7 +53,7 @@ impl Expression {
     /// already named, else the first never named.
     fn parse(bytes: &[u8]) -> Result<Expression, Refusal> {
         let count = bytes.len() / EXPRESSION_RECORD;
-        let whole = bytes.len().is_multiple_of(EXPRESSION_RECORD);
+        let whole = bytes.len() % EXPRESSION_RECORD == 0;
         if !whole || !(1..=MOST_EXPRESSION_RECORDS).contains(&count) {
             return Err(bad_expression(0));
         }

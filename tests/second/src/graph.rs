@@ -65,8 +65,18 @@ impl Operation {
     fn uses_constant(self) -> bool {
         matches!(
             self,
-            Operation::Const | Operation::Enter | Operation::Leave | Operation::Immediate(_)
+            Operation::Const
+                | Operation::Enter
+                | Operation::Leave
+                | Operation::Fetch
+                | Operation::Store
+                | Operation::Immediate(_)
         )
+    }
+
+    /// FETCH and STORE, whose constant names an array (02, R-10).
+    pub fn reaches_a_cell(self) -> bool {
+        matches!(self, Operation::Fetch | Operation::Store)
     }
 }
 
@@ -102,7 +112,7 @@ impl Graph {
     /// Parses and checks a graph: 1, then the records in turn, each 2 to 5.
     pub fn parse(bytes: &[u8]) -> Result<Graph, Refusal> {
         let count = bytes.len() / GRAPH_RECORD;
-        if !bytes.len().is_multiple_of(GRAPH_RECORD) || !(1..=256).contains(&count) {
+        if bytes.len() % GRAPH_RECORD != 0 || !(1..=256).contains(&count) {
             return Err(Refusal {
                 number: 1,
                 place: 0,

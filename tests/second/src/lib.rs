@@ -7,6 +7,7 @@
 //! at the end of the run.
 
 mod arithmetic;
+mod arrays;
 mod bounds;
 mod convert;
 mod expression;
@@ -32,7 +33,8 @@ pub use saved::{broken_conditions, carry_on, Condition, Counts};
 
 use std::collections::HashSet;
 
-use machine::Machine;
+use arrays::Arrays;
+use machine::{Checked, Machine};
 use token::{KeyHashing, State, Token};
 
 /// Bytes of a graph record (01, "Graph records").
@@ -47,16 +49,66 @@ pub const PICK_RECORD: usize = 2;
 pub const PROFILE_RECORD: usize = 4;
 /// Bytes of a log record (02, R-7).
 pub const LOG_RECORD: usize = 20;
+/// Bytes of a record of the table of named arrays (02, R-10).
+pub const ARRAY_RECORD: usize = 4;
 /// Most records of inputs, picks or ledger (01, refusal 7).
 pub const MOST_RECORDS: usize = 2048;
 /// Most cells (01, refusal 7).
 pub const MOST_CELLS: usize = 1024;
+/// Most named arrays (02, R-10).
+pub const MOST_ARRAYS: usize = 64;
+
+/// A graph and its table of named arrays; an empty table names none.
+#[derive(Clone, Copy, Debug)]
+pub struct Program<'a> {
+    pub graph: &'a [u8],
+    pub arrays: &'a [u8],
+}
+
+impl Program<'_> {
+    /// A graph without a table.
+    pub fn plain(graph: &[u8]) -> Program<'_> {
+        Program { graph, arrays: &[] }
+    }
+}
+
+/// Which of the enabled activities a run takes, and how many firings it has.
+#[derive(Clone, Copy, Debug)]
+pub struct Schedule<'a> {
+    pub picks: &'a [u8],
+    pub budget: u16,
+}
+
+impl Schedule<'_> {
+    pub fn new(picks: &[u8], budget: u16) -> Schedule<'_> {
+        Schedule { picks, budget }
+    }
+
+    fn picks_fit(&self) -> bool {
+        fits(self.picks.len(), PICK_RECORD, MOST_RECORDS)
+    }
+
+    /// The pick for a firing; once picks run out, the first is taken (01, "Firing").
+    fn pick(&self, firing: usize) -> u16 {
+        match self.picks.get(2 * firing..2 * firing + 2) {
+            Some(pick) => u16::from_le_bytes([pick[0], pick[1]]),
+            None => 0,
+        }
+    }
+}
 
 /// A refusal by its number in the table of 01, with its place.
 #[derive(Clone, Copy, Debug, PartialEq, Eq)]
 pub struct Refusal {
     pub number: u8,
     pub place: usize,
+}
+
+impl Refusal {
+    const BAD_STORE: Refusal = Refusal {
+        number: 7,
+        place: 0,
+    };
 }
 
 /// How a run ended (01, "The answer and the refusals").
@@ -104,12 +156,12 @@ impl Answer {
     }
 
     /// Whether the call was refused before its inputs were written, so that ledger and
-    /// cells stay as lent. These refusals are 1 to 9 without tokens, and 24: a firing has
-    /// at least one operand, and 18 and 20 come after the inputs, of which a replay may
-    /// have none.
+    /// cells stay as lent. These refusals are 1 to 9 without tokens, 22 and 24: a firing
+    /// has at least one operand, and 18 and 20 come after the inputs, of which a replay
+    /// may have none.
     pub fn refused_at_once(&self) -> bool {
         self.refusal()
-            .is_some_and(|number| number <= 9 || number == 24)
+            .is_some_and(|number| matches!(number, 1..=9 | 22 | 24))
             && self.tokens == 0
     }
 }
@@ -117,102 +169,65 @@ impl Answer {
 /// Runs a graph under the given picks; the lent ledger and cells are written as
 /// 01 says, and stay as lent when the run is refused before any firing.
 pub fn run(
-    graph: &[u8],
+    program: Program,
     inputs: &[u8],
-    picks: &[u8],
-    budget: u16,
+    schedule: Schedule,
     ledger: &mut [u8],
     cells: &mut [u8],
 ) -> Answer {
-    let choose = |firing: usize, _enabled: usize| pick_of(picks, firing);
-    run_checked(graph, inputs, picks.len(), budget, ledger, cells, choose)
-}
-
-/// The pick for a firing; once picks run out, the first is taken (01, "Firing").
-fn pick_of(picks: &[u8], firing: usize) -> u16 {
-    match picks.get(2 * firing..2 * firing + 2) {
-        Some(pick) => u16::from_le_bytes([pick[0], pick[1]]),
-        None => 0,
-    }
-}
-
-/// Runs a graph with picks given one by one: `choose` gets the number of firings
-/// done and the number of enabled activities, and answers with a pick.
-pub fn run_choosing(
-    graph: &[u8],
-    inputs: &[u8],
-    budget: u16,
-    ledger: &mut [u8],
-    cells: &mut [u8],
-    choose: impl FnMut(usize, usize) -> u16,
-) -> Answer {
-    run_checked(graph, inputs, 0, budget, ledger, cells, choose)
+    let lent = Lent {
+        program,
+        inputs,
+        ledger,
+        cells,
+    };
+    lent.accept(schedule.picks_fit(), |machine| {
+        machine.run(schedule.budget, |firing, _| schedule.pick(firing))
+    })
 }
 
 /// The list of picks that a choosing function makes over a whole run with the
-/// given capacity and number of cells.
+/// given capacity and number of cells. It gets the number of firings done and the
+/// number of enabled activities, and answers with a pick.
 pub fn picks_of(
-    graph: &[u8],
+    program: Program,
     inputs: &[u8],
     capacity: usize,
     cell_count: usize,
     mut choose: impl FnMut(usize, usize) -> u16,
 ) -> Vec<u8> {
     let mut picks = Vec::new();
-    let mut ledger = vec![0; capacity * TOKEN_RECORD];
-    let mut cells = vec![0; cell_count * CELL_RECORD];
-    let budget = MOST_RECORDS as u16;
-    run_choosing(
-        graph,
+    let lent = Lent {
+        program,
         inputs,
-        budget,
-        &mut ledger,
-        &mut cells,
-        |firing, enabled| {
+        ledger: &mut vec![0; capacity * TOKEN_RECORD],
+        cells: &mut vec![0; cell_count * CELL_RECORD],
+    };
+    lent.accept(true, |machine| {
+        machine.run(MOST_RECORDS as u16, |firing, enabled| {
             let pick = choose(firing, enabled);
             picks.extend_from_slice(&pick.to_le_bytes());
             pick
-        },
-    );
+        })
+    });
     picks
 }
 
 /// The picks that always take the enabled activity with the latest place.
 pub fn picks_newest_first(
-    graph: &[u8],
+    program: Program,
     inputs: &[u8],
     capacity: usize,
     cell_count: usize,
 ) -> Vec<u8> {
-    picks_of(graph, inputs, capacity, cell_count, |_, enabled| {
+    picks_of(program, inputs, capacity, cell_count, |_, enabled| {
         (enabled - 1) as u16
-    })
-}
-
-fn run_checked(
-    graph: &[u8],
-    inputs: &[u8],
-    picks_length: usize,
-    budget: u16,
-    ledger: &mut [u8],
-    cells: &mut [u8],
-    choose: impl FnMut(usize, usize) -> u16,
-) -> Answer {
-    let lent = Lent {
-        graph,
-        inputs,
-        ledger,
-        cells,
-    };
-    let picks_fit = fits(picks_length, PICK_RECORD, MOST_RECORDS);
-    lent.accept(picks_fit, |machine| {
-        machine.run(usize::from(budget), choose)
     })
 }
 
 /// What every call that fires is lent.
 struct Lent<'a> {
-    graph: &'a [u8],
+    program: Program<'a>,
     inputs: &'a [u8],
     ledger: &'a mut [u8],
     cells: &'a mut [u8],
@@ -225,9 +240,9 @@ impl Lent<'_> {
     fn accept(self, others_fit: bool, go: impl FnOnce(&mut Machine) -> Answer) -> Answer {
         match self.check(others_fit) {
             Err(refusal) => Answer::refused_at_first(refusal),
-            Ok((graph, tokens)) => {
-                let cell_count = self.cells.len() / CELL_RECORD;
-                let mut machine = Machine::new(&graph, self.capacity(), cell_count, &tokens);
+            Ok((program, tokens)) => {
+                let (capacity, cell_count) = (self.capacity(), self.cell_count());
+                let mut machine = Machine::new(&program, capacity, cell_count, &tokens);
                 let answer = go(&mut machine);
                 machine.write(self.ledger, self.cells);
                 answer
@@ -239,13 +254,22 @@ impl Lent<'_> {
         self.ledger.len() / TOKEN_RECORD
     }
 
-    /// All checks before the first firing, in the order of 01: 1; records in turn,
-    /// each 2 to 5; 7; inputs in turn for 6; 8; 9 by input in turn.
-    fn check(&self, others_fit: bool) -> Result<(Graph, Vec<Token>), Refusal> {
-        let stores_fit = others_fit
+    fn cell_count(&self) -> usize {
+        self.cells.len() / CELL_RECORD
+    }
+
+    /// All checks before the first firing, in the order of 01 and 02: 1; records in turn,
+    /// each 2 to 5; 7; 22; inputs in turn for 6; 8; 9 by input in turn.
+    fn check(&self, others_fit: bool) -> Result<(Checked, Vec<Token>), Refusal> {
+        let graph = Graph::parse(self.program.graph)?;
+        let stores_fit = fits(self.inputs.len(), TOKEN_RECORD, MOST_RECORDS)
             && fits(self.ledger.len(), TOKEN_RECORD, MOST_RECORDS)
             && fits(self.cells.len(), CELL_RECORD, MOST_CELLS);
-        let (graph, tokens) = parse(self.graph, self.inputs, stores_fit)?;
+        if !others_fit || !stores_fit {
+            return Err(Refusal::BAD_STORE);
+        }
+        let arrays = Arrays::parse(self.program.arrays, self.cell_count(), &graph)?;
+        let tokens = parse_inputs(self.inputs, &graph)?;
         if tokens.len() > self.capacity() {
             // The first input that doesn't fit.
             return Err(Refusal {
@@ -259,30 +283,21 @@ impl Lent<'_> {
                 return Err(Refusal { number: 9, place });
             }
         }
-        Ok((graph, tokens))
+        Ok((Checked { graph, arrays }, tokens))
     }
 }
 
 /// Whether a buffer is whole records and at most so many (01, refusal 7).
 fn fits(length: usize, record: usize, most: usize) -> bool {
-    length.is_multiple_of(record) && length / record <= most
+    length % record == 0 && length / record <= most
 }
 
-/// The graph and the input tokens, or one of 1 to 7.
-fn parse(graph: &[u8], inputs: &[u8], others_fit: bool) -> Result<(Graph, Vec<Token>), Refusal> {
-    let graph = Graph::parse(graph)?;
-    if !others_fit || !fits(inputs.len(), TOKEN_RECORD, MOST_RECORDS) {
-        return Err(Refusal {
-            number: 7,
-            place: 0,
-        });
-    }
-    let mut tokens = Vec::with_capacity(inputs.len() / TOKEN_RECORD);
-    for (place, record) in inputs.chunks_exact(TOKEN_RECORD).enumerate() {
-        let token = input_token(record, &graph).ok_or(Refusal { number: 6, place })?;
-        tokens.push(token);
-    }
-    Ok((graph, tokens))
+/// The input tokens in turn, or 6 at the first that is bad.
+fn parse_inputs(inputs: &[u8], graph: &Graph) -> Result<Vec<Token>, Refusal> {
+    let records = inputs.chunks_exact(TOKEN_RECORD).enumerate();
+    records
+        .map(|(place, record)| input_token(record, graph).ok_or(Refusal { number: 6, place }))
+        .collect()
 }
 
 /// The token of an input record, or `None` for refusal 6: the root path and

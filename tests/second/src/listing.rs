@@ -6,7 +6,7 @@ use crate::{MOST_RECORDS, TOKEN_RECORD};
 /// Sorts the lent records into `out`; answers 0, or 7 with `out` untouched. Only
 /// the key fields of a record are read, the other bytes are carried along.
 pub fn list(ledger: &[u8], out: &mut [u8]) -> u64 {
-    let whole = ledger.len().is_multiple_of(TOKEN_RECORD);
+    let whole = ledger.len() % TOKEN_RECORD == 0;
     if out.len() != ledger.len() || !whole || ledger.len() / TOKEN_RECORD > MOST_RECORDS {
         return 7;
     }

@@ -2,31 +2,28 @@
 
 use crate::machine::Machine;
 use crate::token::Tag;
-use crate::{fits, pick_of, Answer, Lent, Outcome, Refusal, LOG_RECORD, MOST_RECORDS, PICK_RECORD};
+use crate::{Answer, Lent, Outcome, Program, Refusal, Schedule, LOG_RECORD, MOST_RECORDS};
 
 /// Runs as `run` does, and writes the log of the firings done.
 pub fn run_logged(
-    graph: &[u8],
+    program: Program,
     inputs: &[u8],
-    picks: &[u8],
-    budget: u16,
+    schedule: Schedule,
     ledger: &mut [u8],
     cells: &mut [u8],
     log: &mut [u8],
 ) -> Answer {
-    let budget = usize::from(budget);
     let lent = Lent {
-        graph,
+        program,
         inputs,
         ledger,
         cells,
     };
     // A log may have more than 2,048 records.
-    let log_fits =
-        log.len().is_multiple_of(LOG_RECORD) && log.len() / LOG_RECORD >= budget.min(MOST_RECORDS);
-    let picks_fit = fits(picks.len(), PICK_RECORD, MOST_RECORDS);
-    lent.accept(picks_fit && log_fits, |machine| {
-        let answer = machine.run(budget, |firing, _| pick_of(picks, firing));
+    let least = usize::from(schedule.budget).min(MOST_RECORDS);
+    let log_fits = log.len() % LOG_RECORD == 0 && log.len() / LOG_RECORD >= least;
+    lent.accept(schedule.picks_fit() && log_fits, |machine| {
+        let answer = machine.run(schedule.budget, |firing, _| schedule.pick(firing));
         for (record, tag) in log.chunks_exact_mut(LOG_RECORD).zip(machine.fired()) {
             record.copy_from_slice(&tag.log_record());
         }
@@ -36,14 +33,14 @@ pub fn run_logged(
 
 /// Fires exactly the activities that a log names, in turn.
 pub fn replay(
-    graph: &[u8],
+    program: Program,
     inputs: &[u8],
     log: &[u8],
     ledger: &mut [u8],
     cells: &mut [u8],
 ) -> Answer {
     let lent = Lent {
-        graph,
+        program,
         inputs,
         ledger,
         cells,

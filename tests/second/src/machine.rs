@@ -2,10 +2,17 @@
 
 use std::collections::HashMap;
 
+use crate::arrays::Arrays;
 use crate::graph::{Graph, Instruction, Operation};
 use crate::places::Places;
 use crate::token::{Cell, Key, KeyHashing, State, Tag, Token};
 use crate::{Answer, Outcome, Refusal, CELL_RECORD, TOKEN_RECORD};
+
+/// A checked graph with its checked table of named arrays.
+pub struct Checked {
+    pub graph: Graph,
+    pub arrays: Arrays,
+}
 
 /// A path of at least this has eight levels (02, R-8): a site is at least 1, so every
 /// level is a factor of 65,536 with a part that is not 0.
@@ -14,6 +21,7 @@ const EIGHT_LEVELS: u128 = 65_536u128.pow(7);
 /// The machine between two firings.
 pub struct Machine<'a> {
     graph: &'a Graph,
+    arrays: &'a Arrays,
     capacity: usize,
     tokens: Vec<Token>,
     /// The matching store: the ledger position of every token so far, spent
@@ -51,20 +59,26 @@ struct Effect {
 
 impl<'a> Machine<'a> {
     /// An accepted run sets all cells absent and writes its inputs to the ledger.
-    pub fn new(graph: &'a Graph, capacity: usize, cell_count: usize, inputs: &[Token]) -> Self {
-        Machine::resumed(graph, capacity, inputs, vec![Cell::Absent; cell_count])
+    pub fn new(
+        program: &'a Checked,
+        capacity: usize,
+        cell_count: usize,
+        inputs: &[Token],
+    ) -> Machine<'a> {
+        Machine::resumed(program, capacity, inputs, vec![Cell::Absent; cell_count])
     }
 
     /// The machine in a given state; a waiting cell has the positions of the tokens
     /// deferred on it.
     pub fn resumed(
-        graph: &'a Graph,
+        program: &'a Checked,
         capacity: usize,
         tokens: &[Token],
         cells: Vec<Cell>,
     ) -> Machine<'a> {
         let mut machine = Machine {
-            graph,
+            graph: &program.graph,
+            arrays: &program.arrays,
             capacity,
             tokens: Vec::with_capacity(capacity),
             matching: HashMap::with_capacity_and_hasher(capacity, KeyHashing::default()),
@@ -79,7 +93,7 @@ impl<'a> Machine<'a> {
     }
 
     /// Fires until nothing is enabled, the budget is spent or a firing is refused.
-    pub fn run(&mut self, budget: usize, mut choose: impl FnMut(usize, usize) -> u16) -> Answer {
+    pub fn run(&mut self, budget: u16, mut choose: impl FnMut(usize, usize) -> u16) -> Answer {
         let mut firings = 0;
         let outcome = loop {
             let enabled = self.enabled.len();
@@ -88,7 +102,7 @@ impl<'a> Machine<'a> {
             if enabled == 0 {
                 break self.rest();
             }
-            if firings == budget {
+            if firings == usize::from(budget) {
                 break Outcome::Spent;
             }
             let pick = usize::from(choose(firings, enabled));
@@ -256,23 +270,21 @@ impl<'a> Machine<'a> {
         Ok(Effect::of([Some(token), None]))
     }
 
-    fn cell_number(&self, value: i32) -> Result<usize, u8> {
-        let number = usize::try_from(value).map_err(|_| 10)?;
-        if number < self.cells.len() {
-            Ok(number)
-        } else {
-            Err(10)
-        }
+    /// The number of the cell that FETCH or STORE means, by its constant and the operand
+    /// on port 0.
+    fn cell_number(&self, activity: &Activity) -> Result<usize, u8> {
+        let constant = activity.instruction.constant;
+        self.arrays.cell(constant, activity.left_value).ok_or(10)
     }
 
     /// FETCH: the value of a present cell, else deferred outputs that hold the
-    /// cell number as their value.
+    /// cell number as their value, also where the operand is an array's index.
     fn fetch(&self, activity: &Activity) -> Result<Effect, u8> {
-        let number = self.cell_number(activity.left_value)?;
+        let number = self.cell_number(activity)?;
         if let Cell::Present(value) = self.cells[number] {
             return Ok(activity.send(value));
         }
-        let mut effect = activity.send(activity.left_value);
+        let mut effect = activity.send(number as i32);
         for token in effect.outputs.iter_mut().flatten() {
             token.state = State::Deferred;
         }
@@ -282,7 +294,7 @@ impl<'a> Machine<'a> {
 
     /// STORE: 10, then 11; its signals have value 0.
     fn store(&self, activity: &Activity) -> Result<Effect, u8> {
-        let number = self.cell_number(activity.left_value)?;
+        let number = self.cell_number(activity)?;
         if matches!(self.cells[number], Cell::Present(_)) {
             return Err(11);
         }

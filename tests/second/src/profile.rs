@@ -1,7 +1,7 @@
 //! The profile of a graph in ideal steps (02, R-1).
 
 use crate::machine::Machine;
-use crate::{Answer, Lent, Outcome, Refusal, PROFILE_RECORD};
+use crate::{Answer, Lent, Outcome, Program, Refusal, PROFILE_RECORD};
 
 /// The answer to a profile, and the number of its records.
 #[derive(Clone, Copy, Debug, PartialEq, Eq)]
@@ -13,19 +13,19 @@ pub struct Profiled {
 /// Fires in ideal steps until nothing is enabled. Each whole step writes a record of
 /// the profile: firings in it, and live plus deferred tokens after it.
 pub fn profile(
-    graph: &[u8],
+    program: Program,
     inputs: &[u8],
     ledger: &mut [u8],
     cells: &mut [u8],
     profile: &mut [u8],
 ) -> Profiled {
     let lent = Lent {
-        graph,
+        program,
         inputs,
         ledger,
         cells,
     };
-    let whole = profile.len().is_multiple_of(PROFILE_RECORD);
+    let whole = profile.len() % PROFILE_RECORD == 0;
     let mut room = profile.chunks_exact_mut(PROFILE_RECORD);
     let mut records = 0;
     let answer = lent.accept(whole, |machine| {

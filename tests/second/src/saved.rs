@@ -2,12 +2,12 @@
 
 use std::collections::HashSet;
 
+use crate::arrays::Arrays;
 use crate::graph::Graph;
-use crate::machine::Machine;
+use crate::machine::{Checked, Machine};
 use crate::token::{Cell, State, Tag, Token};
 use crate::{
-    fits, pick_of, Answer, Refusal, CELL_RECORD, MOST_CELLS, MOST_RECORDS, PICK_RECORD,
-    TOKEN_RECORD,
+    fits, Answer, Program, Refusal, Schedule, CELL_RECORD, MOST_CELLS, MOST_RECORDS, TOKEN_RECORD,
 };
 
 /// The counts that are lent with a saved state.
@@ -20,60 +20,61 @@ pub struct Counts {
 /// Fires from a saved state: the first `tokens` records of the ledger and all cells.
 /// Budget and picks count this part's own firings, and the answer all since the inputs.
 pub fn carry_on(
-    graph: &[u8],
-    picks: &[u8],
-    budget: u16,
+    program: Program,
+    schedule: Schedule,
     saved: Counts,
     ledger: &mut [u8],
     cells: &mut [u8],
 ) -> Answer {
-    let picks_fit = fits(picks.len(), PICK_RECORD, MOST_RECORDS);
-    let (graph, state) = match taken(graph, picks_fit, saved, ledger, cells) {
+    let (checked, state) = match taken(program, schedule, saved, ledger, cells) {
         Ok(taken) => taken,
         Err(refusal) => return Answer::refused_at_first(refusal),
     };
-    let mut machine = Machine::resumed(&graph, state.capacity, &state.tokens, state.cells());
-    let mut answer = machine.run(usize::from(budget), |firing, _| pick_of(picks, firing));
+    let mut machine = Machine::resumed(&checked, state.capacity, &state.tokens, state.cells());
+    let mut answer = machine.run(schedule.budget, |firing, _| schedule.pick(firing));
     answer.firings += usize::from(saved.firings);
     machine.write(ledger, cells);
     answer
 }
 
-/// The graph and the state, or one of 1 to 5, then 7, then 24.
+/// The program and the state, or one of 1 to 5, then 7, then 22, then 24.
 fn taken(
-    graph: &[u8],
-    picks_fit: bool,
+    program: Program,
+    schedule: Schedule,
     saved: Counts,
     ledger: &[u8],
     cells: &[u8],
-) -> Result<(Graph, Saved), Refusal> {
-    let graph = Graph::parse(graph)?;
-    let refused = |number| Refusal { number, place: 0 };
+) -> Result<(Checked, Saved), Refusal> {
+    let graph = Graph::parse(program.graph)?;
     let stores_fit = fits(ledger.len(), TOKEN_RECORD, MOST_RECORDS)
         && fits(cells.len(), CELL_RECORD, MOST_CELLS);
-    if !picks_fit || !stores_fit {
-        return Err(refused(7));
+    if !schedule.picks_fit() || !stores_fit {
+        return Err(Refusal::BAD_STORE);
     }
+    let arrays = Arrays::parse(program.arrays, cells.len() / CELL_RECORD, &graph)?;
     match Saved::parse(&graph, saved, ledger, cells) {
-        Ok(state) if state.broken(&graph).is_empty() => Ok((graph, state)),
-        _ => Err(refused(24)),
+        Ok(state) if state.broken(&graph).is_empty() => Ok((Checked { graph, arrays }, state)),
+        _ => Err(Refusal {
+            number: 24,
+            place: 0,
+        }),
     }
 }
 
-/// The conditions of 02's list that a state breaks; `None` if the graph or a buffer's
+/// The conditions of 02's list that a state breaks; `None` if graph, table or a buffer's
 /// length is refused before the state is looked at. Without the tokens in the capacity,
 /// or with a field that is not allowed, no other condition is judged.
 pub fn broken_conditions(
-    graph: &[u8],
+    program: Program,
     saved: Counts,
     ledger: &[u8],
     cells: &[u8],
 ) -> Option<Vec<Condition>> {
-    match taken(graph, true, saved, ledger, cells) {
+    match taken(program, Schedule::new(&[], 0), saved, ledger, cells) {
         Ok(_) => Some(Vec::new()),
         Err(refusal) if refusal.number != 24 => None,
         Err(_) => {
-            let graph = Graph::parse(graph).ok()?;
+            let graph = Graph::parse(program.graph).ok()?;
             let parsed = Saved::parse(&graph, saved, ledger, cells);
             Some(parsed.map_or_else(|first| vec![first], |state| state.broken(&graph)))
         }

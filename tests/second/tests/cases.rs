@@ -378,7 +378,7 @@ fn a_run_of_2048_tokens() {
     }
     let firings = 2 * (169 * 5 + 3);
     assert_eq!(lent.answer(), completed(firings, 2048));
-    let newest = second::picks_newest_first(&lent.graph, &lent.inputs, 2048, 1024);
+    let newest = second::picks_newest_first(lent.program(), &lent.inputs, 2048, 1024);
     assert_eq!(newest.len(), 2 * firings);
     let text = lent.run().text();
     lent.picks = newest;

@@ -4,7 +4,7 @@
 mod common;
 
 use common::*;
-use second::{broken_conditions, carry_on, Condition, Counts};
+use second::{broken_conditions, carry_on, Condition, Counts, Program, Schedule};
 
 /// A state with its graph.
 #[derive(Clone)]
@@ -88,7 +88,8 @@ impl State {
     }
 
     fn broken(&self) -> Vec<Condition> {
-        broken_conditions(&self.graph, self.saved, &self.ledger, &self.cells).unwrap()
+        let program = Program::plain(&self.graph);
+        broken_conditions(program, self.saved, &self.ledger, &self.cells).unwrap()
     }
 
     /// Carries on, and sees that a refused call writes nothing.
@@ -96,9 +97,8 @@ impl State {
         let mut left = (self.ledger.clone(), self.cells.clone());
         let (ledger, cells) = (&mut left.0, &mut left.1);
         let answer = carry_on(
-            &self.graph,
-            &common::picks(picks),
-            budget,
+            Program::plain(&self.graph),
+            Schedule::new(&common::picks(picks), budget),
             self.saved,
             ledger,
             cells,
@@ -273,9 +273,8 @@ fn stores_come_before_the_state() {
     let answer = |state: &State, picks: &[u8]| {
         let mut left = state.clone();
         carry_on(
-            &state.graph,
-            picks,
-            9,
+            Program::plain(&state.graph),
+            Schedule::new(picks, 9),
             state.saved,
             &mut left.ledger,
             &mut left.cells,

@@ -1,5 +1,6 @@
 //! From text to files.
 
+use crate::arrays;
 use crate::errors::{Error, Errors, Fault, Span};
 use crate::names::{too_many, Names, STORE};
 use crate::operations::Constant;
@@ -20,18 +21,29 @@ pub struct Place {
 /// Name and place of an instruction.
 #[derive(Clone, Debug, PartialEq, Eq)]
 pub struct Instruction {
-    /// The typed name; `#` and the number where there is none, and `cell 3` for
-    /// the STORE of a line that loads a cell.
+    /// The typed name; `#` and the number where there is none, and `cell 3` or `a[3]`
+    /// for the STORE of a line that loads a cell or an element.
     pub name: String,
     pub place: Place,
     /// The targets, in the order of the destinations.
     pub arcs: Vec<Span>,
 }
 
+/// A named array: its elements, counted from 1, are so many cells from the first on.
+#[derive(Clone, Debug, PartialEq, Eq)]
+pub struct Array {
+    pub name: String,
+    pub first: u16,
+    pub length: u16,
+    pub place: Place,
+}
+
 /// The files of a text, and where their records come from.
 #[derive(Clone, Debug, Default, PartialEq, Eq)]
 pub struct Program {
     pub files: Files,
+    /// In the order of their numbers, which count from 1.
+    pub arrays: Vec<Array>,
     pub instructions: Vec<Instruction>,
     /// The place of each input.
     pub inputs: Vec<Place>,
@@ -47,8 +59,9 @@ pub struct Named {
 }
 
 /// Assembles a text. Names may be used before they are defined. A text without
-/// `raw` and with 1 to 256 instructions gives a graph that passes the check. An
-/// order by names is refused: files have picks, which only a run shows.
+/// `raw` and with 1 to 256 instructions gives a graph and a table of arrays that
+/// pass the check, with 1,024 cells. An order by names is refused: files have
+/// picks, which only a run shows.
 pub fn assemble(text: &str) -> Result<Files, Errors> {
     let program = read(text)?;
     let Some(first) = program.order.first() else {
@@ -81,7 +94,12 @@ pub fn read(text: &str) -> Result<Program, Errors> {
         return Err(Errors(vec![error]));
     }
     let mut names = Names::of(&lines, &mut errors);
-    let mut program = Program::default();
+    let mut program = Program {
+        arrays: arrays::of(&lines, &mut errors),
+        ..Program::default()
+    };
+    let records = program.arrays.iter().flat_map(arrays::record);
+    program.files.arrays = records.collect();
     for line in &lines {
         let faults = program.write(&mut names, line);
         errors.extend(faults.into_iter().map(|fault| fault.on_line(line.number)));
@@ -157,13 +175,14 @@ impl Program {
                 Err(fault) => return vec![fault],
             },
             Statement::RawInput(record) => self.input(line, *record),
-            Statement::Cell(cell, value) => {
-                // The number fits: Names has counted the instructions.
-                let store = self.instructions.len() as u16;
-                self.instruction(line, graph_record(STORE, &[], 0));
-                self.input(line, input_record(store, 0, *cell));
-                self.input(line, input_record(store, 1, *value));
+            Statement::Cell(cell, value) => self.load(line, 0, *cell, *value),
+            Statement::Element(element, value) => {
+                let array = names.element(element);
+                self.load(line, *array.as_ref().unwrap_or(&0), element.index, *value);
+                return array.err().into_iter().collect();
             }
+            // Their table is made before the instructions.
+            Statement::Array(..) | Statement::RawArray(..) | Statement::FaultyArray(_) => {}
             Statement::Picks(picks) => {
                 let bytes = picks.iter().flat_map(|pick| pick.to_le_bytes());
                 self.files.picks.extend(bytes);
@@ -189,13 +208,30 @@ impl Program {
         Some(fault.on_line(line_of(text, first)))
     }
 
+    /// A STORE to an array, or to the whole store by 0, and the two inputs that fire it.
+    fn load(&mut self, line: &Line, array: i32, index: i32, value: i32) {
+        // The number fits: Names has counted the instructions.
+        let store = self.instructions.len() as u16;
+        self.instruction(line, graph_record(STORE, &[], array));
+        self.input(line, input_record(store, 0, index));
+        self.input(line, input_record(store, 1, value));
+    }
+
     fn typed(&mut self, names: &mut Names, line: &Line, typed: &Typed) -> Vec<Fault> {
         let (ends, mut faults) = resolve_all(names, &typed.arcs);
+        let array = typed
+            .array
+            .map(|name| names.array(name, typed.operation.name));
+        let (constant, fault) = match array.transpose() {
+            Ok(array) => (array.unwrap_or(typed.constant), None),
+            Err(fault) => (0, Some(fault)),
+        };
+        faults.extend(fault);
         if typed.operation.constant == Constant::Site && faults.is_empty() {
             let back = ends[1].0;
             faults.extend(names.check_return(typed.constant, back, line).err());
         }
-        let record = graph_record(typed.operation.code, &ends, typed.constant);
+        let record = graph_record(typed.operation.code, &ends, constant);
         self.instruction(line, record);
         faults
     }
@@ -216,6 +252,7 @@ impl Program {
     fn name(&self, line: &Line) -> String {
         match (&line.statement, line.name) {
             (Statement::Cell(cell, _), _) => format!("cell {cell}"),
+            (Statement::Element(element, _), _) => element.word.text.to_string(),
             (_, Some(name)) => name.text.to_string(),
             (_, None) => format!("#{}", self.instructions.len()),
         }

@@ -3,8 +3,9 @@
 
 use std::collections::HashMap;
 
+use crate::arrays::MOST_CELLS;
 use crate::operations::{by_code, operand_count, Constant, Operation};
-use crate::{Files, GRAPH_RECORD, PICK_RECORD, TOKEN_RECORD};
+use crate::{Files, ARRAY_RECORD, GRAPH_RECORD, MOST_ARRAYS, PICK_RECORD, TOKEN_RECORD};
 
 /// Picks on one line of the text.
 const PICKS_ON_A_LINE: usize = 16;
@@ -15,6 +16,7 @@ const MOST_RECORDS: usize = 65_536;
 pub fn disassemble(files: &Files) -> Result<String, String> {
     let whole = [
         ("graph", files.graph.len(), GRAPH_RECORD),
+        ("arrays", files.arrays.len(), ARRAY_RECORD),
         ("inputs", files.inputs.len(), TOKEN_RECORD),
         ("picks", files.picks.len(), PICK_RECORD),
     ];
@@ -28,9 +30,18 @@ pub fn disassemble(files: &Files) -> Result<String, String> {
     }
     let records: Vec<&[u8]> = files.graph.chunks_exact(GRAPH_RECORD).collect();
     let mut text = String::new();
+    let arrays = files.arrays.chunks_exact(ARRAY_RECORD);
+    let count = arrays.len() as i32;
+    for (number, record) in (1..).zip(arrays) {
+        text += &format!(
+            "array {} {}\n",
+            array_name(number),
+            typed_array(number, record)
+        );
+    }
     let mut returns = HashMap::new();
     for (number, record) in records.iter().enumerate() {
-        let line = typed(record, &records, &mut returns)
+        let line = typed(record, &records, count, &mut returns)
             .unwrap_or_else(|| format!("raw {}", hexadecimal(record)));
         text += &format!("{}: {line}\n", name_of(number, record));
     }
@@ -54,6 +65,22 @@ fn name_of(number: usize, record: &[u8]) -> String {
     format!("{}{number}", word.to_lowercase())
 }
 
+/// No instruction has such a name.
+fn array_name(number: i32) -> String {
+    format!("array{number}")
+}
+
+/// What stands behind an array's name. What no table may have is written in bytes.
+fn typed_array(number: i32, record: &[u8]) -> String {
+    let first = u16::from_le_bytes([record[0], record[1]]);
+    let length = u16::from_le_bytes([record[2], record[3]]);
+    let end = usize::from(first) + usize::from(length);
+    match number as usize <= MOST_ARRAYS && end <= MOST_CELLS {
+        true => format!("= {length} at {first}"),
+        false => format!("raw {}", hexadecimal(record)),
+    }
+}
+
 fn hexadecimal(bytes: &[u8]) -> String {
     let words: Vec<String> = bytes.iter().map(|byte| format!("{byte:02x}")).collect();
     words.join(" ")
@@ -61,7 +88,12 @@ fn hexadecimal(bytes: &[u8]) -> String {
 
 /// The typed form of a record, or `None` if the assembler would refuse it or
 /// make other bytes of it.
-fn typed(record: &[u8], records: &[&[u8]], returns: &mut HashMap<i32, u16>) -> Option<String> {
+fn typed(
+    record: &[u8],
+    records: &[&[u8]],
+    arrays: i32,
+    returns: &mut HashMap<i32, u16>,
+) -> Option<String> {
     let operation = by_code(record[0])?;
     let fan_out = usize::from(record[1]);
     let constant = i32::from_le_bytes([record[8], record[9], record[10], record[11]]);
@@ -84,14 +116,17 @@ fn typed(record: &[u8], records: &[&[u8]], returns: &mut HashMap<i32, u16>) -> O
         Constant::Offset => (0..=255)
             .contains(&constant)
             .then(|| format!("LEAVE {constant}")),
+        Constant::Array if !(0..=arrays).contains(&constant) => None,
         _ => Some(typed_plain(&operation, constant, &arcs)),
     }
 }
 
 fn typed_plain(operation: &Operation, constant: i32, arcs: &[String]) -> String {
     let mut line = operation.name.to_string();
-    if operation.constant == Constant::Value {
-        line += &format!(" {constant}");
+    match operation.constant {
+        Constant::Value => line += &format!(" {constant}"),
+        Constant::Array if constant != 0 => line += &format!(" {}", array_name(constant)),
+        _ => {}
     }
     if !arcs.is_empty() {
         line += &format!(" -> {}", arcs.join(" "));

@@ -3,7 +3,7 @@
 use crate::operations::names;
 
 /// The words that begin a line which is no instruction.
-const LINES: [&str; 4] = ["input", "picks", "cell", "order"];
+const LINES: [&str; 5] = ["input", "picks", "cell", "array", "order"];
 
 /// Words of the memos and of other machines, and what is written here.
 const KNOWN: [(&[&str], &str); 14] = [
@@ -74,14 +74,52 @@ pub fn name<'n>(word: &str, defined: impl Iterator<Item = &'n str>) -> Option<St
     nearest(word, defined).map(|name| format!("did you mean `{name}`?"))
 }
 
-/// What to write where a constant or nothing is expected and other words stand.
-pub fn arrow(operation: &str, words: &[&str]) -> Option<String> {
-    let target = |word: &&str| word.starts_with(|c: char| c.is_ascii_alphabetic() || c == '_');
-    let words = words.join(" ");
-    words
-        .split(' ')
-        .all(|word| target(&word))
-        .then(|| format!("an arrow before the targets: `{operation} -> {words}`"))
+/// What to write where words stand behind an operation that are no constant: the arrow before the targets is missing,
+/// behind the constant or number if the operation takes one.
+pub fn arrow(operation: &str, words: &[&str], takes_number: bool) -> Option<String> {
+    let is_target = |word: &&str| word.starts_with(|c: char| c.is_ascii_alphabetic() || c == '_');
+    match words {
+        [number, targets @ ..] if takes_number && number.parse::<i32>().is_ok() => {
+            let missing = !targets.is_empty() && targets.iter().all(is_target);
+            missing.then(|| missing_arrow(&format!("{operation} {number}"), targets))
+        }
+        targets => targets
+            .iter()
+            .all(is_target)
+            .then(|| missing_arrow(operation, targets)),
+    }
+}
+
+pub fn missing_arrow(operation: &str, targets: &[&str]) -> String {
+    let targets = targets.join(" ");
+    format!("an arrow before the targets: `{operation} -> {targets}`")
+}
+
+/// What to write where names stand behind FETCH or STORE and no arrow: the first may be an array's.
+pub fn array_or_arrow(operation: &str, words: &[&str]) -> String {
+    let array = words[0];
+    let targets = match &words[1..] {
+        [] => "name.port".to_string(),
+        targets => targets.join(" "),
+    };
+    let arrow = missing_arrow(operation, words);
+    format!("{arrow}; or, of an array `{array}`, `{operation} {array} -> {targets}`")
+}
+
+/// What to write for a word that begins a line and is no operation, by the words behind it.
+pub fn line(word: &str, rest: &[&str]) -> Option<String> {
+    match rest {
+        _ if word.contains('(') => {
+            Some("an element of an array is written `name[index]`".to_string())
+        }
+        ["=", value] => Some(format!(
+            "an input is `input {word} = {value}`; an element of an array is loaded by `{word}[1] = {value}`"
+        )),
+        [index, ..] if index.starts_with('[') => {
+            Some(format!("an element is written without spaces: `{word}{index}`"))
+        }
+        _ => operation(word),
+    }
 }
 
 /// The nearest of some names, if it is near enough to have been meant.

@@ -1,6 +1,7 @@
 //! An assembler for dataflow graphs typed as text, and back. The format is
 //! described in docs/TYPED-GRAPHS.md; the records are those of document 01.
 
+mod arrays;
 mod assemble;
 mod disassemble;
 mod errors;
@@ -8,10 +9,11 @@ mod hints;
 mod names;
 mod operations;
 mod parse;
+mod parse_arrays;
 mod statement;
 mod words;
 
-pub use assemble::{assemble, read, read_order, Instruction, Named, Place, Program};
+pub use assemble::{assemble, read, read_order, Array, Instruction, Named, Place, Program};
 pub use disassemble::disassemble;
 pub use errors::{Error, Errors, Span};
 pub use operations::{by_code, Constant, Operation};
@@ -22,11 +24,16 @@ pub const GRAPH_RECORD: usize = 16;
 pub const TOKEN_RECORD: usize = 28;
 /// Bytes of a pick.
 pub const PICK_RECORD: usize = 2;
+/// Bytes of an array in its table: first cell and length.
+pub const ARRAY_RECORD: usize = 4;
+/// The most arrays that a table may have.
+pub const MOST_ARRAYS: usize = 64;
 
-/// The contents of the files `graph`, `inputs` and `picks`.
+/// The contents of the files `graph`, `arrays`, `inputs` and `picks`.
 #[derive(Clone, Debug, Default, PartialEq, Eq)]
 pub struct Files {
     pub graph: Vec<u8>,
+    pub arrays: Vec<u8>,
     pub inputs: Vec<u8>,
     pub picks: Vec<u8>,
 }

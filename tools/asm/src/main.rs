@@ -1,5 +1,5 @@
-//! `asm FILE FOLDER` writes the files graph, inputs and picks of a text into a
-//! folder; `asm --back FOLDER` prints the text of such files.
+//! `asm FILE FOLDER` writes the files graph, arrays, inputs and picks of a text into
+//! a folder; `asm --back FOLDER` prints the text of such files.
 
 use std::fs;
 use std::io::ErrorKind;
@@ -34,6 +34,7 @@ fn to_files(file: &str, folder: &Path) -> Result<(), String> {
     })?;
     fs::create_dir_all(folder)
         .and_then(|()| fs::write(folder.join("graph"), &files.graph))
+        .and_then(|()| fs::write(folder.join("arrays"), &files.arrays))
         .and_then(|()| fs::write(folder.join("inputs"), &files.inputs))
         .and_then(|()| fs::write(folder.join("picks"), &files.picks))
         .map_err(|error| format!("{}: {error}", folder.display()))
@@ -42,6 +43,7 @@ fn to_files(file: &str, folder: &Path) -> Result<(), String> {
 fn to_text(folder: &Path) -> Result<(), String> {
     let files = Files {
         graph: read(&folder.join("graph"))?,
+        arrays: read(&folder.join("arrays"))?,
         inputs: read(&folder.join("inputs"))?,
         picks: read(&folder.join("picks"))?,
     };

@@ -5,9 +5,10 @@ use std::collections::HashMap;
 use crate::errors::{Error, Fault};
 use crate::hints;
 use crate::operations::operand_count;
-use crate::statement::{Line, Statement, Target};
+use crate::statement::{Element, Line, Statement, Target};
+use crate::words::Word;
 
-/// The code of STORE, which a line that loads a cell stands for.
+/// The code of STORE, which a line that loads a cell or an element stands for.
 pub const STORE: u8 = 11;
 /// The most instructions that a graph may have. A longer one can be assembled, for the engine to refuse it.
 const MOST_INSTRUCTIONS: usize = 256;
@@ -17,10 +18,10 @@ const MOST_NUMBERS: usize = 65_536;
 /// The fault of a text whose instructions have no numbers: how many they are, at the first that a graph cannot have.
 pub fn too_many(lines: &[Line]) -> Option<Error> {
     let is_instruction = |line: &&Line| {
-        use Statement::{Cell, FaultyInstruction, Raw, Typed};
+        use Statement::{Cell, Element, FaultyInstruction, Raw, Typed};
         matches!(
             line.statement,
-            Typed(_) | Raw(_) | Cell(..) | FaultyInstruction(_)
+            Typed(_) | Raw(_) | Cell(..) | Element(..) | FaultyInstruction(_)
         )
     };
     let count = lines.iter().filter(is_instruction).count();
@@ -30,12 +31,22 @@ pub fn too_many(lines: &[Line]) -> Option<Error> {
     (count > MOST_NUMBERS).then(|| fault.on_line(first.number))
 }
 
-/// The instructions by name, the operand counts by number, and the return of
-/// every site so far.
+/// What a name stands for.
+#[derive(Clone, Copy)]
+enum Meaning {
+    /// An instruction by its number.
+    Instruction(u16),
+    /// An array by its number, counted from 1, and its length, `None` for one with a fault.
+    Array(i32, Option<u16>),
+}
+
+/// Instructions and arrays by name, each with its line, the operand counts by
+/// number, and the return of every site so far.
 pub struct Names<'t> {
-    numbers: HashMap<&'t str, (u16, usize)>,
+    meanings: HashMap<&'t str, (Meaning, usize)>,
     /// `None` for an instruction with a fault.
     operands: Vec<Option<u8>>,
+    arrays: i32,
     returns: HashMap<i32, (u16, usize)>,
 }
 
@@ -43,32 +54,57 @@ impl<'t> Names<'t> {
     /// The names of the lines, as far as instructions have numbers.
     pub fn of(lines: &[Line<'t>], errors: &mut Vec<Error>) -> Names<'t> {
         let mut names = Names {
-            numbers: HashMap::new(),
+            meanings: HashMap::new(),
             operands: Vec::new(),
+            arrays: 0,
             returns: HashMap::new(),
         };
         for line in lines {
-            let operands = match &line.statement {
-                Statement::Typed(typed) => Some(typed.operation.operands),
-                Statement::Raw(record) => Some(operand_count(record[0])),
-                Statement::Cell(..) => Some(operand_count(STORE)),
-                Statement::FaultyInstruction(_) => None,
-                _ => continue,
-            };
-            if let Err(fault) = names.define(line) {
+            if let Err(fault) = names.add(line) {
                 errors.push(fault.on_line(line.number));
             }
-            names.operands.push(operands);
         }
         names
     }
 
-    fn define(&mut self, line: &Line<'t>) -> Result<(), Fault> {
-        let Some(name) = line.name else {
-            return Ok(());
+    /// The name of a line, if it is an instruction's or an array's.
+    fn add(&mut self, line: &Line<'t>) -> Result<(), Fault> {
+        let operands = match &line.statement {
+            Statement::Typed(typed) => Some(typed.operation.operands),
+            Statement::Raw(record) => Some(operand_count(record[0])),
+            Statement::Cell(..) | Statement::Element(..) => Some(operand_count(STORE)),
+            Statement::FaultyInstruction(_) => None,
+            Statement::Array(name, extent) => {
+                return self.add_array(*name, Some(extent.length), line)
+            }
+            Statement::RawArray(name, record) => {
+                let length = u16::from_le_bytes([record[2], record[3]]);
+                return self.add_array(*name, Some(length), line);
+            }
+            Statement::FaultyArray(name) => return self.add_array(*name, None, line),
+            _ => return Ok(()),
         };
         let number = self.operands.len() as u16;
-        match self.numbers.insert(name.text, (number, line.number)) {
+        self.operands.push(operands);
+        match line.name {
+            Some(name) => self.define(name, Meaning::Instruction(number), line),
+            None => Ok(()),
+        }
+    }
+
+    fn add_array(
+        &mut self,
+        name: Word<'t>,
+        length: Option<u16>,
+        line: &Line<'t>,
+    ) -> Result<(), Fault> {
+        self.arrays += 1;
+        self.define(name, Meaning::Array(self.arrays, length), line)
+    }
+
+    /// No array has the name of an instruction: answers have both, as `a[3]`.
+    fn define(&mut self, name: Word<'t>, meaning: Meaning, line: &Line) -> Result<(), Fault> {
+        match self.meanings.insert(name.text, (meaning, line.number)) {
             None => Ok(()),
             Some((_, first)) => {
                 let text = format!("`{}` is defined twice", name.text);
@@ -77,18 +113,26 @@ impl<'t> Names<'t> {
         }
     }
 
+    fn meaning(&self, name: &str) -> Option<Meaning> {
+        self.meanings.get(name).map(|(meaning, _)| *meaning)
+    }
+
     /// The instruction and port of a target.
     pub fn resolve(&self, target: &Target) -> Result<(u16, u8), Fault> {
         let name = target.name.text;
-        let Some(&(number, _)) = self.numbers.get(name) else {
-            let fault = Fault::new(target.name.span(), format!("`{name}` is not defined"));
-            // Among more names than a graph can have, likeness takes long to find and says little.
-            let names = self.numbers.keys().copied();
-            let hint = match names.len() <= MOST_INSTRUCTIONS {
-                true => hints::name(name, names),
-                false => None,
-            };
-            return Err(fault.maybe(hint));
+        let number = match self.meaning(name) {
+            Some(Meaning::Instruction(number)) => number,
+            Some(Meaning::Array(..)) => {
+                let text = format!("`{name}` is an array, and no instruction");
+                let fault = Fault::new(target.name.span(), text);
+                return Err(fault.hint(format!(
+                    "`STORE {name}` writes an element, `FETCH {name}` reads one"
+                )));
+            }
+            None => {
+                let fault = Fault::new(target.name.span(), format!("`{name}` is not defined"));
+                return Err(fault.maybe(self.near(name, |m| matches!(m, Meaning::Instruction(_)))));
+            }
         };
         match self.operands[usize::from(number)] {
             Some(operands) if target.port >= operands => {
@@ -99,6 +143,71 @@ impl<'t> Names<'t> {
             }
             _ => Ok((number, target.port)),
         }
+    }
+
+    /// The names of a kind that are near to a word. Among more names than a graph can have, likeness takes long to find and
+    /// says little.
+    fn near(&self, word: &str, is_kind: impl Fn(&Meaning) -> bool) -> Option<String> {
+        let kind = self
+            .meanings
+            .iter()
+            .filter(|(_, (meaning, _))| is_kind(meaning));
+        let names: Vec<&str> = kind.map(|(name, _)| *name).collect();
+        match names.len() <= MOST_INSTRUCTIONS {
+            true => hints::name(word, names.into_iter()),
+            false => None,
+        }
+    }
+
+    /// The number of an array that an operation names.
+    pub fn array(&self, name: Word, operation: &str) -> Result<i32, Fault> {
+        let text = name.text;
+        match self.meaning(text) {
+            Some(Meaning::Array(number, _)) => Ok(number),
+            Some(Meaning::Instruction(_)) => {
+                let fault = Fault::new(
+                    name.span(),
+                    format!("`{text}` is an instruction, and no array"),
+                );
+                Err(fault.hint(hints::missing_arrow(operation, &[text])))
+            }
+            None => Err(self.no_array(name)),
+        }
+    }
+
+    fn no_array(&self, name: Word) -> Fault {
+        let text = name.text;
+        let near = self.near(text, |meaning| matches!(meaning, Meaning::Array(..)));
+        let hint =
+            near.unwrap_or_else(|| format!("a line `array {text} = 8` makes one of 8 elements"));
+        Fault::new(name.span(), format!("there is no array `{text}`")).hint(hint)
+    }
+
+    /// The array of an element by its number; the index is one of its indices.
+    pub fn element(&self, element: &Element) -> Result<i32, Fault> {
+        let (name, index) = (element.array.text, element.index);
+        let (number, length) = match self.meaning(name) {
+            Some(Meaning::Array(number, Some(length))) => (number, i32::from(length)),
+            // What is wrong with the array is said where it is defined.
+            Some(Meaning::Array(number, None)) => return Ok(number),
+            Some(Meaning::Instruction(_)) => {
+                let text = format!("`{name}` is an instruction, and no array");
+                let fault = Fault::new(element.array.span(), text);
+                return Err(fault.hint(format!("an input is `input {name} = value`")));
+            }
+            None => return Err(self.no_array(element.array)),
+        };
+        if (1..=length).contains(&index) {
+            return Ok(number);
+        }
+        let s = if length == 1 { "" } else { "s" };
+        let text = format!("`{name}` has {length} element{s}; index {index}");
+        let hint = match length {
+            0 => "an empty array has nothing to load".to_string(),
+            1 => format!("its only element is `{name}[1]`"),
+            _ => format!("its elements are `{name}[1]` to `{name}[{length}]`"),
+        };
+        Err(Fault::new(element.word.span(), text).hint(hint))
     }
 
     /// All ENTERs of one site have the same return instruction.

@@ -13,6 +13,8 @@ pub enum Constant {
     Site,
     /// A number, 0 to 255, that is added to the return instruction.
     Offset,
+    /// The name of an array, or none for the whole store.
+    Array,
 }
 
 #[derive(Clone, Copy, Debug)]
@@ -56,8 +58,8 @@ const OPERATIONS: [Operation; 19] = [
     operation(7, "NEXT", 1, (1, 2), Constant::Unused),
     operation(8, "ENTER", 1, (2, 2), Constant::Site),
     operation(9, "LEAVE", 1, (0, 0), Constant::Offset),
-    operation(10, "FETCH", 1, (1, 2), Constant::Unused),
-    operation(11, "STORE", 2, (0, 2), Constant::Unused),
+    operation(10, "FETCH", 1, (1, 2), Constant::Array),
+    operation(11, "STORE", 2, (0, 2), Constant::Array),
     operation(16, "ADD", 2, (1, 2), Constant::Unused),
     operation(17, "SUB", 2, (1, 2), Constant::Unused),
     operation(18, "MUL", 2, (1, 2), Constant::Unused),

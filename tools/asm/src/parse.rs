@@ -3,11 +3,12 @@
 use crate::errors::Fault;
 use crate::hints;
 use crate::operations::{by_name, is_arithmetic, with_constant, Constant, Operation};
+use crate::parse_arrays::{is_element, named_array, parse_array, parse_array_name, parse_load};
 use crate::statement::{Line, Statement, Target, Typed};
 use crate::words::{span_of, Word};
 
 const ENTER_FORM: &str = "ENTER is `ENTER site N -> name.port return name`";
-const NUMBER: &str = "a signed number of 32 bits";
+pub const NUMBER: &str = "a signed number of 32 bits";
 
 /// Parses the words of one line; `None` for one without a statement.
 pub fn parse_line<'t>(
@@ -22,9 +23,13 @@ pub fn parse_line<'t>(
     let statement = parse_statement(words, name.is_some(), rest).unwrap_or_else(|fault| {
         faults.push(fault);
         let targets = named_targets(rest);
-        match name.is_none() && is_other(words[0].text) {
-            true => Statement::Faulty(targets),
-            false => Statement::FaultyInstruction(targets),
+        match (
+            name.is_none() && is_other(words[0].text),
+            named_array(words),
+        ) {
+            (true, Some(array)) => Statement::FaultyArray(array),
+            (true, None) => Statement::Faulty(targets),
+            (false, _) => Statement::FaultyInstruction(targets),
         }
     });
     Some(Line {
@@ -51,7 +56,7 @@ fn named_targets<'t>(words: &[Word<'t>]) -> Vec<Target<'t>> {
 
 /// Whether a word begins a line that is no instruction.
 fn is_other(word: &str) -> bool {
-    matches!(word, "input" | "picks" | "cell" | "order")
+    matches!(word, "input" | "picks" | "cell" | "array" | "order") || is_element(word)
 }
 
 /// The name before a colon, and the words behind it.
@@ -119,11 +124,17 @@ fn parse_statement<'t>(
             "picks" => parse_picks(rest),
             "cell" => parse_cell(*first, rest),
             "order" => parse_order(*first, rest),
+            "array" => parse_array(*first, rest),
             "raw" => parse_bytes(*first, rest).map(Statement::Raw),
+            word if is_element(word) => parse_load(*first, rest),
             _ => parse_instruction(*first, rest),
         },
         [first, rest @ ..] => match first.text {
             "raw" => parse_bytes(*first, rest).map(Statement::Raw),
+            word if is_other(word) => {
+                let fault = Fault::new(first.span(), format!("`{word}` is no operation"));
+                Err(fault.hint("such a line has no name and colon before it"))
+            }
             _ => parse_instruction(*first, rest),
         },
     }
@@ -134,7 +145,7 @@ fn no_name(name: &str, span: crate::Span) -> Fault {
     Fault::new(span, text)
 }
 
-fn check_name(word: Word) -> Result<Word, Fault> {
+pub fn check_name(word: Word) -> Result<Word, Fault> {
     let mut letters = word.text.chars();
     let first = letters
         .next()
@@ -149,7 +160,7 @@ fn check_name(word: Word) -> Result<Word, Fault> {
     Ok(word)
 }
 
-fn parse_number<T: std::str::FromStr>(word: Word, what: &str) -> Result<T, Fault> {
+pub fn parse_number<T: std::str::FromStr>(word: Word, what: &str) -> Result<T, Fault> {
     word.text
         .parse()
         .map_err(|_| Fault::new(word.span(), format!("`{}` is not {what}", word.text)))
@@ -160,6 +171,13 @@ fn parse_target(word: Word) -> Result<Target, Fault> {
     if word.text == ":" {
         let fault = Fault::new(word.span(), "a colon among the targets");
         return Err(fault.hint("a port is written with a point: `name.0`"));
+    }
+    if is_element(word.text) {
+        let array = word.text.split('[').next().unwrap_or_default();
+        let fault = Fault::new(word.span(), format!("`{}` is no target", word.text));
+        return Err(fault.hint(format!(
+            "an element is written by `STORE {array}`: port 0 takes its index, port 1 its value"
+        )));
     }
     let (name, port) = match word.text.find('.') {
         None => (word, 0),
@@ -176,6 +194,11 @@ fn parse_target(word: Word) -> Result<Target, Fault> {
 fn parse_input<'t>(first: Word<'t>, rest: &[Word<'t>]) -> Result<Statement<'t>, Fault> {
     match rest {
         [raw, bytes @ ..] if raw.text == "raw" => parse_bytes(*raw, bytes).map(Statement::RawInput),
+        [element, equals, value] if equals.text == "=" && is_element(element.text) => {
+            let (text, value) = (element.text, value.text);
+            let fault = Fault::new(first.start..element.span().end, "an element is no target");
+            Err(fault.hint(format!("it is loaded without `input`: `{text} = {value}`")))
+        }
         [target, equals, value] if equals.text == "=" => {
             let value = parse_number(*value, NUMBER)?;
             Ok(Statement::Input(parse_target(*target)?, value))
@@ -192,7 +215,11 @@ fn parse_cell<'t>(first: Word<'t>, rest: &[Word<'t>]) -> Result<Statement<'t>, F
     match rest {
         [cell, equals, value] if equals.text == "=" => {
             let what = "the number of a cell, 0 to 1023";
-            let number: u16 = parse_number(*cell, what)?;
+            let element = is_element(cell.text).then(|| {
+                let (text, value) = (cell.text, value.text);
+                format!("an element is loaded without `cell`: `{text} = {value}`")
+            });
+            let number: u16 = parse_number(*cell, what).map_err(|fault| fault.maybe(element))?;
             if number >= 1024 {
                 let text = format!("`{number}` is not {what}");
                 return Err(Fault::new(cell.span(), text));
@@ -225,7 +252,7 @@ fn parse_order<'t>(first: Word<'t>, rest: &[Word<'t>]) -> Result<Statement<'t>, 
     Ok(Statement::Order(rest.to_vec()))
 }
 
-fn parse_bytes<const N: usize>(first: Word, words: &[Word]) -> Result<[u8; N], Fault> {
+pub fn parse_bytes<const N: usize>(first: Word, words: &[Word]) -> Result<[u8; N], Fault> {
     let byte = |word: &Word| {
         let digits = word.text.len() == 2 && word.text.bytes().all(|b| b.is_ascii_hexdigit());
         match u8::from_str_radix(word.text, 16) {
@@ -248,18 +275,29 @@ fn parse_bytes<const N: usize>(first: Word, words: &[Word]) -> Result<[u8; N], F
 fn parse_instruction<'t>(first: Word<'t>, rest: &[Word<'t>]) -> Result<Statement<'t>, Fault> {
     let operation = by_name(first.text).ok_or_else(|| {
         let text = format!("`{}` is no operation", first.text);
-        Fault::new(first.span(), text).maybe(hints::operation(first.text))
+        let behind: Vec<&str> = rest.iter().map(|word| word.text).collect();
+        Fault::new(first.span(), text).maybe(hints::line(first.text, &behind))
     })?;
     let (head, tail) = match rest.iter().position(|word| word.text == "->") {
         Some(at) => (&rest[..at], &rest[at + 1..]),
         None => (rest, &[][..]),
     };
+    let array = match operation.constant {
+        Constant::Array => parse_array_name(&operation, head)?,
+        _ => None,
+    };
     let (operation, constant) = parse_constant(first, operation, head)?;
     let arcs = parse_arcs(first, &operation, tail)?;
-    check_fan_out(first, &operation, tail, arcs.len())?;
+    check_fan_out(first, &operation, tail, arcs.len()).map_err(|fault| match array {
+        Some(array) if arcs.is_empty() => {
+            fault.hint(hints::array_or_arrow(operation.name, &[array.text]))
+        }
+        _ => fault,
+    })?;
     Ok(Statement::Typed(Typed {
         operation,
         constant,
+        array,
         arcs,
     }))
 }
@@ -303,7 +341,8 @@ fn parse_constant(
 ) -> Result<(Operation, i32), Fault> {
     let name = operation.name;
     let texts: Vec<&str> = words.iter().map(|word| word.text).collect();
-    let arrow = || hints::arrow(name, &texts);
+    let takes_number = operation.constant == Constant::Value || is_arithmetic(&operation);
+    let arrow = || hints::arrow(name, &texts, takes_number);
     match (operation.constant, words) {
         (Constant::Unused, []) => Ok((operation, 0)),
         (Constant::Unused, [word]) if is_arithmetic(&operation) => {
@@ -326,9 +365,13 @@ fn parse_constant(
         }
         (Constant::Value, _) => {
             let fault = Fault::new(first.span(), format!("{name} needs one constant"));
-            Err(fault.hint(format!("for example `{name} 5 -> name.port`")))
+            let example = || format!("for example `{name} 5 -> name.port`");
+            let arrow = arrow().filter(|_| words.len() > 1);
+            Err(fault.hint(arrow.unwrap_or_else(example)))
         }
         (Constant::Site, _) => Err(Fault::new(first.span(), ENTER_FORM)),
+        // Its name is parsed apart.
+        (Constant::Array, _) => Ok((operation, 0)),
         (Constant::Offset, _) => {
             let fault = Fault::new(first.span(), "LEAVE needs one constant, 0 to 255");
             Err(fault.hint("`LEAVE 0` sends to the return instruction itself"))

@@ -4,7 +4,7 @@ use crate::assemble::Place;
 use crate::errors::Span;
 use crate::operations::Operation;
 use crate::words::Word;
-use crate::{GRAPH_RECORD, TOKEN_RECORD};
+use crate::{ARRAY_RECORD, GRAPH_RECORD, TOKEN_RECORD};
 
 /// An instruction's name with one of its ports.
 #[derive(Clone, Debug)]
@@ -15,11 +15,31 @@ pub struct Target<'t> {
     pub word: Word<'t>,
 }
 
+/// An array's name with the index of one of its elements.
+#[derive(Clone, Debug)]
+pub struct Element<'t> {
+    pub array: Word<'t>,
+    pub index: i32,
+    /// The whole of it.
+    pub word: Word<'t>,
+}
+
+/// The cells of an array: how many, and the first of them where it is typed.
+#[derive(Clone, Debug)]
+pub struct Extent {
+    pub length: u16,
+    pub at: Option<u16>,
+    /// From the name to the last number.
+    pub span: Span,
+}
+
 /// A typed instruction. The target behind `return` is the last of its arcs.
 #[derive(Clone, Debug)]
 pub struct Typed<'t> {
     pub operation: Operation,
     pub constant: i32,
+    /// The array that FETCH or STORE names; its number is the constant.
+    pub array: Option<Word<'t>>,
     pub arcs: Vec<Target<'t>>,
 }
 
@@ -33,6 +53,12 @@ pub enum Statement<'t> {
     RawInput([u8; TOKEN_RECORD]),
     /// A cell and its value: a STORE and the two inputs that fire it.
     Cell(i32, i32),
+    /// An element and its value: a STORE to its array and the two inputs that fire it.
+    Element(Element<'t>, i32),
+    /// An array and the cells that it takes.
+    Array(Word<'t>, Extent),
+    /// An array and its record in bytes.
+    RawArray(Word<'t>, [u8; ARRAY_RECORD]),
     Picks(Vec<u16>),
     /// The activities of an order, as answers name them.
     Order(Vec<Word<'t>>),
@@ -41,6 +67,9 @@ pub enum Statement<'t> {
     /// An instruction with a fault. Its name is defined, so that one fault is
     /// not reported at every arc to it.
     FaultyInstruction(Vec<Target<'t>>),
+    /// An array with a fault. Its name is defined, so that one fault is not
+    /// reported wherever it is named.
+    FaultyArray(Word<'t>),
 }
 
 /// A line with a statement.

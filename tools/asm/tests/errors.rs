@@ -49,10 +49,13 @@ const OPERATIONS: [Case; 28] = [
 ];
 
 #[rustfmt::skip]
-const CONSTANTS: [Case; 14] = [
+const CONSTANTS: [Case; 17] = [
     ("x: COPY 4 -> x", 1, "4", "COPY is followed by `4`", Some("COPY has no constant; 4 comes by an arc, or by `input name = 4`")),
     ("x: COPY x y", 1, "x y", "COPY is followed by `x y`", Some("an arrow before the targets: `COPY -> x y`")),
     ("x: ADD x", 1, "x", "`x` is not a signed number of 32 bits", Some("an arrow before the targets: `ADD -> x`")),
+    ("x: ADD 5 x", 1, "5 x", "ADD is followed by `5 x`", Some("an arrow before the targets: `ADD 5 -> x`")),
+    ("x: CONST 5 x y", 1, "CONST", "CONST needs one constant", Some("an arrow before the targets: `CONST 5 -> x y`")),
+    ("x: ADD 5 6", 1, "5 6", "ADD is followed by `5 6`", None),
     ("x: CONST -> x", 1, "CONST", "CONST needs one constant", Some("for example `CONST 5 -> name.port`")),
     ("x: CONST 2147483648 -> x", 1, "2147483648", "`2147483648` is not a signed number of 32 bits", None),
     ("x: LEAVE 256", 1, "256", "`256` is not a LEAVE constant, 0 to 255", None),
@@ -91,10 +94,63 @@ const NAMES: [Case; 21] = [
     ("x: SINK\n order x[0] x[1]", 2, "x[0]", "the picks of an order are not known", Some("`dayomlak asm` fires the graph to find them")),
 ];
 
+const ARRAY: &str = "an array is `array name = length`, or `array name = length at cell`";
+const ELEMENT: &str = "an element is loaded by `name[index] = value`";
+
+#[rustfmt::skip]
+const ARRAYS: [Case; 20] = [
+    ("array a 8", 1, "array a 8", ARRAY, None),
+    ("array a[8]", 1, "array a[8]", ARRAY, Some("`array a = 8`")),
+    ("array a = 8 20", 1, "array a = 8 20", ARRAY, None),
+    ("array a: 8", 1, "array a: 8", ARRAY, None),
+    ("array", 1, "array", ARRAY, None),
+    ("array 9a = 3", 1, "9a", "`9a` is no name: letters, digits and _, no digit first", None),
+    ("array a = -1", 1, "-1", "`-1` is not a length, 0 to 1024", None),
+    ("array a = 1025", 1, "1025", "`1025` is not a length, 0 to 1024", None),
+    ("array a = 0 at 1025", 1, "1025", "`1025` is not the number of a cell, 0 to 1023", None),
+    ("array a = 8 at 1017", 1, "a = 8 at 1017", "`a` would have cells 1017 to 1024, and 1023 is the last", None),
+    ("array a = 1000\narray b = 25", 2, "b = 25", "`b` would have cells 1000 to 1024, and 1023 is the last", Some("it begins behind the arrays above it, at cell 1000")),
+    ("array a = 8\narray a = 3", 2, "a", "`a` is defined twice", Some("the first is in line 1")),
+    ("array a = 8\na: OUT", 2, "a", "`a` is defined twice", Some("the first is in line 1")),
+    ("array a raw 00 00 08", 1, "raw 00 00 08", "3 bytes instead of 4", None),
+    ("x: array a = 3", 1, "array", "`array` is no operation", Some("such a line has no name and colon before it")),
+    ("ARRAY a = 3", 1, "ARRAY", "`ARRAY` is no operation", Some("did you mean array?")),
+    ("array a = 3\nx: COPY -> a", 2, "a", "`a` is an array, and no instruction", Some("`STORE a` writes an element, `FETCH a` reads one")),
+    ("array a = 3\nx: COPY -> a[3]", 2, "a[3]", "`a[3]` is no target", Some("an element is written by `STORE a`: port 0 takes its index, port 1 its value")),
+    ("array a = 3\ninput a[3] = 7", 2, "input a[3]", "an element is no target", Some("it is loaded without `input`: `a[3] = 7`")),
+    ("array a = 3\ncell a[3] = 7", 2, "a[3]", "`a[3]` is not the number of a cell, 0 to 1023", Some("an element is loaded without `cell`: `a[3] = 7`")),
+];
+
+#[rustfmt::skip]
+const ELEMENTS: [Case; 22] = [
+    ("array a = 8\na[9] = 7", 2, "a[9]", "`a` has 8 elements; index 9", Some("its elements are `a[1]` to `a[8]`")),
+    ("array a = 8\na[0] = 7", 2, "a[0]", "`a` has 8 elements; index 0", Some("its elements are `a[1]` to `a[8]`")),
+    ("a[-1] = 7\narray a = 1", 1, "a[-1]", "`a` has 1 element; index -1", Some("its only element is `a[1]`")),
+    ("array a = 0\na[1] = 7", 2, "a[1]", "`a` has 0 elements; index 1", Some("an empty array has nothing to load")),
+    ("array a = 8\na[1] = x", 2, "x", "`x` is not a signed number of 32 bits", None),
+    ("array a = 8\na[x] = 7", 2, "x", "`x` is not an index", None),
+    ("array a = 8\na[1] 7", 2, "a[1] 7", ELEMENT, None),
+    ("array a = 8\na[ 1 ] = 7", 2, "a[ 1 ] = 7", ELEMENT, None),
+    ("array a = 8\na[1 = 7", 2, "a[1 = 7", ELEMENT, None),
+    ("array a = 8\na [1] = 7", 2, "a", "`a` is no operation", Some("an element is written without spaces: `a[1]`")),
+    ("array a = 8\na(1) = 7", 2, "a(1)", "`a(1)` is no operation", Some("an element of an array is written `name[index]`")),
+    ("array a = 8\na = 7", 2, "a", "`a` is no operation", Some("an input is `input a = 7`; an element of an array is loaded by `a[1] = 7`")),
+    ("x: OUT\nx[1] = 7", 2, "x", "`x` is an instruction, and no array", Some("an input is `input x = value`")),
+    ("b[1] = 7", 1, "b", "there is no array `b`", Some("a line `array b = 8` makes one of 8 elements")),
+    ("array vec = 8\nx: FETCH vex -> x", 2, "vex", "there is no array `vex`", Some("did you mean `vec`?")),
+    ("x: FETCH a -> x", 1, "a", "there is no array `a`", Some("a line `array a = 8` makes one of 8 elements")),
+    ("x: STORE y\ny: OUT", 1, "y", "`y` is an instruction, and no array", Some("an arrow before the targets: `STORE -> y`")),
+    ("x: FETCH y\ny: OUT", 1, "FETCH", "FETCH has 1 or 2 destinations, not 0", Some("an arrow before the targets: `FETCH -> y`; or, of an array `y`, `FETCH y -> name.port`")),
+    ("x: FETCH a y\ny: OUT", 1, "a y", "FETCH is followed by `a y`", Some("an arrow before the targets: `FETCH -> a y`; or, of an array `a`, `FETCH a -> y`")),
+    ("x: FETCH a[3] -> x", 1, "a[3]", "FETCH is followed by `a[3]`", Some("the index comes by port 0: `FETCH a`, and `input name = 3` or an arc")),
+    ("x: FETCH 3 -> x", 1, "3", "FETCH is followed by `3`", Some("FETCH has no constant; 3 comes by an arc, or by `input name = 3`")),
+    ("x: STORE 9a", 1, "9a", "`9a` is no name: letters, digits and _, no digit first", None),
+];
+
 #[test]
 fn each_error_has_its_place_and_its_hint() {
-    for (text, line, marked, message, hint) in OPERATIONS.into_iter().chain(CONSTANTS).chain(NAMES)
-    {
+    let cases = OPERATIONS.into_iter().chain(CONSTANTS).chain(NAMES);
+    for (text, line, marked, message, hint) in cases.chain(ARRAYS).chain(ELEMENTS) {
         let errors = errors(text);
         assert_eq!(errors.len(), 1, "{text}: {errors:?}");
         let error = &errors[0];
@@ -127,6 +183,37 @@ fn all_errors_come_at_once() {
 fn an_arc_to_a_faulty_line_is_no_error_of_its_own() {
     let text = "a: COPY -> b.1\nb: FROB\ninput b.7 = 1";
     assert_eq!(errors(text).len(), 1);
+}
+
+#[test]
+fn a_faulty_array_is_no_error_where_it_is_named() {
+    for array in ["array a =", "array a[8]", "array a = 9 at x"] {
+        let text = format!("{array}\nf: FETCH a -> out\nout: OUT\na[9] = 1\ninput f = 1\n");
+        assert_eq!(errors(&text).len(), 1, "{array}");
+    }
+}
+
+/// 64 arrays are the most; one more is an error at its line, and so are many more.
+#[test]
+fn the_first_array_that_is_too_many() {
+    let arrays = |count: usize| {
+        let line = |number: usize| format!("array a{number} = 1\n");
+        (1..=count).map(line).collect::<String>()
+    };
+    let files = assemble(&arrays(64)).unwrap();
+    assert_eq!(files.arrays.len(), 64 * asm::ARRAY_RECORD);
+    for count in [65, 70] {
+        let text = arrays(count);
+        let errors = errors(&text);
+        assert_eq!((errors.len(), errors[0].line), (1, 65));
+        let words = format!("there are {count} arrays, and 64 is the most");
+        assert_eq!(errors[0].text, words);
+        assert_eq!(
+            errors[0].hint.as_deref(),
+            Some("the first that is too many")
+        );
+        assert_eq!(&text[errors[0].span.clone()], "array a65 = 1");
+    }
 }
 
 #[test]

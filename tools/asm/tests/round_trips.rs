@@ -51,9 +51,9 @@ fn record(prng: &mut Prng, count: usize) -> [u8; 16] {
         let target = prng.below(count + absent) as u16;
         record[4 + 2 * arc..6 + 2 * arc].copy_from_slice(&target.to_le_bytes());
     }
-    if matches!(code, 4 | 8 | 9 | 32..=39) {
+    if matches!(code, 4 | 8..=11 | 32..=39) {
         let constant = match code {
-            8 | 9 => prng.below(4) as i32,
+            8..=11 => prng.below(4) as i32,
             _ => prng.word() as i32,
         };
         record[8..12].copy_from_slice(&constant.to_le_bytes());
@@ -69,6 +69,11 @@ fn random_files(prng: &mut Prng) -> Files {
     let mut files = Files::default();
     for _ in 0..count {
         files.graph.extend(record(prng, count));
+    }
+    for _ in 0..prng.below(4) {
+        let (first, length) = (prng.below(900) as u16, prng.below(150) as u16);
+        files.arrays.extend(first.to_le_bytes());
+        files.arrays.extend(length.to_le_bytes());
     }
     for _ in 0..prng.below(10) {
         let mut input = [0; asm::TOKEN_RECORD];
@@ -105,6 +110,7 @@ fn arbitrary_bytes() {
         let mut bytes = |length: usize| (0..length).map(|_| prng.word() as u8).collect();
         let files = Files {
             graph: bytes(16 * 20),
+            arrays: bytes(4 * 5),
             inputs: bytes(asm::TOKEN_RECORD * 10),
             picks: bytes(2 * 40),
         };
@@ -113,19 +119,25 @@ fn arbitrary_bytes() {
     round_trip(&Files::default());
     round_trip(&Files {
         graph: vec![2; 16 * 300],
+        arrays: vec![1; 4 * 70],
         inputs: vec![0; asm::TOKEN_RECORD * 3000],
         picks: vec![9; 9000],
     });
 }
 
 #[test]
-fn all_single_byte_changes_of_a_graph() {
-    let text = "a: ENTER site 1 -> b.0 return c\nb: LEAVE 0\nc: ADD 1 -> d.0\nd: STORE -> d.1\n";
+fn all_single_byte_changes() {
+    let text = "a: ENTER site 1 -> b.0 return c\nb: LEAVE 0\nc: ADD 1 -> d.0\nd: STORE x -> d.1\narray x = 8 at 9\n";
     let files = assemble(text).unwrap();
-    for at in 0..files.graph.len() {
-        for value in 0..=255 {
+    for value in 0..=255 {
+        for at in 0..files.graph.len() {
             let mut changed = files.clone();
             changed.graph[at] = value;
+            round_trip(&changed);
+        }
+        for at in 0..files.arrays.len() {
+            let mut changed = files.clone();
+            changed.arrays[at] = value;
             round_trip(&changed);
         }
     }

@@ -78,9 +78,12 @@ fn the_text_of_files() {
 
 #[test]
 fn files_that_are_not_whole_records_have_no_text() {
-    for (graph, inputs, picks) in [(17, 0, 0), (16, 29, 0), (16, 28, 1)] {
+    for (graph, arrays, inputs, picks) in
+        [(17, 0, 0, 0), (16, 5, 0, 0), (16, 4, 29, 0), (16, 0, 28, 1)]
+    {
         let files = asm::Files {
             graph: vec![0; graph],
+            arrays: vec![0; arrays],
             inputs: vec![0; inputs],
             picks: vec![0; picks],
         };
@@ -116,6 +119,54 @@ fn a_cell_is_loaded_by_a_store() {
     assert_eq!(short, assemble(long).unwrap());
     // A name `cell` is still a name.
     assert!(assemble("cell: OUT\ninput cell.0 = 3\n").is_ok());
+}
+
+/// Arrays take the cells behind those above them, unless a cell is typed, and name them by their numbers.
+#[test]
+fn arrays_and_their_elements() {
+    let text = "array a = 4\narray b = 2 at 20\nf: FETCH b -> s.1\narray none = 0\narray c = 3\narray low = 1 at 2\n\
+        array d = 1\ns: STORE c -> g.0\ng: FETCH -> out\nout: OUT\nb[2] = -5\nlow[1]=6\ninput f = 2\n";
+    let program = read(text).unwrap();
+    let arrays: Vec<_> = program
+        .arrays
+        .iter()
+        .map(|a| (&a.name[..], a.first, a.length))
+        .collect();
+    let cells = [
+        ("a", 0, 4),
+        ("b", 20, 2),
+        ("none", 22, 0),
+        ("c", 22, 3),
+        ("low", 2, 1),
+        ("d", 25, 1),
+    ];
+    assert_eq!(arrays, cells);
+    let table = [
+        0, 0, 4, 0, 20, 0, 2, 0, 22, 0, 0, 0, 22, 0, 3, 0, 2, 0, 1, 0, 25, 0, 1, 0,
+    ];
+    assert_eq!(program.files.arrays, table);
+    let names: Vec<&str> = program.instructions.iter().map(|i| &i.name[..]).collect();
+    assert_eq!(names, ["f", "s", "g", "out", "b[2]", "low[1]"]);
+    let constants = program.files.graph.chunks_exact(16).map(|record| record[8]);
+    assert_eq!(constants.collect::<Vec<u8>>(), [2, 4, 0, 0, 2, 5]);
+    assert_eq!(
+        &text[program.arrays[1].place.span.clone()],
+        "array b = 2 at 20"
+    );
+    // An element is loaded as by a STORE with inputs.
+    let long = text.replace("b[2] = -5", "l: STORE b\ninput l.0 = 2\ninput l.1 = -5");
+    assert_eq!(assemble(&long).unwrap(), program.files);
+}
+
+#[test]
+fn the_text_of_arrays() {
+    let files = assemble("array a = 4\nf: FETCH a -> out\nout: OUT\ninput f = 2\n").unwrap();
+    let text =
+        "array array1 = 4 at 0\nfetch0: FETCH array1 -> out1.0\nout1: OUT\ninput fetch0.0 = 2\n";
+    assert_eq!(disassemble(&files).unwrap(), text);
+    // `array` and `at` are names, too.
+    assert!(assemble("array array = 3 at 5\narray at = 2\narray[3] = 1\nx: OUT\n").is_ok());
+    assert!(assemble("array: OUT\ninput array = 3\n").is_ok());
 }
 
 #[test]

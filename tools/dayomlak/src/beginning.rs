@@ -116,6 +116,7 @@ impl Beginning {
             capacity: self.sizes.capacity as u16,
             text: self.program.text.clone().into_bytes(),
             graph: self.program.files.graph.clone(),
+            arrays: self.program.files.arrays.clone(),
             state: State::of(end),
         }
     }

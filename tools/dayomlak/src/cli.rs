@@ -14,7 +14,7 @@ use crate::orders::{self, Order};
 #[derive(Debug, Parser)]
 #[command(name = "dayomlak", version, propagate_version = true)]
 #[command(
-    after_help = "FILE is a typed graph (.ttda), a folder with the files graph, inputs and picks, or - for standard \
+    after_help = "FILE is a typed graph (.ttda), a folder with the files graph, arrays, inputs and picks, or - for standard \
     input; trace and report take a saved run too.\nExit status: 0 completed; 1 hung, spent or refused; 2 a wrong command \
     line, text or log, or a damaged file; 3 a file that cannot be read or written.\n\nTry: dayomlak run sum.ttda"
 )]
@@ -53,7 +53,7 @@ pub enum Command {
     Log(Log),
     /// Fire exactly the activities of a log
     Replay(Replay),
-    /// Make the files graph, inputs and picks of a typed graph
+    /// Make the files graph, arrays, inputs and picks of a typed graph
     Asm(Asm),
     /// Print the text of the files in a folder
     Disasm(Disasm),
@@ -544,8 +544,8 @@ impl FromStr for Value {
 
 #[derive(Debug, Args)]
 #[command(
-    after_help = "Token records grow from 20 to 28 bytes, log records from 12 to 20. Of a folder the files graph and picks are \
-    copied, and inputs is widened. What OLD is, is seen by its length, and by its bytes where several kinds have that length."
+    after_help = "Token records grow from 20 to 28 bytes, log records from 12 to 20. Of a folder the files graph, arrays and \
+    picks are copied, and inputs is widened. What OLD is, is seen by its length, and by its bytes where several kinds have that length."
 )]
 pub struct Convert {
     /// Inputs, a listing or a log, or a folder with the files of a graph

@@ -21,7 +21,8 @@ pub fn of(program: &Program, history: &History, firing: &Firing) -> String {
     // A deferred output has its value later; by now the ledger may hold it.
     if let Some(Touch::Deferred(cell)) = firing.touch {
         let outputs = names(&mut firing.outputs.clone());
-        return format!("-> {outputs} deferred: cell {cell} has no value yet");
+        let cell = program.touched(firing.tag.instruction, cell);
+        return format!("-> {outputs} deferred: {cell} has no value yet");
     }
     let sent = |place: usize| format!("{} = {}", name(place), history.tokens[place].value);
     let outputs: Vec<String> = firing.outputs.clone().map(sent).collect();
@@ -29,14 +30,15 @@ pub fn of(program: &Program, history: &History, firing: &Firing) -> String {
     if !outputs.is_empty() {
         parts.push(format!("-> {}", outputs.join(", ")));
     }
+    let touched = |cell: &i32| program.touched(firing.tag.instruction, *cell);
     match &firing.touch {
-        Some(Touch::Read(cell)) => parts.push(format!("reads cell {cell}")),
+        Some(Touch::Read(cell)) => parts.push(format!("reads {}", touched(cell))),
         Some(Touch::Written(cell, woken)) => {
             let value = firing
                 .operands
                 .get(1)
                 .map_or(0, |place| history.tokens[*place].value);
-            parts.push(format!("cell {cell} := {value}"));
+            parts.push(format!("{} := {value}", touched(cell)));
             if !woken.is_empty() {
                 parts.push(format!("wakes {}", names(&mut woken.iter().copied())));
             }

@@ -5,6 +5,8 @@ use std::collections::BTreeSet;
 
 use asm::{by_code, Operation, GRAPH_RECORD};
 
+use crate::arrays::{Array, Arrays};
+
 pub const SINK: u8 = 2;
 pub const OUT: u8 = 3;
 pub const SWITCH: u8 = 5;
@@ -30,21 +32,37 @@ pub struct Instruction {
     /// Those in use. The second of an ENTER is where the call returns to, and no arc.
     pub destinations: Vec<Destination>,
     pub constant: i32,
+    /// The array that FETCH or STORE names, if the table has it.
+    pub array: Option<Array>,
 }
 
 impl Instruction {
-    fn of(record: &[u8]) -> Instruction {
+    fn of(record: &[u8], arrays: &Arrays) -> Instruction {
         let destination = |number: usize| Destination {
             instruction: u16::from_le_bytes([record[4 + 2 * number], record[5 + 2 * number]]),
             port: record[2 + number],
         };
+        let constant = i32::from_le_bytes([record[8], record[9], record[10], record[11]]);
+        let array = arrays.get(constant).filter(|_| touches(record[0]));
         Instruction {
             code: record[0],
             operation: by_code(record[0]),
             destinations: (0..usize::from(record[1]).min(2))
                 .map(destination)
                 .collect(),
-            constant: i32::from_le_bytes([record[8], record[9], record[10], record[11]]),
+            constant,
+            array: array.cloned(),
+        }
+    }
+
+    /// The cell that its first operand is the number or the index of, of a FETCH or a STORE; `None` for an index that its
+    /// array does not have.
+    pub fn cell(&self, operand: i32) -> Option<i32> {
+        match (&self.array, self.constant) {
+            _ if !touches(self.code) => None,
+            (Some(array), _) => array.cell(operand),
+            (None, 0) => Some(operand),
+            (None, _) => None,
         }
     }
 
@@ -76,6 +94,15 @@ impl Instruction {
         }
     }
 
+    /// An operation with the array that it names.
+    fn array_words(&self, operation: &str) -> String {
+        match (&self.array, self.constant) {
+            (Some(array), _) => format!("{operation} {}", array.name),
+            (None, 0) => operation.to_string(),
+            (None, number) => format!("{operation} of array {number}"),
+        }
+    }
+
     /// The operation with its constant, as it is typed.
     pub fn words(&self) -> String {
         let Some(operation) = self.operation else {
@@ -84,11 +111,17 @@ impl Instruction {
         match operation.constant {
             asm::Constant::Unused => operation.name.to_string(),
             asm::Constant::Site => format!("{} site {}", operation.name, self.constant),
+            asm::Constant::Array => self.array_words(operation.name),
             asm::Constant::Value | asm::Constant::Offset => {
                 format!("{} {}", operation.name, self.constant)
             }
         }
     }
+}
+
+/// Whether an operation touches a cell.
+fn touches(code: u8) -> bool {
+    matches!(code, FETCH | STORE)
 }
 
 #[derive(Clone, Debug)]
@@ -97,12 +130,11 @@ pub struct Graph {
 }
 
 impl Graph {
-    pub fn of(bytes: &[u8]) -> Graph {
+    pub fn of(bytes: &[u8], arrays: &Arrays) -> Graph {
+        let records = bytes.chunks_exact(GRAPH_RECORD);
+        let instructions = records.map(|record| Instruction::of(record, arrays));
         Graph {
-            instructions: bytes
-                .chunks_exact(GRAPH_RECORD)
-                .map(Instruction::of)
-                .collect(),
+            instructions: instructions.collect(),
         }
     }
 

@@ -6,7 +6,7 @@ use std::collections::{HashMap, HashSet};
 use std::ops::Range;
 
 use crate::failure::Failure;
-use crate::graph::{Graph, FETCH, STORE};
+use crate::graph::{Graph, Instruction, FETCH, STORE};
 use crate::machine::{End, Machine};
 use crate::records::{self, Cell, State, Tag, Token};
 use crate::saved;
@@ -84,8 +84,15 @@ impl Cells {
         cells
     }
 
-    fn touch(&mut self, code: u8, cell: i32, outputs: &Range<usize>) -> Option<Touch> {
-        match code {
+    /// What an instruction does to the cell that its first operand is the number or the index of.
+    fn touch(
+        &mut self,
+        instruction: &Instruction,
+        operand: i32,
+        outputs: &Range<usize>,
+    ) -> Option<Touch> {
+        let cell = instruction.cell(operand)?;
+        match instruction.code {
             STORE => {
                 self.written.insert(cell);
                 Some(Touch::Written(
@@ -133,8 +140,8 @@ fn firings(
             .collect::<Option<_>>()?;
         let outputs = used..used + instruction.outputs();
         used = outputs.end;
-        let cell = tokens[*operands.first()?].value;
-        let touch = cells.touch(instruction.code, cell, &outputs);
+        let operand = tokens[*operands.first()?].value;
+        let touch = cells.touch(instruction, operand, &outputs);
         firings.push(Firing {
             tag: *tag,
             operands,

@@ -1,4 +1,4 @@
-//! The cells that are loaded, by lines such as `cell 3 = 7` or by what comes to the same.
+//! The cells that are loaded, by lines such as `cell 3 = 7` and `a[3] = 7` or by what comes to the same.
 
 use std::collections::{BTreeMap, BTreeSet};
 
@@ -23,10 +23,11 @@ impl Loads {
             let to = |port: u8| move |t: &&Token| t.tag.instruction == number && t.port == port;
             let mut sent = inputs.iter().filter(to(0)).zip(inputs.iter().filter(to(1)));
             let only = instruction.code == STORE && instruction.destinations.is_empty();
-            if let (true, Some((cell, value)), None) =
+            if let (true, Some((operand, value)), None) =
                 (only && !fed.contains(&number), sent.next(), sent.next())
             {
-                cells.insert(number, (cell.value, value.value));
+                let cell = instruction.cell(operand.value);
+                cells.extend(cell.map(|cell| (number, (cell, value.value))));
             }
         }
         Loads { cells }
@@ -41,7 +42,8 @@ impl Loads {
         let spent = tokens
             .iter()
             .filter(|t| t.port == 0 && t.state == State::Spent);
-        let stores = spent.map(|t| (t.value, t.tag.instruction));
-        stores.filter(|(_, store)| self.contains(*store)).collect()
+        let stores = spent.map(|t| t.tag.instruction);
+        let cell = |store: u16| self.cells.get(&store).map(|(cell, _)| (*cell, store));
+        stores.filter_map(cell).collect()
     }
 }

@@ -115,13 +115,13 @@ impl<'p> Machine<'p> {
         if let Some(state) = self.start {
             return self.carry_on(state, picks, budget);
         }
-        let (graph, inputs) = self.lent();
-        self.call(|ledger, cells| ttda::run(graph, inputs, picks, budget, ledger, cells))
+        let (graph, arrays, inputs) = self.lent();
+        self.call(|ledger, cells| ttda::run(graph, arrays, inputs, picks, budget, ledger, cells))
     }
 
     /// Goes on from a state. Budget and picks are those of this part.
     pub fn carry_on(&self, state: &State, picks: &[u8], budget: u16) -> End {
-        let graph = &self.program.files.graph;
+        let (graph, arrays, _) = self.lent();
         // Tokens that do not fit are cut off here; the engine is told of all and refuses them.
         let mut ledger = state.ledger.clone();
         ledger.resize(TOKEN * self.sizes.capacity, 0);
@@ -129,6 +129,7 @@ impl<'p> Machine<'p> {
         let (firings, tokens) = (state.firings, state.tokens());
         let answer = ttda::carry_on(
             graph,
+            arrays,
             picks,
             budget,
             firings,
@@ -192,17 +193,19 @@ impl<'p> Machine<'p> {
     /// Runs and answers the records of the log too.
     pub fn run_for_log(&self, picks: &[u8], budget: u16) -> (End, Vec<u8>) {
         let mut log = vec![0; LOGGED * MOST_RECORDS];
-        let (graph, inputs) = self.lent();
+        let (graph, arrays, inputs) = self.lent();
         let end = self.call(|ledger, cells| {
-            ttda::run_logged(graph, inputs, picks, budget, ledger, cells, &mut log)
+            ttda::run_logged(
+                graph, arrays, inputs, picks, budget, ledger, cells, &mut log,
+            )
         });
         log.truncate(LOGGED * end.answer.firings);
         (end, log)
     }
 
     pub fn replay(&self, log: &[u8]) -> End {
-        let (graph, inputs) = self.lent();
-        self.call(|ledger, cells| ttda::replay(graph, inputs, log, ledger, cells))
+        let (graph, arrays, inputs) = self.lent();
+        self.call(|ledger, cells| ttda::replay(graph, arrays, inputs, log, ledger, cells))
     }
 
     pub fn profile(&self) -> (End, Vec<Step>) {
@@ -211,10 +214,18 @@ impl<'p> Machine<'p> {
 
     /// The profile with room for so many steps; before the next one it is refused by 18.
     pub fn profile_within(&self, most: usize) -> (End, Vec<Step>) {
-        let (graph, inputs) = self.lent();
+        let (graph, arrays, inputs) = self.lent();
         let (mut profile, mut records) = (vec![0; STEP * most], 0);
         let end = self.call(|ledger, cells| {
-            ttda::profile(graph, inputs, ledger, cells, &mut profile, &mut records)
+            ttda::profile(
+                graph,
+                arrays,
+                inputs,
+                ledger,
+                cells,
+                &mut profile,
+                &mut records,
+            )
         });
         profile.truncate(STEP * records as usize);
         (end, Step::all(&profile))
@@ -222,13 +233,14 @@ impl<'p> Machine<'p> {
 
     /// Refused, or how many firings and tokens no run exceeds.
     pub fn bounds(&self) -> Answer {
-        let (graph, inputs) = self.lent();
+        let (graph, _, inputs) = self.lent();
         Answer::of(ttda::bounds(graph, inputs).0)
     }
 
-    /// What every call is lent: the graph and its inputs.
-    fn lent(&self) -> (&[u8], &[u8]) {
-        (&self.program.files.graph, &self.program.files.inputs)
+    /// What every call is lent: the graph, its arrays and its inputs.
+    fn lent(&self) -> (&[u8], &[u8], &[u8]) {
+        let files = &self.program.files;
+        (&files.graph, &files.arrays, &files.inputs)
     }
 
     /// Lends new buffers of zeros as ledger and cells, and keeps what is used of them.

@@ -3,6 +3,7 @@
 
 mod activity;
 mod answer;
+mod arrays;
 mod beginning;
 mod circles;
 mod cli;
@@ -16,6 +17,7 @@ mod forms;
 mod graph;
 mod graphviz;
 mod history;
+mod indices;
 mod json;
 mod loads;
 mod log_file;

@@ -14,6 +14,7 @@ pub fn plot(machine: &Machine, order: &Order, budget: u16) -> Result<Plot, Failu
     let files = &machine.program.files;
     let request = Request {
         graph: files.graph.clone(),
+        arrays: files.arrays.clone(),
         inputs: files.inputs.clone(),
         picks: order.picks(machine)?,
         budget,

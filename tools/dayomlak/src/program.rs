@@ -6,6 +6,7 @@ use std::path::{Path, PathBuf};
 
 use asm::{disassemble, read, Files, Named, Place, Span};
 
+use crate::arrays::Arrays;
 use crate::diagnostics::{self, Finding};
 use crate::failure::Failure;
 use crate::graph::Graph;
@@ -16,7 +17,7 @@ use crate::sources::Source;
 use crate::{log_file, named, orders, saved};
 
 /// The files of a folder.
-const FILES: [&str; 3] = ["graph", "inputs", "picks"];
+const FILES: [&str; 4] = ["graph", "arrays", "inputs", "picks"];
 
 /// How messages call what comes by `-`.
 pub const STANDARD_INPUT: &str = "standard input";
@@ -30,6 +31,7 @@ pub struct Program {
     pub text: String,
     pub files: Files,
     pub graph: Graph,
+    pub arrays: Arrays,
     /// The files that it was read from.
     pub sources: Vec<Source>,
     /// Whether its picks come from an order by names.
@@ -43,7 +45,7 @@ impl Program {
     pub fn load(file: &str) -> Result<Program, Failure> {
         let path = Path::new(file);
         if path.is_dir() {
-            let program = Program::folder(file, files(path)?)?;
+            let program = Program::folder(file, files(path)?);
             let source = |name: &&str| {
                 let words = format!("the file `{name}` of the graph");
                 Source::named(&words, &path.join(name))
@@ -74,19 +76,9 @@ impl Program {
             return Err(Failure::Faulty(text, vec![finding]));
         }
         match read(&text) {
-            Ok(read) => {
-                let program = Program {
-                    label: label.to_string(),
-                    text_label: label.to_string(),
-                    graph: Graph::of(&read.files.graph),
-                    files: read.files,
-                    sources: Vec::new(),
-                    is_ordered: !read.order.is_empty(),
-                    instructions: read.instructions,
-                    inputs: read.inputs,
-                    text,
-                };
-                program.ordered(&read.order)
+            Ok(typed) => {
+                let order = typed.order.clone();
+                Program::new(label, text, typed).ordered(&order)
             }
             Err(errors) => {
                 let findings: Vec<Finding> = errors.0.into_iter().map(Finding::from).collect();
@@ -108,20 +100,27 @@ impl Program {
     }
 
     /// The files have a text if they are in whole records; without one there are no names.
-    fn folder(label: &str, files: Files) -> Result<Program, Failure> {
+    fn folder(label: &str, files: Files) -> Program {
         let text = disassemble(&files).unwrap_or_default();
         let typed = read(&text).unwrap_or_default();
-        Ok(Program {
+        Program::new(label, text, asm::Program { files, ..typed })
+    }
+
+    /// A program of a text, whose names and places are known.
+    fn new(label: &str, text: String, typed: asm::Program) -> Program {
+        let arrays = Arrays::of(&typed.files.arrays, &typed.arrays);
+        Program {
             label: label.to_string(),
             text_label: label.to_string(),
-            graph: Graph::of(&files.graph),
-            files,
+            text,
+            graph: Graph::of(&typed.files.graph, &arrays),
+            arrays,
+            files: typed.files,
             sources: Vec::new(),
-            is_ordered: false,
+            is_ordered: !typed.order.is_empty(),
             instructions: typed.instructions,
             inputs: typed.inputs,
-            text,
-        })
+        }
     }
 
     /// The files that a run in an order is read from.
@@ -150,9 +149,22 @@ impl Program {
         }
     }
 
-    /// Whether an instruction is the STORE of a line such as `cell 3 = 7`. Its name has a space, as no typed one has.
-    pub fn is_cell_line(&self, instruction: u16) -> bool {
-        self.name(instruction).contains(' ')
+    /// Whether an instruction is the STORE of a line such as `cell 3 = 7` or `a[3] = 7`. Its name has a space or a bracket, as
+    /// no typed one has.
+    pub fn is_load_line(&self, instruction: u16) -> bool {
+        self.name(instruction).contains([' ', '['])
+    }
+
+    /// What a cell is called: an element of an array, or a cell by its number.
+    pub fn cell(&self, cell: i32) -> String {
+        self.arrays.name(cell)
+    }
+
+    /// What an instruction calls the cell that it touches: an element of the array that it names, if it names one.
+    pub fn touched(&self, instruction: u16, cell: i32) -> String {
+        let array = self.graph.get(instruction).and_then(|i| i.array.as_ref());
+        let element = array.and_then(|array| array.element(cell));
+        element.unwrap_or_else(|| self.cell(cell))
     }
 
     /// A tag by names: `start[0]/call1[0]/n[0]`, each call by an ENTER of its site.
@@ -293,6 +305,7 @@ pub fn files(folder: &Path) -> Result<Files, Failure> {
     };
     Ok(Files {
         graph: file("graph")?,
+        arrays: file("arrays")?,
         inputs: file("inputs")?,
         picks: file("picks")?,
     })

@@ -23,7 +23,7 @@ const fn refusal(
 }
 
 #[rustfmt::skip]
-pub const TABLE: [Refusal; 21] = [
+pub const TABLE: [Refusal; 22] = [
     refusal(1, "graph length",
         "The graph has no instruction, more than 256, or its file is not in whole records of 16 bytes.",
         "Give 1 to 256 instructions."),
@@ -57,8 +57,10 @@ pub const TABLE: [Refusal; 21] = [
          site for each call; of two arcs to one port, or an arc and an input, only one may send under a tag, as the arms of \
          a SWITCH do. `dayomlak check` looks for loops without NEXT and for instructions that send twice to one port."),
     refusal(10, "no such cell",
-        "FETCH or STORE got a cell number that is negative or not below the number of cells.",
-        "Look where the number comes from; --cells gives up to 1,024 cells, counted from 0."),
+        "FETCH or STORE got a cell number that is negative or not below the number of cells; or, of a named array, an index \
+         that is not 1 to its length.",
+        "Look where the number comes from; --cells gives up to 1,024 cells, counted from 0. The elements of an array are \
+         counted from 1."),
     refusal(11, "second write",
         "STORE came to a cell that has a value already. A cell is written once.",
         "Give each write a cell of its own, such as one for each iteration."),
@@ -83,6 +85,10 @@ pub const TABLE: [Refusal; 21] = [
     refusal(20, "not enabled",
         "A record of the log names an activity that is not enabled, has no zero byte or is not whole.",
         "Replay a log with the graph and inputs it was made with; `dayomlak log` writes one."),
+    refusal(22, "bad array",
+        "An array has a cell past the cells, there are more than 64 arrays, or their file is not in whole records of 4 bytes; \
+         or FETCH or STORE names an array that is not in the table.",
+        "Let every array end within the cells; --cells gives up to 1,024. Name arrays by lines such as `array a = 8`."),
     refusal(24, "damaged state",
         "Ledger, cells and counts do not meet the conditions for a saved state of this graph: fields and states allowed, a tag and port \
          once, paths of sites that have an ENTER, a tag's operands all spent or none, no result spent, each deferred token at a cell, \

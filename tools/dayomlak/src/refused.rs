@@ -1,14 +1,16 @@
 //! A refused run explained: what was refused, by name, and what stood in the way.
 
+use asm::{ARRAY_RECORD, MOST_ARRAYS};
 use ttda::widths::{MOST_INSTRUCTIONS, PICK};
 
 use crate::activity::Activity;
 use crate::answer::{count, Answer, Word};
+use crate::arrays::Array;
 use crate::diagnostics::Finding;
 use crate::graph::STORE;
 use crate::machine::{End, Sizes};
 use crate::program::Program;
-use crate::records::{self, State, Tag, Token, MOST_RECORDS, TOKEN};
+use crate::records::{self, State, Tag, Token, MOST_CELLS, MOST_RECORDS, TOKEN};
 use crate::{forms, refusals, second_token};
 
 /// The finding of a refused run; `None` for another one.
@@ -67,6 +69,7 @@ fn at_once(program: &Program, number: u16, answer: &Answer, sizes: Sizes) -> Fin
                 count(sizes.capacity, "record")
             )),
         9 => second_input(program, place, finding),
+        22 => bad_array(program, place, sizes, finding),
         // Which condition is broken, only the saved state says.
         24 => finding,
         1 if program.files.graph.is_empty() => finding.note(program.emptiness()),
@@ -94,17 +97,62 @@ fn too_many(program: &Program, finding: Finding) -> Finding {
         ))
 }
 
+/// The table of arrays, or an instruction that names none of it; the place is that of the instruction.
+fn bad_array(program: &Program, place: usize, sizes: Sizes, finding: Finding) -> Finding {
+    if let Some((array, why)) = bad_table(program, sizes) {
+        let ends = program.arrays.all().iter().map(Array::end);
+        let needed = ends
+            .max()
+            .filter(|end| array.is_some() && *end <= MOST_CELLS);
+        let finding = match array.and_then(|array| array.span.clone()) {
+            Some(span) => finding.at(Some(span), why),
+            None => finding.note(why),
+        };
+        return match needed {
+            Some(cells) => finding.note(format!("--cells {cells} is enough for all arrays")),
+            None => finding,
+        };
+    }
+    let instruction = &program.graph.instructions[place];
+    let (number, arrays) = (instruction.constant, program.arrays.all().len());
+    let words = match arrays {
+        0 => format!("it names array {number}, and there is no array"),
+        1 => format!("it names array {number}, and 1 is the only one"),
+        _ => format!("it names array {number}, and the arrays are 1 to {arrays}"),
+    };
+    finding.at(program.span(place), words).note(
+        "an array is named by a line such as `array a = 8`, and then by `FETCH a` and `STORE a`",
+    )
+}
+
+/// What is wrong with the table of arrays, and which of them it is about; `None` for a table that is taken.
+pub fn bad_table(program: &Program, sizes: Sizes) -> Option<(Option<&Array>, String)> {
+    let bytes = program.files.arrays.len();
+    if let Some(why) = bad_records("arrays", bytes, ARRAY_RECORD, MOST_ARRAYS) {
+        return Some((None, why));
+    }
+    let mut arrays = program.arrays.all().iter();
+    let past = arrays.find(|array| array.end() > sizes.cells)?;
+    let cells = match sizes.cells {
+        0 => "there are no cells".to_string(),
+        1 => "there is one cell, 0".to_string(),
+        cells => format!("the cells are 0 to {}", cells - 1),
+    };
+    Some((Some(past), format!("{}, and {cells}", past.cells())))
+}
+
 /// Which of a program's files is refused by 7, and why.
 pub fn bad_store(program: &Program) -> Option<String> {
-    bad_records("inputs", program.files.inputs.len(), TOKEN).or_else(|| bad_picks(program))
+    let bytes = program.files.inputs.len();
+    bad_records("inputs", bytes, TOKEN, MOST_RECORDS).or_else(|| bad_picks(program))
 }
 
 /// Why no run takes the picks of a program, if none does.
 pub fn bad_picks(program: &Program) -> Option<String> {
-    bad_records("picks", program.files.picks.len(), PICK)
+    bad_records("picks", program.files.picks.len(), PICK, MOST_RECORDS)
 }
 
-fn bad_records(name: &str, bytes: usize, width: usize) -> Option<String> {
+fn bad_records(name: &str, bytes: usize, width: usize, most: usize) -> Option<String> {
     let (number, rest) = (bytes / width, bytes % width);
     if rest != 0 {
         let bytes = count(bytes, "byte");
@@ -112,8 +160,7 @@ fn bad_records(name: &str, bytes: usize, width: usize) -> Option<String> {
             "the {name} have {bytes}, no whole number of {name}, which have {width} each"
         ));
     }
-    (number > MOST_RECORDS)
-        .then(|| format!("there are {number} {name}, and {MOST_RECORDS} is the most"))
+    (number > most).then(|| format!("there are {number} {name}, and {most} is the most"))
 }
 
 /// Two inputs to one port; the place is that of the second.
@@ -168,9 +215,20 @@ impl<'p> Refused<'p> {
             .note(format!("before it: {}, {order}", self.answer.counts()))
     }
 
+    /// The array whose element it touches, if it names one.
+    fn array(&self) -> Option<&Array> {
+        self.activity.instruction.array.as_ref()
+    }
+
     /// What the table says to do, or the part of it that fits.
     fn what_to_do(&self) -> &'static str {
         match self.number {
+            10 if self.array().is_some() => {
+                "Look where the index comes from; elements are counted from 1."
+            }
+            10 => {
+                "Look where the number comes from; --cells gives up to 1,024 cells, counted from 0."
+            }
             12 if self.divides_by_zero() => "Guard the division by a SWITCH.",
             12 => "Values are -2,147,483,648 to 2,147,483,647; look where the operands come from.",
             number => refusals::by_number(number).map_or("", |refusal| refusal.what_to_do),
@@ -195,17 +253,21 @@ impl<'p> Refused<'p> {
         }
         let here = self.program.span(self.activity.tag.instruction.into());
         let finding = finding.at(here, self.obstacle()).note(self.what_to_do());
-        match self.other_writer() {
-            Some(writer) => finding.also(self.program.span(writer.into()), "the first write"),
-            None => finding,
+        match (self.number, self.other_writer(), self.array()) {
+            (_, Some(writer), _) => {
+                finding.also(self.program.span(writer.into()), "the first write")
+            }
+            (10, _, Some(array)) => finding.also(array.span.clone(), array.elements()),
+            _ => finding,
         }
     }
 
     /// The instruction that made the first of two writes, if it is another one.
     fn other_writer(&self) -> Option<u16> {
-        let cell = self.activity.operands.first();
-        let cell = cell.filter(|_| self.number == 11)?;
-        let writer = self.writer(*cell)?.instruction;
+        let operand = self.activity.operands.first();
+        let operand = operand.filter(|_| self.number == 11)?;
+        let cell = self.activity.instruction.cell(*operand)?;
+        let writer = self.writer(cell)?.instruction;
         (writer != self.activity.tag.instruction).then_some(writer)
     }
 
@@ -234,26 +296,33 @@ impl<'p> Refused<'p> {
     }
 
     fn no_cell(&self, cell: i32) -> String {
+        if let Some(array) = self.array() {
+            return array.lacks(cell);
+        }
         match self.sizes.cells {
             0 => format!("there is no cell {cell}: there are no cells"),
             cells => format!("there is no cell {cell}: the cells are 0 to {}", cells - 1),
         }
     }
 
-    fn second_write(&self, cell: i32) -> String {
+    fn second_write(&self, operand: i32) -> String {
+        let cell = self.activity.instruction.cell(operand).unwrap_or(operand);
+        let name = self.program.touched(self.activity.tag.instruction, cell);
         match self.writer(cell) {
-            Some(writer) => format!("cell {cell} was written by `{}`", self.program.tag(&writer)),
-            None => format!("cell {cell} has a value already"),
+            Some(writer) => format!("{name} was written by `{}`", self.program.tag(&writer)),
+            None => format!("{name} has a value already"),
         }
     }
 
     /// The STORE that wrote a cell.
     fn writer(&self, cell: i32) -> Option<Tag> {
         let graph = &self.program.graph;
-        let wrote = |t: &&Token| t.state == State::Spent && t.port == 0 && t.value == cell;
-        let code = |t: &Token| graph.get(t.tag.instruction).map(|i| i.code);
-        let mut stores = self.tokens.iter().filter(|t| code(t) == Some(STORE));
-        stores.find(wrote).map(|t| t.tag)
+        let wrote = |t: &&Token| {
+            let store = graph.get(t.tag.instruction).filter(|i| i.code == STORE);
+            let written = store.and_then(|store| store.cell(t.value));
+            t.state == State::Spent && t.port == 0 && written == Some(cell)
+        };
+        self.tokens.iter().find(wrote).map(|t| t.tag)
     }
 
     fn out_of_range(&self) -> String {

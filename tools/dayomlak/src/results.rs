@@ -11,7 +11,7 @@ use crate::records::{self, Cell, State, Token};
 const SHOWN: usize = 8;
 
 /// Results, tokens that wait and cells, a line each. What the run itself wrote comes before what inputs alone wrote, and
-/// the cells of lines such as `cell 3 = 7` are only counted: they hold what was typed. The tokens are those of the
+/// the cells of lines such as `cell 3 = 7` and `a[3] = 7` are only counted: they hold what was typed. The tokens are those of the
 /// listing, so that equal listings give equal lines. A run that did not begin left nothing.
 pub fn lines(program: &Program, end: &End) -> Vec<String> {
     if end.answer.refused_at_once() {
@@ -42,9 +42,10 @@ pub fn cell_lines(program: &Program, end: &End) -> Vec<String> {
     let loaded = Loads::of(program).done(&end.tokens());
     let is_typed = |cell: i32| {
         let store = loaded.get(&cell);
-        store.is_some_and(|store| program.is_cell_line(*store))
+        store.is_some_and(|store| program.is_load_line(*store))
     };
-    let (typed, mut cells): (Vec<_>, Vec<_>) = cells(end).partition(|(cell, _)| is_typed(*cell));
+    let (typed, mut cells): (Vec<_>, Vec<_>) =
+        cells(program, end).partition(|(cell, _)| is_typed(*cell));
     cells.sort_by_key(|(cell, _)| loaded.contains_key(cell));
     let mut lines: Vec<String> = cells.into_iter().map(|(_, line)| line).collect();
     if !typed.is_empty() {
@@ -63,7 +64,10 @@ pub fn is_result(program: &Program, token: &Token) -> bool {
 fn waiting(program: &Program, token: &Token, tokens: &[Token]) -> String {
     let name = program.port(&token.tag, token.port);
     match token.state {
-        State::Deferred => format!("{name} waits for cell {}, which nothing wrote", token.value),
+        State::Deferred => {
+            let cell = program.cell(token.value);
+            format!("{name} waits for {cell}, which nothing wrote")
+        }
         _ => {
             let other = 1 - token.port;
             format!(
@@ -103,11 +107,14 @@ fn elsewhere(token: &Token, port: u8, tokens: &[Token]) -> String {
 }
 
 /// The cells that are not absent, with a line for each.
-fn cells(end: &End) -> impl Iterator<Item = (i32, String)> {
-    let line = |(number, cell): (i32, Cell)| match cell {
-        Cell::Absent => None,
-        Cell::Waiting => Some((number, format!("cell {number} is read and not written"))),
-        Cell::Present(value) => Some((number, format!("cell {number} = {value}"))),
+fn cells<'p>(program: &'p Program, end: &End) -> impl Iterator<Item = (i32, String)> + 'p {
+    let line = |(number, cell): (i32, Cell)| {
+        let name = program.cell(number);
+        match cell {
+            Cell::Absent => None,
+            Cell::Waiting => Some((number, format!("{name} is read and not written"))),
+            Cell::Present(value) => Some((number, format!("{name} = {value}"))),
+        }
     };
     (0..).zip(end.cells()).filter_map(line)
 }

@@ -120,7 +120,7 @@ pub fn left(program: &Program, end: &End) -> Fields {
     // What a run that did not begin was lent is nothing that it left.
     let begun = !end.answer.refused_at_once();
     let cells = (0..).zip(end.cells()).filter(|_| begun);
-    let cells = cells.filter_map(|(number, c)| cell(number, c));
+    let cells = cells.filter_map(|(number, c)| cell(program, number, c));
     vec![
         ("results", all(results)),
         ("left", all(others)),
@@ -138,10 +138,19 @@ pub fn token(program: &Program, token: &Token) -> String {
         ("port", token.port.to_string()),
         ("value", token.value.to_string()),
         ("state", string(token.state.word())),
+        ("waits_for", awaited(program, token)),
     ])
 }
 
-fn cell(number: usize, cell: Cell) -> Option<String> {
+/// The name of the cell that a deferred token waits for.
+fn awaited(program: &Program, token: &Token) -> String {
+    match token.state {
+        State::Deferred => string(&program.cell(token.value)),
+        State::Live | State::Spent => "null".to_string(),
+    }
+}
+
+fn cell(program: &Program, number: i32, cell: Cell) -> Option<String> {
     let (state, value) = match cell {
         Cell::Absent => return None,
         Cell::Waiting => ("waiting", "null".to_string()),
@@ -149,6 +158,7 @@ fn cell(number: usize, cell: Cell) -> Option<String> {
     };
     Some(object(&[
         ("cell", number.to_string()),
+        ("name", string(&program.cell(number))),
         ("state", string(state)),
         ("value", value),
     ]))

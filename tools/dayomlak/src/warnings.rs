@@ -7,7 +7,7 @@ use ttda::widths::MOST_INSTRUCTIONS;
 use crate::diagnostics::Finding;
 use crate::graph::{OUT, SWITCH};
 use crate::program::Program;
-use crate::{circles, meetings, records};
+use crate::{circles, indices, meetings, records};
 
 /// All warnings, in the order of the instructions.
 pub fn of(program: &Program) -> Vec<Finding> {
@@ -16,6 +16,10 @@ pub fn of(program: &Program) -> Vec<Finding> {
         return Vec::new();
     }
     let mut found: Vec<(usize, Finding)> = Vec::new();
+    found.extend(indices::overlaps(program));
+    found.extend(indices::of_inputs(program));
+    found.extend(indices::of_constants(program));
+    found.extend(indices::cells(program));
     found.extend(circles::without_next(program));
     found.extend(circles::with_many(program));
     found.extend(meetings::of(program));

@@ -99,7 +99,7 @@ fn a_folder_without_files() {
     let folder = Folder::new();
     fs::create_dir(folder.path("old")).unwrap();
     folder.write("old/log", [0; 12]);
-    let words = "error: old has no file `graph`, `inputs` or `picks`\n  \
+    let words = "error: old has no file `graph`, `arrays`, `inputs` or `picks`\n  \
         a listing or a log is converted by its own name\n";
     expect_none(&folder, &convert(&folder, "old", &[]), 2, words);
 }

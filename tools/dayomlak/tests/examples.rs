@@ -7,13 +7,14 @@ use std::fs;
 
 /// The examples with stored outputs: loops, calls, deferred reads, a run that hangs and one that is refused. The gallery's
 /// other graphs would bring no new kind of line; their listings, bounds, profiles and pictures have tests of their own.
-const STORED: [&str; 9] = [
+const STORED: [&str; 10] = [
     "call",
     "conditional",
     "deferred_read",
     "factorial_alone",
     "inner_product",
     "inner_product_280",
+    "one_too_far",
     "past_next",
     "recursion",
     "vector_sum",

@@ -51,6 +51,14 @@ fn a_cell_that_the_run_wrote_before_it_was_loaded() {
     );
 }
 
+/// Arrays that share cells, indices that no element has, and a cell that is an element.
+#[test]
+fn warnings_of_arrays() {
+    let text = "array a = 8\narray b = 4 at 6\narray none = 0 at 7\nr: FETCH a -> out\nout: OUT\nc: CONST 5 -> w.0\nw: STORE b\n\
+        cell 3 = 7\na[2] = 1\ninput r = 9\ninput c = 1\ninput w.1 = 1\n";
+    expect("messages/warnings-arrays", &typed(text, &["check", "-"]));
+}
+
 #[test]
 fn warnings() {
     let text = "a: COPY -> b.0 b.0\nb: ADD -> c\nc: SWITCH -> a a\n   SINK\ninput c.0 = 1\ninput c.1 = 1\n";
@@ -69,7 +77,7 @@ fn a_return_is_fed() {
 }
 
 /// The refusals that a text and options lead to, by number.
-const REFUSED: [(u16, &str, &[&str]); 14] = [
+const REFUSED: [(u16, &str, &[&str]); 15] = [
     (1, "", &[]),
     (
         2,
@@ -120,6 +128,11 @@ const REFUSED: [(u16, &str, &[&str]); 14] = [
         "a: ENTER site 1 -> c return b\nb: OUT\nc: LEAVE 2\ninput a = 1",
         &[],
     ),
+    (
+        22,
+        "array x = 3\narray y = 8\na: FETCH y -> b\nb: OUT\ninput a = 2",
+        &["--cells", "10"],
+    ),
 ];
 
 #[test]
@@ -165,6 +178,10 @@ fn other_forms_of_refusals() {
         ("9-enter", "a: ENTER site 1 -> c return d\nb: ENTER site 1 -> c return d\nc: LEAVE 0\nd: OUT\ninput a = 1\ninput b = 2", &[]),
         ("9-leave", "a: ENTER site 1 -> b return d\nb: COPY -> c c2\nc: LEAVE 0\nc2: LEAVE 0\nd: OUT\ninput a = 1", &[]),
         ("9-switch", "a: SWITCH -> b b\nc: COPY -> b\nb: OUT\ninput a.0 = 1\ninput a.1 = 0\ninput c = 2", &[]),
+        ("10-array", "array x = 8\na: FETCH x -> b\nb: OUT\nc: ADD 1 -> a\ninput c = 8", &[]),
+        ("11-array", "array x = 8\na: STORE x\nb: STORE\ninput a.0 = 3\ninput a.1 = 1\ninput b.0 = 2\ninput b.1 = 2", &[]),
+        ("22-constant", "array x = 8\na: raw 0a 01 00 00 01 00 00 00 02 00 00 00 00 00 00 00\nb: OUT\ninput a = 1", &[]),
+        ("22-none", "a: raw 0b 00 00 00 00 00 00 00 ff ff ff ff 00 00 00 00\ninput a.0 = 1\ninput a.1 = 1", &[]),
         ("12-range", "a: MUL -> b\nb: OUT\ninput a.0 = 65536\ninput a.1 = 65536", &[]),
     ];
     for (name, text, options) in cases {
@@ -221,7 +238,7 @@ fn a_log_that_cannot_be_replayed() {
 
 #[test]
 fn every_number_is_explained() {
-    for number in (1..=14).chain(17..=20).chain(24..=26) {
+    for number in (1..=14).chain(17..=20).chain([22]).chain(24..=26) {
         let done = dayomlak(&["explain", &number.to_string()]);
         assert_eq!((done.status, &done.err[..]), (0, ""));
         expect(&format!("messages/explain-{number}"), &done);

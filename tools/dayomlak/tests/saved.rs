@@ -117,17 +117,17 @@ fn parts_in_several_orders() {
     let words = "spent: 40 firings, 59 tokens, oldest first, then newest first from firing 31 on; more can fire\n";
     assert!(again.out.starts_with(words), "{again:?}");
     let done = dayomlak(&["carry-on", &c, "--order", "random:7"]);
-    let words = "completed: 67 firings, 89 tokens, oldest first, then newest first from firing 31 on, then in random order 7 from firing 41 on\n";
+    let words = "completed: 59 firings, 81 tokens, oldest first, then newest first from firing 31 on, then in random order 7 from firing 41 on\n";
     assert!(done.out.starts_with(words), "{done:?}");
     // One firing is enough to be named.
     let done = dayomlak(&["carry-on", &a, "--order", "newest", "--budget", "1"]);
-    let words = "spent: 31 firings, 47 tokens, oldest first, then newest first from firing 31 on;";
+    let words = "spent: 31 firings, 48 tokens, oldest first, then newest first from firing 31 on;";
     assert!(done.out.starts_with(words), "{done:?}");
     // Where nothing is fired, the order of this part has no say.
     let done = dayomlak(&["carry-on", &a, "--order", "newest", "--budget", "0"]);
     assert!(
         done.out
-            .starts_with("spent: 30 firings, 45 tokens, oldest first; more"),
+            .starts_with("spent: 30 firings, 47 tokens, oldest first; more"),
         "{done:?}"
     );
     // Before the first firing there was no order.
@@ -175,11 +175,7 @@ fn firings_of_a_trace_are_counted_from_the_inputs() {
     saved(&["run", VECTOR_SUM, "--budget", "30"], &part);
     let done = dayomlak(&["trace", &part, "--from", "33", "--count", "1", "--csv"]);
     assert!(
-        done.out
-            .lines()
-            .nth(1)
-            .unwrap()
-            .starts_with("33,b_cell[1],"),
+        done.out.lines().nth(1).unwrap().starts_with("33,c[1],"),
         "{done:?}"
     );
 }
@@ -196,7 +192,7 @@ fn a_page_from_a_saved_state() {
     let done = dayomlak(&["report", &part, "-o", &page]);
     assert_eq!(
         (&done.out[..], done.status),
-        ("completed: 67 firings, 89 tokens, oldest first\n", 0)
+        ("completed: 59 firings, 81 tokens, oldest first\n", 0)
     );
     assert_eq!(dayomlak(&["report", VECTOR_SUM, "-o", &whole]).status, 0);
     let [page, whole] = [page, whole].map(|page| fs::read_to_string(page).unwrap());
@@ -210,8 +206,8 @@ fn a_page_from_a_saved_state() {
             .to_string()
     };
     assert_eq!(listing(&page), listing(&whole));
-    assert!(page.contains("<dt>Carried on from</dt><dd>30 firings, 45 tokens</dd>"));
-    assert!(page.contains("{\"before\":30,\"carriedOn\":true,\"firings\":[{\"name\":\"body_2[1]\""));
+    assert!(page.contains("<dt>Carried on from</dt><dd>30 firings, 47 tokens</dd>"));
+    assert!(page.contains("{\"before\":30,\"carriedOn\":true,\"firings\":[{\"name\":\"b[1]\""));
     assert!(whole.contains("{\"before\":0,\"carriedOn\":false,"));
     assert!(
         page.contains("None: this page begins at a saved state")
@@ -269,7 +265,7 @@ fn objects_for_scripts() {
     saved(&["run", VECTOR_SUM, "--budget", "30", "--json"], &part);
     let run = dayomlak(&["run", VECTOR_SUM, "--json"]);
     let done = dayomlak(&["carry-on", &part, "--json"]);
-    let from = "\"from\":{\"firings\":30,\"tokens\":45},";
+    let from = "\"from\":{\"firings\":30,\"tokens\":47},";
     assert!(done.out.contains(from));
     let plain = done.out.replace(from, "").replace(&part, VECTOR_SUM);
     assert_eq!(plain.replace("carry-on", "run"), run.out);
@@ -562,13 +558,12 @@ const UNFIT: [Edit; 7] = [
         e.parts[0] = e.bytes()
     }),
     (
-        "it has a loop bound or named arrays, which this program does not know: use a newer one",
+        "it has a loop bound, which this program does not know: use a newer one",
         |e| e.set("bound", "1"),
     ),
-    (
-        "it has a loop bound or named arrays, which this program does not know: use a newer one",
-        |e| e.parts[2].push(0),
-    ),
+    ("its text is not the text of its graph", |e| {
+        e.parts[2].extend([0, 0, 1, 0])
+    }),
     (
         "a saved state of form 2, and this program reads form 1",
         |e| e.lines[0] = "dayomlak saved state 2".to_string(),
@@ -776,7 +771,8 @@ fn the_documents_are_true() {
             .map(|line| format!("    {line}\n"))
             .collect::<String>()
     };
-    let head = bytes.len() - Edited::of(&bytes).parts.iter().map(Vec::len).sum::<usize>();
+    let parts = Edited::of(&bytes).parts;
+    let head = bytes.len() - parts.iter().map(Vec::len).sum::<usize>();
     assert!(document("FORMATS.md").contains(&indented(&String::from_utf8_lossy(&bytes[..head]))));
     let shown = [
         run,
@@ -790,7 +786,8 @@ fn the_documents_are_true() {
         );
     }
     let mut damaged = bytes.clone();
-    damaged[head + 1051 + 368] ^= 1;
+    let ledger = head + parts[..3].iter().map(Vec::len).sum::<usize>();
+    damaged[ledger] ^= 1;
     let damaged = dayomlak(&["show", &folder.write("damaged", damaged)]);
     let words = damaged.err.replace(&folder.path("damaged"), "sum.saved");
     assert!(document("SAVED.md").contains(&indented(&words)), "{words}");

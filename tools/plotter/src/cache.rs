@@ -20,7 +20,7 @@ pub struct Cache {
 impl Cache {
     /// A cache in a file, for the runs of one engine.
     pub fn new(file: PathBuf, engine: &str) -> Cache {
-        let head = format!("dayomlak plot 2, engine {engine}\n");
+        let head = format!("dayomlak plot 3, engine {engine}\n");
         Cache { file, head }
     }
 
@@ -85,6 +85,7 @@ fn encode(plot: &Plot, bytes: &mut Vec<u8>) {
     let steps = Step::records(&plot.profile.steps);
     let fields = [
         &request.graph[..],
+        &request.arrays,
         &request.inputs,
         &request.picks,
         &plot.left.ledger,
@@ -107,11 +108,13 @@ fn decode(bytes: &[u8]) -> Option<Plot> {
     let (capacity, cells) = (small(reader.number())?, small(reader.number())?);
     let budget = small(reader.number())?;
     let (answer, profiled, seconds) = (reader.number()?, reader.number()?, reader.number()?);
-    let (graph, inputs, picks) = (reader.field()?, reader.field()?, reader.field()?);
+    let (graph, arrays) = (reader.field()?, reader.field()?);
+    let (inputs, picks) = (reader.field()?, reader.field()?);
     let (ledger, left_cells, steps) = (reader.field()?, reader.field()?, reader.field()?);
     let order = String::from_utf8(reader.field()?).ok()?;
     let request = Request {
         graph,
+        arrays,
         inputs,
         picks,
         budget,

@@ -6,6 +6,8 @@ use ttda::widths::{CELL, MOST_RECORDS, STEP, TOKEN};
 #[derive(Clone, Debug, PartialEq, Eq)]
 pub struct Request {
     pub graph: Vec<u8>,
+    /// The table of named arrays, which may be empty.
+    pub arrays: Vec<u8>,
     pub inputs: Vec<u8>,
     pub picks: Vec<u8>,
     pub budget: u16,
@@ -62,7 +64,7 @@ pub trait Engine {
     /// Runs a graph in buffers of the asked sizes.
     fn run(&self, asked: &Request) -> Left;
 
-    /// The profile of the graph and inputs that are asked for.
+    /// The profile of the graph, arrays and inputs that are asked for.
     fn profile(&self, asked: &Request) -> Profile;
 
     /// Whether the run asked for gives the kept answer, and the listing, cells and profile of the kept run in every byte.
@@ -75,8 +77,15 @@ pub struct Library;
 impl Engine for Library {
     fn run(&self, asked: &Request) -> Left {
         let (mut ledger, mut cells) = lent(asked);
-        let (graph, inputs, picks) = (&asked.graph, &asked.inputs, &asked.picks);
-        let answer = ttda::run(graph, inputs, picks, asked.budget, &mut ledger, &mut cells);
+        let answer = ttda::run(
+            &asked.graph,
+            &asked.arrays,
+            &asked.inputs,
+            &asked.picks,
+            asked.budget,
+            &mut ledger,
+            &mut cells,
+        );
         ledger.truncate(TOKEN * answer.tokens());
         Left {
             answer: answer.0,
@@ -90,6 +99,7 @@ impl Engine for Library {
         let (mut profile, mut records) = (vec![0; STEP * MOST_RECORDS], 0);
         let answer = ttda::profile(
             &asked.graph,
+            &asked.arrays,
             &asked.inputs,
             &mut ledger,
             &mut cells,
@@ -105,9 +115,11 @@ impl Engine for Library {
     fn serves(&self, kept: &Request, answer: u64, asked: &Request) -> bool {
         let served = ttda::serves(
             &kept.graph,
+            &kept.arrays,
             &kept.inputs,
             &kept.picks,
             &asked.graph,
+            &asked.arrays,
             &asked.inputs,
             &asked.picks,
             kept.budget,

@@ -6,11 +6,11 @@ use std::fmt;
 pub struct Fingerprint(pub [u8; 32]);
 
 impl Fingerprint {
-    /// The fingerprint of a graph and its inputs. The graph's length stands before it, so that no byte of the one counts for
-    /// the other.
-    pub fn of_run(graph: &[u8], inputs: &[u8]) -> Fingerprint {
-        let length = (graph.len() as u64).to_le_bytes();
-        Fingerprint::of(&[&length, graph, inputs].concat())
+    /// The fingerprint of a graph, its arrays and its inputs. The lengths of the first two stand before them, so that no byte
+    /// of one counts for another; both are short.
+    pub fn of_run(graph: &[u8], arrays: &[u8], inputs: &[u8]) -> Fingerprint {
+        let [graphs, tables] = [graph, arrays].map(|bytes| (bytes.len() as u32).to_le_bytes());
+        Fingerprint::of(&[&graphs, &tables, graph, arrays, inputs].concat())
     }
 
     pub fn of(bytes: &[u8]) -> Fingerprint {
@@ -157,9 +157,18 @@ mod tests {
 
     #[test]
     fn no_byte_of_a_graph_counts_as_an_inputs() {
-        let one = Fingerprint::of_run(&[1, 2], &[3]);
-        assert_ne!(one, Fingerprint::of_run(&[1], &[2, 3]));
-        assert_eq!(one, Fingerprint::of_run(&[1, 2], &[3]));
+        let one = Fingerprint::of_run(&[1, 2], &[], &[3]);
+        for (graph, arrays, inputs) in [
+            (&[1][..], &[][..], &[2, 3][..]),
+            (&[1], &[2], &[3]),
+            (&[1, 2], &[3], &[]),
+            (&[], &[1, 2], &[3]),
+        ] {
+            assert_ne!(one, Fingerprint::of_run(graph, arrays, inputs));
+        }
+        assert_eq!(one, Fingerprint::of_run(&[1, 2], &[], &[3]));
+        // As it was before there were arrays: the length in 8 bytes.
+        assert_eq!(one, Fingerprint::of(&[2, 0, 0, 0, 0, 0, 0, 0, 1, 2, 3]));
         assert_eq!(one.to_string(), one.digits()[..16]);
     }
 

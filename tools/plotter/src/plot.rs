@@ -96,7 +96,7 @@ impl Plot {
     /// What the plot is of, a line each.
     fn facts(&self, words: &Words) -> Vec<String> {
         let request = &self.run.request;
-        let fingerprint = Fingerprint::of_run(&request.graph, &request.inputs);
+        let fingerprint = Fingerprint::of_run(&request.graph, &request.arrays, &request.inputs);
         let (capacity, cells) = (request.capacity, request.cells);
         let lent = format!("graph and inputs {fingerprint}, capacity {capacity}, {cells} cells");
         let run = format!("run of {}: {}", self.run.date(), words.run);

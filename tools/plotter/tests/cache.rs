@@ -72,6 +72,7 @@ impl Drop for Folder {
 fn request(picks: &[u8]) -> Request {
     Request {
         graph: vec![1, 2, 3],
+        arrays: vec![5; 4],
         inputs: vec![4; 28],
         picks: picks.to_vec(),
         budget: 2048,

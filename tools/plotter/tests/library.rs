@@ -68,6 +68,7 @@ fn runs(files: &asm::Files) -> Vec<Shown> {
 fn request(files: &asm::Files, picks: &[u8], budget: u16, capacity: u16, cells: u16) -> Request {
     Request {
         graph: files.graph.clone(),
+        arrays: files.arrays.clone(),
         inputs: files.inputs.clone(),
         picks: picks.to_vec(),
         budget,
@@ -97,7 +98,7 @@ fn what_is_served_is_what_the_run_would_show() {
     );
 }
 
-/// Another graph, or another input, is never served.
+/// Another graph, another table of arrays or another input is never served.
 #[test]
 fn another_graph_is_never_served() {
     let gallery = gallery();
@@ -107,6 +108,11 @@ fn another_graph_is_never_served() {
         let mut edited = files.clone();
         edited.inputs[20] ^= 1;
         assert!(!kept.serves(&shown(&edited)));
+        let mut edited = files.clone();
+        // An array more, which no instruction names.
+        edited.arrays.extend([7, 0, 1, 0]);
+        let other = shown(&edited);
+        assert!(kept.is_shown_alike(&other) && !kept.serves(&other));
         for other in gallery.iter().filter(|other| *other != files) {
             assert!(!kept.serves(&shown(other)));
         }

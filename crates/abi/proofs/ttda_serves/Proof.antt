@@ -12,20 +12,20 @@ ttda-serves-spec = tie.close (tie.spec
     (λ c. search needs)
     (λ c. search needs)
     (λ c.
-    let a = c .before .before .before .before .before .before .before .before .before .args in
-    let kept = requestOf (a .kept-graph .now) (a .kept-inputs .now) (a .kept-picks .now) (a .kept-budget) (a .kept-ledger) (a .kept-cells) in
-    let asked = requestOf (a .graph .now) (a .inputs .now) (a .picks .now) (a .budget) (a .ledger) (a .cells) in
+    let a = c .before .before .before .before .before .before .before .before .before .before .before .args in
+    let kept = requestOf (a .kept-graph .now) (a .kept-arrays .now) (a .kept-inputs .now) (a .kept-picks .now) (a .kept-budget) (a .kept-ledger) (a .kept-cells) in
+    let asked = requestOf (a .graph .now) (a .arrays .now) (a .inputs .now) (a .picks .now) (a .budget) (a .ledger) (a .cells) in
     no-answer kept (a .kept-answer) asked (sym (c .before .before .unpack .ensures) ∙ c .enum-told .given .1))
     (λ c κs. search needs)
     (λ c.
-    let a = c .before .before .before .before .before .before .before .before .before .before .before .before .args in
-    let kept = requestOf (a .kept-graph .now) (a .kept-inputs .now) (a .kept-picks .now) (a .kept-budget) (a .kept-ledger) (a .kept-cells) in
-    let asked = requestOf (a .graph .now) (a .inputs .now) (a .picks .now) (a .budget) (a .ledger) (a .cells) in
+    let a = c .before .before .before .before .before .before .before .before .before .before .before .before .before .before .args in
+    let kept = requestOf (a .kept-graph .now) (a .kept-arrays .now) (a .kept-inputs .now) (a .kept-picks .now) (a .kept-budget) (a .kept-ledger) (a .kept-cells) in
+    let asked = requestOf (a .graph .now) (a .arrays .now) (a .inputs .now) (a .picks .now) (a .budget) (a .ledger) (a .cells) in
     let e = sym (c .before .before .before .before .before .unpack .ensures) ∙ c .before .before .before .a .given .1 in
     by-answer kept (a .kept-answer) asked _ (c .before .serves .result) 1 e (c .before .serves .ensures) (rw (c .if1 .taken)))
     (λ c.
-    let a = c .before .before .before .before .before .before .before .before .before .before .before .before .args in
-    let kept = requestOf (a .kept-graph .now) (a .kept-inputs .now) (a .kept-picks .now) (a .kept-budget) (a .kept-ledger) (a .kept-cells) in
-    let asked = requestOf (a .graph .now) (a .inputs .now) (a .picks .now) (a .budget) (a .ledger) (a .cells) in
+    let a = c .before .before .before .before .before .before .before .before .before .before .before .before .before .before .args in
+    let kept = requestOf (a .kept-graph .now) (a .kept-arrays .now) (a .kept-inputs .now) (a .kept-picks .now) (a .kept-budget) (a .kept-ledger) (a .kept-cells) in
+    let asked = requestOf (a .graph .now) (a .arrays .now) (a .inputs .now) (a .picks .now) (a .budget) (a .ledger) (a .cells) in
     let e = sym (c .before .before .before .before .before .unpack .ensures) ∙ c .before .before .before .a .given .1 in
     by-answer kept (a .kept-answer) asked _ (c .before .serves .result) 0 e (c .before .serves .ensures) (rw (c .if1 .left))))

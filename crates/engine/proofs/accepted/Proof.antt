@@ -7,7 +7,7 @@ use Rattle.engine.proofs.accepted.Tie as tie
 
 pub accepted-spec : {M : Type 1} → statement M
 accepted-spec = tie.close (tie.spec
-    (λ c κs. (c .before .before .before .before .before .before .before .before .before .before .before .pre, refl, refl))
+    (λ c κs. (c .before .before .before .before .before .before .before .before .before .before .before .before .pre, refl, refl))
     (λ c κs. let b = c .before .before .before .before .before .before .before .before .before .before in (b .begin .ensures .prepared, b .begin .ensures .running))
     (λ c. search needs)
     (λ c. search needs)
@@ -15,8 +15,8 @@ accepted-spec = tie.close (tie.spec
     (λ c.
     let p = c .before .before .before .before .before .before in
     let b = p .before .before .before .before .before .before .before .before .before .before .before in
-    let s = b .before .before .before .before .before .before .before .before .before .before .before .before in
+    let s = b .before .before .before .before .before .before .before .before .before .before .before .before .before in
     let a = s .args in (
-      as-run (a .graph .now) (a .inputs .now) (a .picks .now) (a .ledger .now) (a .cells .now) (s .pre) (b .begin .ensures) (a .budget) _ _ _ (p .proceed .ensures .0),
-      as-logged (a .graph .now) (a .inputs .now) (a .picks .now) (a .ledger .now) (a .cells .now) (s .pre) (b .begin .ensures) (a .budget) _ _ (p .proceed .ensures .1),
+      as-run (a .graph .now) (a .arrays .now) (a .inputs .now) (a .picks .now) (a .ledger .now) (a .cells .now) (s .pre) (b .begin .ensures) (a .budget) _ _ _ (p .proceed .ensures .0),
+      as-logged (a .graph .now) (a .arrays .now) (a .inputs .now) (a .picks .now) (a .ledger .now) (a .cells .now) (s .pre) (b .begin .ensures) (a .budget) _ _ (p .proceed .ensures .1),
     )))

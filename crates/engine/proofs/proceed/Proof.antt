@@ -13,7 +13,7 @@ use Rattle.engine.proofs.proceed.Tie as tie
 abbrev Inv-loop : tie.InvT-loop
 Inv-loop graph tables picks links₀ flags₀ ledger₀ cells₀ log₀ budget used₀ firings₀ links flags ledger cells log used firings =
     SoFar (graphOf graph) ledger₀ cells₀ used₀ budget (picksOf picks) tables links flags ledger cells used firings
-    × Noted (graphOf graph) ledger₀ cells₀ log₀ used₀ budget (picksOf picks) ledger cells log used firings
+    × Noted (graphOf graph) tables ledger₀ cells₀ log₀ used₀ budget (picksOf picks) ledger cells log used firings
 
 abbrev μ-loop : tie.MeasureT-loop
 μ-loop graph tables picks links₀ flags₀ ledger₀ cells₀ log₀ budget used₀ firings₀ links flags ledger cells log used firings =
@@ -28,7 +28,7 @@ proceed-spec =
     (tie.spec
     Inv-loop
     μ-loop
-    (λ c. (begun _ _ _ _ _ _ (c .before .before .before .before .before .pre .1), noted-none _ _ _ _ _ _ _))
+    (λ c. (begun _ _ _ _ _ _ (c .before .before .before .before .before .pre .1), noted-none _ _ _ _ _ _ _ _))
     (λ c κs. (c .before .before .before .before .before .before .before .before .before .before .before .pre .0, c .before .before .before .before .before .loop .inv .0 .running))
     (λ c. search needs)
     (λ c κs. search needs)

@@ -9,25 +9,25 @@ use Rattle.engine.proofs.resume.Statement.{statement}
 use Rattle.engine.proofs.resume.Tie as tie
 
 -- the tables are those of the graph
-prepared : (c : tie.After-make) → let s = c .before .before .before .before .before .before in Prepared (s .args .graph .now) (c .make .last .1 .0)
+prepared : (c : tie.After-make) → let s = c .before .before .before .before .before .before .before in Prepared (s .args .graph .now) (c .make .last .1 .1 .0)
 prepared c =
-    let s = c .before .before .before .before .before .before in
-    record { passed = s .pre .0 .graphPassed; returnsRight = c .make .ensures .1; aritiesRight = c .make .ensures .0 }
+    let s = c .before .before .before .before .before .before .before in
+    record { passed = s .pre .0 .graphPassed; returnsRight = c .make .ensures .returns; aritiesRight = c .make .ensures .arities }
 
 pub resume-spec : {M : Type 1} → statement M
 resume-spec = tie.close (tie.spec
-    (λ c κs. c .before .before .before .before .before .pre .0 .graphPassed)
+    (λ c κs. let p = c .before .before .before .before .before .before .pre .0 in (p .graphPassed, p .fewArrays))
     (λ c κs.
     let m = c .before .before .before .before .before in
-    let s = m .before .before .before .before .before .before in
+    let s = m .before .before .before .before .before .before .before in
     (prepared m, s .pre .0 .few, s .pre .0 .cellRecords .0, s .pre .0 .cellRecords .1, refl, refl))
     (λ c κs. search needs)
     (λ c. search needs)
     (λ c. search needs)
     (λ c.
     let k = c .before .before in
-    let a = k .before .before .before .before .before .before .before .before .before .before .before .before .args in
-    refuses (a .graph .now) (a .picks .now) (a .ledger .now) (a .cells .now) (a .budget) (a .firings) (a .used)
+    let a = k .before .before .before .before .before .before .before .before .before .before .before .before .before .args in
+    refuses (a .graph .now) (a .arrays .now) (a .picks .now) (a .ledger .now) (a .cells .now) (a .budget) (a .firings) (a .used)
     (sym (not-true (k .take .result) (c .before .if1 .taken)) ∙ k .take .ensures .0) _ _ (c .refused .ensures) refl)
     (λ c. search needs)
     (λ c κs.
@@ -36,16 +36,17 @@ resume-spec = tie.close (tie.spec
     (λ c.
     let p = c .before .before .before .before .before .before in
     let k = p .before .before .before .before .before .before .before .before in
-    let s = k .before .before .before .before .before .before .before .before .before .before .before .before in
+    let m = k .before .before .before .before .before .before in
+    let s = m .before .before .before .before .before .before .before in
     let a = s .args in
-    omega (arith, own-few (a .graph .now) (a .picks .now) (a .ledger .now) (a .cells .now) (a .budget) (a .firings) (a .used) _ _ _ (p .proceed .ensures .0), s .pre .1, s .pre .2))
+    omega (arith, own-few (a .graph .now) (a .arrays .now) (a .picks .now) (a .ledger .now) (a .cells .now) (a .budget) (a .firings) (a .used) _ (m .make .ensures .named) _ _ _ (p .proceed .ensures .0), s .pre .1, s .pre .2))
     (λ c κs. search needs)
     (λ c. search needs)
     (λ c. search needs)
     (λ c.
     let p = c .before .before .before .before .before .before .before in
     let k = p .before .before .before .before .before .before .before .before in
-    let a = k .before .before .before .before .before .before .before .before .before .before .before .before .args in
-    goes-on (a .graph .now) (a .picks .now) (a .ledger .now) (a .cells .now) (a .budget) (a .firings) (a .used)
+    let a = k .before .before .before .before .before .before .before .before .before .before .before .before .before .args in
+    goes-on (a .graph .now) (a .arrays .now) (a .picks .now) (a .ledger .now) (a .cells .now) (a .budget) (a .firings) (a .used) _ (k .before .before .before .before .before .before .make .ensures .named)
     (sym (not-false (k .take .result) (p .before .before .before .before .before .before .before .if1 .left)) ∙ k .take .ensures .0)
     (p .proceed .result) _ _ _ (p .proceed .ensures .0) (c .answered .ensures)))

@@ -19,8 +19,8 @@ run-spec =
     (λ c. search needs)
     (λ c. search needs)
     (λ c κs.
-    let a = c .before .before .before .before .before .before .before .before .before .before .before .args in
-    accepted-by (a .graph .now) (a .inputs .now) (a .picks .now) (length (a .ledger .now)) (length (a .cells .now)) (sym (c .before .before .before .before .before .check .ensures) ∙ c .before .before .before .enum-told .given .1))
+    let a = c .before .before .before .before .before .before .before .before .before .before .before .before .args in
+    accepted-by (a .graph .now) (a .arrays .now) (a .inputs .now) (a .picks .now) (length (a .ledger .now)) (length (a .cells .now)) (sym (c .before .before .before .before .before .check .ensures) ∙ c .before .before .before .enum-told .given .1))
     (λ c.
     let e = sym (c .before .before .before .before .check .ensures) ∙ c .before .before .checked .given .1 in
     let a = c .refused .ensures in

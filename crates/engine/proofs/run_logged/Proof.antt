@@ -24,8 +24,8 @@ run-logged-spec =
     (λ c κs. search needs)
     (λ c. search needs)
     (λ c κs.
-    let a = c .before .before .before .before .before .before .before .before .before .before .before .before .args in
-    accepted-logged (a .graph .now) (a .inputs .now) (a .picks .now) (a .budget) (length (a .ledger .now)) (length (a .cells .now)) (length (a .log .now)) (sym (c .before .before .before .before .before .check-logged .ensures) ∙ c .before .before .before .enum-told .given .1))
+    let a = c .before .before .before .before .before .before .before .before .before .before .before .before .before .args in
+    accepted-logged (a .graph .now) (a .arrays .now) (a .inputs .now) (a .picks .now) (a .budget) (length (a .ledger .now)) (length (a .cells .now)) (length (a .log .now)) (sym (c .before .before .before .before .before .check-logged .ensures) ∙ c .before .before .before .enum-told .given .1))
     (λ c.
     let e = sym (c .before .before .before .before .check-logged .ensures) ∙ c .before .before .checked .given .1 in
     let r = c .refused .ensures in
@@ -34,8 +34,8 @@ run-logged-spec =
     (λ c. search needs)
     (λ c. search needs)
     (λ c.
-    let a = c .before .before .before .before .before .before .before .before .before .before .before .before .before .before .before .before .before .before .before .args in
+    let a = c .before .before .before .before .before .before .before .before .before .before .before .before .before .before .before .before .before .before .before .before .args in
     let e = sym (c .before .before .before .before .before .before .before .before .before .before .before .before .check-logged .ensures) ∙ c .before .before .before .before .before .before .before .before .before .before .enum-told .given .1 in
     let r = c .before .before .before .before .before .before .accepted .ensures in
-    let room = rw e at (log-fits (a .graph .now) (a .inputs .now) (a .picks .now) (a .budget) (length (a .ledger .now)) (length (a .cells .now)) (length (a .log .now))) in
+    let room = rw e at (log-fits (a .graph .now) (a .arrays .now) (a .inputs .now) (a .picks .now) (a .budget) (length (a .ledger .now)) (length (a .cells .now)) (length (a .log .now))) in
     rw e (record { answered = r .0 .answered; numbers = ap valuesOf (r .0 .answered); ledgerLeft = r .0 .ledgerLeft; cellsLeft = r .0 .cellsLeft; logLeft = r .1 ∙ recorded-all _ (a .log .now) (omega (arith, room)) })))

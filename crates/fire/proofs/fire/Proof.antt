@@ -9,6 +9,7 @@ use mir.Facts.{toZ-ofZ}
 use denote.Ref.{now}
 use borrow.Author.Needs.{needs}
 use Rattle.record.specs.GraphRecords.{graphOf}
+use Rattle.abstraction.specs.Tables.{arraysIn}
 use Rattle.record.specs.TokensAndTags.{tokens, tokenAt}
 use Rattle.record.specs.Widths.{cellWidth, graphWidth}
 use Rattle.rules.specs.InstructionSet.{arityIn}
@@ -35,7 +36,7 @@ abbrev operands : tie.After-instruction-at → tie.After-matched
 operands f = f .before .before .before
 
 abbrev fetched : tie.After-operate → tie.After-instruction-at
-fetched e = e .before .before .before
+fetched e = e .before .before .before .before
 
 abbrev operated : tie.After-new-tags → tie.After-operate
 operated n = n .before .before .before .before
@@ -76,7 +77,7 @@ constant-fits e = record { sfits = e .before .struct-told .given .1 .1 .1 .1 .0 
 -- the operation, at the operands themselves
 did : (e : tie.After-operate)
     → (let b = operands (fetched e) in
-    e .operate .result ≡ operatedOf (e .before .before .decode .result) (fetched e .instruction-at .result .constant) (length (start (read (b .before .before)) .args .cells .now) / cellWidth) (left b) (right b))
+    e .operate .result ≡ operatedOf (e .before .before .before .decode .result) (arraysIn (now (start (read (b .before .before)) .args .tables))) (fetched e .instruction-at .result .constant) (length (start (read (b .before .before)) .args .cells .now) / cellWidth) (left b) (right b))
 did e = rw (toZ-ofZ (constant-fits e), toZ-ofZ (left-fits (fetched e)), toZ-ofZ (right-fits (fetched e))) at (e .operate .ensures)
 
 -- the new tags likewise
@@ -84,7 +85,7 @@ made : (n : tie.After-new-tags)
     → (let e = operated n in
     let b = operands (fetched e) in
     let t = read (b .before .before) in
-    Makes (n .new-tags .result) (newTagsOf (e .before .before .decode .result) (graphOf (now (start t .args .graph))) (t .token-at .result .tag) (fetched e .instruction-at .result) (right b)))
+    Makes (n .new-tags .result) (newTagsOf (e .before .before .before .decode .result) (graphOf (now (start t .args .graph))) (t .token-at .result .tag) (fetched e .instruction-at .result) (right b)))
 made n = rw (toZ-ofZ (right-fits (fetched (operated n)))) at (n .new-tags .ensures)
 
 -- both, where neither is refused
@@ -94,13 +95,13 @@ sent : (c : tie.After-made2)
     let b = operands (fetched e) in
     let t = read (b .before .before) in
     let a = start t .args in
-    Effected (graphOf (now (a .graph))) (length (a .cells .now) / cellWidth) (t .token-at .result .tag) (left b) (right b) (n .before .before .operated2 .given .0 .0) (c .made2 .given .0 .0))
+    Effected (graphOf (now (a .graph))) (arraysIn (now (a .tables))) (length (a .cells .now) / cellWidth) (t .token-at .result .tag) (left b) (right b) (n .before .before .operated2 .given .0 .0) (c .made2 .given .0 .0))
 sent c =
     let n = c .before .before in
     let e = operated n in
     let f = fetched e in
     let t = read (operands f .before .before) in
-    effected _ _ _ (in-graph t) _ _ _ _ (f .instruction-at .ensures) (e .before .before .decode .ensures) (sym (did e) ∙ n .before .before .operated2 .given .1) (made n) (start t .pre .0 .passed) (c .made2 .given .1)
+    effected _ _ _ _ (in-graph t) _ _ _ _ (f .instruction-at .ensures) (e .before .before .before .decode .ensures) (sym (did e) ∙ n .before .before .operated2 .given .1) (made n) (start t .pre .0 .passed) (c .made2 .given .1)
 
 pub fire-spec : {M : Type 1} → statement M
 fire-spec =
@@ -141,14 +142,14 @@ fire-spec =
     let t = read m in
     let s = start t in
     stopped-here _ (s .pre .0) (s .pre .1) (s .args .place) (s .pre .2) (t .token-at .result) (t .token-at .ensures) _ _ _ _ (found m ∙ b .matched .given .1)
-    (operation-refused _ _ _ (in-graph t) _ _ _ _ (f .instruction-at .ensures) (e .before .before .decode .ensures) (sym (did e) ∙ c .before .operated .given .1)))
+    (operation-refused _ _ _ _ (in-graph t) _ _ _ _ (f .instruction-at .ensures) (e .before .before .before .decode .ensures) (sym (did e) ∙ c .before .operated .given .1)))
     (λ c. search needs)
     (λ c κs.
     let e = c .before .before .before in
     let f = fetched e in
     let t = read (operands f .before .before) in
     let s = start t in
-    rw (e .before .before .decode .ensures, f .instruction-at .ensures) (ready _ _ (in-graph t) _ (s .pre .0 .passed) (s .pre .0 .returnsRight)))
+    rw (e .before .before .before .decode .ensures, f .instruction-at .ensures) (ready _ _ (in-graph t) _ (s .pre .0 .passed) (s .pre .0 .returnsRight)))
     (λ c. search needs)
     (λ c. search needs)
     (λ c.
@@ -160,14 +161,14 @@ fire-spec =
     let t = read m in
     let s = start t in
     stopped-here _ (s .pre .0) (s .pre .1) (s .args .place) (s .pre .2) (t .token-at .result) (t .token-at .ensures) _ _ _ _ (found m ∙ b .matched .given .1)
-    (tags-refused _ _ _ (in-graph t) _ _ _ _ (f .instruction-at .ensures) (e .before .before .decode .ensures) (sym (did e) ∙ n .before .before .operated2 .given .1) (made n) (c .before .made .given .1)))
+    (tags-refused _ _ _ _ (in-graph t) _ _ _ _ (f .instruction-at .ensures) (e .before .before .before .decode .ensures) (sym (did e) ∙ n .before .before .operated2 .given .1) (made n) (c .before .made .given .1)))
     (λ c. search needs)
     (λ c κs.
     let o = c .before .before .before .before .before in
     let b = operands (fetched (operated (o .before .before))) in
     let m = b .before .before in
     let s = start (read m) in
-    (lent-here _ (s .pre .0) (s .pre .1) (s .args .place) (s .pre .2) _ _ _ _ (found m ∙ b .matched .given .1), fitting _ _ _ _ _ _ _ (sent o)))
+    (lent-here _ (s .pre .0) (s .pre .1) (s .args .place) (s .pre .2) _ _ _ _ (found m ∙ b .matched .given .1), fitting _ _ _ _ _ _ _ _ (sent o)))
     (λ c. search needs)
     (λ c. search needs)
     (λ c.

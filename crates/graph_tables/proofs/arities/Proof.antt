@@ -15,7 +15,7 @@ use Rattle.graph_tables.proofs.arities.Tie as tie
 
 abbrev Inv-loop : tie.InvT-loop
 Inv-loop graph out₀ i₀ out i =
-    (i ≤ 256) × (length out ≡ 512) × ((τ : Tag) → τ .instruction < i → arityOf out τ ≡ arityIn (graphOf graph) τ) × ((k : ℕ) → k < 256 → getD out k 0 ≡ getD out₀ k 0)
+    (i ≤ 256) × (length out ≡ 641) × ((τ : Tag) → τ .instruction < i → arityOf out τ ≡ arityIn (graphOf graph) τ) × ((k : ℕ) → k < 256 → getD out k 0 ≡ getD out₀ k 0)
 
 abbrev μ-loop : tie.MeasureT-loop
 μ-loop graph out₀ i₀ out i = 256 - i
@@ -35,11 +35,11 @@ arities-spec = tie.close (tie.spec
     let l = c .before .before .loop in
     let v = c .entry-at .result in (
       omega arith,
-      length-set (l .out) (l .i + 256) v ∙ l .inv .1,
+      length-set (l .out) (l .i + 385) v ∙ l .inv .1,
       entry-next (graphOf (c .before .before .before .before .args .graph .now)) (l .out) (l .i) v (omega arith) (l .inv .2) (c .entry-at .ensures),
-      λ k h. getD-set-other (l .out) (l .i + 256) k v 0 (λ e. omega arith) ∙ l .inv .3 k h,
+      λ k h. getD-set-other (l .out) (l .i + 385) k v 0 (λ e. omega arith) ∙ l .inv .3 k h,
     ))
     (λ c.
     let l = c .before .loop in
     let s = c .before .before .before in
-    (all-arities (s .args .graph .now) (l .out) (s .pre .0) (l .inv .1) (λ τ h. l .inv .2 τ (omega arith)), λ r site h. l .inv .3 site h ∙ r site h)))
+    ((all-arities (s .args .graph .now) (l .out) (s .pre .0) (l .inv .1) (λ τ h. l .inv .2 τ (omega arith)), l .inv .1), λ r site h. l .inv .3 site h ∙ r site h)))

@@ -16,7 +16,7 @@ use Rattle.graph_tables.proofs.returns.Statement.{statement}
 use Rattle.graph_tables.proofs.returns.Tie as tie
 
 abbrev Inv-loop : tie.InvT-loop
-Inv-loop graph out₀ i₀ out i = (i ≤ length graph / graphWidth) × (length out ≡ 512) × Returns (drop i (graphOf graph)) out
+Inv-loop graph out₀ i₀ out i = (i ≤ length graph / graphWidth) × (length out ≡ 641) × Returns (drop i (graphOf graph)) out
 
 abbrev μ-loop : tie.MeasureT-loop
 μ-loop graph out₀ i₀ out i = i

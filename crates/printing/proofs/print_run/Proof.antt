@@ -18,13 +18,13 @@ print-run-spec = tie.close (tie.spec
     (λ c. search needs)
     (λ c κs.
     let r = c .before .before .before .before .before .before .run .ensures in
-    (few-tokens _ _ _ _ _ _ r, within _ _ (few-tokens _ _ _ _ _ _ r) (search needs), search needs))
+    (few-tokens _ _ _ _ _ _ _ r, within _ _ (few-tokens _ _ _ _ _ _ _ r) (search needs), search needs))
     (λ c. search needs)
     (λ c.
     let p = c .before .before .before .print-left .ensures in
     let r = c .before .before .before .before .before .before .before .before .before .before .run .ensures in
-    let a = c .before .before .before .before .before .before .before .before .before .before .before .before .before .before .before .before .before .args in
-    let e = left-printed (a .graph .now) (a .inputs .now) (a .picks .now) r in
+    let a = c .before .before .before .before .before .before .before .before .before .before .before .before .before .before .before .before .before .before .args in
+    let e = left-printed (a .graph .now) (a .arrays .now) (a .inputs .now) (a .picks .now) r in
     record {
       answered = p .0 ∙ ap (λ (t : List ℕ). printedOf t (a .out .now)) e;
       outLeft = p .1 ∙ ap (λ (t : List ℕ). outAfter t (a .out .now)) e;

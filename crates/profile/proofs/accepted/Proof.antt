@@ -9,21 +9,21 @@ use Rattle.profile.proofs.accepted.Tie as tie
 pub accepted-spec : {M : Type 1} → statement M
 accepted-spec = tie.close (tie.spec
     (λ c κs.
-    let s = c .before .before .before .before .before .before .before .before .before .before in
+    let s = c .before .before .before .before .before .before .before .before .before .before .before in
     let a = s .args in
-    (accepted-by (a .graph .now) (a .inputs .now) (length (a .ledger .now)) (length (a .cells .now)) (length (a .profile .now)) (s .pre), refl, refl))
+    (accepted-by (a .graph .now) (a .arrays .now) (a .inputs .now) (length (a .ledger .now)) (length (a .cells .now)) (length (a .profile .now)) (s .pre), refl, refl))
     (λ c κs.
     let b = c .before .before .before .before .before .before .before .before .before .before in
-    let s = b .before .before .before .before .before .before .before .before .before .before .before in
+    let s = b .before .before .before .before .before .before .before .before .before .before .before .before in
     let a = s .args in
     let begun = b .begin .ensures in
-    (begun .prepared, begun .running, all-live (a .graph .now) (a .inputs .now) (a .ledger .now) (a .cells .now) (length (a .profile .now)) (s .pre) begun))
+    (begun .prepared, begun .running, all-live (a .graph .now) (a .arrays .now) (a .inputs .now) (a .ledger .now) (a .cells .now) (length (a .profile .now)) (s .pre) begun))
     (λ c. search needs)
     (λ c. search needs)
     (λ c. search needs)
     (λ c.
     let p = c .before .before .before .before .before .before in
     let b = p .before .before .before .before .before .before .before .before .before .before .before in
-    let s = b .before .before .before .before .before .before .before .before .before .before .before in
+    let s = b .before .before .before .before .before .before .before .before .before .before .before .before in
     let a = s .args in
-    as-profile (a .graph .now) (a .inputs .now) (a .ledger .now) (a .cells .now) (length (a .profile .now)) (s .pre) (b .begin .ensures) _ _ _ _ _ (p .proceed .ensures)))
+    as-profile (a .graph .now) (a .arrays .now) (a .inputs .now) (a .ledger .now) (a .cells .now) (length (a .profile .now)) (s .pre) (b .begin .ensures) _ _ _ _ _ (p .proceed .ensures)))

@@ -11,15 +11,15 @@ use Rattle.replay.proofs.accepted.Tie as tie
 pub accepted-spec : {M : Type 1} → statement M
 accepted-spec = tie.close (tie.spec
     (λ c κs.
-    let s = c .before .before .before .before .before .before .before .before .before .before in
+    let s = c .before .before .before .before .before .before .before .before .before .before .before in
     let a = s .args in
-    (accepted-by (a .graph .now) (a .inputs .now) [] (length (a .ledger .now)) (length (a .cells .now)) (s .pre), refl, refl))
+    (accepted-by (a .graph .now) (a .arrays .now) (a .inputs .now) [] (length (a .ledger .now)) (length (a .cells .now)) (s .pre), refl, refl))
     (λ c κs. let b = c .before .before .before .before .before .before .before .before .before in (b .begin .ensures .prepared, b .begin .ensures .running))
     (λ c. search needs)
     (λ c. search needs)
     (λ c.
     let p = c .before .before .before .before in
     let b = p .before .before .before .before .before .before .before .before .before .before in
-    let s = b .before .before .before .before .before .before .before .before .before .before .before in
+    let s = b .before .before .before .before .before .before .before .before .before .before .before .before in
     let a = s .args in
-    as-replay (a .graph .now) (a .inputs .now) (a .log .now) (a .ledger .now) (a .cells .now) (s .pre) (b .begin .ensures) _ _ _ (p .proceed .ensures)))
+    as-replay (a .graph .now) (a .arrays .now) (a .inputs .now) (a .log .now) (a .ledger .now) (a .cells .now) (s .pre) (b .begin .ensures) _ _ _ (p .proceed .ensures)))

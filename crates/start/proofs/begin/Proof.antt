@@ -12,10 +12,10 @@ use Rattle.start.proofs.begin.Tie as tie
 
 pub begin-spec : {M : Type 1} → statement M
 begin-spec = tie.close (tie.spec
-    (λ c κs. c .before .before .before .before .before .pre .0 .graphPassed)
+    (λ c κs. let k = c .before .before .before .before .before .before .pre .0 in (k .graphPassed, k .fewArrays))
     (λ c κs. search needs)
     (λ c κs.
-    let s = c .before .before .before .before .before .before .before .before .before .before .before .before .before .before in
+    let s = c .before .before .before .before .before .before .before .before .before .before .before .before .before .before .before in
     let a = s .args in
     let k = s .pre .0 in
     let passed = k .inputsPassed in
@@ -23,12 +23,12 @@ begin-spec = tie.close (tie.spec
     (λ c. search needs)
     (λ c.
     let k = c .before .before .before .before .before .before .before .before .before in
-    let s = k .before .before .before .before .before .before .before .before in
+    let s = k .before .before .before .before .before .before .before .before .before in
     omega (arith, ap length (k .clear .ensures), length-replicate {A = ℕ} (length (s .args .cells .now)) 0))
     (λ c.
     let i = c .before .before in
     let k = i .before .before .before .before .before .before .before in
     let m = k .before .before in
-    let s = m .before .before .before .before .before .before in
+    let s = m .before .before .before .before .before .before .before in
     let a = s .args in
-    begun (a .graph .now) (a .inputs .now) (a .ledger .now) (a .cells .now) (s .pre .0) (i .inputs .ensures) (k .clear .ensures) (m .make .ensures)))
+    begun (a .graph .now) (a .arrays .now) (a .inputs .now) (a .ledger .now) (a .cells .now) (s .pre .0) (i .inputs .ensures) (k .clear .ensures) (m .make .ensures)))

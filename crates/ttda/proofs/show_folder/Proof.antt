@@ -19,12 +19,23 @@ show-folder-spec =
     (λ c κs. search needs)
     (λ c. search needs)
     (λ c. search needs)
+    (λ c κs. search needs)
+    (λ c.
+    let fourth = c .before .before .before .before in
+    let third = fourth .before .before .before .before .before .before .before in
+    let second = third .before .before .before .before .before .before .before in
+    fourth .read-in4 .kept .0 ∙ third .read-in3 .kept .0 ∙ second .read-in2 .kept .0 ∙ second .before .before .before .before .before .before .before .read-in .kept .0)
+    (λ c. search needs)
     (λ c. search needs)
     (λ c κs. search needs)
     (λ c. search needs)
     (λ c κs. search needs)
     (λ c. search needs)
     (λ c κs. search needs)
+    (λ c. search needs)
+    (λ c κs. search needs)
+    (λ c. search needs)
+    (λ c. search needs)
     (λ c. search needs)
     (λ c. search needs)
     (λ c. search needs)
@@ -34,7 +45,8 @@ show-folder-spec =
     (λ c. search needs)
     (λ c κs. search needs)
     (λ c.
-    let third = c .before .before .before .before .before .before .before .before .before .before .before .before .before .before .before .before .before .before in
+    let fourth = c .before .before .before .before .before .before .before .before .before .before .before .before .before .before .before .before .before .before .before .before .before .before in
+    let third = fourth .before .before .before .before .before .before .before in
     let second = third .before .before .before .before .before .before .before in
-    third .read-in3 .kept .0 ∙ second .read-in2 .kept .0 ∙ second .before .before .before .before .before .before .before .read-in .kept .0)
+    fourth .read-in4 .kept .0 ∙ third .read-in3 .kept .0 ∙ second .read-in2 .kept .0 ∙ second .before .before .before .before .before .before .before .read-in .kept .0)
     (λ c. search needs))

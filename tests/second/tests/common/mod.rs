@@ -1,7 +1,7 @@
 //! Records and runs for the tests.
 #![allow(dead_code)]
 
-use second::{list, print, run, Answer, Outcome, Refusal};
+use second::{list, print, run, Answer, Outcome, Program, Refusal, Schedule};
 
 pub use layout::*;
 
@@ -56,6 +56,7 @@ pub fn refused(number: u8, firings: usize, tokens: usize, place: usize) -> Answe
 #[derive(Clone)]
 pub struct Lent {
     pub graph: Vec<u8>,
+    pub arrays: Vec<u8>,
     pub inputs: Vec<u8>,
     pub picks: Vec<u8>,
     pub budget: u16,
@@ -73,6 +74,7 @@ pub struct Left {
 pub fn lend(records: &[[u8; 16]], tokens: &[[u8; 28]]) -> Lent {
     Lent {
         graph: graph(records),
+        arrays: Vec::new(),
         inputs: inputs(tokens),
         picks: Vec::new(),
         budget: 2048,
@@ -84,6 +86,12 @@ pub fn lend(records: &[[u8; 16]], tokens: &[[u8; 28]]) -> Lent {
 impl Lent {
     pub fn picks(mut self, numbers: &[u16]) -> Lent {
         self.picks = picks(numbers);
+        self
+    }
+
+    /// A table of named arrays, each by its first cell and its length.
+    pub fn arrays(mut self, table: &[(u16, u16)]) -> Lent {
+        self.arrays = table.iter().flat_map(|&(f, l)| array(f, l)).collect();
         self
     }
 
@@ -125,10 +133,9 @@ impl Lent {
         let mut ledger = vec![garbage; self.ledger_bytes];
         let mut cells = vec![garbage; self.cells_bytes];
         let answer = run(
-            &self.graph,
+            self.program(),
             &self.inputs,
-            &self.picks,
-            self.budget,
+            Schedule::new(&self.picks, self.budget),
             &mut ledger,
             &mut cells,
         );
@@ -136,6 +143,13 @@ impl Lent {
             answer,
             ledger,
             cells,
+        }
+    }
+
+    pub fn program(&self) -> Program<'_> {
+        Program {
+            graph: &self.graph,
+            arrays: &self.arrays,
         }
     }
 

@@ -26,6 +26,7 @@ pub fn check(args: &Check) -> Result<u8, Failure> {
         let mut fields = vec![
             ("refused", finding.unwrap_or("null".to_string())),
             ("instructions", program.graph.instructions.len().to_string()),
+            ("arrays", program.arrays.all().len().to_string()),
             ("inputs", program.input_count().to_string()),
         ];
         fields.extend(bounds_fields(&program, &machine.bounds()));
@@ -37,10 +38,14 @@ pub fn check(args: &Check) -> Result<u8, Failure> {
         return Ok(failure::NOT_COMPLETED);
     }
     let instructions = count(program.graph.instructions.len(), "instruction");
+    let arrays = match program.arrays.all().len() {
+        0 => String::new(),
+        number => format!("{}, ", count(number, "array")),
+    };
     let inputs = count(program.input_count(), "input");
     let bounds = bounds_words(&program, &machine.bounds());
     let text = format!(
-        "{}: {instructions}, {inputs}; nothing is refused before the first firing\n{bounds}\n",
+        "{}: {instructions}, {arrays}{inputs}; nothing is refused before the first firing\n{bounds}\n",
         program.label
     );
     output::print(text.as_bytes())?;

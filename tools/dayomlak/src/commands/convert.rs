@@ -53,7 +53,7 @@ fn folder(args: &Convert) -> Result<Vec<Written>, Failure> {
         return Err(Failure::file(&args.new, program::no_folder()));
     }
     let mut files = Vec::new();
-    for name in ["graph", "inputs", "picks"] {
+    for name in ["graph", "arrays", "inputs", "picks"] {
         let (old, new) = (args.old.join(name), args.new.join(name));
         match name {
             _ if !old.exists() => (),
@@ -63,14 +63,14 @@ fn folder(args: &Convert) -> Result<Vec<Written>, Failure> {
     }
     match files.is_empty() {
         true => Err(Failure::Wrong(format!(
-            "{} has no file `graph`, `inputs` or `picks`\n  a listing or a log is converted by its own name",
+            "{} has no file `graph`, `arrays`, `inputs` or `picks`\n  a listing or a log is converted by its own name",
             args.old.display()
         ))),
         false => Ok(files),
     }
 }
 
-/// Instructions and picks have no path.
+/// Instructions, arrays and picks have no path.
 fn copy(old: &Path, new: &Path) -> Result<Written, Failure> {
     Ok(Written {
         path: new.to_path_buf(),

@@ -19,8 +19,10 @@ pub fn asm(args: &Asm) -> Result<u8, Failure> {
     fs::create_dir_all(folder).map_err(|error| Failure::file(folder, error))?;
     let target = |name: &str| Target::new(&folder.join(name), &program.sources);
     // None is written if one cannot be.
-    let (graph, inputs, picks) = (target("graph")?, target("inputs")?, target("picks")?);
+    let (graph, arrays) = (target("graph")?, target("arrays")?);
+    let (inputs, picks) = (target("inputs")?, target("picks")?);
     graph.write(&program.files.graph)?;
+    arrays.write(&program.files.arrays)?;
     inputs.write(&program.files.inputs)?;
     picks.write(&program.files.picks)?;
     Ok(failure::COMPLETED)

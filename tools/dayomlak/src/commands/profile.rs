@@ -257,7 +257,7 @@ fn draw(args: &Profile, file: &str, path: &Path) -> Result<u8, Failure> {
     let machine = Machine::new(&program, args.buffers.sizes());
     let plot = profiles::plot(&machine, &order, args.budget.unwrap_or(WHOLE))?;
     let end = End::from(&plot.left);
-    let words = words(&program, &plot, &end);
+    let words = words(&machine, &plot, &end);
     let svg = plot.svg(&words, curves::ideal(&machine, &plot.profile.steps)?);
     let svg = svg.map_err(|error| Failure::Inconsistent(format!("the picture: {error}")))?;
     target.write(&form.drawn(svg.into_bytes())?)?;
@@ -270,24 +270,30 @@ fn draw(args: &Profile, file: &str, path: &Path) -> Result<u8, Failure> {
     Ok(status(&end))
 }
 
-/// What is said of a plot, by the names of a program.
-fn words(program: &Program, plot: &Plot, end: &End) -> Words {
+/// What is said of a plot, by the names of its program.
+fn words(machine: &Machine, plot: &Plot, end: &End) -> Words {
+    let program = machine.program;
     let profiled = Answer::of(plot.profile.answer);
     let mut profile = profiles::words(program, &plot.profile.steps, &profiled);
     profile[0].insert_str(0, "profile, which takes no picks and no budget: ");
     Words {
         title: program.label.clone(),
-        run: ended(program, end, &plot.run.words()),
+        run: ended(machine, end, &plot.run.words()),
         profile,
         left: results::lines(program, end),
     }
 }
 
-/// How a run ended, with the firing or the file that was refused.
-fn ended(program: &Program, end: &End, order: &str) -> String {
+/// How a run ended, with the firing, the file or the array that was refused.
+fn ended(machine: &Machine, end: &End, order: &str) -> String {
+    let program = machine.program;
     let words = results::headline(end, order);
-    let bad_store = || refused::bad_store(program).filter(|_| end.answer.word == Word::Refused(7));
-    match (refused::which(program, end), bad_store()) {
+    let bad_file = || match end.answer.word {
+        Word::Refused(7) => refused::bad_store(program),
+        Word::Refused(22) => refused::bad_table(program, machine.sizes).map(|(_, why)| why),
+        _ => None,
+    };
+    match (refused::which(program, end), bad_file()) {
         (Some(firing), _) => format!("{words}, in {firing}"),
         (None, Some(why)) => format!("{words}; {why}"),
         (None, None) => words,

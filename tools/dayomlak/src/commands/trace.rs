@@ -122,6 +122,10 @@ fn touch(program: &Program, history: &History, firing: &Firing) -> String {
     };
     object(&[
         ("cell", cell.to_string()),
+        (
+            "name",
+            string(&program.touched(firing.tag.instruction, *cell)),
+        ),
         ("touch", string(word)),
         ("woken", list(woken)),
     ])

@@ -30,7 +30,7 @@ const OPERATORS: [(&str, Operator); 8] = [
 ];
 
 /// What others write, longer ones first, and what to write here.
-const OTHERS: [(&str, &str); 14] = [
+const OTHERS: [(&str, &str); 15] = [
     ("**", "there is no power: write a * a"),
     (">=", "turn the sides round: b <= a"),
     ("!=", "write (a == b) == 0"),
@@ -46,6 +46,10 @@ const OTHERS: [(&str, &str); 14] = [
     ("^", "there is no power: write a * a"),
     ("×", "write *"),
     ("÷", "write /"),
+    (
+        "[",
+        "there are no arrays here: give the element a name of its own, and its value",
+    ),
     (".", "values are whole numbers"),
     (",", "values are whole numbers, without commas"),
 ];

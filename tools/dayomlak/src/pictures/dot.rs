@@ -118,7 +118,10 @@ fn escaped(text: &str) -> String {
 
 impl Drawing<'_> {
     fn loads_table(&self) -> String {
-        let cells: Vec<(i32, i32)> = self.loads.cells.values().copied().collect();
+        let cells = self.loads.cells.values();
+        let cells: Vec<(String, i32)> = cells
+            .map(|(cell, value)| (self.cell(*cell), *value))
+            .collect();
         let columns = cells.len().div_ceil(MOST_ROWS);
         let rows = cells.len().div_ceil(columns.max(1)).max(1);
         let columns: Vec<String> = cells.chunks(rows).map(loads_column).collect();
@@ -131,6 +134,12 @@ impl Drawing<'_> {
             "  loads [shape=plaintext, style=\"\", fontsize=10, label=<{table}>{}];\n",
             self.id("loads")
         )
+    }
+
+    /// An element's name, or the number of a cell that is no array's.
+    fn cell(&self, cell: i32) -> String {
+        let name = self.program.cell(cell);
+        name.trim_start_matches("cell ").to_string()
     }
 
     /// Columns in one table. On a page there is room for tokens beside each.
@@ -210,8 +219,8 @@ impl Drawing<'_> {
 }
 
 /// Loaded cells below each other, under a heading.
-fn loads_column(cells: &[(i32, i32)]) -> String {
-    let row = |(cell, value): &(i32, i32)| {
+fn loads_column(cells: &[(String, i32)]) -> String {
+    let row = |(cell, value): &(String, i32)| {
         format!("<tr><td align=\"right\">{cell}</td><td align=\"right\">{value}</td></tr>")
     };
     let rows: String = cells.iter().map(row).collect();

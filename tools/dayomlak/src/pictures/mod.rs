@@ -73,7 +73,7 @@ fn converted(svg: Vec<u8>, arguments: &[&str]) -> io::Result<Vec<u8>> {
     }
 }
 
-/// A fingerprint of graph and inputs, for a reader to tell two pictures apart.
+/// A fingerprint of graph, arrays and inputs, for a reader to tell two pictures apart.
 pub fn fingerprint(files: &Files) -> Fingerprint {
-    Fingerprint::of_run(&files.graph, &files.inputs)
+    Fingerprint::of_run(&files.graph, &files.arrays, &files.inputs)
 }

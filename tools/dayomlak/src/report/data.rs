@@ -16,7 +16,7 @@ use crate::json::{list, maybe, object, string};
 use crate::pictures::dot::{self, Drawing};
 use crate::program::Program;
 use crate::records::{self, Cell, Tag, Token};
-use crate::walk;
+use crate::{refused, walk};
 
 /// The data of a run. One that was refused before its inputs were written has no state.
 pub fn of(run: &Run, drawing: &Drawing, steps: &Steps) -> Result<String, Failure> {
@@ -63,6 +63,11 @@ fn fault(run: &Run, drawing: &Drawing) -> Option<String> {
     let answer = &run.end.answer;
     match answer.word {
         Word::Refused(2..=5) => Some(drawing.instruction_id(answer.place as u16)),
+        Word::Refused(22)
+            if refused::bad_table(run.machine.program, run.machine.sizes).is_none() =>
+        {
+            Some(drawing.instruction_id(answer.place as u16))
+        }
         Word::Refused(6 | 8 | 9) if answer.refused_at_once() => {
             let inputs = records::tokens(&run.machine.program.files.inputs);
             let instruction = inputs.get(answer.place)?.tag.instruction;
@@ -222,6 +227,7 @@ impl<'d> Data<'d> {
         list(self.states.cells.iter().map(|(number, changes)| {
             object(&[
                 ("cell", number.to_string()),
+                ("name", string(&self.program.cell(*number as i32))),
                 ("changes", cell_changes(changes)),
             ])
         }))

@@ -148,7 +148,7 @@ function fillTable(id, items, rowOf) {
 function tokenRow(token) {
   const deferred = token.state === 'deferred';
   const value = deferred ? '' : token.value;
-  const state = deferred ? `deferred on cell ${token.value}` : token.state;
+  const state = deferred ? `deferred on ${cellName(token.value)}` : token.state;
   const tr = row([token.number, token.name, value, state], [0, 2]);
   tr.dataset.record = `${token.key} ${token.value} ${token.state}`;
   tr.classList.toggle('fresh', token.fresh);
@@ -158,10 +158,16 @@ function tokenRow(token) {
 
 function cellRow(cell, reads) {
   const value = cell.state === 'present' ? cell.value : '';
-  const tr = row([cell.cell, cell.state, value, some(reads.map(readWords)).join(', ')], [0, 2]);
+  const tr = row([cell.name.replace(/^cell /, ''), cell.state, value, some(reads.map(readWords)).join(', ')], [0, 2]);
   tr.dataset.record = `cell ${cell.cell} ${cell.state} ${cell.value}`;
   tr.classList.toggle('fresh', cell.fresh);
   return tr;
+}
+
+// What a cell is called: an element of an array, or a cell by its number.
+function cellName(number) {
+  const known = data.cells.find(({ cell }) => cell === number);
+  return known ? known.name : `cell ${number}`;
 }
 
 // A deferred token, and the FETCH that sent it when it arrived.
@@ -337,7 +343,7 @@ function badge({ x, y }, group) {
 
 function tipOf(group) {
   const words = ({ name, value, state }) =>
-    state === 'deferred' ? `${name} waits for cell ${value}` : `${name} = ${value}`;
+    state === 'deferred' ? `${name} waits for ${cellName(value)}` : `${name} = ${value}`;
   return some(group.map(words)).join('\n');
 }
 

@@ -83,7 +83,7 @@ pub fn broken(program: &Program, state: &State, capacity: usize) -> Vec<Broken> 
         let words = format!("there are {tokens}, and the capacity is {capacity}");
         return vec![whole(CAPACITY, words)];
     }
-    if let Some(field) = bad_token(program, state).or_else(|| bad_cell(state)) {
+    if let Some(field) = bad_token(program, state).or_else(|| bad_cell(program, state)) {
         return vec![field];
     }
     let look = Look::at(program, state);
@@ -152,13 +152,14 @@ fn bad_fields(program: &Program, record: &[u8], token: &Token) -> Option<String>
 }
 
 /// The first cell with a field that is not allowed.
-fn bad_cell(state: &State) -> Option<Broken> {
+fn bad_cell(program: &Program, state: &State) -> Option<Broken> {
     let mut records = (0..).zip(state.cells.chunks_exact(CELL));
-    records.find_map(|(number, record): (usize, _)| {
+    records.find_map(|(number, record)| {
+        let name = program.cell(number);
         let words = match (record[4], &record[5..CELL]) {
             (0..=2, [0, 0, 0]) => return None,
-            (0..=2, _) => format!("cell {number} has last bytes that are not zero"),
-            (state, _) => format!("cell {number} has the state {state}, and states are 0 to 2"),
+            (0..=2, _) => format!("{name} has last bytes that are not zero"),
+            (state, _) => format!("{name} has the state {state}, and states are 0 to 2"),
         };
         Some(whole(FIELDS, words))
     })
@@ -257,9 +258,12 @@ impl<'p> Look<'p> {
     fn no_cell(&self) -> Option<Broken> {
         self.first(DEFERRED, |_, token| {
             let deferred = token.state == records::State::Deferred;
-            let (cell, cells) = (token.value, count(self.cells.len(), "cell"));
+            let (cell, cells) = (
+                self.program.cell(token.value),
+                count(self.cells.len(), "cell"),
+            );
             (deferred && self.deferred_on(token).is_none())
-                .then(|| format!("is deferred on cell {cell}, and there are {cells}"))
+                .then(|| format!("is deferred on {cell}, and there are {cells}"))
         })
     }
 
@@ -276,15 +280,17 @@ impl<'p> Look<'p> {
                 Cell::Absent => "absent",
                 Cell::Present(_) => "present",
             };
-            Some(format!("is deferred on cell {cell}, which is {word}"))
+            let cell = self.program.cell(token.value);
+            Some(format!("is deferred on {cell}, which is {word}"))
         });
         token.or_else(|| {
             let mut cells = self.cells.iter().enumerate();
             let (cell, _) =
                 cells.find(|(n, cell)| **cell == Cell::Waiting && !awaited.contains(n))?;
+            let cell = self.program.cell(cell as i32);
             Some(whole(
                 WAITING,
-                format!("cell {cell} waits, and no token is deferred on it"),
+                format!("{cell} waits, and no token is deferred on it"),
             ))
         })
     }
@@ -299,9 +305,10 @@ impl<'p> Look<'p> {
             !matches!(cell, Cell::Present(_)) && record[..4] != [0; 4]
         })?;
         let value = i32::from_le_bytes([record[0], record[1], record[2], record[3]]);
+        let cell = self.program.cell(cell as i32);
         Some(whole(
             ZERO,
-            format!("cell {cell} is not present and has the value {value}"),
+            format!("{cell} is not present and has the value {value}"),
         ))
     }
 

@@ -21,6 +21,7 @@ pub struct SavedFile {
     /// The graph as it was typed, with its names, inputs and picks.
     pub text: Vec<u8>,
     pub graph: Vec<u8>,
+    pub arrays: Vec<u8>,
     pub state: State,
 }
 
@@ -29,7 +30,7 @@ impl SavedFile {
         let parts: [&[u8]; 5] = [
             &self.text,
             &self.graph,
-            &[],
+            &self.arrays,
             &self.state.ledger,
             &self.state.cells,
         ];
@@ -163,8 +164,11 @@ impl Head {
             <[Vec<u8>; 5]>::try_from(parts).map_err(|_| damaged_head())?;
         self.check_records("tokens", self.tokens, TOKEN, ledger.len())?;
         self.check_records("cells", self.cells, CELL, cells.len())?;
-        if self.bound != 0 || !arrays.is_empty() {
-            return Err("it has a loop bound or named arrays, which this program does not know: use a newer one".to_string());
+        if self.bound != 0 {
+            return Err(
+                "it has a loop bound, which this program does not know: use a newer one"
+                    .to_string(),
+            );
         }
         Ok(SavedFile {
             of: self.of,
@@ -172,6 +176,7 @@ impl Head {
             capacity: self.capacity,
             text,
             graph,
+            arrays,
             state: State {
                 firings: self.firings,
                 ledger,
@@ -219,6 +224,7 @@ mod tests {
             capacity: 20,
             text: b"a: OUT\n".to_vec(),
             graph: vec![3; 16],
+            arrays: vec![2, 0, 1, 0],
             state: State {
                 firings: 7,
                 ledger: vec![1; 2 * TOKEN],

@@ -72,7 +72,7 @@ pub fn decode(
         Err(Failure::SavedState(_)) => return Err(no_graph()),
         program => program?,
     };
-    if program.files.graph != saved.graph {
+    if program.files.graph != saved.graph || program.files.arrays != saved.arrays {
         return Err(no_graph());
     }
     program.label = label.to_string();

@@ -49,7 +49,7 @@ impl View {
 pub fn parts(program: &Program, end: &End, view: &View) -> Vec<(&'static str, Vec<String>)> {
     let port = |t: &Token| program.port(&t.tag, t.port);
     let waits = |t: &Token| format!("{} = {}, for port {}", port(t), t.value, 1 - t.port);
-    let deferred = |t: &Token| format!("{}, for cell {}", port(t), t.value);
+    let deferred = |t: &Token| format!("{}, for {}", port(t), program.cell(t.value));
     let result = |t: &Token| format!("{} = {}", program.tag(&t.tag), t.value);
     let lines =
         |tokens: &[Token], line: &dyn Fn(&Token) -> String| tokens.iter().map(line).collect();

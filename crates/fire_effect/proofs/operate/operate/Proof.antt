@@ -6,6 +6,7 @@ use lib.IntN.{ℤ}
 use mir.Facts.{toZ-ofZ}
 use types.Run.{OneOf, miss}
 use denote.Enum.Declared.{tagOf}
+use Rattle.record.specs.declared.array.NamedArray.{NamedArray}
 use Rattle.record.specs.declared.operation.Operation.{Operation}
 use Rattle.record.specs.declared.operation.Operation.the-variants as Operations
 use Rattle.record.proofs.operation.Operation.{the-type}
@@ -20,22 +21,22 @@ use Rattle.fire_effect.proofs.operate.operate.Tie as tie
 abbrev rest : List ℕ
 rest = 0 ∷ 1 ∷ 2 ∷ 4 ∷ 5 ∷ 6 ∷ 7 ∷ 8 ∷ 13 ∷ []
 
-moves : (o : Operation) (k : ℤ) (cells : ℕ) (a b : ℤ) → OneOf rest (tagOf the-type o) → Act (Send a) ≡ operatedOf o k cells a b
+moves : (o : Operation) (table : List NamedArray) (k : ℤ) (cells : ℕ) (a b : ℤ) → OneOf rest (tagOf the-type o) → Act (Send a) ≡ operatedOf o table k cells a b
 unfolding operatedOf
-moves Operations.Copy k cells a b h = refl
-moves Operations.Sink k cells a b h = refl
-moves Operations.Out k cells a b h = refl
-moves Operations.Const k cells a b h = absurd (miss rest 3 tt h)
-moves Operations.Switch k cells a b h = refl
-moves Operations.Gate k cells a b h = refl
-moves Operations.Next k cells a b h = refl
-moves Operations.Enter k cells a b h = refl
-moves Operations.Leave k cells a b h = refl
-moves Operations.Fetch k cells a b h = absurd (miss rest 9 tt h)
-moves Operations.Store k cells a b h = absurd (miss rest 10 tt h)
-moves (Operations.OnTwo o) k cells a b h = absurd (miss rest 11 tt h)
-moves (Operations.OnConstant o) k cells a b h = absurd (miss rest 12 tt h)
-moves Operations.Unknown k cells a b h = refl
+moves Operations.Copy table k cells a b h = refl
+moves Operations.Sink table k cells a b h = refl
+moves Operations.Out table k cells a b h = refl
+moves Operations.Const table k cells a b h = absurd (miss rest 3 tt h)
+moves Operations.Switch table k cells a b h = refl
+moves Operations.Gate table k cells a b h = refl
+moves Operations.Next table k cells a b h = refl
+moves Operations.Enter table k cells a b h = refl
+moves Operations.Leave table k cells a b h = refl
+moves Operations.Fetch table k cells a b h = absurd (miss rest 9 tt h)
+moves Operations.Store table k cells a b h = absurd (miss rest 10 tt h)
+moves (Operations.OnTwo o) table k cells a b h = absurd (miss rest 11 tt h)
+moves (Operations.OnConstant o) table k cells a b h = absurd (miss rest 12 tt h)
+moves Operations.Unknown table k cells a b h = refl
 
 pub operate-spec : {M : Type 1} → statement M
 unfolding operatedOf
@@ -51,13 +52,13 @@ operate-spec = tie.close (tie.spec
     (λ c. search needs)
     (λ c κs. search needs)
     (λ c κs. search needs)
-    (λ c. rw (c .enum-told .given .1, toZ-ofZ (c .before .before .fits .k)))
-    (λ c. let s = c .before .before .before in rw (c .before .enum-told2 .given .1) (rw (toZ-ofZ (s .fits .a)) at (c .fetch .ensures)))
-    (λ c. let s = c .before .before .before in rw (c .before .enum-told3 .given .1) (rw (toZ-ofZ (s .fits .a), toZ-ofZ (s .fits .b)) at (c .store .ensures)))
+    (λ c. rw (c .enum-told .given .1, toZ-ofZ (c .before .before .before .fits .k)))
+    (λ c. let s = c .before .before .before .before in rw (c .before .enum-told2 .given .1) (rw (toZ-ofZ (s .fits .k), toZ-ofZ (s .fits .a)) at (c .fetch .ensures)))
+    (λ c. let s = c .before .before .before .before in rw (c .before .enum-told3 .given .1) (rw (toZ-ofZ (s .fits .k), toZ-ofZ (s .fits .a), toZ-ofZ (s .fits .b)) at (c .store .ensures)))
     (λ c.
-    let s = c .before .before .before .before .before in
+    let s = c .before .before .before .before .before .before in
     rw (c .before .before .before .o .given .1) (rw (c .before .compute .ensures, toZ-ofZ (s .fits .a), toZ-ofZ (s .fits .b)) at (c .computed .ensures)))
     (λ c.
-    let s = c .before .before .before .before .before in
+    let s = c .before .before .before .before .before .before in
     rw (c .before .before .before .o2 .given .1) (rw (c .before .compute2 .ensures, toZ-ofZ (s .fits .a), toZ-ofZ (s .fits .k)) at (c .computed2 .ensures)))
-    (λ c. let s = c .before in rw (toZ-ofZ (s .fits .a)) (moves (s .args .o) _ _ _ _ (c .match .keys6))))
+    (λ c. let s = c .before .before in rw (toZ-ofZ (s .fits .a)) (moves (s .args .o) _ _ _ _ _ (c .match .keys6))))

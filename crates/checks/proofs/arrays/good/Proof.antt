@@ -1,0 +1,11 @@
+-- `checks::arrays::good` meets its contract. Assumes nothing.
+use borrow.Author.Needs.{needs}
+use Rattle.checks.proofs.arrays.good.Statement.{statement}
+use Rattle.checks.proofs.arrays.good.Tie as tie
+
+pub good-spec : {M : Type 1} → statement M
+good-spec = tie.close (tie.spec
+    (λ c κs. search needs)
+    (λ c κs. search needs)
+    (λ c. rw (← c .before .before .whole .ensures, c .before .if1 .taken) (c .all-inside .ensures))
+    (λ c. rw (← c .before .whole .ensures, c .if1 .left)))

@@ -1,0 +1,12 @@
+-- `record::array::decode` meets its contract. Assumes nothing.
+use Rattle.record.specs.Arrays.{decode}
+use borrow.Author.Needs.{needs}
+use Rattle.record.proofs.array.decode.Statement.{statement}
+use Rattle.record.proofs.array.decode.Tie as tie
+
+pub decode-spec : {M : Type 1} → statement M
+unfolding decode
+decode-spec = tie.close (tie.spec
+    (λ c κs. search needs)
+    (λ c κs. search needs)
+    (λ c. rw (c .u16-at2 .ensures, c .before .u16-at .ensures)))
