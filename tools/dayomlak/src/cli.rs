@@ -425,7 +425,8 @@ pub struct Timeline {
 #[derive(Debug, Args)]
 #[command(
     after_help = "The page needs no other file and no network. It opens at firing 12 by X.html#firing=12. A refused run has \
-    a page too.\nThe seconds since 1970 in SOURCE_DATE_EPOCH stand in for the clock, so that a page comes out the same again."
+    a page too, and opens where it was refused.\nOn the page Space plays, a click on an instruction shows its tokens, and one on a curve goes to \
+    its step. Printed, it has the whole graph and listing.\nThe seconds since 1970 in SOURCE_DATE_EPOCH stand in for the clock, so that a page comes out the same again."
 )]
 pub struct Report {
     #[command(flatten)]

@@ -53,9 +53,9 @@ use clap::Parser;
 use cli::{Cli, Command};
 use failure::Failure;
 
-fn main() -> ExitCode {
-    let command = Cli::parse().command;
-    let result = match &command {
+/// Does what a command says, and answers the exit status.
+fn done(command: &Command) -> Result<u8, Failure> {
+    match command {
         Command::Run(args) => commands::run::run(args),
         Command::CarryOn(args) => commands::run::carry_on(args),
         Command::Show(args) => commands::show::show(args),
@@ -78,8 +78,12 @@ fn main() -> ExitCode {
         Command::Bounds(args) => commands::check::bounds(args),
         Command::Completion(args) => commands::install::completion(args),
         Command::Manual => commands::install::manual(),
-    };
-    match result {
+    }
+}
+
+fn main() -> ExitCode {
+    let command = Cli::parse().command;
+    match done(&command) {
         Ok(status) => ExitCode::from(status),
         Err(failure) => {
             let failure = command.advised(failure);

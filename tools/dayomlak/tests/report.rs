@@ -300,6 +300,8 @@ fn a_refused_firing() {
     assert!(refused.starts_with("\"name\":\"new_s[0]\""), "{refused}");
     assert!(refused.contains("\"words\":\"refused by 9, second token\""));
     assert!(refused.contains("\"operands\":[7,10]"), "{refused}");
+    assert!(refused.contains("\"arc\":\"arc-10-0\""), "{refused}");
+    assert!(page.contains("<details id=\"why\"><summary>"));
     let words = between(&page, "<pre id=\"refusal\">", "</pre>");
     assert!(words.contains("past_next.ttda:23:16") && words.contains("had a token already"));
     assert!(page.contains(

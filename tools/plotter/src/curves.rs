@@ -87,16 +87,10 @@ struct Panel<'s> {
 
 /// Draws a picture.
 pub fn svg(picture: &Picture) -> Result<String, Box<dyn Error>> {
-    let left = columns(picture.left);
-    let panels = panels(picture.runs);
-    let names = if picture.runs.len() > 1 {
-        picture.runs
-    } else {
-        &[]
-    };
-    let facts: Vec<String> = picture.facts.iter().flat_map(|f| wrapped(f)).collect();
+    let (left, panels) = (columns(picture.left), panels(picture.runs));
+    let lines = head_lines(picture);
     let rows = left.iter().map(Vec::len).max().unwrap_or(0) as u32;
-    let head = MARGIN + 28 + LINE * (facts.len() + names.len()) as u32;
+    let head = MARGIN + 28 + LINE * lines.len() as u32;
     let charts = CHART * panels.len() as u32;
     let tail = MARGIN + LINE * (rows + 2);
     let mut svg = String::new();
@@ -105,20 +99,9 @@ pub fn svg(picture: &Picture) -> Result<String, Box<dyn Error>> {
         let root = backend.into_drawing_area();
         root.fill(&WHITE)?;
         write(&root, picture.title, 18, &BLACK, (MARGIN, MARGIN))?;
-        let mut line = MARGIN + 28;
-        for fact in &facts {
-            write(&root, fact, 12, &BLACK, (MARGIN, line))?;
-            line += LINE;
-        }
-        for ((name, _), colour) in names.iter().zip(RUNS.iter().cycle()) {
-            write(
-                &root,
-                &format!("\u{25a0} {name}"),
-                13,
-                colour,
-                (MARGIN, line),
-            )?;
-            line += LINE;
+        for (number, (line, colour)) in (0..).zip(&lines) {
+            let place = (MARGIN, MARGIN + 28 + LINE * number);
+            write(&root, line, 12, colour, place)?;
         }
         let (_, mut rest) = root.split_vertically(head);
         for panel in &panels {
@@ -130,6 +113,17 @@ pub fn svg(picture: &Picture) -> Result<String, Box<dyn Error>> {
         root.present()?;
     }
     Ok(svg)
+}
+
+/// The lines under the title: facts, and of several runs each with its colour.
+fn head_lines(picture: &Picture) -> Vec<(String, RGBColor)> {
+    let facts = picture.facts.iter().flat_map(|fact| wrapped(fact));
+    let mut lines: Vec<(String, RGBColor)> = facts.map(|fact| (fact, BLACK)).collect();
+    if picture.runs.len() > 1 {
+        let names = picture.runs.iter().zip(RUNS.iter().cycle());
+        lines.extend(names.map(|((name, _), colour)| (format!("\u{25a0} {name}"), *colour)));
+    }
+    lines
 }
 
 /// A panel by itself.
@@ -317,17 +311,7 @@ impl<'s> Panel<'s> {
     /// Draws the curves and answers where their columns stand, across and down.
     fn draw(&self, area: &Area) -> Result<Place, Box<dyn Error>> {
         let most = self.curves.iter().flat_map(|curve| curve.values).max();
-        let first = self
-            .curves
-            .iter()
-            .map(|curve| curve.first)
-            .min()
-            .unwrap_or(1);
-        let ends = self
-            .curves
-            .iter()
-            .map(|curve| curve.first + curve.values.len());
-        let end = ends.max().unwrap_or(0).max(first + 1);
+        let Range { start, end } = self.columns();
         let mut chart = ChartBuilder::on(area)
             .caption(&self.caption, ("sans-serif", 13))
             .margin_left(14)
@@ -335,7 +319,7 @@ impl<'s> Panel<'s> {
             .x_label_area_size(40)
             .y_label_area_size(56)
             .build_cartesian_2d(
-                first as f64 - 0.5..end as f64 - 0.5,
+                start as f64 - 0.5..end as f64 - 0.5,
                 0..most.copied().unwrap_or(0).max(1) + 1,
             )?;
         chart
@@ -351,14 +335,7 @@ impl<'s> Panel<'s> {
             .axis_desc_style(("sans-serif", 12))
             .draw()?;
         for curve in &self.curves {
-            // With many columns a thick line would fill the picture.
-            let thin = if end > MANY { 1 } else { 2 };
-            let width = if curve.colour == WAITING {
-                thin + 1
-            } else {
-                thin
-            };
-            let style = curve.colour.stroke_width(width);
+            let style = curve.colour.stroke_width(curve.width(end));
             if curve.filled {
                 let series = AreaSeries::new(curve.points(), 0, curve.colour.mix(0.18));
                 chart.draw_series(series.border_style(style))?;
@@ -368,9 +345,24 @@ impl<'s> Panel<'s> {
         }
         Ok(chart.plotting_area().get_pixel_range())
     }
+
+    /// The numbers of the columns; there is one at least.
+    fn columns(&self) -> Range<usize> {
+        let starts = self.curves.iter().map(|curve| curve.first);
+        let start = starts.min().unwrap_or(1);
+        let ends = self.curves.iter();
+        let ends = ends.map(|curve| curve.first + curve.values.len());
+        start..ends.max().unwrap_or(0).max(start + 1)
+    }
 }
 
 impl Curve<'_> {
+    /// How thick its line is. With many columns a thick one would fill the picture.
+    fn width(&self, columns: usize) -> u32 {
+        let thin = if columns > MANY { 1 } else { 2 };
+        thin + u32::from(self.colour == WAITING)
+    }
+
     /// The corners of the curve: a column is as wide as another, and its number stands under its middle.
     fn points(&self) -> Vec<(f64, u32)> {
         let corners = |(number, height): (usize, &u32)| {

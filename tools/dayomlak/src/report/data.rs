@@ -7,6 +7,7 @@ use plotter::curves::Steps as Curves;
 use super::states::{Changes, States};
 use super::steps::Steps;
 use super::Run;
+use crate::activity::{Activity, Port};
 use crate::answer::Word;
 use crate::effects;
 use crate::failure::Failure;
@@ -134,8 +135,36 @@ impl<'d> Data<'d> {
         let mut fields = self.activity(&token.tag);
         fields.push(("words", string(&answer.words())));
         fields.push(("operands", list(operands)));
+        fields.push(("arc", string(&self.wrong_arc(answer.word, token.tag))));
         fields.push(("step", maybe(self.steps.of(&token.tag))));
         object(&fields)
+    }
+
+    /// The arc by which a second token would come to a port.
+    fn wrong_arc(&self, word: Word, tag: Tag) -> String {
+        let tokens = &self.history.tokens;
+        let Some(activity) =
+            Activity::of(self.program, tokens, tag).filter(|_| word == Word::Refused(9))
+        else {
+            return String::new();
+        };
+        let mut taken: HashSet<Port> = tokens.iter().map(|t| (t.tag, t.port)).collect();
+        let ends = activity.ends().into_iter();
+        let wrong = ends.enumerate().find_map(|(arc, end)| {
+            let end = end?;
+            (!taken.insert(end)).then_some((arc, end))
+        });
+        let number = usize::from(tag.instruction);
+        match (wrong, activity.instruction.code) {
+            (Some((_, (to, _))), LEAVE) => {
+                let enter = self.program.graph.enter(tag.left().1);
+                enter.map_or(String::new(), |enter| {
+                    dot::return_id(enter.into(), to.instruction)
+                })
+            }
+            (Some((arc, _)), _) => dot::arc_id(number, arc),
+            (None, _) => String::new(),
+        }
     }
 
     /// The activities that are ever enabled, by place: at which position each is so first, and at which no more.

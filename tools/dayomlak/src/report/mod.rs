@@ -92,7 +92,9 @@ impl<'m> Run<'m> {
         match self.end.answer.word {
             Word::Refused(_) => {
                 let words = commands::answer(self.machine, &self.end, &self.order);
-                format!("<pre id=\"refusal\">{}</pre>", escaped(words.trim_end()))
+                let words = escaped(words.trim_end());
+                let title = "Why, and where in the text";
+                format!("<details id=\"why\"><summary>{title}</summary><pre id=\"refusal\">{words}</pre></details>")
             }
             _ => String::new(),
         }

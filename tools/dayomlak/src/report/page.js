@@ -42,6 +42,7 @@ function stateAt(position) {
     firing: firingAt(position),
     refused,
     tokens: tokens.filter((token) => token.state !== 'spent'),
+    all: tokens,
     spent: tokens.filter((token) => token.state === 'spent').length,
     cells: itemsAt(data.cells, position),
     enabled: enabledAt(position),
@@ -203,12 +204,28 @@ function showEnabled({ enabled, next }) {
   keepInSight(byId('enabled').parentElement, byId('enabled').querySelector('.next'));
 }
 
-function showTables({ tokens, spent, cells }) {
+// The instruction whose tokens are shown, the spent ones too, by its id in the picture; null for all that are not spent.
+let chosen = null;
+
+function choose(id) {
+  chosen = id === chosen ? null : id;
+  byId('all-tokens').hidden = chosen === null;
+  show(position);
+}
+
+// What is written last in an instruction is its name.
+function nameOf(id) {
+  const texts = byId(id).querySelectorAll('text');
+  return texts.length > 0 ? texts[texts.length - 1].textContent : id;
+}
+
+function showTables({ tokens, all, spent, cells }) {
   const deferred = tokens.filter((token) => token.state === 'deferred');
   const live = tokens.length - deferred.length;
   byId('counts').textContent =
     `${plural(tokens.length + spent, 'token')}: ${live} live, ${deferred.length} deferred, ${spent} spent`;
-  fillTable('tokens', tokens, tokenRow);
+  byId('tokens-of').textContent = chosen ? `Tokens of ${nameOf(chosen)}` : 'Tokens';
+  fillTable('tokens', chosen ? all.filter(({ at }) => at === chosen) : tokens, tokenRow);
   const present = cells.filter((cell) => cell.state === 'present').length;
   byId('cell-counts').textContent = cells.length === 0
     ? 'All are absent'
@@ -272,10 +289,11 @@ function showPicture(state) {
   const here = firing ? [firing.at] : [];
   mark('enabled', state.enabled.map(({ at }) => at));
   mark('fires', refused ? [] : here);
-  mark('refuses', refused ? here : [data.fault]);
+  mark('refuses', refused ? [...here, firing.arc] : [data.fault]);
+  mark('chosen', chosen ? [chosen] : []);
   mark('sends', tokens.filter((token) => token.fresh).map((token) => token.arc));
   showBadges(tokens);
-  if (firing) keepInSight(graph, drawn(firing.at)[0]);
+  if (firing) keepInSight(graph, drawn(firing.arc)[0] || drawn(firing.at)[0]);
 }
 
 function showBadges(tokens) {
@@ -400,6 +418,18 @@ function markStep(figure, step) {
   chart.append(rect);
 }
 
+// Goes to the first firing of the step that was clicked on, if this run has one.
+function goToStep(event) {
+  const figure = event.currentTarget;
+  const [left, right] = ['left', 'right'].map((side) => Number(figure.dataset[side]));
+  const chart = figure.querySelector('svg');
+  const box = chart.getBoundingClientRect();
+  const x = (event.clientX - box.left) * chart.viewBox.baseVal.width / box.width;
+  const column = Math.floor((x - left) / (right - left) * data.steps.length);
+  const found = data.firings.findIndex(({ step }) => step === column + data.firstStep);
+  if (found >= 0) go(found + 1);
+}
+
 /* The slider. */
 
 let position = 0;
@@ -425,7 +455,9 @@ function go(wanted) {
 
 function fromAddress() {
   const match = /^#firing=(\d+)$/.exec(location.hash);
-  show(match ? Number(match[1]) - data.before : 0);
+  // A refused run opens where it was refused.
+  const start = data.refused ? last : 0;
+  show(match ? Number(match[1]) - data.before : start);
 }
 
 let timer = null;
@@ -457,9 +489,26 @@ const KEYS = {
 // The slider and the list of speeds have keys of their own.
 function key(event) {
   const own = event.target.closest('input, select');
-  if (own || event.ctrlKey || event.altKey || event.metaKey || !(event.key in KEYS)) return;
+  if (own || event.ctrlKey || event.altKey || event.metaKey) return;
+  if (event.key === ' ' && !event.target.closest('button, summary')) {
+    event.preventDefault();
+    play();
+  }
+  if (!(event.key in KEYS)) return;
   event.preventDefault();
   go(KEYS[event.key]());
+}
+
+// On paper all is open; then what was folded folds again.
+let folded = [];
+
+function unfold() {
+  folded = [...document.querySelectorAll('details:not([open])')];
+  folded.forEach((details) => { details.open = true; });
+}
+
+function fold() {
+  folded.forEach((details) => { details.open = false; });
 }
 
 function onClick(actions) {
@@ -476,7 +525,11 @@ function start() {
     next: () => go(position + 1),
     last: () => go(last),
     play,
+    'all-tokens': () => choose(null),
   });
+  document.querySelectorAll('figure').forEach((figure) => figure.addEventListener('click', goToStep));
+  window.addEventListener('beforeprint', unfold);
+  window.addEventListener('afterprint', fold);
   byId('speed').addEventListener('change', () => { if (timer !== null) { stop(); play(); } });
   document.addEventListener('keydown', key);
   window.addEventListener('hashchange', fromAddress);
@@ -490,6 +543,9 @@ function startPicture() {
   // Graphviz's own tips say nothing to a reader.
   svg.querySelectorAll('title').forEach((title) => title.remove());
   nameLoads();
+  svg.querySelectorAll('.node[id^="instruction-"]').forEach((node) => {
+    node.addEventListener('click', () => choose(node.id));
+  });
   // Each arc has its spot from the start, whatever way the slider goes.
   new Set(data.tokens.map((token) => token.arc)).forEach(spot);
   fit(SMALLEST);
