@@ -197,15 +197,6 @@ impl Program {
         Vec::new()
     }
 
-    /// A STORE to an array, or to the whole store by 0, and the two inputs that fire it.
-    fn load(&mut self, line: &Line, array: i32, index: i32, value: i32) {
-        // The number fits: Names has counted the instructions.
-        let store = self.instructions.len() as u16;
-        self.instruction(line, graph_record(STORE, &[], array));
-        self.input(line, input_record(store, 0, index));
-        self.input(line, input_record(store, 1, value));
-    }
-
     /// The fault of a text that has both picks and an order.
     fn two_orders(&self, text: &str) -> Option<Error> {
         let first = self
@@ -215,6 +206,15 @@ impl Program {
         let fault = Fault::new(first.span.clone(), "an order beside picks");
         let fault = fault.hint("either of them says what fires: leave one out");
         Some(fault.on_line(line_of(text, first)))
+    }
+
+    /// A STORE to an array, or to the whole store by 0, and the two inputs that fire it.
+    fn load(&mut self, line: &Line, array: i32, index: i32, value: i32) {
+        // The number fits: Names has counted the instructions.
+        let store = self.instructions.len() as u16;
+        self.instruction(line, graph_record(STORE, &[], array));
+        self.input(line, input_record(store, 0, index));
+        self.input(line, input_record(store, 1, value));
     }
 
     fn typed(&mut self, names: &mut Names, line: &Line, typed: &Typed) -> Vec<Fault> {

@@ -76,9 +76,9 @@ impl Program {
             return Err(Failure::Faulty(text, vec![finding]));
         }
         match read(&text) {
-            Ok(read) => {
-                let order = read.order.clone();
-                Program::new(label, text, read).ordered(&order)
+            Ok(typed) => {
+                let order = typed.order.clone();
+                Program::new(label, text, typed).ordered(&order)
             }
             Err(errors) => {
                 let findings: Vec<Finding> = errors.0.into_iter().map(Finding::from).collect();
@@ -95,7 +95,6 @@ impl Program {
             let machine = Machine::new(&self, Sizes::default());
             let picks = named::picks(&machine, &self.label, &self.text, order)?;
             self.files.picks = orders::bytes(picks.into_iter());
-            self.is_ordered = true;
         }
         Ok(self)
     }
@@ -118,7 +117,7 @@ impl Program {
             arrays,
             files: typed.files,
             sources: Vec::new(),
-            is_ordered: false,
+            is_ordered: !typed.order.is_empty(),
             instructions: typed.instructions,
             inputs: typed.inputs,
         }

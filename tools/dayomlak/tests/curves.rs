@@ -56,7 +56,7 @@ fn tokens_by_firings() {
     let ideal = rows(&[VECTOR_SUM]);
     for order in ["oldest", "newest", "random:4"] {
         let firings = rows(&[VECTOR_SUM, "--firings", "--order", order]);
-        assert_eq!((firings.len(), firings[0][2]), (68, 17), "{order}");
+        assert_eq!((firings.len(), firings[0][2]), (60, 17), "{order}");
         assert_eq!(
             firings.last().unwrap()[2..],
             ideal.last().unwrap()[2..],
@@ -92,11 +92,11 @@ fn several_in_one_plot() {
     ];
     let tables = dayomlak(&arguments).out;
     assert!(
-        tables.contains("ideal step: 28 steps, completed, 67 firings, 89 tokens\n"),
+        tables.contains("ideal step: 27 steps, completed, 59 firings, 81 tokens\n"),
         "{tables}"
     );
     assert!(
-        tables.contains("step of 1 firing: 59 steps, completed, 67 firings, 89 tokens\n"),
+        tables.contains("step of 1 firing: 51 steps, completed, 59 firings, 81 tokens\n"),
         "{tables}"
     );
     let done = dayomlak(&[&arguments[..], &["--csv"]].concat());
@@ -114,7 +114,7 @@ fn names_in_the_picture() {
         "\nideal step\n",
         "\nfirings\n",
         "\ntokens\n",
-        "those that wait for a partner, at most 3",
+        "those that wait for a partner, at most 2",
         "8 cells are loaded before step 1",
     ] {
         assert!(svg.contains(words), "{words}");

@@ -82,9 +82,9 @@ fn values_of_cells() {
     for options in [&[][..], &["--steps"]] {
         dayomlak(&[&["timeline", VECTOR_SUM, "-o", &wave], options].concat());
         let (pulses, cells) = read_vcd(&fs::read_to_string(&wave).unwrap());
-        assert_eq!((pulses["c"], pulses["cell_1"], pulses["done"]), (4, 1, 0));
-        let cell = |number: i32| i64::from_str_radix(&cells[&format!("cell_{number}")], 2).unwrap();
-        assert_eq!((cell(21), cell(22) as i32, cell(24)), (23, -29, 49));
+        assert_eq!((pulses["c"], pulses["A_1_"], pulses["done"]), (4, 1, 0));
+        let cell = |number: i32| i64::from_str_radix(&cells[&format!("C_{number}_")], 2).unwrap();
+        assert_eq!((cell(1), cell(2) as i32, cell(4)), (23, -29, 49));
     }
 }
 

@@ -36,7 +36,8 @@ fn head(timeline: &Timeline) -> String {
     text += "$upscope $end\n$scope module cells $end\n";
     for (number, cell) in timeline.cells.keys().enumerate() {
         let id = id(timeline.rows.len() + number);
-        text += &format!("$var integer 32 {id} cell_{cell} $end\n");
+        let name = one_word(&timeline.program.cell(*cell));
+        text += &format!("$var integer 32 {id} {name} $end\n");
     }
     text + "$upscope $end\n$enddefinitions $end\n"
 }
