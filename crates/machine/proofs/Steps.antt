@@ -58,11 +58,11 @@ module _ (M : Machine) where
   -- ---- a step
 
   -- these are enabled, and no two have one tag
-  record Waiting (l : List (Activity (M .Tag))) (s : StateOf M) : Type 0 where
-    once : Once (tagsOf M l)
-    enabledNow : (a : Activity (M .Tag)) → List·Memᴰ a l → List·Memᴰ a (enabled M s)
+  pub record Waiting (l : List (Activity (M .Tag))) (s : StateOf M) : Type 0 where
+    pub once : Once (tagsOf M l)
+    pub enabledNow : (a : Activity (M .Tag)) → List·Memᴰ a l → List·Memᴰ a (enabled M s)
 
-  atStart : (s : StateOf M) → Waiting (enabled M s) s
+  pub atStart : (s : StateOf M) → Waiting (enabled M s) s
   atStart s = record { once = tagsOnce s 0 (enabled M s) (enabledOnce M s .inOrder) (λ a m. enabledIn M s a m .2); enabledNow = λ a m. m }
 
   -- the activities l fire whole, or one of them is refused
@@ -91,7 +91,7 @@ module _ (M : Machine) where
       rw e (isCut before a more (suc f) y x r next p q ∙ ap (λ (n : ℕ). endsHere M (end M (refused r (a .place)) n x)) z)
 
   module _ (law : Lawful M) where
-    waitsOn : (a : Activity (M .Tag)) (l : List (Activity (M .Tag))) (s x : StateOf M) → Good M s → Waiting (a ∷ l) s → fire M s (a .tag) ≡ fired x → Waiting l x
+    pub waitsOn : (a : Activity (M .Tag)) (l : List (Activity (M .Tag))) (s x : StateOf M) → Good M s → Waiting (a ∷ l) s → fire M s (a .tag) ≡ fired x → Waiting l x
     waitsOn a l s x g w e = record {
       once = w .once .1;
       enabledNow = λ b m. staysEnabled M law s g x (a .tag) b e (λ p. w .once .0 (subst (λ (τ : M .Tag). List·Memᴰ τ (tagsOf M l)) (sym p) (inTags b l m))) (w .enabledNow b (List·Memᴰ·tail m));

@@ -1,5 +1,6 @@
 -- The definitions that a reader must believe: the machine, what is stated of its orders and of its firing sequences, the runs by
--- ideal steps, the replay of a log, another capacity, another instruction set, trees of activities, and runs in parts. Assumes nothing.
+-- ideal steps, the replay of a log, another capacity, another instruction set, trees of activities, runs in parts, and runs by
+-- any chooser. Assumes nothing.
 pub mod Machine
 pub mod Orders
 pub mod Sequences
@@ -9,3 +10,4 @@ pub mod Capacity
 pub mod Agreement
 pub mod Trees
 pub mod Saved
+pub mod Choosers
