@@ -1,5 +1,5 @@
 -- A small program under two orders, computed: the runs end alike, and their ledgers are different lists; a run that hangs; its
--- ideal steps, logs and replays, a smaller ledger, a run in parts; and how the theorems are cited for it. Assumes nothing.
+-- ideal steps, logs and replays, a smaller ledger, a run in parts, an activity held back; and how the theorems are cited for it. Assumes nothing.
 use mathlib.Core.Path.{_≡_, refl}
 use mathlib.Core.List.{[], _∷_}
 use mathlib.Core.Option.{none, some}
@@ -7,14 +7,17 @@ use mathlib.Core.Bool.{true, false}
 use Prim.Native.Nat.{ℕ, zero, suc, _+_}
 use native.Mathlib.Decide.{ℕ-discrete}
 use native.Mathlib.Omega.{arith}
+use lib.Dec.{eqb}
 use Rattle.machine.specs.Machine.{Key, Token, Effect, refuse, send, read, write, Machine, State, live, spent, deferred, absent, waiting, present}
-use Rattle.machine.specs.Machine.{completed, hung, budgetSpent, refused, byPicks, run, machine}
+use Rattle.machine.specs.Machine.{completed, hung, budgetSpent, refused, End, byPicks, run, machine}
 use Rattle.machine.specs.Orders.{CellsBelow, ReadsForSome, Lawful, Start, Same, Invariants}
 use Rattle.machine.specs.Sequences.{logOf}
 use Rattle.machine.specs.Steps.{profile}
 use Rattle.machine.specs.Replay.{replay}
 use Rattle.machine.specs.Capacity.{withCapacity}
 use Rattle.machine.specs.Saved.{inParts, isSaved}
+use Rattle.machine.specs.Choosers.{runFrom}
+use Rattle.machine.specs.Bounded.{runBounded}
 use Rattle.machine.proofs.Orders.{startGood, orders}
 use Rattle.machine.proofs.Cut.{cut-runs}
 use Rattle.machine.proofs.Reached.{reached-invariants, reached-picks}
@@ -148,6 +151,15 @@ takes = refl
 refusesOthers : isSaved small 4 (run small 65535 [] start .state) ≡ false
 unfolding machine isSaved
 refusesOthers = refl
+
+-- ---- R-9: with 1 held back, 0 fires and nothing else does; with a budget of 1 too the run hangs, and with a budget of 0 it is spent
+
+abbrev storeHeld : (budget : ℕ) → End ℕ ℕ ℕ
+storeHeld budget = runBounded small (λ s a. eqb (a .tag) 1) (byPicks small) budget (1 ∷ []) 0 start
+
+hangs : (storeHeld 0 .outcome ≡ budgetSpent) × (storeHeld 1 .outcome ≡ hung) × (storeHeld 8 .outcome ≡ hung) × (storeHeld 8 .firings ≡ 1)
+unfolding machine runFrom
+hangs = (refl, refl, refl, refl)
 
 -- ---- the theorems' hypotheses hold here
 
