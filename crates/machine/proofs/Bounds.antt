@@ -1,6 +1,6 @@
 -- How far a run goes: it does no more firings than its budget, its ledger holds no more tokens than the capacity, and the place of a refusal is a position
--- of that ledger (`run-bounded`, and for a list of picks `picks-bounded`); it does no more firings than there are tokens (`picks-firings`).
--- Assumes nothing. The first two take any machine, and of the state that its tokens are no more than the capacity.
+-- of that ledger (`run-bounded`, for a list of picks `picks-bounded`, with activities held back `held-bounded`); it does no more firings than there are tokens
+-- (`picks-firings`). Assumes nothing. The first three take any machine, and of the state that its tokens are no more than the capacity.
 use mathlib.Core.Path.{_≡_, refl, subst}
 use mathlib.Core.List.{List, [], _∷_, map}
 use mathlib.Core.Option.{Option, none, some}
@@ -14,10 +14,12 @@ use Rattle.machine.specs.Machine.{Outcome, completed, hung, budgetSpent,
 use Rattle.machine.specs.Machine.{Ledger, StateOf, EffectOf, FiredOf, EndOf, look, operands, spendAt, anyTaken, exceeds, admit, commit, fire, Choice, byPicks, runBy, run}
 use Rattle.machine.specs.Orders.{Lawful, Good, LawfulChoice, Says}
 use Rattle.machine.specs.Sequences.{Fires, logOf}
+use Rattle.machine.specs.Bounded.{Held, SaysFree, runBounded, logBounded}
 use Rattle.machine.proofs.Enabled.{enabledPlace}
 use Rattle.machine.proofs.Runs.{ran}
 use Rattle.machine.proofs.Orders.{byPicksLawful}
 use Rattle.machine.proofs.Reached.{reached-firings, reached-picks}
+use Rattle.machine.proofs.Bounded.{freeOnce, boundedLogged}
 
 module _ (M : Machine) where
   -- ---- a firing: "used records plus outputs exceed the capacity" is refused
@@ -104,6 +106,22 @@ module _ (M : Machine) where
   picks-bounded s room budget picks =
       let b = run-bounded (byPicks M) (byPicksLawful M) budget picks 0 s room in
       record { firings = let z = b .firings in omega arith; tokens = b .tokens; place = b .place }
+
+  -- a run with activities held back
+  held-within : (held : Held M) (o : Outcome (M .Refusal)) (b n : ℕ) (x : StateOf M) → SaysFree M held o b n x → PlaceWithin o (x .tokens)
+  held-within held completed b n x h = tt
+  held-within held hung b n x h = tt
+  held-within held budgetSpent b n x h = tt
+  held-within held (refused r p) b n x (l, a, m, q, e) = subst (λ (k : ℕ). k < length (x .tokens)) q (enabledPlace M x a (freeOnce M held x .exactly a .0 m .0))
+
+  pub held-bounded : (held : Held M) (c : Choice M) → LawfulChoice M c → (budget : ℕ) (picks : List ℕ) (f : ℕ) (s : StateOf M) → length (s .tokens) ≤ M .capacity → Bounded (f + budget) (runBounded M held c budget picks f s)
+  held-bounded held c ok b ps f s room =
+      let h = boundedLogged M held c ok b ps f s in
+      record {
+        firings = let z = h .logged .firings in let y = h .within in omega arith;
+        tokens = fires-room (logBounded M held c b ps s) s _ (h .logged .fires) room;
+        place = held-within held (runBounded M held c b ps f s .outcome) b _ _ (h .says);
+      }
 
   -- "Firings never exceed tokens.": of a run by picks from a well-formed state, where the instruction set is lawful
   pub picks-firings : Lawful M → (s : StateOf M) → Good M s → (budget : ℕ) (picks : List ℕ) → run M budget picks s .firings ≤ length (run M budget picks s .state .tokens)

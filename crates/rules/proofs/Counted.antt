@@ -49,7 +49,7 @@ use Rattle.rules.proofs.Saved.{saved-under}
 
 -- ---- a refusal before any firing
 
-at-once : (r : Refusal) (p : ℕ) → p < mostTokens → Counted (answer (refusedAtOnce r p))
+pub at-once : (r : Refusal) (p : ℕ) → p < mostTokens → Counted (answer (refusedAtOnce r p))
 unfolding answer
 at-once r p h = record { byTokens = omega arith; tokens = omega arith; place = omega arith }
 
@@ -85,7 +85,7 @@ saved-below graph arrays picks ledger cells firings n =
 
 -- ---- where a place is within the ledger
 
-placed : (graph : List ℕ) (table : List NamedArray) (capacity cells : ℕ) (o : Outcome Refusal) (x : State Tag ℤ) → PlaceWithin (machineOf (graphOf graph) table capacity cells) o (x .tokens) → length (x .tokens) ≤ mostTokens
+pub placed : (graph : List ℕ) (table : List NamedArray) (capacity cells : ℕ) (o : Outcome Refusal) (x : State Tag ℤ) → PlaceWithin (machineOf (graphOf graph) table capacity cells) o (x .tokens) → length (x .tokens) ≤ mostTokens
     → placeIn (outcomeOf o) ≤ mostTokens
 placed graph table capacity cells completed x h l = omega arith
 placed graph table capacity cells hung x h l = omega arith
@@ -102,7 +102,7 @@ module _ (graph inputs : List ℕ) (table : List NamedArray) (capacity cells : �
   s = firstState inputs cells
 
   -- a firing sequence
-  sequence : (e : End Refusal Tag ℤ) (τs : List Tag) → Logged M s 0 τs e → (length τs ≤ mostTokens → length (e .state .tokens) ≤ mostTokens → placeIn (outcomeOf (e .outcome)) ≤ mostTokens) → Counted (answer (ranTo e))
+  pub sequence : (e : End Refusal Tag ℤ) (τs : List Tag) → Logged M s 0 τs e → (length τs ≤ mostTokens → length (e .state .tokens) ≤ mostTokens → placeIn (outcomeOf (e .outcome)) ≤ mostTokens) → Counted (answer (ranTo e))
   unfolding answer
   sequence e τs h place =
       let l = noLonger M (law graph inputs table capacity cells a) s (good graph inputs table capacity cells a) τs (e .state) (h .fires) in

@@ -227,7 +227,7 @@ none-fits r p capacity count = record { tokens = tt; cells = tt; room = omega ar
 
 module _ (graph arrays inputs : List ℕ) (ledger cells : ℕ) (graphBytes : Bytes graph) (inputBytes : Bytes inputs) where
   -- what is lawful fits, where the check passed
-  lawful-fits : (picks : ℕ) → checkStores (length inputs) picks ledger cells ≡ Passed → Accepted graph inputs (capacityOf ledger) → (e : End Refusal Tag ℤ) → LawfulResult graph arrays inputs ledger cells (ranTo e)
+  pub lawful-fits : (picks : ℕ) → checkStores (length inputs) picks ledger cells ≡ Passed → Accepted graph inputs (capacityOf ledger) → (e : End Refusal Tag ℤ) → LawfulResult graph arrays inputs ledger cells (ranTo e)
       → AllFit (ranTo e) (capacityOf ledger) (cells / cellWidth)
   lawful-fits picks stores a e h =
       ended-fits graph graphBytes (a .graphPassed) (arraysOf arrays) (capacityOf ledger) (cells / cellWidth) (whole-bytes cellWidth mostCells cells (stores-whole (length inputs) picks ledger cells stores .wholeCells) .1) inputs inputBytes

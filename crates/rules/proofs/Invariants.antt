@@ -39,7 +39,7 @@ module _ (graph arrays inputs : List ℕ) (ledger cells : ℕ) (a : Accepted gra
   s = firstState inputs (cells / cellWidth)
 
   -- of the end of a firing sequence from inputs that passed
-  ended-lawful : (τs : List Tag) (e : End Refusal Tag ℤ) → Logged M s 0 τs e → EndLawful graph arrays inputs ledger cells (e .firings) (e .state)
+  pub ended-lawful : (τs : List Tag) (e : End Refusal Tag ℤ) → Logged M s 0 τs e → EndLawful graph arrays inputs ledger cells (e .firings) (e .state)
   ended-lawful τs e log =
       let (o, r) = sequenceReaches M τs s (e .state) (log .fires) in
       subst (λ (n : ℕ). EndLawful graph arrays inputs ledger cells n (e .state)) (sym (log .firings ∙ zero-add (length τs)))

@@ -45,3 +45,6 @@ pub mod SavedCases
 pub mod Counted
 pub mod Full
 pub mod Others
+pub mod Held
+pub mod Bounded
+pub mod BoundedCases

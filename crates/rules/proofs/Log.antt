@@ -74,15 +74,18 @@ log-passed graph arrays inputs picks budget ledger cells lent e =
 
 -- ---- room
 
+pub enough : (budget lent n : ℕ) → n ≤ budget → n ≤ mostTokens → (leb budget (lent / logWidth) || leb mostTokens (lent / logWidth)) ≡ true → n * logWidth ≤ lent
+enough budget lent n l m = go (leb budget (lent / logWidth)) (leb mostTokens (lent / logWidth)) refl refl
+  where
+    go : (a b : Bool) → leb budget (lent / logWidth) ≡ a → leb mostTokens (lent / logWidth) ≡ b → (a || b) ≡ true → n * logWidth ≤ lent
+    go true b p q h = omega (arith, leb-true budget (lent / logWidth) p)
+    go false true p q h = omega (arith, leb-true mostTokens (lent / logWidth) q)
+    go false false p q h = let z : _≡_ {A = ℕ} 0 1 = cc in absurd (omega arith)
+
 pub log-fits : LogFits
 unfolding logged logUnlessFailed
 log-fits graph arrays inputs picks budget ledger cells lent = go (checkLogged graph arrays inputs picks budget ledger cells lent) refl
   where
-    enough : (n : ℕ) → n ≤ budget → n ≤ mostTokens → (a b : Bool) → leb budget (lent / logWidth) ≡ a → leb mostTokens (lent / logWidth) ≡ b → (a || b) ≡ true → n * logWidth ≤ lent
-    enough n l m true b p q h = omega (arith, leb-true budget (lent / logWidth) p)
-    enough n l m false true p q h = omega (arith, leb-true mostTokens (lent / logWidth) q)
-    enough n l m false false p q h = let z : _≡_ {A = ℕ} 0 1 = cc in absurd (omega arith)
-
     go : (c : Checked) → checkLogged graph arrays inputs picks budget ledger cells lent ≡ c → length (logged graph arrays inputs picks budget ledger cells lent .log) * logWidth ≤ lent
     go (Failed r p) e = rw e (omega arith)
     go Passed e =
@@ -92,7 +95,7 @@ log-fits graph arrays inputs picks budget ledger cells lent = go (checkLogged gr
         let r = ran M (byPicks M) (byPicksLawful M) budget (picksOf picks) 0 s in
         let l = noLonger M (law graph inputs (arraysOf arrays) (capacityOf ledger) (cells / cellWidth) (h .start)) s (good graph inputs (arraysOf arrays) (capacityOf ledger) (cells / cellWidth) (h .start)) (logOf M (byPicks M) budget (picksOf picks) s) _ (r .logged .fires) in
         let few = whole-bytes tokenWidth mostTokens ledger (h .stores .wholeLedger) .1 in
-        rw e (enough (length (logOf M (byPicks M) budget (picksOf picks) s)) (r .within) (omega (arith, l .0, l .1)) (leb budget (lent / logWidth)) (leb mostTokens (lent / logWidth)) refl refl (h .room))
+        rw e (enough budget lent (length (logOf M (byPicks M) budget (picksOf picks) s)) (r .within) (omega (arith, l .0, l .1)) (h .room))
 
 -- ---- the run
 

@@ -103,13 +103,20 @@ unfolding checkStores
 stores-below inputs picks ledger cells =
     demand-below (whole tokenWidth mostTokens inputs && (whole pickWidth mostTokens picks && (whole tokenWidth mostTokens ledger && whole cellWidth mostCells cells))) BadStore 0 (λ e. omega arith)
 
+-- whatever else the check of the stores asks, it has that of the inputs
+pub all-below : (graph arrays inputs : List ℕ) (capacity cells : ℕ) (stores : Checked) → Below stores → (stores ≡ Passed → whole tokenWidth mostTokens (length inputs) ≡ true)
+    → Below (checkGraph graph andThen stores andThen checkArrays (graphOf graph) cells arrays andThen checkInputs (graphOf graph) capacity inputs)
+all-below graph arrays inputs capacity cells stores low wholes =
+    then-below (checkGraph graph) _ (graph-below graph) (λ e.
+    then-below stores _ low (λ f.
+    then-below (checkArrays (graphOf graph) cells arrays) _ (arrays-below graph cells arrays e) (λ h.
+    inputs-below (graphOf graph) capacity inputs (whole-bytes tokenWidth mostTokens (length inputs) (wholes f) .1))))
+
 pub check-below : (graph arrays inputs picks : List ℕ) (ledger cells : ℕ) → Below (check graph arrays inputs picks ledger cells)
 unfolding check
 check-below graph arrays inputs picks ledger cells =
-    then-below (checkGraph graph) _ (graph-below graph) (λ e.
-    then-below (checkStores (length inputs) (length picks) ledger cells) _ (stores-below (length inputs) (length picks) ledger cells) (λ f.
-    then-below (checkArrays (graphOf graph) (cells / cellWidth) arrays) _ (arrays-below graph (cells / cellWidth) arrays e) (λ h.
-    inputs-below (graphOf graph) (capacityOf ledger) inputs (whole-bytes tokenWidth mostTokens (length inputs) (stores-whole (length inputs) (length picks) ledger cells f .wholeInputs) .1))))
+    all-below graph arrays inputs (capacityOf ledger) (cells / cellWidth) (checkStores (length inputs) (length picks) ledger cells) (stores-below (length inputs) (length picks) ledger cells)
+    (λ e. stores-whole (length inputs) (length picks) ledger cells e .wholeInputs)
 
 -- ---- a run from inputs that passed
 
@@ -143,7 +150,7 @@ module _ (graph inputs : List ℕ) (table : List NamedArray) (capacity cells : �
 -- ---- whole runs
 
 -- "All these answer 0 firings and 0 tokens"
-refused-small : (budget : ℕ) (r : Refusal) (p : ℕ) → p < mostTokens → Small budget (answer (refusedAtOnce r p))
+pub refused-small : (budget : ℕ) (r : Refusal) (p : ℕ) → p < mostTokens → Small budget (answer (refusedAtOnce r p))
 unfolding answer
 refused-small budget r p h = record { firings = omega arith; byTokens = omega arith; tokens = omega arith; place = h }
 

@@ -19,8 +19,11 @@ use Rattle.rules.specs.Needs.{sendsTo, portReached, allReached, rounds, 
 use Rattle.machine.specs.Sequences.{logOf}
 use Rattle.machine.specs.Steps.{profile}
 use Rattle.machine.specs.Replay.{replay}
+use Rattle.machine.specs.Choosers.{runFrom, logFrom}
+use Rattle.rules.specs.Held.{standsIn, isPending, holdsBack, heldIn}
+use Rattle.rules.specs.Bounded.{goodBound, andBound, checkBounded, bounded, checkBoundLogged, boundLogged, checkBoundSaved, boundCarried}
 use Rattle.rules.specs.Run.{firstState, picksOf, unlessFailed, result, answer, ledgerAfter, cellsAfter}
 
 unfoldable pub rules : Unit {0}
-unfolding signedOf bitsOf rowOf namesArray usesConstant Graph.decode Graph.encode pathNumber pathWords isRoot samePath contentOf isInput sameTag standsAt Tokens.decode Tokens.encode nextOf enterWithin leaveOf Cells.cellOf Cells.decode Cells.encode Arrays.decode ranged divided computeOf machine instructionAt operandsAt fanOutAllowed isZero unusedAreZero goodArc within entersSite otherReturn goodSite checkRecord checkGraph checkStores insideStore namesGood checkArrays goodInput secondInput checkInputs check sendComputed sideOf sendNext sendEntered returnOf sendReturned sendLeft onCell numberIn arrayAt cellNumber effectOf effectIn isResult arityIn decideWords decidePath decideTag firstState picksOf unlessFailed result answer ledgerAfter cellsAfter profile checkProfileStores checkProfile profileUnlessFailed profiled logOf replay Logs.encode Logs.nameOf namesIn checkLogStores checkLogged logUnlessFailed logged logAfter replayed sendsTo portReached allReached rounds reached firingsOf outputsOf total loopFree checkNeeds needs
+unfolding signedOf bitsOf rowOf namesArray usesConstant Graph.decode Graph.encode pathNumber pathWords isRoot samePath contentOf isInput sameTag standsAt Tokens.decode Tokens.encode nextOf enterWithin leaveOf Cells.cellOf Cells.decode Cells.encode Arrays.decode ranged divided computeOf machine instructionAt operandsAt fanOutAllowed isZero unusedAreZero goodArc within entersSite otherReturn goodSite checkRecord checkGraph checkStores insideStore namesGood checkArrays goodInput secondInput checkInputs check sendComputed sideOf sendNext sendEntered returnOf sendReturned sendLeft onCell numberIn arrayAt cellNumber effectOf effectIn isResult arityIn decideWords decidePath decideTag firstState picksOf unlessFailed result answer ledgerAfter cellsAfter profile checkProfileStores checkProfile profileUnlessFailed profiled logOf replay Logs.encode Logs.nameOf namesIn checkLogStores checkLogged logUnlessFailed logged logAfter replayed sendsTo portReached allReached rounds reached firingsOf outputsOf total loopFree checkNeeds needs runFrom logFrom standsIn isPending holdsBack heldIn goodBound andBound checkBounded bounded checkBoundLogged boundLogged checkBoundSaved boundCarried
 rules = tt

@@ -25,3 +25,6 @@ pub mod ExpressionCases
 pub mod Saved
 pub mod Parts
 pub mod SavedCases
+pub mod Held
+pub mod Bounded
+pub mod BoundedCases
