@@ -48,10 +48,10 @@ module _ (M : Machine) where
   -- ---- how many tokens stand on the ports of a tag
 
   -- on those below n
-  abbrev below : M .Tag → (n : ℕ) → Key (M .Tag) → Bool
+  abbrev pub below : M .Tag → (n : ℕ) → Key (M .Tag) → Bool
   below τ n k = when (M .same τ (k .tag)) (ltb (k .port) n) false
 
-  abbrev countBelow : M .Tag → (n : ℕ) → Ledger M → ℕ
+  abbrev pub countBelow : M .Tag → (n : ℕ) → Ledger M → ℕ
   countBelow τ n [] = 0
   countBelow τ n (t ∷ ts) = cond (below τ n (t .key)) 1 0 + countBelow τ n ts
 
@@ -105,7 +105,7 @@ module _ (M : Machine) where
   countMore τ n [] = refl
   countMore τ n (t ∷ ts) = omega (arith, portMore τ n (t .key), countMore τ n ts)
 
-  countAll : (τ : M .Tag) (ts : Ledger M) → Distinct M ts → (n : ℕ) → ((q : ℕ) → q < n → (y : Content (M .Value)) × (find M (at M τ q) ts ≡ some y)) → countBelow τ n ts ≡ n
+  pub countAll : (τ : M .Tag) (ts : Ledger M) → Distinct M ts → (n : ℕ) → ((q : ℕ) → q < n → (y : Content (M .Value)) × (find M (at M τ q) ts ≡ some y)) → countBelow τ n ts ≡ n
   countAll τ ts ds zero there = none-below ts
     where
       none-below : (us : Ledger M) → countBelow τ 0 us ≡ 0
@@ -123,7 +123,7 @@ module _ (M : Machine) where
 
   module _ (τ : M .Tag) (d : DeltaOf M) where
     -- every operand is live
-    abbrev OperandsLive : Ledger M → Type 0
+    abbrev pub OperandsLive : Ledger M → Type 0
     OperandsLive ts = (k : Key (M .Tag)) → operandOf M τ k ≡ true → (y : Content (M .Value)) → find M k ts ≡ some y → (v : M .Value) × (y ≡ live v)
 
     spentOne : (t : Token (M .Tag) (M .Value)) (ts : Ledger M) → OperandsLive (t ∷ ts) → isUnspent (change M τ d (t .key) (t .content)) + cond (operandOf M τ (t .key)) 1 0 ≡ isUnspent (t .content)

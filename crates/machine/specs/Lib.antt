@@ -1,6 +1,6 @@
 -- The definitions that a reader must believe: the machine, what is stated of its orders and of its firing sequences, the runs by
 -- ideal steps, the replay of a log, another capacity, another instruction set, trees of activities, runs in parts, runs by any
--- chooser, and runs with activities held back. Assumes nothing.
+-- chooser, runs with activities held back, and the tokens that hold back. Assumes nothing.
 pub mod Machine
 pub mod Orders
 pub mod Sequences
@@ -12,3 +12,4 @@ pub mod Trees
 pub mod Saved
 pub mod Choosers
 pub mod Bounded
+pub mod Pending

@@ -141,7 +141,7 @@ module _ (graph : List ℕ) (passed : checkGraph graph ≡ Passed) where
       go (yes h) = first-returns site (Graph.decode []) r e g k h refl (enter-named (of-graph graph passed k h) (both (eqb (r .code) 8) _ e .0) .1)
 
   -- an ENTER's own site
-  enters : (i iteration : ℕ) → iteration < 256 → operationOf (instructionAt g i .code) ≡ Enter → CallIn g (record { site = natAbs (instructionAt g i .constant); iteration = iteration })
+  pub enters : (i iteration : ℕ) → iteration < 256 → operationOf (instructionAt g i .code) ≡ Enter → CallIn g (record { site = natAbs (instructionAt g i .constant); iteration = iteration })
   unfolding instructionAt entersSite
   enters i n low e = go (decLe (suc i) (length g))
     where

@@ -110,7 +110,7 @@ module _ (g : List Instruction) (table : List NamedArray) (capacity cells : ℕ)
         of-cond (ltb i (length g)) (send v (record { tag = toOf caller i; port = 0 } ∷ [])) (refuse Refusals.NoReturn)
         (λ l. (h, (asked .leave e site caller f i (ltb-true i (length g) l), tt))) tt
 
-    of-operation : (o : Operation) → operationOf (r .code) ≡ o → (a b : ℤ) → Q a → Q b → Holds (effectOf o g table cells τ r a b (allUnder τ r))
+    pub of-operation : (o : Operation) → operationOf (r .code) ≡ o → (a b : ℤ) → Q a → Q b → Holds (effectOf o g table cells τ r a b (allUnder τ r))
     unfolding effectOf
     of-operation Operations.Copy e a b qa qb = (qa, asked .all)
     of-operation Operations.Sink e a b qa qb = (qa, tt)

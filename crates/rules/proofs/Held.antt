@@ -39,7 +39,7 @@ levels (c ∷ cs) f = omega (arith, levels cs (f .1), f .0 .some)
 words-different : (cs ds : List Call) → All CallFits cs → All CallFits ds → pathWords (pathOf cs) ≡ pathWords (pathOf ds) → cs ≡ ds
 words-different cs ds f g e = different cs ds f g (sym (number-words (pathOf cs)) ∙ ap pathNumber e ∙ number-words (pathOf ds))
 
-not-same : (a b : Path) → (a ≡ b → ⊥) → samePath a b ≡ false
+pub not-same : (a b : Path) → (a ≡ b → ⊥) → samePath a b ≡ false
 not-same a b h = go (samePath a b) refl
   where
     go : (q : Bool) → samePath a b ≡ q → q ≡ false
@@ -130,7 +130,7 @@ module _ (g : List Instruction) (k : ℕ) (p : Path) (m : ℕ) where
       go true (some j) e f rest = at j e f (leb (j + k) m) refl rest
 
   -- one does where it is counted at an iteration up to m - k
-  one-holds : (l : ℕ) → l + k ≤ m → (ts : List (Token Tag ℤ)) → 0 < pendingAt g p l ts → any (holdsBack g k p m) ts ≡ true
+  pub one-holds : (l : ℕ) → l + k ≤ m → (ts : List (Token Tag ℤ)) → 0 < pendingAt g p l ts → any (holdsBack g k p m) ts ≡ true
   unfolding holdsBack
   one-holds l h [] counted = absurd (omega arith)
   one-holds l h (t ∷ ts) counted = go (isPending g t) (standsIn p (t .key .tag)) counted (one-holds l h ts)

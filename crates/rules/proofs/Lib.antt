@@ -46,5 +46,6 @@ pub mod Counted
 pub mod Full
 pub mod Others
 pub mod Held
+pub mod HeldAfter
 pub mod Bounded
 pub mod BoundedCases
