@@ -4,3 +4,4 @@ pub mod Digits
 pub mod Laws
 pub mod Marks
 pub mod Words
+pub mod Minus

@@ -32,6 +32,16 @@ abbrev pub blocks : ℕ → ℕ → List ℕ → List ℕ
 blocks width zero l = []
 blocks width (suc n) l = ones (take width l) ∷ blocks width n (drop width l)
 
+-- the flags but for those of another list
+abbrev pub minus : List ℕ → List ℕ → List ℕ
+minus [] m = []
+minus (x ∷ l) [] = x ∷ l
+minus (x ∷ l) (y ∷ m) = (x - y) ∷ minus l m
+
+-- of which every one is a one here too
+abbrev pub Under : List ℕ → List ℕ → Type 0
+Under m l = (i : ℕ) → getD m i 0 ≤ getD l i 0
+
 -- 2,048 flags, each 0 or 1, with their counts by blocks and, behind those, by groups of eight blocks
 pub record Tallied (flags counts : List ℕ) : Type 0 where
   pub size : length flags ≡ 2048

@@ -3,10 +3,10 @@
 // ends elsewhere at each call takes longer than what it does (docs/DECISIONS.md, 35). Behind it stand the counts of ones,
 // by words and by groups of eight words.
 ghost use mathlib.Core.Path.{_≡_};
-ghost use Prim.Native.Nat.{_+_, _-_, _*_, _<_};
+ghost use Prim.Native.Nat.{_+_, _-_, _*_, _≤_, _<_};
 ghost use lib.Dec.{eqb};
-ghost use lib.ListN.{length, getD, set, drop};
-ghost use Rattle.store_flags.specs.Flags.{ones, place, places, inWord, flagsOf, any, Summed, Counted};
+ghost use lib.ListN.{length, getD, set, take, drop};
+ghost use Rattle.store_flags.specs.Flags.{ones, place, places, minus, Under, inWord, flagsOf, any, Summed, Counted};
 
 // Where the word stands that says which words have any, and where the counts of the first word and of the first group do.
 const ANY: usize = 32;
@@ -189,4 +189,89 @@ pub fn select(flags: &[u64; 69], k: usize) -> usize
     } else {
         select_group(flags, k)
     }
+}
+
+// ---- flags but for those of another set, each of which is set here too: of the enabled activities those that are not held back
+
+// The number of ones.
+pub fn count_but(flags: &[u64; 69], held: &[u64; 69]) -> usize
+    requires { ⌜ Counted (now flags) × Counted (now held) × Under (flagsOf (now held)) (flagsOf (now flags)) ⌝ }
+    ensures { λ r. ⌜ r ≡ length (places (minus (flagsOf (now (flags .entry))) (flagsOf (now (held .entry))))) ⌝ }
+{
+    count(flags) - count(held)
+}
+
+// The flags of a word but for those of another.
+fn without(word: u64, held: u64) -> u64
+    requires { ⌜ Under (inWord held) (inWord word) ⌝ }
+    ensures { λ r. ⌜ inWord r ≡ minus (inWord word) (inWord held) ⌝ }
+{
+    word - held
+}
+
+// The flags of word b.
+fn word_but(flags: &[u64; 69], held: &[u64; 69], b: usize) -> u64
+    requires { ⌜ Counted (now flags) × Counted (now held) × Under (flagsOf (now held)) (flagsOf (now flags)) × (b < 32) ⌝ }
+    ensures { λ r. ⌜ inWord r ≡ take 64 (drop (b * 64) (minus (flagsOf (now (flags .entry))) (flagsOf (now (held .entry))))) ⌝ }
+{
+    without(flags[b], held[b])
+}
+
+// How many ones word b has, and group g.
+fn in_word_but(flags: &[u64; 69], held: &[u64; 69], b: usize) -> usize
+    requires { ⌜ Counted (now flags) × Counted (now held) × Under (flagsOf (now held)) (flagsOf (now flags)) × (b < 32) ⌝ }
+    ensures { λ r. ⌜ r ≡ ones (take 64 (drop (b * 64) (minus (flagsOf (now (flags .entry))) (flagsOf (now (held .entry)))))) ⌝ }
+{
+    (flags[COUNTS + b] - held[COUNTS + b]) as usize
+}
+
+fn in_group_but(flags: &[u64; 69], held: &[u64; 69], g: usize) -> usize
+    requires { ⌜ Counted (now flags) × Counted (now held) × Under (flagsOf (now held)) (flagsOf (now flags)) × (g < 4) ⌝ }
+    ensures { λ r. ⌜ r ≡ ones (take 512 (drop (g * 512) (minus (flagsOf (now (flags .entry))) (flagsOf (now (held .entry)))))) ⌝ }
+{
+    (flags[GROUPS + g] - held[GROUPS + g]) as usize
+}
+
+// The place of one number k of those from a word on.
+fn select_block_but(flags: &[u64; 69], held: &[u64; 69], from: usize, k: usize) -> usize
+    requires { ⌜ Counted (now flags) × Counted (now held) × Under (flagsOf (now held)) (flagsOf (now flags)) × (k < ones (drop (from * 64) (minus (flagsOf (now flags)) (flagsOf (now held))))) ⌝ }
+    ensures { λ r. ⌜ r ≡ from * 64 + place k (drop (from * 64) (minus (flagsOf (now (flags .entry))) (flagsOf (now (held .entry))))) ⌝ }
+{
+    let mut b = from;
+    let mut left = k;
+    while b < 32 {
+        let n = in_word_but(flags, held, b);
+        if left < n {
+            return b * 64 + select_in(word_but(flags, held, b), n, left);
+        }
+        left -= n;
+        b += 1;
+    }
+    0
+}
+
+// The place of one number k, where there are so many.
+fn select_group_but(flags: &[u64; 69], held: &[u64; 69], k: usize) -> usize
+    requires { ⌜ Counted (now flags) × Counted (now held) × Under (flagsOf (now held)) (flagsOf (now flags)) × (k < ones (minus (flagsOf (now flags)) (flagsOf (now held)))) ⌝ }
+    ensures { λ r. ⌜ r ≡ place k (minus (flagsOf (now (flags .entry))) (flagsOf (now (held .entry)))) ⌝ }
+{
+    let mut g = 0;
+    let mut left = k;
+    while g < 4 {
+        let n = in_group_but(flags, held, g);
+        if left < n {
+            return select_block_but(flags, held, g * 8, left);
+        }
+        left -= n;
+        g += 1;
+    }
+    0
+}
+
+// The place of one number k.
+pub fn select_but(flags: &[u64; 69], held: &[u64; 69], k: usize) -> usize
+    requires { ⌜ Counted (now flags) × Counted (now held) × Under (flagsOf (now held)) (flagsOf (now flags)) × (k < length (places (minus (flagsOf (now flags)) (flagsOf (now held))))) ⌝ }
+    ensures { λ r. ⌜ (r ≡ getD (places (minus (flagsOf (now (flags .entry))) (flagsOf (now (held .entry))))) k 0) × (r < 2048) ⌝ }
+{
+    select_group_but(flags, held, k)
 }
