@@ -92,6 +92,7 @@ fn refusal_of(word: u64) -> Numbered
         18 => Numbered::One(Refusal::ProfileFull),
         19 => Numbered::One(Refusal::NotLoopFree),
         20 => Numbered::One(Refusal::NotEnabled),
+        21 => Numbered::One(Refusal::BadBound),
         22 => Numbered::One(Refusal::BadArray),
         24 => Numbered::One(Refusal::DamagedState),
         25 => Numbered::One(Refusal::BadExpression),

@@ -59,4 +59,5 @@ refusal-of-spec =
     (λ c. rw (c .match .keys20))
     (λ c. rw (c .match .keys21))
     (λ c. rw (c .match .keys22))
+    (λ c. rw (c .match .keys23))
     (λ c. sym (absent refusals (c .before .args .word) (turned (onto refusals []) [] (c .before .args .word) (c .match .rest) tt))))
