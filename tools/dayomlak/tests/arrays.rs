@@ -51,7 +51,7 @@ fn elements_have_their_names() {
         assert!(traced.contains(words), "{words} in\n{traced}");
     }
     let csv = typed(SUM, &["trace", "-", "--csv"]).out;
-    assert!(csv.contains(",STORE c,2 7,c[2] := 7\n"), "{csv}");
+    assert!(csv.contains(",STORE c,2 7,c[2] := 7,"), "{csv}");
     // The listing is the printing program's, which knows no names.
     let listing = typed(SUM, &["run", "-", "--listing"]).out;
     assert!(listing.ends_with("cell 20 present 6\ncell 21 present 7\ncell 22 present 8\n"));
