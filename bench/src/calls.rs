@@ -1,22 +1,23 @@
-//! The calls beside a plain run: the profile of a work, its run with a log, the replay of
-//! that log, and the check of the state that the run left, each against the engine's own
+//! The calls beside a plain run: the same run under a table of named arrays, the profile
+//! of a work, its run with a log, the replay of that log, and the check of the state that the run left, each against the engine's own
 //! run in the same rounds; and the bounds of a graph of 256 records. Each call is made a block of times before the next,
 //! so that what is compared is the calls, and not who finds more of its buffers in the
 //! caches.
 
 use super::{microseconds, middle, ratio, time, Kind, Lent, BLOCK, BUDGET, KINDS, SIZES};
 use crate::work::{self, Work};
-use second::Schedule;
+use second::{Program, Schedule};
 use std::time::Duration;
 
-/// A call of the engine on what it is lent; the further buffer is the profile or log, or
-/// has the counts of a saved state.
+/// A call of the engine on what it is lent; the further buffer is the table, the profile or
+/// log, or has the counts of a saved state.
 type Call = fn(&mut Lent, &mut [u8]) -> u64;
 
 /// Each call with its name and, where there is one, the most that it may take of the
 /// run's time.
-const CALLS: [(&str, Call, Option<f64>); 5] = [
+const CALLS: [(&str, Call, Option<f64>); 6] = [
     ("run", run, None),
+    ("run under a table", run_under_table, Some(1.03)),
     ("profile", profile, Some(1.5)),
     ("run with a log", run_logged, Some(1.1)),
     ("replay", replay, None),
@@ -25,6 +26,22 @@ const CALLS: [(&str, Call, Option<f64>); 5] = [
 
 fn run(lent: &mut Lent, _: &mut [u8]) -> u64 {
     lent.engine()
+}
+
+/// The run with named arrays that its graph does not use.
+pub fn run_under_table(lent: &mut Lent, arrays: &mut [u8]) -> u64 {
+    let program = Program {
+        graph: &lent.work.graph,
+        arrays,
+    };
+    let schedule = Schedule::new(&lent.picks, BUDGET);
+    let (ledger, cells) = (&mut lent.ledger, &mut lent.cells);
+    engine::run(program, &lent.work.inputs, schedule, ledger, cells)
+}
+
+/// As many arrays as a table may have, all empty.
+pub fn full_table() -> Vec<u8> {
+    vec![0; second::ARRAY_RECORD * second::MOST_ARRAYS]
 }
 
 fn profile(lent: &mut Lent, profile: &mut [u8]) -> u64 {
@@ -81,7 +98,7 @@ impl Calls {
         let log = agreed(&mut lent());
         let profile = vec![0; 4 * usize::from(BUDGET)];
         let room = vec![0; second::LOG_RECORD * usize::from(BUDGET)];
-        let further = [Vec::new(), profile, room, log];
+        let further = [Vec::new(), full_table(), profile, room, log];
         let mut all = Vec::from(further.map(|further| (lent(), further)));
         let mut ended = lent();
         let counts = counts(ended.engine());
@@ -148,6 +165,9 @@ fn agreed(lent: &mut Lent) -> Vec<u8> {
     let packed = engine::packed_answer(&answer);
     assert_eq!(run_logged(lent, &mut found), packed, "run with a log");
     assert!(found == due && *ledger == lent.ledger && *cells == lent.cells);
+
+    assert_eq!(run_under_table(lent, &mut full_table()), packed, "table");
+    assert!(*ledger == lent.ledger && *cells == lent.cells);
 
     found.truncate(second::LOG_RECORD * answer.firings);
     assert_eq!(replay(lent, &mut found), packed, "replay");

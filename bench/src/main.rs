@@ -7,7 +7,7 @@
 //! is run a block of times before the next, so that it meets the caches that it
 //! left; with `growth` only the growth is measured, of runs of one size that follow
 //! each other (growth.rs). The figures of the three differ. `program` measures the
-//! whole job of the printing program (program.rs). `once WORK`, `calls WORK` and
+//! whole job of the printing program (program.rs). `once WORK`, `table WORK`, `calls WORK` and
 //! `folders DIR` are for the script `instructions`.
 
 mod calls;
@@ -52,9 +52,12 @@ fn main() {
         ["growth"] => growth::print(),
         ["program"] => program::print(),
         ["once", work] => program::once(work),
+        ["table", work] => program::table_once(work),
         ["calls", work] => program::calls_once(work),
         ["folders", folder] => program::write_folders(folder.as_ref()),
-        _ => eprintln!("repeated, growth, program, once WORK, calls WORK, folders DIR, or nothing"),
+        _ => eprintln!(
+            "repeated, growth, program, once WORK, table WORK, calls WORK, folders DIR, or nothing"
+        ),
     }
 }
 

@@ -8,10 +8,10 @@ use std::path::{Path, PathBuf};
 use std::process::Command;
 use std::time::Duration;
 
-use crate::calls::Calls;
+use crate::calls::{self, Calls};
 use crate::printing::longest;
 use crate::work::Work;
-use crate::{microseconds, middle, ratio, time, Kind, BUDGET, CELLS, KINDS};
+use crate::{microseconds, middle, ratio, time, Kind, Lent, BUDGET, CELLS, KINDS};
 use second::Schedule;
 
 const RECORDS: usize = 2048;
@@ -125,6 +125,16 @@ pub fn write_folders(folder: &Path) {
 pub fn once(name: &str) {
     let (_, work, _) = kind_of(name);
     println!("{}", engine_job(&work(RECORDS)).len());
+}
+
+/// One run of a work under a full table of named arrays, for the same.
+pub fn table_once(name: &str) {
+    let (_, work, newest) = kind_of(name);
+    let mut lent = Lent::new(work(RECORDS), RECORDS, newest);
+    println!(
+        "{}",
+        calls::run_under_table(&mut lent, &mut calls::full_table())
+    );
 }
 
 /// One call of each kind beside a plain run on a work, for the same.
