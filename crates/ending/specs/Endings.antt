@@ -1,4 +1,4 @@
--- How a run ends that fires no more: the machine's words for it, said of token records and of every graph whose tables these are. Assumes nothing.
+-- How a run that fires no more ends, for token records, under any graph with these tables. Assumes nothing.
 use Prim.Native.Nat.{ℕ}
 use mathlib.Core.Path.{_≡_}
 use mathlib.Core.Bool.{Bool}

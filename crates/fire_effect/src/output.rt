@@ -29,7 +29,7 @@ pub fn key_under(tag: Tag, d: Destination) -> Key
     }
 }
 
-// No output. A key is not meant then, so any will do.
+// No output: the keys are ignored.
 pub fn none(tag: Tag) -> Outputs
     ensures { λ o. ⌜ Sends o [] ⌝ }
 {

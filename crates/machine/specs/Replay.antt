@@ -22,7 +22,7 @@ module _ (M : Machine) where
   named none l = none
   named (some τ) l = withTag τ l
 
-  -- so an enabled activity is found by its operands: no list of the enabled is gone through
+  -- an enabled activity is found by its operands, so the enabled list need not be searched
   pub record FoundByTag (s : StateOf M) (τ : M .Tag) : Type 0 where
     pub present : 0 < M .arity τ → allLive M (look M s) τ ≡ true → withTag τ (enabled M s) ≡ some (record { place = placeOf M τ (s .tokens); tag = τ })
     pub absent : ¬ ((0 < M .arity τ) × (allLive M (look M s) τ ≡ true)) → withTag τ (enabled M s) ≡ none

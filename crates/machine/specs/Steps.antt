@@ -43,7 +43,7 @@ module _ (M : Machine) where
   unspentIn [] = 0
   unspentIn (t ∷ ts) = isUnspent (t .content) + unspentIn ts
 
-  -- a firing has as many live and deferred tokens less as its tag has operands, and as many more as it sends
+  -- a firing removes one unspent token per operand and adds one per output
   abbrev pub UnspentAfter : Type 0
   UnspentAfter = (s : StateOf M) → Good M s → (τ : M .Tag) (x : StateOf M) → fire M s τ ≡ fired x
       → (length (s .tokens) ≤ length (x .tokens)) × (unspentIn (x .tokens) + M .arity τ ≡ unspentIn (s .tokens) + (length (x .tokens) - length (s .tokens)))

@@ -52,7 +52,7 @@ CallerIn g NoCaller = Unit {0}
 
 -- ---- the claims
 
--- a token whose path is of calls; its iteration is a byte, as that of a call has to be that ENTER makes in it
+-- a token's path encodes calls, and its iteration fits a byte, since ENTER copies it into the path
 pub record TokenIn (g : List Instruction) (t : Token Tag ℤ) : Type 0 where
   pub path : PathIn g (pathNumber (t .key .tag .path))
   pub iteration : t .key .tag .iteration < 256

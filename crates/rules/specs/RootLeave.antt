@@ -25,7 +25,7 @@ use Rattle.rules.specs.Run.{firstState}
 unfoldable pub isRootLeave : List Instruction → Tag → Bool
 isRootLeave g τ = eqb (instructionAt g (τ .instruction) .code) 9 && isRoot (τ .path)
 
--- ---- before R-5: only OUT (code 3) was a result, and a LEAVE under path 0 was refused when it fired, by 15. No word of it is left, so it is any
+-- ---- before R-5: only OUT (code 3) was a result, and a LEAVE under path 0 was refused when it fired, by 15. Refusal 15 no longer exists, so any refusal stands in for it
 
 unfoldable pub arityBefore : List Instruction → Tag → ℕ
 arityBefore g τ = let r = instructionAt g (τ .instruction) in cond (eqb (r .code) 3) 0 (operandsOf (r .code))
