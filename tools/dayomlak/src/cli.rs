@@ -39,6 +39,8 @@ pub enum Command {
     Diff(Diff),
     /// Fire a graph by hand, in a terminal
     Step(Step),
+    /// Type a graph and fire it by hand, in a browser on this computer
+    Studio(Studio),
     /// Show every firing: operands, outputs and cells
     Trace(Trace),
     /// Firings and tokens by ideal steps (Memo 280), as a table or a picture
@@ -112,6 +114,7 @@ impl Command {
             ),
             Command::Diff(_) => ("diff", "`dayomlak trace` shows what it fires".to_string()),
             Command::Step(_) => ("step", "`dayomlak carry-on` goes on from it".to_string()),
+            Command::Studio(_) => ("studio", "`dayomlak show` looks at it".to_string()),
             Command::Check(_) => ("check", "`dayomlak show` looks at it".to_string()),
             Command::Draw(_) => (
                 "draw",
@@ -344,6 +347,23 @@ pub struct Step {
     /// Read lines, also in a terminal
     #[arg(long)]
     pub lines: bool,
+    #[command(flatten)]
+    pub buffers: Buffers,
+}
+
+#[derive(Debug, Args)]
+#[command(
+    after_help = "It prints an address, to be opened in a browser on this computer, and serves nobody else; Ctrl-C ends it. Nothing is \
+    written but FILE, when you press Save, with the order of the firings if you want.\nOn the page 0 to 9 fire, the arrow keys go forth and back, \
+    Space plays and Ctrl-S saves.\n\nTry: dayomlak studio sum.ttda"
+)]
+pub struct Studio {
+    /// A typed graph, which is made by Save if it is not there yet
+    #[arg(value_name = "FILE")]
+    pub file: String,
+    /// The port of the address [default: one that is free]
+    #[arg(long, value_name = "N", value_parser = up_to::<{ u16::MAX }>)]
+    pub port: Option<u16>,
     #[command(flatten)]
     pub buffers: Buffers,
 }

@@ -146,20 +146,36 @@ fn is_refused(end: &End) -> bool {
 /// Tokens after each firing of a run, and before the first.
 pub fn by_firing(machine: &Machine, picks: &[u8], budget: u16) -> Result<Paced, Failure> {
     let (end, log) = machine.run_logged(picks, budget);
+    let steps = match end.answer.refused_at_once() {
+        true => Steps::default(),
+        false => along(machine, &log)?,
+    };
+    let steps = Steps {
+        what: "firing".to_string(),
+        enabled: Vec::new(),
+        ..steps
+    };
+    Ok(Paced { steps, end })
+}
+
+/// Tokens after each firing of a log, and before the first, with what can fire then.
+pub fn along(machine: &Machine, log: &[Tag]) -> Result<Steps, Failure> {
     let mut steps = Steps {
         what: "firing".to_string(),
         ..Steps::default()
     };
-    if !end.answer.refused_at_once() {
-        let mut walk = Walk::new(machine)?;
+    let mut walk = Walk::new(machine)?;
+    let mut note = |walk: &Walk| {
         add(&mut steps, machine.program, 0, &walk.end);
-        for tag in &log {
-            walk.fire_tag(tag)?;
-            add(&mut steps, machine.program, 1, &walk.end);
-        }
+        steps.enabled.push(walk.enabled.len() as u32);
+    };
+    note(&walk);
+    for tag in log {
+        walk.fire_tag(tag)?;
+        note(&walk);
     }
     steps.firings.clear();
-    Ok(Paced { steps, end })
+    Ok(steps)
 }
 
 /// The loads of cells, and the state after them; `None` where there are none, or one is refused.

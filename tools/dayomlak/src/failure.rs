@@ -18,8 +18,8 @@ pub enum Failure {
     Wrong(String),
     /// A saved state where a graph is needed, by its label.
     SavedState(String),
-    /// A text with faults, and the faults, which are shown already.
-    Faulty(String, Vec<Finding>),
+    /// A text with faults.
+    Faulty(Faults),
     /// What the engine refuses, by number and word, and why.
     Refused(String),
     /// A file that cannot be read or written.
@@ -28,7 +28,24 @@ pub enum Failure {
     Inconsistent(String),
 }
 
+/// The faults of a text.
+#[derive(Debug)]
+pub struct Faults {
+    /// How messages call the text.
+    pub label: String,
+    pub text: String,
+    pub findings: Vec<Finding>,
+}
+
 impl Failure {
+    pub fn faulty(label: &str, text: impl Into<String>, findings: Vec<Finding>) -> Failure {
+        Failure::Faulty(Faults {
+            label: label.to_string(),
+            text: text.into(),
+            findings,
+        })
+    }
+
     pub fn file(path: &Path, error: io::Error) -> Failure {
         Failure::File(path.display().to_string(), error)
     }
@@ -47,8 +64,8 @@ impl fmt::Display for Failure {
         match self {
             Failure::Wrong(text) | Failure::Refused(text) => write!(f, "error: {text}"),
             Failure::SavedState(label) => write!(f, "error: {label} is a saved state"),
-            Failure::Faulty(_, findings) => {
-                let titles: Vec<&str> = findings.iter().map(|f| f.title.as_str()).collect();
+            Failure::Faulty(faults) => {
+                let titles: Vec<&str> = faults.findings.iter().map(|f| f.title.as_str()).collect();
                 write!(f, "error: {}", titles.join("; "))
             }
             Failure::File(path, error) => write!(f, "error: {path}: {error}"),

@@ -41,6 +41,7 @@ mod script;
 mod second_token;
 mod sources;
 mod step;
+mod studio;
 mod timeline;
 mod walk;
 mod warnings;
@@ -51,7 +52,7 @@ use std::process::ExitCode;
 use clap::Parser;
 
 use cli::{Cli, Command};
-use failure::Failure;
+use failure::{Failure, Faults};
 
 /// Does what a command says, and answers the exit status.
 fn done(command: &Command) -> Result<u8, Failure> {
@@ -63,6 +64,7 @@ fn done(command: &Command) -> Result<u8, Failure> {
         Command::Compare(args) => commands::compare::compare(args),
         Command::Diff(args) => commands::diff::diff(args),
         Command::Step(args) => commands::step::step(args),
+        Command::Studio(args) => commands::studio::studio(args),
         Command::Trace(args) => commands::trace::trace(args),
         Command::Profile(args) => commands::profile::profile(args),
         Command::Timeline(args) => commands::timeline::timeline(args),
@@ -81,16 +83,28 @@ fn done(command: &Command) -> Result<u8, Failure> {
     }
 }
 
+/// Says why there is no answer.
+fn show(failure: &Failure) {
+    match failure {
+        Failure::Faulty(Faults {
+            label,
+            text,
+            findings,
+        }) => diagnostics::complain(label, text, findings),
+        // A message that cannot be shown has nobody to be shown to; the status says it too.
+        failure => {
+            let _ = writeln!(std::io::stderr(), "{failure}");
+        }
+    }
+}
+
 fn main() -> ExitCode {
     let command = Cli::parse().command;
     match done(&command) {
         Ok(status) => ExitCode::from(status),
         Err(failure) => {
             let failure = command.advised(failure);
-            if !matches!(failure, Failure::Faulty(..)) {
-                // A message that cannot be shown has nobody to be shown to; the status says it too.
-                let _ = writeln!(std::io::stderr(), "{failure}");
-            }
+            show(&failure);
             if let Some((name, file)) = command.scripted() {
                 // Where standard output itself has failed, the status still says it.
                 let _ = script::print_failure(name, file, &failure);

@@ -6,7 +6,7 @@ use std::path::Path;
 use asm::Named;
 
 use crate::answer::Word;
-use crate::diagnostics::{self, Finding};
+use crate::diagnostics::Finding;
 use crate::failure::Failure;
 use crate::log_file;
 use crate::machine::Machine;
@@ -31,9 +31,8 @@ pub fn of_file(machine: &Machine, path: &Path) -> Result<Vec<u16>, Failure> {
     match asm::read_order(&text) {
         Ok(order) => picks(machine, &label, &text, &order),
         Err(errors) => {
-            let findings: Vec<Finding> = errors.0.into_iter().map(Finding::from).collect();
-            diagnostics::complain(&label, &text, &findings);
-            Err(Failure::Faulty(text, findings))
+            let findings = errors.0.into_iter().map(Finding::from).collect();
+            Err(Failure::faulty(&label, text, findings))
         }
     }
 }
@@ -55,8 +54,7 @@ pub fn picks(
         let names = walk.names();
         let Some(pick) = names.iter().position(|name| *name == named.name) else {
             let finding = not_enabled(&walk, names, number, named, order);
-            diagnostics::complain(label, text, std::slice::from_ref(&finding));
-            return Err(Failure::Faulty(text.to_string(), vec![finding]));
+            return Err(Failure::faulty(label, text, vec![finding]));
         };
         walk.fire(pick)?;
         picks.push(pick as u16);

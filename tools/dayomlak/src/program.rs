@@ -7,7 +7,7 @@ use std::path::{Path, PathBuf};
 use asm::{disassemble, read, Files, Named, Place, Span};
 
 use crate::arrays::Arrays;
-use crate::diagnostics::{self, Finding};
+use crate::diagnostics::Finding;
 use crate::failure::Failure;
 use crate::graph::Graph;
 use crate::machine::{Machine, Sizes};
@@ -61,7 +61,7 @@ impl Program {
         self
     }
 
-    /// A typed graph. Its faults are shown.
+    /// A typed graph.
     pub fn typed(label: &str, bytes: Vec<u8>) -> Result<Program, Failure> {
         if bytes.starts_with(log_file::START.as_bytes()) {
             let text = format!("{label} is a log\n  `dayomlak replay` takes it behind its graph");
@@ -72,8 +72,7 @@ impl Program {
         }
         let text = text(label, bytes)?;
         if let Some(finding) = lone_return(&text) {
-            diagnostics::complain(label, &text, std::slice::from_ref(&finding));
-            return Err(Failure::Faulty(text, vec![finding]));
+            return Err(Failure::faulty(label, text, vec![finding]));
         }
         match read(&text) {
             Ok(typed) => {
@@ -81,9 +80,8 @@ impl Program {
                 Program::new(label, text, typed).ordered(&order)
             }
             Err(errors) => {
-                let findings: Vec<Finding> = errors.0.into_iter().map(Finding::from).collect();
-                diagnostics::complain(label, &text, &findings);
-                Err(Failure::Faulty(text, findings))
+                let findings = errors.0.into_iter().map(Finding::from).collect();
+                Err(Failure::faulty(label, text, findings))
             }
         }
     }

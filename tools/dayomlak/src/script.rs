@@ -42,7 +42,10 @@ pub fn print_failure(command: &str, file: &str, failure: &Failure) -> Result<(),
         file => file,
     };
     let findings = match failure {
-        Failure::Faulty(text, findings) => findings.iter().map(|f| finding(text, f)).collect(),
+        Failure::Faulty(faults) => {
+            let findings = faults.findings.iter();
+            findings.map(|f| finding(&faults.text, f)).collect()
+        }
         _ => Vec::new(),
     };
     let text = failure.to_string();

@@ -362,7 +362,7 @@ fn a_spent_run_with_a_refused_profile() {
         page.contains("class=\"spent\">spent: 1 firing, 2 tokens, oldest first; more can fire</p>")
     );
     assert!(page.contains(
-        "1 ideal step, then refused by 12, out of range, in the next step: 1 firing, 2 tokens. "
+        "1 ideal step, then refused by 12, out of range, in the next step: 1 firing, 2 tokens</span>. "
     ));
     assert!(data(&page).contains("\"refused\":null"));
 }

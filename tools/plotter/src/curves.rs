@@ -45,6 +45,8 @@ pub struct Steps {
     pub tokens: Vec<u32>,
     /// Of these, operands that wait for a partner.
     pub waiting: Vec<u32>,
+    /// Activities that can fire after it; empty where that is not shown.
+    pub enabled: Vec<u32>,
 }
 
 impl Steps {
@@ -194,7 +196,7 @@ fn shared<'s>(
     panel
 }
 
-/// Firings, and below them all tokens with those that wait.
+/// Firings, or what can fire, and below them all tokens with those that wait.
 fn own_panels(steps: &Steps) -> Vec<Panel<'_>> {
     let curve = |values, colour, filled| Curve {
         values,
@@ -210,6 +212,7 @@ fn own_panels(steps: &Steps) -> Vec<Panel<'_>> {
     };
     let most = |values| steps.most(values);
     let firings = format!("firings in a step: at most {}", most(&steps.firings));
+    let enabled = format!("can fire after it: at most {}", most(&steps.enabled));
     let tokens = format!(
         "tokens live or deferred after it: at most {}; the thick line: those that wait for a partner, at most {}",
         most(&steps.tokens),
@@ -219,11 +222,13 @@ fn own_panels(steps: &Steps) -> Vec<Panel<'_>> {
         curve(&steps.tokens, TOKENS, true),
         curve(&steps.waiting, WAITING, false),
     ])];
-    if !steps.firings.is_empty() {
-        panels.insert(
-            0,
-            panel(firings, "firings").with([curve(&steps.firings, FIRINGS, true)]),
-        );
+    for (caption, up, values) in [
+        (enabled, "enabled", &steps.enabled),
+        (firings, "firings", &steps.firings),
+    ] {
+        if !values.is_empty() {
+            panels.insert(0, panel(caption, up).with([curve(values, FIRINGS, true)]));
+        }
     }
     panels
 }

@@ -36,6 +36,7 @@
 //!     firings: vec![1],
 //!     tokens: vec![1],
 //!     waiting: vec![0],
+//!     ..Steps::default()
 //! };
 //! assert!(plot.svg(&words, curves).unwrap().starts_with("<svg"));
 //! ```

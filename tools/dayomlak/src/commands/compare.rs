@@ -23,7 +23,7 @@ pub struct Kind {
     pub end: End,
     listing: Vec<u8>,
     /// What they were answered, without the counts of a refused run, which differ from order to order.
-    words: String,
+    pub words: String,
     pub orders: Vec<Order>,
 }
 

@@ -45,13 +45,11 @@ pub fn expression(args: &cli::Expression) -> Result<u8, Failure> {
     Ok(status(&end))
 }
 
-/// Shows the faults of a text.
 fn faulty(text: &str, findings: Vec<Finding>) -> Failure {
-    diagnostics::complain(LABEL, text, &findings);
-    Failure::Faulty(text.to_string(), findings)
+    Failure::faulty(LABEL, text, findings)
 }
 
-/// The parts of a text; its fault is shown.
+/// The parts of a text.
 fn read(text: &str) -> Result<Expression, Failure> {
     let expression = expression::parse(text).map_err(|fault| {
         let finding = Finding::error(fault.title).at(Some(fault.span), fault.hint);

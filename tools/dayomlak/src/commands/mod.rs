@@ -15,6 +15,7 @@ pub mod report;
 pub mod run;
 pub mod show;
 pub mod step;
+pub mod studio;
 pub mod timeline;
 pub mod trace;
 
@@ -44,7 +45,7 @@ pub fn answer(machine: &Machine, end: &End, order: &str) -> String {
 }
 
 /// Why a run was refused; `None` for another one.
-fn refusal(machine: &Machine, end: &End, order: &str) -> Option<Finding> {
+pub fn refusal(machine: &Machine, end: &End, order: &str) -> Option<Finding> {
     let finding = refused::explain(machine.program, end, machine.sizes, order)?;
     match end.answer.word {
         Word::Refused(24) => Some(conditions::explain(finding, machine)),

@@ -23,6 +23,20 @@ pub fn fill(template: &str, parts: &[(&str, String)]) -> String {
     page
 }
 
+/// Why a run was refused, folded.
+pub fn refusal(words: &str) -> String {
+    let (title, words) = ("Why, and where in the text", escaped(words));
+    format!(
+        "<details id=\"why\"><summary>{title}</summary><pre id=\"refusal\">{words}</pre></details>"
+    )
+}
+
+/// The text of a graph, folded; it is escaped already.
+pub fn source(text: &str) -> String {
+    let start = "<details class=\"panel\">\n<summary>The graph as text</summary>";
+    format!("{start}\n<pre id=\"text\" tabindex=\"0\">{text}</pre>\n</details>")
+}
+
 #[cfg(test)]
 mod tests {
     use super::*;

@@ -1,10 +1,10 @@
 //! A page for a browser: one run, firing by firing. All that it shows is made here and comes from the engine; its script
-//! only chooses what to show.
+//! only chooses what to show. The studio has the same page, with editing and firing added.
 
 mod data;
 pub mod html;
 mod states;
-mod steps;
+pub mod steps;
 
 use crate::answer::{count, Word};
 use crate::beginning::Beginning;
@@ -16,15 +16,20 @@ use crate::machine::{End, Machine};
 use crate::pictures;
 use crate::pictures::dot::Drawing;
 use crate::profiles;
+use crate::program::Program;
 use crate::records::Tag;
 use crate::results;
 use html::escaped;
 use plotter::curves::{self, Chart};
 use steps::Steps;
 
-const PAGE: &str = include_str!("page.html");
-const STYLE: &str = include_str!("page.css");
-const SCRIPT: &str = include_str!("page.js");
+pub const PAGE: &str = include_str!("page.html");
+pub const STYLE: &str = include_str!("page.css");
+pub const SCRIPT: &str = include_str!("page.js");
+/// What a page that is a file by itself may do.
+const POLICY: &str = "default-src 'none'; style-src 'unsafe-inline'; script-src 'unsafe-inline'";
+const KEYS: &str = "Keys: ← → Home End, Space plays";
+const HINT: &str = "Click on an instruction for its tokens, on a curve to go to its step";
 /// No run takes more instructions, nor more inputs: two ports each.
 const MOST_INSTRUCTIONS: usize = 256;
 const MOST_INPUTS: usize = 512;
@@ -37,9 +42,9 @@ pub struct Run<'m> {
     pub end: End,
     /// In words.
     pub order: String,
-    budget: u16,
+    pub budget: u16,
     picks: Vec<u8>,
-    log: Vec<Tag>,
+    pub log: Vec<Tag>,
 }
 
 impl<'m> Run<'m> {
@@ -49,13 +54,19 @@ impl<'m> Run<'m> {
         firing: &Firing,
     ) -> Result<Run<'m>, Failure> {
         let picks = firing.order().picks(machine)?;
-        let (end, log) = machine.run_traced(&picks, firing.budget)?;
-        let order = beginning.order(&firing.order(), &end);
+        let mut run = Run::by_picks(machine, picks, firing.budget)?;
+        run.order = beginning.order(&firing.order(), &run.end);
+        Ok(run)
+    }
+
+    /// A run in an order that has no words yet.
+    pub fn by_picks(machine: &'m Machine, picks: Vec<u8>, budget: u16) -> Result<Run<'m>, Failure> {
+        let (end, log) = machine.run_traced(&picks, budget)?;
         Ok(Run {
             machine,
             end,
-            order,
-            budget: firing.budget,
+            order: String::new(),
+            budget,
             picks,
             log,
         })
@@ -87,65 +98,97 @@ impl<'m> Run<'m> {
         facts
     }
 
-    /// Why it was refused, with the place in the text.
-    fn refusal(&self) -> String {
-        match self.end.answer.word {
-            Word::Refused(_) => {
-                let words = commands::answer(self.machine, &self.end, &self.order);
-                let words = escaped(words.trim_end());
-                let title = "Why, and where in the text";
-                format!("<details id=\"why\"><summary>{title}</summary><pre id=\"refusal\">{words}</pre></details>")
-            }
-            _ => String::new(),
-        }
-    }
-
     fn listing(&self) -> Result<String, Failure> {
         let listing = self.end.text()?;
         Ok(String::from_utf8_lossy(&listing).into_owned())
     }
 }
 
-/// The page of a run.
+/// What a page shows of a run, beside the picture and the curves.
+pub struct Shown {
+    /// The first word of the answer.
+    pub kind: String,
+    pub answer: String,
+    pub facts: Vec<(&'static str, String)>,
+    /// Why it was refused, with the place in the text.
+    pub refusal: Option<String>,
+    pub profile: String,
+    pub left: String,
+    pub listing: String,
+    /// As JSON.
+    pub data: String,
+}
+
+impl Shown {
+    pub fn of(run: &Run, drawing: &Drawing, steps: &Steps) -> Result<Shown, Failure> {
+        let program = run.machine.program;
+        let left = match results::lines(program, &run.end) {
+            lines if lines.is_empty() => "nothing".to_string(),
+            lines => lines.join("\n"),
+        };
+        let profile = match run.machine.start {
+            None => profiles::words(program, &steps.whole, &steps.answer).join("; "),
+            Some(_) => NO_PROFILE.to_string(),
+        };
+        let refusal = match run.end.answer.word {
+            Word::Refused(_) => Some(commands::answer(run.machine, &run.end, &run.order)),
+            _ => None,
+        };
+        let kind = run.end.answer.words();
+        Ok(Shown {
+            kind: kind.split(' ').next().unwrap_or_default().to_string(),
+            answer: results::headline(&run.end, &run.order),
+            facts: run.facts(),
+            refusal: refusal.map(|words| words.trim_end().to_string()),
+            profile,
+            left,
+            listing: run.listing()?,
+            data: data::of(run, drawing, steps)?,
+        })
+    }
+}
+
+/// The page of a run, a file by itself.
 pub fn page(run: &Run) -> Result<String, Failure> {
     let program = run.machine.program;
     let drawing = Drawing::with_ids(program);
     let steps = Steps::new(run.machine)?;
-    let facts = run.facts().into_iter();
-    let facts = facts
-        .map(|(name, words)| format!("<div><dt>{name}</dt><dd>{}</dd></div>", escaped(&words)));
-    let left = match results::lines(program, &run.end) {
-        lines if lines.is_empty() => "nothing".to_string(),
-        lines => lines.join("\n"),
-    };
-    let profile = match run.machine.start {
-        None => profiles::words(program, &steps.whole, &steps.answer).join("; "),
-        Some(_) => NO_PROFILE.to_string(),
-    };
-    let kind = run.end.answer.words();
-    let kind = kind.split(' ').next().unwrap_or_default().to_string();
+    let shown = Shown::of(run, &drawing, &steps)?;
+    let facts = shown.facts.iter();
+    let facts =
+        facts.map(|(name, words)| format!("<div><dt>{name}</dt><dd>{}</dd></div>", escaped(words)));
+    let refusal = shown.refusal.as_deref();
+    let text = escaped(&program.text);
     let parts = [
+        ("head", head()),
         ("label", escaped(&program.label)),
-        ("kind", kind),
-        ("answer", escaped(&results::headline(&run.end, &run.order))),
+        ("kind", shown.kind),
+        ("answer", escaped(&shown.answer)),
         ("facts", facts.collect()),
-        ("refusal", run.refusal()),
-        ("picture", picture(run, &drawing)?),
-        ("profile", escaped(&profile)),
-        ("curves", curves(&steps)?),
-        ("left", escaped(&left)),
-        ("listing", escaped(&run.listing()?)),
-        ("text", escaped(&program.text)),
-        ("data", data::of(run, &drawing, &steps)?),
-        ("style", STYLE.to_string()),
-        ("script", SCRIPT.to_string()),
+        ("refusal", refusal.map_or(String::new(), html::refusal)),
+        ("tools", String::new()),
+        ("keys", KEYS.to_string()),
+        ("editor", String::new()),
+        ("picture", picture(&drawing, program)?),
+        ("hint", HINT.to_string()),
+        ("profile", escaped(&shown.profile)),
+        ("curves", curves(&steps.curves, "step")?),
+        ("left", escaped(&shown.left)),
+        ("listing", escaped(&shown.listing)),
+        ("source", html::source(&text)),
+        ("data", shown.data),
+        ("script", format!("<script>\n{SCRIPT}</script>")),
     ];
     Ok(html::fill(PAGE, &parts))
 }
 
+fn head() -> String {
+    let policy = "<meta http-equiv=\"Content-Security-Policy\" content";
+    format!("{policy}=\"{POLICY}\">\n<style>\n{STYLE}</style>")
+}
+
 /// The graph, unless it is larger than any that is run.
-fn picture(run: &Run, drawing: &Drawing) -> Result<String, Failure> {
-    let program = run.machine.program;
+pub fn picture(drawing: &Drawing, program: &Program) -> Result<String, Failure> {
     let instructions = program.graph.instructions.len();
     if instructions > MOST_INSTRUCTIONS || program.input_count() > MOST_INPUTS {
         let words = "Not drawn: no run takes more than 256 instructions or 512 inputs.";
@@ -158,19 +201,20 @@ fn picture(run: &Run, drawing: &Drawing) -> Result<String, Failure> {
     Ok(svg[start..].to_string())
 }
 
-fn curves(steps: &Steps) -> Result<String, Failure> {
-    if steps.whole.is_empty() {
+/// Curves, whose columns are firings or ideal steps.
+pub fn curves(columns: &curves::Steps, by: &str) -> Result<String, Failure> {
+    if columns.tokens.is_empty() {
         return Ok(String::new());
     }
-    let charts = curves::charts(&steps.curves);
+    let charts = curves::charts(columns);
     let charts = charts.map_err(|error| Failure::Inconsistent(format!("the curves: {error}")))?;
-    Ok(charts.iter().map(figure).collect())
+    Ok(charts.iter().map(|chart| figure(chart, by)).collect())
 }
 
-/// A curve, with the place of its steps for the script to mark one.
-fn figure(chart: &Chart) -> String {
+/// A curve, with the place of its columns for the script to mark one.
+fn figure(chart: &Chart, by: &str) -> String {
     format!(
-        "<figure data-left=\"{}\" data-right=\"{}\" data-top=\"{}\" data-bottom=\"{}\">{}</figure>",
+        "<figure data-by=\"{by}\" data-left=\"{}\" data-right=\"{}\" data-top=\"{}\" data-bottom=\"{}\">{}</figure>",
         chart.across.start, chart.across.end, chart.down.start, chart.down.end, chart.svg
     )
 }

@@ -2,12 +2,34 @@
 // Shows a run firing by firing. Every state is the engine's and stands in the data; nothing is fired here.
 
 const byId = (id) => document.getElementById(id);
-const data = JSON.parse(byId('data').textContent);
-// A refused firing has a position of its own, the last, and the state that it found.
-const last = data.firings.length + (data.refused ? 1 : 0);
+// What is shown, and its last position. A refused firing has a position of its own, the last, and the state that it found.
+let data;
+let last;
 // More rows than anybody reads would make every step slow.
 const MOST_ROWS = 300;
 const MOST_NAMES = 20;
+
+// What a page does that only shows; in the studio more can fire.
+const deeds = {
+  isOpen: () => false,
+  // One more firing, behind the last position.
+  fireNext: () => undefined,
+  // All that is left, which is then played.
+  playRest: () => undefined,
+  press: (id) => choose(id),
+  chip: (number, name) => [`${number} `, ...breakable(name)],
+  // When a position is shown.
+  shown: () => undefined,
+};
+
+function takeData(found) {
+  data = found;
+  last = data.firings.length + (data.refused ? 1 : 0);
+  byId('slider').max = last;
+  keepRoom('tokens', mostTokens());
+  keepRoom('cells', data.cells.length);
+  if (svg) placeSpots();
+}
 
 /* The state at a position. */
 
@@ -101,6 +123,7 @@ function firingWords({ firing, position, refused }) {
   if (firing) return [strong(`Firing ${number} of ${done}: ${firing.name}`), ...breakable(`, ${firing.words}`)];
   if (data.tokens.length === 0) return [nothing()];
   if (data.carriedOn) return [`The saved state, after ${plural(data.before, 'firing')}, before the next`];
+  if (last === 0) return ['The inputs: nothing is fired'];
   return [`The inputs, before the first of ${plural(done, 'firing')}`];
 }
 
@@ -188,7 +211,7 @@ function some(words) {
 function showEnabled({ enabled, next }) {
   const chips = enabled.slice(0, MOST_ROWS).map(({ name }, number) => {
     const item = document.createElement('li');
-    item.append(`${number} `, ...breakable(name));
+    item.append(...deeds.chip(number, name));
     item.classList.toggle('next', Boolean(next) && next.name === name);
     return item;
   });
@@ -200,7 +223,10 @@ function showEnabled({ enabled, next }) {
   byId('enabled-count').textContent = enabled.length === 0
     ? 'Nothing can fire'
     : `${enabled.length} can fire, numbered as picks count them`;
+  const held = byId('enabled').contains(document.activeElement);
   byId('enabled').replaceChildren(...chips);
+  // Who fires by keys goes on from there.
+  if (held) (byId('enabled').querySelector('button') || byId('graph')).focus();
   keepInSight(byId('enabled').parentElement, byId('enabled').querySelector('.next'));
 }
 
@@ -213,10 +239,10 @@ function choose(id) {
   show(position);
 }
 
-// What is written last in an instruction is its name.
+// What is written last in an instruction is its name; a load is called as its cell.
 function nameOf(id) {
-  const texts = byId(id).querySelectorAll('text');
-  return texts.length > 0 ? texts[texts.length - 1].textContent : id;
+  const texts = byId(id) ? [...byId(id).querySelectorAll('text')].reverse() : drawn(id);
+  return texts.length > 0 ? texts[0].textContent : id;
 }
 
 function showTables({ tokens, all, spent, cells }) {
@@ -256,9 +282,32 @@ function keepRoom(id, rows) {
 /* The picture. */
 
 const graph = byId('graph');
-const svg = graph.querySelector('svg');
-const labels = svg ? [...svg.querySelectorAll('.edge text')].map((text) => text.getBBox()) : [];
-const badges = svg && svg.querySelector('.graph').appendChild(svgElement('g', {}));
+let svg = null;
+let labels = [];
+let badges = null;
+// Where the tokens of each arc are shown.
+const spots = new Map();
+
+function takePicture() {
+  svg = graph.querySelector('svg');
+  spots.clear();
+  if (!svg) return;
+  labels = [...svg.querySelectorAll('.edge text')].map((text) => text.getBBox());
+  badges = svg.querySelector('.graph').appendChild(svgElement('g', {}));
+  // Graphviz's own tips say nothing to a reader.
+  svg.querySelectorAll('title').forEach((title) => title.remove());
+  nameLoads();
+  svg.querySelectorAll('.node[id^="instruction-"]').forEach((node) => {
+    node.addEventListener('click', (event) => deeds.press(node.id, event));
+  });
+  placeSpots();
+  fit(SMALLEST);
+}
+
+// Each arc has its spot from the start, whatever way the slider goes.
+function placeSpots() {
+  new Set(data.tokens.map((token) => token.arc)).forEach(spot);
+}
 
 function svgElement(name, attributes) {
   const element = document.createElementNS(svg.namespaceURI, name);
@@ -266,10 +315,16 @@ function svgElement(name, attributes) {
   return element;
 }
 
-// The rows of the table of loads have no ids of their own: each has two numbers, and the words are headings.
+const HEADINGS = ['cell', 'loaded'];
+
+// The rows of the table of loads have no ids of their own: each has a cell or an element, and a value.
 function nameLoads() {
-  const texts = [...svg.querySelectorAll('#loads text')].filter((text) => !isNaN(text.textContent));
-  texts.forEach((text, number) => text.classList.add(`load-${Math.floor(number / 2)}`));
+  const texts = [...svg.querySelectorAll('#loads text')].filter(({ textContent }) => !HEADINGS.includes(textContent));
+  texts.forEach((text, number) => {
+    const id = `load-${Math.floor(number / 2)}`;
+    text.classList.add(id);
+    text.addEventListener('click', (event) => deeds.press(id, event));
+  });
 }
 
 // What is drawn by an id: an instruction, an arc, or the texts of a load.
@@ -304,8 +359,6 @@ function showBadges(tokens) {
   });
   badges.replaceChildren(...[...groups].map(([arc, group]) => badge(spot(arc), group)));
 }
-
-const spots = new Map();
 
 // Where the tokens of an arc are shown: near its middle; at a load, beside its row; else on the instruction itself.
 function spot(id) {
@@ -388,10 +441,20 @@ function fit(smallest) {
 
 /* The curves. */
 
-function showStep({ firing, refused }) {
-  const step = firing ? firing.step : null;
-  byId('step').replaceChildren(...breakable(stepWords(firing, refused)));
-  document.querySelectorAll('figure').forEach((figure) => markStep(figure, step));
+function showStep(state) {
+  byId('step').replaceChildren(...breakable(stepWords(state.firing, state.refused)));
+  document.querySelectorAll('figure').forEach((figure) => markColumn(figure, columnOf(figure, state)));
+}
+
+const isByFiring = (figure) => figure.dataset.by === 'firing';
+
+// The columns of a curve: its firings, and before them the inputs, or its ideal steps.
+const columns = (figure) => (isByFiring(figure) ? data.firings.length + 1 : data.steps.length);
+
+// The column of a position; null where it is in none.
+function columnOf(figure, { firing, position }) {
+  if (isByFiring(figure)) return Math.min(position, data.firings.length);
+  return firing && firing.step !== null ? firing.step - data.firstStep : null;
 }
 
 function stepWords(firing, refused) {
@@ -405,29 +468,37 @@ function stepWords(firing, refused) {
     `${plural(record[1], 'token')} after it, ${record[2]} of them waiting.`;
 }
 
-function markStep(figure, step) {
-  figure.querySelectorAll('.mark').forEach((old) => old.remove());
-  const column = step - data.firstStep;
-  if (step === null || column >= data.steps.length) return;
+function markColumn(figure, column) {
+  figure.querySelectorAll('.mark, .ahead').forEach((old) => old.remove());
+  if (column === null || column >= columns(figure)) return;
+  cover(figure, 'mark', column, 1);
+  // The curve of a run grows along with it.
+  const ahead = columns(figure) - column - 1;
+  if (isByFiring(figure) && ahead > 0) cover(figure, 'ahead', column + 1, ahead);
+}
+
+// Covers some columns of a curve.
+function cover(figure, name, column, count) {
   const [left, right, top, bottom] = ['left', 'right', 'top', 'bottom'].map((side) => Number(figure.dataset[side]));
-  const width = (right - left) / data.steps.length;
+  const width = (right - left) / columns(figure);
   const chart = figure.querySelector('svg');
   const rect = document.createElementNS(chart.namespaceURI, 'rect');
-  const place = { class: 'mark', x: left + width * column, y: top, width, height: bottom - top };
+  const place = { class: name, x: left + width * column, y: top, width: width * count, height: bottom - top };
   Object.entries(place).forEach(([key, value]) => rect.setAttribute(key, value));
   chart.append(rect);
 }
 
-// Goes to the first firing of the step that was clicked on, if this run has one.
-function goToStep(event) {
-  const figure = event.currentTarget;
+// Goes to the firing that was clicked on, or to the first one of the step, if this run has one.
+function goToColumn(event) {
+  const figure = event.target.closest('figure');
+  if (!figure) return;
   const [left, right] = ['left', 'right'].map((side) => Number(figure.dataset[side]));
   const chart = figure.querySelector('svg');
   const box = chart.getBoundingClientRect();
   const x = (event.clientX - box.left) * chart.viewBox.baseVal.width / box.width;
-  const column = Math.floor((x - left) / (right - left) * data.steps.length);
-  const found = data.firings.findIndex(({ step }) => step === column + data.firstStep);
-  if (found >= 0) go(found + 1);
+  const column = Math.floor((x - left) / (right - left) * columns(figure));
+  const found = isByFiring(figure) ? column : data.firings.findIndex(({ step }) => step === column + data.firstStep) + 1;
+  if (found > 0 || isByFiring(figure)) go(found);
 }
 
 /* The slider. */
@@ -443,7 +514,10 @@ function show(wanted) {
   if (svg) showPicture(state);
   showStep(state);
   ['first', 'previous'].forEach((id) => { byId(id).disabled = position === 0; });
-  ['next', 'last'].forEach((id) => { byId(id).disabled = position === last; });
+  byId('next').disabled = position === last && !deeds.isOpen();
+  byId('last').disabled = position === last;
+  byId('play').disabled = last === 0 && !deeds.isOpen();
+  deeds.shown();
   if (position === last) stop();
 }
 
@@ -451,6 +525,11 @@ function show(wanted) {
 function go(wanted) {
   show(wanted);
   history.replaceState(null, '', `#firing=${data.before + position}`);
+}
+
+function forth() {
+  if (position < last) go(position + 1);
+  else deeds.fireNext();
 }
 
 function fromAddress() {
@@ -471,6 +550,7 @@ function stop() {
 
 function play() {
   if (timer !== null) return stop();
+  if (position === last && deeds.isOpen()) return deeds.playRest();
   if (position === last) show(0);
   byId('play').textContent = 'Pause';
   // Nobody can listen to firings at this pace.
@@ -480,15 +560,15 @@ function play() {
 }
 
 const KEYS = {
-  ArrowLeft: () => position - 1,
-  ArrowRight: () => position + 1,
-  Home: () => 0,
-  End: () => last,
+  ArrowLeft: () => go(position - 1),
+  ArrowRight: forth,
+  Home: () => go(0),
+  End: () => go(last),
 };
 
-// The slider and the list of speeds have keys of their own.
+// The slider, the list of speeds and a text have keys of their own.
 function key(event) {
-  const own = event.target.closest('input, select');
+  const own = event.target.closest('input, select, textarea');
   if (own || event.ctrlKey || event.altKey || event.metaKey) return;
   if (event.key === ' ' && !event.target.closest('button, summary')) {
     event.preventDefault();
@@ -496,7 +576,7 @@ function key(event) {
   }
   if (!(event.key in KEYS)) return;
   event.preventDefault();
-  go(KEYS[event.key]());
+  KEYS[event.key]();
 }
 
 // On paper all is open; then what was folded folds again.
@@ -516,44 +596,27 @@ function onClick(actions) {
 }
 
 function start() {
-  byId('slider').max = last;
-  byId('play').disabled = last === 0;
   byId('slider').addEventListener('input', (event) => go(Number(event.target.value)));
   onClick({
     first: () => go(0),
     previous: () => go(position - 1),
-    next: () => go(position + 1),
+    next: forth,
     last: () => go(last),
     play,
     'all-tokens': () => choose(null),
+    smaller: () => svg && setZoom(zoom / 1.25),
+    larger: () => svg && setZoom(zoom * 1.25),
+    fit: () => svg && fit(0),
   });
-  document.querySelectorAll('figure').forEach((figure) => figure.addEventListener('click', goToStep));
+  byId('charts').addEventListener('click', goToColumn);
   window.addEventListener('beforeprint', unfold);
   window.addEventListener('afterprint', fold);
   byId('speed').addEventListener('change', () => { if (timer !== null) { stop(); play(); } });
   document.addEventListener('keydown', key);
   window.addEventListener('hashchange', fromAddress);
-  keepRoom('tokens', mostTokens());
-  keepRoom('cells', data.cells.length);
-  if (svg) startPicture();
+  takeData(JSON.parse(byId('data').textContent));
+  takePicture();
   fromAddress();
-}
-
-function startPicture() {
-  // Graphviz's own tips say nothing to a reader.
-  svg.querySelectorAll('title').forEach((title) => title.remove());
-  nameLoads();
-  svg.querySelectorAll('.node[id^="instruction-"]').forEach((node) => {
-    node.addEventListener('click', () => choose(node.id));
-  });
-  // Each arc has its spot from the start, whatever way the slider goes.
-  new Set(data.tokens.map((token) => token.arc)).forEach(spot);
-  fit(SMALLEST);
-  onClick({
-    smaller: () => setZoom(zoom / 1.25),
-    larger: () => setZoom(zoom * 1.25),
-    fit: () => fit(0),
-  });
 }
 
 start();
