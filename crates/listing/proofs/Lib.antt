@@ -2,8 +2,10 @@
 pub mod Lists
 pub mod Sorting
 pub mod Keys
-pub mod Merging
-pub mod Halves
+pub mod Dealt
+pub mod Tallies
+pub mod Passes
+pub mod Words
 pub mod RecordsAt
 pub mod Answers
 pub mod Laws

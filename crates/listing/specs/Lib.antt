@@ -3,5 +3,6 @@ pub mod Sort
 pub mod Listing
 pub mod Sorted
 pub mod Positions
+pub mod Dealt
 pub mod Demand3
 pub mod SavedOrders
