@@ -48,13 +48,13 @@ fn at_corners(op: Arithmetic, a: Range, b: Range) -> Ranged
     narrowed(low, high)
 }
 
-fn is_single(r: Range) -> bool
+pub fn is_single(r: Range) -> bool
     ensures { λ t. ⌜ t ≡ Ranges.isSingle r ⌝ }
 {
     r.low == r.high
 }
 
-fn may_be_zero(r: Range) -> bool
+pub fn may_be_zero(r: Range) -> bool
     ensures { λ t. ⌜ t ≡ Ranges.mayBeZero r ⌝ }
 {
     r.low <= 0 && 0 <= r.high
@@ -83,7 +83,7 @@ fn equalities(a: Range, b: Range) -> Ranged
     )
 }
 
-fn magnitude(x: i32) -> u32
+pub fn magnitude(x: i32) -> u32
     ensures { λ n. ⌜ n ≡ natAbs x ⌝ }
 {
     if 0 <= x {
