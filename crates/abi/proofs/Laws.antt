@@ -15,7 +15,7 @@ use Rattle.record.specs.Cells as Cells
 use Rattle.record.specs.Widths.{tokenWidth, cellWidth}
 use Rattle.rules.specs.Answer.{Values, numberOf, wordOf, placeIn, valuesOf}
 use Rattle.rules.specs.declared.answer.Refusal.{Refusal}
-use Rattle.rules.specs.declared.answer.Refusal.the-variants.{GraphLength, UnknownOperation, FanOut, BadArc, BadSite, BadInput, BadStore, LedgerFull, SecondToken, NoSuchCell, SecondWrite, OutOfRange, Iteration, TooDeep, NoReturn, ProfileFull, NotLoopFree, NotEnabled, BadBound, BadArray, DamagedState, BadExpression, GraphTooLong}
+use Rattle.rules.specs.declared.answer.Refusal.the-variants.{GraphLength, UnknownOperation, FanOut, BadArc, BadSite, BadInput, BadStore, LedgerFull, SecondToken, NoSuchCell, SecondWrite, OutOfRange, Iteration, TooDeep, NoReturn, ProfileFull, NotLoopFree, NotEnabled, BadBound, BadArray, Undecided, DamagedState, BadExpression, GraphTooLong}
 use Rattle.rules.specs.declared.answer.Outcome.{Outcome}
 use Rattle.rules.specs.declared.answer.Outcome.the-variants.{Completed, Hung, Spent, Refused}
 use Rattle.rules.specs.declared.answer.Answer.{Answer}
@@ -55,6 +55,7 @@ refusal-back NotLoopFree place = refl
 refusal-back NotEnabled place = refl
 refusal-back BadBound place = refl
 refusal-back BadArray place = refl
+refusal-back Undecided place = refl
 refusal-back DamagedState place = refl
 refusal-back BadExpression place = refl
 refusal-back GraphTooLong place = refl
@@ -87,6 +88,7 @@ number-small NotLoopFree = omega arith
 number-small NotEnabled = omega arith
 number-small BadBound = omega arith
 number-small BadArray = omega arith
+number-small Undecided = omega arith
 number-small DamagedState = omega arith
 number-small BadExpression = omega arith
 number-small GraphTooLong = omega arith

@@ -94,6 +94,7 @@ fn refusal_of(word: u64) -> Numbered
         20 => Numbered::One(Refusal::NotEnabled),
         21 => Numbered::One(Refusal::BadBound),
         22 => Numbered::One(Refusal::BadArray),
+        23 => Numbered::One(Refusal::Undecided),
         24 => Numbered::One(Refusal::DamagedState),
         25 => Numbered::One(Refusal::BadExpression),
         26 => Numbered::One(Refusal::GraphTooLong),

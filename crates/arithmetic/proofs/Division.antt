@@ -30,7 +30,7 @@ division (negsuc a) (negsuc b) =
     rw (← negℤ-+ℤ (pos (suc b * (suc a / suc b))) (pos (suc a % suc b)), div-add-mod (suc a) (suc b))
 
 -- the remainder is smaller than the divisor
-remainder-small : (a b : ℤ) → (b ≡ pos 0 → ⊥) → natAbs (remZ a b) < natAbs b
+pub remainder-small : (a b : ℤ) → (b ≡ pos 0 → ⊥) → natAbs (remZ a b) < natAbs b
 remainder-small a (pos zero) h = absurd (h refl)
 remainder-small (pos a) (pos (suc b)) h = mod-lt a (omega arith)
 remainder-small (pos a) (negsuc b) h = mod-lt a (omega arith)
@@ -42,11 +42,11 @@ neg-le zero = record { le = tt }
 neg-le (suc n) = record { le = tt }
 
 -- the remainder has the dividend's sign, or is 0
-remainder-not-negative : (a b : ℤ) → pos 0 ≤ℤ a → pos 0 ≤ℤ remZ a b
+pub remainder-not-negative : (a b : ℤ) → pos 0 ≤ℤ a → pos 0 ≤ℤ remZ a b
 remainder-not-negative (pos a) b h = record { le = le→leb 0 (a % natAbs b) zero-le }
 remainder-not-negative (negsuc a) b h = absurd (h .le)
 
-remainder-not-positive : (a b : ℤ) → a ≤ℤ pos 0 → remZ a b ≤ℤ pos 0
+pub remainder-not-positive : (a b : ℤ) → a ≤ℤ pos 0 → remZ a b ≤ℤ pos 0
 remainder-not-positive (pos a) b h = record { le = le→leb (a % natAbs b) 0 (omega (arith, leb→le a 0 (h .le), mod-le a (natAbs b))) }
 remainder-not-positive (negsuc a) b h = neg-le (suc a % natAbs b)
 

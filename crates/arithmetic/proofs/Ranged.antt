@@ -59,7 +59,7 @@ ne-eqZ (negsuc a) (pos b) h = refl
 ne-eqZ (negsuc a) (negsuc b) h = ne-eqb a b (λ e. h (ap negsuc e))
 
 -- a value that an operation gives fits 32 bits
-ranged-fits : (z v : ℤ) → ranged z ≡ Value v → SFits w32 v
+pub ranged-fits : (z v : ℤ) → ranged z ≡ Value v → SFits w32 v
 unfolding ranged
 ranged-fits z v e = go (ltZ z least) (ltZ most z) refl refl e
   where

@@ -8,10 +8,16 @@ pub enum Computed {
     OutOfRange,
 }
 
+// The values from low to high.
+pub struct Range {
+    pub low: i32,
+    pub high: i32,
+}
+
 const LEAST: i32 = -2147483648;
 
 // A 64-bit result as a 32-bit one, where it fits.
-fn narrowed(z: i64) -> Computed
+pub fn narrowed(z: i64) -> Computed
     ensures { λ r. ⌜ r ≡ ranged z ⌝ }
 {
     if z < -2147483648 {

@@ -92,18 +92,18 @@ sent-arrive g zero j k x a = tt
 sent-arrive g (suc zero) j k x a = (a .0, tt)
 sent-arrive g (suc (suc n)) j k x a = (a .0, (a .1 .0, tt))
 
-low-ports : (g : List Instruction) (n : ℕ) (j k : EffectKey.Key) → All (Arrives g) (keysHeld n j k) → LowPortsBy n j k
+pub low-ports : (g : List Instruction) (n : ℕ) (j k : EffectKey.Key) → All (Arrives g) (keysHeld n j k) → LowPortsBy n j k
 low-ports g zero j k a = tt
 low-ports g (suc zero) j k a = arrives-port g (keyHeld j) (a .0)
 low-ports g (suc (suc n)) j k a = (arrives-port g (keyHeld j) (a .0), arrives-port g (keyHeld k) (a .1 .0))
 
 -- an action's outputs and its cell, as its effect has them
-sent-keys : (P : Key Tag → Type 0) (a : Action) (keys : List (Key Tag)) → AllSent P (actionHeld a keys) → All P keys
+pub sent-keys : (P : Key Tag → Type 0) (a : Action) (keys : List (Key Tag)) → AllSent P (actionHeld a keys) → All P keys
 sent-keys P (Send v) keys h = h
 sent-keys P (Read c) keys h = h
 sent-keys P (Write c v) keys h = h
 
-on-cells : (n : ℕ) (a : Action) (keys : List (Key Tag)) → CellsBelow n (actionHeld a keys) → OnCells n a
+pub on-cells : (n : ℕ) (a : Action) (keys : List (Key Tag)) → CellsBelow n (actionHeld a keys) → OnCells n a
 on-cells n (Send v) keys h = tt
 on-cells n (Read c) keys h = h
 on-cells n (Write c v) keys h = h
@@ -116,7 +116,7 @@ fitting g table cells τ a b x o h =
 -- ---- tokens after a firing
 
 -- each stands at a port of an instruction, and none is dropped
-abbrev Grown : List Instruction → ℕ → Committed → Type 0
+abbrev pub Grown : List Instruction → ℕ → Committed → Type 0
 Grown g n (done us ds) = Arrived g us × (n ≤ length us)
 Grown g n (refused r) = Unit {0}
 
@@ -161,7 +161,7 @@ module _ (g : List Instruction) (ts : List Record.Token) (h : Arrived g ts) (i j
   all-woken (Read c) us b = b
   all-woken (Write c v) us b = all-map P (woken c v) (λ t l. l) us b
 
-  grown : (capacity : ℕ) (cs : List RecordCell.Cell) (x : Action) (o : Outputs) → AllSent (Arrives g) (actionHeld x (keysOf o)) → Grown g (length ts) (committedOf capacity ts cs i j x o)
+  pub grown : (capacity : ℕ) (cs : List RecordCell.Cell) (x : Action) (o : Outputs) → AllSent (Arrives g) (actionHeld x (keysOf o)) → Grown g (length ts) (committedOf capacity ts cs i j x o)
   unfolding committedOf
   grown capacity cs x o a =
       let us = spentAt i j ts in

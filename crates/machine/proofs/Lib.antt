@@ -1,5 +1,5 @@
 -- The theorems (Enabled, Sequences, Ending, Runs, Orders, Reached, Fired, Steps, Replay, Capacity, Agreement, Cut, Saved, Taken, Kept, Refused, Refusals,
--- Bounds, Trees, Choosers, Bounded, Pending), what they are proved from (Lists, Swap, View, Store, Tags, Perm, Sets), and a computed example. Assumes nothing.
+-- Bounds, Trees, Choosers, Bounded, Pending, InStep, Handles), what they are proved from (Lists, Swap, View, Store, Tags, Perm, Sets), and a computed example. Assumes nothing.
 pub mod Lists
 pub mod Swap
 pub mod View
@@ -32,3 +32,5 @@ pub mod Trees
 pub mod Choosers
 pub mod Bounded
 pub mod Pending
+pub mod InStep
+pub mod Handles

@@ -1,5 +1,5 @@
 -- The widths of the records that a user lends, in bytes: each is one number, here, and `WIDTH` of its module in the code. So are the offsets that more than a codec uses. Assumes nothing.
-use Prim.Native.Nat.{ℕ}
+use Prim.Native.Nat.{ℕ, _+_}
 
 -- 01, "Graph records": "records of 16 bytes"
 abbrev pub graphWidth : ℕ
@@ -39,3 +39,10 @@ termWidth = 8
 -- the values of an expression's variables: 32 signed bits, as in a token
 abbrev pub valueWidth : ℕ
 valueWidth = 4
+
+-- 02, R-11: "the high in 4 further bytes at its end", of a token and of a cell
+abbrev pub rangeTokenWidth : ℕ
+rangeTokenWidth = tokenWidth + 4
+
+abbrev pub rangeCellWidth : ℕ
+rangeCellWidth = cellWidth + 4

@@ -140,20 +140,26 @@ module _ (g : List Instruction) (table : List NamedArray) (capacity cells : ℕ)
     all-different d ts (λ k l. neither (standsAt (getD ts k d .tag) (getD ts k d .port) t) _ (h (suc k) (omega arith)) .1),
   )
 
+  -- by the check for 9
+  pub inputs-distinct : (ts : List Token) → inTurn (λ i t. demand (not (secondInput (take i ts) t)) Refusals.SecondToken i) 0 ts ≡ Passed → Distinct M (map tokenHeld ts)
+  unfolding secondInput
+  inputs-distinct ts e = all-different d ts (λ k h.
+      let at = turn-passed (λ i t. demand (not (secondInput (take i ts) t)) Refusals.SecondToken i) d 0 ts e k h in
+      not-true _ (subst (λ (m : ℕ). not (secondInput (take m ts) (getD ts k d)) ≡ true) (zero-add k) (demand-passed (not (secondInput (take (0 + k) ts) (getD ts k d))) Refusals.SecondToken (0 + k) at)))
+    where
+      d : Token
+      d = Tokens.decode []
+
   -- ---- a start
 
   pub start : (inputs : List ℕ) → checkInputs g capacity inputs ≡ Passed → Start M (firstState inputs cells)
-  unfolding checkInputs secondInput firstState
+  unfolding checkInputs firstState
   start inputs e =
       let ts = allRows tokenWidth Tokens.decode inputs in
-      let d = Tokens.decode [] in
       let parts = andThen-passed (inTurn (λ k good. demand good Refusals.BadInput k) 0 (allRows tokenWidth (goodInput g) inputs)) _ e in
       let later = andThen-passed (demand (leb (length ts) capacity) Refusals.LedgerFull capacity) _ (parts .1) in
-      let apart : (k : ℕ) → k < length ts → Alone (take k ts) (getD ts k d) = λ k h.
-      let at = turn-passed (λ i t. demand (not (secondInput (take i ts) t)) Refusals.SecondToken i) d 0 ts (later .1) k h in
-      not-true _ (subst (λ (m : ℕ). not (secondInput (take m ts) (getD ts k d)) ≡ true) (zero-add k) (demand-passed (not (secondInput (take (0 + k) ts) (getD ts k d))) Refusals.SecondToken (0 + k) at)) in
       record {
-        distinct = all-different d ts apart;
+        distinct = inputs-distinct ts (later .1);
         room = rw (length-map ts tokenHeld) (leb-true (length ts) capacity (demand-passed (leb (length ts) capacity) Refusals.LedgerFull capacity (later .0)));
         allLive = inputs-live (length inputs / tokenWidth) 0 inputs (parts .0);
         absentCells = refl;

@@ -33,13 +33,13 @@ use Rattle.machine.specs.Machine.{Key, refuse, send, read, write}
 use Rattle.machine.specs.Orders.{CellsBelow, ReadsForSome, Lawful}
 use Rattle.rules.specs.declared.answer.Refusal.the-variants as Refusals
 use Rattle.rules.specs.declared.answer.Checked.the-variants.{Passed}
-use Rattle.rules.specs.Check.{demand, _andThen_, inTurn, fanOutAllowed, unusedAreZero, checkRecord, checkGraph, instructionAt}
-use Rattle.rules.specs.InstructionSet.{EffectHere, keyUnder, allUnder, sendComputed, sendNext, sendEntered, sendReturned, returnOf, sendLeft, onCell, cellNumber, effectOf, effectIn, machineOf}
+use Rattle.rules.specs.Check.{demand, inTurn, fanOutAllowed, unusedAreZero, checkRecord, checkGraph, instructionAt}
+use Rattle.rules.specs.InstructionSet.{EffectOver, keyUnder, allUnder, sendComputed, sendNext, sendEntered, sendReturned, returnOf, sendLeft, onCell, cellNumber, effectOf, effectIn, machineOf}
 use Rattle.rules.proofs.Passed.{both, demand-passed, andThen-passed, turn-passed, getD-past}
 
 -- ---- what holds of every row of the table
 
-abbrev Holds : (Row → Bool) → List Row → Type 0
+abbrev pub Holds : (Row → Bool) → List Row → Type 0
 Holds p [] = Unit {0}
 Holds p (r ∷ rs) = (p r ≡ true) × Holds p rs
 
@@ -52,7 +52,7 @@ looked-up p (r ∷ rs) n h e = go (eqb n (r .code)) (looked-up p rs n (h .1) e)
     go false k = k
 
 -- FETCH alone reads
-abbrev reads : Operation → Bool
+abbrev pub reads : Operation → Bool
 reads Operations.Copy = false
 reads Operations.Sink = false
 reads Operations.Out = false
@@ -68,20 +68,24 @@ reads (Operations.OnTwo o) = false
 reads (Operations.OnConstant o) = false
 reads Operations.Unknown = false
 
-readsForOne : Row → Bool
-readsForOne r = cond (reads (r .operation)) (leb 1 (r .leastFanOut)) true
+-- operations of this kind have a destination at least
+abbrev pub SendForOne : (Operation → Bool) → Row → Bool
+SendForOne kind r = cond (kind (r .operation)) (leb 1 (r .leastFanOut)) true
 
-reader-sends : (n : ℕ) → readsForOne (rowOf n) ≡ true
-unfolding rowOf readsForOne
-reader-sends n =
-    looked-up readsForOne Graph.table n
-    (refl, (refl, (refl, (refl, (refl, (refl, (refl, (refl, (refl, (refl, (refl, (refl, (refl, (refl, (refl, (refl, (refl, (refl, (refl, (refl, (refl, (refl, (refl, (refl, (refl, (refl, (refl, tt)))))))))))))))))))))))))))
-    refl
+pub record ForOne (kind : Operation → Bool) : Type 0 where
+  pub rows : Holds (SendForOne kind) Graph.table
+  pub unknown : kind Operations.Unknown ≡ false
+
+readers-for-one : ForOne reads
+readers-for-one = record {
+  rows = (refl, (refl, (refl, (refl, (refl, (refl, (refl, (refl, (refl, (refl, (refl, (refl, (refl, (refl, (refl, (refl, (refl, (refl, (refl, (refl, (refl, (refl, (refl, (refl, (refl, (refl, (refl, tt)))))))))))))))))))))))))));
+  unknown = refl;
+}
 
 -- ---- an effect that neither reads nor writes
 
 -- it is a refusal or a sending
-abbrev Plain : EffectHere → Type 0
+abbrev Plain : {W : Type 0} → EffectOver W → Type 0
 Plain (refuse r) = Unit {0}
 Plain (send v keys) = Unit {0}
 Plain (read c keys) = ⊥
@@ -92,42 +96,51 @@ unfolding sendComputed
 computed-plain (Value v) keys = tt
 computed-plain OutOfRange keys = tt
 
-next-plain : (n : Next) (r : Instruction) (v : ℤ) → Plain (sendNext n r v)
+next-plain : {W : Type 0} (n : Next) (r : Instruction) (v : W) → Plain (sendNext n r v)
 unfolding sendNext
 next-plain (Is τ) r v = tt
 next-plain Last r v = tt
 
-entered-plain : (e : Entered) (r : Instruction) (v : ℤ) → Plain (sendEntered e r v)
+entered-plain : {W : Type 0} (e : Entered) (r : Instruction) (v : W) → Plain (sendEntered e r v)
 unfolding sendEntered
 entered-plain (In τ) r v = tt
 entered-plain TooDeep r v = tt
 
-cond-plain : (b : Bool) (x y : EffectHere) → Plain x → Plain y → Plain (cond b x y)
+cond-plain : {W : Type 0} (b : Bool) (x y : EffectOver W) → Plain x → Plain y → Plain (cond b x y)
 cond-plain true x y p q = p
 cond-plain false x y p q = q
 
-returned-plain : (g : List Instruction) (i k : ℕ) (τ : Tag) (v : ℤ) → Plain (sendReturned g i k τ v)
+returned-plain : {W : Type 0} (g : List Instruction) (i k : ℕ) (τ : Tag) (v : W) → Plain (sendReturned g i k τ v)
 unfolding sendReturned
 returned-plain g i k τ v = cond-plain (ltb (i + k) (length g)) (send v _) (refuse Refusals.NoReturn) tt tt
 
-left-plain : (g : List Instruction) (l : Left) (r : Instruction) (v : ℤ) → Plain (sendLeft g l r v)
+left-plain : {W : Type 0} (g : List Instruction) (l : Left) (r : Instruction) (v : W) → Plain (sendLeft g l r v)
 unfolding sendLeft
 left-plain g NoCaller r v = tt
 left-plain g (To site τ) r v = returned-plain g (returnOf site g) (natAbs (r .constant)) τ v
 
 -- ---- lawful effects
 
-abbrev LawfulEffect : (cells : ℕ) → EffectHere → Type 0
+abbrev pub LawfulEffect : {W : Type 0} → (cells : ℕ) → EffectOver W → Type 0
 LawfulEffect n e = CellsBelow n e × ReadsForSome e
 
-plain-lawful : (n : ℕ) (e : EffectHere) → Plain e → LawfulEffect n e
+plain-lawful : {W : Type 0} (n : ℕ) (e : EffectOver W) → Plain e → LawfulEffect n e
 plain-lawful n (refuse r) p = (tt, tt)
 plain-lawful n (send v keys) p = (tt, tt)
 plain-lawful n (read c keys) p = absurd p
 plain-lawful n (write c v keys) p = absurd p
 
+pub next-lawful : {W : Type 0} (n : ℕ) (x : Next) (r : Instruction) (v : W) → LawfulEffect n (sendNext x r v)
+next-lawful n x r v = plain-lawful n (sendNext x r v) (next-plain x r v)
+
+pub entered-lawful : {W : Type 0} (n : ℕ) (e : Entered) (r : Instruction) (v : W) → LawfulEffect n (sendEntered e r v)
+entered-lawful n e r v = plain-lawful n (sendEntered e r v) (entered-plain e r v)
+
+pub left-lawful : {W : Type 0} (n : ℕ) (g : List Instruction) (l : Left) (r : Instruction) (v : W) → LawfulEffect n (sendLeft g l r v)
+left-lawful n g l r v = plain-lawful n (sendLeft g l r v) (left-plain g l r v)
+
 -- a cell that an operand names is below the count, or the firing is refused
-on-cell : (cells : ℕ) (a : ℤ) (f : ℕ → EffectHere) → ((c : ℕ) → c < cells → LawfulEffect cells (f c)) → LawfulEffect cells (onCell cells a f)
+pub on-cell : {W : Type 0} (cells : ℕ) (a : ℤ) (f : ℕ → EffectOver W) → ((c : ℕ) → c < cells → LawfulEffect cells (f c)) → LawfulEffect cells (onCell cells a f)
 unfolding onCell
 on-cell cells (negsuc c) f h = (tt, tt)
 on-cell cells (pos c) f h = go (ltb c cells) refl
@@ -145,11 +158,9 @@ operation-lawful Operations.Out g table cells τ r a b keys h = (tt, tt)
 operation-lawful Operations.Const g table cells τ r a b keys h = (tt, tt)
 operation-lawful Operations.Switch g table cells τ r a b keys h = (tt, tt)
 operation-lawful Operations.Gate g table cells τ r a b keys h = (tt, tt)
-operation-lawful Operations.Next g table cells τ r a b keys h = plain-lawful cells (sendNext (nextOf τ) r a) (next-plain (nextOf τ) r a)
-operation-lawful Operations.Enter g table cells τ r a b keys h =
-    let e = enterOf τ (natAbs (r .constant)) in
-    plain-lawful cells (sendEntered e r a) (entered-plain e r a)
-operation-lawful Operations.Leave g table cells τ r a b keys h = plain-lawful cells (sendLeft g (leaveOf τ) r a) (left-plain g (leaveOf τ) r a)
+operation-lawful Operations.Next g table cells τ r a b keys h = next-lawful cells (nextOf τ) r a
+operation-lawful Operations.Enter g table cells τ r a b keys h = entered-lawful cells (enterOf τ (natAbs (r .constant))) r a
+operation-lawful Operations.Leave g table cells τ r a b keys h = left-lawful cells g (leaveOf τ) r a
 operation-lawful Operations.Fetch g table cells τ r a b keys h = on-cell cells (cellNumber table (r .constant) a) (λ c. read c keys) (λ c k. (k, h refl))
 operation-lawful Operations.Store g table cells τ r a b keys h = on-cell cells (cellNumber table (r .constant) a) (λ c. write c b keys) (λ c k. (k, tt))
 operation-lawful (Operations.OnTwo o) g table cells τ r a b keys h = plain-lawful cells (sendComputed (computeOf o a b) keys) (computed-plain (computeOf o a b) keys)
@@ -185,25 +196,32 @@ module _ (graph : List ℕ) (passed : checkGraph graph ≡ Passed) where
       let allowed = both (fanOutAllowed r) (unusedAreZero r) (demand-passed (fanOutAllowed r && unusedAreZero r) Refusals.FanOut i of3) .0 in
       leb-true (row .leastFanOut) (r .fanout) (both (leb (row .leastFanOut) (r .fanout)) (leb (r .fanout) (row .mostFanOut)) allowed .0)
 
-  -- where the operation reads, there is a destination
-  reader-inside : (i : ℕ) (τ : Tag) → i < length (graphOf graph) → reads (operationOf (instructionAt (graphOf graph) i .code)) ≡ true → 0 < length (allUnder τ (instructionAt (graphOf graph) i))
-  unfolding readsForOne
-  reader-inside i τ h e =
-      let r = instructionAt (graphOf graph) i in
-      let least : leb 1 (rowOf (r .code) .leastFanOut) ≡ true = rw e at (reader-sends (r .code)) in
-      rw (length-map (destinations r) (keyUnder τ)) (in-use (r .fanout) (r .first) (r .second) (omega (arith, leb-true 1 (rowOf (r .code) .leastFanOut) least, fan-out-enough i h)))
+  module _ (kind : Operation → Bool) (one : ForOne kind) where
+    kind-sends : (n : ℕ) → SendForOne kind (rowOf n) ≡ true
+    unfolding rowOf
+    kind-sends n = looked-up (SendForOne kind) Graph.table n (one .rows) (rw (one .unknown))
 
-  -- past the graph stands an unknown operation
-  reader-past : (i : ℕ) → length (graphOf graph) ≤ i → reads (operationOf (instructionAt (graphOf graph) i .code)) ≡ false
-  unfolding instructionAt Graph.decode rowOf
-  reader-past i h = ap (λ (r : Instruction). reads (operationOf (r .code))) (getD-past (graphOf graph) i (Graph.decode []) h)
+    kind-inside : (i : ℕ) (τ : Tag) → i < length (graphOf graph) → kind (operationOf (instructionAt (graphOf graph) i .code)) ≡ true → 0 < length (allUnder τ (instructionAt (graphOf graph) i))
+    kind-inside i τ h e =
+        let r = instructionAt (graphOf graph) i in
+        let least : leb 1 (rowOf (r .code) .leastFanOut) ≡ true = rw e at (kind-sends (r .code)) in
+        rw (length-map (destinations r) (keyUnder τ)) (in-use (r .fanout) (r .first) (r .second) (omega (arith, leb-true 1 (rowOf (r .code) .leastFanOut) least, fan-out-enough i h)))
 
-  reader-has-key : (i : ℕ) (τ : Tag) → reads (operationOf (instructionAt (graphOf graph) i .code)) ≡ true → 0 < length (allUnder τ (instructionAt (graphOf graph) i))
-  reader-has-key i τ e = go (decLe (suc i) (length (graphOf graph)))
-    where
-      go : Dec (suc i ≤ length (graphOf graph)) → 0 < length (allUnder τ (instructionAt (graphOf graph) i))
-      go (yes h) = reader-inside i τ h e
-      go (no n) = let z : true ≡ false = sym e ∙ reader-past i (omega arith) in let y : _≡_ {A = ℕ} 0 1 = cc in absurd (omega arith)
+    -- past the graph stands an unknown operation
+    kind-past : (i : ℕ) → length (graphOf graph) ≤ i → kind (operationOf (instructionAt (graphOf graph) i .code)) ≡ false
+    unfolding instructionAt Graph.decode rowOf
+    kind-past i h = ap (λ (r : Instruction). kind (operationOf (r .code))) (getD-past (graphOf graph) i (Graph.decode []) h) ∙ one .unknown
+
+    -- an instruction of the kind has a destination
+    pub kind-has-key : (i : ℕ) (τ : Tag) → kind (operationOf (instructionAt (graphOf graph) i .code)) ≡ true → 0 < length (allUnder τ (instructionAt (graphOf graph) i))
+    kind-has-key i τ e = go (decLe (suc i) (length (graphOf graph)))
+      where
+        go : Dec (suc i ≤ length (graphOf graph)) → 0 < length (allUnder τ (instructionAt (graphOf graph) i))
+        go (yes h) = kind-inside i τ h e
+        go (no n) = let z : true ≡ false = sym e ∙ kind-past i (omega arith) in let y : _≡_ {A = ℕ} 0 1 = cc in absurd (omega arith)
+
+  pub reader-has-key : (i : ℕ) (τ : Tag) → reads (operationOf (instructionAt (graphOf graph) i .code)) ≡ true → 0 < length (allUnder τ (instructionAt (graphOf graph) i))
+  reader-has-key = kind-has-key reads readers-for-one
 
   effect-lawful : (table : List NamedArray) (cells : ℕ) (τ : Tag) (a b : ℤ) → LawfulEffect cells (effectIn (graphOf graph) table cells τ a b)
   unfolding effectIn

@@ -49,3 +49,8 @@ pub mod Held
 pub mod HeldAfter
 pub mod Bounded
 pub mod BoundedCases
+pub mod RangeSet
+pub mod Ranges
+pub mod RangeHandles
+pub mod Singles
+pub mod RangeCases

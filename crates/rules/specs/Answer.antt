@@ -1,7 +1,7 @@
 -- 01, "The answer and the refusals": an answer in this paper's numbers. Assumes nothing.
 use Prim.Native.Nat.{ℕ}
 use Rattle.rules.specs.declared.answer.Refusal.{Refusal}
-use Rattle.rules.specs.declared.answer.Refusal.the-variants.{GraphLength, UnknownOperation, FanOut, BadArc, BadSite, BadInput, BadStore, LedgerFull, SecondToken, NoSuchCell, SecondWrite, OutOfRange, Iteration, TooDeep, NoReturn, ProfileFull, NotLoopFree, NotEnabled, BadBound, BadArray, DamagedState, BadExpression, GraphTooLong}
+use Rattle.rules.specs.declared.answer.Refusal.the-variants.{GraphLength, UnknownOperation, FanOut, BadArc, BadSite, BadInput, BadStore, LedgerFull, SecondToken, NoSuchCell, SecondWrite, OutOfRange, Iteration, TooDeep, NoReturn, ProfileFull, NotLoopFree, NotEnabled, BadBound, BadArray, Undecided, DamagedState, BadExpression, GraphTooLong}
 use Rattle.rules.specs.declared.answer.Outcome.{Outcome}
 use Rattle.rules.specs.declared.answer.Outcome.the-variants.{Completed, Hung, Spent, Refused}
 use Rattle.rules.specs.declared.answer.Answer.{Answer}
@@ -32,6 +32,7 @@ numberOf NotLoopFree = 19
 numberOf NotEnabled = 20
 numberOf BadBound = 21
 numberOf BadArray = 22
+numberOf Undecided = 23
 numberOf DamagedState = 24
 numberOf BadExpression = 25
 numberOf GraphTooLong = 26

@@ -10,6 +10,7 @@ use Rattle.record.specs.Cells as Cells
 use Rattle.record.specs.Logs as Logs
 use Rattle.record.specs.Arrays as Arrays
 use Rattle.arithmetic.specs.Arithmetic.{ranged, divided, computeOf}
+use Rattle.arithmetic.specs.Ranges.{outcome, equalities, remainders, outcomes, rangeOf}
 use Rattle.machine.specs.Machine.{machine}
 use Rattle.rules.specs.Check.{instructionAt, operandsAt, fanOutAllowed, isZero, unusedAreZero, goodArc, within, entersSite, otherReturn, goodSite, checkRecord, checkGraph, checkStores, insideStore, namesGood, checkArrays, goodInput, secondInput, checkInputs, check}
 use Rattle.rules.specs.InstructionSet.{sendComputed, sideOf, sendNext, sendEntered, returnOf, sendReturned, sendLeft, onCell, numberIn, arrayAt, cellNumber, effectOf, effectIn, isResult, arityIn, decideTag}
@@ -23,7 +24,9 @@ use Rattle.machine.specs.Choosers.{runFrom, logFrom}
 use Rattle.rules.specs.Held.{standsIn, isPending, holdsBack, heldIn}
 use Rattle.rules.specs.Bounded.{goodBound, andBound, checkBounded, bounded, checkBoundLogged, boundLogged, checkBoundSaved, boundCarried}
 use Rattle.rules.specs.Run.{firstState, picksOf, unlessFailed, result, answer, ledgerAfter, cellsAfter}
+use Rattle.rules.specs.RangeSet.{sendRange, isUndecided, sendSide, onSingle, rangeEffectOf, rangeEffectIn}
+use Rattle.rules.specs.RangeRun.{decodeRange, encodeRange, encodeRangeCell, checkRangeStores, checkRangeInputs, checkRanges, firstRanges, rangesUnlessFailed, rangeResult, rangeAnswer, rangeLedgerAfter, rangeCellsAfter}
 
 unfoldable pub rules : Unit {0}
-unfolding signedOf bitsOf rowOf namesArray usesConstant Graph.decode Graph.encode pathNumber pathWords isRoot samePath contentOf isInput sameTag standsAt Tokens.decode Tokens.encode nextOf enterWithin leaveOf Cells.cellOf Cells.decode Cells.encode Arrays.decode ranged divided computeOf machine instructionAt operandsAt fanOutAllowed isZero unusedAreZero goodArc within entersSite otherReturn goodSite checkRecord checkGraph checkStores insideStore namesGood checkArrays goodInput secondInput checkInputs check sendComputed sideOf sendNext sendEntered returnOf sendReturned sendLeft onCell numberIn arrayAt cellNumber effectOf effectIn isResult arityIn decideWords decidePath decideTag firstState picksOf unlessFailed result answer ledgerAfter cellsAfter profile checkProfileStores checkProfile profileUnlessFailed profiled logOf replay Logs.encode Logs.nameOf namesIn checkLogStores checkLogged logUnlessFailed logged logAfter replayed sendsTo portReached allReached rounds reached firingsOf outputsOf total loopFree checkNeeds needs runFrom logFrom standsIn isPending holdsBack heldIn goodBound andBound checkBounded bounded checkBoundLogged boundLogged checkBoundSaved boundCarried
+unfolding signedOf bitsOf rowOf namesArray usesConstant Graph.decode Graph.encode pathNumber pathWords isRoot samePath contentOf isInput sameTag standsAt Tokens.decode Tokens.encode nextOf enterWithin leaveOf Cells.cellOf Cells.decode Cells.encode Arrays.decode ranged divided computeOf machine instructionAt operandsAt fanOutAllowed isZero unusedAreZero goodArc within entersSite otherReturn goodSite checkRecord checkGraph checkStores insideStore namesGood checkArrays goodInput secondInput checkInputs check sendComputed sideOf sendNext sendEntered returnOf sendReturned sendLeft onCell numberIn arrayAt cellNumber effectOf effectIn isResult arityIn decideWords decidePath decideTag firstState picksOf unlessFailed result answer ledgerAfter cellsAfter profile checkProfileStores checkProfile profileUnlessFailed profiled logOf replay Logs.encode Logs.nameOf namesIn checkLogStores checkLogged logUnlessFailed logged logAfter replayed sendsTo portReached allReached rounds reached firingsOf outputsOf total loopFree checkNeeds needs runFrom logFrom standsIn isPending holdsBack heldIn goodBound andBound checkBounded bounded checkBoundLogged boundLogged checkBoundSaved boundCarried outcome equalities remainders outcomes rangeOf sendRange isUndecided sendSide onSingle rangeEffectOf rangeEffectIn decodeRange encodeRange encodeRangeCell checkRangeStores checkRangeInputs checkRanges firstRanges rangesUnlessFailed rangeResult rangeAnswer rangeLedgerAfter rangeCellsAfter
 rules = tt

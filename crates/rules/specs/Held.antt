@@ -41,15 +41,15 @@ standsIn p τ = standsWithin (suc (pathNumber (τ .path))) p τ
 -- ---- what holds back
 
 -- "a live token that is no result or a deferred one": one that a completed run does not leave
-unfoldable pub isPending : List Instruction → Token Tag ℤ → Bool
+unfoldable pub isPending : {W : Type 0} → List Instruction → Token Tag W → Bool
 isPending g t = not (isProper (arityIn g (t .key .tag)) (t .content))
 
 -- "at an iteration of m - k or less" of the path
-unfoldable pub holdsBack : List Instruction → (bound : ℕ) → Path → (m : ℕ) → Token Tag ℤ → Bool
+unfoldable pub holdsBack : {W : Type 0} → List Instruction → (bound : ℕ) → Path → (m : ℕ) → Token Tag W → Bool
 holdsBack g k p m t = isPending g t && onOption (standsIn p (t .key .tag)) false (λ j. leb (j + k) m)
 
--- NEXT has code 7; bound 0 is none
-unfoldable pub heldIn : List Instruction → (bound : ℕ) → State Tag ℤ → Activity Tag → Bool
+-- NEXT has code 7; bound 0 is none. Whatever stands for a value is not looked at
+unfoldable pub heldIn : {W : Type 0} → List Instruction → (bound : ℕ) → State Tag W → Activity Tag → Bool
 heldIn g k s a =
     leb 1 k
     && (eqb (instructionAt g (a .tag .instruction) .code) 7

@@ -32,8 +32,12 @@ use Rattle.rules.specs.declared.answer.Refusal.{Refusal}
 use Rattle.rules.specs.declared.answer.Refusal.the-variants as Refusals
 use Rattle.rules.specs.Check.{instructionAt, within, entersSite}
 
+-- over whatever stands for a value: tags, keys and refusals 10, 13, 14 and 17 do not look at it
+abbrev pub EffectOver : Type 0 → Type 0
+EffectOver W = Effect Refusal Tag W
+
 abbrev pub EffectHere : Type 0
-EffectHere = Effect Refusal Tag ℤ
+EffectHere = EffectOver ℤ
 
 -- a port of an instruction under a tag's path and iteration
 abbrev pub keyUnder : Tag → Destination → Key Tag
@@ -55,12 +59,12 @@ unfoldable pub sideOf : ℤ → Instruction → Destination
 sideOf control r = cond (eqZ control (pos 0)) (r .second) (r .first)
 
 -- "NEXT adds 1 to the iteration, 255 at most." 13: "NEXT at 255"
-unfoldable pub sendNext : Next → Instruction → ℤ → EffectHere
+unfoldable pub sendNext : {W : Type 0} → Next → Instruction → W → EffectOver W
 sendNext (Is τ) r v = send v (allUnder τ r)
 sendNext Last r v = refuse Refusals.Iteration
 
 -- ENTER "sends its value, one token, to destination 1". 14: "ENTER at four levels", with R-8 of 02 at eight
-unfoldable pub sendEntered : Entered → Instruction → ℤ → EffectHere
+unfoldable pub sendEntered : {W : Type 0} → Entered → Instruction → W → EffectOver W
 sendEntered (In τ) r v = send v (keyUnder τ (r .first) ∷ [])
 sendEntered TooDeep r v = refuse Refusals.TooDeep
 
@@ -72,16 +76,16 @@ returnOf site (r ∷ rs) = cond (entersSite (pos site) r) (r .second .instructio
 
 -- LEAVE "sends its value, under that parent and iteration, to port 0 of return instruction plus its constant".
 -- 17: "return instruction plus constant past the graph"
-unfoldable pub sendReturned : List Instruction → (instruction constant : ℕ) → Tag → ℤ → EffectHere
+unfoldable pub sendReturned : {W : Type 0} → List Instruction → (instruction constant : ℕ) → Tag → W → EffectOver W
 sendReturned g i k τ v = cond (ltb (i + k) (length g)) (send v (record { tag = toOf τ (i + k); port = 0 } ∷ [])) (refuse Refusals.NoReturn)
 
 -- at path 0 LEAVE never fires
-unfoldable pub sendLeft : List Instruction → Left → Instruction → ℤ → EffectHere
+unfoldable pub sendLeft : {W : Type 0} → List Instruction → Left → Instruction → W → EffectOver W
 sendLeft g (To site τ) r v = sendReturned g (returnOf site g) (natAbs (r .constant)) τ v
 sendLeft g NoCaller r v = send v []
 
 -- 10: "cell number outside 0 to count minus 1"
-unfoldable pub onCell : (cells : ℕ) → ℤ → (ℕ → EffectHere) → EffectHere
+unfoldable pub onCell : {W : Type 0} → (cells : ℕ) → ℤ → (ℕ → EffectOver W) → EffectOver W
 onCell cells (pos c) f = cond (ltb c cells) (f c) (refuse Refusals.NoSuchCell)
 onCell cells (negsuc c) f = refuse Refusals.NoSuchCell
 

@@ -28,3 +28,8 @@ pub mod SavedCases
 pub mod Held
 pub mod Bounded
 pub mod BoundedCases
+pub mod RangeSet
+pub mod RangeRun
+pub mod RangeHandles
+pub mod Ranges
+pub mod RangeCases

@@ -27,7 +27,7 @@ use Rattle.record.proofs.Fitting.{bytes-drop, signed-fits, token-fits, cell-fit
 use Rattle.record.specs.Widths.{tokenWidth, cellWidth}
 use Rattle.rules.specs.Answer.{numberOf, placeIn}
 use Rattle.rules.specs.declared.answer.Refusal.{Refusal}
-use Rattle.rules.specs.declared.answer.Refusal.the-variants.{GraphLength, UnknownOperation, FanOut, BadArc, BadSite, BadInput, BadStore, LedgerFull, SecondToken, NoSuchCell, SecondWrite, OutOfRange, Iteration, TooDeep, NoReturn, ProfileFull, NotLoopFree, NotEnabled, BadBound, BadArray, DamagedState, BadExpression, GraphTooLong}
+use Rattle.rules.specs.declared.answer.Refusal.the-variants.{GraphLength, UnknownOperation, FanOut, BadArc, BadSite, BadInput, BadStore, LedgerFull, SecondToken, NoSuchCell, SecondWrite, OutOfRange, Iteration, TooDeep, NoReturn, ProfileFull, NotLoopFree, NotEnabled, BadBound, BadArray, Undecided, DamagedState, BadExpression, GraphTooLong}
 use Rattle.rules.specs.declared.answer.Outcome.{Outcome}
 use Rattle.rules.specs.declared.answer.Outcome.the-variants as Outcomes
 use Rattle.rules.specs.declared.answer.Answer.{Answer}
@@ -85,6 +85,7 @@ number-short NotLoopFree = omega arith
 number-short NotEnabled = omega arith
 number-short BadBound = omega arith
 number-short BadArray = omega arith
+number-short Undecided = omega arith
 number-short DamagedState = omega arith
 number-short BadExpression = omega arith
 number-short GraphTooLong = omega arith

@@ -60,4 +60,5 @@ refusal-of-spec =
     (λ c. rw (c .match .keys21))
     (λ c. rw (c .match .keys22))
     (λ c. rw (c .match .keys23))
+    (λ c. rw (c .match .keys24))
     (λ c. sym (absent refusals (c .before .args .word) (turned (onto refusals []) [] (c .before .args .word) (c .match .rest) tt))))

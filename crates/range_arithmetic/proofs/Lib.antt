@@ -1,0 +1,2 @@
+-- Laws of operations over ranges in code. Assumes nothing.
+pub mod ByZero

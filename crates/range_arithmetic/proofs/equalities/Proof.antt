@@ -1,0 +1,23 @@
+-- `range_arithmetic::equalities` meets its contract. Assumes nothing.
+use mathlib.Core.Path.{_∙_}
+use mir.Syntax.{w64}
+use mir.Val.{SFits}
+use mir.Facts.{toZ-ofZ}
+use borrow.Author.Needs.{needs}
+use Rattle.arithmetic.specs.Ranges.{equalities}
+use Rattle.range_arithmetic.proofs.equalities.Statement.{statement}
+use Rattle.range_arithmetic.proofs.equalities.Tie as tie
+
+pub equalities-spec : {M : Type 1} → statement M
+unfolding equalities
+equalities-spec = tie.close (tie.spec
+    (λ c κs. search needs)
+    (λ c κs. search needs)
+    (λ c κs. search needs)
+    (λ c κs. search needs)
+    (λ c κs. search needs)
+    (λ c.
+    let low : SFits w64 (c .before .before .before .truth .result) = record { sfits = c .before .before .before .truth .ok } in
+    let high : SFits w64 (c .before .truth2 .result) = record { sfits = c .before .truth2 .ok } in
+    c .narrowed .ensures
+    ∙ rw (toZ-ofZ low, toZ-ofZ high, c .before .before .before .truth .ensures, c .before .truth2 .ensures, c .before .before .before .before .surely-equal .ensures, c .before .before .maybe-equal .ensures)))

@@ -1,0 +1,9 @@
+-- The answer of an operation over ranges, as the definitions have it. Assumes nothing.
+use mathlib.Core.Option.{Option, none, some}
+use Rattle.arithmetic.specs.declared.Range.{Range}
+use Rattle.range_arithmetic.specs.declared.Ranged.{Ranged}
+use Rattle.range_arithmetic.specs.declared.Ranged.the-variants.{Between, OutOfRange}
+
+abbrev pub given : Ranged → Option Range
+given (Between r) = some r
+given OutOfRange = none

@@ -1,0 +1,2 @@
+-- What range arithmetic answers. Assumes nothing.
+pub mod Given

@@ -1,0 +1,2 @@
+-- The laws of the operation over handles. Assumes nothing.
+pub mod Laws

@@ -1,0 +1,2 @@
+-- The definitions of the operation over handles. Assumes nothing.
+pub mod Asked

@@ -1,0 +1,2 @@
+-- The laws of the table of ranges. Assumes nothing.
+pub mod Pairs

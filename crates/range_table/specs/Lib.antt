@@ -1,0 +1,2 @@
+-- The definitions of the table of ranges. Assumes nothing.
+pub mod Table
