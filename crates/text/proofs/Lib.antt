@@ -3,6 +3,7 @@ pub mod Decimals
 pub mod Paths
 pub mod Lines
 pub mod Whole
+pub mod Fields
 pub mod Room
 pub mod Laws
 pub mod Examples

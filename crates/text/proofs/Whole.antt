@@ -20,15 +20,15 @@ use Rattle.text.proofs.Lines.{both}
 
 -- ---- which line stands where
 
-map-rows : {A B : Type 0} (f : A → B) (w : ℕ) (dec : List ℕ → A) (n : ℕ) (l : List ℕ) → map f (rows w dec n l) ≡ rows w (λ b. f (dec b)) n l
+pub map-rows : {A B : Type 0} (f : A → B) (w : ℕ) (dec : List ℕ → A) (n : ℕ) (l : List ℕ) → map f (rows w dec n l) ≡ rows w (λ b. f (dec b)) n l
 map-rows f w dec zero l = refl
 map-rows f w dec (suc n) l = rw (map-rows f w dec n (drop w l))
 
-length-cells : (k : ℕ) (xs : List Cell) → length (cellLines k xs) ≡ length xs
+pub length-cells : (k : ℕ) (xs : List Cell) → length (cellLines k xs) ≡ length xs
 length-cells k [] = refl
 length-cells k (x ∷ xs) = ap suc (length-cells (suc k) xs)
 
-cell-line : (k m i : ℕ) (l : List ℕ) → i < m → getD (cellLines k (rows cellWidth Cells.decode m l)) i [] ≡ cellLine (k + i) (Cells.decode (drop (i * cellWidth) l))
+pub cell-line : (k m i : ℕ) (l : List ℕ) → i < m → getD (cellLines k (rows cellWidth Cells.decode m l)) i [] ≡ cellLine (k + i) (Cells.decode (drop (i * cellWidth) l))
 cell-line k zero i l h = absurd (not-suc-le-zero h)
 cell-line k (suc m) zero l h = let e : k ≡ k + 0 = omega arith in rw (zero-mul cellWidth, ← e)
 cell-line k (suc m) (suc i) l h =

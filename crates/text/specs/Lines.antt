@@ -1,9 +1,16 @@
 -- What the contracts of the private functions cite: a text put in place into a buffer, and digits by their number. Assumes nothing.
-use Prim.Native.Nat.{ℕ, zero, suc, _+_, _/_, _%_, _≤_}
+use Prim.Native.Nat.{ℕ, zero, suc, _+_, _*_, _/_, _%_, _≤_, _<_}
+use mathlib.Core.Bool.{cond}
 use mathlib.Core.Path.{_≡_}
-use mathlib.Core.List.{List, [], _∷_, _++_}
-use lib.ListN.{length, take, drop}
-use Rattle.text.specs.Text.{digit}
+use mathlib.Core.List.{List, [], _∷_, _++_, map}
+use lib.ListN.{length, take, drop, getD}
+use lib.Dec.{ltb}
+use Rattle.buffer.specs.Rows.{allRows, joined}
+use Rattle.record.specs.TokensAndTags as Tokens
+use Rattle.record.specs.Cells as Cells
+use Rattle.record.specs.Widths.{tokenWidth, cellWidth}
+use Rattle.record.specs.declared.token.Token.{Token}
+use Rattle.text.specs.Text.{digit, decimal, signedDecimal, line, valueIn, stateWord, tokenLine, cellLines}
 
 -- there is room for a text from `at` on
 pub record RoomFor (out : List ℕ) (at : ℕ) (text : List ℕ) : Type 0 where
@@ -21,7 +28,29 @@ abbrev pub lastDigits : (k n : ℕ) → List ℕ
 lastDigits zero n = []
 lastDigits (suc k) n = lastDigits k (n / 10) ++ digit (n % 10) ∷ []
 
+-- the bytes of two digits of n, or of three, as one number, the first lowest
+abbrev pub packedDigits : ℕ → ℕ
+packedDigits n = cond (ltb n 100) (digit (n / 10) + 256 * digit (n % 10)) (digit (n / 100) + 256 * (digit (n / 10 % 10) + 256 * digit (n % 10)))
+
+-- entry n of a table is so
+pub record Table (t : List ℕ) : Type 0 where
+  pub entry : (n : ℕ) → n < 1000 → getD t n 0 ≡ packedDigits n
+
+-- the line of a token from its iteration on
+abbrev pub restLine : Token → List ℕ
+restLine t = line (decimal (t .tag .iteration) ∷ decimal (t .tag .instruction) ∷ decimal (t .port) ∷ signedDecimal (valueIn (t .content)) ∷ stateWord (t .content) ∷ [])
+
 -- the first fields of a line, each with the space after it
 abbrev pub spaced : List (List ℕ) → List ℕ
 spaced [] = []
 spaced (f ∷ fs) = f ++ 32 ∷ spaced fs
+
+-- lines one after another: those of the tokens of a listing, and those of cells
+abbrev pub textOf : List (List ℕ) → List ℕ
+textOf ls = joined (λ (l : List ℕ). l) ls
+
+abbrev pub tokenLines : (listing : List ℕ) → List (List ℕ)
+tokenLines listing = map tokenLine (allRows tokenWidth Tokens.decode listing)
+
+abbrev pub linesOfCells : (cells : List ℕ) → List (List ℕ)
+linesOfCells cells = cellLines 0 (allRows cellWidth Cells.decode cells)

@@ -1,4 +1,5 @@
 // The printed lines of an answer, a listing and cells, in a lent buffer.
+mod digits;
 mod line;
 
 use record::cell;
@@ -7,14 +8,16 @@ use record::token;
 use rules::answer::Answer;
 use rules::answer::Outcome;
 ghost use mathlib.Core.Path.{_≡_};
-ghost use mathlib.Core.Bool.{true};
 ghost use Prim.Native.Nat.{_+_, _/_, _≤_, _<_};
 ghost use mathlib.Core.List.{[], _++_};
 ghost use lib.Dec.{leb};
 ghost use lib.ListN.{length, drop, getD};
-ghost use Rattle.text.specs.Text.{answerLine, lines, printed, printedOf, outAfter};
-ghost use Rattle.text.specs.Lines.{RoomFor, Added};
+ghost use Rattle.text.specs.Text.{answerLine, cellLine, lines, printed, printedOf, outAfter};
+ghost use Rattle.text.specs.Lines.{RoomFor, Added, textOf, tokenLines, linesOfCells};
 ghost use Rattle.text.specs.Room.{mostBytes};
+ghost use mathlib.Core.Bool.{true};
+ghost use Rattle.record.specs.Cells as Cells;
+ghost use Rattle.record.specs.declared.cell.Cell.the-variants.{Absent};
 ghost use Rattle.record.specs.Widths.{tokenWidth, cellWidth};
 
 pub enum Printed {
@@ -59,40 +62,6 @@ fn put_line(
         let k = j - 1 - tokens;
         line::put_cell(out, at, k, cell::cell_at(cells, k))
     }
-}
-
-// Whether line j is that of an absent cell, which is empty.
-fn is_empty(listing: &[u8], cells: &[u8], j: usize) -> bool
-    requires { ⌜ j < 1 + (length (now listing) / tokenWidth + length (now cells) / cellWidth) ⌝ }
-    ensures { λ r. ⌜ ((answer : Answer) → r ≡ true → getD (lines answer (now (listing .entry)) (now (cells .entry))) j [] ≡ []) ⌝ }
-{
-    let tokens = listing.len() / token::WIDTH;
-    if j <= tokens {
-        return false;
-    }
-    match cell::cell_at(cells, j - 1 - tokens) {
-        Cell::Absent => true,
-        Cell::Waiting => false,
-        Cell::Present(_) => false,
-    }
-}
-
-// The same, where most cells are absent: nothing is made ready for an empty line.
-fn put_next(
-    out: &mut [u8],
-    at: usize,
-    answer: Answer,
-    listing: &[u8],
-    cells: &[u8],
-    j: usize,
-) -> usize
-    requires { ⌜ (j < 1 + (length (now listing) / tokenWidth + length (now cells) / cellWidth)) × RoomFor (now out) at (getD (lines answer (now listing) (now cells)) j []) ⌝ }
-    ensures { λ r. ⌜ Added (now (out .entry)) (now (out .exit)) at r (getD (lines answer (now (listing .entry)) (now (cells .entry))) j []) ⌝ }
-{
-    if is_empty(listing, cells, j) {
-        return at;
-    }
-    put_line(out, at, answer, listing, cells, j)
 }
 
 // How long the first line is at most: 20 digits to a number, two to a refusal, one to a place below 10.
@@ -146,19 +115,69 @@ fn fits(answer: Answer, listing: &[u8], cells: &[u8], room: usize) -> bool
     true
 }
 
+// Puts the lines of the tokens of a listing.
+fn put_tokens(out: &mut [u8], from: usize, listing: &[u8]) -> usize
+    requires { ⌜ RoomFor (now out) from (textOf (tokenLines (now listing))) ⌝ }
+    ensures { λ r. ⌜ Added (now (out .entry)) (now (out .exit)) from r (textOf (tokenLines (now (listing .entry)))) ⌝ }
+{
+    let small = digits::small();
+    let n = listing.len() / token::WIDTH;
+    let mut at = from;
+    let mut i = 0;
+    while i < n {
+        let row = buffer::row_at(listing, token::WIDTH, i);
+        at = line::put_record(out, at, &small, row);
+        i += 1;
+    }
+    at
+}
+
+// Whether cell k is absent.
+fn is_absent(cells: &[u8], k: usize) -> bool
+    requires { ⌜ k < length (now cells) / cellWidth ⌝ }
+    ensures { λ r. ⌜ (r ≡ true → Cells.cellAt (now (cells .entry)) k ≡ Absent) ⌝ }
+{
+    match cell::cell_at(cells, k) {
+        Cell::Absent => true,
+        Cell::Waiting => false,
+        Cell::Present(_) => false,
+    }
+}
+
+// Puts the line of cell k. Most cells are absent, and nothing is made ready for them.
+fn put_cell_at(out: &mut [u8], at: usize, cells: &[u8], k: usize) -> usize
+    requires { ⌜ (k < length (now cells) / cellWidth) × RoomFor (now out) at (cellLine k (Cells.cellAt (now cells) k)) ⌝ }
+    ensures { λ r. ⌜ Added (now (out .entry)) (now (out .exit)) at r (cellLine k (Cells.cellAt (now (cells .entry)) k)) ⌝ }
+{
+    if is_absent(cells, k) {
+        return at;
+    }
+    line::put_cell(out, at, k, cell::cell_at(cells, k))
+}
+
+// Puts the lines of the cells.
+fn put_cells(out: &mut [u8], from: usize, cells: &[u8]) -> usize
+    requires { ⌜ RoomFor (now out) from (textOf (linesOfCells (now cells))) ⌝ }
+    ensures { λ r. ⌜ Added (now (out .entry)) (now (out .exit)) from r (textOf (linesOfCells (now (cells .entry)))) ⌝ }
+{
+    let n = cells.len() / cell::WIDTH;
+    let mut at = from;
+    let mut k = 0;
+    while k < n {
+        at = put_cell_at(out, at, cells, k);
+        k += 1;
+    }
+    at
+}
+
 // Writes the text to the start of `out`, line by line in place, and answers how long it is.
 fn write(answer: Answer, listing: &[u8], cells: &[u8], out: &mut [u8]) -> usize
     requires { ⌜ RoomFor (now out) 0 (printed answer (now listing) (now cells)) ⌝ }
     ensures { λ r. ⌜ Added (now (out .entry)) (now (out .exit)) 0 r (printed answer (now (listing .entry)) (now (cells .entry))) ⌝ }
 {
-    let n = count(listing, cells);
-    let mut at = 0;
-    let mut j = 0;
-    while j < n {
-        at = put_next(out, at, answer, listing, cells, j);
-        j += 1;
-    }
-    at
+    let head = line::put_answer(out, 0, answer);
+    let tokens = put_tokens(out, head, listing);
+    put_cells(out, tokens, cells)
 }
 
 // Prints an answer, the tokens of a listing and the cells that are not absent to the start of `out`.

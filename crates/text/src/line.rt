@@ -1,5 +1,6 @@
 // Printed lines, made in place: each function puts a text into a buffer from `at` on, answers where it
 // ends, and leaves every other byte as it was. It asks for room for just that text.
+use crate::digits;
 use record::cell::Cell;
 use record::tag::Path;
 use record::token::Content;
@@ -11,10 +12,14 @@ ghost use mathlib.Core.Path.{_≡_};
 ghost use Prim.Native.Nat.{_<_, _≤_, _+_, _/_, _%_};
 ghost use mathlib.Core.List.{[], _∷_, _++_};
 ghost use lib.ListN.{length};
+ghost use Rattle.number.specs.Number.{signedOf};
 ghost use Rattle.record.specs.Paths.{pathNumber, pathWords};
+ghost use Rattle.record.specs.Widths.{tokenWidth};
+ghost use Rattle.record.specs.TokensAndTags as Tokens;
+ghost use Rattle.record.specs.TokensAndTags.{contentOf};
 ghost use Rattle.rules.specs.Answer.{placeIn};
 ghost use Rattle.text.specs.Text.{decimal, signedDecimal, stateWord, valueIn, outcomeFields, answerLine, tokenLine, statedLine, cellLine};
-ghost use Rattle.text.specs.Lines.{RoomFor, Added, lastDigits, spaced};
+ghost use Rattle.text.specs.Lines.{RoomFor, Added, lastDigits, spaced, Table, restLine};
 
 fn put_byte(out: &mut [u8], at: usize, b: u8) -> usize
     requires { ⌜ at < length (now out) ⌝ }
@@ -199,6 +204,101 @@ fn put_state(out: &mut [u8], at: usize, content: Content) -> usize
         Content::Spent(_) => put_word(out, at, b"spent", b'\n'),
         Content::Deferred(_) => put_word(out, at, b"deferred", b'\n'),
     }
+}
+
+// Puts a number below 1000 and a space: where it has more than one digit, those of the table.
+fn put_small(out: &mut [u8], at: usize, small: &[u32; 1000], n: usize) -> usize
+    requires { ⌜ (n < 1000) × Table (now small) × RoomFor (now out) at (decimal n ++ 32 ∷ []) ⌝ }
+    ensures { λ r. ⌜ Added (now (out .entry)) (now (out .exit)) at r (decimal n ++ 32 ∷ []) ⌝ }
+{
+    if n < 10 {
+        let k = put_byte(out, at, 48 + n as u8);
+        return put_byte(out, k, b' ');
+    }
+    let w = digits::entry(small, n);
+    let second = put_byte(out, at, (w % 256) as u8);
+    let third = put_byte(out, second, (w / 256 % 256) as u8);
+    if n < 100 {
+        return put_byte(out, third, b' ');
+    }
+    let fourth = put_byte(out, third, (w / 65536 % 256) as u8);
+    put_byte(out, fourth, b' ')
+}
+
+// Puts a number and a space.
+fn put_field(out: &mut [u8], at: usize, small: &[u32; 1000], n: u64) -> usize
+    requires { ⌜ Table (now small) × RoomFor (now out) at (decimal n ++ 32 ∷ []) ⌝ }
+    ensures { λ r. ⌜ Added (now (out .entry)) (now (out .exit)) at r (decimal n ++ 32 ∷ []) ⌝ }
+{
+    if n < 1000 {
+        put_small(out, at, small, n as usize)
+    } else {
+        put_number(out, at, n, b' ')
+    }
+}
+
+// Puts a signed number, which its bits tell, and a space.
+fn put_bits(out: &mut [u8], at: usize, small: &[u32; 1000], bits: u32) -> usize
+    requires { ⌜ Table (now small) × RoomFor (now out) at (signedDecimal (signedOf bits) ++ 32 ∷ []) ⌝ }
+    ensures { λ r. ⌜ Added (now (out .entry)) (now (out .exit)) at r (signedDecimal (signedOf bits) ++ 32 ∷ []) ⌝ }
+{
+    if bits < 2147483648 {
+        put_field(out, at, small, bits as u64)
+    } else {
+        let k = put_byte(out, at, b'-');
+        put_field(out, k, small, 4294967296 - bits as u64)
+    }
+}
+
+// Puts the word of a state, which ends the line of a token.
+fn put_state_of(out: &mut [u8], at: usize, bits: u32, state: u8) -> usize
+    requires { ⌜ RoomFor (now out) at (stateWord (contentOf bits state) ++ 10 ∷ []) ⌝ }
+    ensures { λ r. ⌜ Added (now (out .entry)) (now (out .exit)) at r (stateWord (contentOf bits state) ++ 10 ∷ []) ⌝ }
+{
+    if state == 0 {
+        return put_word(out, at, b"live", b'\n');
+    }
+    if state == 1 {
+        return put_word(out, at, b"spent", b'\n');
+    }
+    put_word(out, at, b"deferred", b'\n')
+}
+
+// Puts the line of the token of the record that s starts with, from its iteration on.
+fn put_rest(out: &mut [u8], at: usize, small: &[u32; 1000], s: &[u8]) -> usize
+    requires { ⌜ (tokenWidth ≤ length (now s)) × Table (now small) × RoomFor (now out) at (restLine (Tokens.decode (now s))) ⌝ }
+    ensures { λ r. ⌜ Added (now (out .entry)) (now (out .exit)) at r (restLine (Tokens.decode (now (s .entry)))) ⌝ }
+{
+    let bits = number::u32_at(s, 20);
+    let iteration = put_small(out, at, small, s[16] as usize);
+    let instruction = put_field(out, iteration, small, number::u16_at(s, 18) as u64);
+    let port = put_small(out, instruction, small, s[17] as usize);
+    let value = put_bits(out, port, small, bits);
+    put_state_of(out, value, bits, s[24])
+}
+
+// Puts a path and a space.
+fn put_path_field(out: &mut [u8], at: usize, small: &[u32; 1000], path: Path) -> usize
+    requires { ⌜ Table (now small) × RoomFor (now out) at (decimal (pathNumber path) ++ 32 ∷ []) ⌝ }
+    ensures { λ r. ⌜ Added (now (out .entry)) (now (out .exit)) at r (decimal (pathNumber path) ++ 32 ∷ []) ⌝ }
+{
+    if path.high == 0 {
+        return put_field(out, at, small, path.low);
+    }
+    put_path(out, at, path, b' ')
+}
+
+// Puts the line of the token of the record that s starts with.
+pub fn put_record(out: &mut [u8], at: usize, small: &[u32; 1000], s: &[u8]) -> usize
+    requires { ⌜ (tokenWidth ≤ length (now s)) × Table (now small) × RoomFor (now out) at (tokenLine (Tokens.decode (now s))) ⌝ }
+    ensures { λ r. ⌜ Added (now (out .entry)) (now (out .exit)) at r (tokenLine (Tokens.decode (now (s .entry)))) ⌝ }
+{
+    let path = Path {
+        low: number::u64_at(s, 0),
+        high: number::u64_at(s, 8),
+    };
+    let rest = put_path_field(out, at, small, path);
+    put_rest(out, rest, small, s)
 }
 
 // Puts the line of a token.

@@ -1,0 +1,45 @@
+-- `text::put_cells` meets its contract. Assumes nothing.
+use borrow.Author.Needs.{needs}
+use native.Mathlib.Omega.{arith}
+use Prim.Native.Nat.{_+_, _-_, _/_, _≤_, _<_}
+use mathlib.Core.Path.{_≡_}
+use lib.ListN.{length, length-drop}
+use Rattle.record.specs.Widths.{tokenWidth, cellWidth}
+use Rattle.text.specs.Lines.{Added, tokenLines, linesOfCells}
+use Rattle.text.proofs.Lines.{added-none}
+use Rattle.text.proofs.Whole.{made, made-all}
+use Rattle.text.proofs.Fields.{count-tokens, token-at, count-cells, cell-at, line-room, line-made}
+use Rattle.text.proofs.put_cells.Statement.{statement}
+use Rattle.text.proofs.put_cells.Tie as tie
+
+abbrev Inv-loop : tie.InvT-loop
+Inv-loop out₀ from cells n at₀ k₀ out at k = (k ≤ length cells / cellWidth) × Added out₀ out from at (made (linesOfCells cells) k)
+
+abbrev μ-loop : tie.MeasureT-loop
+μ-loop out₀ from cells n at₀ k₀ out at k = length cells / cellWidth - k
+
+pub put-cells-spec : {M : Type 1} → statement M
+put-cells-spec =
+    tie.close
+    (tie.spec
+    Inv-loop
+    μ-loop
+    (λ c. (omega arith, added-none (c .before .before .args .out .now) (c .before .before .args .from)))
+    (λ c κs.
+    let s = c .before .before .before .before .before in
+    let l = c .before .before .loop in
+    let g = s .args .cells .now in
+    let h : l .k < length g / cellWidth = omega arith in
+    let lt : l .k < length (linesOfCells g) = omega (arith, count-cells g) in
+    (h, rw (cell-at g (l .k) h) at (line-room (linesOfCells g) (l .k) lt (l .inv .1) (s .pre))))
+    (λ c. omega arith)
+    (λ c. omega arith)
+    (λ c.
+    let s = c .before .before .before .before .before .before .before .before in
+    let l = c .before .before .before .before .before .loop in
+    let g = s .args .cells .now in
+    let h : l .k < length g / cellWidth = omega arith in
+    let lt : l .k < length (linesOfCells g) = omega (arith, count-cells g) in
+    (omega arith, line-made (linesOfCells g) (l .k) lt (l .inv .1) (rw (cell-at g (l .k) h) (c .before .before .put-cell-at .ensures))))
+    (λ c. c .before .loop .inv .1 .kept)
+    (λ c. let l = c .before .loop in let g = c .before .before .before .before .args .cells .now in rw (made-all (linesOfCells g) (l .k) (omega (arith, count-cells g))) at (l .inv .1)))
