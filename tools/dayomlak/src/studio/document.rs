@@ -92,11 +92,10 @@ impl Document {
             true => text.replace('\n', "\r\n"),
             false => text.to_string(),
         };
+        // What could not be opened again is not written.
+        let version = Version::of(&self.label, bytes.clone().into_bytes())?;
         self.target.write(bytes.as_bytes())?;
-        Ok(Saved::Written(Version::of(
-            &self.label,
-            bytes.into_bytes(),
-        )?))
+        Ok(Saved::Written(version))
     }
 
     pub fn is_there(&self) -> bool {
