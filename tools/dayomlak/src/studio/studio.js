@@ -82,7 +82,8 @@ function takeRun(run) {
   byId('answer').className = run.kind;
   byId('why').hidden = run.refusal === '';
   ['refusal', 'profile', 'left', 'listing'].forEach((id) => { byId(id).textContent = run[id]; });
-  byId('results').textContent = run.kind === 'open' ? '' : some(run.left.split('\n')).join(' · ');
+  const isEnded = ['completed', 'hung'].includes(run.kind);
+  byId('results').textContent = isEnded ? some(run.left.split('\n')).join(' · ') : '';
   byId('facts').replaceChildren(...run.facts.map(fact));
   byId('charts').replaceChildren(...new DOMParser().parseFromString(run.curves, 'text/html').body.childNodes);
   if (run.verdict) byId('verdict').textContent = run.verdict;
