@@ -521,6 +521,18 @@ fn a_new_file() {
     assert_eq!(studio.text(), "new\n");
 }
 
+/// What a link leads to is written, and the link stays.
+#[test]
+fn a_link_stays() {
+    let folder = Folder::new();
+    let (file, link) = (folder.write("open.ttda", TEXT), folder.path("link.ttda"));
+    std::os::unix::fs::symlink(&file, &link).unwrap();
+    let studio = Studio::of(folder, &link);
+    assert_eq!(save_rightly(&studio, &studio.known()), 200);
+    assert_eq!(studio.text(), "new\n");
+    assert_eq!(fs::read_link(&link).unwrap().to_str(), Some(file.as_str()));
+}
+
 /// Numbers for the fuzzer (splitmix64).
 struct Random(u64);
 

@@ -2,7 +2,7 @@
 
 use std::fs;
 use std::io::ErrorKind;
-use std::path::{Path, PathBuf};
+use std::path::PathBuf;
 use std::sync::{Mutex, PoisonError};
 
 use plotter::Fingerprint;
@@ -99,7 +99,7 @@ impl Document {
     }
 
     pub fn is_there(&self) -> bool {
-        Path::new(&self.path).exists()
+        self.path.exists()
     }
 }
 
