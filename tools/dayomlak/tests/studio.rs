@@ -7,7 +7,7 @@ use std::collections::BTreeMap;
 use std::fs;
 use std::io::{BufRead, BufReader, Read, Write};
 use std::net::{Shutdown, TcpStream};
-use std::process::{Child, Stdio};
+use std::process::{Child, Command, Stdio};
 
 use common::{command, dayomlak, Folder};
 
@@ -38,11 +38,13 @@ impl Studio {
     }
 
     fn of(folder: Folder, file: &str) -> Studio {
-        let mut child = command(&folder, &["studio", file])
-            .stdout(Stdio::piped())
-            .stderr(Stdio::piped())
-            .spawn()
-            .unwrap();
+        let command = command(&folder, &["studio", file]);
+        Studio::started(command, folder)
+    }
+
+    fn started(mut command: Command, folder: Folder) -> Studio {
+        command.stdout(Stdio::piped()).stderr(Stdio::piped());
+        let mut child = command.spawn().unwrap();
         let mut line = String::new();
         let mut out = BufReader::new(child.stdout.take().unwrap());
         out.read_line(&mut line).unwrap();
@@ -200,6 +202,24 @@ fn runs_and_pictures() {
     assert_eq!(studio.text(), TEXT);
 }
 
+/// Without Graphviz all else goes on.
+#[test]
+fn without_a_picture() {
+    let folder = Folder::new();
+    let file = folder.write("open.ttda", TEXT);
+    let mut command = command(&folder, &["studio", &file]);
+    command.env("PATH", "");
+    let studio = Studio::started(command, folder);
+    let answer = studio.post("picture", "", TEXT);
+    let words = "{\"picture\":\"\\u003cp\\u003edot: Graphviz is not installed";
+    assert!(
+        answer.status == 200 && answer.body.starts_with(words),
+        "{}",
+        answer.body
+    );
+    assert_eq!(studio.post("run", "- stop", TEXT).status, 200);
+}
+
 #[test]
 fn wrong_words() {
     let studio = Studio::new(TEXT.as_bytes());
@@ -235,7 +255,7 @@ fn wrong_words() {
 fn status_of_save(studio: &Studio, line: &str, headers: &[&str]) -> u16 {
     let body = format!("{} without\nlost", studio.known());
     let answer = studio.ask(line, headers, body.as_bytes());
-    assert!(!answer.body.contains("known") && answer.body.len() < 50);
+    assert!(!answer.body.contains("known") && answer.body.len() < 70);
     assert!(!answer.head.contains("Access-Control"), "{line}");
     answer.status
 }
@@ -381,6 +401,12 @@ fn saving() {
     );
     assert_eq!(studio.post("save", "none without", "# again\n").status, 200);
     assert_eq!(studio.text(), "# again\n");
+    // What could not be opened again is not written.
+    let known = studio.known();
+    for text in ["#".repeat(1_000_000), "dayomlak log 1\n".to_string()] {
+        let answer = studio.post("save", &format!("{known} without"), &text);
+        assert_eq!((answer.status, studio.text().as_str()), (500, "# again\n"));
+    }
     // Nothing else is written, nor left.
     let files = fs::read_dir(studio.folder.path("")).unwrap();
     let names: Vec<_> = files.map(|file| file.unwrap().file_name()).collect();
@@ -493,6 +519,18 @@ fn a_new_file() {
     assert!(!studio.folder.exists("open.ttda"));
     assert_eq!(save_rightly(&studio, "none"), 200);
     assert_eq!(studio.text(), "new\n");
+}
+
+/// What a link leads to is written, and the link stays.
+#[test]
+fn a_link_stays() {
+    let folder = Folder::new();
+    let (file, link) = (folder.write("open.ttda", TEXT), folder.path("link.ttda"));
+    std::os::unix::fs::symlink(&file, &link).unwrap();
+    let studio = Studio::of(folder, &link);
+    assert_eq!(save_rightly(&studio, &studio.known()), 200);
+    assert_eq!(studio.text(), "new\n");
+    assert_eq!(fs::read_link(&link).unwrap().to_str(), Some(file.as_str()));
 }
 
 /// Numbers for the fuzzer (splitmix64).

@@ -2,7 +2,7 @@
 
 use std::fs;
 use std::io::ErrorKind;
-use std::path::{Path, PathBuf};
+use std::path::PathBuf;
 use std::sync::{Mutex, PoisonError};
 
 use plotter::Fingerprint;
@@ -92,15 +92,14 @@ impl Document {
             true => text.replace('\n', "\r\n"),
             false => text.to_string(),
         };
+        // What could not be opened again is not written.
+        let version = Version::of(&self.label, bytes.clone().into_bytes())?;
         self.target.write(bytes.as_bytes())?;
-        Ok(Saved::Written(Version::of(
-            &self.label,
-            bytes.into_bytes(),
-        )?))
+        Ok(Saved::Written(version))
     }
 
     pub fn is_there(&self) -> bool {
-        Path::new(&self.path).exists()
+        self.path.exists()
     }
 }
 

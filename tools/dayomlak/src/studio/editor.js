@@ -8,14 +8,15 @@ let typed = '';
 // Of two that begin at one place the first is marked.
 const KINDS = ['error', 'warning', 'also'];
 
+const bySeverity = (a, b) => KINDS.indexOf(a.severity) - KINDS.indexOf(b.severity);
+
 // A line of the text, with the findings that mark a part of it, and what they say behind it.
 function lineOf(text, start, marks) {
   const line = document.createElement('div');
   const end = start + text.length;
-  const here = marks.filter(({ from }) => from >= start && from <= end)
-    .sort((a, b) => a.from - b.from || KINDS.indexOf(a.severity) - KINDS.indexOf(b.severity));
+  const here = marks.filter(({ from }) => from >= start && from <= end);
   let at = start;
-  here.forEach(({ from, to, severity }) => {
+  here.sort((a, b) => a.from - b.from || bySeverity(a, b)).forEach(({ from, to, severity }) => {
     if (from < at) return;
     const part = document.createElement('mark');
     part.className = severity;
@@ -24,14 +25,22 @@ function lineOf(text, start, marks) {
     at = Math.max(from, Math.min(to, end));
   });
   line.append(text.slice(at - start));
-  here.filter(({ words }) => words).forEach(({ words, severity }) => {
+  const said = here.filter(({ words }) => words).sort(bySeverity);
+  if (said.length > 0) line.append(notesOf(said));
+  line.classList.add(...said.map(({ severity }) => severity));
+  return line;
+}
+
+function notesOf(said) {
+  const notes = document.createElement('span');
+  notes.className = 'notes';
+  notes.append(...said.map(({ words, severity }) => {
     const note = document.createElement('span');
     note.className = `note ${severity}`;
     note.textContent = words;
-    line.append(note);
-    line.classList.add(severity);
-  });
-  return line;
+    return note;
+  }));
+  return notes;
 }
 
 function marksOf({ severity, message, at, also }) {

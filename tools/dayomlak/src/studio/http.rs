@@ -229,48 +229,78 @@ mod tests {
         assert_eq!(request.body, b"abc");
     }
 
+    const GET: &str = "GET / HTTP/1.1\r\n";
+
     #[test]
     fn what_is_no_request() {
-        let long = format!("GET / HTTP/1.1\r\nA: {}\r\n\r\n", "x".repeat(MOST_HEAD));
-        let many = format!("GET / HTTP/1.1\r\n{}\r\n", "A: b\r\n".repeat(65));
         for (expected, bytes) in [
             (200, "GET / HTTP/1.1\r\n\r\n"),
             (0, ""),
-            (0, "GET / HTTP/1.1\r\n"),
-            (0, "GET / HTTP/1.1\r\nContent-Length: 3\r\n\r\nab"),
+            (0, GET),
             (400, "GET / HTTP/1.0\r\n\r\n"),
             (400, "GET  / HTTP/1.1\r\n\r\n"),
             (400, "GET /\r\n\r\n"),
             (400, "get / HTTP/1.1\r\n\r\n"),
             (400, "GET http://a/ HTTP/1.1\r\n\r\n"),
-            (400, "GET / HTTP/1.1\r\nA\r\n\r\n"),
-            (400, "GET / HTTP/1.1\r\nA : b\r\n\r\n"),
-            (400, "GET / HTTP/1.1\r\n A: b\r\n\r\n"),
-            (400, "GET / HTTP/1.1\r\nA: b\nC: d\r\n\r\n"),
-            (400, "GET / HTTP/1.1\r\nA: b\rC: d\r\n\r\n"),
-            (400, "GET / HTTP/1.1\r\nA: \u{e9}\r\n\r\n"),
-            (400, "GET / HTTP/1.1\r\nA: \0\r\n\r\n"),
-            (400, "GET / HTTP/1.1\r\nContent-Length: +3\r\n\r\nabc"),
-            (400, "GET / HTTP/1.1\r\nContent-Length: \r\n\r\n"),
-            (
-                400,
-                "GET / HTTP/1.1\r\nContent-Length: 1\r\nContent-Length: 1\r\n\r\na",
-            ),
             (400, "GET / HTTP/1.1\r\n\r\nGET / HTTP/1.1\r\n\r\n"),
-            (413, "GET / HTTP/1.1\r\nContent-Length: 1048577\r\n\r\n"),
-            (
-                413,
-                "GET / HTTP/1.1\r\nContent-Length: 99999999999999999999999\r\n\r\n",
-            ),
-            (
-                501,
-                "GET / HTTP/1.1\r\nTransfer-Encoding: chunked\r\n\r\n0\r\n\r\n",
-            ),
-            (501, "GET / HTTP/1.1\r\nExpect: 100-continue\r\n\r\n"),
-            (431, &long),
-            (400, &many),
         ] {
             assert_eq!(status(bytes.as_bytes()), expected, "{bytes:?}");
+        }
+    }
+
+    #[test]
+    fn headers() {
+        for line in [
+            "A",
+            "A : b",
+            " A: b",
+            ": b",
+            "A: b\nC: d",
+            "A: b\rC: d",
+            "A: \u{e9}",
+            "A: \0",
+        ] {
+            assert_eq!(
+                status(format!("{GET}{line}\r\n\r\n").as_bytes()),
+                400,
+                "{line:?}"
+            );
+        }
+        let many = |count| format!("{GET}{}\r\n", "A: b\r\n".repeat(count));
+        assert_eq!(
+            (status(many(64).as_bytes()), status(many(65).as_bytes())),
+            (200, 400)
+        );
+        let long = |count| format!("{GET}A: {}\r\n\r\n", "x".repeat(count));
+        assert_eq!(
+            (
+                status(long(9000).as_bytes()),
+                status(long(MOST_HEAD).as_bytes())
+            ),
+            (200, 431)
+        );
+    }
+
+    #[test]
+    fn lengths() {
+        for (expected, line) in [
+            (200, "Content-Length: 3"),
+            (0, "Content-Length: 4"),
+            (400, "Content-Length: 2"),
+            (400, "Content-Length: +3"),
+            (400, "Content-Length:"),
+            (400, "Content-Length: 3, 3"),
+            (400, "Content-Length: 3\r\ncontent-length: 3"),
+            (413, "Content-Length: 1048577"),
+            (413, "Content-Length: 99999999999999999999999"),
+            (501, "Transfer-Encoding: chunked"),
+            (501, "Expect: 100-continue"),
+        ] {
+            assert_eq!(
+                status(format!("{GET}{line}\r\n\r\nabc").as_bytes()),
+                expected,
+                "{line:?}"
+            );
         }
     }
 

@@ -16,6 +16,7 @@ use std::sync::{Arc, Mutex, PoisonError};
 use crate::failure::Failure;
 use crate::json::{object, string};
 use crate::machine::Sizes;
+use crate::report::html::escaped;
 use document::{Document, Saved, Version};
 use guard::{Guard, Route};
 use http::{Answer, Request};
@@ -59,30 +60,25 @@ impl Studio {
         };
         match self.served(route, request) {
             Ok(answer) => answer,
-            Err(failure) => {
-                let words = failure.to_string();
-                let words = words.strip_prefix("error: ").unwrap_or(&words);
-                Answer::json(500, object(&[("error", string(words))]))
-            }
+            Err(failure) => Answer::json(500, object(&[("error", string(&words(&failure)))])),
         }
     }
 
     fn served(&self, route: Route, request: &Request) -> Result<Answer, Failure> {
+        let page = |kind, body: String| Ok(Answer::new(200, kind, body));
         match route {
-            Route::Page => {
-                return Ok(Answer::new(
-                    200,
-                    "text/html",
-                    page::html(&self.document.label),
-                ))
-            }
-            Route::Style => return Ok(Answer::new(200, "text/css", page::style())),
-            Route::Script => return Ok(Answer::new(200, "text/javascript", page::script())),
-            _ => {}
+            Route::Page => page("text/html", page::html(&self.document.label)),
+            Route::Style => page("text/css", page::style()),
+            Route::Script => page("text/javascript", page::script()),
+            route => match parts(&request.body) {
+                Some((words, text)) => self.asked(route, words, text),
+                None => Ok(Answer::error(400, "a line and a text are needed")),
+            },
         }
-        let Some((words, text)) = parts(&request.body) else {
-            return Ok(Answer::error(400, "a line and a text are needed"));
-        };
+    }
+
+    /// What the page asks for, by a line of words and a text.
+    fn asked(&self, route: Route, words: &str, text: &str) -> Result<Answer, Failure> {
         match route {
             Route::File => self.file(words),
             Route::Picture => self.picture(text),
@@ -97,13 +93,11 @@ impl Studio {
     /// Whether the file is as the page knows it, or what it has.
     fn file(&self, known: &str) -> Result<Answer, Failure> {
         let now = self.document.now()?;
-        Ok(Answer::json(
-            200,
-            match now.known == known {
-                true => object(&[("known", string(known))]),
-                false => version(&now),
-            },
-        ))
+        let json = match now.known == known {
+            true => object(&[("known", string(known))]),
+            false => version(&now),
+        };
+        Ok(Answer::json(200, json))
     }
 
     fn run(&self, text: &str, wish: &Wish) -> Result<Answer, Failure> {
@@ -117,7 +111,9 @@ impl Studio {
     fn picture(&self, text: &str) -> Result<Answer, Failure> {
         let checked = self.checked(text)?;
         let _turn = self.drawing.lock().unwrap_or_else(PoisonError::into_inner);
-        let svg = checked.picture()?;
+        // Where there is no Graphviz, all else is there without a picture.
+        let drawn = checked.picture();
+        let svg = drawn.unwrap_or_else(|failure| format!("<p>{}</p>", escaped(&words(&failure))));
         Ok(Answer::json(200, object(&[("picture", string(&svg))])))
     }
 
@@ -157,6 +153,11 @@ impl Studio {
 /// The first line of what a page sends, and the text behind it.
 fn parts(body: &[u8]) -> Option<(&str, &str)> {
     std::str::from_utf8(body).ok()?.split_once('\n')
+}
+
+fn words(failure: &Failure) -> String {
+    let words = failure.to_string();
+    words.strip_prefix("error: ").unwrap_or(&words).to_string()
 }
 
 fn version(now: &Version) -> String {

@@ -77,6 +77,9 @@ mod tests {
             .collect();
         assert_eq!(back, many);
         let long = "x".repeat(200);
-        assert_eq!(with_order("", &[long.clone()]), format!("order {long}\n"));
+        assert_eq!(
+            with_order("", std::slice::from_ref(&long)),
+            format!("order {long}\n")
+        );
     }
 }

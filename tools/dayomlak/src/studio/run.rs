@@ -235,11 +235,11 @@ fn verdict(run: &Run, picks: &[u16], seed: u64) -> Result<String, Failure> {
     let verdict = compare::verdict(&kinds, false);
     Ok(match &kinds[..] {
         [both] => format!(
-            "At random ({seed}) as oldest first: {}; {verdict}.",
+            "At random (seed {seed}) and oldest first alike: {}; {verdict}.",
             both.words
         ),
         [oldest, .., other] => format!(
-            "At random ({seed}): {}; oldest first: {}; {verdict}.",
+            "At random (seed {seed}): {}; oldest first: {}; {verdict}.",
             other.words, oldest.words
         ),
         [] => String::new(),
@@ -339,7 +339,7 @@ mod tests {
     #[test]
     fn another_order_and_a_refused_one() {
         let json = run(TEXT, "1 random:3");
-        let words = "At random (3) as oldest first: completed: 3 firings, 5 tokens; \
+        let words = "At random (seed 3) and oldest first alike: completed: 3 firings, 5 tokens; \
             all orders leave the same listing, equal in every byte.";
         assert!(json.contains(words));
         let json = run(

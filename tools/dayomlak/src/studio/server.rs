@@ -13,6 +13,8 @@ use crate::failure::Failure;
 
 /// A browser opens some at once, and holds some open that it may need.
 const MOST_CONNECTIONS: usize = 32;
+/// So many are told that there are too many; the others are closed.
+const MOST_THREADS: usize = 64;
 /// A request that is not there by then is not waited for, nor is a reader of its answer.
 const PATIENCE: Duration = Duration::from_secs(10);
 /// The engine is given as much as in the program's first thread.
@@ -34,6 +36,9 @@ pub fn serve(listener: &TcpListener, studio: Studio) {
             continue;
         };
         let (studio, place) = (studio.clone(), Place::new(&open));
+        if place.number >= MOST_THREADS {
+            continue;
+        }
         let thread = thread::Builder::new().stack_size(STACK);
         // A connection that no thread can be had for is closed.
         let _ = thread.spawn(move || attend(&stream, &studio, &place));
@@ -43,15 +48,15 @@ pub fn serve(listener: &TcpListener, studio: Studio) {
 /// One of the connections that are open.
 struct Place {
     open: Arc<AtomicUsize>,
-    is_free: bool,
+    /// How many were open before it.
+    number: usize,
 }
 
 impl Place {
     fn new(open: &Arc<AtomicUsize>) -> Place {
-        let before = open.fetch_add(1, Ordering::SeqCst);
         Place {
             open: open.clone(),
-            is_free: before < MOST_CONNECTIONS,
+            number: open.fetch_add(1, Ordering::SeqCst),
         }
     }
 }
@@ -68,7 +73,7 @@ fn attend(stream: &TcpStream, studio: &Studio, place: &Place) {
         stream,
         until: Instant::now() + PATIENCE,
     };
-    let answer = match place.is_free {
+    let answer = match place.number < MOST_CONNECTIONS {
         false => Answer::error(503, "too many connections"),
         true => match http::read(&mut limited) {
             Ok(request) => studio.answer(&request),

@@ -24,22 +24,23 @@ const studio = {
 let turn = Promise.resolve();
 
 function inTurn(job) {
-  turn = turn.then(job);
+  turn = turn.then(job).catch((error) => console.error(error));
   return turn;
 }
 
 // Asks the program; null where it does not answer.
 async function ask(route, words, text = '') {
-  try {
-    const request = { method: 'POST', headers: { 'Content-Type': TYPE }, body: `${words}\n${text}` };
-    const response = await fetch(route, request);
-    const answer = await response.json();
-    if (answer.error) say(answer.error, 'error');
-    return { ...answer, status: response.status };
-  } catch {
+  const request = { method: 'POST', headers: { 'Content-Type': TYPE }, body: `${words}\n${text}` };
+  const response = await fetch(route, request).catch(() => null);
+  if (!response) {
     say('The studio has ended: what is typed here is not saved', 'error');
     return null;
   }
+  const body = await response.text();
+  const isJson = response.headers.get('Content-Type').startsWith('application/json');
+  const answer = isJson ? JSON.parse(body) : { error: body.trim() };
+  if (answer.error) say(answer.error, 'error');
+  return { ...answer, status: response.status };
 }
 
 function say(words, kind = '') {
@@ -69,7 +70,6 @@ async function draw(drawing, text) {
   const answer = await ask('picture', '', text);
   const picture = new DOMParser().parseFromString((answer && answer.picture) || '', 'text/html').body;
   graph.replaceChildren(...picture.childNodes);
-  if (answer && answer.error) graph.textContent = answer.error;
   studio.drawing = answer && answer.picture ? drawing : '';
   chosen = null;
   svg = null;
@@ -82,6 +82,8 @@ function takeRun(run) {
   byId('answer').className = run.kind;
   byId('why').hidden = run.refusal === '';
   ['refusal', 'profile', 'left', 'listing'].forEach((id) => { byId(id).textContent = run[id]; });
+  const isEnded = ['completed', 'hung'].includes(run.kind);
+  byId('results').textContent = isEnded ? some(run.left.split('\n')).join(' · ') : '';
   byId('facts').replaceChildren(...run.facts.map(fact));
   byId('charts').replaceChildren(...new DOMParser().parseFromString(run.curves, 'text/html').body.childNodes);
   if (run.verdict) byId('verdict').textContent = run.verdict;
@@ -185,12 +187,17 @@ function showSaved() {
 function save() {
   return inTurn(async () => {
     if (!byId('versions').hidden) return;
-    const text = editor.value;
-    const order = byId('with-order').checked && !isStale() ? `${list(studio.picks)} stop` : 'without';
+    const isWanted = byId('with-order').checked;
+    if (isWanted && isStale()) await check();
+    const [text, isOrdered] = [editor.value, isWanted && !isStale()];
+    const order = isOrdered ? `${list(studio.picks)} stop` : 'without';
     const answer = await ask('save', `${studio.known} ${order}`, text);
     if (!answer || !answer.known) return;
     if (answer.status === 409) offer(answer);
     else written(answer, text);
+    if (answer.status === 200 && isWanted && !isOrdered) {
+      say('Saved without the order, since the text has errors', 'warning');
+    }
   });
 }
 
