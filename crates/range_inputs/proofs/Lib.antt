@@ -1,0 +1,2 @@
+-- The laws of inputs as handles. Assumes nothing.
+pub mod Rows

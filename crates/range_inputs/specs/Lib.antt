@@ -1,0 +1,2 @@
+-- The definitions of inputs as handles. Assumes nothing.
+pub mod Handles

@@ -1,0 +1,2 @@
+-- The laws of what a range run leaves. Assumes nothing.
+pub mod Written

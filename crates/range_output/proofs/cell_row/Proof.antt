@@ -1,0 +1,23 @@
+-- `range_output::cell_row` meets its contract. Assumes nothing.
+use Rattle.number.specs.Number.{bytes32}
+use Rattle.range_output.proofs.Written.{cell-elements}
+use borrow.Author.Needs.{needs}
+use Rattle.range_output.proofs.cell_row.Statement.{statement}
+use Rattle.range_output.proofs.cell_row.Tie as tie
+
+pub cell-row-spec : {M : Type 1} → statement M
+cell-row-spec = tie.close (tie.spec
+    (λ c κs. search needs)
+    (λ c. search needs)
+    (λ c. search needs)
+    (λ c. search needs)
+    (λ c. search needs)
+    (λ c. search needs)
+    (λ c. search needs)
+    (λ c. search needs)
+    (λ c. search needs)
+    (λ c. search needs)
+    (λ c. search needs)
+    (λ c. search needs)
+    (λ c. search needs)
+    (λ c. rw (c .encode .ensures .0) (cell-elements (c .before .args .cell) (bytes32 (c .before .args .high)))))

@@ -1,0 +1,2 @@
+-- The definitions of what a range run leaves. Assumes nothing.
+pub mod Left
