@@ -11,7 +11,7 @@ use Rattle.record.specs.declared.tag.Tag.{Tag}
 use Rattle.record.specs.declared.instruction.Instruction.{Instruction}
 use Rattle.record.specs.TokensAndTags.{tokens, tokenAt}
 use Rattle.record.specs.Widths.{tokenWidth, cellWidth}
-use Rattle.machine.specs.Machine.{Machine, StateOf, State, Activity, Outcome, End, fire, fired, byPicks, runBy, end}
+use Rattle.machine.specs.Machine.{Machine, StateOf, State, Activity, Outcome, End, fire, fired, commit, byPicks, runBy, end}
 use Rattle.machine.specs.Choosers.{takes, Chooser, restsAt, runFrom, logFrom}
 use Rattle.machine.proofs.Choosers.{fromEnds, fromFired, fromRefused, fromZero, logEnds, logFired, logRefused, logZero}
 use Rattle.fire_outputs.proofs.Laws.{rest-on}
@@ -23,7 +23,8 @@ use Rattle.rules.specs.Run.{outcomeOf}
 use Rattle.abstraction.specs.Tables.{Arities, arraysIn}
 use Rattle.fire_outputs.specs.Outputs.{cellsIn}
 use Rattle.fire.proofs.Place.{on-ports}
-use Rattle.fire.specs.Running.{machineFor, stateIn, Running}
+use Rattle.fire.specs.Running.{machineFor, stateIn, Running, asked, askedIn}
+use Rattle.fire.proofs.Effects.{fires-asked}
 use Rattle.ending.specs.Endings.{RestsAs}
 use Rattle.ending.proofs.Laws.{rests-there}
 use Rattle.start.specs.Ended.{EndedAt}
@@ -35,13 +36,13 @@ use Rattle.engine.proofs.Recording.{recorded-none, length-recorded, not
 -- ---- a turn that ends the run
 
 module _ (M : Machine) (c : Chooser M) (b f : ℕ) (s : StateOf M) (o : Outcome (M .Refusal)) where
-  stopped : Stops M s (c f s) o → runFrom M c (suc b) f s ≡ end M o f s
+  stopped : Stops M s (c f s) (asked M s) o → runFrom M c (suc b) f s ≡ end M o f s
   stopped (byChoice e) = fromEnds M c b f s o e
-  stopped (byRefusal a r e h q) = fromRefused M c b f s a e r h ∙ ap (λ (p : Outcome (M .Refusal)). end M p f s) (sym q)
+  stopped (byRefusal a r e h q) = fromRefused M c b f s a e r (fires-asked M s (a .tag) ∙ h) ∙ ap (λ (p : Outcome (M .Refusal)). end M p f s) (sym q)
 
-  logs-none : Stops M s (c f s) o → logFrom M c (suc b) f s ≡ []
+  logs-none : Stops M s (c f s) (asked M s) o → logFrom M c (suc b) f s ≡ []
   logs-none (byChoice e) = logEnds M c b f s o e
-  logs-none (byRefusal a r e h q) = logRefused M c b f s a e r h
+  logs-none (byRefusal a r e h q) = logRefused M c b f s a e r (fires-asked M s (a .tag) ∙ h)
 
 -- a run with no budget left rests alike, whoever chose
 rest-is : (M : Machine) (f : ℕ) (s : StateOf M) → restsAt M f s ≡ runBy M (byPicks M) 0 [] f s
@@ -123,7 +124,7 @@ module _ (g : List Instruction) (order : Order) (source ledger₀ cells₀ : Lis
 
     -- a turn that fired
     module _ (h : firings < budget) {links′ flags′ ledger′ cells′ : List ℕ} {n place : ℕ}
-        (a : Advanced g (chooserFor order source g tables ledger cells firings (stateIn ledger cells used)) place tables links′ flags′ ledger′ cells′ n used ledger cells) where
+        (a : Advanced g (chooserFor order source g tables ledger cells firings (stateIn ledger cells used)) (askedIn g tables ledger cells used) place tables links′ flags′ ledger′ cells′ n used ledger cells) where
       abbrev its : Activity Tag
       its = record { place = place; tag = tokenAt ledger′ place .tag }
 
@@ -131,7 +132,9 @@ module _ (g : List Instruction) (order : Order) (source ledger₀ cells₀ : Lis
       took = as-lent (λ p q. chooserOf order source g (arraysIn tables) p q firings s ≡ takes its) (a .taken)
 
       stepped : fire M₀ s (tokenAt ledger′ place .tag) ≡ fired (stateIn ledger′ cells′ n)
-      stepped = as-lent (λ p q. fire (machineOf g (arraysIn tables) p q) s (tokenAt ledger′ place .tag) ≡ fired (stateIn ledger′ cells′ n)) (a .went .step)
+      stepped =
+          let τ = tokenAt ledger′ place .tag in
+          fires-asked M₀ s τ ∙ as-lent (λ p q. commit (machineOf g (arraysIn tables) p q) s τ (asked (machineOf g (arraysIn tables) p q) s τ) ≡ fired (stateIn ledger′ cells′ n)) (a .went .step)
 
       pub advanced : SoFar g order source ledger₀ cells₀ start budget tables links′ flags′ ledger′ cells′ n (firings + 1)
       advanced =
@@ -162,12 +165,12 @@ module _ (g : List Instruction) (order : Order) (source ledger₀ cells₀ : Lis
     }
 
     stops-there : {o : AnswerOutcome.Outcome} {links′ flags′ ledger′ cells′ : List ℕ}
-        → (a : Halted o g (chooserFor order source g tables ledger cells firings (stateIn ledger cells used)) tables links′ flags′ ledger′ cells′ used ledger cells) → Stops M₀ s (c₀ firings s) (a .outcome)
-    stops-there a = as-lent (λ p q. Stops (machineOf g (arraysIn tables) p q) s (chooserOf order source g (arraysIn tables) p q firings s) (a .outcome)) (a .stops)
+        → (a : Halted o g (chooserFor order source g tables ledger cells firings (stateIn ledger cells used)) (askedIn g tables ledger cells used) tables links′ flags′ ledger′ cells′ used ledger cells) → Stops M₀ s (c₀ firings s) (asked M₀ s) (a .outcome)
+    stops-there a = as-lent (λ p q. Stops (machineOf g (arraysIn tables) p q) s (chooserOf order source g (arraysIn tables) p q firings s) (asked (machineOf g (arraysIn tables) p q) s) (a .outcome)) (a .stops)
 
     -- a turn that ended the run
     pub halted : firings < budget → {o : AnswerOutcome.Outcome} {links′ flags′ ledger′ cells′ : List ℕ}
-        → Halted o g (chooserFor order source g tables ledger cells firings (stateIn ledger cells used)) tables links′ flags′ ledger′ cells′ used ledger cells
+        → Halted o g (chooserFor order source g tables ledger cells firings (stateIn ledger cells used)) (askedIn g tables ledger cells used) tables links′ flags′ ledger′ cells′ used ledger cells
         → Proceeded (endOf order source g tables ledger₀ cells₀ start budget) (record { outcome = o; firings = firings; tokens = used }) g tables links′ flags′ ledger′ cells′ start ledger₀ cells₀
     halted h {o} a = ends-as (a .outcome) o (a .told) (to-do (suc (budget - suc firings)) (omega arith) ∙ stopped M₀ c₀ (budget - suc firings) firings s (a .outcome) (stops-there a)) (a .running) (a .sameLedger) (a .sameCells)
 
@@ -186,7 +189,7 @@ module _ (g : List Instruction) (order : Order) (source ledger₀ cells₀ : Lis
       to-log b τs e h = no .toLog ∙ ap (λ (n : ℕ). no .done ++ logFrom M₀ c₀ n firings s) e ∙ ap (λ (l : List Tag). no .done ++ l) h
 
       pub noted-on : (h : firings < budget) {links′ flags′ ledger′ cells′ : List ℕ} {n place : ℕ}
-          → Advanced g (chooserFor order source g tables ledger cells firings (stateIn ledger cells used)) place tables links′ flags′ ledger′ cells′ n used ledger cells
+          → Advanced g (chooserFor order source g tables ledger cells firings (stateIn ledger cells used)) (askedIn g tables ledger cells used) place tables links′ flags′ ledger′ cells′ n used ledger cells
           → (log′ : List ℕ) → log′ ≡ noted log firings (tokenAt ledger′ place .tag) → Noted g order source tables ledger₀ cells₀ log₀ start budget ledger′ cells′ log′ n (firings + 1)
       noted-on h {ledger′ = ledger′} {cells′ = cells′} {n = n} {place = place} a log′ w =
           let τ = tokenAt ledger′ place .tag in
@@ -206,7 +209,7 @@ module _ (g : List Instruction) (order : Order) (source ledger₀ cells₀ : Lis
       no-more e = no .written ∙ ap (λ (l : List Tag). recorded l log₀) (sym (e ∙ append-nil (no .done)))
 
       pub noted-halted : firings < budget → {o : AnswerOutcome.Outcome} {links′ flags′ ledger′ cells′ : List ℕ}
-          → Halted o g (chooserFor order source g tables ledger cells firings (stateIn ledger cells used)) tables links′ flags′ ledger′ cells′ used ledger cells
+          → Halted o g (chooserFor order source g tables ledger cells firings (stateIn ledger cells used)) (askedIn g tables ledger cells used) tables links′ flags′ ledger′ cells′ used ledger cells
           → log ≡ recorded (firedBy order source g tables ledger₀ cells₀ start budget) log₀
       noted-halted h a = no-more (to-log (suc (budget - suc firings)) [] (omega arith) (logs-none M₀ c₀ (budget - suc firings) firings s (a .outcome) (stops-there a)))
 

@@ -2,13 +2,12 @@
 use Prim.Native.Nat.{ℕ, zero, suc, _<_}
 use mathlib.Core.Path.{_≡_, refl, subst}
 use mathlib.Core.List.{List, [], _∷_, _++_, map}
-use mathlib.Core.Option.{Option, none, some}
 use mathlib.Core.Bool.{Bool, true, false, cond}
 use native.Mathlib.Omega.{arith}
 use lib.ListN.{length, getD, set}
 use Rattle.machine.specs.Machine.{Key, Content, live, Token, Cell, absent, waiting, present, refuse, send, read, write, Machine, fired, notFired}
-use Rattle.machine.specs.Machine.{onOption, fill, cellAt, cellRead, contentRead, ifPresent, changed, output, Operands}
-use Rattle.machine.specs.Machine.{Ledger, StateOf, EffectOf, FiredOf, look, operands, spendAt, anyTaken, exceeds, admit, commit, fire}
+use Rattle.machine.specs.Machine.{fill, cellAt, cellRead, contentRead, ifPresent, changed, output}
+use Rattle.machine.specs.Machine.{Ledger, StateOf, EffectOf, spendAt, anyTaken, exceeds, admit, commit}
 use Rattle.machine.proofs.Sequences.{firedSame, neverFired}
 
 module _ (M : Machine) where
@@ -31,12 +30,12 @@ module _ (M : Machine) where
       go false true h = neverFired M _ x h
       go false false h = subst (Kept s) (firedSame M _ x h) (λ i d k. key-kept f (s .tokens) (map (output c) keys) i d k)
 
-  committed : (s : StateOf M) (τ : M .Tag) (e : EffectOf M) (x : StateOf M) → commit M s τ e ≡ fired x → Kept s x
+  pub keys-kept : (s : StateOf M) (τ : M .Tag) (e : EffectOf M) (x : StateOf M) → commit M s τ e ≡ fired x → Kept s x
   unfolding commit
-  committed s τ (refuse r) x e = neverFired M r x e
-  committed s τ (send v keys) x e = admitted s (spendAt M τ) (s .cells) (live v) keys x e
-  committed s τ (read c keys) x e = admitted s (spendAt M τ) (set (s .cells) c (cellRead (cellAt (s .cells) c))) (contentRead c (cellAt (s .cells) c)) keys x e
-  committed s τ (write c v keys) x e = go (cellAt (s .cells) c) e
+  keys-kept s τ (refuse r) x e = neverFired M r x e
+  keys-kept s τ (send v keys) x e = admitted s (spendAt M τ) (s .cells) (live v) keys x e
+  keys-kept s τ (read c keys) x e = admitted s (spendAt M τ) (set (s .cells) c (cellRead (cellAt (s .cells) c))) (contentRead c (cellAt (s .cells) c)) keys x e
+  keys-kept s τ (write c v keys) x e = go (cellAt (s .cells) c) e
     where
       filled : Key (M .Tag) → Content (M .Value) → Content (M .Value)
       filled k z = fill c v (spendAt M τ k z)
@@ -45,11 +44,3 @@ module _ (M : Machine) where
       go absent h = admitted s filled (set (s .cells) c (present v)) (live (M .signal)) keys x h
       go waiting h = admitted s filled (set (s .cells) c (present v)) (live (M .signal)) keys x h
       go (present w) h = neverFired M _ x h
-
-  pub keys-kept : (s : StateOf M) (τ : M .Tag) (x : StateOf M) → fire M s τ ≡ fired x → Kept s x
-  unfolding fire
-  keys-kept s τ x e = go (operands M (look M s) τ) e
-    where
-      go : (q : Option (Operands (M .Value))) → _≡_ {A = FiredOf M} (onOption q (notFired (M .secondToken)) (λ p. commit M s τ (M .effect τ (p .left) (p .right)))) (fired x) → Kept s x
-      go none h = neverFired M _ x h
-      go (some o) h = committed s τ (M .effect τ (o .left) (o .right)) x h

@@ -13,7 +13,7 @@ use Rattle.record.specs.TokensAndTags.{tokens, tokenAt}
 use Rattle.record.specs.TokensAndTags as Tokens
 use Rattle.record.specs.Widths.{tokenWidth, cellWidth}
 use Rattle.buffer.proofs.Tables.{length-rows, getD-rows}
-use Rattle.machine.specs.Machine.{Key, Token}
+use Rattle.machine.specs.Machine.{Key, Token, Effect}
 use Rattle.machine.specs.Machine as Machines
 use Rattle.machine.specs.Choosers.{Chosen, takes}
 use Rattle.rules.specs.declared.answer.Refusal.{Refusal}
@@ -43,28 +43,28 @@ pub chosen-now : (graph : List ℕ) (order : Order) (source : List ℕ) (f : ℕ
 chosen-now graph order source f r {tables = tables} {ledger = ledger} {cells = cells} said ready now =
     said (graphOf graph) (ready .aritiesRight) (now .arrived) (arraysIn tables) (length ledger / tokenWidth) (length cells / cellWidth) (cellsIn cells)
 
-module _ {g : List Instruction} {chosen : Chosen Refusal Tag} {tables ledger cells : List ℕ} {used : ℕ} where
-  pub turn-ended : {links flags : List ℕ} {o : AnswerOutcome.Outcome} → Ends o chosen → Running g tables links flags ledger cells used → Halted o g chosen tables links flags ledger cells used ledger cells
+module _ {g : List Instruction} {chosen : Chosen Refusal Tag} (asks : Tag → Effect Refusal Tag ℤ) {tables ledger cells : List ℕ} {used : ℕ} where
+  pub turn-ended : {links flags : List ℕ} {o : AnswerOutcome.Outcome} → Ends o chosen → Running g tables links flags ledger cells used → Halted o g chosen asks tables links flags ledger cells used ledger cells
   turn-ended e now = record { outcome = e .outcome; told = e .told; stops = byChoice (e .ended); running = now; sameLedger = refl; sameCells = refl }
 
   module _ {place : ℕ} (t : Takes place chosen tables ledger used) {links′ flags′ ledger′ cells′ : List ℕ} where
-    tag-kept : {n : ℕ} → Went g (tokenAt ledger place .tag) tables links′ flags′ ledger′ cells′ n used ledger cells → tokenAt ledger′ place .tag ≡ tokenAt ledger place .tag
+    tag-kept : {n : ℕ} → Went g (tokenAt ledger place .tag) (asks (tokenAt ledger place .tag)) tables links′ flags′ ledger′ cells′ n used ledger cells → tokenAt ledger′ place .tag ≡ tokenAt ledger place .tag
     tag-kept {n} w =
         let low = t .below in
         sym (held-tag ledger′ n place (omega (arith, w .grown)))
-        ∙ ap (λ (k : Key Tag). k .tag) (keys-kept (machineFor g tables ledger cells) (stateIn ledger cells used) _ _ (w .step) place (tokenHeld noToken)
+        ∙ ap (λ (k : Key Tag). k .tag) (keys-kept (machineFor g tables ledger cells) (stateIn ledger cells used) _ _ _ (w .step) place (tokenHeld noToken)
         (rw (length-map (tokens used ledger) tokenHeld, length-rows tokenWidth Tokens.decode used ledger) low))
         ∙ held-tag ledger used place low
 
-    pub turn-done : {n : ℕ} → Went g (tokenAt ledger place .tag) tables links′ flags′ ledger′ cells′ n used ledger cells → Advanced g chosen place tables links′ flags′ ledger′ cells′ n used ledger cells
+    pub turn-done : {n : ℕ} → Went g (tokenAt ledger place .tag) (asks (tokenAt ledger place .tag)) tables links′ flags′ ledger′ cells′ n used ledger cells → Advanced g chosen asks place tables links′ flags′ ledger′ cells′ n used ledger cells
     turn-done {n} w = record {
       taken = t .taken ∙ (λ i. takes (record { place = place; tag = sym (tag-kept w) i }));
       below = omega (arith, t .below, w .grown);
-      went = subst (λ (τ : Tag). Went g τ tables links′ flags′ ledger′ cells′ n used ledger cells) (sym (tag-kept w)) w;
+      went = subst (λ (τ : Tag). Went g τ (asks τ) tables links′ flags′ ledger′ cells′ n used ledger cells) (sym (tag-kept w)) w;
     }
 
-    pub turn-refused : {r : Refusal} → Stopped r g (tokenAt ledger place .tag) tables links′ flags′ ledger′ cells′ used ledger cells
-        → Halted (Outcomes.Refused r place) g chosen tables links′ flags′ ledger′ cells′ used ledger cells
+    pub turn-refused : {r : Refusal} → Stopped r g (tokenAt ledger place .tag) (asks (tokenAt ledger place .tag)) tables links′ flags′ ledger′ cells′ used ledger cells
+        → Halted (Outcomes.Refused r place) g chosen asks tables links′ flags′ ledger′ cells′ used ledger cells
     turn-refused {r} w = record {
       outcome = Machines.refused r place;
       told = refl;

@@ -14,7 +14,7 @@ use Rattle.record.specs.Logs.{encode}
 use Rattle.record.specs.TokensAndTags.{tokens, tokenAt}
 use Rattle.record.specs.Widths.{tokenWidth, cellWidth, logWidth}
 use Rattle.buffer.specs.Rows.{putRow, writtenOver}
-use Rattle.machine.specs.Machine.{Machine, StateOf, Activity, Outcome, refused, notFired, End, byPicks, fire, end}
+use Rattle.machine.specs.Machine.{Machine, StateOf, EffectOf, Effect, Activity, Outcome, refused, notFired, End, byPicks, commit, end}
 use Rattle.machine.specs.Choosers.{Chosen, takes, ends, Chooser, runFrom, logFrom, byPick, byName, byPlace}
 use Rattle.rules.specs.declared.answer.Refusal.{Refusal}
 use Rattle.rules.specs.declared.answer.Refusal.the-variants.{NotEnabled}
@@ -80,33 +80,33 @@ abbrev pub ChosenAs : Choice → Order → (source : List ℕ) → (f : ℕ) →
 ChosenAs r order source f tables ledger used = (g : List Instruction) → Arities g tables → Arrived g (tokens used ledger) → (table : List NamedArray) (capacity count : ℕ) (cs : List Cell)
     → Chooses r (chooserOf order source g table capacity count f (stateHeld (tokens used ledger) cs)) tables ledger used
 
--- ---- a turn, by what was chosen, whoever chose it
+-- ---- a turn, by what was chosen, whoever chose it; `asks` is what an activity asks for
 
 -- a turn in which the activity at a place fired left n tokens. It has its tag at its place, as before the firing
-pub record Advanced (g : List Instruction) (chosen : Chosen Refusal Tag) (place : ℕ) (tables links flags ledger′ cells′ : List ℕ) (n used : ℕ) (ledger cells : List ℕ) : Type 0 where
+pub record Advanced (g : List Instruction) (chosen : Chosen Refusal Tag) (asks : Tag → Effect Refusal Tag ℤ) (place : ℕ) (tables links flags ledger′ cells′ : List ℕ) (n used : ℕ) (ledger cells : List ℕ) : Type 0 where
   pub taken : chosen ≡ takes (record { place = place; tag = tokenAt ledger′ place .tag })
   pub below : place < n
-  pub went : Went g (tokenAt ledger′ place .tag) tables links flags ledger′ cells′ n used ledger cells
+  pub went : Went g (tokenAt ledger′ place .tag) (asks (tokenAt ledger′ place .tag)) tables links flags ledger′ cells′ n used ledger cells
 
 -- why a turn ends the run: the chooser does, or the activity that it takes is refused
-pub data Stops (M : Machine) (s : StateOf M) (chosen : Chosen (M .Refusal) (M .Tag)) (o : Outcome (M .Refusal)) : Type 0 where
-  byChoice : chosen ≡ ends o → Stops M s chosen o
-  byRefusal : (a : Activity (M .Tag)) (r : M .Refusal) → chosen ≡ takes a → fire M s (a .tag) ≡ notFired r → o ≡ refused r (a .place) → Stops M s chosen o
+pub data Stops (M : Machine) (s : StateOf M) (chosen : Chosen (M .Refusal) (M .Tag)) (asks : M .Tag → EffectOf M) (o : Outcome (M .Refusal)) : Type 0 where
+  byChoice : chosen ≡ ends o → Stops M s chosen asks o
+  byRefusal : (a : Activity (M .Tag)) (r : M .Refusal) → chosen ≡ takes a → commit M s (a .tag) (asks (a .tag)) ≡ notFired r → o ≡ refused r (a .place) → Stops M s chosen asks o
 
 -- a turn that ended the run left ledger and cells as it found them
-pub record Halted (o : AnswerOutcome.Outcome) (g : List Instruction) (chosen : Chosen Refusal Tag) (tables links flags ledger′ cells′ : List ℕ) (used : ℕ) (ledger cells : List ℕ) : Type 0 where
+pub record Halted (o : AnswerOutcome.Outcome) (g : List Instruction) (chosen : Chosen Refusal Tag) (asks : Tag → Effect Refusal Tag ℤ) (tables links flags ledger′ cells′ : List ℕ) (used : ℕ) (ledger cells : List ℕ) : Type 0 where
   pub outcome : Outcome Refusal
   pub told : outcomeOf outcome ≡ o
-  pub stops : Stops (machineFor g tables ledger cells) (stateIn ledger cells used) chosen outcome
+  pub stops : Stops (machineFor g tables ledger cells) (stateIn ledger cells used) chosen asks outcome
   pub running : Running g tables links flags ledger′ cells′ used
   pub sameLedger : ledger′ ≡ ledger
   pub sameCells : cells′ ≡ cells
 
-abbrev pub Turned : Turn → List Instruction → Chosen Refusal Tag → (tables links flags ledger′ cells′ : List ℕ) → (used : ℕ) → (ledger cells : List ℕ) → Type 0
-Turned (Turns.Fired n place) g chosen tables links flags ledger′ cells′ used ledger cells =
-    Advanced g chosen place tables links flags ledger′ cells′ n used ledger cells
-Turned (Turns.Ended o) g chosen tables links flags ledger′ cells′ used ledger cells =
-    Halted o g chosen tables links flags ledger′ cells′ used ledger cells
+abbrev pub Turned : Turn → List Instruction → Chosen Refusal Tag → (asks : Tag → Effect Refusal Tag ℤ) → (tables links flags ledger′ cells′ : List ℕ) → (used : ℕ) → (ledger cells : List ℕ) → Type 0
+Turned (Turns.Fired n place) g chosen asks tables links flags ledger′ cells′ used ledger cells =
+    Advanced g chosen asks place tables links flags ledger′ cells′ n used ledger cells
+Turned (Turns.Ended o) g chosen asks tables links flags ledger′ cells′ used ledger cells =
+    Halted o g chosen asks tables links flags ledger′ cells′ used ledger cells
 
 -- ---- a run
 

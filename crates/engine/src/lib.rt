@@ -32,7 +32,7 @@ ghost use Rattle.rules.specs.Log.{namesIn};
 ghost use Rattle.rules.specs.Saved.{CarriedOn};
 ghost use Rattle.store_enabled.specs.Store.{Known};
 ghost use Rattle.store.specs.Matching.{Matching};
-ghost use Rattle.fire.specs.Running.{stateIn, Prepared, Running};
+ghost use Rattle.fire.specs.Running.{stateIn, askedIn, Prepared, Running};
 ghost use Rattle.start.specs.Begun.{machineLent, Accepted};
 ghost use Rattle.start.specs.Ended.{EndedAt};
 ghost use Rattle.engine.specs.Promise.{lentToRun, leftByRun, RanOn, lentToLogged, leftByLogged, LoggedOn};
@@ -189,7 +189,7 @@ fn take_turn(
     used: usize,
 ) -> Turn
     requires { ⌜ Prepared (now graph) (now tables) × Running (graphOf (now graph)) (now tables) (now links) (now flags) (now ledger) (now cells) used ⌝ }
-    ensures { λ r. ⌜ Turned r (graphOf (now (graph .entry))) (chooserFor order (now (source .entry)) (graphOf (now (graph .entry))) (now (tables .entry)) (now (ledger .entry)) (now (cells .entry)) firings (stateIn (now (ledger .entry)) (now (cells .entry)) used)) (now (tables .entry)) (now (links .exit)) (now (flags .exit)) (now (ledger .exit)) (now (cells .exit)) used (now (ledger .entry)) (now (cells .entry)) ⌝ }
+    ensures { λ r. ⌜ Turned r (graphOf (now (graph .entry))) (chooserFor order (now (source .entry)) (graphOf (now (graph .entry))) (now (tables .entry)) (now (ledger .entry)) (now (cells .entry)) firings (stateIn (now (ledger .entry)) (now (cells .entry)) used)) (askedIn (graphOf (now (graph .entry))) (now (tables .entry)) (now (ledger .entry)) (now (cells .entry)) used) (now (tables .entry)) (now (links .exit)) (now (flags .exit)) (now (ledger .exit)) (now (cells .exit)) used (now (ledger .entry)) (now (cells .entry)) ⌝ }
 {
     let chosen = choose(order, source, firings, tables, links, flags, ledger, used);
     let place = match chosen {

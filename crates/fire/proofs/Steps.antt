@@ -1,8 +1,9 @@
--- A firing, from matching to output, in the terms of the machine: what the code leaves is what the machine's `fire` gives, and what holds between
--- firings holds again. Assumes nothing.
+-- A firing, from matching to output, in the terms of the machine: what the code leaves is what the machine's `commit` of the effect gives, and what holds
+-- between firings holds again. Assumes nothing.
 use Prim.Native.Nat.{ℕ, zero, suc, _+_, _/_, _≤_, _<_}
 use mathlib.Core.Path.{_≡_, refl, sym, ap, _∙_, subst}
 use mathlib.Core.Bool.{Bool, true, false, cond}
+use mathlib.Core.Option.{some}
 use mathlib.Core.List.{List, [], _∷_, _++_, map}
 use native.Mathlib.Omega.{arith}
 use lib.ListN.{length, getD, length-append, length-map, length-set}
@@ -23,9 +24,8 @@ use Rattle.record.specs.Widths.{tokenWidth, cellWidth, graphWidth}
 use Rattle.store_chains.specs.Deferred.{woken}
 use Rattle.store.specs.Matching.{spentToken, Matching}
 use Rattle.store.proofs.Laws.{matching-room, matching-ports, matching-raised}
-use Rattle.machine.specs.Machine.{Key, Machine, State, refuse, fire, fired, notFired, commit}
-use Rattle.machine.specs.Orders.{Good, CellsBelow, outputs}
-use Rattle.machine.proofs.Reached.{reached-good}
+use Rattle.machine.specs.Machine.{Key, Machine, State, Effect, refuse, fired, notFired, look, operands, commit}
+use Rattle.machine.specs.Orders.{Good, CellsBelow, ReadsForSome}
 use Rattle.rules.specs.declared.answer.Refusal.{Refusal}
 use Rattle.rules.specs.declared.answer.Refusal.the-variants.{SecondToken, SecondWrite}
 use Rattle.rules.specs.declared.answer.Checked.the-variants.{Passed}
@@ -55,7 +55,8 @@ use Rattle.fire_commit.specs.declared.Fired.the-variants as Fires
 use Rattle.fire_commit.specs.Commit.{Committed, done, refused, ifAdmitted, committedOf, CommittedTo, Fitting}
 use Rattle.fire_commit.proofs.AsMachine.{firedOf, commit-held}
 use Rattle.fire.proofs.Place.{place-here, operands-here}
-use Rattle.fire.specs.Running.{machineFor, stateIn, Arrived, Running, Went, Stopped, Stepped, Prepared}
+use Rattle.fire.proofs.Effects.{good-committed}
+use Rattle.fire.specs.Running.{machineFor, stateIn, Arrived, Running, asked, askedIn, Went, Stopped, Stepped, Prepared}
 
 -- ---- what holds of a token by its tag and port alone
 
@@ -170,6 +171,14 @@ module _ (g : List Instruction) (ts : List Record.Token) (h : Arrived g ts) (i j
 
 -- ---- a firing
 
+-- an effect is what an action asks for, with these outputs: they arrive, its cell is one of the store, and a read has a key
+pub record Done (g : List Instruction) (cells : ℕ) (x : Action) (o : Outputs) (e : Effect Refusal Tag ℤ) : Type 0 where
+  pub held : actionHeld x (keysOf o) ≡ e
+  pub counted : o .count ≤ 2
+  pub arrives : AllSent (Arrives g) (actionHeld x (keysOf o))
+  pub cellsBelow : CellsBelow cells e
+  pub readsForSome : ReadsForSome e
+
 module _ (graph : List ℕ) (passed : checkGraph graph ≡ Passed) {tables links flags ledger cells : List ℕ} {used : ℕ}
     (now : Running (graphOf graph) tables links flags ledger cells used) (τ : Tag) (few : arityIn (graphOf graph) τ ≤ 2) where
   abbrev g : List Instruction
@@ -182,39 +191,35 @@ module _ (graph : List ℕ) (passed : checkGraph graph ≡ Passed) {tables links
   s = stateIn ledger cells used
 
   -- operands that are missing
-  pub fire-missing : matchedAt (arityIn (graphOf graph) τ) (tokens used ledger) τ ≡ Missing → fire M s τ ≡ notFired SecondToken
-  unfolding fire
-  fire-missing e = rw (held-operands (graphOf graph) (arraysIn tables) (length ledger / tokenWidth) (length cells / cellWidth) (tokens used ledger) (cellsIn cells) τ few ∙ ap valuesOf e)
+  pub asked-missing : matchedAt (arityIn (graphOf graph) τ) (tokens used ledger) τ ≡ Missing → asked M s τ ≡ refuse SecondToken
+  asked-missing e = rw (held-operands (graphOf graph) (arraysIn tables) (length ledger / tokenWidth) (length cells / cellWidth) (tokens used ledger) (cellsIn cells) τ few ∙ ap valuesOf e)
 
   -- operands that matching found
   module _ (i j : ℕ) (v w : ℤ) (matched : matchedAt (arityIn (graphOf graph) τ) (tokens used ledger) τ ≡ Both i j v w) where
     pub places : Places (arityIn (graphOf graph) τ) (tokens used ledger) τ i j v w
     places = matched-places (tokens used ledger) τ (arityIn (graphOf graph) τ) few matched
 
-    fire-found : fire M s τ ≡ commit M s τ (effectIn (graphOf graph) (arraysIn tables) (length cells / cellWidth) τ v w)
-    unfolding fire
-    fire-found = rw (held-operands (graphOf graph) (arraysIn tables) (length ledger / tokenWidth) (length cells / cellWidth) (tokens used ledger) (cellsIn cells) τ few ∙ ap valuesOf matched)
+    there : operands M (look M s) τ ≡ some (record { left = v; right = w })
+    there = held-operands (graphOf graph) (arraysIn tables) (length ledger / tokenWidth) (length cells / cellWidth) (tokens used ledger) (cellsIn cells) τ few ∙ ap valuesOf matched
 
-    -- an effect that is a refusal
-    pub fire-refused : {r : Refusal} → effectIn (graphOf graph) (arraysIn tables) (length cells / cellWidth) τ v w ≡ refuse r → fire M s τ ≡ notFired r
-    unfolding commit
-    fire-refused e = fire-found ∙ ap (commit M s τ) e
+    pub asked-found : asked M s τ ≡ effectIn (graphOf graph) (arraysIn tables) (length cells / cellWidth) τ v w
+    asked-found = rw there
 
-    module _ (x : Action) (o : Outputs) (does : Effected (graphOf graph) (arraysIn tables) (length cells / cellWidth) τ v w x o) where
-      fire-committed : fire M s τ ≡ firedOf (committedOf (length ledger / tokenWidth) (tokens used ledger) (cellsIn cells) i j x o)
-      fire-committed =
-          fire-found
-          ∙ ap (commit M s τ) (sym (does .held))
+    -- an effect that the code's action and outputs are
+    module _ (x : Action) (o : Outputs) (e : Effect Refusal Tag ℤ) (does : Done (graphOf graph) (length cells / cellWidth) x o e) where
+      committed : commit M s τ e ≡ firedOf (committedOf (length ledger / tokenWidth) (tokens used ledger) (cellsIn cells) i j x o)
+      committed =
+          ap (commit M s τ) (sym (does .held))
           ∙ commit-held (graphOf graph) (arraysIn tables) (length ledger / tokenWidth) (length cells / cellWidth) (tokens used ledger) (cellsIn cells) τ i j v w (now .good .distinct) places x o (does .counted)
 
-      good-after : (x : State Tag ℤ) → fire M s τ ≡ fired x → Good M x
-      good-after x f = reached-good M (lawful graph passed (arraysIn tables) (length ledger / tokenWidth) (length cells / cellWidth)) s (now .good) 1 (0 + outputs M s τ) x (s, 0, τ, (refl, refl), f, refl)
+      good-after : (y : State Tag ℤ) → commit M s τ e ≡ fired y → Good M y
+      good-after y f = good-committed M s τ (record { left = v; right = w }) there e (does .cellsBelow) (does .readsForSome) (now .good) y f
 
       module _ (links′ flags′ ledger′ cells′ : List ℕ) where
         -- done: the tokens and cells that it left are those of the machine
-        went : (n : ℕ) (us : List Record.Token) (ds : List RecordCell.Cell) → fire M s τ ≡ fired (stateHeld us ds) → Arrived (graphOf graph) us × (length (tokens used ledger) ≤ length us)
+        went : (n : ℕ) (us : List Record.Token) (ds : List RecordCell.Cell) → commit M s τ e ≡ fired (stateHeld us ds) → Arrived (graphOf graph) us × (length (tokens used ledger) ≤ length us)
             → Kept tables links′ flags′ ledger′ n us ledger → CellsKept cells′ ds cells
-            → Went (graphOf graph) τ tables links′ flags′ ledger′ cells′ n used ledger cells
+            → Went (graphOf graph) τ e tables links′ flags′ ledger′ cells′ n used ledger cells
         went n us ds f a k c =
             let same : stateHeld us ds ≡ stateIn ledger′ cells′ n = λ x. stateHeld (sym (k .held) x) (sym (c .held) x) in
             record {
@@ -236,8 +241,8 @@ module _ (graph : List ℕ) (passed : checkGraph graph ≡ Passed) {tables links
             }
 
         -- refused: ledger and cells are as they were
-        stopped : (r : Refusal) → fire M s τ ≡ notFired r → ledger′ ≡ ledger → cells′ ≡ cells → Matching tables links′ flags′ ledger′ used
-            → Stopped r (graphOf graph) τ tables links′ flags′ ledger′ cells′ used ledger cells
+        stopped : (r : Refusal) → commit M s τ e ≡ notFired r → ledger′ ≡ ledger → cells′ ≡ cells → Matching tables links′ flags′ ledger′ used
+            → Stopped r (graphOf graph) τ e tables links′ flags′ ledger′ cells′ used ledger cells
         stopped r f l c m = record {
           step = f;
           running = record {
@@ -252,12 +257,12 @@ module _ (graph : List ℕ) (passed : checkGraph graph ≡ Passed) {tables links
         }
 
         pub stepped : (r : Fired) → CommittedTo r (committedOf (length ledger / tokenWidth) (tokens used ledger) (cellsIn cells) i j x o) tables links′ flags′ ledger′ cells′ used ledger cells
-            → Stepped r (graphOf graph) τ tables links′ flags′ ledger′ cells′ used ledger cells
-        stepped r h = go r (committedOf (length ledger / tokenWidth) (tokens used ledger) (cellsIn cells) i j x o) fire-committed
+            → Stepped r (graphOf graph) τ e tables links′ flags′ ledger′ cells′ used ledger cells
+        stepped r h = go r (committedOf (length ledger / tokenWidth) (tokens used ledger) (cellsIn cells) i j x o) committed
             (grown (graphOf graph) (tokens used ledger) (now .arrived) i j (length ledger / tokenWidth) (cellsIn cells) x o (does .arrives)) h
           where
-            go : (q : Fired) (x : Committed) → fire M s τ ≡ firedOf x → Grown (graphOf graph) (length (tokens used ledger)) x
-                → CommittedTo q x tables links′ flags′ ledger′ cells′ used ledger cells → Stepped q (graphOf graph) τ tables links′ flags′ ledger′ cells′ used ledger cells
+            go : (q : Fired) (y : Committed) → commit M s τ e ≡ firedOf y → Grown (graphOf graph) (length (tokens used ledger)) y
+                → CommittedTo q y tables links′ flags′ ledger′ cells′ used ledger cells → Stepped q (graphOf graph) τ e tables links′ flags′ ledger′ cells′ used ledger cells
             go (Fires.Done n) (done us ds) f a l = went n us ds f a (l .0) (l .1)
             go (Fires.Done n) (refused q) f a l = absurd l
             go (Fires.Refused q) (done us ds) f a l = absurd l
@@ -307,26 +312,50 @@ module _ (graph : List ℕ) {tables links flags ledger cells : List ℕ} {used :
         store = now .store;
       }
 
+  abbrev M₁ : Machine
+  M₁ = machineFor (graphOf graph) tables ledger cells
+
+  abbrev s₁ : State Tag ℤ
+  s₁ = stateIn ledger cells used
+
+  -- it asks for a refusal: nothing was written
+  asks-refusal : (σ : Tag) {r : Refusal} → asked M₁ s₁ σ ≡ refuse r → Stopped r (graphOf graph) σ (askedIn (graphOf graph) tables ledger cells used σ) tables links flags ledger cells used ledger cells
+  unfolding commit
+  asks-refusal σ e = record { step = ap (commit M₁ s₁ σ) e; running = now; sameLedger = refl; sameCells = refl }
+
+  pub stopped-missing : matchedAt (arityIn (graphOf graph) (tokenAt ledger place .tag)) (tokens used ledger) (tokenAt ledger place .tag) ≡ Missing
+      → Stopped SecondToken (graphOf graph) (tokenAt ledger place .tag) (askedIn (graphOf graph) tables ledger cells used (tokenAt ledger place .tag)) tables links flags ledger cells used ledger cells
+  stopped-missing e = asks-refusal (tokenAt ledger place .tag) (asked-missing graph (ready .passed) now (tokenAt ledger place .tag) (arity-small (graphOf graph) (tokenAt ledger place .tag)) e)
+
   -- the operands that matching found, and the token that the code read at the place
   module _ (t : Record.Token) (same : t ≡ tokenAt ledger place) (i j : ℕ) (v w : ℤ)
       (matched : matchedAt (arityIn (graphOf graph) (tokenAt ledger place .tag)) (tokens used ledger) (tokenAt ledger place .tag) ≡ Both i j v w) where
     abbrev τ : Tag
     τ = tokenAt ledger place .tag
 
-    -- the operation or the new tags are refused: nothing was written
-    pub stopped-here : {r : Refusal} → effectIn (graphOf graph) (arraysIn tables) (length cells / cellWidth) (t .tag) v w ≡ refuse r → Stopped r (graphOf graph) τ tables links flags ledger cells used ledger cells
-    stopped-here e = record {
-      step = fire-refused graph (ready .passed) now τ (arity-small (graphOf graph) τ) i j v w matched (ap (λ (u : Record.Token). effectIn (graphOf graph) (arraysIn tables) (length cells / cellWidth) (u .tag) v w) (sym same) ∙ e);
-      running = now;
-      sameLedger = refl;
-      sameCells = refl;
-    }
+    abbrev its : Effect Refusal Tag ℤ
+    its = askedIn (graphOf graph) tables ledger cells used (tokenAt ledger place .tag)
+
+    found : its ≡ effectIn (graphOf graph) (arraysIn tables) (length cells / cellWidth) τ v w
+    found = asked-found graph (ready .passed) now τ (arity-small (graphOf graph) τ) i j v w matched
+
+    -- the operation or the new tags are refused
+    pub stopped-here : {r : Refusal} → effectIn (graphOf graph) (arraysIn tables) (length cells / cellWidth) (t .tag) v w ≡ refuse r → Stopped r (graphOf graph) τ its tables links flags ledger cells used ledger cells
+    stopped-here e = asks-refusal τ (found ∙ ap (λ (u : Record.Token). effectIn (graphOf graph) (arraysIn tables) (length cells / cellWidth) (u .tag) v w) (sym same) ∙ e)
 
     -- from matching to output
     pub stepped-here : (x : Action) (o : Outputs) → Effected (graphOf graph) (arraysIn tables) (length cells / cellWidth) (t .tag) v w x o
         → (links′ flags′ ledger′ cells′ : List ℕ) (r : Fired)
         → CommittedTo r (committedOf (length ledger / tokenWidth) (tokens used ledger) (cellsIn cells) i j x o) tables links′ flags′ ledger′ cells′ used ledger cells
-        → Stepped r (graphOf graph) τ tables links′ flags′ ledger′ cells′ used ledger cells
-    stepped-here x o does links′ flags′ ledger′ cells′ r left =
-        stepped graph (ready .passed) now τ (arity-small (graphOf graph) τ) i j v w matched x o
-        (subst (λ (u : Record.Token). Effected (graphOf graph) (arraysIn tables) (length cells / cellWidth) (u .tag) v w x o) same does) links′ flags′ ledger′ cells′ r left
+        → Stepped r (graphOf graph) τ its tables links′ flags′ ledger′ cells′ used ledger cells
+    stepped-here x o effected links′ flags′ ledger′ cells′ r left =
+        let does = subst (λ (u : Record.Token). Effected (graphOf graph) (arraysIn tables) (length cells / cellWidth) (u .tag) v w x o) same effected in
+        let asks : actionHeld x (keysOf o) ≡ its = does .held ∙ sym found in
+        stepped graph (ready .passed) now τ (arity-small (graphOf graph) τ) i j v w matched x o its
+        (record {
+          held = asks;
+          counted = does .counted;
+          arrives = does .arrives;
+          cellsBelow = subst (CellsBelow (length cells / cellWidth)) asks (does .cellsBelow);
+          readsForSome = subst ReadsForSome (sym found) (lawful graph (ready .passed) (arraysIn tables) (length ledger / tokenWidth) (length cells / cellWidth) .readsForSome τ v w);
+        }) links′ flags′ ledger′ cells′ r left

@@ -11,7 +11,7 @@ use Rattle.buffer.specs.Rows.{All}
 use Rattle.record.specs.GraphRecords.{graphOf}
 use Rattle.record.specs.TokensAndTags.{tokens}
 use Rattle.record.specs.Widths.{tokenWidth, cellWidth}
-use Rattle.machine.specs.Machine.{Machine, State, fire, fired, notFired}
+use Rattle.machine.specs.Machine.{Machine, State, Effect, refuse, fired, notFired, onOption, StateOf, EffectOf, look, operands, commit}
 use Rattle.machine.specs.Orders.{Good}
 use Rattle.rules.specs.declared.answer.Refusal.{Refusal}
 use Rattle.rules.specs.declared.answer.Checked.the-variants.{Passed}
@@ -43,9 +43,18 @@ pub record Running (g : List Instruction) (tables links flags ledger cells : Lis
   pub arrived : Arrived g (tokens used ledger)
   pub good : Good (machineFor g tables ledger cells) (stateIn ledger cells used)
 
+-- ---- a firing, whatever its activity asks for: e is given, so that another instruction set may fire by the same steps
+
+-- what it asks for by the instruction set, of the operands that it has; it fires as `commit` of that (`fires-asked`, proofs/Effects)
+abbrev pub asked : (M : Machine) → StateOf M → M .Tag → EffectOf M
+asked M s τ = onOption (operands M (look M s) τ) (refuse (M .secondToken)) (λ p. M .effect τ (p .left) (p .right))
+
+abbrev pub askedIn : List Instruction → (tables ledger cells : List ℕ) → (used : ℕ) → Tag → Effect Refusal Tag ℤ
+askedIn g tables ledger cells used τ = asked (machineFor g tables ledger cells) (stateIn ledger cells used) τ
+
 -- a firing that was done left n tokens
-pub record Went (g : List Instruction) (τ : Tag) (tables links flags ledger′ cells′ : List ℕ) (n used : ℕ) (ledger cells : List ℕ) : Type 0 where
-  pub step : fire (machineFor g tables ledger cells) (stateIn ledger cells used) τ ≡ fired (stateIn ledger′ cells′ n)
+pub record Went (g : List Instruction) (τ : Tag) (e : Effect Refusal Tag ℤ) (tables links flags ledger′ cells′ : List ℕ) (n used : ℕ) (ledger cells : List ℕ) : Type 0 where
+  pub step : commit (machineFor g tables ledger cells) (stateIn ledger cells used) τ e ≡ fired (stateIn ledger′ cells′ n)
   pub running : Running g tables links flags ledger′ cells′ n
   pub grown : used ≤ n
   pub size : length ledger′ ≡ length ledger
@@ -53,17 +62,17 @@ pub record Went (g : List Instruction) (τ : Tag) (tables links flags ledger′ 
   pub cellSize : length cells′ ≡ length cells
 
 -- a firing that was refused left ledger and cells as it found them
-pub record Stopped (r : Refusal) (g : List Instruction) (τ : Tag) (tables links flags ledger′ cells′ : List ℕ) (used : ℕ) (ledger cells : List ℕ) : Type 0 where
-  pub step : fire (machineFor g tables ledger cells) (stateIn ledger cells used) τ ≡ notFired r
+pub record Stopped (r : Refusal) (g : List Instruction) (τ : Tag) (e : Effect Refusal Tag ℤ) (tables links flags ledger′ cells′ : List ℕ) (used : ℕ) (ledger cells : List ℕ) : Type 0 where
+  pub step : commit (machineFor g tables ledger cells) (stateIn ledger cells used) τ e ≡ notFired r
   pub running : Running g tables links flags ledger′ cells′ used
   pub sameLedger : ledger′ ≡ ledger
   pub sameCells : cells′ ≡ cells
 
-abbrev pub Stepped : Fired → List Instruction → Tag → (tables links flags ledger′ cells′ : List ℕ) → (used : ℕ) → (ledger cells : List ℕ) → Type 0
-Stepped (Fires.Done n) g τ tables links flags ledger′ cells′ used ledger cells =
-    Went g τ tables links flags ledger′ cells′ n used ledger cells
-Stepped (Fires.Refused r) g τ tables links flags ledger′ cells′ used ledger cells =
-    Stopped r g τ tables links flags ledger′ cells′ used ledger cells
+abbrev pub Stepped : Fired → List Instruction → Tag → Effect Refusal Tag ℤ → (tables links flags ledger′ cells′ : List ℕ) → (used : ℕ) → (ledger cells : List ℕ) → Type 0
+Stepped (Fires.Done n) g τ e tables links flags ledger′ cells′ used ledger cells =
+    Went g τ e tables links flags ledger′ cells′ n used ledger cells
+Stepped (Fires.Refused r) g τ e tables links flags ledger′ cells′ used ledger cells =
+    Stopped r g τ e tables links flags ledger′ cells′ used ledger cells
 
 -- what a run has of its graph: it passed the check, and the tables made of it are right
 pub record Prepared (graph tables : List ℕ) : Type 0 where

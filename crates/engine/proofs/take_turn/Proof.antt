@@ -12,7 +12,7 @@ take-turn-spec = tie.close (tie.spec
     (λ c.
     let h = c .before .before .before in
     let s = h .before .before .before .before .before .before .before .before in
-    turn-ended (rw (c .before .chosen .given .1) at (chosen-now (s .args .graph .now) (s .args .order) (s .args .source .now) (s .args .firings) (h .choose .result) (h .choose .ensures) (s .pre .0) (s .pre .1))) (s .pre .1))
+    turn-ended _ (rw (c .before .chosen .given .1) at (chosen-now (s .args .graph .now) (s .args .order) (s .args .source .now) (s .args .firings) (h .choose .result) (h .choose .ensures) (s .pre .0) (s .pre .1))) (s .pre .1))
     (λ c. search needs)
     (λ c κs.
     let h = c .before .before .before .before .before .before .before in
@@ -26,10 +26,10 @@ take-turn-spec = tie.close (tie.spec
     (λ c.
     let h = c .before .before .before .before .before .before .before .before .before .before .before .before .before .before .before in
     let s = h .before .before .before .before .before .before .before .before in
-    turn-done (rw (c .before .before .before .before .before .before .before .before .before .before .before .before .before .chosen2 .given .1) at (chosen-now (s .args .graph .now) (s .args .order) (s .args .source .now) (s .args .firings) (h .choose .result) (h .choose .ensures) (s .pre .0) (s .pre .1))) (rw (c .before .fired .given .1) at (c .before .before .before .before .before .before .before .fire .ensures)))
+    turn-done _ (rw (c .before .before .before .before .before .before .before .before .before .before .before .before .before .chosen2 .given .1) at (chosen-now (s .args .graph .now) (s .args .order) (s .args .source .now) (s .args .firings) (h .choose .result) (h .choose .ensures) (s .pre .0) (s .pre .1))) (rw (c .before .fired .given .1) at (c .before .before .before .before .before .before .before .fire .ensures)))
     (λ c. search needs)
     (λ c. search needs)
     (λ c.
     let h = c .before .before .before .before .before .before .before .before .before .before .before .before .before .before .before in
     let s = h .before .before .before .before .before .before .before .before in
-    turn-refused (rw (c .before .before .before .before .before .before .before .before .before .before .before .before .before .chosen2 .given .1) at (chosen-now (s .args .graph .now) (s .args .order) (s .args .source .now) (s .args .firings) (h .choose .result) (h .choose .ensures) (s .pre .0) (s .pre .1))) (rw (c .before .fired2 .given .1) at (c .before .before .before .before .before .before .before .fire .ensures))))
+    turn-refused _ (rw (c .before .before .before .before .before .before .before .before .before .before .before .before .before .chosen2 .given .1) at (chosen-now (s .args .graph .now) (s .args .order) (s .args .source .now) (s .args .firings) (h .choose .result) (h .choose .ensures) (s .pre .0) (s .pre .1))) (rw (c .before .fired2 .given .1) at (c .before .before .before .before .before .before .before .fire .ensures))))

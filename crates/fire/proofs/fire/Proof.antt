@@ -1,6 +1,6 @@
 -- `fire::fire` meets its contract: what each of the five steps gives, joined by proofs/Steps. Assumes nothing.
 use Prim.Native.Nat.{_/_, _<_}
-use mathlib.Core.Path.{_≡_, refl, sym, _∙_}
+use mathlib.Core.Path.{_≡_, sym, _∙_}
 use lib.ListN.{length}
 use lib.IntN.{ℤ}
 use mir.Syntax.{w32}
@@ -14,13 +14,12 @@ use Rattle.record.specs.TokensAndTags.{tokens, tokenAt}
 use Rattle.record.specs.Widths.{cellWidth, graphWidth}
 use Rattle.rules.specs.InstructionSet.{arityIn}
 use Rattle.store.proofs.Laws.{matching-known}
-use Rattle.abstraction.proofs.Arities.{arity-small}
 use Rattle.fire_effect.specs.Effects.{operatedOf, newTagsOf, Makes, Effected}
 use Rattle.fire_effect.proofs.Passed.{ready}
 use Rattle.fire_effect.proofs.Parted.{operation-refused, tags-refused, effected}
 use Rattle.fire_operands.specs.Operands.{matchedAt}
 use Rattle.fire.proofs.Place.{earliest-here}
-use Rattle.fire.proofs.Steps.{fitting, fire-missing, room, inside, matched-here, lent-here, stopped-here, stepped-here}
+use Rattle.fire.proofs.Steps.{fitting, stopped-missing, room, inside, matched-here, lent-here, stopped-here, stepped-here}
 use Rattle.fire.proofs.fire.Statement.{statement}
 use Rattle.fire.proofs.fire.Tie as tie
 
@@ -122,12 +121,7 @@ fire-spec =
     (λ c.
     let m = c .before .before in
     let s = start (read m) in
-    record {
-      step = fire-missing _ (s .pre .0 .passed) (s .pre .1) _ (arity-small _ _) (found m ∙ c .enum-told .given .1);
-      running = s .pre .1;
-      sameLedger = refl;
-      sameCells = refl;
-    })
+    stopped-missing _ (s .pre .0) (s .pre .1) (s .args .place) (s .pre .2) (found m ∙ c .enum-told .given .1))
     (λ c. search needs)
     (λ c κs. in-graph (read (c .before .before .before .before)))
     (λ c κs. search needs)
