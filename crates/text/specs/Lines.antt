@@ -9,6 +9,8 @@ use Rattle.buffer.specs.Rows.{allRows, joined}
 use Rattle.record.specs.TokensAndTags as Tokens
 use Rattle.record.specs.Cells as Cells
 use Rattle.record.specs.Widths.{tokenWidth, cellWidth}
+use Rattle.record.specs.Paths.{pathNumber}
+use Rattle.record.specs.declared.tag.Path.{Path}
 use Rattle.record.specs.declared.token.Token.{Token}
 use Rattle.text.specs.Text.{digit, decimal, signedDecimal, line, valueIn, stateWord, tokenLine, cellLines}
 
@@ -22,6 +24,19 @@ pub record Added (out after : List ℕ) (at r : ℕ) (text : List ℕ) : Type 0 
   pub place : r ≡ at + length text
   pub bytes : take r after ≡ take at out ++ text
   pub behind : drop r after ≡ drop r out
+
+-- the same, but for seven bytes behind the text
+pub record AddedLoosely (out after : List ℕ) (at r : ℕ) (text : List ℕ) : Type 0 where
+  pub kept : length after ≡ length out
+  pub place : r ≡ at + length text
+  pub bytes : take r after ≡ take at out ++ text
+  pub behind : drop (r + 7) after ≡ drop (r + 7) out
+
+-- the first k bytes of a buffer of 40 are a path and a space
+pub record PathText (t : List ℕ) (k : ℕ) (path : Path) : Type 0 where
+  pub size : length t ≡ 40
+  pub fits : k ≤ 40
+  pub text : take k t ≡ decimal (pathNumber path) ++ 32 ∷ []
 
 -- the last k digits of n, zeros where it has fewer
 abbrev pub lastDigits : (k n : ℕ) → List ℕ

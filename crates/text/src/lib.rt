@@ -4,6 +4,7 @@ mod line;
 
 use record::cell;
 use record::cell::Cell;
+use record::tag::Path;
 use record::token;
 use rules::answer::Answer;
 use rules::answer::Outcome;
@@ -122,11 +123,17 @@ fn put_tokens(out: &mut [u8], from: usize, listing: &[u8]) -> usize
 {
     let small = digits::small();
     let n = listing.len() / token::WIDTH;
+    let mut text = [0u8; 40];
+    let mut last = Path { low: 0, high: 0 };
+    let mut count = line::make_path(&mut text, last);
     let mut at = from;
     let mut i = 0;
     while i < n {
         let row = buffer::row_at(listing, token::WIDTH, i);
-        at = line::put_record(out, at, &small, row);
+        let path = line::path_of(row);
+        count = line::keep_path(&mut text, count, last, path);
+        last = path;
+        at = line::put_record(out, at, &small, &text, count, row);
         i += 1;
     }
     at

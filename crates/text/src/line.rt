@@ -9,17 +9,18 @@ use rules::answer;
 use rules::answer::Answer;
 use rules::answer::Outcome;
 ghost use mathlib.Core.Path.{_≡_};
-ghost use Prim.Native.Nat.{_<_, _≤_, _+_, _/_, _%_};
+ghost use Prim.Native.Nat.{_<_, _≤_, _+_, _*_, _/_, _%_};
 ghost use mathlib.Core.List.{[], _∷_, _++_};
-ghost use lib.ListN.{length};
+ghost use lib.ListN.{length, take, drop};
+ghost use Rattle.buffer.specs.Rows.{written};
 ghost use Rattle.number.specs.Number.{signedOf};
 ghost use Rattle.record.specs.Paths.{pathNumber, pathWords};
 ghost use Rattle.record.specs.Widths.{tokenWidth};
 ghost use Rattle.record.specs.TokensAndTags as Tokens;
-ghost use Rattle.record.specs.TokensAndTags.{contentOf};
+ghost use Rattle.record.specs.TokensAndTags.{contentOf, pathIn};
 ghost use Rattle.rules.specs.Answer.{placeIn};
 ghost use Rattle.text.specs.Text.{decimal, signedDecimal, stateWord, valueIn, outcomeFields, answerLine, tokenLine, statedLine, cellLine};
-ghost use Rattle.text.specs.Lines.{RoomFor, Added, lastDigits, spaced, Table, restLine};
+ghost use Rattle.text.specs.Lines.{RoomFor, Added, lastDigits, spaced, Table, restLine, PathText, AddedLoosely};
 
 fn put_byte(out: &mut [u8], at: usize, b: u8) -> usize
     requires { ⌜ at < length (now out) ⌝ }
@@ -277,28 +278,95 @@ fn put_rest(out: &mut [u8], at: usize, small: &[u32; 1000], s: &[u8]) -> usize
     put_state_of(out, value, bits, s[24])
 }
 
-// Puts a path and a space.
-fn put_path_field(out: &mut [u8], at: usize, small: &[u32; 1000], path: Path) -> usize
-    requires { ⌜ Table (now small) × RoomFor (now out) at (decimal (pathNumber path) ++ 32 ∷ []) ⌝ }
-    ensures { λ r. ⌜ Added (now (out .entry)) (now (out .exit)) at r (decimal (pathNumber path) ++ 32 ∷ []) ⌝ }
+// Makes the text of a path, with a space behind it, at the start of `text`, and answers its length.
+pub fn make_path(text: &mut [u8], path: Path) -> usize
+    requires { ⌜ length (now text) ≡ 40 ⌝ }
+    ensures { λ r. ⌜ PathText (now (text .exit)) r path ⌝ }
 {
-    if path.high == 0 {
-        return put_field(out, at, small, path.low);
-    }
-    put_path(out, at, path, b' ')
+    put_path(text, 0, path, b' ')
 }
 
-// Puts the line of the token of the record that s starts with.
-pub fn put_record(out: &mut [u8], at: usize, small: &[u32; 1000], s: &[u8]) -> usize
-    requires { ⌜ (tokenWidth ≤ length (now s)) × Table (now small) × RoomFor (now out) at (tokenLine (Tokens.decode (now s))) ⌝ }
+// The same, where the text of the last path stands there: most records have the path of the record before.
+pub fn keep_path(text: &mut [u8], count: usize, last: Path, path: Path) -> usize
+    requires { ⌜ PathText (now text) count last ⌝ }
+    ensures { λ r. ⌜ PathText (now (text .exit)) r path ⌝ }
+{
+    if path.low == last.low {
+        if path.high == last.high {
+            return count;
+        }
+    }
+    make_path(text, path)
+}
+
+// The first eight bytes of s.
+fn eight_of(s: &[u8]) -> [u8; 8]
+    requires { ⌜ 8 ≤ length (now s) ⌝ }
+    ensures { λ r. ⌜ r ≡ take 8 (now (s .entry)) ⌝ }
+{
+    [s[0], s[1], s[2], s[3], s[4], s[5], s[6], s[7]]
+}
+
+// Puts the eight bytes of `text` that are number j, counted from `at` on.
+fn put_eight(out: &mut [u8], at: usize, text: &[u8], j: usize)
+    requires { ⌜ (j * 8 + 8 ≤ length (now text)) × (at + j * 8 + 8 ≤ length (now out)) ⌝ }
+    ensures { λ _. ⌜ now (out .exit) ≡ written (now (out .entry)) (at + j * 8) (take 8 (drop (j * 8) (now (text .entry)))) ⌝ }
+{
+    let eight = eight_of(buffer::row_at(text, 8, j));
+    buffer::write_at(out, at + j * 8, &eight);
+}
+
+// Puts the first `count` bytes of `text`, eight at a time: up to seven bytes behind them change too.
+fn put_eights(out: &mut [u8], at: usize, text: &[u8], count: usize) -> usize
+    requires { ⌜ (length (now text) ≡ 40) × (count ≤ 40) × (at + count + 7 ≤ length (now out)) × (0 < count) ⌝ }
+    ensures { λ r. ⌜ AddedLoosely (now (out .entry)) (now (out .exit)) at r (take count (now (text .entry))) ⌝ }
+{
+    put_eight(out, at, text, 0);
+    if count <= 8 {
+        return at + count;
+    }
+    put_eight(out, at, text, 1);
+    if count <= 16 {
+        return at + count;
+    }
+    put_eight(out, at, text, 2);
+    if count <= 24 {
+        return at + count;
+    }
+    put_eight(out, at, text, 3);
+    if count <= 32 {
+        return at + count;
+    }
+    put_eight(out, at, text, 4);
+    at + count
+}
+
+// Puts the line of the token of the record that s starts with; `text` starts with its path.
+pub fn put_record(
+    out: &mut [u8],
+    at: usize,
+    small: &[u32; 1000],
+    text: &[u8],
+    count: usize,
+    s: &[u8],
+) -> usize
+    requires { ⌜ (tokenWidth ≤ length (now s)) × Table (now small) × PathText (now text) count (pathIn (now s)) ⌝ }
+    requires { ⌜ RoomFor (now out) at (tokenLine (Tokens.decode (now s))) ⌝ }
     ensures { λ r. ⌜ Added (now (out .entry)) (now (out .exit)) at r (tokenLine (Tokens.decode (now (s .entry)))) ⌝ }
 {
-    let path = Path {
+    let rest = put_eights(out, at, text, count);
+    put_rest(out, rest, small, s)
+}
+
+// The path of the record that s starts with.
+pub fn path_of(s: &[u8]) -> Path
+    requires { ⌜ tokenWidth ≤ length (now s) ⌝ }
+    ensures { λ r. ⌜ r ≡ pathIn (now (s .entry)) ⌝ }
+{
+    Path {
         low: number::u64_at(s, 0),
         high: number::u64_at(s, 8),
-    };
-    let rest = put_path_field(out, at, small, path);
-    put_rest(out, rest, small, s)
+    }
 }
 
 // Puts the line of a token.

@@ -1,22 +1,23 @@
--- `text::put_tokens` meets its contract. Assumes nothing.
+-- `text::put_tokens` meets its contract: the lines put so far stand from the start on, and `text` has the path of the last one. Assumes nothing.
 use borrow.Author.Needs.{needs}
 use native.Mathlib.Omega.{arith}
 use Prim.Native.Nat.{_+_, _-_, _/_, _≤_, _<_}
-use mathlib.Core.Path.{_≡_}
+use mathlib.Core.Path.{_≡_, refl}
 use lib.ListN.{length, length-drop}
-use Rattle.record.specs.Widths.{tokenWidth, cellWidth}
-use Rattle.text.specs.Lines.{Added, tokenLines, linesOfCells}
+use Rattle.record.specs.Widths.{tokenWidth}
+use Rattle.text.specs.Lines.{Added, PathText, tokenLines}
 use Rattle.text.proofs.Lines.{added-none}
 use Rattle.text.proofs.Whole.{made, made-all}
-use Rattle.text.proofs.Fields.{count-tokens, token-at, count-cells, cell-at, line-room, line-made}
+use Rattle.text.proofs.Fields.{count-tokens, token-at, line-room, line-made}
 use Rattle.text.proofs.put_tokens.Statement.{statement}
 use Rattle.text.proofs.put_tokens.Tie as tie
 
 abbrev Inv-loop : tie.InvT-loop
-Inv-loop out₀ from listing small n at₀ i₀ out at i = (i ≤ length listing / tokenWidth) × Added out₀ out from at (made (tokenLines listing) i)
+Inv-loop out₀ from listing small n text₀ last₀ count₀ at₀ i₀ out text last count at i =
+    (i ≤ length listing / tokenWidth) × Added out₀ out from at (made (tokenLines listing) i) × PathText text count last
 
 abbrev μ-loop : tie.MeasureT-loop
-μ-loop out₀ from listing small n at₀ i₀ out at i = length listing / tokenWidth - i
+μ-loop out₀ from listing small n text₀ last₀ count₀ at₀ i₀ out text last count at i = length listing / tokenWidth - i
 
 pub put-tokens-spec : {M : Type 1} → statement M
 put-tokens-spec =
@@ -25,24 +26,35 @@ put-tokens-spec =
     Inv-loop
     μ-loop
     (λ c κs. search needs)
-    (λ c. (omega arith, added-none (c .before .before .before .args .out .now) (c .before .before .before .args .from)))
+    (λ c. search needs)
+    (λ c κs. refl)
+    (λ c. let s = c .before .before .before .before .before .before in (omega arith, added-none (s .args .out .now) (s .args .from), c .before .make-path .ensures))
     (λ c κs. omega arith)
+    (λ c κs. rw (c .row-at .ensures, length-drop) (omega arith))
+    (λ c. search needs)
+    (λ c κs. c .before .before .before .before .loop .inv .2)
+    (λ c. search needs)
     (λ c κs.
-    let s = c .before .before .before .before .before .before .before .before in
-    let k = c .before .before .before .before .loop in
+    let s = c .before .before .before .before .before .before .before .before .before .before .before .before .before .before .before .before in
+    let k = c .before .before .before .before .before .before .before .before .before .loop in
     let g = s .args .listing .now in
-    let r = c .before .before .row-at .ensures in
+    let r = c .before .before .before .before .before .before .before .row-at .ensures in
     let h : k .i < length g / tokenWidth = omega arith in
-    let lt : k .i < length (tokenLines g) = omega (arith, count-tokens g) in
-    (rw (r, length-drop) (omega arith), c .before .before .before .before .before .small .ensures, rw r (rw (token-at g (k .i) h) at (line-room (tokenLines g) (k .i) lt (k .inv .1) (s .pre)))))
+    let lt : k .i < length (tokenLines g) = omega (arith, count-tokens g) in (
+      (rw (r, length-drop) (omega arith), c .before .before .before .before .before .before .before .before .before .before .before .before .before .small .ensures, rw (c .before .before .before .before .before .before .path-of .ensures) at (c .before .before .before .before .keep-path .ensures)),
+      rw r (rw (token-at g (k .i) h) at (line-room (tokenLines g) (k .i) lt (k .inv .1) (s .pre))),
+    ))
     (λ c. omega arith)
     (λ c. omega arith)
     (λ c.
-    let s = c .before .before .before .before .before .before .before .before .before .before .before in
-    let k = c .before .before .before .before .before .before .before .loop in
+    let s = c .before .before .before .before .before .before .before .before .before .before .before .before .before .before .before .before .before .before .before in
+    let k = c .before .before .before .before .before .before .before .before .before .before .before .before .loop in
     let g = s .args .listing .now in
     let h : k .i < length g / tokenWidth = omega arith in
-    let lt : k .i < length (tokenLines g) = omega (arith, count-tokens g) in
-    (omega arith, line-made (tokenLines g) (k .i) lt (k .inv .1) (rw (token-at g (k .i) h) (rw (c .before .before .before .before .before .row-at .ensures) at (c .before .before .put-record .ensures)))))
+    let lt : k .i < length (tokenLines g) = omega (arith, count-tokens g) in (
+      omega arith,
+      line-made (tokenLines g) (k .i) lt (k .inv .1) (rw (token-at g (k .i) h) (rw (c .before .before .before .before .before .before .before .before .before .before .row-at .ensures) at (c .before .before .put-record .ensures))),
+      c .before .before .before .before .before .before .before .keep-path .ensures,
+    ))
     (λ c. c .before .loop .inv .1 .kept)
-    (λ c. let k = c .before .loop in let g = c .before .before .before .before .before .args .listing .now in rw (made-all (tokenLines g) (k .i) (omega (arith, count-tokens g))) at (k .inv .1)))
+    (λ c. let k = c .before .loop in let g = c .before .before .before .before .before .before .before .before .args .listing .now in rw (made-all (tokenLines g) (k .i) (omega (arith, count-tokens g))) at (k .inv .1)))
