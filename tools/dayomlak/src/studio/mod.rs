@@ -9,6 +9,7 @@ mod ordered;
 mod page;
 mod run;
 pub mod server;
+mod wish;
 
 use std::net::TcpListener;
 use std::sync::{Arc, Mutex, PoisonError};
@@ -20,7 +21,8 @@ use crate::report::html::escaped;
 use document::{Document, Saved, Version};
 use guard::{Guard, Route};
 use http::{Answer, Request};
-use run::{Checked, Wish};
+use run::Checked;
+use wish::Wish;
 
 pub struct Studio {
     document: Document,

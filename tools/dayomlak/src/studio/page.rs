@@ -42,5 +42,11 @@ pub fn style() -> String {
 }
 
 pub fn script() -> String {
-    [SCRIPT, include_str!("editor.js"), include_str!("studio.js")].concat()
+    [
+        SCRIPT,
+        include_str!("editor.js"),
+        include_str!("file.js"),
+        include_str!("studio.js"),
+    ]
+    .concat()
 }
