@@ -1,2 +1,3 @@
 -- The laws of inputs as handles. Assumes nothing.
 pub mod Rows
+pub mod First

@@ -24,7 +24,7 @@ pub row-fields : (h : ℕ) (l rest : List ℕ) → SameFields l (handleBytes h l
 unfolding handleBytes
 row-fields h l rest = record { tag = refl; port = refl; state = refl }
 
-row-past : (h : ℕ) (l rest : List ℕ) → drop tokenWidth (handleBytes h l ++ rest) ≡ rest
+pub row-past : (h : ℕ) (l rest : List ℕ) → drop tokenWidth (handleBytes h l ++ rest) ≡ rest
 unfolding handleBytes
 row-past h l rest = refl
 
