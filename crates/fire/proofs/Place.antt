@@ -22,7 +22,7 @@ use Rattle.record.specs.Widths.{tokenWidth}
 use Rattle.store_chains.specs.declared.Found.{Found}
 use Rattle.store_chains.specs.declared.Found.the-variants.{At, Nothing}
 use Rattle.store_chains.specs.Search.{firstFrom}
-use Rattle.store_chains.proofs.Index.{and-left}
+use Rattle.store_chains.proofs.Index.{and-left, and-right}
 use Rattle.store_enabled.specs.Enabled.{isLive, arityOf, isEnabled, placeOf, leads}
 use Rattle.store_enabled.specs.Store.{lower, Operands}
 use Rattle.store_enabled.proofs.Places.{first-place, lower-first, lower-second}
@@ -62,6 +62,7 @@ module _ {graph tables links flags ledger cells : List ℕ} {used : ℕ} (ready 
         within = inside;
         first = eqb-true (placeOf ts (t .tag)) place (and-left (eqb (placeOf ts (t .tag)) place) (isEnabled tables ts (t .tag)) lead);
         waited = rw (there, arity) (rw there at here);
+        enabled = rw f (and-right (eqb (placeOf ts (t .tag)) place) (isEnabled tables ts (t .tag)) lead);
       }
 
 -- ---- the operands that matching found

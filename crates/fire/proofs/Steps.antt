@@ -43,13 +43,9 @@ use Rattle.abstraction.proofs.Arities.{arity-small}
 use Rattle.store_enabled.specs.Enabled.{arityOf, leads}
 use Rattle.abstraction.specs.Tables.{arraysIn}
 use Rattle.abstraction.specs.States.{noToken, stateHeld}
-use Rattle.fire_operands.specs.declared.Admitted.{Admitted}
-use Rattle.fire_operands.specs.declared.Admitted.the-variants.{Yes, No}
-use Rattle.fire_operands.specs.declared.Matched.{Matched}
-use Rattle.fire_operands.specs.declared.Matched.the-variants.{Both, Missing}
-use Rattle.fire_operands.specs.Operands.{matchedAt, admittedOf}
+use Rattle.fire_operands.specs.Operands.{Matched, Both, matchedAt, LowPortsBy, Verdict, Yes, No, admittedOf}
 use Rattle.fire_operands.proofs.AsMachine.{valuesOf, Places, matched-places, held-operands}
-use Rattle.fire_outputs.specs.Outputs.{spendOne, spentAt, outputsBy, outputsOf, LowPortsBy, cellsIn, OnCells, contentBy, wokenBy, writesAgain, Kept, CellsKept, Fireable}
+use Rattle.fire_outputs.specs.Outputs.{spendOne, spentAt, outputsBy, outputsOf, cellsIn, OnCells, contentBy, wokenBy, writesAgain, Kept, CellsKept, Fireable}
 use Rattle.fire_commit.specs.declared.Fired.{Fired}
 use Rattle.fire_commit.specs.declared.Fired.the-variants as Fires
 use Rattle.fire_commit.specs.Commit.{Committed, done, refused, ifAdmitted, committedOf, CommittedTo, Fitting}
@@ -121,7 +117,7 @@ abbrev pub Grown : List Instruction → ℕ → Committed → Type 0
 Grown g n (done us ds) = Arrived g us × (n ≤ length us)
 Grown g n (refused r) = Unit {0}
 
-if-admitted : (g : List Instruction) (n : ℕ) (m : Admitted) (x : Committed) → Grown g n x → Grown g n (ifAdmitted m x)
+if-admitted : (g : List Instruction) (n : ℕ) (m : Verdict) (x : Committed) → Grown g n x → Grown g n (ifAdmitted m x)
 unfolding ifAdmitted
 if-admitted g n Yes x h = h
 if-admitted g n (No r) x h = tt
@@ -189,10 +185,6 @@ module _ (graph : List ℕ) (passed : checkGraph graph ≡ Passed) {tables links
 
   abbrev s : State Tag ℤ
   s = stateIn ledger cells used
-
-  -- operands that are missing
-  pub asked-missing : matchedAt (arityIn (graphOf graph) τ) (tokens used ledger) τ ≡ Missing → asked M s τ ≡ refuse SecondToken
-  asked-missing e = rw (held-operands (graphOf graph) (arraysIn tables) (length ledger / tokenWidth) (length cells / cellWidth) (tokens used ledger) (cellsIn cells) τ few ∙ ap valuesOf e)
 
   -- operands that matching found
   module _ (i j : ℕ) (v w : ℤ) (matched : matchedAt (arityIn (graphOf graph) τ) (tokens used ledger) τ ≡ Both i j v w) where

@@ -17,13 +17,11 @@ use fire_effect::operate;
 use fire_effect::operate::Operated;
 use fire_effect::tags;
 use fire_effect::tags::NewTags;
-use fire_operands::Matched;
 use fire_outputs::Places;
 use record::cell;
 use record::instruction;
 use record::operation;
 use record::token;
-use rules::answer::Refusal;
 ghost use Prim.Native.Nat.{_<_};
 ghost use mathlib.Core.Path.{_≡_};
 ghost use mathlib.Core.Bool.{true};
@@ -51,17 +49,12 @@ pub fn fire(
     let tag = t.tag;
     let arity = store_enabled::arity(tables, tag);
     let matched = fire_operands::operands_of(links, ledger, used, tag, arity, place);
-    let Matched::Both {
-        first,
-        second,
-        left,
-        right,
-    } = matched
-    else {
-        // No enabled activity lacks an operand.
-        return Fired::Refused(Refusal::SecondToken);
+    let left = matched.left;
+    let right = matched.right;
+    let operands = Places {
+        first: matched.first,
+        second: matched.second,
     };
-    let operands = Places { first, second };
     // Instruction fetch.
     let r = instruction::instruction_at(graph, tag.instruction as usize);
     let o = operation::decode(r.code);

@@ -26,9 +26,7 @@ use Rattle.fire_effect.specs.declared.operate.Action.{Action}
 use Rattle.fire_effect.specs.declared.operate.Action.the-variants.{Send, Read, Write}
 use Rattle.fire_effect.specs.Effects.{keysOf, actionHeld}
 use Rattle.abstraction.specs.States.{cellHeld, stateHeld}
-use Rattle.fire_operands.specs.declared.Admitted.{Admitted}
-use Rattle.fire_operands.specs.declared.Admitted.the-variants.{Yes, No}
-use Rattle.fire_operands.specs.Operands.{admittedOf}
+use Rattle.fire_operands.specs.Operands.{Verdict, Yes, No, admittedOf}
 use Rattle.fire_operands.proofs.AsMachine.{byAdmitted, Places, held-admitted}
 use Rattle.fire_outputs.specs.Outputs.{spentAt, outputsOf, cellsFetched, contentFetched, isPresent}
 use Rattle.fire_outputs.proofs.Spent.{map-map, spent-one, spent-two}
@@ -40,7 +38,7 @@ abbrev pub firedOf : Committed → Fired Refusal Tag ℤ
 firedOf (done ts cs) = fired (stateHeld ts cs)
 firedOf (refused r) = notFired r
 
-admitted-held : (a : Admitted) (x : Committed) (f : Fired Refusal Tag ℤ) → f ≡ firedOf x → byAdmitted a f ≡ firedOf (ifAdmitted a x)
+admitted-held : (a : Verdict) (x : Committed) (f : Fired Refusal Tag ℤ) → f ≡ firedOf x → byAdmitted a f ≡ firedOf (ifAdmitted a x)
 unfolding ifAdmitted
 admitted-held Yes x f e = e
 admitted-held (No r) x f e = refl

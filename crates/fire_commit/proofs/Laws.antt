@@ -1,36 +1,29 @@
 -- What the definition of an action's outcome gives in each of its cases, and that the code's answer is that outcome. Assumes nothing.
-use Prim.Native.Nat.{ℕ, zero, suc, _+_, _≤_}
+use Prim.Native.Nat.{ℕ, _+_, _≤_}
 use mathlib.Core.Path.{_≡_, refl, ap}
 use mathlib.Core.Bool.{Bool, true, false, cond}
 use mathlib.Core.List.{List, _++_}
 use native.Mathlib.Omega.{arith}
-use lib.Dec.{eqb, ltb}
+use lib.Dec.{ltb}
 use lib.ListN.{length}
-use borrow.Author.Tests.{ltb-false, ne-eqb}
-use Rattle.record.specs.TokensAndTags.{tokens, decode, standsAt}
+use borrow.Author.Tests.{ltb-false}
+use Rattle.record.specs.TokensAndTags.{tokens, decode}
 use Rattle.record.specs.declared.token.Token.{Token}
-use Rattle.record.specs.declared.token.Content.{Content}
 use Rattle.record.specs.declared.cell.Cell.{Cell}
 use Rattle.buffer.proofs.Tables.{length-rows}
 use Rattle.record.specs.Widths.{tokenWidth}
 use Rattle.rules.specs.declared.answer.Refusal.{Refusal}
 use Rattle.rules.specs.declared.answer.Refusal.the-variants.{LedgerFull, SecondToken, SecondWrite}
-use Rattle.store_chains.specs.declared.Found.{Found}
-use Rattle.store_chains.specs.declared.Found.the-variants.{At, Nothing}
-use Rattle.store_chains.specs.Search.{firstFrom, Free}
-use Rattle.fire_effect.specs.declared.output.Key.{Key}
 use Rattle.fire_effect.specs.declared.output.Outputs.{Outputs}
 use Rattle.fire_effect.specs.declared.operate.Action.{Action}
-use Rattle.fire_operands.specs.declared.Admitted.{Admitted}
-use Rattle.fire_operands.specs.declared.Admitted.the-variants.{Yes, No}
-use Rattle.fire_operands.specs.Operands.{isFound, isTaken, sameKeys, anyTakenOf, admittedOf}
-use Rattle.fire_outputs.specs.Outputs.{spentAt, tokenOut, outputsOf, FreeKeysBy, FreeKeys, contentBy, cellsBy, wokenBy, writesAgain, Kept, CellsKept, Fireable}
+use Rattle.fire_operands.specs.Operands.{anyTakenOf, Verdict, Yes, No, admittedOf}
+use Rattle.fire_outputs.specs.Outputs.{spentAt, outputsOf, contentBy, cellsBy, wokenBy, writesAgain, Kept, CellsKept, Fireable}
 use Rattle.fire_commit.specs.Commit.{Committed, done, refused, ifAdmitted, committedOf, CommittedTo}
 use Rattle.fire_commit.specs.declared.Fired.the-variants as Fires
 
 -- ---- the outputs of an admitted firing have room
 
-abbrev yes : Admitted → ℕ
+abbrev yes : Verdict → ℕ
 yes Yes = 1
 yes (No r) = 0
 
@@ -45,44 +38,6 @@ admitted-room capacity used l o e =
     let n : length ts ≡ used = length-rows tokenWidth decode used l in
     let h : length ts + o .count ≤ capacity = ltb-false capacity (length ts + o .count) (by-tests (ltb capacity (length ts + o .count)) (anyTakenOf ts o) e) in
     omega arith
-
--- ---- and their keys are free
-
-cleared : (a t : Bool) → cond a (No LedgerFull) (cond t (No SecondToken) Yes) ≡ Yes → t ≡ false
-cleared true t e = let z : _≡_ {A = ℕ} 0 1 = ap yes e in absurd (omega arith)
-cleared false true e = let z : _≡_ {A = ℕ} 0 1 = ap yes e in absurd (omega arith)
-cleared false false e = refl
-
-neither : (a b : Bool) → cond a true b ≡ false → (a ≡ false) × (b ≡ false)
-neither true b e = let z : _≡_ {A = ℕ} 1 0 = ap (λ (x : Bool). cond x 1 0) e in absurd (omega arith)
-neither false b e = (refl, e)
-
-not-found : (f : Found) → isFound f ≡ false → f ≡ Nothing
-not-found (At i) e = let z : _≡_ {A = ℕ} 1 0 = ap (λ (x : Bool). cond x 1 0) e in absurd (omega arith)
-not-found Nothing e = refl
-
-untaken : (ts : List Token) (k : Key) → isTaken ts k ≡ false → Free ts (k .tag) (k .port)
-unfolding isTaken
-untaken ts k e = not-found (firstFrom (standsAt (k .tag) (k .port)) 0 ts) e
-
-apart : (j k : Key) → sameKeys j k ≡ false → (x : Content) → standsAt (k .tag) (k .port) (tokenOut x j) ≡ false
-unfolding sameKeys standsAt
-apart j k h x = h
-
--- n outputs of which none is taken
-none-taken : (ts : List Token) (j k : Key) (n : ℕ) → cond (eqb n 0) false (cond (isTaken ts j) true (cond (eqb n 1) false (cond (sameKeys j k) true (isTaken ts k)))) ≡ false → FreeKeysBy ts n j k
-none-taken ts j k zero e = tt
-none-taken ts j k (suc zero) e = untaken ts j (neither (isTaken ts j) false e .0)
-none-taken ts j k (suc (suc n)) e =
-    let some-out : suc (suc n) ≡ 0 → ⊥ = λ z. absurd (omega arith) in
-    let more : suc (suc n) ≡ 1 → ⊥ = λ z. absurd (omega arith) in
-    let both = neither (isTaken ts j) (cond (sameKeys j k) true (isTaken ts k)) (rw (ne-eqb (suc (suc n)) 0 some-out, ne-eqb (suc (suc n)) 1 more) at e) in
-    let other = neither (sameKeys j k) (isTaken ts k) (both .1) in
-    (untaken ts j (both .0), untaken ts k (other .1), apart j k (other .0))
-
-pub admitted-free : (capacity : ℕ) (ts : List Token) (o : Outputs) → admittedOf capacity ts o ≡ Yes → FreeKeys ts o
-unfolding admittedOf anyTakenOf
-admitted-free capacity ts o e = none-taken ts (o .first) (o .second) (o .count) (cleared (ltb capacity (length ts + o .count)) _ e)
 
 -- ---- the outcome, by what is known of it
 

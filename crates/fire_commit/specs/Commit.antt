@@ -11,9 +11,7 @@ use Rattle.fire_effect.specs.declared.output.Outputs.{Outputs}
 use Rattle.fire_effect.specs.declared.operate.Action.{Action}
 use Rattle.rules.specs.declared.answer.Refusal.{Refusal}
 use Rattle.rules.specs.declared.answer.Refusal.the-variants.{SecondWrite}
-use Rattle.fire_operands.specs.Operands.{admittedOf}
-use Rattle.fire_operands.specs.declared.Admitted.{Admitted}
-use Rattle.fire_operands.specs.declared.Admitted.the-variants.{Yes, No}
+use Rattle.fire_operands.specs.Operands.{Verdict, Yes, No, admittedOf}
 use Rattle.fire_outputs.specs.Outputs.{spentAt, outputsOf, LowPorts, OnCells, contentBy, cellsBy, wokenBy, writesAgain, Kept, CellsKept}
 use Rattle.fire_commit.specs.declared.Fired.{Fired}
 use Rattle.fire_commit.specs.declared.Fired.the-variants as Fires
@@ -24,7 +22,7 @@ pub data Committed : Type 0 where
   done : List Token → List Cell → Committed
   refused : Refusal → Committed
 
-unfoldable pub ifAdmitted : Admitted → Committed → Committed
+unfoldable pub ifAdmitted : Verdict → Committed → Committed
 ifAdmitted Yes x = x
 ifAdmitted (No r) x = refused r
 

@@ -39,7 +39,7 @@ pub fn commit(
     let admitted = fire_operands::admit(links, ledger, used, sent);
     match admitted {
         Admitted::No(r) => Fired::Refused(r),
-        Admitted::Yes => Fired::Done(fire_outputs::carry_out(
+        Admitted::Yes(first, second) => Fired::Done(fire_outputs::carry_out(
             tables,
             links,
             flags,
@@ -49,6 +49,8 @@ pub fn commit(
             operands,
             action,
             sent,
+            first,
+            second,
         )),
     }
 }

@@ -26,25 +26,19 @@ use Rattle.rules.specs.InstructionSet.{arityIn, machineOf}
 use Rattle.rules.specs.Run.{contentHeld, tokenHeld}
 use Rattle.store_chains.specs.declared.Found.{Found}
 use Rattle.store_chains.specs.declared.Found.the-variants.{At, Nothing}
-use Rattle.store_chains.specs.Search.{firstFrom}
+use Rattle.store_chains.specs.Search.{firstFrom, isFound}
 use Rattle.abstraction.specs.States.{noToken, stateHeld}
 use Rattle.abstraction.proofs.Keys.{stands, not-stands, search-at, foundContent, held-find}
 use Rattle.fire_effect.specs.declared.output.Key.{Key}
 use Rattle.fire_effect.specs.declared.output.Outputs.{Outputs}
 use Rattle.fire_effect.specs.Effects.{keyHeld, keysHeld, keysOf}
-use Rattle.fire_operands.specs.declared.Operand.{Operand}
-use Rattle.fire_operands.specs.declared.Operand.the-variants as Operand
-use Rattle.fire_operands.specs.declared.Matched.{Matched}
-use Rattle.fire_operands.specs.declared.Matched.the-variants.{Both, Missing}
-use Rattle.fire_operands.specs.declared.Admitted.{Admitted}
-use Rattle.fire_operands.specs.declared.Admitted.the-variants.{Yes, No}
-use Rattle.fire_operands.specs.Operands.{operandOf, operandFound, operandAt, one, two, matchedAt, isFound, isTaken, sameKeys, anyTakenOf, admittedOf}
+use Rattle.fire_operands.specs.Operands.{Operand, Held, Lacking, Matched, Both, Missing, operandOf, operandFound, operandAt, one, two, matchedAt, isTaken, sameKeys, anyTakenOf, Verdict, Yes, No, admittedOf}
 
 -- ---- the operands of a tag, as values
 
 abbrev valueOf : Operand → Option ℤ
-valueOf (Operand.Live i v) = some v
-valueOf Operand.Missing = none
+valueOf (Held i v) = some v
+valueOf Lacking = none
 
 abbrev pub valuesOf : Matched → Option (Operands ℤ)
 valuesOf (Both i j v w) = some (record { left = v; right = w })
@@ -68,15 +62,15 @@ chosen n value = cond (allBelow value n) (twoValues n (value 0) (value 1)) none
 module _ (value : ℕ → Option ℤ) where
   one-value : (o : Operand) → value 0 ≡ valueOf o → chosen 1 value ≡ valuesOf (one o)
   unfolding one
-  one-value (Operand.Live i v) e = rw e
-  one-value Operand.Missing e = rw e
+  one-value (Held i v) e = rw e
+  one-value Lacking e = rw e
 
   two-values : (o p : Operand) → value 0 ≡ valueOf o → value 1 ≡ valueOf p → chosen 2 value ≡ valuesOf (two o p)
   unfolding two
-  two-values (Operand.Live i v) (Operand.Live j w) e f = rw (e, f)
-  two-values (Operand.Live i v) Operand.Missing e f = rw (e, f)
-  two-values Operand.Missing (Operand.Live j w) e f = rw (e, f)
-  two-values Operand.Missing Operand.Missing e f = rw (e, f)
+  two-values (Held i v) (Held j w) e f = rw (e, f)
+  two-values (Held i v) Lacking e f = rw (e, f)
+  two-values Lacking (Held j w) e f = rw (e, f)
+  two-values Lacking Lacking e f = rw (e, f)
 
   values : (ts : List Record.Token) (tag : Tag) (n : ℕ) → n ≤ 2 → value 0 ≡ valueOf (operandAt ts tag 0) → value 1 ≡ valueOf (operandAt ts tag 1)
       → chosen n value ≡ valuesOf (matchedAt n ts tag)
@@ -105,12 +99,12 @@ record Place (port : ℕ) (ts : List Record.Token) (tag : Tag) (i : ℕ) (v : �
   value : getD ts i noToken .content ≡ Live v
 
 module _ (ts : List Record.Token) (tag : Tag) where
-  operand-place : (port : ℕ) {i : ℕ} {v : ℤ} → operandAt ts tag port ≡ Operand.Live i v → Place port ts tag i v
+  operand-place : (port : ℕ) {i : ℕ} {v : ℤ} → operandAt ts tag port ≡ Held i v → Place port ts tag i v
   unfolding operandAt operandFound operandOf
   operand-place port {i} {v} h = go (firstFrom (standsAt tag port) 0 ts) refl h
     where
       at : (k : ℕ) → firstFrom (standsAt tag port) 0 ts ≡ At k → (x : RecordContent.Content) → getD ts k noToken .content ≡ x
-          → operandOf k x ≡ Operand.Live i v → Place port ts tag i v
+          → operandOf k x ≡ Held i v → Place port ts tag i v
       at k e (Live u) c q =
           let p : k ≡ i = cc in
           let f : firstFrom (standsAt tag port) 0 ts ≡ At i = e ∙ ap At p in
@@ -122,14 +116,14 @@ module _ (ts : List Record.Token) (tag : Tag) where
       at k e (Spent u) c q = absurd (let z : _≡_ {A = ℕ} 0 1 = cc in omega arith)
       at k e (Deferred u) c q = absurd (let z : _≡_ {A = ℕ} 0 1 = cc in omega arith)
 
-      go : (f : Found) → firstFrom (standsAt tag port) 0 ts ≡ f → operandFound ts f ≡ Operand.Live i v → Place port ts tag i v
+      go : (f : Found) → firstFrom (standsAt tag port) 0 ts ≡ f → operandFound ts f ≡ Held i v → Place port ts tag i v
       go (At k) e q = at k e (getD ts k noToken .content) refl q
       go Nothing e q = absurd (let z : _≡_ {A = ℕ} 0 1 = cc in omega arith)
 
   one-place : {i j : ℕ} {v w : ℤ} (o : Operand) → operandAt ts tag 0 ≡ o → one o ≡ Both i j v w → Places 1 ts tag i j v w
   unfolding one
-  one-place {i} {j} {v} {w} (Operand.Live k u) e q =
-      let a : Operand.Live k u ≡ Operand.Live i v = cc in
+  one-place {i} {j} {v} {w} (Held k u) e q =
+      let a : Held k u ≡ Held i v = cc in
       let p = operand-place 0 (e ∙ a) in
       let s : j ≡ i = cc in
       let x : v ≡ w = cc in
@@ -141,13 +135,13 @@ module _ (ts : List Record.Token) (tag : Tag) where
         left = p .value;
         right = rw s (p .value ∙ ap Live x);
       }
-  one-place Operand.Missing e q = absurd (let z : _≡_ {A = ℕ} 0 1 = cc in omega arith)
+  one-place Lacking e q = absurd (let z : _≡_ {A = ℕ} 0 1 = cc in omega arith)
 
   two-places : {i j : ℕ} {v w : ℤ} (o p : Operand) → operandAt ts tag 0 ≡ o → operandAt ts tag 1 ≡ p → two o p ≡ Both i j v w → Places 2 ts tag i j v w
   unfolding two
-  two-places {i} {j} {v} {w} (Operand.Live k u) (Operand.Live l x) e f q =
-      let a : Operand.Live k u ≡ Operand.Live i v = cc in
-      let b : Operand.Live l x ≡ Operand.Live j w = cc in
+  two-places {i} {j} {v} {w} (Held k u) (Held l x) e f q =
+      let a : Held k u ≡ Held i v = cc in
+      let b : Held l x ≡ Held j w = cc in
       let p = operand-place 0 (e ∙ a) in
       let r = operand-place 1 (f ∙ b) in
       record {
@@ -158,8 +152,8 @@ module _ (ts : List Record.Token) (tag : Tag) where
         left = p .value;
         right = r .value;
       }
-  two-places (Operand.Live k u) Operand.Missing e f q = absurd (let z : _≡_ {A = ℕ} 0 1 = cc in omega arith)
-  two-places Operand.Missing p e f q = absurd (let z : _≡_ {A = ℕ} 0 1 = cc in omega arith)
+  two-places (Held k u) Lacking e f q = absurd (let z : _≡_ {A = ℕ} 0 1 = cc in omega arith)
+  two-places Lacking p e f q = absurd (let z : _≡_ {A = ℕ} 0 1 = cc in omega arith)
 
   pub matched-places : (n : ℕ) {i j : ℕ} {v w : ℤ} → n ≤ 2 → matchedAt n ts tag ≡ Both i j v w → Places n ts tag i j v w
   unfolding matchedAt
@@ -171,7 +165,7 @@ module _ (ts : List Record.Token) (tag : Tag) where
 -- ---- the outputs
 
 -- what becomes of a firing
-abbrev pub byAdmitted : Admitted → Fired Refusal Tag ℤ → Fired Refusal Tag ℤ
+abbrev pub byAdmitted : Verdict → Fired Refusal Tag ℤ → Fired Refusal Tag ℤ
 byAdmitted Yes f = f
 byAdmitted (No r) f = notFired r
 

@@ -11,17 +11,19 @@ use Rattle.record.specs.declared.tag.Tag.{Tag}
 use Rattle.record.specs.declared.token.Token.{Token}
 use Rattle.record.specs.TokensAndTags.{standsAt, decode, tokens, tokenAt}
 use Rattle.record.specs.Widths.{tokenWidth}
-use Rattle.store_chains.specs.declared.Found.the-variants.{At}
+use Rattle.record.specs.declared.token.Content.{Content}
+use Rattle.record.specs.declared.token.Content.the-variants.{Live, Spent, Deferred}
+use Rattle.store_chains.specs.declared.Found.{Found}
+use Rattle.store_chains.specs.declared.Found.the-variants.{At, Nothing}
 use Rattle.store_chains.specs.Search.{firstFrom}
 use Rattle.store_chains.proofs.Search.{first-cons}
-use Rattle.store_enabled.specs.Enabled.{tagSame, placeOf}
-use Rattle.store_enabled.specs.Store.{Known}
-use Rattle.store_enabled.proofs.Places.{stands-tag, stands-other}
+use Rattle.store_chains.proofs.Index.{and-left, and-right, found-within}
+use Rattle.store_enabled.specs.Enabled.{isLive, liveAt, allLive, tagSame, placeOf}
+use Rattle.store_enabled.specs.Store.{Known, placeOr, liveFound}
+use Rattle.store_enabled.proofs.Places.{stands-tag, stands-other, live-found}
 use Rattle.store_enabled.proofs.Store.{all-at}
 use Rattle.abstraction.specs.States.{noToken}
-use Rattle.fire_operands.specs.declared.Operand.{Operand}
-use Rattle.fire_operands.specs.declared.Operand.the-variants.{Live, Missing}
-use Rattle.fire_operands.specs.Operands.{operandOf, operandFound, operandAt, one, two, Earliest, matchedAt}
+use Rattle.fire_operands.specs.Operands.{Held, Both, operandOf, operandFound, operandAt, one, two, valueIn, Earliest, matchedAt}
 
 first-on-port : (tag : Tag) (d : Token) (ts : List Token) (i : ℕ) → i < length ts → placeOf ts tag ≡ i → firstFrom (standsAt tag (getD ts i d .port)) 0 ts ≡ At i
 first-on-port tag d [] i h p = absurd (omega arith)
@@ -37,10 +39,37 @@ first-on-port tag d (t ∷ ts) (suc i) h p = go (getD ts i d .port) (tagSame tag
     go port true e q ih = absurd (omega arith)
     go port false e q ih = first-cons (standsAt tag port) t ts ∙ rw (stands-other tag port t e, ih (omega arith))
 
-one-as-two : (o : Operand) → two o o ≡ one o
-unfolding one two
-one-as-two (Live i v) = refl
-one-as-two Missing = refl
+-- a live content is that of its value
+live-value : (i : ℕ) (x : Content) → isLive x ≡ true → operandOf i x ≡ Held i (valueIn x)
+unfolding operandOf
+live-value i (Live v) e = refl
+live-value i (Spent v) e = let z : _≡_ {A = ℕ} 0 1 = ap (λ b. cond b 1 0) e in absurd (omega arith)
+live-value i (Deferred c) e = let z : _≡_ {A = ℕ} 0 1 = ap (λ b. cond b 1 0) e in absurd (omega arith)
+
+-- one operand is waited for, or two
+one-or-two : (n : ℕ) (ts : List Token) (tag : Tag) → allLive n ts tag ≡ true → (n ≡ 2 → ⊥) → (n ≡ 1) × (liveAt ts tag 0 ≡ true)
+unfolding allLive
+one-or-two zero ts tag e other = let z : _≡_ {A = ℕ} 0 1 = ap (λ b. cond b 1 0) e in absurd (omega arith)
+one-or-two (suc zero) ts tag e other = (refl, e)
+one-or-two (suc (suc zero)) ts tag e other = absurd (other refl)
+one-or-two (suc (suc (suc n))) ts tag e other =
+    let none : false ≡ true = rw (ne-eqb (suc (suc (suc n))) 1 (λ q. omega arith), ne-eqb (suc (suc (suc n))) 2 (λ q. omega arith)) at e in
+    let z : _≡_ {A = ℕ} 0 1 = ap (λ b. cond b 1 0) none in
+    absurd (omega arith)
+
+both-live : (ts : List Token) (tag : Tag) → allLive 2 ts tag ≡ true → (liveAt ts tag 0 ≡ true) × (liveAt ts tag 1 ≡ true)
+unfolding allLive
+both-live ts tag e = (and-left (liveAt ts tag 0) (liveAt ts tag 1) e, and-right (liveAt ts tag 0) (liveAt ts tag 1) e)
+
+-- what a search of a live port found, as an operand
+found-operand : (n : ℕ) (l : List ℕ) (tag : Tag) (port d : ℕ) (f : Found) → f ≡ firstFrom (standsAt tag port) 0 (tokens n l) → liveAt (tokens n l) tag port ≡ true
+    → (placeOr f d < n) × (operandAt (tokens n l) tag port ≡ Held (placeOr f d) (valueIn (tokenAt l (placeOr f d) .content)))
+unfolding operandAt operandFound
+found-operand n l tag port d (At i) e h =
+    let within : i < n = rw (← e) at (found-within (standsAt tag port) n l) in
+    let live : isLive (tokenAt l i .content) ≡ true = ap (liveFound (tokenAt l)) e ∙ live-found tag port n l ∙ h in
+    (within, rw (← e, getD-rows tokenWidth decode n i l noToken within) (live-value i (tokenAt l i .content) live))
+found-operand n l tag port d Nothing e h = let z : _≡_ {A = ℕ} 0 1 = ap (λ b. cond b 1 0) (ap (liveFound (tokenAt l)) e ∙ live-found tag port n l ∙ h) in absurd (omega arith)
 
 module _ {arity used place : ℕ} {links ledger : List ℕ} {tag : Tag} (k : Known links ledger used) (e : Earliest arity (tokens used ledger) tag place) where
   abbrev ts : List Token
@@ -56,25 +85,43 @@ module _ {arity used place : ℕ} {links ledger : List ℕ} {tag : Tag} (k : Kno
     pub port-low : t .port < 2
     port-low = rw there at (all-at (λ (u : Token). u .port < 2) ts place noToken (e .within) (k .ports))
 
-    own-operand : operandAt ts tag (t .port) ≡ operandOf place (t .content)
-    unfolding operandAt operandFound
-    own-operand = rw (rw there at (first-on-port tag noToken ts place (e .within) (e .first)), there)
+    own-found : At place ≡ firstFrom (standsAt tag (t .port)) 0 ts
+    own-found = sym (rw there at (first-on-port tag noToken ts place (e .within) (e .first)))
+
+    own-operand : liveAt ts tag (t .port) ≡ true → operandAt ts tag (t .port) ≡ Held place (valueIn (t .content))
+    own-operand h = found-operand used ledger tag (t .port) place (At place) own-found h .1 ∙ ap (λ (u : Token). Held place (valueIn (u .content))) (sym same)
 
     -- one is waited for
-    pub alone : (o : Operand) → o ≡ operandOf place (t .content) → arity ≡ 1 → two o o ≡ matchedAt arity ts tag
-    unfolding matchedAt
-    alone o p n =
-        let z : t .port ≡ 0 = omega (arith, rw there at (e .waited (omega arith))) in
-        one-as-two o ∙ rw (n, p) (ap one (rw z at (sym own-operand)))
+    pub alone : (arity ≡ 2 → ⊥) → Both place place (valueIn (t .content)) (valueIn (t .content)) ≡ matchedAt arity ts tag
+    unfolding matchedAt one
+    alone not-two =
+        let n = one-or-two arity ts tag (e .enabled) not-two in
+        let z : t .port ≡ 0 = omega (arith, n .0, rw there at (e .waited (omega (arith, n .0)))) in
+        rw (n .0, rw z at (own-operand (rw z (n .1))))
 
-    -- two are, and the token stands on port 0, or on port 1
-    module _ (o p : Operand) (here : o ≡ operandOf place (t .content)) (other : p ≡ operandAt ts tag (1 - t .port)) (some : arity ≡ 0 → ⊥) (more : arity ≡ 1 → ⊥) where
-      pub as-first : t .port ≡ 0 → two o p ≡ matchedAt arity ts tag
-      unfolding matchedAt
-      as-first z = rw (ne-eqb _ _ some, ne-eqb _ _ more) (λ i. two ((here ∙ sym (rw z at own-operand)) i) ((rw z at other) i))
+    -- two are: what was found of the other
+    module _ (two-out : arity ≡ 2) (f : Found) (found : f ≡ firstFrom (standsAt tag (1 - t .port)) 0 ts) where
+      live-on : (port : ℕ) → port < 2 → liveAt ts tag port ≡ true
+      live-on zero h = both-live ts tag (rw two-out at (e .enabled)) .0
+      live-on (suc zero) h = both-live ts tag (rw two-out at (e .enabled)) .1
+      live-on (suc (suc p)) h = absurd (omega arith)
 
-      pub as-second : (t .port ≡ 0 → ⊥) → two p o ≡ matchedAt arity ts tag
-      unfolding matchedAt
-      as-second n =
+      other : (placeOr f place < used) × (operandAt ts tag (1 - t .port) ≡ Held (placeOr f place) (valueIn (tokenAt ledger (placeOr f place) .content)))
+      other = found-operand used ledger tag (1 - t .port) place f found (live-on (1 - t .port) (omega arith))
+
+      pub other-within : placeOr f place < length ledger / tokenWidth
+      other-within = omega (arith, other .0, k .room)
+
+      -- the token stands on port 0, or on port 1
+      pub as-first : t .port ≡ 0 → Both place (placeOr f place) (valueIn (t .content)) (valueIn (tokenAt ledger (placeOr f place) .content)) ≡ matchedAt arity ts tag
+      unfolding matchedAt two
+      as-first z =
+          let own = own-operand (live-on (t .port) port-low) in
+          rw (two-out, rw z at own, rw z at (other .1))
+
+      pub as-second : (t .port ≡ 0 → ⊥) → Both (placeOr f place) place (valueIn (tokenAt ledger (placeOr f place) .content)) (valueIn (t .content)) ≡ matchedAt arity ts tag
+      unfolding matchedAt two
+      as-second not-first =
           let z : t .port ≡ 1 = omega (arith, port-low) in
-          rw (ne-eqb _ _ some, ne-eqb _ _ more) (λ i. two ((rw z at other) i) ((here ∙ sym (rw z at own-operand)) i))
+          let own = own-operand (live-on (t .port) port-low) in
+          rw (two-out, rw z at own, rw z at (other .1))

@@ -1,4 +1,4 @@
-// Matching: the operands of a tag, and whether the outputs of a firing can go into the ledger.
+// Matching: the operands of an enabled tag, and whether the outputs of a firing can go into the ledger, and where.
 use fire_effect::output::Key;
 use fire_effect::output::Outputs;
 use record::tag::Tag;
@@ -6,78 +6,51 @@ use record::token;
 use record::token::Content;
 use rules::answer::Refusal;
 use store_chains::Found;
+use store_chains::Slot;
+use store_chains::Sought;
 ghost use mathlib.Core.Path.{_≡_};
 ghost use Prim.Native.Nat.{_/_, _≤_, _<_};
 ghost use lib.ListN.{length};
 ghost use Rattle.record.specs.TokensAndTags.{tokens};
 ghost use Rattle.record.specs.Widths.{tokenWidth};
-ghost use Rattle.store_enabled.specs.Store.{Known};
-ghost use Rattle.fire_operands.specs.Operands.{operandOf, operandAt, two, Earliest, matchedAt, isTaken, sameKeys, anyTakenOf, admittedOf};
+ghost use Rattle.store_enabled.specs.Store.{Known, placeOr};
+ghost use Rattle.fire_operands.specs.Operands.{Both, valueIn, Earliest, matchedAt, sameKeys, Beside, LowPorts, admittedOf, AdmittedAs};
 
-// A live operand, by its place and value.
-pub enum Operand {
-    Live(usize, i32),
-    Missing,
+// The operands of an enabled activity, by their places and values. Where one is waited for, it stands for both.
+pub struct Operands {
+    pub first: usize,
+    pub second: usize,
+    pub left: i32,
+    pub right: i32,
 }
 
-// The operands of a tag, by their places and values. Where one is waited for, it stands for both.
-pub enum Matched {
-    Both {
-        first: usize,
-        second: usize,
-        left: i32,
-        right: i32,
-    },
-    Missing,
-}
-
+// Whether outputs can go into the ledger: if so, where each may arrive once those before it have.
 pub enum Admitted {
-    Yes,
+    Yes(Slot, Slot),
     No(Refusal),
 }
 
-// A token as an operand, which it is if it is live.
-fn as_operand(place: usize, content: Content) -> Operand
-    ensures { λ r. ⌜ r ≡ operandOf place content ⌝ }
+// The bits of a content as a value, whatever its state: a live token's is known to be live where this is asked for.
+fn value_in(content: Content) -> i32
+    ensures { λ r. ⌜ r ≡ valueIn content ⌝ }
 {
-    let Content::Live(v) = content else {
-        return Operand::Missing;
-    };
-    Operand::Live(place, v)
-}
-
-// The operand on a port of a tag.
-fn operand_on(links: &[u16; 9216], ledger: &[u8], used: usize, tag: Tag, port: u8) -> Operand
-    requires { ⌜ Known (now links) (now ledger) used ⌝ }
-    ensures { λ r. ⌜ r ≡ operandAt (tokens used (now (ledger .entry))) tag port ⌝ }
-{
-    let Found::At(i) = store::find(links, ledger, used, tag, port) else {
-        return Operand::Missing;
-    };
-    let t = token::token_at(ledger, i);
-    let content = t.content;
-    as_operand(i, content)
-}
-
-// Two operands, if both are live. Where one is waited for, it is given twice.
-fn both(first: Operand, second: Operand) -> Matched
-    ensures { λ r. ⌜ r ≡ two first second ⌝ }
-{
-    let Operand::Live(i, left) = first else {
-        return Matched::Missing;
-    };
-    let Operand::Live(j, right) = second else {
-        return Matched::Missing;
-    };
-    Matched::Both {
-        first: i,
-        second: j,
-        left,
-        right,
+    match content {
+        Content::Live(v) => v,
+        Content::Spent(v) => v,
+        Content::Deferred(cell) => number::signed(cell),
     }
 }
 
-// All operands of a tag, if they are live. The token at the tag's place is one of them: the other alone is searched for,
+fn place_or(f: Found, other: usize) -> usize
+    ensures { λ r. ⌜ r ≡ placeOr f other ⌝ }
+{
+    match f {
+        Found::At(i) => i,
+        Found::Nothing => other,
+    }
+}
+
+// All operands of a tag, which are live. The token at the tag's place is one of them: the other alone is searched for,
 // where there is one.
 pub fn operands_of(
     links: &[u16; 9216],
@@ -86,37 +59,39 @@ pub fn operands_of(
     tag: Tag,
     arity: u16,
     place: usize,
-) -> Matched
+) -> Operands
     requires { ⌜ Known (now links) (now ledger) used × Earliest arity (tokens used (now ledger)) tag place ⌝ }
-    ensures { λ r. ⌜ r ≡ matchedAt arity (tokens used (now (ledger .entry))) tag ⌝ }
+    ensures { λ r. ⌜ Both (r .first) (r .second) (r .left) (r .right) ≡ matchedAt arity (tokens used (now (ledger .entry))) tag ⌝ }
 {
-    if arity == 0 {
-        return Matched::Missing;
-    }
     let t = token::token_at(ledger, place);
     let content = t.content;
-    let own = as_operand(place, content);
-    if arity == 1 {
-        return both(own, own);
+    let own = value_in(content);
+    if arity != 2 {
+        return Operands {
+            first: place,
+            second: place,
+            left: own,
+            right: own,
+        };
     }
-    let other = operand_on(links, ledger, used, tag, 1 - t.port);
+    let other = place_or(store::find(links, ledger, used, tag, 1 - t.port), place);
+    let u = token::token_at(ledger, other);
+    let found = u.content;
+    let value = value_in(found);
     if t.port == 0 {
-        both(own, other)
+        Operands {
+            first: place,
+            second: other,
+            left: own,
+            right: value,
+        }
     } else {
-        both(other, own)
-    }
-}
-
-// Whether a token stands there, of whatever state.
-fn taken(links: &[u16; 9216], ledger: &[u8], used: usize, key: Key) -> bool
-    requires { ⌜ Known (now links) (now ledger) used ⌝ }
-    ensures { λ r. ⌜ r ≡ isTaken (tokens used (now (ledger .entry))) key ⌝ }
-{
-    let tag = key.tag;
-    let found = store::find(links, ledger, used, tag, key.port);
-    match found {
-        Found::At(_) => true,
-        Found::Nothing => false,
+        Operands {
+            first: other,
+            second: place,
+            left: value,
+            right: own,
+        }
     }
 }
 
@@ -128,38 +103,53 @@ fn same_keys(a: Key, b: Key) -> bool
     a.port == b.port && t.same(u)
 }
 
-// Refusal 9: an output's tag and port taken, by a token or by the other output.
-fn any_taken(links: &[u16; 9216], ledger: &[u8], used: usize, outputs: Outputs) -> bool
-    requires { ⌜ Known (now links) (now ledger) used ⌝ }
-    ensures { λ r. ⌜ r ≡ anyTakenOf (tokens used (now (ledger .entry))) outputs ⌝ }
+// The slot of the second of two outputs that differ, once the first stands in record `used`: where both have one tag, they are
+// partners.
+fn beside(first: Key, second: Key, slot: Slot, used: usize) -> Slot
+    ensures { λ r. ⌜ Beside first second slot used r ⌝ }
+{
+    let t = first.tag;
+    let u = second.tag;
+    if t.same(u) {
+        Slot {
+            bucket: slot.bucket,
+            partner: Found::At(used),
+        }
+    } else {
+        slot
+    }
+}
+
+// Whether the outputs of a firing can go into the ledger, and where: refusal 8, then 9.
+pub fn admit(links: &[u16; 9216], ledger: &[u8], used: usize, outputs: Outputs) -> Admitted
+    requires { ⌜ Known (now links) (now ledger) used × (used ≤ 2048) × (outputs .count ≤ 2) × LowPorts outputs ⌝ }
+    ensures { λ r. ⌜ AdmittedAs r (admittedOf (length (now (ledger .entry)) / tokenWidth) (tokens used (now (ledger .entry))) outputs) (tokens used (now (ledger .entry))) outputs ⌝ }
 {
     let first = outputs.first;
     let second = outputs.second;
-    if outputs.count == 0 {
-        return false;
-    }
-    if taken(links, ledger, used, first) {
-        return true;
-    }
-    if outputs.count == 1 {
-        return false;
-    }
-    if same_keys(first, second) {
-        return true;
-    }
-    taken(links, ledger, used, second)
-}
-
-// Whether the outputs of a firing can go into the ledger: refusal 8, then 9.
-pub fn admit(links: &[u16; 9216], ledger: &[u8], used: usize, outputs: Outputs) -> Admitted
-    requires { ⌜ Known (now links) (now ledger) used × (used ≤ 2048) ⌝ }
-    ensures { λ r. ⌜ r ≡ admittedOf (length (now (ledger .entry)) / tokenWidth) (tokens used (now (ledger .entry))) outputs ⌝ }
-{
+    let none = Slot {
+        bucket: 0,
+        partner: Found::Nothing,
+    };
     if ledger.len() / token::WIDTH < used + (outputs.count as usize) {
         return Admitted::No(Refusal::LedgerFull);
     }
-    if any_taken(links, ledger, used, outputs) {
+    if outputs.count == 0 {
+        return Admitted::Yes(none, none);
+    }
+    let tag = first.tag;
+    let Sought::Free(slot) = store::seek(links, ledger, used, tag, first.port) else {
+        return Admitted::No(Refusal::SecondToken);
+    };
+    if outputs.count == 1 {
+        return Admitted::Yes(slot, none);
+    }
+    if same_keys(first, second) {
         return Admitted::No(Refusal::SecondToken);
     }
-    Admitted::Yes
+    let other = second.tag;
+    let Sought::Free(next) = store::seek(links, ledger, used, other, second.port) else {
+        return Admitted::No(Refusal::SecondToken);
+    };
+    Admitted::Yes(slot, beside(first, second, next, used))
 }

@@ -7,6 +7,7 @@ use mathlib.Core.List.{List, [], _∷_, _++_, map, append-assoc, append-nil}
 use native.Mathlib.Omega.{arith}
 use native.Mathlib.Decide.{ℕ-discrete}
 use native.Mathlib.Nat.{add-zero}
+use native.Mathlib.Numerals.{add-one}
 use lib.IntN.{ℤ}
 use lib.ListN.{length, getD, set, take, drop, length-append, length-drop, length-map, length-set}
 use lib.Seq.{length-take-le, drop-drop, drop-at, drop-set-lt, getD-set-other, set-getD, set-set}
@@ -27,9 +28,13 @@ use Rattle.fire_effect.proofs.operate.Action as Actions
 use Rattle.buffer.proofs.Tables.{length-joined, put-joined, length-rows, getD-rows}
 use Rattle.record.proofs.Records.{length-token, length-cell, cells-put}
 use Rattle.record.specs.Widths.{tokenWidth, cellWidth, stateOffset}
-use Rattle.store_chains.specs.Search.{firstFrom, Free}
+use Rattle.store_chains.specs.declared.Found.{Found}
+use Rattle.store_chains.specs.declared.Found.the-variants.{At, Nothing}
+use Rattle.store_chains.specs.declared.Slot.{Slot}
+use Rattle.store_chains.specs.Search.{firstFrom}
+use Rattle.store_chains.specs.Slots.{Open}
 use Rattle.store_chains.specs.Deferred.{LowCell, woken}
-use Rattle.store_chains.proofs.Search.{first-set, first-map, first-none-added}
+use Rattle.store_chains.proofs.Search.{first-set, first-map, first-kept, first-added, first-none-added}
 use Rattle.store_enabled.specs.Store.{Operands, statesSpent, tokensSpent}
 use Rattle.store.specs.Matching.{spentToken, Matching}
 use Rattle.store.proofs.Laws.{matching-room}
@@ -38,7 +43,8 @@ use Rattle.fire_effect.specs.declared.output.Outputs.{Outputs}
 use Rattle.fire_effect.specs.declared.operate.Action.{Action}
 use Rattle.fire_effect.specs.declared.operate.Action.the-variants.{Send, Read, Write}
 use Rattle.abstraction.specs.States.{noToken}
-use Rattle.fire_outputs.specs.Outputs.{spendOne, spentAt, tokenOut, outputsBy, LowPortsBy, FreeKeysBy, FreeKeys, cellsIn, CellStore, cellFetched, cellsFetched, contentFetched, isPresent, OnCells, contentBy, wokenBy, writesAgain, Kept, CellsKept}
+use Rattle.fire_operands.specs.Operands.{LowPortsBy, OpenKeysBy}
+use Rattle.fire_outputs.specs.Outputs.{spendOne, spentAt, tokenOut, outputsBy, outputsOf, LowPorts, OpenKeys, cellsIn, CellStore, cellFetched, cellsFetched, contentFetched, isPresent, OnCells, contentBy, wokenBy, writesAgain, Kept, CellsKept}
 
 -- ---- one record of a table is replaced
 
@@ -183,7 +189,7 @@ module _ {tables links flags l : List ℕ} {n : ℕ} {ts : List Token} {start : 
   pub kept-most : {m : ℕ} → length start / tokenWidth ≤ m → length l / tokenWidth ≤ m
   kept-most h = rw (k .size) h
 
--- ---- what is free stays free
+-- ---- what a search finds, it finds once operands are spent and tokens woken
 
 module _ (tag : Tag) (port : ℕ) where
   search-spent : (i : ℕ) (ts : List Token) → firstFrom (standsAt tag port) 0 (spendOne i ts) ≡ firstFrom (standsAt tag port) 0 ts
@@ -204,72 +210,123 @@ module _ (tag : Tag) (port : ℕ) where
   search-woken (Read c) ts = refl
   search-woken (Write c v) ts = first-map (standsAt tag port) (woken c v) (λ t. refl) ts 0
 
-  free-carried : (a : Action) (i j : ℕ) (ts : List Token) → Free ts tag port → Free (wokenBy a (spentAt i j ts)) tag port
-  free-carried a i j ts f = search-woken a (spentAt i j ts) ∙ search-spent-at i j ts ∙ f
+  search-carried : (a : Action) (i j : ℕ) (ts : List Token) → firstFrom (standsAt tag port) 0 (wokenBy a (spentAt i j ts)) ≡ firstFrom (standsAt tag port) 0 ts
+  search-carried a i j ts = search-woken a (spentAt i j ts) ∙ search-spent-at i j ts
 
--- the keys of the outputs are free when the operands are spent and tokens woken, too
-pub keys-carried : (a : Action) (i j : ℕ) (ts : List Token) (o : Outputs) → FreeKeys ts o → FreeKeys (wokenBy a (spentAt i j ts)) o
-keys-carried a i j ts o = go (o .count)
+spent-count : (i j : ℕ) (ts : List Token) → length (spentAt i j ts) ≡ length ts
+unfolding spentAt spendOne
+spent-count i j ts = go (eqb i j)
   where
-    go : (n : ℕ) → FreeKeysBy ts n (o .first) (o .second) → FreeKeysBy (wokenBy a (spentAt i j ts)) n (o .first) (o .second)
+    go : (b : Bool) → length (cond b (spendOne i ts) (spendOne j (spendOne i ts))) ≡ length ts
+    go true = length-set ts i (spentToken (getD ts i noToken))
+    go false = length-set (spendOne i ts) j (spentToken (getD (spendOne i ts) j noToken)) ∙ length-set ts i (spentToken (getD ts i noToken))
+
+woken-count : (a : Action) (ts : List Token) → length (wokenBy a ts) ≡ length ts
+woken-count (Send v) ts = refl
+woken-count (Read c) ts = refl
+woken-count (Write c v) ts = length-map ts (woken c v)
+
+-- a search that finds the same in two lists finds the same with one more at their ends
+search-added : (p : Token → Bool) (ts us : List Token) (u : Token) → length ts ≡ length us → firstFrom p 0 ts ≡ firstFrom p 0 us → firstFrom p 0 (ts ++ u ∷ []) ≡ firstFrom p 0 (us ++ u ∷ [])
+search-added p ts us u len e = go (firstFrom p 0 us) refl (p u) refl
+  where
+    go : (f : Found) → firstFrom p 0 us ≡ f → (b : Bool) → p u ≡ b → firstFrom p 0 (ts ++ u ∷ []) ≡ firstFrom p 0 (us ++ u ∷ [])
+    go (At i) q b h = first-kept p ts (u ∷ []) 0 i (e ∙ q) ∙ sym (first-kept p us (u ∷ []) 0 i q)
+    go Nothing q true h = first-added p u ts (e ∙ q) h ∙ ap At len ∙ sym (first-added p u us q h)
+    go Nothing q false h = first-none-added p ts u 0 (e ∙ q) h ∙ sym (first-none-added p us u 0 q h)
+
+open-same : (ts us : List Token) (tag : Tag) (port : ℕ) (s : Slot) → ((p : ℕ) → firstFrom (standsAt tag p) 0 ts ≡ firstFrom (standsAt tag p) 0 us) → Open us tag port s → Open ts tag port s
+open-same ts us tag port s e o = record { free = e port ∙ o .free; bucket = o .bucket; partner = o .partner ∙ sym (e (1 - port)) }
+
+-- where the outputs may arrive they may when the operands are spent and tokens woken, too
+pub keys-carried : (a : Action) (i j : ℕ) (ts : List Token) (o : Outputs) (s t : Slot) → OpenKeys ts o s t → OpenKeys (wokenBy a (spentAt i j ts)) o s t
+keys-carried a i j ts o s t = go (o .count)
+  where
+    us : List Token
+    us = wokenBy a (spentAt i j ts)
+
+    count : length us ≡ length ts
+    count = woken-count a (spentAt i j ts) ∙ spent-count i j ts
+
+    first : Open ts (o .first .tag) (o .first .port) s → Open us (o .first .tag) (o .first .port) s
+    first = open-same us ts (o .first .tag) (o .first .port) s (λ p. search-carried (o .first .tag) p a i j ts)
+
+    go : (n : ℕ) → OpenKeysBy ts n (o .first) (o .second) s t → OpenKeysBy us n (o .first) (o .second) s t
     go zero f = tt
-    go (suc zero) f = free-carried (o .first .tag) (o .first .port) a i j ts f
-    go (suc (suc n)) f = (free-carried (o .first .tag) (o .first .port) a i j ts (f .0), free-carried (o .second .tag) (o .second .port) a i j ts (f .1), f .2)
+    go (suc zero) f = first f
+    go (suc (suc n)) f =
+        let tag = o .second .tag in (
+          first (f .0),
+          λ x.
+              let u = tokenOut x (o .first) in
+              open-same (us ++ u ∷ []) (ts ++ u ∷ []) tag (o .second .port) t (λ p. search-added (standsAt tag p) us ts u count (search-carried tag p a i j ts)) (f .1 x),
+        )
 
 -- ---- outputs
 
-module _ (j k : Key) (n : ℕ) (some-out : n ≡ 0 → ⊥) (low : LowPortsBy n j k) where
-  pub low-first : j .port < 2
-  low-first = go n some-out low
-    where
-      go : (n : ℕ) → (n ≡ 0 → ⊥) → LowPortsBy n j k → j .port < 2
-      go zero z w = absurd (z refl)
-      go (suc zero) z w = w
-      go (suc (suc n)) z w = w .0
+abbrev keyAt : (k : ℕ) → (first second : Key) → Key
+keyAt zero i j = i
+keyAt (suc k) i j = j
 
-  pub low-second : (n ≡ 1 → ⊥) → k .port < 2
-  low-second more = go n some-out more low
-    where
-      go : (n : ℕ) → (n ≡ 0 → ⊥) → (n ≡ 1 → ⊥) → LowPortsBy n j k → k .port < 2
-      go zero z o w = absurd (z refl)
-      go (suc zero) z o w = absurd (o refl)
-      go (suc (suc n)) z o w = w .1
+abbrev slotAt : (k : ℕ) → (first second : Slot) → Slot
+slotAt zero s t = s
+slotAt (suc k) s t = t
 
-module _ (ts : List Token) (j k : Key) (n : ℕ) (some-out : n ≡ 0 → ⊥) (free : FreeKeysBy ts n j k) where
-  pub free-first : Free ts (j .tag) (j .port)
-  free-first = go n some-out free
-    where
-      go : (n : ℕ) → (n ≡ 0 → ⊥) → FreeKeysBy ts n j k → Free ts (j .tag) (j .port)
-      go zero z f = absurd (z refl)
-      go (suc zero) z f = f
-      go (suc (suc n)) z f = f .0
+-- k of the outputs have arrived, and the next is at hand with its slot
+pub record Appending (tables links flags l : List ℕ) (used k : ℕ) (ts : List Token) (o : Outputs) (x : Content) (s t : Slot) (key : Key) (slot : Slot) (start : List ℕ) : Type 0 where
+  pub most : k ≤ o .count
+  pub kept : Kept tables links flags l (used + k) (ts ++ outputsBy k (o .first) (o .second) x) start
+  pub next : key ≡ keyAt k (o .first) (o .second)
+  pub place : slot ≡ slotAt k s t
 
-  -- once the first has arrived
-  pub free-second : (x : Content) → (n ≡ 1 → ⊥) → Free (ts ++ tokenOut x j ∷ []) (k .tag) (k .port)
-  free-second x more = go n some-out more free
-    where
-      go : (n : ℕ) → (n ≡ 0 → ⊥) → (n ≡ 1 → ⊥) → FreeKeysBy ts n j k → Free (ts ++ tokenOut x j ∷ []) (k .tag) (k .port)
-      go zero z o f = absurd (z refl)
-      go (suc zero) z o f = absurd (o refl)
-      go (suc (suc n)) z o f = first-none-added (standsAt (k .tag) (k .port)) ts (tokenOut x j) 0 (f .1) (f .2 x)
+module _ {tables links flags l start : List ℕ} {used : ℕ} {ts : List Token} {o : Outputs} {x : Content} {s t : Slot} where
+  pub appending-none : Kept tables links flags l used ts start → Appending tables links flags l used 0 ts o x s t (o .first) s start
+  appending-none w = record { most = omega arith; kept = rw (add-zero used, append-nil ts) w; next = refl; place = refl }
 
-module _ (j k : Key) (x : Content) (n used : ℕ) (ts : List Token) {tables links flags l start : List ℕ} where
-  pub kept-none : Kept tables links flags l used ts start → n ≡ 0
-      → Kept tables links flags l (used + n) (ts ++ outputsBy n j k x) start
-  kept-none w e = rw (e, add-zero used, append-nil ts) w
+  module _ {k : ℕ} {key : Key} {slot : Slot} (w : Appending tables links flags l used k ts o x s t key slot start) where
+    pub appending-all : (k < o .count → ⊥) → (used + k ≡ used + o .count) × Kept tables links flags l (used + o .count) (ts ++ outputsOf x o) start
+    appending-all z =
+        let e : k ≡ o .count = omega (arith, w .most) in
+        (ap (λ (n : ℕ). used + n) e, rw e at (w .kept))
 
-  module _ (w : Kept tables links flags l (used + 1) (ts ++ tokenOut x j ∷ []) start) where
-    pub kept-first : n ≡ 1 → Kept tables links flags l (used + n) (ts ++ outputsBy n j k x) start
-    kept-first e = rw e w
+    module _ (more : k < o .count) where
+      pub next-low : LowPorts o → key .port < 2
+      next-low low = rw (w .next) (go k (o .count) more low)
+        where
+          go : (k n : ℕ) → k < n → LowPortsBy n (o .first) (o .second) → keyAt k (o .first) (o .second) .port < 2
+          go k zero h v = absurd (omega arith)
+          go zero (suc zero) h v = v
+          go (suc k) (suc zero) h v = absurd (omega arith)
+          go zero (suc (suc n)) h v = v .0
+          go (suc k) (suc (suc n)) h v = v .1
 
-    pub kept-second : {links′ flags′ l′ : List ℕ}
-        → Kept tables links′ flags′ l′ (used + 1 + 1) (tokens (used + 1) l ++ tokenOut x k ∷ []) l
-        → (n ≡ 0 → ⊥) → (n ≡ 1 → ⊥) → n ≤ 2 → Kept tables links′ flags′ l′ (used + n) (ts ++ outputsBy n j k x) start
-    kept-second w′ z o h =
-        let e : n ≡ 2 = omega arith in
-        let two : used + 2 ≡ used + 1 + 1 = omega arith in
-        rw (e, two)
-        (kept-as (kept-again w (λ us. us ++ tokenOut x k ∷ []) (used + 1 + 1) (omega arith) w′) (append-assoc ts (tokenOut x j ∷ []) (tokenOut x k ∷ [])))
+      pub next-open : o .count ≤ 2 → OpenKeys ts o s t → Open (tokens (used + k) l) (key .tag) (key .port) slot
+      next-open few v = rw (w .kept .held, w .next, w .place) (go k (o .count) more few v)
+        where
+          go : (k n : ℕ) → k < n → n ≤ 2 → OpenKeysBy ts n (o .first) (o .second) s t
+              → Open (ts ++ outputsBy k (o .first) (o .second) x) (keyAt k (o .first) (o .second) .tag) (keyAt k (o .first) (o .second) .port) (slotAt k s t)
+          go k zero h m v = absurd (omega arith)
+          go zero (suc zero) h m v = rw (append-nil ts) v
+          go (suc k) (suc zero) h m v = absurd (omega arith)
+          go zero (suc (suc n)) h m v = rw (append-nil ts) (v .0)
+          go (suc zero) (suc (suc n)) h m v = v .1 x
+          go (suc (suc k)) (suc (suc n)) h m v = absurd (omega arith)
+
+      pub appending-next : o .count ≤ 2 → {links′ flags′ l′ : List ℕ} → Kept tables links′ flags′ l′ (used + k + 1) (tokens (used + k) l ++ tokenOut x key ∷ []) l
+          → Appending tables links′ flags′ l′ used (k + 1) ts o x s t (o .second) t start
+      appending-next few v =
+          let sum : used + (k + 1) ≡ used + k + 1 = omega arith in
+          record {
+            most = omega arith;
+            kept = rw sum (kept-as (kept-again (w .kept) (λ us. us ++ tokenOut x key ∷ []) (used + k + 1) (omega arith) v) (rw (w .next) (go k (omega arith))));
+            next = rw add-one;
+            place = rw add-one;
+          }
+        where
+          go : (k : ℕ) → k < 2 → (ts ++ outputsBy k (o .first) (o .second) x) ++ tokenOut x (keyAt k (o .first) (o .second)) ∷ [] ≡ ts ++ outputsBy (k + 1) (o .first) (o .second) x
+          go zero h = ap (λ us. us ++ tokenOut x (o .first) ∷ []) (append-nil ts)
+          go (suc zero) h = append-assoc ts (tokenOut x (o .first) ∷ []) (tokenOut x (o .second) ∷ [])
+          go (suc (suc k)) h = absurd (omega arith)
 
 -- ---- cells
 

@@ -12,11 +12,10 @@ use Rattle.record.specs.declared.token.Content.the-variants.{Live, Deferred}
 use Rattle.record.specs.declared.cell.Cell.{Cell}
 use Rattle.record.specs.declared.cell.Cell.the-variants.{Absent, Waiting, Present}
 use Rattle.buffer.specs.Rows.{joined, All}
-use Rattle.record.specs.TokensAndTags.{tokens, standsAt}
+use Rattle.record.specs.TokensAndTags.{tokens}
 use Rattle.record.specs.Cells as Cells
 use Rattle.record.specs.Widths.{tokenWidth, cellWidth}
 use Rattle.store_flags.specs.Flags.{flagsOf}
-use Rattle.store_chains.specs.Search.{Free}
 use Rattle.store_chains.specs.Deferred.{woken}
 use Rattle.store_enabled.specs.Store.{Operands, lower}
 use Rattle.store.specs.Matching.{spentToken, Matching}
@@ -25,6 +24,7 @@ use Rattle.fire_effect.specs.declared.operate.Action.the-variants.{Send, Read, 
 use Rattle.fire_effect.specs.declared.output.Key.{Key}
 use Rattle.fire_effect.specs.declared.output.Outputs.{Outputs}
 use Rattle.abstraction.specs.States.{noToken}
+pub use Rattle.fire_operands.specs.Operands.{tokenOut, LowPorts, OpenKeys}
 
 -- ---- the tokens
 
@@ -35,9 +35,6 @@ spendOne i ts = set ts i (spentToken (getD ts i noToken))
 unfoldable pub spentAt : (first second : ℕ) → List Token → List Token
 spentAt i j ts = cond (eqb i j) (spendOne i ts) (spendOne j (spendOne i ts))
 
-abbrev pub tokenOut : Content → Key → Token
-tokenOut x k = record { tag = k .tag; port = k .port; content = x }
-
 abbrev pub outputsBy : (count : ℕ) → (first second : Key) → Content → List Token
 outputsBy zero j k x = []
 outputsBy (suc zero) j k x = tokenOut x j ∷ []
@@ -46,24 +43,6 @@ outputsBy (suc (suc n)) j k x = tokenOut x j ∷ tokenOut x k ∷ []
 -- the outputs, destination 1 first, with one content
 abbrev pub outputsOf : Content → Outputs → List Token
 outputsOf x o = outputsBy (o .count) (o .first) (o .second) x
-
-abbrev pub LowPortsBy : (count : ℕ) → (first second : Key) → Type 0
-LowPortsBy zero j k = Unit {0}
-LowPortsBy (suc zero) j k = j .port < 2
-LowPortsBy (suc (suc n)) j k = (j .port < 2) × (k .port < 2)
-
--- the outputs are at ports 0 and 1
-abbrev pub LowPorts : Outputs → Type 0
-LowPorts o = LowPortsBy (o .count) (o .first) (o .second)
-
-abbrev pub FreeKeysBy : List Token → (count : ℕ) → (first second : Key) → Type 0
-FreeKeysBy ts zero j k = Unit {0}
-FreeKeysBy ts (suc zero) j k = Free ts (j .tag) (j .port)
-FreeKeysBy ts (suc (suc n)) j k = Free ts (j .tag) (j .port) × Free ts (k .tag) (k .port) × ((x : Content) → standsAt (k .tag) (k .port) (tokenOut x j) ≡ false)
-
--- no token stands where the outputs go, and they go to different ports or tags
-abbrev pub FreeKeys : List Token → Outputs → Type 0
-FreeKeys ts o = FreeKeysBy ts (o .count) (o .first) (o .second)
 
 -- ---- the cells
 

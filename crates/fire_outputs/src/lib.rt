@@ -7,6 +7,7 @@ use record::cell;
 use record::cell::Cell;
 use record::token::Content;
 use record::token::Token;
+use store_chains::Slot;
 ghost use mathlib.Core.Path.{_≡_};
 ghost use mathlib.Core.List.{[], _∷_, _++_};
 ghost use Prim.Native.Nat.{_+_, _/_, _≤_, _<_};
@@ -14,10 +15,10 @@ ghost use lib.ListN.{length, getD};
 ghost use Rattle.record.specs.TokensAndTags.{tokens};
 ghost use Rattle.record.specs.declared.cell.Cell.the-variants.{Absent};
 ghost use Rattle.record.specs.Widths.{tokenWidth, cellWidth};
-ghost use Rattle.store_chains.specs.Search.{Free};
+ghost use Rattle.store_chains.specs.Slots.{Open};
 ghost use Rattle.store_chains.specs.Deferred.{LowCell};
 ghost use Rattle.store.specs.Matching.{Matching};
-ghost use Rattle.fire_outputs.specs.Outputs.{Kept, CellStore, CellsKept, spentAt, tokenOut, outputsOf, LowPorts, FreeKeys, cellsIn, cellsFetched, contentFetched, OnCells, contentBy, cellsBy, wokenBy, writesAgain, Fireable};
+ghost use Rattle.fire_outputs.specs.Outputs.{Kept, CellStore, CellsKept, spentAt, tokenOut, outputsOf, LowPorts, OpenKeys, cellsIn, cellsFetched, contentFetched, OnCells, contentBy, cellsBy, wokenBy, writesAgain, Fireable};
 
 // The places of an activity's operands in the ledger; where it has one operand, that place twice.
 pub struct Places {
@@ -25,7 +26,7 @@ pub struct Places {
     pub second: usize,
 }
 
-// An output goes in as record `used`.
+// An output goes in as record `used`, in its slot.
 fn append_one(
     tables: &[u16; 641],
     links: &mut [u16; 9216],
@@ -34,8 +35,9 @@ fn append_one(
     used: usize,
     key: Key,
     content: Content,
+    slot: Slot,
 )
-    requires { ⌜ Matching (now tables) (now links) (now flags) (now ledger) used × (used < length (now ledger) / tokenWidth) × (used < 2048) × (key .port < 2) × LowCell content × Free (tokens used (now ledger)) (key .tag) (key .port) ⌝ }
+    requires { ⌜ Matching (now tables) (now links) (now flags) (now ledger) used × (used < length (now ledger) / tokenWidth) × (used < 2048) × (key .port < 2) × LowCell content × Open (tokens used (now ledger)) (key .tag) (key .port) slot ⌝ }
     ensures { λ _. ⌜ Kept (now (tables .entry)) (now (links .exit)) (now (flags .exit)) (now (ledger .exit)) (used + 1)
         (tokens used (now (ledger .entry)) ++ tokenOut content key ∷ []) (now (ledger .entry)) ⌝ }
 {
@@ -51,10 +53,11 @@ fn append_one(
             port: key.port,
             content,
         },
+        slot,
     );
 }
 
-// The outputs go into the ledger, destination 1 first: how many tokens it then has.
+// The outputs go into the ledger, destination 1 first: how many tokens it then has. One place writes them, so that it is no call.
 fn append_outputs(
     tables: &[u16; 641],
     links: &mut [u16; 9216],
@@ -63,22 +66,24 @@ fn append_outputs(
     used: usize,
     outputs: Outputs,
     content: Content,
+    first: Slot,
+    second: Slot,
 ) -> usize
-    requires { ⌜ Matching (now tables) (now links) (now flags) (now ledger) used × (used + outputs .count ≤ length (now ledger) / tokenWidth) × (length (now ledger) / tokenWidth ≤ 2048) × (outputs .count ≤ 2) × LowPorts outputs × LowCell content × FreeKeys (tokens used (now ledger)) outputs ⌝ }
+    requires { ⌜ Matching (now tables) (now links) (now flags) (now ledger) used × (used + outputs .count ≤ length (now ledger) / tokenWidth) × (length (now ledger) / tokenWidth ≤ 2048) × (outputs .count ≤ 2) × LowPorts outputs × LowCell content × OpenKeys (tokens used (now ledger)) outputs first second ⌝ }
     ensures { λ r. ⌜ (r ≡ used + outputs .count) × Kept (now (tables .entry)) (now (links .exit)) (now (flags .exit)) (now (ledger .exit)) (used + outputs .count)
         (tokens used (now (ledger .entry)) ++ outputsOf content outputs) (now (ledger .entry)) ⌝ }
 {
-    let first = outputs.first;
-    let second = outputs.second;
-    if outputs.count == 0 {
-        return used;
+    let n = outputs.count as usize;
+    let mut key = outputs.first;
+    let mut slot = first;
+    let mut k = 0;
+    while k < n {
+        append_one(tables, links, flags, ledger, used + k, key, content, slot);
+        key = outputs.second;
+        slot = second;
+        k += 1;
     }
-    append_one(tables, links, flags, ledger, used, first, content);
-    if outputs.count == 1 {
-        return used + 1;
-    }
-    append_one(tables, links, flags, ledger, used + 1, second, content);
-    used + 2
+    used + k
 }
 
 // FETCH: the content of its outputs is the value of a present cell; otherwise they are deferred, and the cell waits.
@@ -142,8 +147,10 @@ pub fn carry_out(
     operands: Places,
     action: Action,
     outputs: Outputs,
+    first: Slot,
+    second: Slot,
 ) -> usize
-    requires { ⌜ Fireable (now tables) (now links) (now flags) (now ledger) (now cells) used (operands .first) (operands .second) × (used + outputs .count ≤ length (now ledger) / tokenWidth) × (outputs .count ≤ 2) × LowPorts outputs × OnCells (length (now cells) / cellWidth) action × FreeKeys (tokens used (now ledger)) outputs ⌝ }
+    requires { ⌜ Fireable (now tables) (now links) (now flags) (now ledger) (now cells) used (operands .first) (operands .second) × (used + outputs .count ≤ length (now ledger) / tokenWidth) × (outputs .count ≤ 2) × LowPorts outputs × OnCells (length (now cells) / cellWidth) action × OpenKeys (tokens used (now ledger)) outputs first second ⌝ }
     ensures { λ r. ⌜ (r ≡ used + outputs .count) × Kept (now (tables .entry)) (now (links .exit)) (now (flags .exit)) (now (ledger .exit)) (used + outputs .count)
         (wokenBy action (spentAt (operands .first) (operands .second) (tokens used (now (ledger .entry)))) ++ outputsOf (contentBy action (cellsIn (now (cells .entry)))) outputs) (now (ledger .entry))
         × CellsKept (now (cells .exit)) (cellsBy action (cellsIn (now (cells .entry)))) (now (cells .entry)) ⌝ }
@@ -151,7 +158,17 @@ pub fn carry_out(
     store::spend_operands(flags, ledger, operands.first, operands.second);
     let content = change_cells(cells, action);
     wake(tables, links, flags, ledger, used, action);
-    append_outputs(tables, links, flags, ledger, used, outputs, content)
+    append_outputs(
+        tables,
+        links,
+        flags,
+        ledger,
+        used,
+        outputs,
+        content,
+        first,
+        second,
+    )
 }
 
 // Whether an action writes a cell that is present.

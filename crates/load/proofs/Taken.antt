@@ -4,7 +4,7 @@ use mathlib.Core.Path.{_≡_, refl, sym, ap, _∙_}
 use mathlib.Core.List.{List, [], _∷_, _++_, append-assoc}
 use native.Mathlib.Omega.{arith}
 use native.Mathlib.Numerals.{add-one}
-use native.Mathlib.Nat.{suc-mul, add-comm, not-suc-le-zero, le-of-suc-le-suc}
+use native.Mathlib.Nat.{suc-mul, add-comm}
 use lib.ListN.{length, take, drop, length-append}
 use lib.Seq.{drop-at, drop-drop, length-take-le}
 use Rattle.buffer.specs.Rows.{allRows, putRow, All}
@@ -16,6 +16,7 @@ use Rattle.record.specs.Widths.{tokenWidth}
 use Rattle.store_enabled.proofs.Store.{all-at}
 use Rattle.store_chains.specs.Search.{Free}
 use Rattle.store.specs.Matching.{Matching}
+use Rattle.store.proofs.Writing.{tokens-first}
 use Rattle.load.specs.Loaded.{Proper, Alone, Loaded}
 
 pub record Taken (tables links flags ledger ledger′ inputs : List ℕ) (i : ℕ) : Type 0 where
@@ -32,12 +33,6 @@ tokens-more (suc i) l =
     ap (λ (ts : List Token). decode l ∷ ts) (tokens-more i (drop tokenWidth l))
     ∙ rw (drop-drop (i * tokenWidth) tokenWidth l, suc-mul i tokenWidth, add-comm (i * tokenWidth) tokenWidth)
 
--- the tokens of some records fewer
-tokens-first : (i n : ℕ) (l : List ℕ) → i ≤ n → take i (tokens n l) ≡ tokens i l
-tokens-first zero n l h = refl
-tokens-first (suc i) zero l h = absurd (not-suc-le-zero h)
-tokens-first (suc i) (suc n) l h = ap (λ (ts : List Token). decode l ∷ ts) (tokens-first i n (drop tokenWidth l) (le-of-suc-le-suc h))
-
 -- a write of record i leaves the bytes past it
 put-rest : (l : List ℕ) (i : ℕ) (b : List ℕ) → length b ≡ tokenWidth → i * tokenWidth + tokenWidth ≤ length l → drop (suc i * tokenWidth) (putRow tokenWidth l i b) ≡ drop (suc i * tokenWidth) l
 unfolding putRow
@@ -48,10 +43,10 @@ put-rest l i b e h =
     rw (suc-mul i tokenWidth) (ap (drop (i * tokenWidth + tokenWidth)) (sym (append-assoc p b r)) ∙ drop-at (p ++ b) r (i * tokenWidth + tokenWidth) k)
 
 -- what is known of an input
-pub proper : (inputs : List ℕ) (i : ℕ) (t : Token) → t ≡ tokenAt inputs i → i < length inputs / tokenWidth → All Proper (allRows tokenWidth decode inputs) → Proper t
-proper inputs i t e h w =
+pub proper : (tables inputs : List ℕ) (i : ℕ) (t : Token) → t ≡ tokenAt inputs i → i < length inputs / tokenWidth → All (Proper tables) (allRows tokenWidth decode inputs) → Proper tables t
+proper tables inputs i t e h w =
     let n = length inputs / tokenWidth in
-    rw e (rw (getD-rows tokenWidth decode n i inputs t h) at (all-at Proper (tokens n inputs) i t (rw (length-rows tokenWidth decode n inputs) h) w))
+    rw e (rw (getD-rows tokenWidth decode n i inputs t h) at (all-at (Proper tables) (tokens n inputs) i t (rw (length-rows tokenWidth decode n inputs) h) w))
 
 pub alone : (inputs l : List ℕ) (i : ℕ) (t : Token) → t ≡ tokenAt inputs i → i < length inputs / tokenWidth → tokens i l ≡ tokens i inputs → Alone inputs → Free (tokens i l) (t .tag) (t .port)
 alone inputs l i t e h same w = rw (same, e) (rw (tokens-first i (length inputs / tokenWidth) inputs (omega arith)) at (w i h))

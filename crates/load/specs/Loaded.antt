@@ -9,11 +9,14 @@ use Rattle.record.specs.declared.token.Token.{Token}
 use Rattle.record.specs.Widths.{tokenWidth}
 use Rattle.store_chains.specs.Search.{Free}
 use Rattle.store_chains.specs.Deferred.{LowCell}
+use Rattle.store_enabled.specs.Enabled.{arityOf}
 use Rattle.store.specs.Matching.{Matching}
 
--- what the matching store asks of a token that arrives
-abbrev pub Proper : Token → Type 0
-Proper t = (t .port < 2) × LowCell (t .content)
+-- what the matching store asks of a token that arrives: where one operand is waited for, it is on port 0
+pub record Proper (tables : List ℕ) (t : Token) : Type 0 where
+  pub low : t .port < 2
+  pub cell : LowCell (t .content)
+  pub alone : arityOf tables (t .tag) ≡ 1 → t .port ≡ 0
 
 -- none of the inputs before it stands where an input does, which refusal 9 is for
 abbrev pub Alone : (inputs : List ℕ) → Type 0

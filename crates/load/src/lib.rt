@@ -2,6 +2,7 @@
 // input tokens are written to the ledger.
 use record::pick;
 use record::token;
+use store_chains::Sought;
 ghost use mathlib.Core.Path.{_≡_};
 ghost use Prim.Native.Nat.{_/_, _≤_, _<_};
 ghost use lib.ListN.{length, getD, replicate};
@@ -48,7 +49,8 @@ pub fn pick_at(picks: &[u8], k: usize) -> usize
     wide(pick_or(picks, k, 0))
 }
 
-// The input tokens arrive in their order in an empty ledger. The answer is how many they are.
+// The input tokens arrive in their order in an empty ledger. The answer is how many they are. They are written here and then entered,
+// so that `store::arrive` is called in one place.
 pub fn inputs(
     tables: &[u16; 641],
     links: &mut [u16; 9216],
@@ -56,14 +58,20 @@ pub fn inputs(
     ledger: &mut [u8],
     inputs: &[u8],
 ) -> usize
-    requires { ⌜ Matching (now tables) (now links) (now flags) (now ledger) 0 × (length (now inputs) / tokenWidth ≤ length (now ledger) / tokenWidth) × (length (now ledger) / tokenWidth ≤ 2048) × All Proper (allRows tokenWidth decode (now inputs)) × Alone (now inputs) ⌝ }
+    requires { ⌜ Matching (now tables) (now links) (now flags) (now ledger) 0 × (length (now inputs) / tokenWidth ≤ length (now ledger) / tokenWidth) × (length (now ledger) / tokenWidth ≤ 2048) × All (Proper (now tables)) (allRows tokenWidth decode (now inputs)) × Alone (now inputs) ⌝ }
     ensures { λ r. ⌜ Loaded (now (tables .entry)) (now (links .exit)) (now (flags .exit)) (now (ledger .entry)) (now (ledger .exit)) (now (inputs .entry)) r ⌝ }
 {
     let n = inputs.len() / token::WIDTH;
     let mut i = 0;
     while i < n {
         let t = token::token_at(inputs, i);
-        store::arrive(tables, links, flags, ledger, i, t);
+        token::put_token(ledger, i, t);
+        let tag = t.tag;
+        let Sought::Free(slot) = store::seek(links, ledger, i, tag, t.port) else {
+            // No two inputs stand on one port of a tag.
+            return i;
+        };
+        store::enter(tables, links, flags, ledger, i, t, slot);
         i += 1;
     }
     i

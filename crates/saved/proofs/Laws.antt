@@ -83,12 +83,6 @@ cell-own l h b e =
       cell-fits l b,
     )
 
--- a record that is written again
-pub put-same : (l : List ℕ) (i : ℕ) (b : List ℕ) → b ≡ take tokenWidth (drop (i * tokenWidth) l) → putRow tokenWidth l i b ≡ l
-unfolding putRow
-put-same l i b e =
-    rw (e, ← drop-drop tokenWidth (i * tokenWidth) l, take-append-drop tokenWidth (drop (i * tokenWidth) l)) (take-append-drop (i * tokenWidth) l)
-
 -- ---- tests of all numbers below one
 
 pub all-fails : (test : ℕ → Bool) (n i : ℕ) → i < n → test i ≡ false → false ≡ allUpTo test n

@@ -12,6 +12,7 @@ use record::token;
 use record::token::Content;
 use record::token::Token;
 use store_chains::Found;
+use store_chains::Sought;
 ghost use Prim.Native.Nat.{ℕ, _*_, _/_, _%_, _≤_, _<_};
 ghost use mathlib.Core.Path.{_≡_};
 ghost use mathlib.Core.Bool.{true, cond};
@@ -255,7 +256,12 @@ fn enter(
         fired += one_if(first_spent(t));
         of_two += one_if(spent_of_two(tables, t));
         closed += one_if(closes(tables, links, ledger, i, t));
-        store::enter(tables, links, flags, ledger, i, t);
+        let tag = t.tag;
+        let Sought::Free(slot) = store::seek(links, ledger, i, tag, t.port) else {
+            // `arrives` found none there.
+            return false;
+        };
+        store::enter(tables, links, flags, ledger, i, t, slot);
         i += 1;
     }
     same(closed * 2, of_two) && same(fired, firings)

@@ -35,20 +35,21 @@ use Rattle.rules.specs.declared.answer.Refusal.{Refusal}
 use Rattle.rules.specs.declared.answer.Answer.{Answer}
 use Rattle.rules.specs.declared.answer.Checked.the-variants.{Passed}
 use Rattle.rules.specs.Check.{checkInputs, check, operandsAt}
-use Rattle.rules.specs.InstructionSet.{machineOf}
+use Rattle.rules.specs.InstructionSet.{arityIn, machineOf}
 use Rattle.rules.specs.Run.{contentHeld, tokenHeld, tokenRecord, cellRecord, firstState}
 use Rattle.rules.proofs.Inputs.{start}
 use Rattle.rules.proofs.Lawful.{lawful}
 use Rattle.checks.proofs.Passed.{GoodInputs, passed-inputs, passed-input, passed-check, passed-stores}
 use Rattle.fire_effect.proofs.Arrives.{arrives-port}
-use Rattle.abstraction.specs.States.{cellHeld}
-use Rattle.abstraction.specs.Tables.{arraysIn, TablesOf}
+use Rattle.abstraction.specs.States.{cellHeld, OnPorts}
+use Rattle.abstraction.specs.Tables.{Arities, arraysIn, TablesOf}
 use Rattle.abstraction.proofs.Keys.{alone-free}
 use Rattle.fire_outputs.specs.Outputs.{cellsIn, CellStore}
 use Rattle.fire_outputs.proofs.Laws.{rest-on}
 use Rattle.load.specs.Loaded.{Proper, Alone, Loaded}
 use Rattle.load.proofs.Laws.{zeros-joined, absent-fit, zeros-cells}
 use Rattle.fire.specs.Running.{stateIn, Arrived, Running}
+use Rattle.fire.proofs.Place.{on-ports}
 use Rattle.start.specs.Begun.{machineLent, Accepted, Begun}
 use Rattle.start.specs.Ended.{EndedAt}
 
@@ -81,13 +82,24 @@ module _ (graph inputs : List ℕ) (capacity count : ℕ) (accepted : checkInput
   low-cells [] a = tt
   low-cells (t ∷ ts) a = (low-live (t .content) (a .0), low-cells ts (a .1))
 
-  both-all : (ts : List Record.Token) → Arrived (graphOf graph) ts → All (λ (t : Record.Token). LowCell (t .content)) ts → All Proper ts
-  both-all [] a b = tt
-  both-all (t ∷ ts) a b = ((arrives-port (graphOf graph) (record { tag = t .tag; port = t .port }) (a .0), b .0), both-all ts (a .1) (b .1))
+  module _ (tables : List ℕ) (arities : Arities (graphOf graph) tables) where
+    -- where one operand is waited for, a token is on port 0
+    proper-one : (t : Record.Token) → t .port < operandsAt (graphOf graph) (t .tag .instruction) → (0 < arityIn (graphOf graph) (t .tag) → t .port < arityIn (graphOf graph) (t .tag)) → LowCell (t .content) → Proper tables t
+    proper-one t a b c = record {
+      low = arrives-port (graphOf graph) (record { tag = t .tag; port = t .port }) a;
+      cell = c;
+      alone = λ e. let one : arityIn (graphOf graph) (t .tag) ≡ 1 = sym (arities (t .tag)) ∙ e in omega (arith, one, b (omega (arith, one)));
+    }
 
-  pub inputs-proper : All Proper (allRows tokenWidth Tokens.decode inputs)
-  unfolding firstState
-  inputs-proper = both-all (allRows tokenWidth Tokens.decode inputs) inputs-arrive (low-cells (allRows tokenWidth Tokens.decode inputs) (start (graphOf graph) [] capacity count inputs accepted .allLive))
+    proper-all : (ts : List Record.Token) → Arrived (graphOf graph) ts → OnPorts (graphOf graph) ts → All (λ (t : Record.Token). LowCell (t .content)) ts → All (Proper tables) ts
+    proper-all [] a b c = tt
+    proper-all (t ∷ ts) a b c = (proper-one t (a .0) (b .0) (c .0), proper-all ts (a .1) (b .1) (c .1))
+
+    pub inputs-proper : All (Proper tables) (allRows tokenWidth Tokens.decode inputs)
+    unfolding firstState
+    inputs-proper =
+        let ts = allRows tokenWidth Tokens.decode inputs in
+        proper-all ts inputs-arrive (on-ports (graphOf graph) ts inputs-arrive) (low-cells ts (start (graphOf graph) [] capacity count inputs accepted .allLive))
 
   pub inputs-alone : Alone inputs
   inputs-alone i h = alone-free (take i (allRows tokenWidth Tokens.decode inputs)) (Tokens.tokenAt inputs i) (inputs-good .alone i h)

@@ -40,10 +40,10 @@ matching-start tables ledger =
             room = omega arith;
             index = chained-none 0 4096 bucketKey (replicate 9216 0) (omega (arith, size)) (zero-at 9216);
             ports = tt;
+            single = single-none;
           };
           bytes = refl;
           fits = tt;
-          single = single-none;
           counted = counted-none;
           right = rw none-set (right-none tables);
         };

@@ -6,6 +6,8 @@ use record::token;
 use record::token::Content;
 use record::token::Token;
 use store_chains::Found;
+use store_chains::Slot;
+use store_chains::Sought;
 ghost use mathlib.Core.Path.{_≡_};
 ghost use mathlib.Core.List.{List, [], _∷_, _++_, map};
 ghost use Prim.Native.Nat.{ℕ, _+_, _*_, _/_, _<_};
@@ -14,17 +16,26 @@ ghost use Rattle.buffer.specs.Rows.{putRow, joined};
 ghost use Rattle.record.specs.TokensAndTags.{encode, tokens, standsAt};
 ghost use Rattle.record.specs.Widths.{tokenWidth};
 ghost use Rattle.store_flags.specs.Flags.{places, flagsOf, Counted};
-ghost use Rattle.store_chains.specs.Search.{firstFrom, Within, Free};
+ghost use Rattle.store_chains.specs.Search.{firstFrom, Within};
+ghost use Rattle.store_chains.specs.Slots.{Open, SoughtAt};
 ghost use Rattle.store_chains.specs.Deferred as Deferred;
 ghost use Rattle.store_enabled.specs.Store.{Known, lower, enabledAt, Standing, Operands, statesSpent, tokensSpent};
 ghost use Rattle.store.specs.Matching.{Matching};
 
-// The first token that stands at a port of a tag.
+// The token that stands at a port of a tag.
 pub fn find(links: &[u16; 9216], ledger: &[u8], used: usize, tag: Tag, port: u8) -> Found
     requires { ⌜ Known (now links) (now ledger) used ⌝ }
     ensures { λ r. ⌜ (r ≡ firstFrom (standsAt tag port) 0 (tokens used (now (ledger .entry)))) × Within r used ⌝ }
 {
     store_chains::find(links, ledger, used, tag, port)
+}
+
+// Where a token may arrive at a port of a tag, or that one stands there.
+pub fn seek(links: &[u16; 9216], ledger: &[u8], used: usize, tag: Tag, port: u8) -> Sought
+    requires { ⌜ Known (now links) (now ledger) used × (port < 2) ⌝ }
+    ensures { λ r. ⌜ SoughtAt r (tokens used (now (ledger .entry))) tag port ⌝ }
+{
+    store_chains::seek(links, ledger, used, tag, port)
 }
 
 // How many activities are enabled.
@@ -57,7 +68,7 @@ pub fn enabled_by_tag(
     store_enabled::enabled_by_tag(tables, links, ledger, used, tag)
 }
 
-// A token arrives where none stands: it becomes record `used`.
+// A token arrives in its slot: it becomes record `used`.
 pub fn arrive(
     tables: &[u16; 641],
     links: &mut [u16; 9216],
@@ -65,13 +76,14 @@ pub fn arrive(
     ledger: &mut [u8],
     used: usize,
     t: Token,
+    slot: Slot,
 )
-    requires { ⌜ Matching (now tables) (now links) (now flags) (now ledger) used × (used < length (now ledger) / tokenWidth) × (used < 2048) × (t .port < 2) × Deferred.LowCell (t .content) × Free (tokens used (now ledger)) (t .tag) (t .port) ⌝ }
+    requires { ⌜ Matching (now tables) (now links) (now flags) (now ledger) used × (used < length (now ledger) / tokenWidth) × (used < 2048) × (t .port < 2) × Deferred.LowCell (t .content) × Open (tokens used (now ledger)) (t .tag) (t .port) slot ⌝ }
     ensures { λ _. ⌜ now (ledger .exit) ≡ putRow tokenWidth (now (ledger .entry)) used (encode t) ⌝ }
     ensures { λ _. ⌜ tokens (used + 1) (now (ledger .exit)) ≡ tokens used (now (ledger .entry)) ++ t ∷ [] ⌝ }
     ensures { λ _. ⌜ Matching (now (tables .entry)) (now (links .exit)) (now (flags .exit)) (now (ledger .exit)) (used + 1) ⌝ }
 {
-    store_enabled::append(tables, links, flags, ledger, used, t);
+    store_enabled::append(tables, links, flags, ledger, used, t, slot);
 }
 
 // The token that stands in record `used` already arrives, and nothing is written.
@@ -82,11 +94,12 @@ pub fn enter(
     ledger: &[u8],
     used: usize,
     t: Token,
+    slot: Slot,
 )
-    requires { ⌜ Matching (now tables) (now links) (now flags) (now ledger) used × (used < length (now ledger) / tokenWidth) × (used < 2048) × Standing (now tables) (now ledger) used t × Deferred.LowCell (t .content) × Free (tokens used (now ledger)) (t .tag) (t .port) ⌝ }
+    requires { ⌜ Matching (now tables) (now links) (now flags) (now ledger) used × (used < length (now ledger) / tokenWidth) × (used < 2048) × Standing (now tables) (now ledger) used t × Deferred.LowCell (t .content) × Open (tokens used (now ledger)) (t .tag) (t .port) slot ⌝ }
     ensures { λ _. ⌜ Matching (now (tables .entry)) (now (links .exit)) (now (flags .exit)) (now (ledger .entry)) (used + 1) ⌝ }
 {
-    store_enabled::enter(tables, links, flags, ledger, used, t);
+    store_enabled::enter(tables, links, flags, ledger, used, t, slot);
 }
 
 // The operands of an enabled activity are spent; where one is waited for, both places are its place. They were live, so

@@ -12,7 +12,7 @@ use lib.Seq.{getD-set-same, getD-set-other, getD-append-seam}
 use borrow.Author.Tests.{eqb-true, eqb-false, ne-eqb}
 use Rattle.record.specs.declared.token.Token.{Token}
 use Rattle.store_chains.specs.Chains.{lastBelow, part, Linked, Chained}
-use Rattle.store_chains.specs.Walks.{On}
+use Rattle.store_chains.proofs.Walks.{On}
 use Rattle.store_chains.proofs.Parts.{length-part, getD-part, part-set, part-before, part-past}
 
 -- ---- the last place of a key

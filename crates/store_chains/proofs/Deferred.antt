@@ -17,7 +17,7 @@ use Rattle.store_chains.specs.Chains.{lastBelow, part, Linked, Chained}
 use Rattle.store_chains.specs.Deferred.{keyOf, cellKey, anyOn, Waiting, contentWoken, woken}
 use Rattle.store_chains.proofs.Parts.{part-set, part-before}
 use Rattle.store_chains.proofs.Chains.{last-same, last-none, key-at, walk-first, on-first, walk-next, next-below, on-next}
-use Rattle.store_chains.specs.Walks.{On}
+use Rattle.store_chains.proofs.Walks.{On}
 
 -- ---- a list whose elements from a place on are changed
 

@@ -6,20 +6,20 @@ use mathlib.Core.List.{List, map}
 use native.Mathlib.Omega.{arith}
 use lib.Dec.{eqb}
 use lib.ListN.{length, getD, drop, length-map}
-use borrow.Author.Tests.{eqb-true, eqb-false}
-use store.Seg.{eqb-same}
-use native.Mathlib.Numerals.{add-one}
+use borrow.Author.Tests.{eqb-true, eqb-false, eq-eqb, ne-eqb}
 use Rattle.record.specs.Paths.{samePath}
 use Rattle.record.specs.TokensAndTags.{tokens, tokenAt, decode, standsAt, sameTag}
+use Rattle.buffer.specs.Rows.{All}
 use Rattle.buffer.proofs.Tables.{getD-rows, length-rows}
 use Rattle.record.specs.declared.tag.Tag.{Tag}
 use Rattle.record.specs.declared.token.Token.{Token}
 use Rattle.record.proofs.Paths.{same-path}
 use Rattle.record.specs.Widths.{tokenWidth}
-use Rattle.store_chains.specs.Search.{firstFrom, foundOf, Within}
+use Rattle.store_chains.specs.declared.Found.the-variants.{At, Nothing}
+use Rattle.store_chains.specs.Search.{firstFrom, foundOf, isFound, Within, Single}
 use Rattle.store_chains.specs.Chains.{bucketOf, bucketKey, lastBelow, Indexed}
-use Rattle.store_chains.specs.Walks.{On, Walk, earliest, stands}
-use Rattle.store_chains.proofs.Search.{first-step, first-end, first-within}
+use Rattle.store_chains.proofs.Walks.{On, Walk, earliest, stands}
+use Rattle.store_chains.proofs.Search.{first-step, first-end, first-within, first-some, all-at}
 use Rattle.store_chains.proofs.Chains.{key-at, chained-few, walk-first, on-first, walk-next, next-below, on-next}
 
 -- places of other keys are passed
@@ -62,31 +62,47 @@ and-right true b e = e
 and-right false true e = refl
 and-right false false e = e
 
+and-false : (a : Bool) → a && false ≡ false
+and-false true = refl
+and-false false = refl
+
+tag-same : (a b : Tag) → sameTag a b ≡ true → a ≡ b
+unfolding sameTag
+tag-same a b e =
+    let p = samePath (a .path) (b .path) in
+    let i = eqb (a .iteration) (b .iteration) in
+    let n = eqb (a .instruction) (b .instruction) in
+    let y = and-right p (i && n) e in
+    let x : a .path ≡ b .path = same-path _ _ (and-left p (i && n) e) in
+    let u : a .iteration ≡ b .iteration = eqb-true _ _ (and-left i n y) in
+    let v : a .instruction ≡ b .instruction = eqb-true _ _ (and-right i n y) in
+    λ k. record { path = x k; iteration = u k; instruction = v k }
+
+-- one that stands at a port of a tag has both
+pub stands-is : (tag : Tag) (port : ℕ) (t : Token) → standsAt tag port t ≡ true → (t .tag ≡ tag) × (t .port ≡ port)
+unfolding standsAt
+stands-is tag port t e = (tag-same (t .tag) tag (and-right (eqb (t .port) port) (sameTag (t .tag) tag) e), eqb-true _ _ (and-left (eqb (t .port) port) _ e))
+
 pub stands-key : (tag : Tag) (port : ℕ) (t : Token) → standsAt tag port t ≡ true → bucketKey t ≡ suc (bucketOf tag)
-unfolding standsAt sameTag bucketOf
-stands-key tag port t e =
-    let p = samePath (t .tag .path) (tag .path) in
-    let i = eqb (t .tag .iteration) (tag .iteration) in
-    let n = eqb (t .tag .instruction) (tag .instruction) in
-    let s = and-right (eqb (t .port) port) (p && (i && n)) e in
-    let y = and-right p (i && n) s in
-    let x : t .tag .path ≡ tag .path = same-path _ _ (and-left p (i && n) s) in
-    let u : t .tag .iteration ≡ tag .iteration = eqb-true _ _ (and-left i n y) in
-    let v : t .tag .instruction ≡ tag .instruction = eqb-true _ _ (and-right i n y) in
-    rw (x, u, v)
+stands-key tag port t e = ap (λ (k : Tag). suc (bucketOf k)) (stands-is tag port t e .0)
+
+-- one of another tag stands at no port of this one
+pub stands-off : (tag : Tag) (port : ℕ) (t : Token) → sameTag (t .tag) tag ≡ false → standsAt tag port t ≡ false
+unfolding standsAt
+stands-off tag port t e = rw e (and-false (eqb (t .port) port))
+
+-- one of the tag that is not on a port below 2 is on the other
+pub stands-other-port : (tag : Tag) (port : ℕ) (t : Token) → port < 2 → t .port < 2 → sameTag (t .tag) tag ≡ true → (t .port ≡ port → ⊥)
+    → (standsAt tag port t ≡ false) × (standsAt tag (1 - port) t ≡ true)
+unfolding standsAt
+stands-other-port tag port t low h e apart = (rw (ne-eqb (t .port) port apart), rw (eq-eqb (t .port) (1 - port) (omega arith)) e)
 
 -- one that stands at a port stands at no other
-stands-once : (tag : Tag) (port other : ℕ) (t : Token) → (port ≡ other → ⊥) → standsAt tag port t ≡ true → standsAt tag other t ≡ false
+pub stands-once : (tag : Tag) (port other : ℕ) (t : Token) → (port ≡ other → ⊥) → standsAt tag port t ≡ true → standsAt tag other t ≡ false
 unfolding standsAt
-stands-once tag port other t apart e =
-    let same : t .port ≡ port = eqb-true _ _ (and-left (eqb (t .port) port) _ e) in
-    go (eqb (t .port) other) refl same
-  where
-    go : (b : Bool) → eqb (t .port) other ≡ b → t .port ≡ port → b && sameTag (t .tag) tag ≡ false
-    go true q same = absurd (apart (sym same ∙ eqb-true _ _ q))
-    go false q same = refl
+stands-once tag port other t apart e = rw (ne-eqb (t .port) other (λ q. apart (sym (stands-is tag port t e .1) ∙ q)))
 
-bucket-low : (tag : Tag) → bucketOf tag < 4096
+pub bucket-low : (tag : Tag) → bucketOf tag < 4096
 unfolding bucketOf
 bucket-low tag = omega arith
 
@@ -138,25 +154,55 @@ module _ (l : List ℕ) (n : ℕ) (tag : Tag) (port : ℕ) where
   pub walk-end : (best : ℕ) → Walk l n tag port 0 best → foundOf best ≡ firstFrom (standsAt tag port) 0 (tokens n l)
   walk-end best v = ap foundOf (sym (v .same)) ∙ scan-found (standsAt tag port) n l
 
--- the last record is the head of its tag's chain: a walk for the other port begins behind it
-module _ (l : List ℕ) (i : ℕ) (tag : Tag) (port : ℕ) (low : port < 2) (links : List ℕ) (w : Indexed links (tokens (i + 1) l)) (own : standsAt tag port (tokenAt l i) ≡ true) where
-  key-count : length (map bucketKey (tokens (i + 1) l)) ≡ i + 1
-  key-count = length-map (tokens (i + 1) l) bucketKey ∙ length-rows tokenWidth decode (i + 1) l
+  -- a walk that met none
+  pub walk-none : Walk l n tag port 0 0 → firstFrom (standsAt tag port) 0 (tokens n l) ≡ Nothing
+  walk-none v = sym (walk-end 0 v)
 
-  pub last-small : i < 2048
-  last-small = omega (arith, chained-few 0 4096 bucketKey links (tokens (i + 1) l) w, length-rows tokenWidth decode (i + 1) l)
+  -- or that met one, and no two stand there
+  pub walk-met : Single (tokens n l) → (i : ℕ) → i < n → stands l tag port i ≡ true → firstFrom (standsAt tag port) 0 (tokens n l) ≡ At i
+  unfolding Single
+  walk-met single i h e =
+      let d = tokenAt l i in
+      let at : getD (tokens n l) i d ≡ d = getD-rows tokenWidth decode n i l d h in
+      let k : i < length (tokens n l) = rw (length-rows tokenWidth decode n l) h in
+      let own = stands-is tag port d e in
+      rw (at, own .0, own .1) at (single i d k)
 
-  at-head : Walk l (i + 1) tag (1 - port) (suc i) 0
-  at-head =
-      let key : getD (map bucketKey (tokens (i + 1) l)) i 0 ≡ suc (bucketOf tag) = in-bucket l (i + 1) tag port (i + 1) (omega arith) i (omega arith) own in
-      record {
-        on = record { below = omega (arith, key-count); small = last-small; here = sym (rw (key, eqb-same (suc (bucketOf tag)))) };
-        low = omega arith;
-        same = rw add-one;
-      }
+-- ---- a walk that asks for both ports
 
-  pub walk-behind : Walk l (i + 1) tag (1 - port) (getD links (i + 4096) 0) 0
-  walk-behind =
-      let d : suc i - 1 ≡ i = omega arith in
-      let off = stands-once tag port (1 - port) (tokenAt l i) (λ q. omega (arith, q)) own in
-      rw (d, off) at (walk-step l (i + 1) tag (1 - port) links w (suc i) 0 (λ q. omega (arith, q)) at-head .1)
+module _ (l : List ℕ) (n : ℕ) (tag : Tag) (port : ℕ) (low : port < 2) (links : List ℕ) (w : Indexed links (tokens n l)) (at partner : ℕ) (some : at ≡ 0 → ⊥) (own : Walk l n tag port at 0) (other : Walk l n tag (1 - port) at partner) where
+  -- the record at hand has another tag
+  pub seek-past : sameTag (tokenAt l (at - 1) .tag) tag ≡ false
+      → (getD links (at - 1 + 4096) 0 < at) × Walk l n tag port (getD links (at - 1 + 4096) 0) 0 × Walk l n tag (1 - port) (getD links (at - 1 + 4096) 0) partner
+  seek-past e =
+      let t = tokenAt l (at - 1) in
+      let s = walk-step l n tag port links w at 0 some own in
+      let u = walk-step l n tag (1 - port) links w at partner some other in
+      (s .0, rw (stands-off tag port t e) at (s .1), rw (stands-off tag (1 - port) t e) at (u .1))
+
+  -- or it is the partner
+  pub seek-partner : tokenAt l (at - 1) .port < 2 → sameTag (tokenAt l (at - 1) .tag) tag ≡ true → (tokenAt l (at - 1) .port ≡ port → ⊥)
+      → (getD links (at - 1 + 4096) 0 < at) × Walk l n tag port (getD links (at - 1 + 4096) 0) 0 × Walk l n tag (1 - port) (getD links (at - 1 + 4096) 0) at
+  seek-partner h e apart =
+      let t = tokenAt l (at - 1) in
+      let both = stands-other-port tag port t low h e apart in
+      let s = walk-step l n tag port links w at 0 some own in
+      let u = walk-step l n tag (1 - port) links w at partner some other in
+      (s .0, rw (both .0) at (s .1), rw (both .1) at (u .1))
+
+-- the record at hand is of the tag and on the port: a search finds one
+pub seek-taken : (l : List ℕ) (n : ℕ) (tag : Tag) (port i : ℕ) → i < n → sameTag (tokenAt l i .tag) tag ≡ true → tokenAt l i .port ≡ port
+    → isFound (firstFrom (standsAt tag port) 0 (tokens n l)) ≡ true
+unfolding standsAt
+seek-taken l n tag port i h e p =
+    let d = tokenAt l i in
+    let at : getD (tokens n l) i d ≡ d = getD-rows tokenWidth decode n i l d h in
+    let k : i < length (tokens n l) = rw (length-rows tokenWidth decode n l) h in
+    let there : standsAt tag port d ≡ true = rw (eq-eqb (d .port) port p) e in
+    first-some (standsAt tag port) d (tokens n l) i k (rw at there)
+
+pub record-port : (l : List ℕ) (n i : ℕ) → i < n → All (λ (t : Token). t .port < 2) (tokens n l) → tokenAt l i .port < 2
+record-port l n i h ports =
+    let d = tokenAt l i in
+    let k : i < length (tokens n l) = rw (length-rows tokenWidth decode n l) h in
+    rw (getD-rows tokenWidth decode n i l d h) at (all-at (λ (t : Token). t .port < 2) (tokens n l) i d k ports)

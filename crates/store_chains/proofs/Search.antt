@@ -1,16 +1,17 @@
 -- Laws of a search from the front of a list. Assumes nothing.
 use Prim.Native.Nat.{ℕ, zero, suc, _-_, _*_, _≤_, _<_}
-use mathlib.Core.Path.{_≡_, refl, ap}
+use mathlib.Core.Path.{_≡_, refl, sym, ap, _∙_}
 use mathlib.Core.Bool.{Bool, true, false, cond}
 use mathlib.Core.List.{List, [], _∷_, _++_, map}
 use native.Mathlib.Omega.{arith}
+use native.Mathlib.Nat.{le-of-suc-le-suc}
 use lib.ListN.{length, getD, set, drop, drop-of-length-le}
 use lib.Seq.{drop-cons}
 use Rattle.buffer.specs.Rows.{rows, All}
 use Rattle.buffer.proofs.Tables.{getD-rows, length-rows}
 use Rattle.store_chains.specs.declared.Found.{Found}
 use Rattle.store_chains.specs.declared.Found.the-variants.{At, Nothing}
-use Rattle.store_chains.specs.Search.{firstFrom, foundOf, Within}
+use Rattle.store_chains.specs.Search.{firstFrom, foundOf, isFound, Within}
 
 pub found-some : (n : ℕ) → (n ≡ 0 → ⊥) → At (n - 1) ≡ foundOf n
 found-some zero h = absurd (h refl)
@@ -123,3 +124,22 @@ first-none-added p (t ∷ ts) u n e h = go (p t) e (λ e. first-none-added p ts 
         → cond b (At n) (firstFrom p (suc n) (ts ++ u ∷ [])) ≡ Nothing
     go true e later = e
     go false e later = later e
+
+-- one that fails is added at the end
+pub first-past : {A : Type 0} (p : A → Bool) (ts : List A) (u : A) (n : ℕ) → p u ≡ false → firstFrom p n (ts ++ u ∷ []) ≡ firstFrom p n ts
+first-past p [] u n h = rw h
+first-past p (t ∷ ts) u n h = rw (first-past p ts u (suc n) h)
+
+-- what holds of all holds of each
+pub all-at : {A : Type 0} (P : A → Type 0) (ts : List A) (i : ℕ) (d : A) → i < length ts → All P ts → P (getD ts i d)
+all-at P [] i d h w = absurd (omega arith)
+all-at P (x ∷ ts) zero d h w = w .0
+all-at P (x ∷ ts) (suc i) d h w = all-at P ts i d (le-of-suc-le-suc h) (w .1)
+
+-- one passes, so one is found
+pub first-some : {A : Type 0} (p : A → Bool) (d : A) (ts : List A) (i : ℕ) → i < length ts → p (getD ts i d) ≡ true → isFound (firstFrom p 0 ts) ≡ true
+first-some {A} p d ts i h e = go (firstFrom p 0 ts) refl
+  where
+    go : (f : Found) → firstFrom p 0 ts ≡ f → isFound f ≡ true
+    go (At j) q = refl
+    go Nothing q = sym (all-at (λ (t : A). p t ≡ false) ts i d h (first-none p ts q)) ∙ e

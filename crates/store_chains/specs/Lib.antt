@@ -1,5 +1,5 @@
 -- The definitions of chains of tokens. Assumes nothing.
 pub mod Search
 pub mod Chains
-pub mod Walks
+pub mod Slots
 pub mod Deferred

@@ -1,8 +1,9 @@
 -- A search of a list from its front. Assumes nothing.
 use Prim.Native.Nat.{ℕ, zero, suc, _<_}
 use mathlib.Core.Path.{_≡_}
-use mathlib.Core.Bool.{Bool, cond}
+use mathlib.Core.Bool.{Bool, true, false, cond}
 use mathlib.Core.List.{List, [], _∷_}
+use lib.ListN.{length, getD}
 use Rattle.record.specs.TokensAndTags.{standsAt}
 use Rattle.record.specs.declared.tag.Tag.{Tag}
 use Rattle.record.specs.declared.token.Token.{Token}
@@ -27,3 +28,11 @@ Within Nothing n = Unit {0}
 -- no token stands at a port of a tag: one that arrives there is no second
 abbrev pub Free : List Token → Tag → (port : ℕ) → Type 0
 Free ts tag port = firstFrom (standsAt tag port) 0 ts ≡ Nothing
+
+abbrev pub isFound : Found → Bool
+isFound (At i) = true
+isFound Nothing = false
+
+-- 01, "Firing", refusal 9: no two tokens stand on one port of a tag, so each is the first that a search of its port finds
+unfoldable pub Single : List Token → Type 0
+Single ts = (i : ℕ) (d : Token) → i < length ts → firstFrom (standsAt (getD ts i d .tag) (getD ts i d .port)) 0 ts ≡ At i

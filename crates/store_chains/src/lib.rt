@@ -5,15 +5,15 @@ use record::token;
 use record::token::Content;
 use record::token::Token;
 ghost use mathlib.Core.Path.{_≡_};
-ghost use mathlib.Core.Bool.{true};
 ghost use mathlib.Core.List.{List, [], _∷_, _++_};
-ghost use Prim.Native.Nat.{_+_, _-_, _/_, _≤_, _<_};
+ghost use Prim.Native.Nat.{_+_, _/_, _≤_, _<_};
 ghost use lib.ListN.{length, getD, set};
-ghost use Rattle.record.specs.TokensAndTags.{tokens, tokenAt, standsAt};
+ghost use Rattle.buffer.specs.Rows.{All};
+ghost use Rattle.record.specs.TokensAndTags.{tokens, sameTag, standsAt};
 ghost use Rattle.record.specs.Widths.{tokenWidth};
-ghost use Rattle.store_chains.specs.Search.{firstFrom, foundOf, Within};
+ghost use Rattle.store_chains.specs.Search.{firstFrom, foundOf, Within, Single};
 ghost use Rattle.store_chains.specs.Chains.{mix, bucketOf, Indexed};
-ghost use Rattle.store_chains.specs.Walks.{Walk};
+ghost use Rattle.store_chains.specs.Slots.{SoughtAt};
 ghost use Rattle.store_chains.specs.Deferred.{LowCell, Waiting};
 
 // Heads by tag from 0 on, and for each place the link to the one before it.
@@ -28,6 +28,18 @@ pub const LATER: usize = 7168;
 pub enum Found {
     At(usize),
     Nothing,
+}
+
+// Where a token may arrive: the chain of its tag, and its partner, which stands on the other port of the tag.
+pub struct Slot {
+    pub bucket: usize,
+    pub partner: Found,
+}
+
+// What a search finds that asks where a token may arrive.
+pub enum Sought {
+    Free(Slot),
+    Taken,
 }
 
 pub fn wide(x: u16) -> usize
@@ -52,6 +64,13 @@ fn bucket(tag: Tag) -> usize
     (sum % 4096) as usize
 }
 
+fn has_tag(t: Token, tag: Tag) -> bool
+    ensures { λ r. ⌜ r ≡ sameTag (t .tag) tag ⌝ }
+{
+    let own = t.tag;
+    own.same(tag)
+}
+
 // The answer of a place + 1, or 0 for none.
 fn found_of(best: usize) -> Found
     ensures { λ r. ⌜ r ≡ foundOf best ⌝ }
@@ -63,43 +82,47 @@ fn found_of(best: usize) -> Found
     }
 }
 
-// The first of the used records that stands at a port of a tag, where none does in the tag's chain before `from`. A chain
-// goes from the last record to the first, so the rest of it is walked to its end.
-fn walk(links: &[u16; 9216], ledger: &[u8], used: usize, from: usize, tag: Tag, port: u8) -> Found
-    requires { ⌜ (used ≤ length (now ledger) / tokenWidth) × Indexed (now links) (tokens used (now ledger)) × Walk (now ledger) used tag port from 0 ⌝ }
+// The used record that stands at a port of a tag. No two do, so the walk along the tag's chain ends with the first that it meets.
+pub fn find(links: &[u16; 9216], ledger: &[u8], used: usize, tag: Tag, port: u8) -> Found
+    requires { ⌜ (used ≤ length (now ledger) / tokenWidth) × Indexed (now links) (tokens used (now ledger)) × Single (tokens used (now ledger)) ⌝ }
     ensures { λ r. ⌜ (r ≡ firstFrom (standsAt tag port) 0 (tokens used (now (ledger .entry)))) × Within r used ⌝ }
 {
-    let mut at = from;
-    let mut best: usize = 0;
+    let mut at = wide(links[bucket(tag)]);
     while at != 0 {
         let i = at - 1;
         let t = token::token_at(ledger, i);
         if token::stands_at(t, tag, port) {
-            best = at;
+            return Found::At(i);
         }
         at = wide(links[i + NEXT]);
     }
-    found_of(best)
+    Found::Nothing
 }
 
-// The first of the used records that stands at a port of a tag.
-pub fn find(links: &[u16; 9216], ledger: &[u8], used: usize, tag: Tag, port: u8) -> Found
-    requires { ⌜ (used ≤ length (now ledger) / tokenWidth) × Indexed (now links) (tokens used (now ledger)) ⌝ }
-    ensures { λ r. ⌜ (r ≡ firstFrom (standsAt tag port) 0 (tokens used (now (ledger .entry)))) × Within r used ⌝ }
+// Where a token may arrive at a port of a tag, or that one stands there. One walk along the tag's chain finds both: a record of the
+// tag that is not on the port is on the other. A chain goes from the last record to the first, so it is walked to its end.
+pub fn seek(links: &[u16; 9216], ledger: &[u8], used: usize, tag: Tag, port: u8) -> Sought
+    requires { ⌜ (used ≤ length (now ledger) / tokenWidth) × Indexed (now links) (tokens used (now ledger)) × (port < 2) × All (λ (t : Token). t .port < 2) (tokens used (now ledger)) ⌝ }
+    ensures { λ r. ⌜ SoughtAt r (tokens used (now (ledger .entry))) tag port ⌝ }
 {
     let b = bucket(tag);
-    let head = wide(links[b]);
-    walk(links, ledger, used, head, tag, port)
-}
-
-// The first record on the other port of the last one's tag. The last is the head of its chain, so the walk begins behind it; where
-// it is alone there, nothing is searched.
-pub fn find_partner(links: &[u16; 9216], ledger: &[u8], last: usize, tag: Tag, port: u8) -> Found
-    requires { ⌜ (last < length (now ledger) / tokenWidth) × Indexed (now links) (tokens (last + 1) (now ledger)) × (port < 2) × (standsAt tag port (tokenAt (now ledger) last) ≡ true) ⌝ }
-    ensures { λ r. ⌜ (r ≡ firstFrom (standsAt tag (1 - port)) 0 (tokens (last + 1) (now (ledger .entry)))) × Within r (last + 1) ⌝ }
-{
-    let next = wide(links[last + NEXT]);
-    walk(links, ledger, last + 1, next, tag, 1 - port)
+    let mut at = wide(links[b]);
+    let mut partner = 0;
+    while at != 0 {
+        let i = at - 1;
+        let t = token::token_at(ledger, i);
+        if has_tag(t, tag) {
+            if t.port == port {
+                return Sought::Taken;
+            }
+            partner = at;
+        }
+        at = wide(links[i + NEXT]);
+    }
+    Sought::Free(Slot {
+        bucket: b,
+        partner: found_of(partner),
+    })
 }
 
 // Puts place `used` at the head of a chain: its link is at `link`, the head at `head`.
@@ -112,16 +135,14 @@ fn link(links: &mut [u16; 9216], head: usize, link: usize, used: usize)
     links[head] = (used + 1) as u16;
 }
 
-// Enters a token that stands at place `used`, after those before it: in the chain of its tag and, if it is
+// Enters a token that stands at place `used`, after those before it: in the chain of its tag, which is given, and, if it is
 // deferred, in that of its cell.
-pub fn enter(links: &mut [u16; 9216], used: usize, t: Token)
-    requires { ⌜ (used < 2048) × LowCell (t .content) ⌝ }
+pub fn enter(links: &mut [u16; 9216], used: usize, t: Token, bucket: usize)
+    requires { ⌜ (used < 2048) × LowCell (t .content) × (bucket ≡ bucketOf (t .tag)) ⌝ }
     ensures { λ _. ⌜ ((ts : List Token) → length ts ≡ used → Indexed (now (links .entry)) ts → Indexed (now (links .exit)) (ts ++ t ∷ [])) ⌝ }
     ensures { λ _. ⌜ ((ts : List Token) → length ts ≡ used → Waiting (now (links .entry)) ts → Waiting (now (links .exit)) (ts ++ t ∷ [])) ⌝ }
 {
-    let tag = t.tag;
-    let b = bucket(tag);
-    link(links, b, used + NEXT, used);
+    link(links, bucket, used + NEXT, used);
     let content = t.content;
     match content {
         Content::Live(_) => {}

@@ -1,6 +1,6 @@
 -- Laws of a token that arrives or is changed. Where its tag is not enabled then, the flags stay. Its own record is the first on its port, so what is found
 -- on the other port says where the activity of its tag stands and whether it is ready. Assumes nothing.
-use Prim.Native.Nat.{ℕ, zero, suc, _+_, _-_, _≤_, _<_}
+use Prim.Native.Nat.{ℕ, zero, suc, _+_, _-_, _/_, _≤_, _<_}
 use mathlib.Core.Path.{_≡_, refl, sym, ap, _∙_}
 use mathlib.Core.Bool.{Bool, true, false, _&&_, cond}
 use mathlib.Core.List.{List, [], _∷_, _++_}
@@ -11,8 +11,7 @@ use lib.ListN.{length, getD, set, length-map}
 use lib.Seq.{set-getD}
 use borrow.Author.Tests.{eqb-true, eqb-false, ne-eqb}
 use Rattle.buffer.specs.Rows.{All}
-use Rattle.buffer.proofs.Tables.{getD-rows}
-use Rattle.record.specs.TokensAndTags.{tokens, tokenAt, decode, standsAt}
+use Rattle.record.specs.TokensAndTags.{tokens, tokenAt, standsAt}
 use Rattle.record.specs.Widths.{tokenWidth}
 use Rattle.record.specs.declared.tag.Tag.{Tag}
 use Rattle.record.specs.declared.token.Token.{Token}
@@ -21,10 +20,10 @@ use Rattle.store_flags.proofs.Marks.{marked-past}
 use Rattle.store_chains.specs.declared.Found.{Found}
 use Rattle.store_chains.specs.declared.Found.the-variants.{At, Nothing}
 use Rattle.store_chains.specs.Search.{firstFrom, Within, Free}
-use Rattle.store_chains.proofs.Search.{first-passes}
-use Rattle.store_chains.proofs.Index.{and-left, and-right}
+use Rattle.store_chains.proofs.Search.{within-more}
+use Rattle.store_chains.proofs.Index.{and-left, and-right, found-within}
 use Rattle.store_enabled.specs.Enabled.{isLive, liveAt, allLive, arityOf, isEnabled, tagOf, tagsOf, tagSame, placeOf}
-use Rattle.store_enabled.specs.Store.{Right, raisedIf, placeOr, lower, liveFound, readyOf, readyWith}
+use Rattle.store_enabled.specs.Store.{Right, raisedIf, placeOr, lower, liveFound, readyOf, readyWith, Last}
 use Rattle.store_enabled.proofs.Places.{stands-other, live-found, first-place, lower-first, lower-second}
 use Rattle.store_enabled.proofs.Right.{all-off, first-append, tags-append, stays, place-set, place-kept, right-flag}
 use Rattle.store_enabled.proofs.Single.{stands-same}
@@ -218,15 +217,9 @@ lower-own (At j) i n h = refl
 lower-own Nothing i n h = lower-first i n h ∙ sym (lower-second i i (omega arith))
 
 -- what stands at place i or before it is no later than i
-pub partner-place : (f : Found) (i : ℕ) → Within f (i + 1) → (lower i (placeOr f i) ≡ placeOr f i) × (placeOr f i < i + 1)
+partner-place : (f : Found) (i : ℕ) → Within f (i + 1) → (lower i (placeOr f i) ≡ placeOr f i) × (placeOr f i < i + 1)
 partner-place (At j) i w = (lower-second i j (omega arith), w)
 partner-place Nothing i w = (lower-second i i (omega arith), omega arith)
-
--- what a search found stands there
-pub own-stands : (tag : Tag) (port i n : ℕ) (m : List ℕ) → i < n → firstFrom (standsAt tag port) 0 (tokens n m) ≡ At i → standsAt tag port (tokenAt m i) ≡ true
-own-stands tag port i n m h e =
-    let d = tokenAt m i in
-    rw (getD-rows tokenWidth decode n i m d h) at (first-passes (standsAt tag port) d (tokens n m) i e)
 
 -- no operands are never all live
 pub none-live : (n : ℕ) (ts : List Token) (tag : Tag) → n ≡ 0 → allLive n ts tag ≡ false
@@ -272,7 +265,7 @@ module _ (tag : Tag) (port i n : ℕ) (m : List ℕ) (h : i < n) (low : port < 2
       go false = refl
 
   -- one that is not live enables nothing, if it is on port 0 where one operand is waited for
-  pub own-waits : (k : ℕ) → (k ≡ 1 → port ≡ 0) → isLive (tokenAt m i .content) ≡ false → allLive k (tokens n m) tag ≡ false
+  own-waits : (k : ℕ) → (k ≡ 1 → port ≡ 0) → isLive (tokenAt m i .content) ≡ false → allLive k (tokens n m) tag ≡ false
   own-waits k alone off = sym (own-ready k) ∙ rw off (go (eqb port 0) refl (eqb k 1) refl (eqb k 2))
     where
       x : Bool
@@ -286,3 +279,26 @@ module _ (tag : Tag) (port i n : ℕ) (m : List ℕ) (h : i < n) (low : port < 2
       go false e true f two = absurd (omega (arith, eqb-false port 0 e, alone (eqb-true k 1 f)))
       go false e false f true = and-false x
       go false e false f false = refl
+
+-- ---- the token that arrived last
+
+module _ {m : List ℕ} {own : ℕ} {tag : Tag} {port : ℕ} {other : Found} (w : Last m own tag port other) where
+  last-within : Within other (own + 1)
+  last-within = rw (w .partner) (found-within (standsAt tag (1 - port)) (own + 1) m)
+
+  pub last-partner : Within other (length m / tokenWidth)
+  last-partner = within-more other (own + 1) (length m / tokenWidth) (omega (arith, w .room)) last-within
+
+  -- where the activity of its tag stands
+  pub last-place : placeOf (tokens (own + 1) m) tag ≡ placeOr other own
+  last-place = own-place tag port own (own + 1) m (omega arith) (w .low) (w .first) other (w .partner) (w .ports) ∙ partner-place other own last-within .0
+
+  pub last-flag : placeOr other own < 2048
+  last-flag = omega (arith, partner-place other own last-within .1, w .few)
+
+  -- and whether it is ready
+  pub last-ready : (k : ℕ) → readyWith k port (liveFound (tokenAt m) (At own)) (liveFound (tokenAt m) other) ≡ allLive k (tokens (own + 1) m) tag
+  last-ready k = own-ready tag port own (own + 1) m (omega arith) (w .low) (w .first) other (w .partner) k
+
+  pub last-waits : (k : ℕ) → (k ≡ 1 → port ≡ 0) → isLive (tokenAt m own .content) ≡ false → allLive k (tokens (own + 1) m) tag ≡ false
+  last-waits k alone off = own-waits tag port own (own + 1) m (omega arith) (w .low) (w .first) other (w .partner) k alone off

@@ -12,9 +12,8 @@ use Rattle.record.specs.TokensAndTags.{standsAt}
 use Rattle.record.specs.declared.tag.Tag.{Tag}
 use Rattle.record.specs.declared.token.Token.{Token}
 use Rattle.store_chains.specs.declared.Found.the-variants.{At}
-use Rattle.store_chains.specs.Search.{firstFrom, Free}
+use Rattle.store_chains.specs.Search.{firstFrom, Free, Single}
 use Rattle.store_chains.proofs.Search.{first-added, first-set, first-kept}
-use Rattle.store_enabled.specs.Store.{Single}
 use Rattle.store_enabled.proofs.Places.{stands-tag}
 use Rattle.store_enabled.proofs.Right.{tag-own}
 

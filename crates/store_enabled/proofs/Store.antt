@@ -1,6 +1,6 @@
 -- Laws of the invariant: what `append` and `change` hand over to the chains and to the flags. Assumes nothing.
-use Prim.Native.Nat.{ℕ, zero, suc, _+_, _*_, _/_, _≤_, _<_}
-use mathlib.Core.Path.{_≡_, refl, ap, _∙_}
+use Prim.Native.Nat.{ℕ, zero, suc, _+_, _-_, _*_, _/_, _≤_, _<_}
+use mathlib.Core.Path.{_≡_, refl, sym, ap, _∙_}
 use mathlib.Core.List.{List, [], _∷_, _++_}
 use native.Mathlib.Omega.{arith}
 use native.Mathlib.Numerals.{add-one}
@@ -17,11 +17,14 @@ use Rattle.store_flags.specs.Flags.{flagsOf, Counted}
 use Rattle.store_flags.specs.Marks.{bit}
 use Rattle.store_chains.specs.Chains.{bucketKey, Indexed}
 use Rattle.store_chains.specs.declared.Found.the-variants.{At}
-use Rattle.store_chains.specs.Search.{firstFrom, Free}
+use Rattle.store_chains.specs.Search.{firstFrom, Free, Single}
+use Rattle.store_chains.specs.Slots.{Open}
+use Rattle.store_chains.specs.declared.Slot.{Slot}
 use Rattle.store_chains.proofs.Chains.{chained-few, chained-same}
-use Rattle.store_chains.proofs.Search.{first-added, first-set}
+use Rattle.store_chains.proofs.Search.{first-added, first-set, first-past}
+use Rattle.store_chains.proofs.Index.{stands-once}
 use Rattle.store_enabled.specs.Enabled.{isEnabled, placeOf}
-use Rattle.store_enabled.specs.Store.{Known, Single, Stored}
+use Rattle.store_enabled.specs.Store.{Known, Stored, Last}
 use Rattle.store_enabled.proofs.Right.{tag-own, place-append, place-set, right-append, right-set}
 use Rattle.store_enabled.proofs.Places.{stands-tag}
 use Rattle.store_enabled.proofs.Bytes.{bytes-end, bytes-put}
@@ -50,10 +53,9 @@ known-few links l used w = omega (arith, chained-few 0 4096 bucketKey links (tok
 -- a store of links that leaves the chains by tag
 pub stored-links : (tables links flags l : List ℕ) (used : ℕ) → Stored tables links flags l used → (links′ : List ℕ) → Indexed links′ (tokens used l) → Stored tables links′ flags l used
 stored-links tables links flags l used w links′ index = record {
-  known = record { room = w .known .room; index = index; ports = w .known .ports };
+  known = record { room = w .known .room; index = index; ports = w .known .ports; single = w .known .single };
   bytes = w .bytes;
   fits = w .fits;
-  single = w .single;
   counted = w .counted;
   right = w .right;
 }
@@ -79,6 +81,7 @@ module _ (tables links flags l : List ℕ) (used : ℕ) (t : Token) (w : Stored 
         room = rw len (omega arith);
         index = rw e index;
         ports = rw e (all-append (λ (x : Token). x .port < 2) ts t (w .known .ports) low);
+        single = rw e (single-append ts t (w .known .single) free);
       } in
       record {
         more = e;
@@ -89,10 +92,23 @@ module _ (tables links flags l : List ℕ) (used : ℕ) (t : Token) (w : Stored 
           known = known;
           bytes = rw (put, add-one) (bytes-end used l (w .bytes) t fits (omega arith));
           fits = rw e (all-append TokenFits ts t (w .fits) fits);
-          single = rw e (single-append ts t (w .single) free);
           counted = c;
           right = rw (put′, e) (right-append tables ts t (flagsOf flags) (omega arith) (w .right));
         };
+      }
+
+  -- it is the last, with the partner of its slot
+  pub added-last : (s : Slot) → Open (tokens used l) (t .tag) (t .port) s → Last m used (t .tag) (t .port) (s .partner)
+  added-last s o =
+      let own = stands-tag (t .tag) (t .port) t refl (tag-own (t .tag)) in
+      let off = stands-once (t .tag) (t .port) (1 - t .port) t (λ q. omega arith) own in
+      record {
+        room = rw len room;
+        few = few;
+        ports = added .known .ports;
+        low = low;
+        first = added .own;
+        partner = rw (added .more) (o .partner ∙ sym (first-past (standsAt (t .tag) (1 - t .port)) (tokens used l) t 0 off));
       }
 
 -- a token is replaced
@@ -109,22 +125,22 @@ module _ (tables links flags l : List ℕ) (used i : ℕ) (t : Token) (w : Store
       let space : used * tokenWidth ≤ length l = omega (arith, w .known .room) in
       let e : tokens used m ≡ set ts i t = rw put (tokens-put t fits used i l h space) in
       let ports = w .known .ports in
-      let single : Single (set ts i t) = single-set ts i t d (w .single) (omega arith) tag port in
+      let single : Single (set ts i t) = single-set ts i t d (w .known .single) (omega arith) tag port in
       let known : Known links m used = record {
         room = rw len (w .known .room);
         index = rw e (chained-same 0 4096 bucketKey links ts (w .known .index) (set ts i t) (map-set-same bucketKey ts i t d key));
         ports = rw e (all-set (λ (x : Token). x .port < 2) ts i t ports (rw port (all-at (λ (x : Token). x .port < 2) ts i d (omega arith) ports)));
+        single = rw e single;
       } in
       record {
         more = e;
         known = known;
         place = rw e (omega (arith, place-set ts i t d (omega arith) tag));
-        own = rw e (first-set (standsAt (t .tag) (t .port)) ts i t d (stands-same (t .tag) (t .port) t (getD ts i d) tag port) 0 ∙ single-at ts (w .single) i d (omega arith) (t .tag) (t .port) tag port);
+        own = rw e (first-set (standsAt (t .tag) (t .port)) ts i t d (stands-same (t .tag) (t .port) t (getD ts i d) tag port) 0 ∙ single-at ts (w .known .single) i d (omega arith) (t .tag) (t .port) tag port);
         stored = λ flags′ put′ c. record {
           known = known;
           bytes = rw put (bytes-put used l (w .bytes) t i h fits space);
           fits = rw e (all-set TokenFits ts i t (w .fits) fits);
-          single = rw e single;
           counted = c;
           right = rw (put′, e) (right-set tables ts i t d (flagsOf flags) (omega arith) tag (w .right));
         };

@@ -1,10 +1,10 @@
 -- What is kept beside the used records of a ledger: the chains by tag, and the flags of the enabled activities with their counts.
 -- Assumes nothing.
-use Prim.Native.Nat.{ℕ, _+_, _*_, _/_, _≤_, _<_}
+use Prim.Native.Nat.{ℕ, _+_, _-_, _*_, _/_, _≤_, _<_}
 use mathlib.Core.Path.{_≡_}
 use mathlib.Core.Bool.{Bool, true, false, _&&_, cond}
 use mathlib.Core.List.{List}
-use lib.ListN.{length, getD, set, take}
+use lib.ListN.{length, set, take}
 use lib.Dec.{eqb, ltb}
 use Rattle.buffer.specs.Rows.{joined, putRow, All}
 use Rattle.record.specs.TokensAndTags.{encode, tokens, tokenAt, standsAt, TokenFits}
@@ -16,29 +16,25 @@ use Rattle.store_flags.specs.Marks.{Marked}
 use Rattle.store_chains.specs.declared.Found.{Found}
 use Rattle.store_chains.specs.declared.Found.the-variants.{At, Nothing}
 use Rattle.store_chains.specs.Chains.{Indexed}
-use Rattle.store_chains.specs.Search.{firstFrom}
+use Rattle.store_chains.specs.Search.{firstFrom, Single}
 use Rattle.store_enabled.specs.Enabled.{isLive, arityOf, isEnabled, tagsOf, tagSame, placeOf, spentToken}
 
--- a ledger whose used records are indexed, and stand on ports 0 and 1
+-- a ledger whose used records are indexed, and stand on ports 0 and 1, no two on one port of a tag
 pub record Known (links ledger : List ℕ) (used : ℕ) : Type 0 where
   pub room : used ≤ length ledger / tokenWidth
   pub index : Indexed links (tokens used ledger)
   pub ports : All (λ (t : Token). t .port < 2) (tokens used ledger)
+  pub single : Single (tokens used ledger)
 
 -- the flags are those of the enabled activities
 unfoldable pub Right : (tables : List ℕ) → List Token → (flags : List ℕ) → Type 0
 Right tables ts flags = Marked tagSame (isEnabled tables ts) (tagsOf ts) flags
-
--- 01, "Firing", refusal 9: no two tokens stand on one port of a tag, so each is the first that a search of its port finds
-unfoldable pub Single : List Token → Type 0
-Single ts = (i : ℕ) (d : Token) → i < length ts → firstFrom (standsAt (getD ts i d .tag) (getD ts i d .port)) 0 ts ≡ At i
 
 -- the invariant of this crate; the used records are the bytes of their tokens, in every byte
 pub record Stored (tables links flags ledger : List ℕ) (used : ℕ) : Type 0 where
   pub known : Known links ledger used
   pub bytes : take (used * tokenWidth) ledger ≡ joined encode (tokens used ledger)
   pub fits : All TokenFits (tokens used ledger)
-  pub single : Single (tokens used ledger)
   pub counted : Counted flags
   pub right : Right tables (tokens used ledger) (flagsOf flags)
 
@@ -70,6 +66,17 @@ readyOf n a b = cond (eqb n 1) a (cond (eqb n 2) (a && b) false)
 -- the same, where a says it of a port below 2 and b of the other
 abbrev pub readyWith : (n port : ℕ) → (a b : Bool) → Bool
 readyWith n port a b = cond (eqb port 0) (readyOf n a b) (readyOf n b a)
+
+-- ---- a token that has arrived
+
+-- record `own` is the last, and the first on a port of a tag, which is 0 or 1; `other` is its partner, which stands on the other port
+pub record Last (ledger : List ℕ) (own : ℕ) (tag : Tag) (port : ℕ) (other : Found) : Type 0 where
+  pub room : own < length ledger / tokenWidth
+  pub few : own < 2048
+  pub ports : All (λ (t : Token). t .port < 2) (tokens (own + 1) ledger)
+  pub low : port < 2
+  pub first : firstFrom (standsAt tag port) 0 (tokens (own + 1) ledger) ≡ At own
+  pub partner : other ≡ firstFrom (standsAt tag (1 - port)) 0 (tokens (own + 1) ledger)
 
 -- ---- a token that stands in its record already
 

@@ -4,6 +4,7 @@ use record::tag::Tag;
 use record::token;
 use record::token::Token;
 use store_chains::Found;
+use store_chains::Slot;
 ghost use mathlib.Core.Path.{_≡_};
 ghost use mathlib.Core.Bool.{true, _&&_};
 ghost use mathlib.Core.List.{List, [], _∷_, _++_};
@@ -14,11 +15,12 @@ ghost use Rattle.buffer.specs.Rows.{putRow};
 ghost use Rattle.record.specs.TokensAndTags.{encode, tokens, tokenAt, standsAt};
 ghost use Rattle.record.specs.Widths.{tokenWidth};
 ghost use Rattle.store_flags.specs.Flags.{flagsOf, Counted};
-ghost use Rattle.store_chains.specs.Search.{firstFrom, Within, Free};
+ghost use Rattle.store_chains.specs.Search.{firstFrom, Within};
+ghost use Rattle.store_chains.specs.Slots.{Open};
 ghost use Rattle.store_chains.specs.Deferred.{LowCell, Waiting};
 ghost use Rattle.store_chains.specs.declared.Found.the-variants.{At};
 ghost use Rattle.store_enabled.specs.Enabled.{isLive, allLive, waitedFor, arityOf, placeOf};
-ghost use Rattle.store_enabled.specs.Store.{Known, Stored, raisedIf, placeOr, lower, liveFound, enabledAt, readyOf, readyWith, Standing, Operands, statesSpent, tokensSpent};
+ghost use Rattle.store_enabled.specs.Store.{Known, Stored, raisedIf, placeOr, lower, liveFound, enabledAt, readyOf, readyWith, Last, Standing, Operands, statesSpent, tokensSpent};
 
 fn place_or(f: Found, other: usize) -> usize
     ensures { λ r. ⌜ r ≡ placeOr f other ⌝ }
@@ -100,26 +102,24 @@ fn settle_changed(
     }
 }
 
-// The same of the token that arrived last: where it is an operand, the flag was not raised before. At a result nothing is
-// searched for, and a token that is alone in its chain has no partner. A partner is earlier.
+// The same of the token that arrived last, whose partner is given: where it is an operand, the flag was not raised before. A
+// partner is earlier.
 fn settle_arrived(
     flags: &mut [u64; 69],
-    links: &[u16; 9216],
     ledger: &[u8],
     own: usize,
     tag: Tag,
     port: u8,
+    other: Found,
     operands: u16,
 )
-    requires { ⌜ Counted (now flags) × Known (now links) (now ledger) (own + 1) × (port < 2) × (firstFrom (standsAt tag port) 0 (tokens (own + 1) (now ledger)) ≡ At own)
-        × (port < operands → getD (flagsOf (now flags)) (placeOf (tokens (own + 1) (now ledger)) tag) 0 ≡ 0) ⌝ }
+    requires { ⌜ Counted (now flags) × Last (now ledger) own tag port other × (port < operands → getD (flagsOf (now flags)) (placeOf (tokens (own + 1) (now ledger)) tag) 0 ≡ 0) ⌝ }
     ensures { λ _. ⌜ flagsOf (now (flags .exit)) ≡ raisedIf (ltb port operands && allLive operands (tokens (own + 1) (now (ledger .entry))) tag) (flagsOf (now (flags .entry))) (placeOf (tokens (own + 1) (now (ledger .entry))) tag) ⌝ }
     ensures { λ _. ⌜ Counted (now (flags .exit)) ⌝ }
 {
     if operands <= port as u16 {
         return;
     }
-    let other = store_chains::find_partner(links, ledger, own, tag, port);
     if ready_with(ledger, port, Found::At(own), other, operands) {
         store_flags::raise(flags, place_or(other, own));
     }
@@ -172,7 +172,7 @@ pub fn enabled_by_tag(
     }
 }
 
-// Adds t after the used records, where none stands on its port of its tag. A flag that was raised stays.
+// Adds t after the used records, in its slot. A flag that was raised stays.
 pub fn append(
     tables: &[u16; 641],
     links: &mut [u16; 9216],
@@ -180,8 +180,9 @@ pub fn append(
     ledger: &mut [u8],
     used: usize,
     t: Token,
+    slot: Slot,
 )
-    requires { ⌜ Stored (now tables) (now links) (now flags) (now ledger) used × (used < length (now ledger) / tokenWidth) × (used < 2048) × (t .port < 2) × LowCell (t .content) × Free (tokens used (now ledger)) (t .tag) (t .port) ⌝ }
+    requires { ⌜ Stored (now tables) (now links) (now flags) (now ledger) used × (used < length (now ledger) / tokenWidth) × (used < 2048) × (t .port < 2) × LowCell (t .content) × Open (tokens used (now ledger)) (t .tag) (t .port) slot ⌝ }
     ensures { λ _. ⌜ now (ledger .exit) ≡ putRow tokenWidth (now (ledger .entry)) used (encode t) ⌝ }
     ensures { λ _. ⌜ tokens (used + 1) (now (ledger .exit)) ≡ tokens used (now (ledger .entry)) ++ t ∷ [] ⌝ }
     ensures { λ _. ⌜ Stored (now (tables .entry)) (now (links .exit)) (now (flags .exit)) (now (ledger .exit)) (used + 1) ⌝ }
@@ -189,13 +190,13 @@ pub fn append(
 {
     let tag = t.tag;
     token::put_token(ledger, used, t);
-    store_chains::enter(links, used, t);
+    store_chains::enter(links, used, t, slot.bucket);
     let operands = arity(tables, tag);
-    settle_arrived(flags, links, ledger, used, tag, t.port, operands);
+    let other = slot.partner;
+    settle_arrived(flags, ledger, used, tag, t.port, other, operands);
 }
 
-// Enters the token t that stands in record `used` already, where none before it stands on its port of its tag. One that is not live
-// enables nothing. `settle_arrived` is not called: a second caller would cost each arrival of a run a call.
+// Enters the token t that stands in record `used` already, in its slot. One that is not live enables nothing. `settle_arrived` is not called: a second caller would cost each arrival of a run a call.
 pub fn enter(
     tables: &[u16; 641],
     links: &mut [u16; 9216],
@@ -203,18 +204,19 @@ pub fn enter(
     ledger: &[u8],
     used: usize,
     t: Token,
+    slot: Slot,
 )
-    requires { ⌜ Stored (now tables) (now links) (now flags) (now ledger) used × (used < length (now ledger) / tokenWidth) × (used < 2048) × Standing (now tables) (now ledger) used t × LowCell (t .content) × Free (tokens used (now ledger)) (t .tag) (t .port) ⌝ }
+    requires { ⌜ Stored (now tables) (now links) (now flags) (now ledger) used × (used < length (now ledger) / tokenWidth) × (used < 2048) × Standing (now tables) (now ledger) used t × LowCell (t .content) × Open (tokens used (now ledger)) (t .tag) (t .port) slot ⌝ }
     ensures { λ _. ⌜ tokens (used + 1) (now (ledger .entry)) ≡ tokens used (now (ledger .entry)) ++ t ∷ [] ⌝ }
     ensures { λ _. ⌜ Stored (now (tables .entry)) (now (links .exit)) (now (flags .exit)) (now (ledger .entry)) (used + 1) ⌝ }
     ensures { λ _. ⌜ (Waiting (now (links .entry)) (tokens used (now (ledger .entry))) → Waiting (now (links .exit)) (tokens (used + 1) (now (ledger .entry)))) ⌝ }
 {
     let tag = t.tag;
-    store_chains::enter(links, used, t);
+    store_chains::enter(links, used, t, slot.bucket);
     if !live(ledger, Found::At(used)) {
         return;
     }
-    let other = store_chains::find_partner(links, ledger, used, tag, t.port);
+    let other = slot.partner;
     if ready_with(ledger, t.port, Found::At(used), other, arity(tables, tag)) {
         store_flags::raise(flags, place_or(other, used));
     }

@@ -17,9 +17,9 @@ use Rattle.store.proofs.Laws.{matching-known}
 use Rattle.fire_effect.specs.Effects.{operatedOf, newTagsOf, Makes, Effected}
 use Rattle.fire_effect.proofs.Passed.{ready}
 use Rattle.fire_effect.proofs.Parted.{operation-refused, tags-refused, effected}
-use Rattle.fire_operands.specs.Operands.{matchedAt}
+use Rattle.fire_operands.specs.Operands.{Both, matchedAt}
 use Rattle.fire.proofs.Place.{earliest-here}
-use Rattle.fire.proofs.Steps.{fitting, stopped-missing, room, inside, matched-here, lent-here, stopped-here, stepped-here}
+use Rattle.fire.proofs.Steps.{fitting, room, inside, matched-here, lent-here, stopped-here, stepped-here}
 use Rattle.fire.proofs.fire.Statement.{statement}
 use Rattle.fire.proofs.fire.Tie as tie
 
@@ -31,8 +31,8 @@ start t = t .before .before .before .before .before
 abbrev read : tie.After-operands-of → tie.After-token-at
 read m = m .before .before .before .before .before .before
 
-abbrev operands : tie.After-instruction-at → tie.After-matched
-operands f = f .before .before .before
+abbrev operands : tie.After-instruction-at → tie.After-operands-of
+operands f = f .before .before .before .before
 
 abbrev fetched : tie.After-operate → tie.After-instruction-at
 fetched e = e .before .before .before .before
@@ -42,11 +42,17 @@ operated n = n .before .before .before .before
 
 -- ---- matching
 
+abbrev left : tie.After-operands-of → ℤ
+left m = m .operands-of .result .left
+
+abbrev right : tie.After-operands-of → ℤ
+right m = m .operands-of .result .right
+
 -- what it found of the tag at the place
 found : (m : tie.After-operands-of)
     → (let a = start (read m) .args in
     let τ = tokenAt (a .ledger .now) (a .place) .tag in
-    matchedAt (arityIn (graphOf (now (a .graph))) τ) (tokens (a .used) (a .ledger .now)) τ ≡ m .operands-of .result)
+    matchedAt (arityIn (graphOf (now (a .graph))) τ) (tokens (a .used) (a .ledger .now)) τ ≡ Both (m .operands-of .result .first) (m .operands-of .result .second) (left m) (right m))
 found m =
     let t = read m in
     let s = start t in
@@ -58,32 +64,26 @@ in-graph t = let s = start t in inside _ (s .pre .0) (s .pre .1) (s .args .place
 
 -- ---- instruction fetch, operation, new tags
 
-abbrev left : tie.After-matched → ℤ
-left b = b .matched .given .0 .1 .1 .0
-
-abbrev right : tie.After-matched → ℤ
-right b = b .matched .given .0 .1 .1 .1 .0
-
 left-fits : (f : tie.After-instruction-at) → SFits w32 (left (operands f))
-left-fits f = record { sfits = f .before .before .known-told .given .1 .1 .0 .1 }
+left-fits f = record { sfits = f .before .before .before .struct-told .given .1 .1 .0 .1 }
 
 right-fits : (f : tie.After-instruction-at) → SFits w32 (right (operands f))
-right-fits f = record { sfits = f .before .before .known-told .given .1 .1 .1 .0 .1 }
+right-fits f = record { sfits = f .before .before .struct-told2 .given .1 .1 .1 .0 .1 }
 
 constant-fits : (e : tie.After-operate) → SFits w32 (fetched e .instruction-at .result .constant)
-constant-fits e = record { sfits = e .before .struct-told .given .1 .1 .1 .1 .0 .1 }
+constant-fits e = record { sfits = e .before .struct-told3 .given .1 .1 .1 .1 .0 .1 }
 
 -- the operation, at the operands themselves
 did : (e : tie.After-operate)
     → (let b = operands (fetched e) in
-    e .operate .result ≡ operatedOf (e .before .before .before .decode .result) (arraysIn (now (start (read (b .before .before)) .args .tables))) (fetched e .instruction-at .result .constant) (length (start (read (b .before .before)) .args .cells .now) / cellWidth) (left b) (right b))
+    e .operate .result ≡ operatedOf (e .before .before .before .decode .result) (arraysIn (now (start (read b) .args .tables))) (fetched e .instruction-at .result .constant) (length (start (read b) .args .cells .now) / cellWidth) (left b) (right b))
 did e = rw (toZ-ofZ (constant-fits e), toZ-ofZ (left-fits (fetched e)), toZ-ofZ (right-fits (fetched e))) at (e .operate .ensures)
 
 -- the new tags likewise
 made : (n : tie.After-new-tags)
     → (let e = operated n in
     let b = operands (fetched e) in
-    let t = read (b .before .before) in
+    let t = read b in
     Makes (n .new-tags .result) (newTagsOf (e .before .before .before .decode .result) (graphOf (now (start t .args .graph))) (t .token-at .result .tag) (fetched e .instruction-at .result) (right b)))
 made n = rw (toZ-ofZ (right-fits (fetched (operated n)))) at (n .new-tags .ensures)
 
@@ -92,14 +92,14 @@ sent : (c : tie.After-made2)
     → (let n = c .before .before in
     let e = operated n in
     let b = operands (fetched e) in
-    let t = read (b .before .before) in
+    let t = read b in
     let a = start t .args in
     Effected (graphOf (now (a .graph))) (arraysIn (now (a .tables))) (length (a .cells .now) / cellWidth) (t .token-at .result .tag) (left b) (right b) (n .before .before .operated2 .given .0 .0) (c .made2 .given .0 .0))
 sent c =
     let n = c .before .before in
     let e = operated n in
     let f = fetched e in
-    let t = read (operands f .before .before) in
+    let t = read (operands f) in
     effected _ _ _ _ (in-graph t) _ _ _ _ (f .instruction-at .ensures) (e .before .before .before .decode .ensures) (sym (did e) ∙ n .before .before .operated2 .given .1) (made n) (start t .pre .0 .passed) (c .made2 .given .1)
 
 pub fire-spec : {M : Type 1} → statement M
@@ -116,14 +116,7 @@ fire-spec =
     let s = start t in
     (matching-known (s .pre .1 .matching), earliest-here (s .pre .0) (s .pre .1) (s .args .place) (s .pre .2) (s .pre .3) (t .token-at .result) (a .arity .result) (t .token-at .ensures) (a .arity .ensures)))
     (λ c. search needs)
-    (λ c. search needs)
-    (λ c. search needs)
-    (λ c.
-    let m = c .before .before in
-    let s = start (read m) in
-    stopped-missing _ (s .pre .0) (s .pre .1) (s .args .place) (s .pre .2) (found m ∙ c .enum-told .given .1))
-    (λ c. search needs)
-    (λ c κs. in-graph (read (c .before .before .before .before)))
+    (λ c κs. in-graph (read (c .before .before .before)))
     (λ c κs. search needs)
     (λ c κs. search needs)
     (λ c. search needs)
@@ -131,17 +124,16 @@ fire-spec =
     (λ c.
     let e = c .before .before .before in
     let f = fetched e in
-    let b = operands f in
-    let m = b .before .before in
+    let m = operands f in
     let t = read m in
     let s = start t in
-    stopped-here _ (s .pre .0) (s .pre .1) (s .args .place) (s .pre .2) (t .token-at .result) (t .token-at .ensures) _ _ _ _ (found m ∙ b .matched .given .1)
+    stopped-here _ (s .pre .0) (s .pre .1) (s .args .place) (s .pre .2) (t .token-at .result) (t .token-at .ensures) _ _ _ _ (found m)
     (operation-refused _ _ _ _ (in-graph t) _ _ _ _ (f .instruction-at .ensures) (e .before .before .before .decode .ensures) (sym (did e) ∙ c .before .operated .given .1)))
     (λ c. search needs)
     (λ c κs.
     let e = c .before .before .before in
     let f = fetched e in
-    let t = read (operands f .before .before) in
+    let t = read (operands f) in
     let s = start t in
     rw (e .before .before .before .decode .ensures, f .instruction-at .ensures) (ready _ _ (in-graph t) _ (s .pre .0 .passed) (s .pre .0 .returnsRight)))
     (λ c. search needs)
@@ -150,27 +142,24 @@ fire-spec =
     let n = c .before .before .before in
     let e = operated n in
     let f = fetched e in
-    let b = operands f in
-    let m = b .before .before in
+    let m = operands f in
     let t = read m in
     let s = start t in
-    stopped-here _ (s .pre .0) (s .pre .1) (s .args .place) (s .pre .2) (t .token-at .result) (t .token-at .ensures) _ _ _ _ (found m ∙ b .matched .given .1)
+    stopped-here _ (s .pre .0) (s .pre .1) (s .args .place) (s .pre .2) (t .token-at .result) (t .token-at .ensures) _ _ _ _ (found m)
     (tags-refused _ _ _ _ (in-graph t) _ _ _ _ (f .instruction-at .ensures) (e .before .before .before .decode .ensures) (sym (did e) ∙ n .before .before .operated2 .given .1) (made n) (c .before .made .given .1)))
     (λ c. search needs)
     (λ c κs.
     let o = c .before .before .before .before .before in
-    let b = operands (fetched (operated (o .before .before))) in
-    let m = b .before .before in
+    let m = operands (fetched (operated (o .before .before))) in
     let s = start (read m) in
-    (lent-here _ (s .pre .0) (s .pre .1) (s .args .place) (s .pre .2) (s .pre .3) _ _ _ _ (found m ∙ b .matched .given .1), fitting _ _ _ _ _ _ _ _ (sent o)))
+    (lent-here _ (s .pre .0) (s .pre .1) (s .args .place) (s .pre .2) (s .pre .3) _ _ _ _ (found m), fitting _ _ _ _ _ _ _ _ (sent o)))
     (λ c. search needs)
     (λ c. search needs)
     (λ c.
     let q = c .before .before .before .before in
     let o = q .before .before .before .before .before .before in
-    let b = operands (fetched (operated (o .before .before))) in
-    let m = b .before .before in
+    let m = operands (fetched (operated (o .before .before))) in
     let t = read m in
     let s = start t in
-    stepped-here _ (s .pre .0) (s .pre .1) (s .args .place) (s .pre .2) (t .token-at .result) (t .token-at .ensures) _ _ _ _ (found m ∙ b .matched .given .1) _ _ (sent o)
+    stepped-here _ (s .pre .0) (s .pre .1) (s .args .place) (s .pre .2) (t .token-at .result) (t .token-at .ensures) _ _ _ _ (found m) _ _ (sent o)
     _ _ _ _ (q .commit .result) (q .commit .ensures)))

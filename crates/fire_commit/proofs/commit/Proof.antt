@@ -8,9 +8,9 @@ use Rattle.record.specs.TokensAndTags.{tokens}
 use Rattle.record.specs.Widths.{tokenWidth}
 use Rattle.store.proofs.Laws.{matching-known, matching-few}
 use Rattle.fire_operands.specs.declared.Admitted.{Admitted}
-use Rattle.fire_operands.specs.Operands.{admittedOf}
+use Rattle.fire_operands.specs.Operands.{admittedOf, AdmittedAs}
 use Rattle.fire_outputs.specs.Outputs.{cellsIn, writesAgain}
-use Rattle.fire_commit.proofs.Laws.{admitted-room, admitted-free, second-write, act-refused, act-done, left-refused, left-done}
+use Rattle.fire_commit.proofs.Laws.{admitted-room, second-write, act-refused, act-done, left-refused, left-done}
 use Rattle.fire_commit.proofs.commit.Statement.{statement}
 use Rattle.fire_commit.proofs.commit.Tie as tie
 
@@ -20,23 +20,26 @@ again c e = sym (c .writes-again .ensures) ∙ e
 
 -- what admit gave, of the ledger's tokens
 gave : (c : tie.After-admit) {x : Admitted} → c .admit .result ≡ x
-    → (let a = c .before .before .before .before .before .before .before .before .args in admittedOf (length (a .ledger .now) / tokenWidth) (tokens (a .used) (a .ledger .now)) (a .sent) ≡ x)
-gave c e = sym (c .admit .ensures) ∙ e
+    → (let a = c .before .before .before .before .before .before .before .before .args in AdmittedAs x (admittedOf (length (a .ledger .now) / tokenWidth) (tokens (a .used) (a .ledger .now)) (a .sent)) (tokens (a .used) (a .ledger .now)) (a .sent))
+gave c e = rw e at (c .admit .ensures)
 
 pub commit-spec : {M : Type 1} → statement M
 commit-spec = tie.close (tie.spec
     (λ c κs. c .before .before .before .pre .1 .2)
     (λ c. search needs)
     (λ c. let s = c .before .before .before .before .before in left-refused (s .pre .0) (second-write _ _ _ _ _ (s .args .action) (s .args .sent) (again (c .before) (c .if1 .taken))))
-    (λ c κs. let m = c .before .before .before .before .before .before .before .pre .0 .matching in (matching-known m, matching-few m))
+    (λ c κs.
+    let s = c .before .before .before .before .before .before .before in
+    let m = s .pre .0 .matching in
+    (matching-known m, matching-few m, s .pre .1 .0, s .pre .1 .1))
     (λ c. search needs)
     (λ c. search needs)
     (λ c κs.
-    let s = c .before .before .before .before .before .before .before .before .before .before .before .before .before .before in
+    let s = c .before .before .before .before .before .before .before .before .before .before .before .before .before .before .before in
     let a = s .args in
     let f = s .pre .1 in
-    let yes = gave (c .before .before .before .before .before .before) (c .before .before .before .before .enum-told .given .1) in
-    (s .pre .0, admitted-room _ (a .used) (a .ledger .now) (a .sent) yes, f .0, f .1, f .2, admitted-free _ (tokens (a .used) (a .ledger .now)) (a .sent) yes))
+    let yes = gave (c .before .before .before .before .before .before .before) (c .before .before .before .before .before .admitted2 .given .1) in
+    (s .pre .0, admitted-room _ (a .used) (a .ledger .now) (a .sent) (yes .0), f .0, f .1, f .2, yes .1))
     (λ c. search needs)
     (λ c. search needs)
     (λ c.
@@ -45,10 +48,10 @@ commit-spec = tie.close (tie.spec
     (λ c. search needs)
     (λ c. search needs)
     (λ c.
-    let s = c .before .before .before .before .before .before .before .before .before .before .before .before .before .before .before .before .before .before .before in
+    let s = c .before .before .before .before .before .before .before .before .before .before .before .before .before .before .before .before .before .before .before .before in
     let e = c .before .before .before .before .carry-out .ensures in
     left-done (s .args .used)
-    (act-done _ _ _ _ _ (s .args .action) (s .args .sent) (again (c .before .before .before .before .before .before .before .before .before .before .before .before .before .before .before) (c .before .before .before .before .before .before .before .before .before .before .before .before .before .before .if1 .left)) (gave (c .before .before .before .before .before .before .before .before .before .before .before) (c .before .before .before .before .before .before .before .before .before .enum-told .given .1)))
+    (act-done _ _ _ _ _ (s .args .action) (s .args .sent) (again (c .before .before .before .before .before .before .before .before .before .before .before .before .before .before .before .before) (c .before .before .before .before .before .before .before .before .before .before .before .before .before .before .before .if1 .left)) (gave (c .before .before .before .before .before .before .before .before .before .before .before .before) (c .before .before .before .before .before .before .before .before .before .before .admitted2 .given .1) .0))
     (e .0)
     (e .1)
     (e .2)))

@@ -1,41 +1,54 @@
 -- `fire_operands::operands_of` meets its contract: the token at the place is an operand by proofs/Earliest. Assumes nothing.
-use mathlib.Core.Path.{_∙_}
 use native.Mathlib.Omega.{arith}
 use borrow.Author.Needs.{needs}
-use borrow.Author.Tests.{eq-eqb}
-use Rattle.fire_operands.specs.Operands.{matchedAt}
-use Rattle.fire_operands.proofs.Earliest.{within, port-low, alone, as-first, as-second}
+use mir.Facts.{toZ-ofZ}
+use mir.Syntax.{w32}
+use mir.Val.{SFits}
+use Rattle.fire_operands.proofs.Earliest.{within, port-low, alone, other-within, as-first, as-second}
 use Rattle.fire_operands.proofs.operands_of.Statement.{statement}
 use Rattle.fire_operands.proofs.operands_of.Tie as tie
 
 pub operands-of-spec : {M : Type 1} → statement M
-unfolding matchedAt
 operands-of-spec = tie.close (tie.spec
-    (λ c. rw (eq-eqb _ _ (c .if1 .taken)))
-    (λ c κs. let s = c .before .before in within (s .pre .0) (s .pre .1))
-    (λ c κs. search needs)
+    (λ c κs. let s = c .before in within (s .pre .0) (s .pre .1))
     (λ c κs. search needs)
     (λ c.
-    let a = c .before .before in
-    let t = a .before in
-    let s = t .before .before .before in
-    c .both .ensures ∙ alone (s .pre .0) (s .pre .1) _ (t .token-at .ensures) _ (a .as-operand .ensures) (c .before .if2 .taken))
+    let v = c .before .value-in in
+    let t = c .before .before in
+    let s = t .before .before in
+    rw (toZ-ofZ {w = w32} (record { sfits = v .ok }), v .ensures) (alone (s .pre .0) (s .pre .1) _ (t .token-at .ensures) (c .if1 .taken)))
     (λ c.
     let t = c .before .before .before in
-    let s = t .before .before .before in
+    let s = t .before .before in
     omega (arith, port-low (s .pre .0) (s .pre .1) _ (t .token-at .ensures)))
     (λ c κs. search needs)
     (λ c κs. search needs)
+    (λ c κs.
+    let f = c .before .find in
+    let n = c .before .before .before in
+    let t = n .before .before in
+    let s = t .before .before in
+    rw (c .place-or .ensures) (other-within (s .pre .0) (s .pre .1) _ (t .token-at .ensures) (n .if1 .left) (f .result) (f .ensures .0)))
     (λ c κs. search needs)
     (λ c.
-    let o = c .before .before .before in
-    let n = o .before .before in
+    let f = c .before .before .before .before .before in
+    let n = f .before .before in
     let t = n .before .before in
-    let s = t .before .before .before in
-    c .both2 .ensures ∙ as-first (s .pre .0) (s .pre .1) _ (t .token-at .ensures) _ _ (n .before .as-operand .ensures) (o .operand-on .ensures) (t .before .if1 .left) (n .if2 .left) (c .before .if3 .taken))
+    let s = t .before .before in
+    let v = n .before .value-in in
+    let u = c .before .before .value-in2 in
+    let left : SFits w32 (v .result) = record { sfits = v .ok } in
+    let right : SFits w32 (u .result) = record { sfits = u .ok } in
+    rw (toZ-ofZ left, toZ-ofZ right, v .ensures, u .ensures, c .before .before .before .token-at2 .ensures, c .before .before .before .before .place-or .ensures)
+    (as-first (s .pre .0) (s .pre .1) _ (t .token-at .ensures) (n .if1 .left) (f .find .result) (f .find .ensures .0) (c .if2 .taken)))
     (λ c.
-    let o = c .before .before .before in
-    let n = o .before .before in
+    let f = c .before .before .before .before .before in
+    let n = f .before .before in
     let t = n .before .before in
-    let s = t .before .before .before in
-    c .both3 .ensures ∙ as-second (s .pre .0) (s .pre .1) _ (t .token-at .ensures) _ _ (n .before .as-operand .ensures) (o .operand-on .ensures) (t .before .if1 .left) (n .if2 .left) (c .before .if3 .left)))
+    let s = t .before .before in
+    let v = n .before .value-in in
+    let u = c .before .before .value-in2 in
+    let left : SFits w32 (v .result) = record { sfits = v .ok } in
+    let right : SFits w32 (u .result) = record { sfits = u .ok } in
+    rw (toZ-ofZ left, toZ-ofZ right, v .ensures, u .ensures, c .before .before .before .token-at2 .ensures, c .before .before .before .before .place-or .ensures)
+    (as-second (s .pre .0) (s .pre .1) _ (t .token-at .ensures) (n .if1 .left) (f .find .result) (f .find .ensures .0) (c .if2 .left))))

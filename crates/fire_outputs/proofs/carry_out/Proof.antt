@@ -44,7 +44,7 @@ carry-out-spec = tie.close (tie.spec
     let k = spent (c .before .before .before .before .before .before .before .before .before .before .before .before .before .before .before) in
     let w = c .before .before .before .before .before .wake .ensures in
     let low = low-content (a .action) (cellsIn (a .cells .now)) (on-more (a .action) (p .0 .store .few) (p .4)) in
-    (w .matching, kept-room w (kept-room k (p .1)), kept-most w (kept-most k (p .0 .few)), p .2, p .3, rw (c .before .before .before .before .before .before .before .before .before .before .before .change-cells .ensures .0) low, rw (w .held, k .held) (keys-carried (a .action) (a .operands .first) (a .operands .second) (tokens (a .used) (a .ledger .now)) (a .outputs) (p .5))))
+    (w .matching, kept-room w (kept-room k (p .1)), kept-most w (kept-most k (p .0 .few)), p .2, p .3, rw (c .before .before .before .before .before .before .before .before .before .before .before .change-cells .ensures .0) low, rw (w .held, k .held) (keys-carried (a .action) (a .operands .first) (a .operands .second) (tokens (a .used) (a .ledger .now)) (a .outputs) (a .first) (a .second) (p .5))))
     (λ c. search needs)
     (λ c. search needs)
     (λ c.

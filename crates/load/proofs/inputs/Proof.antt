@@ -1,13 +1,26 @@
 -- `load::inputs` meets its contract. The loop's invariant: the first i inputs are in the ledger. The measure is how many are left.
 -- Assumes nothing.
-use Prim.Native.Nat.{_/_, _<_, _-_}
+use Prim.Native.Nat.{ℕ, _/_, _<_, _-_}
+use mathlib.Core.Path.{_≡_, sym, ap, _∙_}
+use mathlib.Core.Bool.{Bool, cond}
+use mathlib.Core.List.{List, [], _∷_, _++_}
 use native.Mathlib.Omega.{arith}
+use native.Mathlib.Numerals.{add-one}
+use borrow.Author.Needs.{needs}
 use lib.ListN.{length}
+use Rattle.buffer.specs.Rows.{putRow}
+use Rattle.record.specs.TokensAndTags.{tokens, encode}
+use Rattle.record.specs.declared.token.Token.{Token}
+use Rattle.record.specs.Widths.{tokenWidth}
+use Rattle.store_chains.specs.Search.{isFound, Free}
+use Rattle.store_enabled.specs.Store.{Standing}
+use Rattle.store.specs.Matching.{Matching}
+use Rattle.store.proofs.Laws.{matching-known}
+use Rattle.store.proofs.Writing.{written-more, written-before, written-own, written-again, written-matching}
 use Rattle.load.specs.Loaded.{Proper}
 use Rattle.load.proofs.Taken.{Taken, proper, alone, taken-none, taken-more, taken-all}
 use Rattle.load.proofs.inputs.Statement.{statement}
 use Rattle.load.proofs.inputs.Tie as tie
-use Rattle.record.specs.Widths.{tokenWidth}
 
 abbrev Inv-loop : tie.InvT-loop
 Inv-loop tables links₀ flags₀ ledger₀ inputs n i₀ links flags ledger i =
@@ -16,6 +29,62 @@ Inv-loop tables links₀ flags₀ ledger₀ inputs n i₀ links flags ledger i =
 abbrev μ-loop : tie.MeasureT-loop
 μ-loop tables links₀ flags₀ ledger₀ inputs n i₀ links flags ledger i =
     length inputs / tokenWidth - i
+
+-- input i is written behind those before it
+module _ (c : tie.After-put-token Inv-loop μ-loop) where
+  abbrev start : tie.Start Inv-loop μ-loop
+  start = c .before .before .before .before .before .before .before
+
+  abbrev written : List ℕ
+  written = c .put-token .last .0
+
+  abbrev i : ℕ
+  i = c .before .before .before .before .loop .i
+
+  left : i < length (start .args .inputs .now) / tokenWidth
+  left = omega (arith, c .before .before .before .loop-test .taken)
+
+  room : i < length (c .before .before .before .before .loop .ledger) / tokenWidth
+  room = omega (arith, left, start .pre .1, c .before .before .before .before .loop .inv .size)
+
+  size : length written ≡ length (c .before .before .before .before .loop .ledger)
+  size = omega (arith, c .put-token .kept .0)
+
+  fitting : Proper (start .args .tables .now) (c .before .before .token-at .result)
+  fitting = proper (start .args .tables .now) (start .args .inputs .now) i (c .before .before .token-at .result) (c .before .before .token-at .ensures) left (start .pre .3)
+
+  matching : let l = c .before .before .before .before .loop in Matching (start .args .tables .now) (l .links) (l .flags) written i
+  matching = let l = c .before .before .before .before .loop in written-matching (l .ledger) i (c .before .before .token-at .result) (c .put-token .ensures .1) room written (c .put-token .ensures .0) size (l .inv .matching)
+
+  standing : Standing (start .args .tables .now) written i (c .before .before .token-at .result)
+  standing =
+      let l = c .before .before .before .before .loop in
+      let t = c .before .before .token-at .result in
+      let p = c .put-token .ensures in
+      record {
+        same = written-own (l .ledger) i t (p .1) room written (p .0);
+        fits = p .1;
+        bytes = written-again (l .ledger) i t (p .1) room written (p .0);
+        low = fitting .low;
+        alone = fitting .alone;
+      }
+
+  free : let t = c .before .before .token-at .result in Free (tokens i written) (t .tag) (t .port)
+  free =
+      let l = c .before .before .before .before .loop in
+      let t = c .before .before .token-at in
+      let p = c .put-token .ensures in
+      let none = alone (start .args .inputs .now) (l .ledger) i (t .result) (t .ensures) left (l .inv .taken) (start .pre .4) in
+      rw (written-before (l .ledger) i (t .result) (p .1) room written (p .0)) none
+
+-- none stands where it does
+not-taken : (c : tie.After-enum-told Inv-loop μ-loop) → ⊥
+not-taken c =
+    let k = c .before .before in
+    let none = free (k .before .before .before .before .before .before) in
+    let taken = rw (c .enum-told .given .1) at (k .seek .ensures) in
+    let z : _≡_ {A = ℕ} 0 1 = ap (λ (b : Bool). cond b 1 0) (sym (ap isFound none) ∙ taken) in
+    absurd (omega arith)
 
 pub inputs-spec : {M : Type 1} → statement M
 inputs-spec = tie.close (tie.spec
@@ -26,27 +95,29 @@ inputs-spec = tie.close (tie.spec
     let a = s .args in
     taken-none (a .tables .now) (a .ledger .now) (a .inputs .now) (a .links .now) (a .flags .now) (s .pre .0))
     (λ c κs. omega (arith, c .loop-test .taken))
+    (λ c κs. omega (arith, c .before .before .loop-test .taken, c .before .before .before .before .before .before .pre .1, c .before .before .before .loop .inv .size))
+    (λ c κs. let p = c .before .before .before .before .before in (matching-known (matching p), fitting p .low))
+    (λ c. search needs)
+    (λ c. search needs)
+    (λ c. absurd (not-taken c))
+    (λ c. absurd (not-taken c))
     (λ c κs.
-    let s = c .before .before .before .before .before .before .before .before in
-    let a = s .args in
-    let l = c .before .before .before .before .before .loop in
-    let t = c .before .before .before .token-at in
-    let h : l .i < length (a .inputs .now) / tokenWidth = omega (arith, c .before .before .before .before .loop-test .taken) in
-    let p : Proper (t .result) = proper (a .inputs .now) (l .i) (t .result) (t .ensures) h (s .pre .3) in
-    let free = alone (a .inputs .now) (l .ledger) (l .i) (t .result) (t .ensures) h (l .inv .taken) (s .pre .4) in
-    (l .inv .matching, omega (arith, s .pre .1, s .pre .2, l .inv .size), omega (arith, s .pre .1, s .pre .2), p .0, p .1, free))
-    (λ c. omega (arith, c .before .before .before .before .before .before .before .loop-test .taken))
-    (λ c. omega (arith, c .before .before .before .before .before .before .before .loop-test .taken))
+    let p = c .before .before .before .before .before .before .before .before .before .before .before .before in
+    let o = rw (c .before .before .before .before .slot .given .1) at (c .before .before .before .before .before .before .seek .ensures) in
+    (matching p, omega (arith, room p, size p), omega (arith, left p, start p .pre .1, start p .pre .2), standing p, fitting p .cell, o))
+    (λ c. omega (arith, c .before .before .before .before .before .before .before .before .before .before .before .before .before .before .before .before .loop-test .taken))
+    (λ c. omega (arith, c .before .before .before .before .before .before .before .before .before .before .before .before .before .before .before .before .loop-test .taken))
     (λ c.
-    let s = c .before .before .before .before .before .before .before .before .before .before .before in
+    let p = c .before .before .before .before .before .before .before .before .before .before .before .before .before in
+    let s = start p in
     let a = s .args in
-    let l = c .before .before .before .before .before .before .before .before .loop in
-    let h : l .i < length (a .inputs .now) / tokenWidth = omega (arith, c .before .before .before .before .before .before .before .loop-test .taken) in
-    let e = c .before .before .before .before .before .before .token-at .ensures in
-    let p = c .before .before .arrive in
-    taken-more (a .tables .now) (a .ledger .now) (a .inputs .now) (l .ledger) (l .i) (l .inv .size) (l .inv .taken) (l .inv .rest) h (s .pre .1)
-    (p .last .1 .1 .1 .0) (rw e at (p .ensures .0)) (omega (arith, p .kept .1 .1 .1 .0)) (rw e at (p .ensures .1 .0))
-    (p .last .1 .0) (p .last .1 .1 .0) (p .ensures .1 .1))
+    let l = p .before .before .before .before .loop in
+    let t = p .before .before .token-at in
+    let w = p .put-token .ensures in
+    taken-more (a .tables .now) (a .ledger .now) (a .inputs .now) (l .ledger) (l .i) (l .inv .size) (l .inv .taken) (l .inv .rest) (left p) (s .pre .1)
+    (written p) (w .0 ∙ ap (λ (u : Token). putRow tokenWidth (l .ledger) (l .i) (encode u)) (t .ensures)) (size p)
+    (rw add-one (written-more (l .ledger) (l .i) (t .result) (w .1) (room p) (written p) (w .0) ∙ ap (λ (u : Token). tokens (l .i) (l .ledger) ++ u ∷ []) (t .ensures)))
+    (c .enter .last .1 .0) (c .enter .last .1 .1 .0) (c .enter .ensures))
     (λ c. omega (arith, c .before .loop .inv .size))
     (λ c.
     let a = c .before .before .before .before .args in

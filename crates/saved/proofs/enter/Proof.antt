@@ -10,11 +10,13 @@ use Rattle.record.specs.declared.token.Token.{Token}
 use Rattle.record.specs.TokensAndTags.{encode, tokenAt}
 use Rattle.machine.specs.Saved.{allUpTo}
 use Rattle.machine.proofs.View.{falseTrue}
+use Rattle.store_chains.specs.Search.{isFound}
 use Rattle.store_enabled.specs.Store.{Standing}
 use Rattle.store.specs.Matching.{Matching}
 use Rattle.store.proofs.Laws.{matching-known}
+use Rattle.store.proofs.Writing.{put-same}
 use Rattle.saved.specs.Passes.{arrivesAt, spentOfTwo, closesAt, firstSpent, entersAll}
-use Rattle.saved.proofs.Laws.{all-fails, all-more, put-same, told, arrives-parts, arrives-alone, Counts, counts-none, counts-more}
+use Rattle.saved.proofs.Laws.{all-fails, all-more, told, arrives-parts, arrives-alone, Counts, counts-none, counts-more}
 use Rattle.saved.proofs.enter.Statement.{statement}
 use Rattle.saved.proofs.enter.Tie as tie
 
@@ -52,6 +54,16 @@ standing c =
       low = p .0;
       alone = arrives-alone g (a .tables .now) (a .ledger .now) (a .count) i (s .pre .5) (yes c);
     })
+
+-- none stands where it does
+not-taken : (c : tie.After-enum-told Inv-loop μ-loop) → ⊥
+not-taken c =
+    let t = c .before .before .before .before .before .before .before .before .before .before .before .before in
+    let s = start t in
+    let a = s .args in
+    let p = arrives-parts (graphOf (a .graph .now)) (a .tables .now) (a .ledger .now) (a .count) (t .before .before .before .before .before .loop .i) (s .pre .3) (yes t) in
+    let taken = rw (c .enum-told .given .1, t .token-at .ensures) at (c .before .before .seek .ensures) in
+    falseTrue (sym (ap isFound (p .2)) ∙ taken)
 
 pub enter-spec : {M : Type 1} → statement M
 unfolding entersAll
@@ -91,22 +103,26 @@ enter-spec = tie.close (tie.spec
     let l = t .before .before .before .before .before .loop in
     let s = start t in
     omega (arith, l .inv .5 .few, c .one-if3 .ensures .1, l .inv .0, s .pre .1, s .pre .2))
+    (λ c κs. let t = c .before .before .before .before .before .before .before .before .before in (matching-known (t .before .before .before .before .before .loop .inv .1), standing t .low))
+    (λ c. search needs)
+    (λ c. search needs)
+    (λ c. absurd (not-taken c))
     (λ c κs.
-    let t = c .before .before .before .before .before .before .before .before .before in
+    let t = c .before .before .before .before .before .before .before .before .before .before .before .before .before .before .before in
     let l = t .before .before .before .before .before .loop in
     let s = start t in
     let a = s .args in
     let h = t .before .before .before .before .loop-test .taken in
     let p = arrives-parts (graphOf (a .graph .now)) (a .tables .now) (a .ledger .now) (a .count) (l .i) (s .pre .3) (yes t) in
-    (l .inv .1, omega (arith, h, s .pre .1), omega (arith, h, s .pre .1, s .pre .2), standing t, rw (t .token-at .ensures) (p .1), rw (t .token-at .ensures) (p .2)))
+    (l .inv .1, omega (arith, h, s .pre .1), omega (arith, h, s .pre .1, s .pre .2), standing t, rw (t .token-at .ensures) (p .1), rw (c .before .before .before .slot .given .1) at (c .before .before .before .before .before .seek .ensures)))
     (λ c.
-    let t = c .before .before .before .before .before .before .before .before .before .before in
+    let t = c .before .before .before .before .before .before .before .before .before .before .before .before .before .before .before .before in
     omega (arith, t .before .before .before .before .loop-test .taken, (start t) .pre .1, (start t) .pre .2))
     (λ c.
-    let t = c .before .before .before .before .before .before .before .before .before .before in
+    let t = c .before .before .before .before .before .before .before .before .before .before .before .before .before .before .before .before in
     omega (arith, t .before .before .before .before .loop-test .taken, (start t) .pre .1, (start t) .pre .2))
     (λ c.
-    let k = c .before .before .before in
+    let k = c .before .before .before .before .before .before .before .before .before in
     let x = k .before in
     let k2 = x .before .before in
     let x2 = k2 .before in

@@ -19,7 +19,7 @@ begin-spec = tie.close (tie.spec
     let a = s .args in
     let k = s .pre .0 in
     let passed = k .inputsPassed in
-    (rw (s .pre .1, s .pre .2) (matching-start _ _), inputs-fit (a .graph .now) (a .inputs .now) (length (a .ledger .now) / tokenWidth) 0 passed, k .few, inputs-proper (a .graph .now) (a .inputs .now) (length (a .ledger .now) / tokenWidth) 0 passed, inputs-alone (a .graph .now) (a .inputs .now) (length (a .ledger .now) / tokenWidth) 0 passed))
+    (rw (s .pre .1, s .pre .2) (matching-start _ _), inputs-fit (a .graph .now) (a .inputs .now) (length (a .ledger .now) / tokenWidth) 0 passed, k .few, inputs-proper (a .graph .now) (a .inputs .now) (length (a .ledger .now) / tokenWidth) 0 passed _ (c .before .before .before .before .before .before .before .before .make .ensures .arities), inputs-alone (a .graph .now) (a .inputs .now) (length (a .ledger .now) / tokenWidth) 0 passed))
     (λ c. search needs)
     (λ c.
     let k = c .before .before .before .before .before .before .before .before .before in

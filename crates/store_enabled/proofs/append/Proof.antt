@@ -1,7 +1,7 @@
 -- `store_enabled::append` meets its contract: none stood on the arriving token's port, and where its activity is not ready the flags stay. Assumes nothing.
-use Prim.Native.Nat.{_+_}
+use Prim.Native.Nat.{ℕ, _+_}
 use mathlib.Core.Path.{_≡_, _∙_}
-use mathlib.Core.List.{[], _∷_, _++_}
+use mathlib.Core.List.{List, [], _∷_, _++_}
 use native.Mathlib.Omega.{arith}
 use borrow.Author.Needs.{needs}
 use mathlib.Core.Bool.{false}
@@ -14,43 +14,62 @@ use Rattle.record.specs.Widths.{tokenWidth}
 use Rattle.store_flags.specs.Flags.{flagsOf}
 use Rattle.store_flags.specs.Marks.{bit}
 use Rattle.store_enabled.specs.Enabled.{arityOf, isEnabled, placeOf}
-use Rattle.store_enabled.proofs.Store.{Moved, added}
+use Rattle.store_enabled.specs.Store.{Last}
+use Rattle.store_enabled.proofs.Store.{Moved, added, added-last}
 use Rattle.store_enabled.proofs.Arriving.{flag-before, right-past, right-wait, raised-operand}
 use Rattle.store_enabled.proofs.append.Statement.{statement}
 use Rattle.store_enabled.proofs.append.Tie as tie
 
--- the record is written and the chains have it; its flag is still to be put
-entered : (c : tie.After-enter) → let a = c .before .before .before .before .before .before .before .before .args in
-    Moved (a .tables .now) (c .enter .last .0) (a .flags .now) (c .before .before .before .before .put-token .last .0) (a .used + 1) (a .used) (tokens (a .used) (a .ledger .now) ++ a .t ∷ []) (a .t)
-entered c =
-    let s = c .before .before .before .before .before .before .before .before in
-    let a = s .args in
-    let p = c .before .before .before .before .put-token in
-    let l = a .ledger .now in
-    let k : length (p .last .0) ≡ length l = omega (arith, p .kept .0) in
-    added (a .tables .now) (a .links .now) (a .flags .now) l (a .used) (a .t) (s .pre .0) (s .pre .1) (s .pre .2) (s .pre .3) (s .pre .5)
-    (p .ensures .1) (p .last .0) (p .ensures .0) k (c .enter .last .0)
-    (c .enter .ensures .0 (tokens (a .used) l) (length-rows tokenWidth decode (a .used) l) (s .pre .0 .known .index))
+-- the record is written and the chains have it; its flag is still to be put, and it is the last
+module _ (c : tie.After-enter) where
+  abbrev start : tie.Start
+  start = c .before .before .before .before .before .before .before .before
+
+  abbrev written : List ℕ
+  written = c .before .before .before .before .put-token .last .0
+
+  entered : let a = start .args in Moved (a .tables .now) (c .enter .last .0) (a .flags .now) written (a .used + 1) (a .used) (tokens (a .used) (a .ledger .now) ++ a .t ∷ []) (a .t)
+  entered =
+      let s = start in
+      let a = s .args in
+      let p = c .before .before .before .before .put-token in
+      let l = a .ledger .now in
+      let k : length (p .last .0) ≡ length l = omega (arith, p .kept .0) in
+      added (a .tables .now) (a .links .now) (a .flags .now) l (a .used) (a .t) (s .pre .0) (s .pre .1) (s .pre .2) (s .pre .3) (s .pre .5 .free)
+      (p .ensures .1) (p .last .0) (p .ensures .0) k (c .enter .last .0)
+      (c .enter .ensures .0 (tokens (a .used) l) (length-rows tokenWidth decode (a .used) l) (s .pre .0 .known .index))
+
+  last : let a = start .args in Last written (a .used) (a .t .tag) (a .t .port) (a .slot .partner)
+  last =
+      let s = start in
+      let a = s .args in
+      let p = c .before .before .before .before .put-token in
+      let l = a .ledger .now in
+      let k : length (p .last .0) ≡ length l = omega (arith, p .kept .0) in
+      added-last (a .tables .now) (a .links .now) (a .flags .now) l (a .used) (a .t) (s .pre .0) (s .pre .1) (s .pre .2) (s .pre .3) (s .pre .5 .free)
+      (p .ensures .1) (p .last .0) (p .ensures .0) k (c .enter .last .0)
+      (c .enter .ensures .0 (tokens (a .used) l) (length-rows tokenWidth decode (a .used) l) (s .pre .0 .known .index)) (a .slot) (s .pre .5)
 
 pub append-spec : {M : Type 1} → statement M
 append-spec = tie.close (tie.spec
     (λ c κs. search needs)
-    (λ c κs. search needs)
+    (λ c κs. let s = c .before .before .before .before .before .before .before in (s .pre .2, s .pre .4, s .pre .5 .bucket))
     (λ c κs. search needs)
     (λ c κs.
-    let s = c .before .before .before .before .before .before .before .before .before .before .before .before .before in
-    let e = entered (c .before .before .before .before .before) in
+    let n = c .before .before .before .before in
+    let s = start n in
     let a = s .args in
-    (s .pre .0 .counted, e .known, s .pre .3, e .own, λ h. rw (e .more) (flag-before (a .tables .now) (a .ledger .now) (a .used) (a .t) (flagsOf (a .flags .now)) (s .pre .0 .right) (s .pre .5) (s .pre .3) (rw (c .before .before .before .arity .ensures) at h))))
+    (s .pre .0 .counted, last n, λ h. rw (entered n .more) (flag-before (a .tables .now) (a .ledger .now) (a .used) (a .t) (flagsOf (a .flags .now)) (s .pre .0 .right) (s .pre .5 .free) (s .pre .3) (rw (c .before .before .arity .ensures) at h))))
     (λ c. search needs)
     (λ c.
-    let s = c .before .before .before .before .before .before .before .before .before .before .before .before .before .before in
+    let n = c .before .before .before .before .before in
+    let s = start n in
     let a = s .args in
-    let e = entered (c .before .before .before .before .before .before) in
+    let e = entered n in
     let ts = tokens (a .used) (a .ledger .now) in
     let us = ts ++ a .t ∷ [] in
-    let n = arityOf (a .tables .now) (a .t .tag) in
-    let past : ltb (a .t .port) n ≡ false → flagsOf (a .flags .now) ≡ set (flagsOf (a .flags .now)) (placeOf us (a .t .tag)) (bit (isEnabled (a .tables .now) us (a .t .tag))) = λ e. right-past (a .tables .now) ts (a .t) (flagsOf (a .flags .now)) (s .pre .0 .right) (ltb-false (a .t .port) n e) (s .pre .3) in
-    let once = raised-operand (ltb (a .t .port) n) (isEnabled (a .tables .now) us (a .t .tag)) (flagsOf (a .flags .now)) (placeOf us (a .t .tag)) past (right-wait (a .tables .now) ts (a .t) (flagsOf (a .flags .now)) (s .pre .0 .right)) in
-    let flags = c .settle-arrived .ensures .0 ∙ rw (c .before .before .before .before .arity .ensures, e .more) once in
-    (c .before .before .before .before .before .before .before .before .before .before .put-token .ensures .0, (e .more, (e .stored (c .settle-arrived .last .0) flags (c .settle-arrived .ensures .1), λ w. rw (e .more) (c .before .before .before .before .before .before .enter .ensures .1 ts (length-rows tokenWidth decode (a .used) (a .ledger .now)) w))))))
+    let k = arityOf (a .tables .now) (a .t .tag) in
+    let past : ltb (a .t .port) k ≡ false → flagsOf (a .flags .now) ≡ set (flagsOf (a .flags .now)) (placeOf us (a .t .tag)) (bit (isEnabled (a .tables .now) us (a .t .tag))) = λ e. right-past (a .tables .now) ts (a .t) (flagsOf (a .flags .now)) (s .pre .0 .right) (ltb-false (a .t .port) k e) (s .pre .3) in
+    let once = raised-operand (ltb (a .t .port) k) (isEnabled (a .tables .now) us (a .t .tag)) (flagsOf (a .flags .now)) (placeOf us (a .t .tag)) past (right-wait (a .tables .now) ts (a .t) (flagsOf (a .flags .now)) (s .pre .0 .right)) in
+    let flags = c .settle-arrived .ensures .0 ∙ rw (c .before .before .before .arity .ensures, e .more) once in
+    (c .before .before .before .before .before .before .before .before .before .put-token .ensures .0, (e .more, (e .stored (c .settle-arrived .last .0) flags (c .settle-arrived .ensures .1), λ w. rw (e .more) (n .enter .ensures .1 ts (length-rows tokenWidth decode (a .used) (a .ledger .now)) w))))))

@@ -38,8 +38,8 @@ whole c =
 
 pub enabled-by-tag-spec : {M : Type 1} → statement M
 enabled-by-tag-spec = tie.close (tie.spec
-    (λ c κs. let s = c .before in (s .pre .room, s .pre .index))
-    (λ c κs. let s = c .before .before in (s .pre .room, s .pre .index))
+    (λ c κs. let s = c .before in (s .pre .room, s .pre .index, s .pre .single))
+    (λ c κs. let s = c .before .before in (s .pre .room, s .pre .index, s .pre .single))
     (λ c κs. search needs)
     (λ c κs.
     let g = c .before .before in

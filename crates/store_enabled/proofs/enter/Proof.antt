@@ -1,22 +1,19 @@
 -- `store_enabled::enter` meets its contract: as `append`, of a record that is written already. Assumes nothing.
-use Prim.Native.Nat.{ℕ, _+_, _-_}
+use Prim.Native.Nat.{ℕ, _+_}
 use mathlib.Core.Path.{_≡_, refl, sym, ap, _∙_}
 use mathlib.Core.Bool.{false}
 use mathlib.Core.List.{[], _∷_, _++_}
-use native.Mathlib.Omega.{arith}
 use borrow.Author.Needs.{needs}
 use borrow.Author.Tests.{not-true}
-use Rattle.record.specs.TokensAndTags.{tokens, decode, standsAt}
+use Rattle.record.specs.TokensAndTags.{tokens, decode}
 use Rattle.buffer.proofs.Tables.{length-rows}
 use Rattle.record.specs.Widths.{tokenWidth}
 use Rattle.store_flags.specs.Flags.{flagsOf}
-use Rattle.store_chains.specs.Search.{firstFrom}
 use Rattle.store_chains.specs.Deferred.{Waiting}
-use Rattle.store_chains.proofs.Search.{within-more}
-use Rattle.store_enabled.specs.Enabled.{allLive, arityOf, isEnabled, placeOf}
-use Rattle.store_enabled.specs.Store.{Stored, placeOr}
-use Rattle.store_enabled.proofs.Store.{Moved, added}
-use Rattle.store_enabled.proofs.Arriving.{flag-before, port-below, right-wait, own-place, own-ready, own-stands, own-waits, partner-place}
+use Rattle.store_enabled.specs.Enabled.{allLive, arityOf, isEnabled}
+use Rattle.store_enabled.specs.Store.{Stored, Last}
+use Rattle.store_enabled.proofs.Store.{Moved, added, added-last}
+use Rattle.store_enabled.proofs.Arriving.{flag-before, port-below, right-wait, last-partner, last-place, last-flag, last-ready, last-waits}
 use Rattle.store_enabled.proofs.enter.Statement.{statement}
 use Rattle.store_enabled.proofs.enter.Tie as tie
 
@@ -28,7 +25,7 @@ entered c =
     let a = s .args in
     let l = a .ledger .now in
     let p = s .pre .3 in
-    added (a .tables .now) (a .links .now) (a .flags .now) l (a .used) (a .t) (s .pre .0) (s .pre .1) (s .pre .2) (p .low) (s .pre .5)
+    added (a .tables .now) (a .links .now) (a .flags .now) l (a .used) (a .t) (s .pre .0) (s .pre .1) (s .pre .2) (p .low) (s .pre .5 .free)
     (p .fits) l (p .bytes) refl (c .enter .last .0)
     (c .enter .ensures .0 (tokens (a .used) l) (length-rows tokenWidth decode (a .used) l) (s .pre .0 .known .index))
 
@@ -49,79 +46,55 @@ stays c off =
     let flags = right-wait (a .tables .now) (tokens (a .used) (a .ledger .now)) (a .t) (flagsOf (a .flags .now)) (s .pre .0 .right) (rw (e .more) at off) in
     e .stored (a .flags .now) (rw (e .more) flags) (s .pre .0 .counted)
 
--- the place of its tag
-here : (c : tie.After-find-partner) → let a = c .before .before .before .before .before .before .before .before .args in
-    placeOf (tokens (a .used + 1) (a .ledger .now)) (a .t .tag) ≡ placeOr (c .find-partner .result) (a .used)
-here c =
-    let n = c .before .before .before .before in
-    let s = n .before .before .before .before in
+-- it is the last
+last : (c : tie.After-enter) → let a = c .before .before .before .before .args in Last (a .ledger .now) (a .used) (a .t .tag) (a .t .port) (a .slot .partner)
+last c =
+    let s = c .before .before .before .before in
     let a = s .args in
-    let f = c .find-partner in
-    own-place (a .t .tag) (a .t .port) (a .used) (a .used + 1) (a .ledger .now) (omega arith) (s .pre .3 .low) (entered n .own) (f .result) (f .ensures .0) (entered n .known .ports)
-    ∙ partner-place (f .result) (a .used) (f .ensures .1) .0
+    let l = a .ledger .now in
+    let p = s .pre .3 in
+    added-last (a .tables .now) (a .links .now) (a .flags .now) l (a .used) (a .t) (s .pre .0) (s .pre .1) (s .pre .2) (p .low) (s .pre .5 .free)
+    (p .fits) l (p .bytes) refl (c .enter .last .0)
+    (c .enter .ensures .0 (tokens (a .used) l) (length-rows tokenWidth decode (a .used) l) (s .pre .0 .known .index)) (a .slot) (s .pre .5)
 
--- and whether it is enabled
-whole : (c : tie.After-ready-with) → let a = c .before .before .before .before .before .before .before .before .before .before .before .args in
+-- whether its tag is enabled
+whole : (c : tie.After-ready-with) → let a = c .before .before .before .before .before .before .before .before .before .args in
     c .ready-with .result ≡ isEnabled (a .tables .now) (tokens (a .used + 1) (a .ledger .now)) (a .t .tag)
 whole c =
     let k = c .before in
-    let f = k .before .before in
-    let n = f .before .before .before .before in
-    let s = n .before .before .before .before in
-    let a = s .args in
-    c .ready-with .ensures
-    ∙ own-ready (a .t .tag) (a .t .port) (a .used) (a .used + 1) (a .ledger .now) (omega arith) (s .pre .3 .low) (entered n .own) (f .find-partner .result) (f .find-partner .ensures .0) (k .arity .result)
-    ∙ ap (λ (m : ℕ). allLive m (tokens (a .used + 1) (a .ledger .now)) (a .t .tag)) (k .arity .ensures)
+    let n = k .before .before .before .before in
+    let a = n .before .before .before .before .args in
+    c .ready-with .ensures ∙ last-ready (last n) (k .arity .result) ∙ ap (λ (m : ℕ). allLive m (tokens (a .used + 1) (a .ledger .now)) (a .t .tag)) (k .arity .ensures)
 
 pub enter-spec : {M : Type 1} → statement M
 enter-spec = tie.close (tie.spec
-    (λ c κs. search needs)
+    (λ c κs. let s = c .before .before .before in (s .pre .2, s .pre .4, s .pre .5 .bucket))
     (λ c κs. search needs)
     (λ c.
     let n = c .before .before in
     let s = n .before .before .before .before in
     let a = s .args in
-    let l = a .ledger .now in
-    let p = s .pre .3 in
-    let e = entered n in (
-      e .more,
-      (
-        stays n (own-waits (a .t .tag) (a .t .port) (a .used) (a .used + 1) l (omega arith) (p .low) (e .own) (firstFrom (standsAt (a .t .tag) (1 - a .t .port)) 0 (tokens (a .used + 1) l)) refl (arityOf (a .tables .now) (a .t .tag)) (p .alone)
-            (sym (c .before .live .ensures) ∙ not-true (c .before .live .result) (c .if1 .taken))),
-        waiting n,
-      ),
-    ))
+    let off = sym (c .before .live .ensures) ∙ not-true (c .before .live .result) (c .if1 .taken) in
+    (entered n .more, (stays n (last-waits (last n) (arityOf (a .tables .now) (a .t .tag)) (s .pre .3 .alone) off), waiting n)))
+    (λ c κs. search needs)
+    (λ c κs. let w = last (c .before .before .before .before) in (w .room, last-partner w))
+    (λ c κs. search needs)
     (λ c κs.
-    let n = c .before .before .before in
+    let r = c .before .before .before in
+    let n = r .before .before .before .before .before in
     let s = n .before .before .before .before in
     let a = s .args in
-    let e = entered n in
-    (s .pre .1, e .known .index, s .pre .3 .low, own-stands (a .t .tag) (a .t .port) (a .used) (a .used + 1) (a .ledger .now) (omega arith) (e .own)))
-    (λ c κs. search needs)
-    (λ c κs.
-    let f = c .before .before in
-    let s = f .before .before .before .before .before .before .before .before in
-    (s .pre .1, within-more (f .find-partner .result) _ _ (entered (f .before .before .before .before) .known .room) (f .find-partner .ensures .1)))
-    (λ c κs. search needs)
-    (λ c κs.
-    let f = c .before .before .before .before .before .before in
-    let s = f .before .before .before .before .before .before .before .before in
-    let a = s .args in
     let ts = tokens (a .used + 1) (a .ledger .now) in
-    let on = sym (whole (c .before .before .before)) ∙ c .before .before .if2 .taken in
+    let on = sym (whole r) ∙ c .before .before .if2 .taken in
     let below = port-below (arityOf (a .tables .now) (a .t .tag)) (a .t .port) ts (a .t .tag) (s .pre .3 .low) (s .pre .3 .alone) on in
-    let down = flag-before (a .tables .now) (a .ledger .now) (a .used) (a .t) (flagsOf (a .flags .now)) (s .pre .0 .right) (s .pre .5) (s .pre .3 .low) below in (
-      rw (c .place-or .ensures) (omega (arith, partner-place (f .find-partner .result) (a .used) (f .find-partner .ensures .1) .1, s .pre .2)),
-      s .pre .0 .counted,
-      rw (c .place-or .ensures, ← here f, entered (f .before .before .before .before) .more) down,
-    ))
+    let down = flag-before (a .tables .now) (a .ledger .now) (a .used) (a .t) (flagsOf (a .flags .now)) (s .pre .0 .right) (s .pre .5 .free) (s .pre .3 .low) below in
+    (rw (c .place-or .ensures) (last-flag (last n)), s .pre .0 .counted, rw (c .place-or .ensures, ← last-place (last n), entered n .more) down))
     (λ c.
     let r = c .before .before .before .before in
-    let f = r .before .before .before in
-    let n = f .before .before .before .before in
+    let n = r .before .before .before .before .before in
     let e = entered n in
     let on = sym (whole r) ∙ c .before .before .before .if2 .taken in
-    (e .more, (e .stored (c .raise .last .0) (c .raise .ensures .0 ∙ rw (c .before .place-or .ensures, here f, on)) (c .raise .ensures .1), waiting n)))
+    (e .more, (e .stored (c .raise .last .0) (c .raise .ensures .0 ∙ rw (c .before .place-or .ensures, last-place (last n), on)) (c .raise .ensures .1), waiting n)))
     (λ c.
-    let n = c .before .before .before .before .before .before .before .before in
+    let n = c .before .before .before .before .before .before in
     (entered n .more, (stays n (sym (whole (c .before)) ∙ c .if2 .left), waiting n))))

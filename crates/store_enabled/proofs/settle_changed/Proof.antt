@@ -40,7 +40,7 @@ low c =
 pub settle-changed-spec : {M : Type 1} → statement M
 settle-changed-spec = tie.close (tie.spec
     (λ c. omega (arith, c .before .pre .3))
-    (λ c κs. let s = c .before in (s .pre .1 .room, s .pre .1 .index))
+    (λ c κs. let s = c .before in (s .pre .1 .room, s .pre .1 .index, s .pre .1 .single))
     (λ c κs.
     let s = c .before .before in
     (omega (arith, s .pre .1 .room, s .pre .2), within-more (c .find .result) _ _ (s .pre .1 .room) (c .find .ensures .1)))
