@@ -1,0 +1,2 @@
+-- The definitions of the flags of held activities. Assumes nothing.
+pub mod Deciding
