@@ -5,3 +5,4 @@ pub mod Sorted
 pub mod Positions
 pub mod Demand3
 pub mod SavedOrders
+pub mod BoundedOrders
