@@ -1,4 +1,5 @@
 -- The laws of a run over bytes. Assumes nothing.
+pub mod Choosing
 pub mod Places
 pub mod Turning
 pub mod Recording

@@ -29,9 +29,9 @@ use Rattle.rules.specs.Saved.{stateSaved, machineSaved, taken, checkSaved, carr
 use Rattle.check_fields.proofs.Turns.{both-passed}
 use Rattle.checks.proofs.Passed.{passed-stores, passed-arrays}
 use Rattle.abstraction.specs.Tables.{arraysIn}
+use Rattle.fire.specs.Running.{machineFor, stateIn}
 use Rattle.start.specs.Ended.{EndedAt}
 use Rattle.engine.specs.Resumed.{lentChecked, Lent, resumed}
-use Rattle.engine.specs.Turns.{endOf}
 
 -- ---- the run
 
@@ -48,17 +48,17 @@ module _ (graph arrays picks ledger cells : List ℕ) (budget firings used : ℕ
 
   -- by the tables that the loop goes by
   module _ (tables : List ℕ) (named : arraysIn tables ≡ arraysOf arrays) where
-    same-own : endOf (graphOf graph) tables ledger cells used budget (picksOf picks) ≡ own
+    same-own : run (machineFor (graphOf graph) tables ledger cells) budget (picksOf picks) (stateIn ledger cells used) ≡ own
     unfolding stateSaved
     same-own = ap (λ (table : List NamedArray). run (machineSaved graph table ledger cells) budget (picksOf picks) (stateSaved ledger cells used)) named
 
-    pub own-few : (r : Answer) (ledger′ cells′ : List ℕ) → EndedAt (endOf (graphOf graph) tables ledger cells used budget (picksOf picks)) r ledger cells ledger′ cells′ → r .firings ≤ budget
+    pub own-few : (r : Answer) (ledger′ cells′ : List ℕ) → EndedAt (run (machineFor (graphOf graph) tables ledger cells) budget (picksOf picks) (stateIn ledger cells used)) r ledger cells ledger′ cells′ → r .firings ≤ budget
     own-few r ledger′ cells′ h =
-        let e : r .firings ≡ endOf (graphOf graph) tables ledger cells used budget (picksOf picks) .firings = ap (λ (a : Answer). a .firings) (h .answered) in
-        let k : endOf (graphOf graph) tables ledger cells used budget (picksOf picks) .firings ≡ own .firings = ap (λ (x : End Refusal Tag ℤ). x .firings) same-own in
+        let e : r .firings ≡ run (machineFor (graphOf graph) tables ledger cells) budget (picksOf picks) (stateIn ledger cells used) .firings = ap (λ (a : Answer). a .firings) (h .answered) in
+        let k : run (machineFor (graphOf graph) tables ledger cells) budget (picksOf picks) (stateIn ledger cells used) .firings ≡ own .firings = ap (λ (x : End Refusal Tag ℤ). x .firings) same-own in
         omega (arith, few)
 
-    pub goes-on : true ≡ taken graph ledger cells firings used → (r a : Answer) (ledger′ cells′ : List ℕ) → EndedAt (endOf (graphOf graph) tables ledger cells used budget (picksOf picks)) r ledger cells ledger′ cells′
+    pub goes-on : true ≡ taken graph ledger cells firings used → (r a : Answer) (ledger′ cells′ : List ℕ) → EndedAt (run (machineFor (graphOf graph) tables ledger cells) budget (picksOf picks) (stateIn ledger cells used)) r ledger cells ledger′ cells′
         → a ≡ record { outcome = r .outcome; firings = firings + r .firings; tokens = r .tokens } → Ran (resumed graph arrays picks budget ledger cells firings used) a ledger ledger′ cells cells′
     unfolding unlessFailed answer ledgerAfter cellsAfter
     goes-on t r a ledger′ cells′ h e =

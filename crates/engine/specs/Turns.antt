@@ -1,62 +1,121 @@
--- A run, a turn at a time, in the terms of the machine: what a turn leaves, and what a run leaves in ledger, cells and log. Assumes nothing.
-use Prim.Native.Nat.{ℕ, suc, _*_, _/_, _≤_, _<_}
+-- A run, a turn at a time, in the terms of the machine: who chooses, what a turn leaves, and what a run leaves in ledger, cells and log. Assumes nothing.
+use Prim.Native.Nat.{ℕ, _*_, _/_, _≤_, _<_}
 use mathlib.Core.Path.{_≡_}
-use mathlib.Core.Bool.{cond}
-use mathlib.Core.List.{List, [], _∷_}
+use mathlib.Core.Bool.{true, cond}
+use mathlib.Core.List.{List, []}
 use lib.Dec.{ltb}
 use lib.ListN.{length, take, drop}
 use lib.IntN.{ℤ}
+use Rattle.record.specs.declared.array.NamedArray.{NamedArray}
 use Rattle.record.specs.declared.tag.Tag.{Tag}
+use Rattle.record.specs.declared.cell.Cell.{Cell}
 use Rattle.record.specs.declared.instruction.Instruction.{Instruction}
 use Rattle.record.specs.Logs.{encode}
-use Rattle.record.specs.TokensAndTags.{tokenAt}
-use Rattle.record.specs.Widths.{tokenWidth, logWidth}
+use Rattle.record.specs.TokensAndTags.{tokens, tokenAt}
+use Rattle.record.specs.Widths.{tokenWidth, cellWidth, logWidth}
 use Rattle.buffer.specs.Rows.{putRow, writtenOver}
-use Rattle.machine.specs.Machine.{Outcome, End, byPicks, runBy, run, end, laterPicks}
-use Rattle.machine.specs.Sequences.{logOf}
+use Rattle.machine.specs.Machine.{Machine, StateOf, Activity, Outcome, refused, notFired, End, byPicks, fire, end}
+use Rattle.machine.specs.Choosers.{Chosen, takes, ends, Chooser, runFrom, logFrom, byPick, byName, byPlace}
 use Rattle.rules.specs.declared.answer.Refusal.{Refusal}
+use Rattle.rules.specs.declared.answer.Refusal.the-variants.{NotEnabled}
 use Rattle.rules.specs.declared.answer.Outcome as AnswerOutcome
-use Rattle.rules.specs.Run.{outcomeOf}
-use Rattle.fire.specs.Running.{machineFor, stateIn, Running}
+use Rattle.rules.specs.declared.answer.Answer.{Answer}
+use Rattle.rules.specs.InstructionSet.{machineOf}
+use Rattle.rules.specs.Run.{picksOf, outcomeOf}
+use Rattle.rules.specs.Log.{namesIn}
+use Rattle.store_enabled.specs.Enabled.{leads}
+use Rattle.store.specs.Matching.{Matching}
+use Rattle.abstraction.specs.States.{stateHeld}
+use Rattle.abstraction.specs.Tables.{Arities, arraysIn}
+use Rattle.fire.specs.Running.{machineFor, stateIn, Arrived, Running, Went}
+use Rattle.engine.specs.declared.Order.{Order}
+use Rattle.engine.specs.declared.Order.the-variants as Orders
+use Rattle.engine.specs.declared.Choice.{Choice}
+use Rattle.engine.specs.declared.Choice.the-variants as Choices
 use Rattle.engine.specs.declared.Turn.{Turn}
 use Rattle.engine.specs.declared.Turn.the-variants as Turns
 
--- a turn in which τ fired left n tokens, and the run goes on from there with the picks after the first
-pub record Advanced (g : List Instruction) (τ : Tag) (picks : List ℕ) (tables links flags ledger′ cells′ : List ℕ) (n used : ℕ) (ledger cells : List ℕ) : Type 0 where
-  pub goesOn : (b f : ℕ) → runBy (machineFor g tables ledger cells) (byPicks (machineFor g tables ledger cells)) (suc b) picks f (stateIn ledger cells used)
-      ≡ runBy (machineFor g tables ledger cells) (byPicks (machineFor g tables ledger cells)) b (laterPicks picks) (suc f) (stateIn ledger′ cells′ n)
-  pub logs : (b : ℕ) → logOf (machineFor g tables ledger cells) (byPicks (machineFor g tables ledger cells)) (suc b) picks (stateIn ledger cells used)
-      ≡ τ ∷ logOf (machineFor g tables ledger cells) (byPicks (machineFor g tables ledger cells)) b (laterPicks picks) (stateIn ledger′ cells′ n)
-  pub running : Running g tables links flags ledger′ cells′ n
-  pub grown : used ≤ n
-  pub size : length ledger′ ≡ length ledger
-  pub rest : drop (n * tokenWidth) ledger′ ≡ drop (n * tokenWidth) ledger
-  pub cellSize : length cells′ ≡ length cells
+-- ---- who chooses
 
--- a turn that ended the run left ledger and cells as it found them
-pub record Halted (o : AnswerOutcome.Outcome) (g : List Instruction) (picks : List ℕ) (tables links flags ledger′ cells′ : List ℕ) (used : ℕ) (ledger cells : List ℕ) : Type 0 where
+-- of an order and the bytes that it goes by. Without picks the first is taken each time
+abbrev pub chooserOf : Order → (source : List ℕ) → (g : List Instruction) (table : List NamedArray) (capacity count : ℕ) → Chooser (machineOf g table capacity count)
+chooserOf Orders.Oldest source g table capacity count = byPick (machineOf g table capacity count) (byPicks (machineOf g table capacity count)) []
+chooserOf Orders.Picks source g table capacity count = byPick (machineOf g table capacity count) (byPicks (machineOf g table capacity count)) (picksOf source)
+chooserOf Orders.Log source g table capacity count = byName (machineOf g table capacity count) NotEnabled (namesIn source)
+chooserOf Orders.Places source g table capacity count = byPlace (machineOf g table capacity count) NotEnabled (picksOf source)
+
+abbrev pub chooserFor : Order → (source : List ℕ) → (g : List Instruction) (tables ledger cells : List ℕ) → Chooser (machineFor g tables ledger cells)
+chooserFor order source g tables ledger cells = chooserOf order source g (arraysIn tables) (length ledger / tokenWidth) (length cells / cellWidth)
+
+-- this order goes by the picks
+abbrev pub ByPicks : Order → (picks : List ℕ) → Type 0
+ByPicks order picks = (g : List Instruction) (table : List NamedArray) (capacity count : ℕ)
+    → chooserOf order picks g table capacity count ≡ byPick (machineOf g table capacity count) (byPicks (machineOf g table capacity count)) (picksOf picks)
+
+-- ---- a choice
+
+-- what the choice goes by: the flags are those of the enabled activities
+pub record Flagged (tables flags ledger : List ℕ) (used : ℕ) : Type 0 where
+  pub links : List ℕ
+  pub matching : Matching tables links flags ledger used
+
+-- the chooser takes the activity at this place, which is enabled
+pub record Takes (place : ℕ) (chosen : Chosen Refusal Tag) (tables ledger : List ℕ) (used : ℕ) : Type 0 where
+  pub taken : chosen ≡ takes (record { place = place; tag = tokenAt ledger place .tag })
+  pub below : place < used
+  pub enabledThere : leads tables (tokens used ledger) place (tokenAt ledger place) ≡ true
+
+-- the chooser ends the run
+pub record Ends (o : AnswerOutcome.Outcome) (chosen : Chosen Refusal Tag) : Type 0 where
   pub outcome : Outcome Refusal
   pub told : outcomeOf outcome ≡ o
-  pub ends : (b f : ℕ) → runBy (machineFor g tables ledger cells) (byPicks (machineFor g tables ledger cells)) (suc b) picks f (stateIn ledger cells used)
-      ≡ end (machineFor g tables ledger cells) outcome f (stateIn ledger cells used)
-  pub logsNone : (b : ℕ) → logOf (machineFor g tables ledger cells) (byPicks (machineFor g tables ledger cells)) (suc b) picks (stateIn ledger cells used) ≡ []
+  pub ended : chosen ≡ ends outcome
+
+abbrev pub Chooses : Choice → Chosen Refusal Tag → (tables ledger : List ℕ) → (used : ℕ) → Type 0
+Chooses (Choices.At place) chosen tables ledger used = Takes place chosen tables ledger used
+Chooses (Choices.Ended o) chosen tables ledger used = Ends o chosen
+
+-- the choice of a turn after f firings, for every graph whose tables these are and every store of cells
+abbrev pub ChosenAs : Choice → Order → (source : List ℕ) → (f : ℕ) → (tables ledger : List ℕ) → (used : ℕ) → Type 0
+ChosenAs r order source f tables ledger used = (g : List Instruction) → Arities g tables → Arrived g (tokens used ledger) → (table : List NamedArray) (capacity count : ℕ) (cs : List Cell)
+    → Chooses r (chooserOf order source g table capacity count f (stateHeld (tokens used ledger) cs)) tables ledger used
+
+-- ---- a turn, by what was chosen, whoever chose it
+
+-- a turn in which the activity at a place fired left n tokens. It has its tag at its place, as before the firing
+pub record Advanced (g : List Instruction) (chosen : Chosen Refusal Tag) (place : ℕ) (tables links flags ledger′ cells′ : List ℕ) (n used : ℕ) (ledger cells : List ℕ) : Type 0 where
+  pub taken : chosen ≡ takes (record { place = place; tag = tokenAt ledger′ place .tag })
+  pub below : place < n
+  pub went : Went g (tokenAt ledger′ place .tag) tables links flags ledger′ cells′ n used ledger cells
+
+-- why a turn ends the run: the chooser does, or the activity that it takes is refused
+pub data Stops (M : Machine) (s : StateOf M) (chosen : Chosen (M .Refusal) (M .Tag)) (o : Outcome (M .Refusal)) : Type 0 where
+  byChoice : chosen ≡ ends o → Stops M s chosen o
+  byRefusal : (a : Activity (M .Tag)) (r : M .Refusal) → chosen ≡ takes a → fire M s (a .tag) ≡ notFired r → o ≡ refused r (a .place) → Stops M s chosen o
+
+-- a turn that ended the run left ledger and cells as it found them
+pub record Halted (o : AnswerOutcome.Outcome) (g : List Instruction) (chosen : Chosen Refusal Tag) (tables links flags ledger′ cells′ : List ℕ) (used : ℕ) (ledger cells : List ℕ) : Type 0 where
+  pub outcome : Outcome Refusal
+  pub told : outcomeOf outcome ≡ o
+  pub stops : Stops (machineFor g tables ledger cells) (stateIn ledger cells used) chosen outcome
   pub running : Running g tables links flags ledger′ cells′ used
   pub sameLedger : ledger′ ≡ ledger
   pub sameCells : cells′ ≡ cells
 
--- a turn, by its answer; the activity that fired has its tag at its place, as before the firing
-abbrev pub Turned : Turn → List Instruction → (picks : List ℕ) → (tables links flags ledger′ cells′ : List ℕ) → (used : ℕ) → (ledger cells : List ℕ) → Type 0
-Turned (Turns.Fired n place) g picks tables links flags ledger′ cells′ used ledger cells =
-    (place < n) × Advanced g (tokenAt ledger′ place .tag) picks tables links flags ledger′ cells′ n used ledger cells
-Turned (Turns.Ended o) g picks tables links flags ledger′ cells′ used ledger cells =
-    Halted o g picks tables links flags ledger′ cells′ used ledger cells
+abbrev pub Turned : Turn → List Instruction → Chosen Refusal Tag → (tables links flags ledger′ cells′ : List ℕ) → (used : ℕ) → (ledger cells : List ℕ) → Type 0
+Turned (Turns.Fired n place) g chosen tables links flags ledger′ cells′ used ledger cells =
+    Advanced g chosen place tables links flags ledger′ cells′ n used ledger cells
+Turned (Turns.Ended o) g chosen tables links flags ledger′ cells′ used ledger cells =
+    Halted o g chosen tables links flags ledger′ cells′ used ledger cells
+
+-- ---- a run
 
 -- the end of a run from a state of so many tokens, and its log
-abbrev pub endOf : List Instruction → (tables ledger cells : List ℕ) → (used budget : ℕ) → (picks : List ℕ) → End Refusal Tag ℤ
-endOf g tables ledger cells used budget picks = run (machineFor g tables ledger cells) budget picks (stateIn ledger cells used)
+abbrev pub endOf : Order → (source : List ℕ) → List Instruction → (tables ledger cells : List ℕ) → (used budget : ℕ) → End Refusal Tag ℤ
+endOf order source g tables ledger cells used budget = runFrom (machineFor g tables ledger cells) (chooserFor order source g tables ledger cells) budget 0 (stateIn ledger cells used)
 
-abbrev pub firedBy : List Instruction → (tables ledger cells : List ℕ) → (used budget : ℕ) → (picks : List ℕ) → List Tag
-firedBy g tables ledger cells used budget picks = logOf (machineFor g tables ledger cells) (byPicks (machineFor g tables ledger cells)) budget picks (stateIn ledger cells used)
+abbrev pub firedBy : Order → (source : List ℕ) → List Instruction → (tables ledger cells : List ℕ) → (used budget : ℕ) → List Tag
+firedBy order source g tables ledger cells used budget = logFrom (machineFor g tables ledger cells) (chooserFor order source g tables ledger cells) budget 0 (stateIn ledger cells used)
 
 -- record i of a log, if it has room for it
 unfoldable pub noted : (log : List ℕ) → (i : ℕ) → Tag → List ℕ
@@ -65,3 +124,14 @@ noted log i τ = cond (ltb i (length log / logWidth)) (putRow logWidth log i (en
 -- a log that took the records of these tags, as many as it has room for
 unfoldable pub recorded : List Tag → (lent : List ℕ) → List ℕ
 recorded τs lent = writtenOver encode (take (length lent / logWidth) τs) lent
+
+-- a run left arrays, ledger and cells, from which another may go on, and its answer tells its end
+pub record Proceeded (e : End Refusal Tag ℤ) (r : Answer) (g : List Instruction) (tables links flags ledger′ cells′ : List ℕ) (used : ℕ) (ledger cells : List ℕ) : Type 0 where
+  pub outcome : Outcome Refusal
+  pub told : outcomeOf outcome ≡ r .outcome
+  pub ends : e ≡ end (machineFor g tables ledger cells) outcome (r .firings) (stateIn ledger′ cells′ (r .tokens))
+  pub running : Running g tables links flags ledger′ cells′ (r .tokens)
+  pub grown : used ≤ r .tokens
+  pub size : length ledger′ ≡ length ledger
+  pub rest : drop (r .tokens * tokenWidth) ledger′ ≡ drop (r .tokens * tokenWidth) ledger
+  pub cellSize : length cells′ ≡ length cells

@@ -5,16 +5,21 @@ use checks::stores;
 use fire_commit::Fired;
 use record::cell;
 use record::log;
+use record::log::Named;
 use record::token;
 use rules::answer;
 use rules::answer::Answer;
 use rules::answer::Checked;
 use rules::answer::Outcome;
 use rules::answer::Refusal;
-ghost use Prim.Native.Nat.{_/_, _%_, _<_};
+use store_chains::Found;
+ghost use Prim.Native.Nat.{ℕ, _/_, _%_, _<_};
 ghost use mathlib.Core.Path.{_≡_};
-ghost use lib.ListN.{length, drop};
+ghost use mathlib.Core.List.{[]};
+ghost use mathlib.Core.Option.{none};
+ghost use lib.ListN.{length, getD};
 ghost use Rattle.record.specs.GraphRecords.{graphOf};
+ghost use Rattle.record.specs.Logs.{tagNamed};
 ghost use Rattle.record.specs.TokensAndTags.{tokenAt};
 ghost use Rattle.record.specs.Widths.{tokenWidth, cellWidth};
 ghost use Rattle.machine.specs.Machine.{byPicks};
@@ -23,13 +28,31 @@ ghost use Rattle.machine.specs.Sequences.{logOf};
 ghost use Rattle.rules.specs.Answer.{valuesChecked};
 ghost use Rattle.rules.specs.Check.{checkGraph};
 ghost use Rattle.rules.specs.Run.{picksOf, firstState, Ran};
+ghost use Rattle.rules.specs.Log.{namesIn};
 ghost use Rattle.rules.specs.Saved.{CarriedOn};
-ghost use Rattle.fire.specs.Running.{Prepared, Running};
+ghost use Rattle.store_enabled.specs.Store.{Known};
+ghost use Rattle.store.specs.Matching.{Matching};
+ghost use Rattle.fire.specs.Running.{stateIn, Prepared, Running};
 ghost use Rattle.start.specs.Begun.{machineLent, Accepted};
 ghost use Rattle.start.specs.Ended.{EndedAt};
 ghost use Rattle.engine.specs.Promise.{lentToRun, leftByRun, RanOn, lentToLogged, leftByLogged, LoggedOn};
 ghost use Rattle.engine.specs.Resumed.{lentChecked, Lent, resumed};
-ghost use Rattle.engine.specs.Turns.{Turned, endOf, firedBy, noted, recorded};
+ghost use Rattle.engine.specs.Turns.{chooserFor, ByPicks, Flagged, ChosenAs, Turned, endOf, firedBy, noted, recorded, Proceeded};
+ghost use Rattle.engine.specs.declared.Order.the-variants.{Oldest, Picks, Log, Places};
+
+// How the activity of a turn is chosen: the first of all, by picks, by the records of a log, or by places, 2 bytes each as picks.
+pub enum Order {
+    Oldest,
+    Picks,
+    Log,
+    Places,
+}
+
+// What is chosen for a turn: the enabled activity at a place; or the run is at its end.
+pub enum Choice {
+    At(usize),
+    Ended(Outcome),
+}
 
 // What a turn of a run comes to: the activity at a place fired and left so many tokens, or the run is at its end.
 pub enum Turn {
@@ -45,11 +68,119 @@ fn number_of(pick: usize, e: usize) -> usize
     if pick < e { pick } else { pick % e }
 }
 
-// The activity that the pick takes fires, if one is enabled.
+// The first of the enabled activities.
+fn oldest(tables: &[u16; 641], flags: &[u64; 69], ledger: &[u8], used: usize) -> Choice
+    requires { ⌜ Flagged (now tables) (now flags) (now ledger) used ⌝ }
+    ensures { λ r. ⌜ ChosenAs r Oldest [] 0 (now (tables .entry)) (now (ledger .entry)) used ⌝ }
+{
+    if store::enabled_count(flags) == 0 {
+        Choice::Ended(ending::ending(tables, ledger, used))
+    } else {
+        Choice::At(store::enabled_at(flags, 0))
+    }
+}
+
+// The one that the pick of this turn takes.
+fn by_pick(
+    tables: &[u16; 641],
+    flags: &[u64; 69],
+    ledger: &[u8],
+    used: usize,
+    picks: &[u8],
+    firings: usize,
+) -> Choice
+    requires { ⌜ Flagged (now tables) (now flags) (now ledger) used ⌝ }
+    ensures { λ r. ⌜ ChosenAs r Picks (now (picks .entry)) firings (now (tables .entry)) (now (ledger .entry)) used ⌝ }
+{
+    let e = store::enabled_count(flags);
+    if e == 0 {
+        return Choice::Ended(ending::ending(tables, ledger, used));
+    }
+    let number = number_of(load::pick_at(picks, firings), e);
+    Choice::At(store::enabled_at(flags, number))
+}
+
+// What a log names past its last record, or in one that is not whole: nothing.
+fn name_at(log: &[u8], i: usize) -> Named
+    ensures { λ r. ⌜ tagNamed r ≡ getD (namesIn (now (log .entry))) i none ⌝ }
+{
+    if log.len() / log::WIDTH < i {
+        return Named::Nothing;
+    }
+    log::name_at(log, i)
+}
+
+// The one that the record of this turn names, if it is enabled.
+fn by_record(
+    tables: &[u16; 641],
+    links: &[u16; 9216],
+    ledger: &[u8],
+    used: usize,
+    log: &[u8],
+    firings: usize,
+) -> Choice
+    requires { ⌜ Known (now links) (now ledger) used ⌝ }
+    ensures { λ r. ⌜ ChosenAs r Log (now (log .entry)) firings (now (tables .entry)) (now (ledger .entry)) used ⌝ }
+{
+    let not_enabled = Choice::Ended(Outcome::Refused(Refusal::NotEnabled, firings));
+    let Named::Activity(tag) = name_at(log, firings) else {
+        return not_enabled;
+    };
+    let Found::At(place) = store::enabled_by_tag(tables, links, ledger, used, tag) else {
+        return not_enabled;
+    };
+    Choice::At(place)
+}
+
+// The one at the place of this turn, if it is enabled.
+fn by_place(
+    tables: &[u16; 641],
+    flags: &[u64; 69],
+    ledger: &[u8],
+    used: usize,
+    places: &[u8],
+    firings: usize,
+) -> Choice
+    requires { ⌜ Flagged (now tables) (now flags) (now ledger) used ⌝ }
+    ensures { λ r. ⌜ ChosenAs r Places (now (places .entry)) firings (now (tables .entry)) (now (ledger .entry)) used ⌝ }
+{
+    let place = load::pick_at(places, firings);
+    if place < used {
+        if store_flags::is_raised(flags, place) {
+            return Choice::At(place);
+        }
+    }
+    Choice::Ended(Outcome::Refused(Refusal::NotEnabled, firings))
+}
+
+// The choice of a turn.
+fn choose(
+    order: Order,
+    source: &[u8],
+    firings: usize,
+    tables: &[u16; 641],
+    links: &[u16; 9216],
+    flags: &[u64; 69],
+    ledger: &[u8],
+    used: usize,
+) -> Choice
+    requires { ⌜ Matching (now tables) (now links) (now flags) (now ledger) used ⌝ }
+    ensures { λ r. ⌜ ChosenAs r order (now (source .entry)) firings (now (tables .entry)) (now (ledger .entry)) used ⌝ }
+{
+    match order {
+        Order::Oldest => oldest(tables, flags, ledger, used),
+        Order::Picks => by_pick(tables, flags, ledger, used, source, firings),
+        Order::Log => by_record(tables, links, ledger, used, source, firings),
+        Order::Places => by_place(tables, flags, ledger, used, source, firings),
+    }
+}
+
+// The activity that is chosen fires. No other function fires one.
 fn take_turn(
     graph: &[u8],
     tables: &[u16; 641],
-    picks: &[u8],
+    order: Order,
+    source: &[u8],
     firings: usize,
     links: &mut [u16; 9216],
     flags: &mut [u64; 69],
@@ -58,14 +189,13 @@ fn take_turn(
     used: usize,
 ) -> Turn
     requires { ⌜ Prepared (now graph) (now tables) × Running (graphOf (now graph)) (now tables) (now links) (now flags) (now ledger) (now cells) used ⌝ }
-    ensures { λ r. ⌜ Turned r (graphOf (now (graph .entry))) (drop firings (picksOf (now (picks .entry)))) (now (tables .entry)) (now (links .exit)) (now (flags .exit)) (now (ledger .exit)) (now (cells .exit)) used (now (ledger .entry)) (now (cells .entry)) ⌝ }
+    ensures { λ r. ⌜ Turned r (graphOf (now (graph .entry))) (chooserFor order (now (source .entry)) (graphOf (now (graph .entry))) (now (tables .entry)) (now (ledger .entry)) (now (cells .entry)) firings (stateIn (now (ledger .entry)) (now (cells .entry)) used)) (now (tables .entry)) (now (links .exit)) (now (flags .exit)) (now (ledger .exit)) (now (cells .exit)) used (now (ledger .entry)) (now (cells .entry)) ⌝ }
 {
-    let e = store::enabled_count(flags);
-    if e == 0 {
-        return Turn::Ended(ending::ending(tables, ledger, used));
-    }
-    let number = number_of(load::pick_at(picks, firings), e);
-    let place = store::enabled_at(flags, number);
+    let chosen = choose(order, source, firings, tables, links, flags, ledger, used);
+    let place = match chosen {
+        Choice::Ended(outcome) => return Turn::Ended(outcome),
+        Choice::At(place) => place,
+    };
     let fired = fire::fire(graph, tables, links, flags, ledger, cells, used, place);
     match fired {
         Fired::Done(n) => Turn::Fired(n, place),
@@ -90,11 +220,12 @@ pub struct Going {
     pub budget: usize,
 }
 
-// A run goes on from a state under picks, and notes each firing.
-fn proceed(
+// A run goes on from a state, and notes each firing. Whoever chooses, this is the loop: runs, replays and the steps of profiles.
+pub fn proceed(
     graph: &[u8],
     tables: &[u16; 641],
-    picks: &[u8],
+    order: Order,
+    source: &[u8],
     links: &mut [u16; 9216],
     flags: &mut [u64; 69],
     ledger: &mut [u8],
@@ -103,8 +234,8 @@ fn proceed(
     going: Going,
 ) -> Answer
     requires { ⌜ Prepared (now graph) (now tables) × Running (graphOf (now graph)) (now tables) (now links) (now flags) (now ledger) (now cells) (going .used) ⌝ }
-    ensures { λ r. ⌜ EndedAt (endOf (graphOf (now (graph .entry))) (now (tables .entry)) (now (ledger .entry)) (now (cells .entry)) (going .used) (going .budget) (picksOf (now (picks .entry)))) r (now (ledger .entry)) (now (cells .entry)) (now (ledger .exit)) (now (cells .exit)) ⌝ }
-    ensures { λ _. ⌜ now (log .exit) ≡ recorded (firedBy (graphOf (now (graph .entry))) (now (tables .entry)) (now (ledger .entry)) (now (cells .entry)) (going .used) (going .budget) (picksOf (now (picks .entry)))) (now (log .entry)) ⌝ }
+    ensures { λ r. ⌜ Proceeded (endOf order (now (source .entry)) (graphOf (now (graph .entry))) (now (tables .entry)) (now (ledger .entry)) (now (cells .entry)) (going .used) (going .budget)) r (graphOf (now (graph .entry))) (now (tables .entry)) (now (links .exit)) (now (flags .exit)) (now (ledger .exit)) (now (cells .exit)) (going .used) (now (ledger .entry)) (now (cells .entry)) ⌝ }
+    ensures { λ _. ⌜ now (log .exit) ≡ recorded (firedBy order (now (source .entry)) (graphOf (now (graph .entry))) (now (tables .entry)) (now (ledger .entry)) (now (cells .entry)) (going .used) (going .budget)) (now (log .entry)) ⌝ }
 {
     let budget = going.budget;
     let mut used = going.used;
@@ -113,7 +244,8 @@ fn proceed(
         let turned = take_turn(
             graph,
             tables,
-            picks,
+            order,
+            source,
             firings,
             links,
             flags,
@@ -123,6 +255,7 @@ fn proceed(
         );
         match turned {
             Turn::Fired(n, place) => {
+                // After a firing: the activity has its tag at its place, and there are n tokens.
                 note(log, firings, ledger, place);
                 used = n;
                 firings += 1;
@@ -132,6 +265,17 @@ fn proceed(
     }
     let outcome = ending::rest(tables, flags, ledger, used);
     answer::answered(outcome, firings, used)
+}
+
+// Without picks the first is taken each time, and needs no number.
+fn order_of(picks: &[u8]) -> Order
+    ensures { λ r. ⌜ ByPicks r (now (picks .entry)) ⌝ }
+{
+    if picks.len() == 0 {
+        Order::Oldest
+    } else {
+        Order::Picks
+    }
 }
 
 // A run that passed every check: all cells are set absent, the inputs go into the ledger, and it
@@ -166,6 +310,7 @@ fn accepted(
     proceed(
         graph,
         &tables,
+        order_of(picks),
         picks,
         &mut links,
         &mut flags,
@@ -226,6 +371,7 @@ fn resume(
     let own = proceed(
         graph,
         &tables,
+        order_of(picks),
         picks,
         &mut links,
         &mut flags,

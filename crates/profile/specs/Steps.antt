@@ -1,14 +1,15 @@
 -- A profile, a step at a time, in the terms of the machine: what a step leaves, and what a profile leaves. Assumes nothing.
-use Prim.Native.Nat.{ℕ, suc, _+_, _*_, _≤_}
+use Prim.Native.Nat.{ℕ, zero, suc, _+_, _*_, _≤_, _<_}
 use mathlib.Core.Path.{_≡_}
 use mathlib.Core.List.{List}
-use lib.ListN.{length, drop}
+use lib.ListN.{length, getD, drop}
 use lib.IntN.{ℤ}
 use Rattle.record.specs.declared.tag.Tag.{Tag}
 use Rattle.record.specs.declared.array.NamedArray.{NamedArray}
 use Rattle.record.specs.declared.token.Token.{Token}
 use Rattle.record.specs.declared.cell.Cell.{Cell}
 use Rattle.record.specs.declared.instruction.Instruction.{Instruction}
+use Rattle.record.specs.TokensAndTags.{tokenAt}
 use Rattle.record.specs.Widths.{tokenWidth}
 use Rattle.buffer.specs.Rows.{writtenOver}
 use Rattle.machine.specs.Machine.{Outcome, end}
@@ -20,8 +21,10 @@ use Rattle.rules.specs.declared.answer.Refusal.the-variants.{ProfileFull}
 use Rattle.rules.specs.declared.answer.Outcome as AnswerOutcome
 use Rattle.rules.specs.declared.answer.Profiled.{Profiled}
 use Rattle.rules.specs.InstructionSet.{machineOf}
-use Rattle.rules.specs.Run.{outcomeOf}
+use Rattle.rules.specs.Run.{picksOf, outcomeOf}
 use Rattle.rules.specs.Profile.{encode}
+use Rattle.store_flags.specs.Flags.{places, flagsOf}
+use Rattle.store_enabled.specs.Enabled.{arityOf}
 use Rattle.abstraction.specs.States.{stateHeld, OnPorts}
 use Rattle.abstraction.specs.Tables.{Arities}
 use Rattle.fire.specs.Running.{machineFor, stateIn, Running}
@@ -38,6 +41,17 @@ abbrev pub profileFrom : List Instruction → (left firings : ℕ) → (tables l
 profileFrom g left f tables ledger cells used = profile (machineFor g tables ledger cells) ProfileFull left f (stateIn ledger cells used)
 
 -- ---- a step
+
+-- the places of the enabled activities, 2 bytes each as picks
+pub record PlacesIn (count : ℕ) (flags out : List ℕ) : Type 0 where
+  pub counted : count ≡ length (places (flagsOf flags))
+  pub written : (k : ℕ) → k < count → getD (picksOf out) k 0 ≡ getD (places (flagsOf flags)) k 0
+  pub size : length out ≡ 4096
+
+-- the operands of the activities at the first k places
+abbrev pub operandsUpTo : (tables ledger from : List ℕ) → ℕ → ℕ
+operandsUpTo tables ledger from zero = 0
+operandsUpTo tables ledger from (suc k) = operandsUpTo tables ledger from k + arityOf tables (tokenAt ledger (getD from k 0) .tag)
 
 -- so many firings led from one state of the buffers to another
 pub record Went (g : List Instruction) (tables links flags ledger′ cells′ : List ℕ) (done n used : ℕ) (ledger cells : List ℕ) : Type 0 where

@@ -3,7 +3,8 @@
 use checks::arrays;
 use checks::graph;
 use checks::stores;
-use fire_commit::Fired;
+use engine::Going;
+use engine::Order;
 use record::cell;
 use record::token;
 use rules::answer::Answer;
@@ -21,14 +22,14 @@ ghost use Rattle.record.specs.Widths.{tokenWidth, cellWidth};
 ghost use Rattle.machine.specs.Steps.{profile as Machine·profile};
 ghost use Rattle.rules.specs.declared.answer.Refusal.the-variants.{ProfileFull};
 ghost use Rattle.rules.specs.declared.answer.Checked.the-variants.{Passed};
-ghost use Rattle.rules.specs.Run.{firstState};
+ghost use Rattle.rules.specs.Run.{firstState, picksOf};
 ghost use Rattle.rules.specs.Profile.{stepWidth, checkProfileStores, checkProfile, encode};
 ghost use Rattle.rules.specs.Runs.{lentToProfile, leftByProfile, ProfiledOn};
 ghost use Rattle.store_flags.specs.Flags.{Counted, places, flagsOf};
 ghost use Rattle.store_enabled.specs.Enabled.{arityOf, enabledPlaces};
 ghost use Rattle.fire.specs.Running.{Prepared, Running};
 ghost use Rattle.start.specs.Begun.{machineLent};
-ghost use Rattle.profile.specs.Steps.{unspentAt, profileFrom, LastAs, StepDone, ProfiledTo};
+ghost use Rattle.profile.specs.Steps.{PlacesIn, operandsUpTo, unspentAt, profileFrom, LastAs, StepDone, ProfiledTo};
 
 // The bytes of a step's record.
 pub const WIDTH: usize = 4;
@@ -102,14 +103,20 @@ fn put_record(profile: &mut [u8], i: usize, firings: usize, unspent: usize)
     buffer::put_row(profile, WIDTH, i, &bytes);
 }
 
+fn wide(x: u16) -> usize
+    ensures { λ r. ⌜ (r ≡ x) × (r < 65536) ⌝ }
+{
+    x as usize
+}
+
 // How many operands the activity waits for whose place this is.
 fn arity_at(tables: &[u16; 641], ledger: &[u8], place: usize) -> usize
     requires { ⌜ place < length (now ledger) / tokenWidth ⌝ }
-    ensures { λ r. ⌜ r ≡ arityOf (now (tables .entry)) (tokenAt (now (ledger .entry)) place .tag) ⌝ }
+    ensures { λ r. ⌜ (r ≡ arityOf (now (tables .entry)) (tokenAt (now (ledger .entry)) place .tag)) × (r < 65536) ⌝ }
 {
     let t = token::token_at(ledger, place);
     let tag = t.tag;
-    store_enabled::arity(tables, tag) as usize
+    wide(store_enabled::arity(tables, tag))
 }
 
 // How a profile ends that has no record left: 18, unless nothing is enabled.
@@ -124,23 +131,38 @@ fn no_record(tables: &[u16; 641], flags: &[u64; 69], ledger: &[u8], used: usize)
     }
 }
 
-// Writes the places of the enabled activities, in order, and answers how many there are.
-fn enabled_places(flags: &[u64; 69], out: &mut [u16; 2048]) -> usize
-    requires { ⌜ Counted (now flags) × (length (now out) ≡ 2048) ⌝ }
-    ensures { λ r. ⌜ r ≡ length (places (flagsOf (now (flags .entry)))) ⌝ }
-    ensures { λ r. ⌜ ((k : ℕ) → k < r → getD (now (out .exit)) k 0 ≡ getD (places (flagsOf (now (flags .entry)))) k 0) × (length (now (out .exit)) ≡ 2048) ⌝ }
+// Writes the places of the enabled activities, in order and 2 bytes each, and answers how many there are.
+fn enabled_places(flags: &[u64; 69], out: &mut [u8; 4096]) -> usize
+    requires { ⌜ Counted (now flags) × (length (now out) ≡ 4096) ⌝ }
+    ensures { λ r. ⌜ PlacesIn r (now (flags .entry)) (now (out .exit)) ⌝ }
 {
     let count = store::enabled_count(flags);
     let mut k = 0;
     while k < count {
-        out[k] = store::enabled_at(flags, k) as u16;
+        let place = store::enabled_at(flags, k);
+        out[2 * k] = (place % 256) as u8;
+        out[2 * k + 1] = (place / 256) as u8;
         k += 1;
     }
     count
 }
 
+// How many operands the activities at the first places have together.
+fn operands_at(tables: &[u16; 641], ledger: &[u8], places: &[u8], count: usize) -> usize
+    requires { ⌜ (count ≤ 2048) × ((k : ℕ) → k < count → getD (picksOf (now places)) k 0 < length (now ledger) / tokenWidth) ⌝ }
+    ensures { λ r. ⌜ r ≡ operandsUpTo (now (tables .entry)) (now (ledger .entry)) (picksOf (now (places .entry))) count ⌝ }
+{
+    let mut sum = 0;
+    let mut k = 0;
+    while k < count {
+        sum += arity_at(tables, ledger, load::pick_at(places, k));
+        k += 1;
+    }
+    sum
+}
+
 // An ideal step from a state of `start` tokens, of which `live` are live or deferred. What becomes enabled within it fires in
-// the next step at the earliest, so the places are taken first.
+// the next step at the earliest, so the places are taken first, and the whole step is a run by these places.
 fn step(
     graph: &[u8],
     tables: &[u16; 641],
@@ -148,37 +170,43 @@ fn step(
     flags: &mut [u64; 69],
     ledger: &mut [u8],
     cells: &mut [u8],
-    turns: &mut [u16; 2048],
+    turns: &mut [u8; 4096],
     start: usize,
     live: usize,
 ) -> StepEnd
-    requires { ⌜ Prepared (now graph) (now tables) × Running (graphOf (now graph)) (now tables) (now links) (now flags) (now ledger) (now cells) start × (live ≡ unspentAt (graphOf (now graph)) (now tables) (now ledger) (now cells) start) × (length (now turns) ≡ 2048) ⌝ }
+    requires { ⌜ Prepared (now graph) (now tables) × Running (graphOf (now graph)) (now tables) (now links) (now flags) (now ledger) (now cells) start × (live ≡ unspentAt (graphOf (now graph)) (now tables) (now ledger) (now cells) start) × (length (now turns) ≡ 4096) ⌝ }
     ensures { λ r. ⌜ StepDone r (graphOf (now (graph .entry))) (now (tables .entry)) (now (links .exit)) (now (flags .exit)) (now (ledger .exit)) (now (cells .exit)) start (now (ledger .entry)) (now (cells .entry)) ⌝ }
-    ensures { λ _. ⌜ length (now (turns .exit)) ≡ 2048 ⌝ }
+    ensures { λ _. ⌜ length (now (turns .exit)) ≡ 4096 ⌝ }
 {
     let count = enabled_places(flags, turns);
     if count == 0 {
         return StepEnd::Ended(ending::ending(tables, ledger, start), 0, start);
     }
-    let mut used = start;
-    let mut unspent = live;
-    let mut k = 0;
-    while k < count {
-        let place = store_chains::wide(turns[k]);
-        let arity = arity_at(tables, ledger, place);
-        let fired = fire::fire(graph, tables, links, flags, ledger, cells, used, place);
-        match fired {
-            Fired::Done(n) => {
-                unspent = unspent + (n - used) - arity;
-                used = n;
-                k += 1;
-            }
-            Fired::Refused(r) => {
-                return StepEnd::Ended(Outcome::Refused(r, place), k, used);
-            }
+    let spent = operands_at(tables, ledger, turns, count);
+    let mut none = [0u8; 0];
+    let done = engine::proceed(
+        graph,
+        tables,
+        Order::Places,
+        turns,
+        links,
+        flags,
+        ledger,
+        cells,
+        &mut none,
+        Going {
+            used: start,
+            budget: count,
+        },
+    );
+    let outcome = done.outcome;
+    let n = done.tokens;
+    match outcome {
+        Outcome::Refused(r, place) => {
+            StepEnd::Ended(Outcome::Refused(r, place), done.firings, n)
         }
+        _ => StepEnd::Whole(count, n, live + (n - start) - spent),
     }
-    StepEnd::Whole(count, used, unspent)
 }
 
 // The answer, with the number of records.
@@ -208,7 +236,7 @@ fn proceed(
     ensures { λ r. ⌜ ProfiledTo (profileFrom (graphOf (now (graph .entry))) (length (now (profile .entry)) / stepWidth) 0 (now (tables .entry)) (now (ledger .entry)) (now (cells .entry)) start) r (now (ledger .entry)) (now (cells .entry)) (now (profile .entry)) (now (ledger .exit)) (now (cells .exit)) (now (profile .exit)) ⌝ }
 {
     let room = profile.len() / WIDTH;
-    let mut turns = [0u16; 2048];
+    let mut turns = [0u8; 4096];
     let mut used = start;
     let mut unspent = start;
     let mut firings = 0;

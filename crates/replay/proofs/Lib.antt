@@ -1,5 +1,3 @@
--- A record of a log and the activity that it names, the loop over the records, a replay from lent bytes, and the claims. Assumes nothing.
-pub mod Naming
-pub mod Looping
+-- A replay from lent bytes, and the claims. Assumes nothing.
 pub mod Accepting
 pub mod Claims

@@ -1,3 +1,2 @@
--- The definitions of a replay, a record at a time, and what is claimed of logs. Assumes nothing.
-pub mod Turns
+-- What is claimed of logs. Assumes nothing.
 pub mod Claims

@@ -1,19 +1,14 @@
-// A replay (02, R-7): the activities that a log names fire in turn, each found by its tag through the matching store.
-use fire_commit::Fired;
+// A replay (02, R-7): the activities that a log names fire in turn, by the engine's loop.
+use engine::Going;
+use engine::Order;
 use record::log;
-use record::log::Named;
 use rules::answer;
 use rules::answer::Answer;
 use rules::answer::Checked;
-use rules::answer::Outcome;
-use rules::answer::Refusal;
-use store_chains::Found;
-ghost use Prim.Native.Nat.{_*_, _/_, _≤_};
+ghost use Prim.Native.Nat.{_+_, _-_, _/_};
 ghost use mathlib.Core.Path.{_≡_};
 ghost use mathlib.Core.List.{[]};
-ghost use lib.ListN.{length, drop};
-ghost use Rattle.record.specs.GraphRecords.{graphOf};
-ghost use Rattle.record.specs.Logs.{nameOf};
+ghost use lib.ListN.{length};
 ghost use Rattle.record.specs.Widths.{cellWidth, logWidth};
 ghost use Rattle.machine.specs.Replay.{replay as Machine·replay};
 ghost use Rattle.rules.specs.declared.answer.Checked.the-variants.{Passed};
@@ -22,87 +17,21 @@ ghost use Rattle.rules.specs.Check.{check};
 ghost use Rattle.rules.specs.Run.{firstState};
 ghost use Rattle.rules.specs.Log.{namesIn};
 ghost use Rattle.rules.specs.Runs.{ReplayedOn};
-ghost use Rattle.fire.specs.Running.{Prepared, Running};
 ghost use Rattle.start.specs.Begun.{machineLent};
 ghost use Rattle.start.specs.Ended.{EndedAt};
-ghost use Rattle.replay.specs.Turns.{Turned, endOf};
 
-// What a record comes to: its activity fired and left so many tokens, or the replay is at its end.
-pub enum Turn {
-    Fired(usize),
-    Ended(Outcome),
-}
-
-// The activity that record `firings` names fires, if it is enabled. As many have fired as there are records before it.
-fn take_record(
-    graph: &[u8],
-    tables: &[u16; 641],
-    log: &[u8],
-    firings: usize,
-    links: &mut [u16; 9216],
-    flags: &mut [u64; 69],
-    ledger: &mut [u8],
-    cells: &mut [u8],
-    used: usize,
-) -> Turn
-    requires { ⌜ Prepared (now graph) (now tables) × Running (graphOf (now graph)) (now tables) (now links) (now flags) (now ledger) (now cells) used × (firings * logWidth ≤ length (now log)) ⌝ }
-    ensures { λ r. ⌜ Turned r (graphOf (now (graph .entry))) (nameOf (drop (firings * logWidth) (now (log .entry)))) firings (now (tables .entry)) (now (links .exit)) (now (flags .exit)) (now (ledger .exit)) (now (cells .exit)) used (now (ledger .entry)) (now (cells .entry)) ⌝ }
+// How many records a log of so many bytes has, the last one whole or not.
+fn records_in(bytes: usize) -> usize
+    ensures { λ r. ⌜ r ≡ (bytes + (logWidth - 1)) / logWidth ⌝ }
 {
-    let not_enabled = Turn::Ended(Outcome::Refused(Refusal::NotEnabled, firings));
-    let Named::Activity(tag) = log::name_at(log, firings) else {
-        return not_enabled;
-    };
-    let Found::At(place) = store::enabled_by_tag(tables, links, ledger, used, tag) else {
-        return not_enabled;
-    };
-    let fired = fire::fire(graph, tables, links, flags, ledger, cells, used, place);
-    match fired {
-        Fired::Done(n) => Turn::Fired(n),
-        Fired::Refused(r) => Turn::Ended(Outcome::Refused(r, place)),
+    if bytes % log::WIDTH == 0 {
+        bytes / log::WIDTH
+    } else {
+        bytes / log::WIDTH + 1
     }
 }
 
-// The records of a log in turn, from a state.
-fn proceed(
-    graph: &[u8],
-    tables: &[u16; 641],
-    log: &[u8],
-    links: &mut [u16; 9216],
-    flags: &mut [u64; 69],
-    ledger: &mut [u8],
-    cells: &mut [u8],
-    start: usize,
-) -> Answer
-    requires { ⌜ Prepared (now graph) (now tables) × Running (graphOf (now graph)) (now tables) (now links) (now flags) (now ledger) (now cells) start ⌝ }
-    ensures { λ r. ⌜ EndedAt (endOf (graphOf (now (graph .entry))) (now (tables .entry)) (now (ledger .entry)) (now (cells .entry)) start (namesIn (now (log .entry)))) r (now (ledger .entry)) (now (cells .entry)) (now (ledger .exit)) (now (cells .exit)) ⌝ }
-{
-    let mut used = start;
-    let mut firings = 0;
-    while firings * log::WIDTH < log.len() {
-        let turned = take_record(
-            graph,
-            tables,
-            log,
-            firings,
-            links,
-            flags,
-            ledger,
-            cells,
-            used,
-        );
-        match turned {
-            Turn::Fired(n) => {
-                used = n;
-                firings += 1;
-            }
-            Turn::Ended(outcome) => return answer::answered(outcome, firings, used),
-        }
-    }
-    let outcome = ending::rest(tables, flags, ledger, used);
-    answer::answered(outcome, firings, used)
-}
-
-// A replay that passed every check begins as a run does.
+// A replay that passed every check begins as a run does, and each record is a turn: a last one that is not whole is a record too.
 fn accepted(
     graph: &[u8],
     arrays: &[u8],
@@ -127,15 +56,21 @@ fn accepted(
         ledger,
         cells,
     );
-    proceed(
+    let mut none = [0u8; 0];
+    engine::proceed(
         graph,
         &tables,
+        Order::Log,
         log,
         &mut links,
         &mut flags,
         ledger,
         cells,
-        used,
+        &mut none,
+        Going {
+            used,
+            budget: records_in(log.len()),
+        },
     )
 }
 

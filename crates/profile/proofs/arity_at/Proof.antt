@@ -1,4 +1,5 @@
 -- `profile::arity_at` meets its contract. Assumes nothing.
+use mathlib.Core.Path.{_∙_}
 use borrow.Author.Needs.{needs}
 use Rattle.profile.proofs.arity_at.Statement.{statement}
 use Rattle.profile.proofs.arity_at.Tie as tie
@@ -7,5 +8,5 @@ pub arity-at-spec : {M : Type 1} → statement M
 arity-at-spec = tie.close (tie.spec
     (λ c κs. search needs)
     (λ c κs. search needs)
-    (λ c. search needs)
-    (λ c. rw (← c .before .before .before .token-at .ensures) (c .arity .ensures)))
+    (λ c κs. search needs)
+    (λ c. (c .wide .ensures .0 ∙ rw (← c .before .before .before .before .token-at .ensures) (c .before .arity .ensures), c .wide .ensures .1)))

@@ -15,7 +15,7 @@ use Rattle.profile.proofs.proceed.Tie as tie
 abbrev Inv-loop : tie.InvT-loop
 Inv-loop graph tables links₀ flags₀ ledger₀ cells₀ profile₀ start room turns₀ used₀ unspent₀ firings₀ records₀ links flags ledger cells profile turns used unspent firings records =
     SoFar (graphOf graph) ledger₀ cells₀ profile₀ start room tables links flags ledger cells profile used unspent firings records
-    × (length turns ≡ 2048)
+    × (length turns ≡ 4096)
 
 abbrev μ-loop : tie.MeasureT-loop
 μ-loop graph tables links₀ flags₀ ledger₀ cells₀ profile₀ start room turns₀ used₀ unspent₀ firings₀ records₀ links flags ledger cells profile turns used unspent firings records =

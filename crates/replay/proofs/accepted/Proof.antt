@@ -1,4 +1,4 @@
--- `replay::accepted` meets its contract: it begins as `start` says, proceeds, and what it leaves is said of the buffers as lent. Assumes nothing.
+-- `replay::accepted` meets its contract: it begins as `start` says, the engine's loop goes on, and what it leaves is said of the buffers as lent. Assumes nothing.
 use mathlib.Core.Path.{refl}
 use mathlib.Core.List.{[]}
 use lib.ListN.{length}
@@ -14,12 +14,15 @@ accepted-spec = tie.close (tie.spec
     let s = c .before .before .before .before .before .before .before .before .before .before .before in
     let a = s .args in
     (accepted-by (a .graph .now) (a .arrays .now) (a .inputs .now) [] (length (a .ledger .now)) (length (a .cells .now)) (s .pre), refl, refl))
-    (λ c κs. let b = c .before .before .before .before .before .before .before .before .before in (b .begin .ensures .prepared, b .begin .ensures .running))
+    (λ c. search needs)
+    (λ c κs. search needs)
+    (λ c κs. let b = c .before .before .before .before .before .before .before .before .before .before .before in (b .begin .ensures .prepared, b .begin .ensures .running))
     (λ c. search needs)
     (λ c. search needs)
     (λ c.
-    let p = c .before .before .before .before in
-    let b = p .before .before .before .before .before .before .before .before .before .before in
+    let p = c .before .before .before .before .before in
+    let n = p .before in
+    let b = n .before .before .before .before .before .before .before .before .before .before .before in
     let s = b .before .before .before .before .before .before .before .before .before .before .before .before in
     let a = s .args in
-    as-replay (a .graph .now) (a .arrays .now) (a .inputs .now) (a .log .now) (a .ledger .now) (a .cells .now) (s .pre) (b .begin .ensures) _ _ _ (p .proceed .ensures)))
+    as-replay (a .graph .now) (a .arrays .now) (a .inputs .now) (a .log .now) (a .ledger .now) (a .cells .now) (s .pre) (b .begin .ensures) (n .records-in .result) (n .records-in .ensures) (p .proceed .ensures .0)))
