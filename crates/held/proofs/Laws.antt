@@ -1,22 +1,25 @@
 -- The flags of held activities: what a pass over the enabled ones makes of them. Assumes nothing.
-use Prim.Native.Nat.{ℕ, _+_, _≤_, _<_}
+use Prim.Native.Nat.{ℕ, _+_, _*_, _≤_, _<_}
 use mathlib.Core.Path.{_≡_, refl, sym, ap, _∙_}
 use mathlib.Core.Bool.{Bool, true, false, _&&_}
 use mathlib.Core.List.{List}
 use native.Mathlib.Omega.{arith}
 use lib.Dec.{eqb, leb, ltb}
-use lib.ListN.{length, getD, set}
-use lib.Seq.{getD-set-same, getD-set-other, set-getD}
+use lib.ListN.{length, getD, set, drop}
+use lib.Seq.{getD-drop, getD-set-same, getD-set-other, set-getD}
 use lib.IntN.{ℤ}
 use borrow.Author.Tests.{eqb-true, eqb-false, ltb-true, ltb-false, le-ltb, le-leb}
 use Rattle.record.specs.declared.tag.Tag.{Tag}
+use Rattle.number.specs.Number.{byteAt, number32}
+use Rattle.record.specs.TokensAndTags.{tokenAt, contentOf, decode}
+use Rattle.record.specs.Widths.{tokenWidth, stateOffset, valueOffset}
 use Rattle.record.specs.declared.instruction.Instruction.{Instruction}
 use Rattle.machine.specs.Machine.{Token, State, Activity}
 use Rattle.rules.specs.Check.{any, instructionAt}
 use Rattle.rules.specs.Held.{holdsBack, heldIn}
 use Rattle.store_flags.specs.Flags.{flagsOf}
 use Rattle.store_flags.specs.Marks.{bit}
-use Rattle.held.specs.Deciding.{heldBy, ClearFrom, Decided}
+use Rattle.held.specs.Deciding.{heldBy, ClearFrom, isSpent, isNext, NewListed}
 
 -- ---- one activity
 
@@ -45,36 +48,47 @@ lowered-again flags i small e =
     let z : getD flags i 0 ≡ 0 = omega (arith, eqb-false (getD flags i 0) 1 e) in
     sym (ap (λ (x : ℕ). set flags i x) (sym z) ∙ set-getD flags i 0)
 
--- a pass came to place i
-pub record Passed (f : ℕ → Bool) (used : ℕ) (held : List ℕ) (i : ℕ) : Type 0 where
-  pub within : i ≤ used
-  pub done : (j : ℕ) → j < i → getD held j 0 ≡ bit (f j)
-  pub clear : ClearFrom used held
+content-spent : (bits state : ℕ) → state ≡ 1 → isSpent (contentOf bits state) ≡ true
+unfolding contentOf
+content-spent bits state e = rw e
 
-module _ (f : ℕ → Bool) (used : ℕ) where
-  pub none-passed : (held : List ℕ) → ClearFrom used held → Passed f used held 0
-  none-passed held c = record { within = omega arith; done = λ j h. absurd (omega arith); clear = c }
+-- the state byte of a spent token's record is 1
+pub spent-state : (ledger : List ℕ) (i : ℕ) → getD ledger (i * tokenWidth + stateOffset) 0 ≡ 1 → isSpent (tokenAt ledger i .content) ≡ true
+unfolding decode
+spent-state ledger i e = go (number32 (drop (i * tokenWidth) ledger) valueOffset) (byteAt (drop (i * tokenWidth) ledger) stateOffset) (rw (getD-drop (i * tokenWidth) ledger stateOffset 0) e)
+  where
+    go : (bits state : ℕ) → state ≡ 1 → isSpent (contentOf bits state) ≡ true
+    go bits state h = content-spent bits state h
 
-  pub one-passed : (held : List ℕ) (i : ℕ) (on : Bool) → on ≡ f i → i < used → i < length held → Passed f used held i → (held′ : List ℕ) → held′ ≡ set held i (bit on) → Passed f used held′ (i + 1)
-  one-passed held i on e low inside p held′ h = record { within = omega arith; done = done′; clear = clear′ }
+-- ---- the records at NEXT
+
+module _ (g : List Instruction) (ledger : List ℕ) (used n : ℕ) (nexts₀ : List ℕ) where
+  -- those below i are listed
+  pub record ListedTo (nexts : List ℕ) (i : ℕ) : Type 0 where
+    pub low : used ≤ i
+    pub high : i ≤ n
+    pub same : (j : ℕ) → j < used → getD nexts j 0 ≡ getD nexts₀ j 0
+    pub new : (j : ℕ) → used ≤ j → j < i → getD nexts j 0 ≡ bit (isNext g (tokenAt ledger j))
+    pub clear : ClearFrom i nexts
+
+  pub none-listed : used ≤ n → ClearFrom used nexts₀ → ListedTo nexts₀ used
+  none-listed h c = record { low = omega arith; high = h; same = λ j l. refl; new = λ j l u. absurd (omega arith); clear = c }
+
+  pub one-listed : (nexts : List ℕ) (i : ℕ) → ListedTo nexts i → i < n → i < length nexts → (on : Bool) → on ≡ isNext g (tokenAt ledger i) → (nexts′ : List ℕ) → nexts′ ≡ set nexts i (bit on) → ListedTo nexts′ (i + 1)
+  one-listed nexts i l low inside on e nexts′ h = record {
+    low = omega (arith, l .low);
+    high = omega arith;
+    same = λ j u. other j (omega (arith, l .low)) ∙ l .same j u;
+    new = λ j d u. go j d u (eqb j i) refl;
+    clear = λ j d. other j (omega arith) ∙ l .clear j (omega arith);
+  }
     where
-      go : (j : ℕ) → j < i + 1 → (b : Bool) → eqb j i ≡ b → getD held′ j 0 ≡ bit (f j)
-      go j l true q = let same = eqb-true j i q in rw (h, same) (getD-set-same held i (bit on) 0 inside ∙ ap bit e)
-      go j l false q = let other = eqb-false j i q in rw h (getD-set-other held i j (bit on) 0 other ∙ p .done j (omega arith))
+      other : (j : ℕ) → ¬ (j ≡ i) → getD nexts′ j 0 ≡ getD nexts j 0
+      other j z = rw h (getD-set-other nexts i j (bit on) 0 z)
 
-      done′ : (j : ℕ) → j < i + 1 → getD held′ j 0 ≡ bit (f j)
-      done′ j l = go j l (eqb j i) refl
+      go : (j : ℕ) → used ≤ j → j < i + 1 → (b : Bool) → eqb j i ≡ b → getD nexts′ j 0 ≡ bit (isNext g (tokenAt ledger j))
+      go j d u true q = let same = eqb-true j i q in rw (h, same) (getD-set-same nexts i (bit on) 0 inside ∙ ap bit e)
+      go j d u false q = let z = eqb-false j i q in other j z ∙ l .new j d (omega arith)
 
-      clear′ : ClearFrom used held′
-      clear′ j l = rw h (getD-set-other held i j (bit on) 0 (λ q. omega arith) ∙ p .clear j l)
-
-  pub all-passed : (held : List ℕ) → Passed f used held used → (i : ℕ) → getD held i 0 ≡ bit (ltb i used && f i)
-  all-passed held p i = go (ltb i used) refl
-    where
-      go : (b : Bool) → ltb i used ≡ b → getD held i 0 ≡ bit (b && f i)
-      go true e = p .done i (ltb-true i used e)
-      go false e = p .clear i (ltb-false i used e)
-
--- later there are more records, and none of their flags is raised
-pub clear-later : (g : List Instruction) (k : ℕ) (flags held ledger : List ℕ) (used n : ℕ) → Decided g k flags held ledger used → used ≤ n → ClearFrom n (flagsOf held)
-clear-later g k flags held ledger used n d h i l = d .right i ∙ rw (le-ltb i used (omega arith))
+  pub all-listed : (nexts : List ℕ) (i : ℕ) → ListedTo nexts i → n ≤ i → NewListed g ledger used n nexts₀ nexts
+  all-listed nexts i l h = let e : i ≡ n = omega (arith, l .high) in record { same = l .same; new = λ j d u. l .new j d (omega arith); clear = λ j d. l .clear j (omega arith) }

@@ -1,28 +1,29 @@
-// Which of the enabled activities a bound holds back (02, R-9): a second set of flags beside those of the enabled, right after each firing.
+// Which of the enabled activities a bound holds back (02, R-9): a second set of flags beside those of the enabled, made right after
+// each firing. What a record is to a NEXT activity does not come back: a token that is spent, or a result that is live, stays so, and
+// no token changes its tag. So the search for one that holds an activity back goes on where the last one ended, and passes over
+// records that none needs to look at again.
 use record::instruction;
 use record::tag::Left;
 use record::tag::Path;
 use record::tag::Tag;
 use record::token;
-ghost use Prim.Native.Nat.{ℕ, _+_, _/_, _≤_, _<_};
+ghost use Prim.Native.Nat.{_+_, _/_, _≤_, _<_};
 ghost use mathlib.Core.Path.{_≡_};
-ghost use mathlib.Core.Bool.{false, not, _&&_};
-ghost use mathlib.Core.List.{List, map};
-ghost use lib.ListN.{length, getD, set};
+ghost use mathlib.Core.Bool.{false, not};
+ghost use lib.ListN.{length, set};
 ghost use lib.Dec.{eqb, leb};
-ghost use Rattle.record.specs.declared.instruction.Instruction.{Instruction};
 ghost use Rattle.record.specs.GraphRecords.{graphOf};
 ghost use Rattle.record.specs.Paths.{samePath};
 ghost use Rattle.record.specs.TokensAndTags.{tokens, tokenAt};
 ghost use Rattle.record.specs.Widths.{tokenWidth};
 ghost use Rattle.machine.specs.Machine.{onOption};
-ghost use Rattle.rules.specs.Check.{any, instructionAt};
-ghost use Rattle.rules.specs.Run.{tokenHeld};
-ghost use Rattle.rules.specs.Held.{standsIn, holdsBack};
-ghost use Rattle.store_flags.specs.Flags.{flagsOf, Counted};
+ghost use Rattle.rules.specs.Check.{instructionAt};
+ghost use Rattle.rules.specs.Held.{standsIn};
+ghost use Rattle.store_flags.specs.Flags.{flagsOf, Under, Counted};
 ghost use Rattle.store_flags.specs.Marks.{bit};
 ghost use Rattle.abstraction.specs.Tables.{Arities};
-ghost use Rattle.held.specs.Deciding.{heldBy, ClearFrom, Decided};
+ghost use Rattle.held.specs.Searching.{laterOf, Skips, PendingFrom, HolderFrom, Skipped, Marked};
+ghost use Rattle.held.specs.Deciding.{isNext, heldAt, ClearFrom, Listed, NewListed, Dropped, FlagsUnspent, Decided, Carried, Kept};
 
 // The code of NEXT.
 const NEXT: u8 = 7;
@@ -69,48 +70,6 @@ fn stands_old(tag: Tag, path: Path, bound: usize, m: usize) -> bool
     wide(at.iteration) + bound <= m
 }
 
-// Whether record i of a ledger holds back what would make iteration m of a path.
-fn holds_back(
-    tables: &[u16; 641],
-    ledger: &[u8],
-    i: usize,
-    path: Path,
-    bound: usize,
-    m: usize,
-) -> bool
-    requires { ⌜ (i < length (now ledger) / tokenWidth) × (bound < 65536) ⌝ }
-    ensures { λ r. ⌜ ((g : List Instruction) → Arities g (now (tables .entry)) → r ≡ holdsBack g bound path m (tokenHeld (tokenAt (now (ledger .entry)) i))) ⌝ }
-{
-    if ending::proper_at(tables, ledger, i) {
-        return false;
-    }
-    let t = token::token_at(ledger, i);
-    let tag = t.tag;
-    stands_old(tag, path, bound, m)
-}
-
-// Whether any of the used records does.
-fn any_holds(
-    tables: &[u16; 641],
-    ledger: &[u8],
-    used: usize,
-    path: Path,
-    bound: usize,
-    m: usize,
-) -> bool
-    requires { ⌜ (used ≤ length (now ledger) / tokenWidth) × (bound < 65536) ⌝ }
-    ensures { λ r. ⌜ ((g : List Instruction) → Arities g (now (tables .entry)) → r ≡ any (holdsBack g bound path m) (map tokenHeld (tokens used (now (ledger .entry))))) ⌝ }
-{
-    let mut i = used;
-    while 0 < i {
-        i -= 1;
-        if holds_back(tables, ledger, i, path, bound, m) {
-            return true;
-        }
-    }
-    false
-}
-
 fn is_next(graph: &[u8], i: u16) -> bool
     ensures { λ r. ⌜ r ≡ eqb (instructionAt (graphOf (now (graph .entry))) i .code) 7 ⌝ }
 {
@@ -120,46 +79,6 @@ fn is_next(graph: &[u8], i: u16) -> bool
     } else {
         false
     }
-}
-
-// Whether the activity of the token in record i, if it is one, is held back.
-fn is_held(
-    graph: &[u8],
-    tables: &[u16; 641],
-    ledger: &[u8],
-    used: usize,
-    bound: usize,
-    i: usize,
-) -> bool
-    requires { ⌜ Arities (graphOf (now graph)) (now tables) × (i < used) × (used ≤ length (now ledger) / tokenWidth) × (0 < bound) × (bound < 65536) ⌝ }
-    ensures { λ r. ⌜ r ≡ heldBy (graphOf (now (graph .entry))) bound (map tokenHeld (tokens used (now (ledger .entry)))) (tokenAt (now (ledger .entry)) i .tag) ⌝ }
-{
-    let t = token::token_at(ledger, i);
-    let tag = t.tag;
-    let path = tag.path;
-    if !is_next(graph, tag.instruction) {
-        return false;
-    }
-    any_holds(tables, ledger, used, path, bound, wide(tag.iteration) + 1)
-}
-
-// The same of an enabled activity alone.
-fn is_held_flag(
-    graph: &[u8],
-    tables: &[u16; 641],
-    flags: &[u64; 69],
-    ledger: &[u8],
-    used: usize,
-    bound: usize,
-    i: usize,
-) -> bool
-    requires { ⌜ Arities (graphOf (now graph)) (now tables) × (i < used) × (used ≤ length (now ledger) / tokenWidth) × (used ≤ 2048) × (0 < bound) × (bound < 65536) × Counted (now flags) ⌝ }
-    ensures { λ r. ⌜ r ≡ (eqb (getD (flagsOf (now (flags .entry))) i 0) 1 && heldBy (graphOf (now (graph .entry))) bound (map tokenHeld (tokens used (now (ledger .entry)))) (tokenAt (now (ledger .entry)) i .tag)) ⌝ }
-{
-    if !store_flags::is_raised(flags, i) {
-        return false;
-    }
-    is_held(graph, tables, ledger, used, bound, i)
 }
 
 // Flag i is raised or lowered, whichever it was.
@@ -177,23 +96,202 @@ fn put(held: &mut [u64; 69], i: usize, on: bool)
     }
 }
 
-// Each enabled activity is looked at, and its flag is raised if it is held back.
-pub fn decide(
+// ---- marks: of each record, from which one on some may hold its activity back; then, of each, past which ones no search need look
+
+// Where the second ones stand.
+const SKIP: usize = 2048;
+
+fn mark(marks: &mut [u16], at: usize, n: usize)
+    requires { ⌜ (at < length (now marks)) × (n ≤ 2048) ⌝ }
+    ensures { λ _. ⌜ now (marks .exit) ≡ set (now (marks .entry)) at n ⌝ }
+{
+    marks[at] = n as u16;
+}
+
+// What comes behind record `at`, if those below `skip` are passed over.
+fn later(at: usize, skip: u16) -> usize
+    requires { ⌜ at < 2048 ⌝ }
+    ensures { λ r. ⌜ r ≡ laterOf at skip ⌝ }
+{
+    let end = wide16(skip);
+    if end <= at { at + 1 } else { end }
+}
+
+// The first record from `from` on that a completed run does not leave, or `used`.
+fn next_pending(
+    tables: &[u16; 641],
+    ledger: &[u8],
+    used: usize,
+    marks: &[u16],
+    from: usize,
+) -> usize
+    requires { ⌜ (used ≤ length (now ledger) / tokenWidth) × (used ≤ 2048) × (length (now marks) ≡ 4096) × (from ≤ used) × Skips (now tables) (now ledger) used (now marks) ⌝ }
+    ensures { λ r. ⌜ PendingFrom (now (tables .entry)) (now (ledger .entry)) used from r ⌝ }
+{
+    let mut at = from;
+    while at < used {
+        if !ending::proper_at(tables, ledger, at) {
+            return at;
+        }
+        at = later(at, marks[at + SKIP]);
+    }
+    at
+}
+
+fn old_at(ledger: &[u8], i: usize, path: Path, bound: usize, m: usize) -> bool
+    requires { ⌜ (i < length (now ledger) / tokenWidth) × (bound < 65536) ⌝ }
+    ensures { λ r. ⌜ r ≡ onOption (standsIn path (tokenAt (now (ledger .entry)) i .tag)) false (λ j. leb (j + bound) m) ⌝ }
+{
+    let t = token::token_at(ledger, i);
+    let tag = t.tag;
+    stands_old(tag, path, bound, m)
+}
+
+// The first record from `from` on that holds back what would make iteration m of a path, or `used`.
+fn first_holder(
+    tables: &[u16; 641],
+    ledger: &[u8],
+    used: usize,
+    marks: &mut [u16],
+    path: Path,
+    bound: usize,
+    m: usize,
+    from: usize,
+) -> usize
+    requires { ⌜ (used ≤ length (now ledger) / tokenWidth) × (used ≤ 2048) × (length (now marks) ≡ 4096) × (bound < 65536) × (from ≤ used) × Skips (now tables) (now ledger) used (now marks) ⌝ }
+    ensures { λ r. ⌜ HolderFrom (now (tables .entry)) (now (ledger .entry)) used path bound m from r ⌝ }
+    ensures { λ _. ⌜ Skipped (now (tables .entry)) (now (ledger .entry)) used (now (marks .entry)) (now (marks .exit)) ⌝ }
+{
+    let mut at = from;
+    while at < used {
+        let pending = next_pending(tables, ledger, used, marks, at);
+        mark(marks, at + SKIP, pending);
+        if pending == used {
+            return used;
+        }
+        if old_at(ledger, pending, path, bound, m) {
+            return pending;
+        }
+        at = pending + 1;
+    }
+    used
+}
+
+// ---- activities
+
+// Whether the activity at the place of record i is enabled and held back.
+fn holds_now(
     graph: &[u8],
     tables: &[u16; 641],
     flags: &[u64; 69],
     ledger: &[u8],
     used: usize,
     bound: usize,
-    held: &mut [u64; 69],
-)
-    requires { ⌜ Arities (graphOf (now graph)) (now tables) × (used ≤ length (now ledger) / tokenWidth) × (used ≤ 2048) × (0 < bound) × (bound < 65536) × Counted (now flags) × Counted (now held) × ClearFrom used (flagsOf (now held)) ⌝ }
-    ensures { λ _. ⌜ Decided (graphOf (now (graph .entry))) bound (now (flags .entry)) (now (held .exit)) (now (ledger .entry)) used ⌝ }
+    marks: &mut [u16],
+    i: usize,
+) -> bool
+    requires { ⌜ Arities (graphOf (now graph)) (now tables) × (i < used) × (used ≤ length (now ledger) / tokenWidth) × (used ≤ 2048) × (0 < bound) × (bound < 65536) × Counted (now flags) × Marked (now tables) (now ledger) bound used (now marks) ⌝ }
+    ensures { λ r. ⌜ r ≡ heldAt (graphOf (now (graph .entry))) bound (flagsOf (now (flags .entry))) (now (ledger .entry)) used i ⌝ }
+    ensures { λ _. ⌜ Marked (now (tables .entry)) (now (ledger .entry)) bound used (now (marks .exit)) ⌝ }
 {
-    let mut i = 0;
-    while i < used {
-        let on = is_held_flag(graph, tables, flags, ledger, used, bound, i);
+    if !store_flags::is_raised(flags, i) {
+        return false;
+    }
+    let t = token::token_at(ledger, i);
+    let tag = t.tag;
+    let path = tag.path;
+    if !is_next(graph, tag.instruction) {
+        return false;
+    }
+    let m = wide(tag.iteration) + 1;
+    let from = wide16(marks[i]);
+    let holder = first_holder(tables, ledger, used, marks, path, bound, m, from);
+    mark(marks, i, holder);
+    holder < used
+}
+
+// The activities of the records at NEXT are looked at, each in turn.
+fn decide(
+    graph: &[u8],
+    tables: &[u16; 641],
+    flags: &[u64; 69],
+    ledger: &[u8],
+    used: usize,
+    bound: usize,
+    nexts: &[u64; 69],
+    held: &mut [u64; 69],
+    marks: &mut [u16],
+)
+    requires { ⌜ Arities (graphOf (now graph)) (now tables) × (used ≤ length (now ledger) / tokenWidth) × (used ≤ 2048) × (0 < bound) × (bound < 65536) × Counted (now flags) × Counted (now nexts) × Counted (now held) × ClearFrom used (flagsOf (now nexts)) × Under (flagsOf (now held)) (flagsOf (now nexts)) × Marked (now tables) (now ledger) bound used (now marks) × Listed (graphOf (now graph)) (flagsOf (now flags)) (flagsOf (now nexts)) (now ledger) used ⌝ }
+    ensures { λ _. ⌜ Decided (graphOf (now (graph .entry))) bound (now (flags .entry)) (now (held .exit)) (now (ledger .entry)) used ⌝ }
+    ensures { λ _. ⌜ Under (flagsOf (now (held .exit))) (flagsOf (now (nexts .entry))) × Marked (now (tables .entry)) (now (ledger .entry)) bound used (now (marks .exit)) ⌝ }
+{
+    let n = store_flags::count(nexts);
+    let mut k = 0;
+    while k < n {
+        let i = store_flags::select(nexts, k);
+        let on = holds_now(graph, tables, flags, ledger, used, bound, marks, i);
         put(held, i, on);
+        k += 1;
+    }
+}
+
+fn at_next(graph: &[u8], ledger: &[u8], i: usize) -> bool
+    requires { ⌜ i < length (now ledger) / tokenWidth ⌝ }
+    ensures { λ r. ⌜ r ≡ isNext (graphOf (now (graph .entry))) (tokenAt (now (ledger .entry)) i) ⌝ }
+{
+    let t = token::token_at(ledger, i);
+    let tag = t.tag;
+    is_next(graph, tag.instruction)
+}
+
+// The records that came since, from `used` on: those at NEXT are listed.
+fn list_new(graph: &[u8], ledger: &[u8], used: usize, n: usize, nexts: &mut [u64; 69])
+    requires { ⌜ (used ≤ n) × (n ≤ length (now ledger) / tokenWidth) × (n ≤ 2048) × Counted (now nexts) × ClearFrom used (flagsOf (now nexts)) ⌝ }
+    ensures { λ _. ⌜ Counted (now (nexts .exit)) × NewListed (graphOf (now (graph .entry))) (now (ledger .entry)) used n (flagsOf (now (nexts .entry))) (flagsOf (now (nexts .exit))) ⌝ }
+{
+    let mut i = used;
+    while i < n {
+        let on = at_next(graph, ledger, i);
+        put(nexts, i, on);
         i += 1;
     }
+}
+
+// A record below n that is spent is listed no more.
+fn drop_spent(ledger: &[u8], n: usize, place: usize, nexts: &mut [u64; 69], held: &mut [u64; 69])
+    requires { ⌜ (n ≤ length (now ledger) / tokenWidth) × (n ≤ 2048) × Counted (now nexts) × Counted (now held) ⌝ }
+    ensures { λ _. ⌜ Counted (now (nexts .exit)) × Counted (now (held .exit)) × Dropped (now (ledger .entry)) place (flagsOf (now (nexts .entry))) (flagsOf (now (held .entry))) (flagsOf (now (nexts .exit))) (flagsOf (now (held .exit))) ⌝ }
+{
+    if n <= place {
+        return;
+    }
+    if ledger[place * token::WIDTH + token::STATE] != 1 {
+        return;
+    }
+    put(nexts, place, false);
+    put(held, place, false);
+}
+
+// After a firing of the activity at a place, which left n tokens where there were `used`: the flags of the held activities are right
+// again. Before the first firing all n are new, and the place is none.
+pub fn follow(
+    graph: &[u8],
+    tables: &[u16; 641],
+    flags: &[u64; 69],
+    ledger: &[u8],
+    used: usize,
+    n: usize,
+    place: usize,
+    bound: usize,
+    nexts: &mut [u64; 69],
+    held: &mut [u64; 69],
+    marks: &mut [u16],
+)
+    requires { ⌜ Arities (graphOf (now graph)) (now tables) × (used ≤ n) × (n ≤ length (now ledger) / tokenWidth) × (n ≤ 2048) × (0 < bound) × (bound < 65536) × Counted (now flags) × FlagsUnspent (flagsOf (now flags)) (now ledger) n × Carried (graphOf (now graph)) (now tables) (now ledger) bound used (now nexts) (now held) (now marks) ⌝ }
+    ensures { λ _. ⌜ Kept (graphOf (now (graph .entry))) (now (tables .entry)) (now (flags .entry)) (now (ledger .entry)) bound n (now (nexts .exit)) (now (held .exit)) (now (marks .exit)) ⌝ }
+{
+    list_new(graph, ledger, used, n, nexts);
+    drop_spent(ledger, n, place, nexts, held);
+    decide(graph, tables, flags, ledger, n, bound, nexts, held, marks);
 }
