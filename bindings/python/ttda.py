@@ -140,9 +140,9 @@ class Files(NamedTuple):
 # The functions of ttda.h, with their parameters: r a buffer that is read, w one that is written, h a number of 16 bits, q one of 64,
 # n a number that is written, l a length.
 _FUNCTIONS = {
-    'ttda_run': 'rrrrhww',
-    'ttda_carry_on': 'rrrhhhww',
-    'ttda_run_logged': 'rrrrhwww',
+    'ttda_run': 'rrrrhhww',
+    'ttda_carry_on': 'rrrhhhhww',
+    'ttda_run_logged': 'rrrrhhwww',
     'ttda_replay': 'rrrrww',
     'ttda_profile': 'rrrwwwn',
     'ttda_bounds': 'rr',
@@ -286,33 +286,34 @@ def _left(number, ledger, memory) -> Run:
     return Run(answer, number, ledger.raw[:TOKEN.size * answer.tokens], memory.raw)
 
 
-def run(graph, inputs=None, picks=None, budget=MOST_RECORDS, capacity=MOST_RECORDS, cells=MOST_CELLS, arrays=None) -> Run:
+def run(graph, inputs=None, picks=None, budget=MOST_RECORDS, capacity=MOST_RECORDS, cells=MOST_CELLS, arrays=None,
+        bound=0) -> Run:
     """Runs a graph. Without picks the oldest enabled activity fires first. The constant of a FETCH or a STORE names one of the arrays,
-    counted from 1."""
+    counted from 1. A bound from 2 to 256 holds loops back, 0 does not."""
     ledger, memory = _buffers(capacity, cells)
     files = _lent(graph, inputs, picks, arrays)
-    number = _call('ttda_run', files.graph, files.arrays, files.inputs, files.picks, budget, ledger, memory)
+    number = _call('ttda_run', files.graph, files.arrays, files.inputs, files.picks, budget, bound, ledger, memory)
     return _left(number, ledger, memory)
 
 
-def carry_on(graph, left, picks=(), budget=MOST_RECORDS, capacity=MOST_RECORDS, arrays=None) -> Run:
+def carry_on(graph, left, picks=(), budget=MOST_RECORDS, capacity=MOST_RECORDS, arrays=None, bound=0) -> Run:
     """Goes on from what a run left."""
     ledger, memory = _buffers(capacity, len(left.memory) // CELL.size)
     ledger[:len(left.ledger)] = left.ledger
     memory[:] = left.memory
     counts = left.answer.firings, left.answer.tokens
     files = _lent(graph, b'', picks, arrays)
-    number = _call('ttda_carry_on', files.graph, files.arrays, files.picks, budget, *counts, ledger, memory)
+    number = _call('ttda_carry_on', files.graph, files.arrays, files.picks, budget, bound, *counts, ledger, memory)
     return _left(number, ledger, memory)
 
 
 def run_logged(graph, inputs=None, picks=None, budget=MOST_RECORDS, capacity=MOST_RECORDS,
-               cells=MOST_CELLS, arrays=None) -> Tuple[Run, bytes]:
+               cells=MOST_CELLS, arrays=None, bound=0) -> Tuple[Run, bytes]:
     """The run and its log."""
     ledger, memory = _buffers(capacity, cells)
     log = ctypes.create_string_buffer(LOGGED.size * MOST_RECORDS)
     files = _lent(graph, inputs, picks, arrays)
-    number = _call('ttda_run_logged', files.graph, files.arrays, files.inputs, files.picks, budget, ledger, memory, log)
+    number = _call('ttda_run_logged', files.graph, files.arrays, files.inputs, files.picks, budget, bound, ledger, memory, log)
     left = _left(number, ledger, memory)
     return left, log.raw[:LOGGED.size * left.answer.firings]
 

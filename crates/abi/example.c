@@ -20,9 +20,9 @@ static uint8_t listing[sizeof ledger];
 static uint8_t text[TTDA_PRINTED_BYTES(TTDA_MOST_RECORDS, TTDA_MOST_CELLS)];
 
 int main(void) {
-    /* No named arrays, no picks. */
+    /* No named arrays, no picks, no bound. */
     uint8_t none[1] = {0};
-    uint64_t answer = ttda_run(graph, sizeof graph, none, 0, inputs, sizeof inputs, none, 0, 2048,
+    uint64_t answer = ttda_run(graph, sizeof graph, none, 0, inputs, sizeof inputs, none, 0, 2048, 0,
                                ledger, sizeof ledger, cells, sizeof cells);
     /* So many bytes of the ledger as the answer has tokens. */
     size_t used = TTDA_TOKEN_BYTES * (size_t)ttda_tokens(answer);

@@ -89,12 +89,16 @@ static inline int32_t ttda_value(uint64_t answer) { return (int32_t)(uint32_t)(a
    Writes: the cells, and as many records of the ledger as there are tokens. Refused before any firing, nothing: ledger and cells are
    then as lent, and a program that prints such cells prints what they held before. A refused firing leaves both as it found them.
    7: inputs, picks, ledger or cells are not whole records, or too many. 22: arrays is not whole records, or too many, or one ends past
-   the cells (place 0), or else a constant of a FETCH or a STORE that names none (its place). */
+   the cells (place 0), or else a constant of a FETCH or a STORE that names none (its place).
+   bound: 0 for none, or 2 to 256; anything else is refused by 21. Then a NEXT that would make iteration m is held back while its path has,
+   at iteration m - bound or less, a live token that is no result or a deferred one, or such a token stands in a path entered from there.
+   Picks count without what is held back; where nothing else is enabled, the answer is hung. A run with a bound that completes, or hangs
+   with nothing held back, ends as every run without one does at a budget of 2,048. */
 uint64_t ttda_run(const uint8_t *graph, size_t graph_len,
                   const uint8_t *arrays, size_t arrays_len,
                   const uint8_t *inputs, size_t inputs_len,
                   const uint8_t *picks, size_t picks_len,
-                  uint16_t budget,
+                  uint16_t budget, uint16_t bound,
                   uint8_t *ledger, size_t ledger_len,
                   uint8_t *cells, size_t cells_len);
 
@@ -106,7 +110,7 @@ uint64_t ttda_run(const uint8_t *graph, size_t graph_len,
 uint64_t ttda_carry_on(const uint8_t *graph, size_t graph_len,
                        const uint8_t *arrays, size_t arrays_len,
                        const uint8_t *picks, size_t picks_len,
-                       uint16_t budget, uint16_t firings, uint16_t tokens,
+                       uint16_t budget, uint16_t bound, uint16_t firings, uint16_t tokens,
                        uint8_t *ledger, size_t ledger_len,
                        uint8_t *cells, size_t cells_len);
 
@@ -117,7 +121,7 @@ uint64_t ttda_run_logged(const uint8_t *graph, size_t graph_len,
                          const uint8_t *arrays, size_t arrays_len,
                          const uint8_t *inputs, size_t inputs_len,
                          const uint8_t *picks, size_t picks_len,
-                         uint16_t budget,
+                         uint16_t budget, uint16_t bound,
                          uint8_t *ledger, size_t ledger_len,
                          uint8_t *cells, size_t cells_len,
                          uint8_t *log, size_t log_len);

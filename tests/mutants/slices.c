@@ -14,18 +14,19 @@ struct slice {
 };
 
 uint64_t unproved_run(const struct slice *graph, const struct slice *arrays, const struct slice *inputs,
-                      const struct slice *picks, uint16_t budget, const struct slice *ledger, const struct slice *cells);
+                      const struct slice *picks, uint16_t budget, uint16_t bound, const struct slice *ledger,
+                      const struct slice *cells);
 uint64_t unproved_profile(const struct slice *graph, const struct slice *arrays, const struct slice *inputs,
                           const struct slice *ledger, const struct slice *cells, const struct slice *profile,
                           uint64_t *records);
 uint64_t unproved_run_logged(const struct slice *graph, const struct slice *arrays, const struct slice *inputs,
-                             const struct slice *picks, uint16_t budget, const struct slice *ledger,
+                             const struct slice *picks, uint16_t budget, uint16_t bound, const struct slice *ledger,
                              const struct slice *cells, const struct slice *log);
 uint64_t unproved_replay(const struct slice *graph, const struct slice *arrays, const struct slice *inputs,
                          const struct slice *log, const struct slice *ledger, const struct slice *cells);
 uint64_t unproved_bounds(const struct slice *graph, const struct slice *inputs);
 uint64_t unproved_carry_on(const struct slice *graph, const struct slice *arrays, const struct slice *picks, uint16_t budget,
-                           uint16_t firings, uint16_t tokens, const struct slice *ledger, const struct slice *cells);
+                           uint16_t bound, uint16_t firings, uint16_t tokens, const struct slice *ledger, const struct slice *cells);
 uint64_t unproved_expression(const struct slice *expression, const struct slice *graph);
 uint64_t unproved_expression_value(const struct slice *expression, const struct slice *values);
 uint64_t unproved_serves(const struct slice *kept_graph, const struct slice *kept_arrays, const struct slice *kept_inputs,
@@ -55,12 +56,12 @@ static void count(void) {
 }
 
 uint64_t ttda_run(const uint8_t *graph, size_t graph_len, const uint8_t *arrays, size_t arrays_len, const uint8_t *inputs,
-                  size_t inputs_len, const uint8_t *picks, size_t picks_len, uint16_t budget, uint8_t *ledger,
-                  size_t ledger_len, uint8_t *cells, size_t cells_len) {
+                  size_t inputs_len, const uint8_t *picks, size_t picks_len, uint16_t budget, uint16_t bound,
+                  uint8_t *ledger, size_t ledger_len, uint8_t *cells, size_t cells_len) {
     const struct slice g = {graph, graph_len}, a = {arrays, arrays_len}, i = {inputs, inputs_len}, p = {picks, picks_len};
     const struct slice l = {ledger, ledger_len}, c = {cells, cells_len};
     count();
-    return unproved_run(&g, &a, &i, &p, budget, &l, &c);
+    return unproved_run(&g, &a, &i, &p, budget, bound, &l, &c);
 }
 
 uint64_t ttda_profile(const uint8_t *graph, size_t graph_len, const uint8_t *arrays, size_t arrays_len, const uint8_t *inputs,
@@ -74,11 +75,11 @@ uint64_t ttda_profile(const uint8_t *graph, size_t graph_len, const uint8_t *arr
 
 uint64_t ttda_run_logged(const uint8_t *graph, size_t graph_len, const uint8_t *arrays, size_t arrays_len,
                          const uint8_t *inputs, size_t inputs_len, const uint8_t *picks, size_t picks_len, uint16_t budget,
-                         uint8_t *ledger, size_t ledger_len, uint8_t *cells, size_t cells_len, uint8_t *log, size_t log_len) {
+                         uint16_t bound, uint8_t *ledger, size_t ledger_len, uint8_t *cells, size_t cells_len, uint8_t *log, size_t log_len) {
     const struct slice g = {graph, graph_len}, a = {arrays, arrays_len}, i = {inputs, inputs_len}, p = {picks, picks_len};
     const struct slice l = {ledger, ledger_len}, c = {cells, cells_len}, o = {log, log_len};
     count();
-    return unproved_run_logged(&g, &a, &i, &p, budget, &l, &c, &o);
+    return unproved_run_logged(&g, &a, &i, &p, budget, bound, &l, &c, &o);
 }
 
 uint64_t ttda_replay(const uint8_t *graph, size_t graph_len, const uint8_t *arrays, size_t arrays_len, const uint8_t *inputs,
@@ -97,12 +98,12 @@ uint64_t ttda_bounds(const uint8_t *graph, size_t graph_len, const uint8_t *inpu
 }
 
 uint64_t ttda_carry_on(const uint8_t *graph, size_t graph_len, const uint8_t *arrays, size_t arrays_len, const uint8_t *picks,
-                       size_t picks_len, uint16_t budget, uint16_t firings, uint16_t tokens, uint8_t *ledger,
-                       size_t ledger_len, uint8_t *cells, size_t cells_len) {
+                       size_t picks_len, uint16_t budget, uint16_t bound, uint16_t firings, uint16_t tokens,
+                       uint8_t *ledger, size_t ledger_len, uint8_t *cells, size_t cells_len) {
     const struct slice g = {graph, graph_len}, a = {arrays, arrays_len}, p = {picks, picks_len};
     const struct slice l = {ledger, ledger_len}, c = {cells, cells_len};
     count();
-    return unproved_carry_on(&g, &a, &p, budget, firings, tokens, &l, &c);
+    return unproved_carry_on(&g, &a, &p, budget, bound, firings, tokens, &l, &c);
 }
 
 uint64_t ttda_expression(const uint8_t *expression, size_t expression_len, uint8_t *graph, size_t graph_len) {

@@ -44,17 +44,18 @@ macro_rules! function {
 }
 
 functions! {
-    /// Runs a graph under picks, with a budget of firings. A table of no bytes names no array.
-    run = ttda_run(graph: lent, arrays: lent, inputs: lent, picks: lent, budget: u16, ledger: written,
-        cells: written) -> Answer;
-
-    /// Goes on from what a run left in ledger and cells, and from the firings and tokens that it answered.
-    carry_on = ttda_carry_on(graph: lent, arrays: lent, picks: lent, budget: u16, firings: u16, tokens: u16,
+    /// Runs a graph under picks, with a budget of firings and a bound of loops, 0 for none. A table of no bytes names no
+    /// array.
+    run = ttda_run(graph: lent, arrays: lent, inputs: lent, picks: lent, budget: u16, bound: u16,
         ledger: written, cells: written) -> Answer;
 
+    /// Goes on from what a run left in ledger and cells, and from the firings and tokens that it answered.
+    carry_on = ttda_carry_on(graph: lent, arrays: lent, picks: lent, budget: u16, bound: u16, firings: u16,
+        tokens: u16, ledger: written, cells: written) -> Answer;
+
     /// Runs a graph and writes a record for each firing to the log.
-    run_logged = ttda_run_logged(graph: lent, arrays: lent, inputs: lent, picks: lent, budget: u16, ledger: written,
-        cells: written, log: written) -> Answer;
+    run_logged = ttda_run_logged(graph: lent, arrays: lent, inputs: lent, picks: lent, budget: u16, bound: u16,
+        ledger: written, cells: written, log: written) -> Answer;
 
     /// Fires the activities that a log names, in turn.
     replay = ttda_replay(graph: lent, arrays: lent, inputs: lent, log: lent, ledger: written, cells: written) -> Answer;

@@ -44,7 +44,7 @@ fn printed(answer: Answer, ledger: &[u8], cells: &[u8]) -> String {
 #[test]
 fn a_run_is_listed_and_printed() {
     let (graph, inputs, mut ledger, mut cells) = lent();
-    let answer = ttda::run(&graph, &[], &inputs, &[], 9, &mut ledger, &mut cells);
+    let answer = ttda::run(&graph, &[], &inputs, &[], 9, 0, &mut ledger, &mut cells);
     assert_eq!(answer, Answer::of(Word::COMPLETED, 1, 3, 0));
     assert_eq!(
         (answer.word(), answer.firings(), answer.tokens()),
@@ -56,7 +56,7 @@ fn a_run_is_listed_and_printed() {
 #[test]
 fn a_budget_that_is_used_up_is_carried_on() {
     let (graph, inputs, mut ledger, mut cells) = lent();
-    let cut = ttda::run(&graph, &[], &inputs, &[], 0, &mut ledger, &mut cells);
+    let cut = ttda::run(&graph, &[], &inputs, &[], 0, 0, &mut ledger, &mut cells);
     assert_eq!(
         (cut.word(), cut.parts()),
         (Word::Spent, (Word::SPENT, 0, 2, 0))
@@ -67,6 +67,7 @@ fn a_budget_that_is_used_up_is_carried_on() {
         &[],
         &[],
         9,
+        0,
         firings,
         tokens,
         &mut ledger,
@@ -85,6 +86,7 @@ fn a_log_is_replayed() {
         &inputs,
         &[],
         1,
+        0,
         &mut ledger,
         &mut cells,
         &mut log,

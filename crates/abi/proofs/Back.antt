@@ -9,6 +9,7 @@ use Rattle.rules.specs.declared.answer.Needs.the-variants.{AtMost, Refused}
 use Rattle.rules.specs.Answer.{Values, valuesOf, valuesNeeded}
 use Rattle.rules.specs.Needs.{needs}
 use Rattle.rules.specs.Small.{Counted}
+use Rattle.rules.proofs.Bounded.{bounded-counted}
 use Rattle.rules.proofs.Counted.{all-counted}
 use Rattle.bounds.proofs.Small.{Small, needs-small}
 use Rattle.abi.specs.declared.Unpacked.the-variants.{Answered}
@@ -38,10 +39,10 @@ bounds-back graph inputs =
 pub numbers-back : NumbersBack
 numbers-back = record {
   ofRuns = run-back;
-  ofLogged = λ graph arrays inputs picks budget ledger cells lent. recovered _ (all-counted .byLogged graph arrays inputs picks budget ledger cells lent);
+  ofLogged = λ graph arrays inputs picks budget bound ledger cells lent. recovered _ (bounded-counted .byLogged graph arrays inputs picks budget bound ledger cells lent);
   ofReplays = λ graph arrays inputs log ledger cells. recovered _ (all-counted .byReplay graph arrays inputs log ledger cells);
   ofProfiles = λ graph arrays inputs ledger cells lent. recovered _ (all-counted .byProfile graph arrays inputs ledger cells lent);
-  ofCarried = λ graph arrays picks ledger cells budget firings tokens. recovered _ (all-counted .byCarried graph arrays picks ledger cells budget firings tokens);
+  ofCarried = λ graph arrays picks ledger cells budget bound firings tokens. recovered _ (bounded-counted .byCarried graph arrays picks ledger cells budget bound firings tokens);
   ofBounds = bounds-back;
   ofNumbers = packed-unpacked;
 }

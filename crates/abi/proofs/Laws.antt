@@ -19,8 +19,9 @@ use Rattle.rules.specs.declared.answer.Refusal.the-variants.{GraphLength, Unkno
 use Rattle.rules.specs.declared.answer.Outcome.{Outcome}
 use Rattle.rules.specs.declared.answer.Outcome.the-variants.{Completed, Hung, Spent, Refused}
 use Rattle.rules.specs.declared.answer.Answer.{Answer}
-use Rattle.rules.specs.Run.{result, answer}
-use Rattle.rules.proofs.Small.{answer-small}
+use Rattle.rules.specs.Run.{answer}
+use Rattle.rules.specs.Bounded.{bounded}
+use Rattle.rules.proofs.Bounded.{bounded-small}
 use Rattle.text.specs.Text.{decimal, line, outcomeFields, answerLine, tokenLine, cellLines, printed, printedOf, outAfter}
 use Rattle.text.proofs.Decimals.{decimal-digit, length-more}
 use Rattle.abi.specs.declared.Numbered.{Numbered}
@@ -129,15 +130,15 @@ unpacked-packed a h =
 -- ---- and every answer of a run fits, whatever is lent and whatever the budget
 
 -- "Firings never exceed tokens", tokens are 2,048 at most, and a place is below 2,048
-pub run-fits : (graph arrays inputs picks : List ℕ) (budget ledger cells : ℕ) → Fits (answer (result graph arrays inputs picks budget ledger cells))
-run-fits graph arrays inputs picks budget ledger cells =
-    let small = answer-small graph arrays inputs picks budget ledger cells in
+pub run-fits : (graph arrays inputs picks : List ℕ) (budget bound ledger cells : ℕ) → Fits (answer (bounded graph arrays inputs picks budget bound ledger cells))
+run-fits graph arrays inputs picks budget bound ledger cells =
+    let small = bounded-small graph arrays inputs picks budget bound ledger cells in
     (omega (arith, small .byTokens, small .tokens), omega (arith, small .tokens), omega (arith, small .place))
 
 -- the number that a run answers gives its answer back
-pub run-back : (graph arrays inputs picks : List ℕ) (budget ledger cells : ℕ)
-    → unpacked (packed (valuesOf (answer (result graph arrays inputs picks budget ledger cells)))) ≡ Answered (answer (result graph arrays inputs picks budget ledger cells))
-run-back graph arrays inputs picks budget ledger cells = unpacked-packed (answer (result graph arrays inputs picks budget ledger cells)) (run-fits graph arrays inputs picks budget ledger cells)
+pub run-back : (graph arrays inputs picks : List ℕ) (budget bound ledger cells : ℕ)
+    → unpacked (packed (valuesOf (answer (bounded graph arrays inputs picks budget bound ledger cells)))) ≡ Answered (answer (bounded graph arrays inputs picks budget bound ledger cells))
+run-back graph arrays inputs picks budget bound ledger cells = unpacked-packed (answer (bounded graph arrays inputs picks budget bound ledger cells)) (run-fits graph arrays inputs picks budget bound ledger cells)
 
 -- ---- so printing the number that a run answers prints the answer: what text::print does with it, ttda_print does
 
@@ -150,13 +151,13 @@ pub print-after : (a : Answer) → Fits a → (listing cells out : List ℕ)
 print-after a h listing cells out = rw (unpacked-packed a h)
 
 -- the length that is answered and the bytes that are left, for the number of any run
-pub run-printed : (graph arrays inputs picks : List ℕ) (budget ledgerBytes cellBytes : ℕ) (listing cells out : List ℕ)
-    → let a = answer (result graph arrays inputs picks budget ledgerBytes cellBytes) in
+pub run-printed : (graph arrays inputs picks : List ℕ) (budget bound ledgerBytes cellBytes : ℕ) (listing cells out : List ℕ)
+    → let a = answer (bounded graph arrays inputs picks budget bound ledgerBytes cellBytes) in
     (printAnswer (unpacked (packed (valuesOf a))) listing cells out ≡ lengthOf (printedOf (printed a listing cells) out))
     × (printAfter (unpacked (packed (valuesOf a))) listing cells out ≡ outAfter (printed a listing cells) out)
-run-printed graph arrays inputs picks budget ledgerBytes cellBytes listing cells out =
-    let a = answer (result graph arrays inputs picks budget ledgerBytes cellBytes) in
-    let fits = run-fits graph arrays inputs picks budget ledgerBytes cellBytes in
+run-printed graph arrays inputs picks budget bound ledgerBytes cellBytes listing cells out =
+    let a = answer (bounded graph arrays inputs picks budget bound ledgerBytes cellBytes) in
+    let fits = run-fits graph arrays inputs picks budget bound ledgerBytes cellBytes in
     (print-answer a fits listing cells out, print-after a fits listing cells out)
 
 -- ---- 0 and 1 are no text's length: the shortest has 11 bytes

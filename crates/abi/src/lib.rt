@@ -18,10 +18,10 @@ ghost use Rattle.rules.specs.Needs.{needs};
 ghost use Rattle.record.specs.ExpressionRecords.{expressionOf};
 ghost use Rattle.rules.specs.Expression.{graphFor, checkMade, madeOf, outputOf, evaluated};
 ghost use Prim.Native.Nat.{suc};
-ghost use Rattle.rules.specs.Run.{result, ledgerAfter, cellsAfter};
+ghost use Rattle.rules.specs.Run.{ledgerAfter, cellsAfter};
 ghost use Rattle.rules.specs.Run.{answer as Run·answer};
-ghost use Rattle.rules.specs.Saved.{carried};
-ghost use Rattle.rules.specs.Log.{logged, logAfter, replayed};
+ghost use Rattle.rules.specs.Bounded.{bounded, boundLogged, boundCarried};
+ghost use Rattle.rules.specs.Log.{logAfter, replayed};
 ghost use Rattle.rules.specs.Profile.{profiled, profileAnswer, profileAfter};
 ghost use Rattle.plot_cache.specs.Serves.{requestOf};
 ghost use Rattle.convert.specs.Convert.{tokenRest, logRest, numberOf as Convert·numberOf, answer as Convert·answer, outAfter as Convert·outAfter};
@@ -156,14 +156,15 @@ pub extern "C" fn ttda_run(
     inputs: &[u8],
     picks: &[u8],
     budget: u16,
+    bound: u16,
     ledger: &mut [u8],
     cells: &mut [u8],
 ) -> u64
-    ensures { λ r. ⌜ r ≡ packed (valuesOf (Run·answer (result (now (graph .entry)) (now (arrays .entry)) (now (inputs .entry)) (now (picks .entry)) budget (length (now (ledger .entry))) (length (now (cells .entry)))))) ⌝ }
-    ensures { λ _. ⌜ now (ledger .exit) ≡ ledgerAfter (result (now (graph .entry)) (now (arrays .entry)) (now (inputs .entry)) (now (picks .entry)) budget (length (now (ledger .entry))) (length (now (cells .entry)))) (now (ledger .entry)) ⌝ }
-    ensures { λ _. ⌜ now (cells .exit) ≡ cellsAfter (result (now (graph .entry)) (now (arrays .entry)) (now (inputs .entry)) (now (picks .entry)) budget (length (now (ledger .entry))) (length (now (cells .entry)))) (now (cells .entry)) ⌝ }
+    ensures { λ r. ⌜ r ≡ packed (valuesOf (Run·answer (bounded (now (graph .entry)) (now (arrays .entry)) (now (inputs .entry)) (now (picks .entry)) budget bound (length (now (ledger .entry))) (length (now (cells .entry)))))) ⌝ }
+    ensures { λ _. ⌜ now (ledger .exit) ≡ ledgerAfter (bounded (now (graph .entry)) (now (arrays .entry)) (now (inputs .entry)) (now (picks .entry)) budget bound (length (now (ledger .entry))) (length (now (cells .entry)))) (now (ledger .entry)) ⌝ }
+    ensures { λ _. ⌜ now (cells .exit) ≡ cellsAfter (bounded (now (graph .entry)) (now (arrays .entry)) (now (inputs .entry)) (now (picks .entry)) budget bound (length (now (ledger .entry))) (length (now (cells .entry)))) (now (cells .entry)) ⌝ }
 {
-    number_of(engine::run(graph, arrays, inputs, picks, budget, ledger, cells))
+    number_of(engine::run(graph, arrays, inputs, picks, budget, bound, ledger, cells))
 }
 
 #[no_mangle]
@@ -172,16 +173,27 @@ pub extern "C" fn ttda_carry_on(
     arrays: &[u8],
     picks: &[u8],
     budget: u16,
+    bound: u16,
     firings: u16,
     tokens: u16,
     ledger: &mut [u8],
     cells: &mut [u8],
 ) -> u64
-    ensures { λ r. ⌜ r ≡ packed (valuesOf (Run·answer (carried (now (graph .entry)) (now (arrays .entry)) (now (picks .entry)) budget (now (ledger .entry)) (now (cells .entry)) firings tokens))) ⌝ }
-    ensures { λ _. ⌜ now (ledger .exit) ≡ ledgerAfter (carried (now (graph .entry)) (now (arrays .entry)) (now (picks .entry)) budget (now (ledger .entry)) (now (cells .entry)) firings tokens) (now (ledger .entry)) ⌝ }
-    ensures { λ _. ⌜ now (cells .exit) ≡ cellsAfter (carried (now (graph .entry)) (now (arrays .entry)) (now (picks .entry)) budget (now (ledger .entry)) (now (cells .entry)) firings tokens) (now (cells .entry)) ⌝ }
+    ensures { λ r. ⌜ r ≡ packed (valuesOf (Run·answer (boundCarried (now (graph .entry)) (now (arrays .entry)) (now (picks .entry)) budget bound (now (ledger .entry)) (now (cells .entry)) firings tokens))) ⌝ }
+    ensures { λ _. ⌜ now (ledger .exit) ≡ ledgerAfter (boundCarried (now (graph .entry)) (now (arrays .entry)) (now (picks .entry)) budget bound (now (ledger .entry)) (now (cells .entry)) firings tokens) (now (ledger .entry)) ⌝ }
+    ensures { λ _. ⌜ now (cells .exit) ≡ cellsAfter (boundCarried (now (graph .entry)) (now (arrays .entry)) (now (picks .entry)) budget bound (now (ledger .entry)) (now (cells .entry)) firings tokens) (now (cells .entry)) ⌝ }
 {
-    number_of(engine::carry_on(graph, arrays, picks, budget, firings, tokens, ledger, cells))
+    number_of(engine::carry_on(
+        graph,
+        arrays,
+        picks,
+        budget,
+        bound,
+        firings,
+        tokens,
+        ledger,
+        cells,
+    ))
 }
 
 #[no_mangle]
@@ -191,16 +203,27 @@ pub extern "C" fn ttda_run_logged(
     inputs: &[u8],
     picks: &[u8],
     budget: u16,
+    bound: u16,
     ledger: &mut [u8],
     cells: &mut [u8],
     log: &mut [u8],
 ) -> u64
-    ensures { λ r. ⌜ r ≡ packed (valuesOf (Run·answer (logged (now (graph .entry)) (now (arrays .entry)) (now (inputs .entry)) (now (picks .entry)) budget (length (now (ledger .entry))) (length (now (cells .entry))) (length (now (log .entry))) .result))) ⌝ }
-    ensures { λ _. ⌜ now (ledger .exit) ≡ ledgerAfter (logged (now (graph .entry)) (now (arrays .entry)) (now (inputs .entry)) (now (picks .entry)) budget (length (now (ledger .entry))) (length (now (cells .entry))) (length (now (log .entry))) .result) (now (ledger .entry)) ⌝ }
-    ensures { λ _. ⌜ now (cells .exit) ≡ cellsAfter (logged (now (graph .entry)) (now (arrays .entry)) (now (inputs .entry)) (now (picks .entry)) budget (length (now (ledger .entry))) (length (now (cells .entry))) (length (now (log .entry))) .result) (now (cells .entry)) ⌝ }
-    ensures { λ _. ⌜ now (log .exit) ≡ logAfter (logged (now (graph .entry)) (now (arrays .entry)) (now (inputs .entry)) (now (picks .entry)) budget (length (now (ledger .entry))) (length (now (cells .entry))) (length (now (log .entry)))) (now (log .entry)) ⌝ }
+    ensures { λ r. ⌜ r ≡ packed (valuesOf (Run·answer (boundLogged (now (graph .entry)) (now (arrays .entry)) (now (inputs .entry)) (now (picks .entry)) budget bound (length (now (ledger .entry))) (length (now (cells .entry))) (length (now (log .entry))) .result))) ⌝ }
+    ensures { λ _. ⌜ now (ledger .exit) ≡ ledgerAfter (boundLogged (now (graph .entry)) (now (arrays .entry)) (now (inputs .entry)) (now (picks .entry)) budget bound (length (now (ledger .entry))) (length (now (cells .entry))) (length (now (log .entry))) .result) (now (ledger .entry)) ⌝ }
+    ensures { λ _. ⌜ now (cells .exit) ≡ cellsAfter (boundLogged (now (graph .entry)) (now (arrays .entry)) (now (inputs .entry)) (now (picks .entry)) budget bound (length (now (ledger .entry))) (length (now (cells .entry))) (length (now (log .entry))) .result) (now (cells .entry)) ⌝ }
+    ensures { λ _. ⌜ now (log .exit) ≡ logAfter (boundLogged (now (graph .entry)) (now (arrays .entry)) (now (inputs .entry)) (now (picks .entry)) budget bound (length (now (ledger .entry))) (length (now (cells .entry))) (length (now (log .entry)))) (now (log .entry)) ⌝ }
 {
-    number_of(engine::run_logged(graph, arrays, inputs, picks, budget, ledger, cells, log))
+    number_of(engine::run_logged(
+        graph,
+        arrays,
+        inputs,
+        picks,
+        budget,
+        bound,
+        ledger,
+        cells,
+        log,
+    ))
 }
 
 #[no_mangle]

@@ -1,3 +1,4 @@
+-- Working definition: no public promise cites it.
 -- The machine's state of a list of token records and a list of cells, and what holds of every such state in a run. Assumes nothing.
 use Prim.Native.Nat.{ℕ, _<_, _≤_}
 use mathlib.Core.Path.{_≡_}

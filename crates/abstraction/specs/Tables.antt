@@ -1,3 +1,4 @@
+-- Working definition: no public promise cites it.
 -- What the tables of a run say, in one array: the return instruction of each site, then the named arrays, then operand counts by
 -- instruction. Assumes nothing.
 use Prim.Native.Nat.{ℕ, _+_, _*_, _<_}

@@ -1,3 +1,4 @@
+-- Working definition: no public promise cites it.
 -- What is kept while the reached instructions of 02, R-3 are worked out: a table of ports and one of instructions. Assumes nothing.
 use Prim.Native.Nat.{ℕ, _+_, _*_, _<_}
 use mathlib.Core.Path.{_≡_}

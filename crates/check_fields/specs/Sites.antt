@@ -1,3 +1,4 @@
+-- Working definition: no public promise cites it.
 -- What the check of the graph keeps by site, so that no ENTER looks through the records before it. Assumes nothing.
 use Prim.Native.Nat.{ℕ, zero, suc, _<_}
 use mathlib.Core.Path.{_≡_}

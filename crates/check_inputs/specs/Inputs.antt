@@ -1,3 +1,4 @@
+-- Working definition: no public promise cites it.
 -- What the check of the inputs keeps of those before, so that it looks through them only where a second token is likely. Assumes nothing.
 use Prim.Native.Nat.{ℕ, _+_, _*_, _%_}
 use mathlib.Core.Path.{_≡_}

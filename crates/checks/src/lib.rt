@@ -1,6 +1,7 @@
 // What is refused before any firing is tried (01, "The answer and the refusals"), in its order: the
-// graph record by record, the stores, the table of named arrays, the inputs.
+// graph record by record, the stores, the bound, the table of named arrays, the inputs.
 pub mod arrays;
+pub mod bound;
 pub mod graph;
 pub mod stores;
 
@@ -14,9 +15,9 @@ ghost use Rattle.record.specs.TokensAndTags.{capacityOf};
 ghost use Rattle.record.specs.Widths.{cellWidth};
 ghost use Rattle.rules.specs.Check as Rules;
 ghost use Rattle.rules.specs.Check.{_andThen_, checkGraph, checkArrays, checkInputs};
-ghost use Rattle.rules.specs.Log.{checkLogged};
+ghost use Rattle.rules.specs.Bounded.{checkBounded, checkBoundLogged};
 
-// The graph, what the check of the stores said, the table of named arrays, and the inputs; the ledger
+// The graph, what the check of the stores and of the bound said, the table of named arrays, and the inputs; the ledger
 // and the cells by their lengths in bytes.
 fn in_order(
     graph: &[u8],
@@ -42,7 +43,7 @@ fn in_order(
     check_inputs::check(graph, inputs, ledger / token::WIDTH)
 }
 
-// All of it; the ledger and the cells by their lengths in bytes.
+// All of it without a bound; the ledger and the cells by their lengths in bytes.
 pub fn check(
     graph: &[u8],
     arrays: &[u8],
@@ -57,19 +58,38 @@ pub fn check(
     in_order(graph, arrays, of_stores, inputs, ledger, cells)
 }
 
-// The same of a run that writes a log, by its length in bytes too.
+// The same of a run with a bound.
+pub fn check_bounded(
+    graph: &[u8],
+    arrays: &[u8],
+    inputs: &[u8],
+    picks: &[u8],
+    bound: usize,
+    ledger: usize,
+    cells: usize,
+) -> Checked
+    ensures { λ r. ⌜ r ≡ checkBounded (now (graph .entry)) (now (arrays .entry)) (now (inputs .entry)) (now (picks .entry)) bound ledger cells ⌝ }
+{
+    let of_stores = stores::check(inputs.len(), picks.len(), ledger, cells);
+    let of_bound = bound::check(of_stores, bound);
+    in_order(graph, arrays, of_bound, inputs, ledger, cells)
+}
+
+// The same of one that writes a log, by its length in bytes too.
 pub fn check_logged(
     graph: &[u8],
     arrays: &[u8],
     inputs: &[u8],
     picks: &[u8],
     budget: usize,
+    bound: usize,
     ledger: usize,
     cells: usize,
     log: usize,
 ) -> Checked
-    ensures { λ r. ⌜ r ≡ checkLogged (now (graph .entry)) (now (arrays .entry)) (now (inputs .entry)) (now (picks .entry)) budget ledger cells log ⌝ }
+    ensures { λ r. ⌜ r ≡ checkBoundLogged (now (graph .entry)) (now (arrays .entry)) (now (inputs .entry)) (now (picks .entry)) budget bound ledger cells log ⌝ }
 {
     let of_stores = stores::check_logged(inputs.len(), picks.len(), ledger, cells, budget, log);
-    in_order(graph, arrays, of_stores, inputs, ledger, cells)
+    let of_bound = bound::check(of_stores, bound);
+    in_order(graph, arrays, of_bound, inputs, ledger, cells)
 }

@@ -1,3 +1,4 @@
+-- Working definition: no public promise cites it.
 -- How a run that fires no more ends, for token records, under any graph with these tables. Assumes nothing.
 use Prim.Native.Nat.{ℕ}
 use mathlib.Core.Path.{_≡_}

@@ -26,7 +26,7 @@ fn proper(tables: &[u16; 641], t: Token) -> bool
 }
 
 // The same of record i of a ledger. Most tokens at a run's end are spent: of these the state alone is read.
-fn proper_at(tables: &[u16; 641], ledger: &[u8], i: usize) -> bool
+pub fn proper_at(tables: &[u16; 641], ledger: &[u8], i: usize) -> bool
     requires { ⌜ i < length (now ledger) / tokenWidth ⌝ }
     ensures { λ r. ⌜ r ≡ properBy (now (tables .entry)) (tokenAt (now (ledger .entry)) i) ⌝ }
 {

@@ -167,7 +167,7 @@ module _ (tables ledger : List ℕ) (used : ℕ) (g : List Instruction) (right :
   recorded-there : (place : ℕ) → place < used → activity place ≡ record { place = place; tag = tokenAt ledger place .tag }
   recorded-there place h = ap (λ (t : Record.Token). record { place = place; tag = t .tag }) (getD-rows tokenWidth Tokens.decode used place ledger noToken h)
 
-  taken-there : {links flags : List ℕ} → Matching tables links flags ledger used → (chosen : Chosen Refusal Tag) (place k : ℕ) → k < length (enabledPlaces tables ts) → place ≡ getD (enabledPlaces tables ts) k 0
+  pub taken-there : {links flags : List ℕ} → Matching tables links flags ledger used → (chosen : Chosen Refusal Tag) (place k : ℕ) → k < length (enabledPlaces tables ts) → place ≡ getD (enabledPlaces tables ts) k 0
       → chosen ≡ takes (activity place) → Takes place chosen tables ledger used
   taken-there m chosen place k h at e =
       let below : place < used = subst (λ (p : ℕ). p < used) (sym at) (matching-enabled-below m k h) in

@@ -4,5 +4,6 @@ pub mod Places
 pub mod Turning
 pub mod Recording
 pub mod Looping
+pub mod Bounding
 pub mod Accepting
 pub mod Resuming

@@ -26,7 +26,7 @@ use Rattle.fire_outputs.specs.Outputs.{cellsIn}
 use Rattle.fire.specs.Running.{machineFor, stateIn, Running, Went, Stopped, Prepared}
 use Rattle.engine.specs.declared.Order.{Order}
 use Rattle.engine.specs.declared.Choice.{Choice}
-use Rattle.engine.specs.Turns.{chooserFor, Chooses, ChosenAs, Takes, Ends, Advanced, byChoice, byRefusal, Halted}
+use Rattle.engine.specs.Turns.{chooserFor, HeldBack, Chooses, ChosenAs, Takes, Ends, Advanced, byChoice, byRefusal, Halted}
 use Rattle.engine.proofs.Choosing.{getD-map}
 use Rattle.engine.proofs.Places.{keys-kept}
 
@@ -37,11 +37,11 @@ held-tag l n i h =
     (getD-map tokenHeld (tokens n l) i noToken (tokenHeld noToken) (rw (length-rows tokenWidth Tokens.decode n l) h) ∙ ap tokenHeld (getD-rows tokenWidth Tokens.decode n i l noToken h))
 
 -- the choice, of the graph and the cells at hand
-pub chosen-now : (graph : List ℕ) (order : Order) (source : List ℕ) (f : ℕ) (r : Choice) {tables links flags ledger cells : List ℕ} {used : ℕ} → ChosenAs r order source f tables ledger used
-    → Prepared graph tables → Running (graphOf graph) tables links flags ledger cells used
+pub chosen-now : (graph : List ℕ) (order : Order) (source : List ℕ) (f : ℕ) (r : Choice) (held : List ℕ) {tables links flags ledger cells : List ℕ} {used : ℕ} → ChosenAs r order source f tables flags held ledger used
+    → Prepared graph tables → Running (graphOf graph) tables links flags ledger cells used → HeldBack order (graphOf graph) flags held ledger used
     → Chooses r (chooserFor order source (graphOf graph) tables ledger cells f (stateIn ledger cells used)) tables ledger used
-chosen-now graph order source f r {tables = tables} {ledger = ledger} {cells = cells} said ready now =
-    said (graphOf graph) (ready .aritiesRight) (now .arrived) (arraysIn tables) (length ledger / tokenWidth) (length cells / cellWidth) (cellsIn cells)
+chosen-now graph order source f r held {tables = tables} {ledger = ledger} {cells = cells} said ready now back =
+    said (graphOf graph) (ready .aritiesRight) (now .arrived) back (arraysIn tables) (length ledger / tokenWidth) (length cells / cellWidth) (cellsIn cells)
 
 module _ {g : List Instruction} {chosen : Chosen Refusal Tag} (asks : Tag → Effect Refusal Tag ℤ) {tables ledger cells : List ℕ} {used : ℕ} where
   pub turn-ended : {links flags : List ℕ} {o : AnswerOutcome.Outcome} → Ends o chosen → Running g tables links flags ledger cells used → Halted o g chosen asks tables links flags ledger cells used ledger cells

@@ -1,3 +1,4 @@
+-- Working definition: no public promise cites it.
 -- 02, R-13: a run that goes on from a saved state, once graph and stores passed their checks. Assumes nothing.
 use Prim.Native.Nat.{ℕ, _/_, _%_, _≤_}
 use mathlib.Core.Path.{_≡_}
@@ -7,17 +8,20 @@ use Rattle.record.specs.GraphRecords.{graphOf}
 use Rattle.record.specs.Arrays.{mostArrays, arraysOf}
 use Rattle.record.specs.TokensAndTags.{mostTokens, capacityOf}
 use Rattle.record.specs.Widths.{cellWidth, arrayWidth}
-use Rattle.machine.specs.Machine.{byPicks, runBy}
+use Rattle.machine.specs.Machine.{byPicks}
+use Rattle.machine.specs.Bounded.{runBounded}
 use Rattle.rules.specs.declared.answer.Checked.{Checked}
 use Rattle.rules.specs.declared.answer.Checked.the-variants.{Passed}
 use Rattle.rules.specs.declared.answer.Refusal.the-variants.{DamagedState}
 use Rattle.rules.specs.Check.{demand, _andThen_, checkGraph, checkStores, checkArrays, mostCells}
 use Rattle.rules.specs.Run.{picksOf, Result, ranTo, unlessFailed}
+use Rattle.rules.specs.Held.{heldIn}
+use Rattle.rules.specs.Bounded.{andBound}
 use Rattle.rules.specs.Saved.{stateSaved, machineSaved, taken}
 
 -- the checks of what is lent beside it; picks, ledger and cells by their lengths in bytes
-abbrev pub lentChecked : (graph arrays : List ℕ) → (picks ledger cells : ℕ) → Checked
-lentChecked graph arrays picks ledger cells = checkGraph graph andThen checkStores 0 picks ledger cells andThen checkArrays (graphOf graph) (cells / cellWidth) arrays
+abbrev pub lentChecked : (graph arrays : List ℕ) → (picks bound ledger cells : ℕ) → Checked
+lentChecked graph arrays picks k ledger cells = checkGraph graph andThen andBound (checkStores 0 picks ledger cells) k andThen checkArrays (graphOf graph) (cells / cellWidth) arrays
 
 -- the graph passed, the table of named arrays is not too long, and ledger and cells are of allowed length
 pub record Lent (graph arrays : List ℕ) (ledger cells : ℕ) : Type 0 where
@@ -27,7 +31,7 @@ pub record Lent (graph arrays : List ℕ) (ledger cells : ℕ) : Type 0 where
   pub cellRecords : (cells % cellWidth ≡ 0) × (cells / cellWidth ≤ mostCells)
 
 -- refused by 24, or run to its end
-abbrev pub resumed : (graph arrays picks : List ℕ) → (budget : ℕ) → (ledger cells : List ℕ) → (firings used : ℕ) → Result
-resumed graph arrays picks budget ledger cells firings used =
+abbrev pub resumed : (graph arrays picks : List ℕ) → (budget bound : ℕ) → (ledger cells : List ℕ) → (firings used : ℕ) → Result
+resumed graph arrays picks budget k ledger cells firings used =
     let M = machineSaved graph (arraysOf arrays) ledger cells in
-    unlessFailed (demand (taken graph ledger cells firings used) DamagedState 0) (ranTo (runBy M (byPicks M) budget (picksOf picks) firings (stateSaved ledger cells used)))
+    unlessFailed (demand (taken graph ledger cells firings used) DamagedState 0) (ranTo (runBounded M (heldIn (graphOf graph) k) (byPicks M) budget (picksOf picks) firings (stateSaved ledger cells used)))

@@ -1,3 +1,4 @@
+-- Working definition: no public promise cites it.
 -- A run, a turn at a time, in the terms of the machine: who chooses, what a turn leaves, and what a run leaves in ledger, cells and log. Assumes nothing.
 use Prim.Native.Nat.{ℕ, _*_, _/_, _≤_, _<_}
 use mathlib.Core.Path.{_≡_}
@@ -10,23 +11,30 @@ use Rattle.record.specs.declared.array.NamedArray.{NamedArray}
 use Rattle.record.specs.declared.tag.Tag.{Tag}
 use Rattle.record.specs.declared.cell.Cell.{Cell}
 use Rattle.record.specs.declared.instruction.Instruction.{Instruction}
+use Rattle.record.specs.GraphRecords.{graphOf}
 use Rattle.record.specs.Logs.{encode}
 use Rattle.record.specs.TokensAndTags.{tokens, tokenAt}
 use Rattle.record.specs.Widths.{tokenWidth, cellWidth, logWidth}
 use Rattle.buffer.specs.Rows.{putRow, writtenOver}
 use Rattle.machine.specs.Machine.{Machine, StateOf, EffectOf, Effect, Activity, Outcome, refused, notFired, End, byPicks, commit, end}
+use Rattle.machine.specs.Bounded.{byFree, runBounded, logBounded}
 use Rattle.machine.specs.Choosers.{Chosen, takes, ends, Chooser, runFrom, logFrom, byPick, byName, byPlace}
 use Rattle.rules.specs.declared.answer.Refusal.{Refusal}
 use Rattle.rules.specs.declared.answer.Refusal.the-variants.{NotEnabled}
 use Rattle.rules.specs.declared.answer.Outcome as AnswerOutcome
 use Rattle.rules.specs.declared.answer.Answer.{Answer}
 use Rattle.rules.specs.InstructionSet.{machineOf}
-use Rattle.rules.specs.Run.{picksOf, outcomeOf}
+use Rattle.rules.specs.Run.{picksOf, outcomeOf, firstState}
+use Rattle.rules.specs.Held.{heldIn}
 use Rattle.rules.specs.Log.{namesIn}
 use Rattle.store_enabled.specs.Enabled.{leads}
+use Rattle.store_flags.specs.Flags.{places, minus, Under, flagsOf, Counted}
 use Rattle.store.specs.Matching.{Matching}
 use Rattle.abstraction.specs.States.{stateHeld}
 use Rattle.abstraction.specs.Tables.{Arities, arraysIn}
+use Rattle.ending.specs.Endings.{EndsAs}
+use Rattle.held.specs.Deciding.{FlagsUnspent, Decided, Carried, Kept}
+use Rattle.start.specs.Begun.{machineLent}
 use Rattle.fire.specs.Running.{machineFor, stateIn, Arrived, Running, Went}
 use Rattle.engine.specs.declared.Order.{Order}
 use Rattle.engine.specs.declared.Order.the-variants as Orders
@@ -43,6 +51,7 @@ chooserOf Orders.Oldest source g table capacity count = byPick (machineOf g tabl
 chooserOf Orders.Picks source g table capacity count = byPick (machineOf g table capacity count) (byPicks (machineOf g table capacity count)) (picksOf source)
 chooserOf Orders.Log source g table capacity count = byName (machineOf g table capacity count) NotEnabled (namesIn source)
 chooserOf Orders.Places source g table capacity count = byPlace (machineOf g table capacity count) NotEnabled (picksOf source)
+chooserOf (Orders.Free k) source g table capacity count = byFree (machineOf g table capacity count) (heldIn g k) (byPicks (machineOf g table capacity count)) (picksOf source)
 
 abbrev pub chooserFor : Order → (source : List ℕ) → (g : List Instruction) (tables ledger cells : List ℕ) → Chooser (machineFor g tables ledger cells)
 chooserFor order source g tables ledger cells = chooserOf order source g (arraysIn tables) (length ledger / tokenWidth) (length cells / cellWidth)
@@ -51,6 +60,60 @@ chooserFor order source g tables ledger cells = chooserOf order source g (arrays
 abbrev pub ByPicks : Order → (picks : List ℕ) → Type 0
 ByPicks order picks = (g : List Instruction) (table : List NamedArray) (capacity count : ℕ)
     → chooserOf order picks g table capacity count ≡ byPick (machineOf g table capacity count) (byPicks (machineOf g table capacity count)) (picksOf picks)
+
+-- nothing is held back
+abbrev pub Plain : Order → Type 0
+Plain Orders.Oldest = Unit {0}
+Plain Orders.Picks = Unit {0}
+Plain Orders.Log = Unit {0}
+Plain Orders.Places = Unit {0}
+Plain (Orders.Free k) = ⊥
+
+-- ---- what is held back, if the order looks at it
+
+-- the flags of the held are flags of enabled ones
+abbrev pub Beside : Order → (flags held : List ℕ) → Type 0
+Beside Orders.Oldest flags held = Unit {0}
+Beside Orders.Picks flags held = Unit {0}
+Beside Orders.Log flags held = Unit {0}
+Beside Orders.Places flags held = Unit {0}
+Beside (Orders.Free k) flags held = Counted held × Under (flagsOf held) (flagsOf flags)
+
+abbrev pub HeldBack : Order → List Instruction → (flags held ledger : List ℕ) → (used : ℕ) → Type 0
+HeldBack Orders.Oldest g flags held ledger used = Unit {0}
+HeldBack Orders.Picks g flags held ledger used = Unit {0}
+HeldBack Orders.Log g flags held ledger used = Unit {0}
+HeldBack Orders.Places g flags held ledger used = Unit {0}
+HeldBack (Orders.Free k) g flags held ledger used = Decided g k flags held ledger used
+
+-- what is kept of it between firings
+pub record Holding (g : List Instruction) (k : ℕ) (tables flags ledger : List ℕ) (used : ℕ) (nexts held marks : List ℕ) : Type 0 where
+  pub bound : (0 < k) × (k < 65536)
+  pub kept : Kept g tables flags ledger k used nexts held marks
+
+abbrev pub Bounding : Order → List Instruction → (tables flags ledger : List ℕ) → (used : ℕ) → (nexts held marks : List ℕ) → Type 0
+Bounding Orders.Oldest g tables flags ledger used nexts held marks = Unit {0}
+Bounding Orders.Picks g tables flags ledger used nexts held marks = Unit {0}
+Bounding Orders.Log g tables flags ledger used nexts held marks = Unit {0}
+Bounding Orders.Places g tables flags ledger used nexts held marks = Unit {0}
+Bounding (Orders.Free k) g tables flags ledger used nexts held marks = Holding g k tables flags ledger used nexts held marks
+
+-- and right after one, which left n tokens where there were `used`
+pub record Followed (g : List Instruction) (k : ℕ) (tables flags ledger : List ℕ) (used n : ℕ) (nexts held marks : List ℕ) : Type 0 where
+  pub arities : Arities g tables
+  pub grown : used ≤ n
+  pub room : (n ≤ length ledger / tokenWidth) × (n ≤ 2048)
+  pub bound : (0 < k) × (k < 65536)
+  pub counted : Counted flags
+  pub unspent : FlagsUnspent (flagsOf flags) ledger n
+  pub carried : Carried g tables ledger k used nexts held marks
+
+abbrev pub FiredOn : Order → List Instruction → (tables flags ledger : List ℕ) → (used n : ℕ) → (nexts held marks : List ℕ) → Type 0
+FiredOn Orders.Oldest g tables flags ledger used n nexts held marks = Unit {0}
+FiredOn Orders.Picks g tables flags ledger used n nexts held marks = Unit {0}
+FiredOn Orders.Log g tables flags ledger used n nexts held marks = Unit {0}
+FiredOn Orders.Places g tables flags ledger used n nexts held marks = Unit {0}
+FiredOn (Orders.Free k) g tables flags ledger used n nexts held marks = Followed g k tables flags ledger used n nexts held marks
 
 -- ---- a choice
 
@@ -76,8 +139,8 @@ Chooses (Choices.At place) chosen tables ledger used = Takes place chosen tables
 Chooses (Choices.Ended o) chosen tables ledger used = Ends o chosen
 
 -- the choice of a turn after f firings, for every graph whose tables these are and every store of cells
-abbrev pub ChosenAs : Choice → Order → (source : List ℕ) → (f : ℕ) → (tables ledger : List ℕ) → (used : ℕ) → Type 0
-ChosenAs r order source f tables ledger used = (g : List Instruction) → Arities g tables → Arrived g (tokens used ledger) → (table : List NamedArray) (capacity count : ℕ) (cs : List Cell)
+abbrev pub ChosenAs : Choice → Order → (source : List ℕ) → (f : ℕ) → (tables flags held ledger : List ℕ) → (used : ℕ) → Type 0
+ChosenAs r order source f tables flags held ledger used = (g : List Instruction) → Arities g tables → Arrived g (tokens used ledger) → HeldBack order g flags held ledger used → (table : List NamedArray) (capacity count : ℕ) (cs : List Cell)
     → Chooses r (chooserOf order source g table capacity count f (stateHeld (tokens used ledger) cs)) tables ledger used
 
 -- ---- a turn, by what was chosen, whoever chose it; `asks` is what an activity asks for
@@ -135,3 +198,33 @@ pub record Proceeded (e : End Refusal Tag ℤ) (r : Answer) (g : List Instructio
   pub size : length ledger′ ≡ length ledger
   pub rest : drop (r .tokens * tokenWidth) ledger′ ≡ drop (r .tokens * tokenWidth) ledger
   pub cellSize : length cells′ ≡ length cells
+
+-- ---- with a bound (02, R-9)
+
+-- "If only held ones remain, the answer is hung, at a used-up budget too.": the answer of the turns, and what is made of it
+pub data Settled (tables flags held ledger : List ℕ) (own r : Answer) : Type 0 where
+  restsThere : length (places (minus (flagsOf flags) (flagsOf held))) ≡ 0 → (o : AnswerOutcome.Outcome) → EndsAs o tables (tokens (own .tokens) ledger)
+      → r ≡ record { outcome = o; firings = own .firings; tokens = own .tokens } → Settled tables flags held ledger own r
+  asItWas : ¬ (length (places (minus (flagsOf flags) (flagsOf held))) ≡ 0) → r ≡ own → Settled tables flags held ledger own r
+
+-- the end of a run with a bound, which is none where it is 0, and its log
+abbrev pub endBounded : (bound : ℕ) → (picks : List ℕ) → List Instruction → (tables ledger cells : List ℕ) → (used budget : ℕ) → End Refusal Tag ℤ
+endBounded k picks g tables ledger cells used budget =
+    let M = machineFor g tables ledger cells in
+    runBounded M (heldIn g k) (byPicks M) budget (picksOf picks) 0 (stateIn ledger cells used)
+
+abbrev pub firedBounded : (bound : ℕ) → (picks : List ℕ) → List Instruction → (tables ledger cells : List ℕ) → (used budget : ℕ) → List Tag
+firedBounded k picks g tables ledger cells used budget =
+    let M = machineFor g tables ledger cells in
+    logBounded M (heldIn g k) (byPicks M) budget (picksOf picks) (stateIn ledger cells used)
+
+-- from the inputs, in the words of the rules
+abbrev pub endFromInputs : (bound : ℕ) → (picks : List ℕ) → (budget : ℕ) → (graph arrays inputs ledger cells : List ℕ) → End Refusal Tag ℤ
+endFromInputs k picks budget graph arrays inputs ledger cells =
+    let M = machineLent graph arrays ledger cells in
+    runBounded M (heldIn (graphOf graph) k) (byPicks M) budget (picksOf picks) 0 (firstState inputs (length cells / cellWidth))
+
+abbrev pub firedFromInputs : (bound : ℕ) → (picks : List ℕ) → (budget : ℕ) → (graph arrays inputs ledger cells : List ℕ) → List Tag
+firedFromInputs k picks budget graph arrays inputs ledger cells =
+    let M = machineLent graph arrays ledger cells in
+    logBounded M (heldIn (graphOf graph) k) (byPicks M) budget (picksOf picks) (firstState inputs (length cells / cellWidth))

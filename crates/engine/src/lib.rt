@@ -1,5 +1,6 @@
 // The engine: a graph and its inputs are checked, and fired under picks. A run may write a log.
 use checks::arrays;
+use checks::bound;
 use checks::graph;
 use checks::stores;
 use fire_commit::Fired;
@@ -13,39 +14,39 @@ use rules::answer::Checked;
 use rules::answer::Outcome;
 use rules::answer::Refusal;
 use store_chains::Found;
-ghost use Prim.Native.Nat.{ℕ, _/_, _%_, _<_};
+ghost use Prim.Native.Nat.{ℕ, _/_, _%_, _≤_, _<_};
 ghost use mathlib.Core.Path.{_≡_};
-ghost use mathlib.Core.List.{[]};
+ghost use mathlib.Core.List.{List, []};
 ghost use mathlib.Core.Option.{none};
 ghost use lib.ListN.{length, getD};
 ghost use Rattle.record.specs.GraphRecords.{graphOf};
 ghost use Rattle.record.specs.Logs.{tagNamed};
 ghost use Rattle.record.specs.TokensAndTags.{tokenAt};
 ghost use Rattle.record.specs.Widths.{tokenWidth, cellWidth};
-ghost use Rattle.machine.specs.Machine.{byPicks};
-ghost use Rattle.machine.specs.Machine.{run as Machine·run};
-ghost use Rattle.machine.specs.Sequences.{logOf};
 ghost use Rattle.rules.specs.Answer.{valuesChecked};
 ghost use Rattle.rules.specs.Check.{checkGraph};
-ghost use Rattle.rules.specs.Run.{picksOf, firstState, Ran};
+ghost use Rattle.rules.specs.Run.{Ran};
+ghost use Rattle.rules.specs.Bounded.{BoundCarriedOn};
 ghost use Rattle.rules.specs.Log.{namesIn};
-ghost use Rattle.rules.specs.Saved.{CarriedOn};
 ghost use Rattle.store_enabled.specs.Store.{Known};
 ghost use Rattle.store.specs.Matching.{Matching};
 ghost use Rattle.fire.specs.Running.{stateIn, askedIn, Prepared, Running};
-ghost use Rattle.start.specs.Begun.{machineLent, Accepted};
+ghost use Rattle.store_flags.specs.Flags.{Under, flagsOf, Counted};
+ghost use Rattle.start.specs.Begun.{Accepted};
 ghost use Rattle.start.specs.Ended.{EndedAt};
-ghost use Rattle.engine.specs.Promise.{lentToRun, leftByRun, RanOn, lentToLogged, leftByLogged, LoggedOn};
+ghost use Rattle.engine.specs.Promise.{lentToRun, leftByRun, BoundedOn, lentToLogged, leftByLogged, BoundLoggedOn};
 ghost use Rattle.engine.specs.Resumed.{lentChecked, Lent, resumed};
-ghost use Rattle.engine.specs.Turns.{chooserFor, ByPicks, Flagged, ChosenAs, Turned, endOf, firedBy, noted, recorded, Proceeded};
-ghost use Rattle.engine.specs.declared.Order.the-variants.{Oldest, Picks, Log, Places};
+ghost use Rattle.engine.specs.Turns.{chooserFor, ByPicks, Plain, Flagged, Beside, HeldBack, ChosenAs, Turned, endOf, firedBy, noted, recorded, Proceeded, Bounding, FiredOn, Settled, endBounded, firedBounded, endFromInputs, firedFromInputs};
+ghost use Rattle.engine.specs.declared.Order.the-variants.{Oldest, Picks, Log, Places, Free};
 
-// How the activity of a turn is chosen: the first of all, by picks, by the records of a log, or by places, 2 bytes each as picks.
+// How the activity of a turn is chosen: the first of all, by picks, by the records of a log, by places, 2 bytes each as picks, or by
+// picks among those that a bound does not hold back.
 pub enum Order {
     Oldest,
     Picks,
     Log,
     Places,
+    Free(usize),
 }
 
 // What is chosen for a turn: the enabled activity at a place; or the run is at its end.
@@ -71,7 +72,7 @@ fn number_of(pick: usize, e: usize) -> usize
 // The first of the enabled activities.
 fn oldest(tables: &[u16; 641], flags: &[u64; 69], ledger: &[u8], used: usize) -> Choice
     requires { ⌜ Flagged (now tables) (now flags) (now ledger) used ⌝ }
-    ensures { λ r. ⌜ ChosenAs r Oldest [] 0 (now (tables .entry)) (now (ledger .entry)) used ⌝ }
+    ensures { λ r. ⌜ ((flags held : List ℕ) → ChosenAs r Oldest [] 0 (now (tables .entry)) flags held (now (ledger .entry)) used) ⌝ }
 {
     if store::enabled_count(flags) == 0 {
         Choice::Ended(ending::ending(tables, ledger, used))
@@ -90,7 +91,7 @@ fn by_pick(
     firings: usize,
 ) -> Choice
     requires { ⌜ Flagged (now tables) (now flags) (now ledger) used ⌝ }
-    ensures { λ r. ⌜ ChosenAs r Picks (now (picks .entry)) firings (now (tables .entry)) (now (ledger .entry)) used ⌝ }
+    ensures { λ r. ⌜ ((flags held : List ℕ) → ChosenAs r Picks (now (picks .entry)) firings (now (tables .entry)) flags held (now (ledger .entry)) used) ⌝ }
 {
     let e = store::enabled_count(flags);
     if e == 0 {
@@ -120,7 +121,7 @@ fn by_record(
     firings: usize,
 ) -> Choice
     requires { ⌜ Known (now links) (now ledger) used ⌝ }
-    ensures { λ r. ⌜ ChosenAs r Log (now (log .entry)) firings (now (tables .entry)) (now (ledger .entry)) used ⌝ }
+    ensures { λ r. ⌜ ((flags held : List ℕ) → ChosenAs r Log (now (log .entry)) firings (now (tables .entry)) flags held (now (ledger .entry)) used) ⌝ }
 {
     let not_enabled = Choice::Ended(Outcome::Refused(Refusal::NotEnabled, firings));
     let Named::Activity(tag) = name_at(log, firings) else {
@@ -142,7 +143,7 @@ fn by_place(
     firings: usize,
 ) -> Choice
     requires { ⌜ Flagged (now tables) (now flags) (now ledger) used ⌝ }
-    ensures { λ r. ⌜ ChosenAs r Places (now (places .entry)) firings (now (tables .entry)) (now (ledger .entry)) used ⌝ }
+    ensures { λ r. ⌜ ((flags held : List ℕ) → ChosenAs r Places (now (places .entry)) firings (now (tables .entry)) flags held (now (ledger .entry)) used) ⌝ }
 {
     let place = load::pick_at(places, firings);
     if place < used {
@@ -153,6 +154,27 @@ fn by_place(
     Choice::Ended(Outcome::Refused(Refusal::NotEnabled, firings))
 }
 
+// 02, R-9: the one that the pick of this turn takes of those that are not held back.
+fn by_free(
+    tables: &[u16; 641],
+    flags: &[u64; 69],
+    held: &[u64; 69],
+    ledger: &[u8],
+    used: usize,
+    picks: &[u8],
+    firings: usize,
+) -> Choice
+    requires { ⌜ Flagged (now tables) (now flags) (now ledger) used × Counted (now held) × Under (flagsOf (now held)) (flagsOf (now flags)) ⌝ }
+    ensures { λ r. ⌜ ((bound : ℕ) → ChosenAs r (Free bound) (now (picks .entry)) firings (now (tables .entry)) (now (flags .entry)) (now (held .entry)) (now (ledger .entry)) used) ⌝ }
+{
+    let e = store_flags::count_but(flags, held);
+    if e == 0 {
+        return Choice::Ended(ending::ending(tables, ledger, used));
+    }
+    let number = number_of(load::pick_at(picks, firings), e);
+    Choice::At(store_flags::select_but(flags, held, number))
+}
+
 // The choice of a turn.
 fn choose(
     order: Order,
@@ -161,17 +183,19 @@ fn choose(
     tables: &[u16; 641],
     links: &[u16; 9216],
     flags: &[u64; 69],
+    held: &[u64; 69],
     ledger: &[u8],
     used: usize,
 ) -> Choice
-    requires { ⌜ Matching (now tables) (now links) (now flags) (now ledger) used ⌝ }
-    ensures { λ r. ⌜ ChosenAs r order (now (source .entry)) firings (now (tables .entry)) (now (ledger .entry)) used ⌝ }
+    requires { ⌜ Matching (now tables) (now links) (now flags) (now ledger) used × Beside order (now flags) (now held) ⌝ }
+    ensures { λ r. ⌜ ChosenAs r order (now (source .entry)) firings (now (tables .entry)) (now (flags .entry)) (now (held .entry)) (now (ledger .entry)) used ⌝ }
 {
     match order {
         Order::Oldest => oldest(tables, flags, ledger, used),
         Order::Picks => by_pick(tables, flags, ledger, used, source, firings),
         Order::Log => by_record(tables, links, ledger, used, source, firings),
         Order::Places => by_place(tables, flags, ledger, used, source, firings),
+        Order::Free(_) => by_free(tables, flags, held, ledger, used, source, firings),
     }
 }
 
@@ -184,14 +208,25 @@ fn take_turn(
     firings: usize,
     links: &mut [u16; 9216],
     flags: &mut [u64; 69],
+    held: &[u64; 69],
     ledger: &mut [u8],
     cells: &mut [u8],
     used: usize,
 ) -> Turn
-    requires { ⌜ Prepared (now graph) (now tables) × Running (graphOf (now graph)) (now tables) (now links) (now flags) (now ledger) (now cells) used ⌝ }
+    requires { ⌜ Prepared (now graph) (now tables) × Running (graphOf (now graph)) (now tables) (now links) (now flags) (now ledger) (now cells) used × Beside order (now flags) (now held) × HeldBack order (graphOf (now graph)) (now flags) (now held) (now ledger) used ⌝ }
     ensures { λ r. ⌜ Turned r (graphOf (now (graph .entry))) (chooserFor order (now (source .entry)) (graphOf (now (graph .entry))) (now (tables .entry)) (now (ledger .entry)) (now (cells .entry)) firings (stateIn (now (ledger .entry)) (now (cells .entry)) used)) (askedIn (graphOf (now (graph .entry))) (now (tables .entry)) (now (ledger .entry)) (now (cells .entry)) used) (now (tables .entry)) (now (links .exit)) (now (flags .exit)) (now (ledger .exit)) (now (cells .exit)) used (now (ledger .entry)) (now (cells .entry)) ⌝ }
 {
-    let chosen = choose(order, source, firings, tables, links, flags, ledger, used);
+    let chosen = choose(
+        order,
+        source,
+        firings,
+        tables,
+        links,
+        flags,
+        held,
+        ledger,
+        used,
+    );
     let place = match chosen {
         Choice::Ended(outcome) => return Turn::Ended(outcome),
         Choice::At(place) => place,
@@ -220,22 +255,64 @@ pub struct Going {
     pub budget: usize,
 }
 
-// A run goes on from a state, and notes each firing. Whoever chooses, this is the loop: runs, replays and the steps of profiles.
-pub fn proceed(
+// 02, R-9: after a firing of the activity at a place, which left n tokens where there were `used`, the held activities are known again.
+fn follow(
+    order: Order,
+    graph: &[u8],
+    tables: &[u16; 641],
+    flags: &[u64; 69],
+    ledger: &[u8],
+    used: usize,
+    n: usize,
+    place: usize,
+    nexts: &mut [u64; 69],
+    held: &mut [u64; 69],
+    marks: &mut [u16],
+)
+    requires { ⌜ FiredOn order (graphOf (now graph)) (now tables) (now flags) (now ledger) used n (now nexts) (now held) (now marks) ⌝ }
+    ensures { λ _. ⌜ Bounding order (graphOf (now (graph .entry))) (now (tables .entry)) (now (flags .entry)) (now (ledger .entry)) n (now (nexts .exit)) (now (held .exit)) (now (marks .exit)) ⌝ }
+{
+    match order {
+        Order::Free(bound) => held::follow(
+            graph,
+            tables,
+            flags,
+            ledger,
+            used,
+            n,
+            place,
+            bound,
+            nexts,
+            held,
+            marks,
+        ),
+        Order::Oldest => {}
+        Order::Picks => {}
+        Order::Log => {}
+        Order::Places => {}
+    }
+}
+
+// A run goes on from a state, and notes each firing. Whoever chooses, this is the loop.
+fn turns(
     graph: &[u8],
     tables: &[u16; 641],
     order: Order,
     source: &[u8],
     links: &mut [u16; 9216],
     flags: &mut [u64; 69],
+    nexts: &mut [u64; 69],
+    held: &mut [u64; 69],
+    marks: &mut [u16],
     ledger: &mut [u8],
     cells: &mut [u8],
     log: &mut [u8],
     going: Going,
 ) -> Answer
-    requires { ⌜ Prepared (now graph) (now tables) × Running (graphOf (now graph)) (now tables) (now links) (now flags) (now ledger) (now cells) (going .used) ⌝ }
+    requires { ⌜ Prepared (now graph) (now tables) × Running (graphOf (now graph)) (now tables) (now links) (now flags) (now ledger) (now cells) (going .used) × Bounding order (graphOf (now graph)) (now tables) (now flags) (now ledger) (going .used) (now nexts) (now held) (now marks) ⌝ }
     ensures { λ r. ⌜ Proceeded (endOf order (now (source .entry)) (graphOf (now (graph .entry))) (now (tables .entry)) (now (ledger .entry)) (now (cells .entry)) (going .used) (going .budget)) r (graphOf (now (graph .entry))) (now (tables .entry)) (now (links .exit)) (now (flags .exit)) (now (ledger .exit)) (now (cells .exit)) (going .used) (now (ledger .entry)) (now (cells .entry)) ⌝ }
     ensures { λ _. ⌜ now (log .exit) ≡ recorded (firedBy order (now (source .entry)) (graphOf (now (graph .entry))) (now (tables .entry)) (now (ledger .entry)) (now (cells .entry)) (going .used) (going .budget)) (now (log .entry)) ⌝ }
+    ensures { λ r. ⌜ Bounding order (graphOf (now (graph .entry))) (now (tables .entry)) (now (flags .exit)) (now (ledger .exit)) (r .tokens) (now (nexts .exit)) (now (held .exit)) (now (marks .exit)) ⌝ }
 {
     let budget = going.budget;
     let mut used = going.used;
@@ -249,6 +326,7 @@ pub fn proceed(
             firings,
             links,
             flags,
+            held,
             ledger,
             cells,
             used,
@@ -257,6 +335,19 @@ pub fn proceed(
             Turn::Fired(n, place) => {
                 // After a firing: the activity has its tag at its place, and there are n tokens.
                 note(log, firings, ledger, place);
+                follow(
+                    order,
+                    graph,
+                    tables,
+                    flags,
+                    ledger,
+                    used,
+                    n,
+                    place,
+                    nexts,
+                    held,
+                    marks,
+                );
                 used = n;
                 firings += 1;
             }
@@ -267,15 +358,168 @@ pub fn proceed(
     answer::answered(outcome, firings, used)
 }
 
+// The same where nothing is held back: runs, replays and the steps of profiles.
+pub fn proceed(
+    graph: &[u8],
+    tables: &[u16; 641],
+    order: Order,
+    source: &[u8],
+    links: &mut [u16; 9216],
+    flags: &mut [u64; 69],
+    ledger: &mut [u8],
+    cells: &mut [u8],
+    log: &mut [u8],
+    going: Going,
+) -> Answer
+    requires { ⌜ Prepared (now graph) (now tables) × Running (graphOf (now graph)) (now tables) (now links) (now flags) (now ledger) (now cells) (going .used) × Plain order ⌝ }
+    ensures { λ r. ⌜ Proceeded (endOf order (now (source .entry)) (graphOf (now (graph .entry))) (now (tables .entry)) (now (ledger .entry)) (now (cells .entry)) (going .used) (going .budget)) r (graphOf (now (graph .entry))) (now (tables .entry)) (now (links .exit)) (now (flags .exit)) (now (ledger .exit)) (now (cells .exit)) (going .used) (now (ledger .entry)) (now (cells .entry)) ⌝ }
+    ensures { λ _. ⌜ now (log .exit) ≡ recorded (firedBy order (now (source .entry)) (graphOf (now (graph .entry))) (now (tables .entry)) (now (ledger .entry)) (now (cells .entry)) (going .used) (going .budget)) (now (log .entry)) ⌝ }
+{
+    let mut nexts = [0u64; 69];
+    let mut held = [0u64; 69];
+    let mut marks = [0u16; 0];
+    turns(
+        graph,
+        tables,
+        order,
+        source,
+        links,
+        flags,
+        &mut nexts,
+        &mut held,
+        &mut marks,
+        ledger,
+        cells,
+        log,
+        going,
+    )
+}
+
 // Without picks the first is taken each time, and needs no number.
 fn order_of(picks: &[u8]) -> Order
-    ensures { λ r. ⌜ ByPicks r (now (picks .entry)) ⌝ }
+    ensures { λ r. ⌜ ByPicks r (now (picks .entry)) × Plain r ⌝ }
 {
     if picks.len() == 0 {
         Order::Oldest
     } else {
         Order::Picks
     }
+}
+
+// "If only held ones remain, the answer is hung, at a used-up budget too.": what a run with a bound answered, where it ended.
+fn settle(
+    tables: &[u16; 641],
+    flags: &[u64; 69],
+    held: &[u64; 69],
+    ledger: &[u8],
+    own: Answer,
+) -> Answer
+    requires { ⌜ Counted (now flags) × Counted (now held) × Under (flagsOf (now held)) (flagsOf (now flags)) × (own .tokens ≤ length (now ledger) / tokenWidth) ⌝ }
+    ensures { λ r. ⌜ Settled (now (tables .entry)) (now (flags .entry)) (now (held .entry)) (now (ledger .entry)) own r ⌝ }
+{
+    if store_flags::count_but(flags, held) == 0 {
+        let outcome = ending::ending(tables, ledger, own.tokens);
+        return answer::answered(outcome, own.firings, own.tokens);
+    }
+    own
+}
+
+// 02, R-9: a run with a bound goes on from a state under picks.
+fn proceed_bounded(
+    graph: &[u8],
+    tables: &[u16; 641],
+    picks: &[u8],
+    bound: usize,
+    links: &mut [u16; 9216],
+    flags: &mut [u64; 69],
+    ledger: &mut [u8],
+    cells: &mut [u8],
+    log: &mut [u8],
+    going: Going,
+) -> Answer
+    requires { ⌜ Prepared (now graph) (now tables) × Running (graphOf (now graph)) (now tables) (now links) (now flags) (now ledger) (now cells) (going .used) × (0 < bound) × (bound < 65536) ⌝ }
+    ensures { λ r. ⌜ EndedAt (endBounded bound (now (picks .entry)) (graphOf (now (graph .entry))) (now (tables .entry)) (now (ledger .entry)) (now (cells .entry)) (going .used) (going .budget)) r (now (ledger .entry)) (now (cells .entry)) (now (ledger .exit)) (now (cells .exit)) ⌝ }
+    ensures { λ _. ⌜ now (log .exit) ≡ recorded (firedBounded bound (now (picks .entry)) (graphOf (now (graph .entry))) (now (tables .entry)) (now (ledger .entry)) (now (cells .entry)) (going .used) (going .budget)) (now (log .entry)) ⌝ }
+{
+    let mut nexts = [0u64; 69];
+    let mut held = [0u64; 69];
+    let mut marks = [0u16; 4096];
+    let order = Order::Free(bound);
+    follow(
+        order,
+        graph,
+        tables,
+        flags,
+        ledger,
+        0,
+        going.used,
+        0,
+        &mut nexts,
+        &mut held,
+        &mut marks,
+    );
+    let own = turns(
+        graph,
+        tables,
+        order,
+        picks,
+        links,
+        flags,
+        &mut nexts,
+        &mut held,
+        &mut marks,
+        ledger,
+        cells,
+        log,
+        going,
+    );
+    settle(tables, flags, &held, ledger, own)
+}
+
+// A run goes on from a state under picks, with a bound or, where it is 0, without one.
+fn go_on(
+    graph: &[u8],
+    tables: &[u16; 641],
+    picks: &[u8],
+    bound: usize,
+    links: &mut [u16; 9216],
+    flags: &mut [u64; 69],
+    ledger: &mut [u8],
+    cells: &mut [u8],
+    log: &mut [u8],
+    going: Going,
+) -> Answer
+    requires { ⌜ Prepared (now graph) (now tables) × Running (graphOf (now graph)) (now tables) (now links) (now flags) (now ledger) (now cells) (going .used) × (bound < 65536) ⌝ }
+    ensures { λ r. ⌜ EndedAt (endBounded bound (now (picks .entry)) (graphOf (now (graph .entry))) (now (tables .entry)) (now (ledger .entry)) (now (cells .entry)) (going .used) (going .budget)) r (now (ledger .entry)) (now (cells .entry)) (now (ledger .exit)) (now (cells .exit)) ⌝ }
+    ensures { λ _. ⌜ now (log .exit) ≡ recorded (firedBounded bound (now (picks .entry)) (graphOf (now (graph .entry))) (now (tables .entry)) (now (ledger .entry)) (now (cells .entry)) (going .used) (going .budget)) (now (log .entry)) ⌝ }
+{
+    if bound != 0 {
+        return proceed_bounded(
+            graph,
+            tables,
+            picks,
+            bound,
+            links,
+            flags,
+            ledger,
+            cells,
+            log,
+            going,
+        );
+    }
+    let order = order_of(picks);
+    proceed(
+        graph,
+        tables,
+        order,
+        picks,
+        links,
+        flags,
+        ledger,
+        cells,
+        log,
+        going,
+    )
 }
 
 // A run that passed every check: all cells are set absent, the inputs go into the ledger, and it
@@ -286,13 +530,14 @@ fn accepted(
     inputs: &[u8],
     picks: &[u8],
     budget: usize,
+    bound: usize,
     ledger: &mut [u8],
     cells: &mut [u8],
     log: &mut [u8],
 ) -> Answer
-    requires { ⌜ Accepted (now graph) (now arrays) (now inputs) (length (now ledger)) (length (now cells)) ⌝ }
-    ensures { λ r. ⌜ EndedAt (Machine·run (machineLent (now (graph .entry)) (now (arrays .entry)) (now (ledger .entry)) (now (cells .entry))) budget (picksOf (now (picks .entry))) (firstState (now (inputs .entry)) (length (now (cells .entry)) / cellWidth))) r (now (ledger .entry)) (now (cells .entry)) (now (ledger .exit)) (now (cells .exit)) ⌝ }
-    ensures { λ _. ⌜ now (log .exit) ≡ recorded (logOf (machineLent (now (graph .entry)) (now (arrays .entry)) (now (ledger .entry)) (now (cells .entry))) (byPicks (machineLent (now (graph .entry)) (now (arrays .entry)) (now (ledger .entry)) (now (cells .entry)))) budget (picksOf (now (picks .entry))) (firstState (now (inputs .entry)) (length (now (cells .entry)) / cellWidth))) (now (log .entry)) ⌝ }
+    requires { ⌜ Accepted (now graph) (now arrays) (now inputs) (length (now ledger)) (length (now cells)) × (bound < 65536) ⌝ }
+    ensures { λ r. ⌜ EndedAt (endFromInputs bound (now (picks .entry)) budget (now (graph .entry)) (now (arrays .entry)) (now (inputs .entry)) (now (ledger .entry)) (now (cells .entry))) r (now (ledger .entry)) (now (cells .entry)) (now (ledger .exit)) (now (cells .exit)) ⌝ }
+    ensures { λ _. ⌜ now (log .exit) ≡ recorded (firedFromInputs bound (now (picks .entry)) budget (now (graph .entry)) (now (arrays .entry)) (now (inputs .entry)) (now (ledger .entry)) (now (cells .entry))) (now (log .entry)) ⌝ }
 {
     let mut tables = [0u16; 641];
     let mut links = [0u16; 9216];
@@ -307,11 +552,11 @@ fn accepted(
         ledger,
         cells,
     );
-    proceed(
+    go_on(
         graph,
         &tables,
-        order_of(picks),
         picks,
+        bound,
         &mut links,
         &mut flags,
         ledger,
@@ -321,16 +566,23 @@ fn accepted(
     )
 }
 
-// The check of what is lent beside a saved state: the graph, then picks, ledger and cells by their lengths in bytes, then the
-// table of named arrays.
-fn check_lent(graph: &[u8], arrays: &[u8], picks: usize, ledger: usize, cells: usize) -> Checked
-    ensures { λ r. ⌜ r ≡ lentChecked (now (graph .entry)) (now (arrays .entry)) picks ledger cells ⌝ }
+// The check of what is lent beside a saved state: the graph, then picks, ledger and cells by their lengths in bytes, then the bound
+// and the table of named arrays.
+fn check_lent(
+    graph: &[u8],
+    arrays: &[u8],
+    picks: usize,
+    bound: usize,
+    ledger: usize,
+    cells: usize,
+) -> Checked
+    ensures { λ r. ⌜ r ≡ lentChecked (now (graph .entry)) (now (arrays .entry)) picks bound ledger cells ⌝ }
 {
     let of_graph = graph::check(graph);
     let Checked::Passed = of_graph else {
         return of_graph;
     };
-    let of_stores = stores::check(0, picks, ledger, cells);
+    let of_stores = bound::check(stores::check(0, picks, ledger, cells), bound);
     let Checked::Passed = of_stores else {
         return of_stores;
     };
@@ -343,13 +595,14 @@ fn resume(
     arrays: &[u8],
     picks: &[u8],
     budget: usize,
+    bound: usize,
     firings: usize,
     used: usize,
     ledger: &mut [u8],
     cells: &mut [u8],
 ) -> Answer
-    requires { ⌜ Lent (now graph) (now arrays) (length (now ledger)) (length (now cells)) × (budget < 65536) × (firings < 65536) ⌝ }
-    ensures { λ r. ⌜ Ran (resumed (now (graph .entry)) (now (arrays .entry)) (now (picks .entry)) budget (now (ledger .entry)) (now (cells .entry)) firings used) r (now (ledger .entry)) (now (ledger .exit)) (now (cells .entry)) (now (cells .exit)) ⌝ }
+    requires { ⌜ Lent (now graph) (now arrays) (length (now ledger)) (length (now cells)) × (budget < 65536) × (firings < 65536) × (bound < 65536) ⌝ }
+    ensures { λ r. ⌜ Ran (resumed (now (graph .entry)) (now (arrays .entry)) (now (picks .entry)) budget bound (now (ledger .entry)) (now (cells .entry)) firings used) r (now (ledger .entry)) (now (ledger .exit)) (now (cells .entry)) (now (cells .exit)) ⌝ }
 {
     let mut tables = [0u16; 641];
     let mut links = [0u16; 9216];
@@ -368,11 +621,11 @@ fn resume(
         return answer::refused(Refusal::DamagedState, 0);
     }
     let mut none = [0u8; 0];
-    let own = proceed(
+    let own = go_on(
         graph,
         &tables,
-        order_of(picks),
         picks,
+        bound,
         &mut links,
         &mut flags,
         ledger,
@@ -391,19 +644,21 @@ pub fn check_graph(graph: &[u8]) -> Checked
     graph::check(graph)
 }
 
-// A run over lent bytes: its answer, and what it leaves in ledger and cells, are what the rules give.
+// A run over lent bytes: its answer, and what it leaves in ledger and cells, are what the rules give. The bound is 0 for none.
 pub fn run(
     graph: &[u8],
     arrays: &[u8],
     inputs: &[u8],
     picks: &[u8],
     budget: u16,
+    bound: u16,
     ledger: &mut [u8],
     cells: &mut [u8],
 ) -> Answer
-    ensures { λ r. ⌜ RanOn (now (graph .entry)) (now (arrays .entry)) (now (inputs .entry)) budget (lentToRun (now (picks .entry)) (now (ledger .entry)) (now (cells .entry))) (leftByRun r (now (ledger .exit)) (now (cells .exit))) ⌝ }
+    ensures { λ r. ⌜ BoundedOn (now (graph .entry)) (now (arrays .entry)) (now (inputs .entry)) budget bound (lentToRun (now (picks .entry)) (now (ledger .entry)) (now (cells .entry))) (leftByRun r (now (ledger .exit)) (now (cells .exit))) ⌝ }
 {
-    let checked = checks::check(graph, arrays, inputs, picks, ledger.len(), cells.len());
+    let k = bound as usize;
+    let checked = checks::check_bounded(graph, arrays, inputs, picks, k, ledger.len(), cells.len());
     match checked {
         Checked::Failed(r, place) => answer::refused(r, place),
         Checked::Passed => {
@@ -414,6 +669,7 @@ pub fn run(
                 inputs,
                 picks,
                 budget as usize,
+                k,
                 ledger,
                 cells,
                 &mut none,
@@ -429,44 +685,49 @@ pub fn run_logged(
     inputs: &[u8],
     picks: &[u8],
     budget: u16,
+    bound: u16,
     ledger: &mut [u8],
     cells: &mut [u8],
     log: &mut [u8],
 ) -> Answer
-    ensures { λ r. ⌜ LoggedOn (now (graph .entry)) (now (arrays .entry)) (now (inputs .entry)) (lentToLogged (now (picks .entry)) budget (now (ledger .entry)) (now (cells .entry)) (now (log .entry))) (leftByLogged r (now (ledger .exit)) (now (cells .exit)) (now (log .exit))) ⌝ }
+    ensures { λ r. ⌜ BoundLoggedOn (now (graph .entry)) (now (arrays .entry)) (now (inputs .entry)) bound (lentToLogged (now (picks .entry)) budget (now (ledger .entry)) (now (cells .entry)) (now (log .entry))) (leftByLogged r (now (ledger .exit)) (now (cells .exit)) (now (log .exit))) ⌝ }
 {
     let firings = budget as usize;
+    let k = bound as usize;
     let checked = checks::check_logged(
         graph,
         arrays,
         inputs,
         picks,
         firings,
+        k,
         ledger.len(),
         cells.len(),
         log.len(),
     );
     match checked {
         Checked::Failed(r, place) => answer::refused(r, place),
-        Checked::Passed => accepted(graph, arrays, inputs, picks, firings, ledger, cells, log),
+        Checked::Passed => accepted(graph, arrays, inputs, picks, firings, k, ledger, cells, log),
     }
 }
 
 // 02, R-13: a run goes on from a saved state, the first tokens of the ledger, the cells and the two counts of the answer so far.
-// The budget and the picks are those of this part; the answer counts all firings.
+// The budget, the bound and the picks are those of this part; the answer counts all firings.
 pub fn carry_on(
     graph: &[u8],
     arrays: &[u8],
     picks: &[u8],
     budget: u16,
+    bound: u16,
     firings: u16,
     tokens: u16,
     ledger: &mut [u8],
     cells: &mut [u8],
 ) -> Answer
-    ensures { λ r. ⌜ CarriedOn (now (graph .entry)) (now (arrays .entry)) (now (picks .entry)) budget firings tokens r (now (ledger .entry)) (now (ledger .exit)) (now (cells .entry)) (now (cells .exit)) ⌝ }
+    ensures { λ r. ⌜ BoundCarriedOn (now (graph .entry)) (now (arrays .entry)) (now (picks .entry)) budget bound firings tokens r (now (ledger .entry)) (now (ledger .exit)) (now (cells .entry)) (now (cells .exit)) ⌝ }
 {
-    let checked = check_lent(graph, arrays, picks.len(), ledger.len(), cells.len());
+    let k = bound as usize;
+    let checked = check_lent(graph, arrays, picks.len(), k, ledger.len(), cells.len());
     match checked {
         Checked::Failed(r, place) => answer::refused(r, place),
         Checked::Passed => resume(
@@ -474,6 +735,7 @@ pub fn carry_on(
             arrays,
             picks,
             budget as usize,
+            k,
             firings as usize,
             tokens as usize,
             ledger,

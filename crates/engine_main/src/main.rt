@@ -167,7 +167,7 @@ fn show(
 )
     requires { ⌜ (length (now ledger) ≡ length (now «lent_ledger»)) × (length (now cells) ≡ length (now «lent_cells»)) ⌝ }
 {
-    let answer = engine::run(graph, b"", inputs, picks, budget, ledger, cells);
+    let answer = engine::run(graph, b"", inputs, picks, budget, 0, ledger, cells);
     say_left(answer, first, ledger, cells, lent_ledger, lent_cells);
 }
 

@@ -1,3 +1,4 @@
+-- Working definition: no public promise cites it.
 -- What is kept while an expression is gone through: the records named so far, and the instruction of each record. Assumes nothing.
 use Prim.Native.Nat.{ℕ, _<_}
 use mathlib.Core.Path.{_≡_}

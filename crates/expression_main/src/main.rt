@@ -113,7 +113,7 @@ fn say_out(ledger: &[u8], out: usize) {
 fn say_run(name: &[u8], graph: &[u8], inputs: &[u8], picks: &[u8], out: usize) {
     let mut ledger = [0u8; 300 * token::WIDTH];
     let mut cells = [0u8; 8];
-    let a: Answer = engine::run(graph, b"", inputs, picks, 2048, &mut ledger, &mut cells);
+    let a: Answer = engine::run(graph, b"", inputs, picks, 2048, 0, &mut ledger, &mut cells);
     let outcome = a.outcome;
     say(name);
     say_number(b"word ", answer::word(outcome) as usize);

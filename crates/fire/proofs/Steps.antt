@@ -315,10 +315,6 @@ module _ (graph : List ℕ) {tables links flags ledger cells : List ℕ} {used :
   unfolding commit
   asks-refusal σ e = record { step = ap (commit M₁ s₁ σ) e; running = now; sameLedger = refl; sameCells = refl }
 
-  pub stopped-missing : matchedAt (arityIn (graphOf graph) (tokenAt ledger place .tag)) (tokens used ledger) (tokenAt ledger place .tag) ≡ Missing
-      → Stopped SecondToken (graphOf graph) (tokenAt ledger place .tag) (askedIn (graphOf graph) tables ledger cells used (tokenAt ledger place .tag)) tables links flags ledger cells used ledger cells
-  stopped-missing e = asks-refusal (tokenAt ledger place .tag) (asked-missing graph (ready .passed) now (tokenAt ledger place .tag) (arity-small (graphOf graph) (tokenAt ledger place .tag)) e)
-
   -- the operands that matching found, and the token that the code read at the place
   module _ (t : Record.Token) (same : t ≡ tokenAt ledger place) (i j : ℕ) (v w : ℤ)
       (matched : matchedAt (arityIn (graphOf graph) (tokenAt ledger place .tag)) (tokens used ledger) (tokenAt ledger place .tag) ≡ Both i j v w) where

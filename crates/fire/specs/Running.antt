@@ -1,3 +1,4 @@
+-- Working definition: no public promise cites it.
 -- What holds between firings of the arrays, the ledger and the cells, and what a firing makes of them in the terms of the machine. Assumes nothing.
 use Prim.Native.Nat.{ℕ, _*_, _/_, _≤_, _<_}
 use mathlib.Core.Path.{_≡_}

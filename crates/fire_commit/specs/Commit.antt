@@ -1,3 +1,4 @@
+-- Working definition: no public promise cites it.
 -- What comes of an action and its outputs on a ledger's tokens and on the cells, as lists of their records. proofs/ joins this with the machine's `commit`.
 -- Assumes nothing.
 use Prim.Native.Nat.{ℕ, _≤_}

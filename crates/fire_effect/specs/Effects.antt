@@ -1,3 +1,4 @@
+-- Working definition: no public promise cites it.
 -- What the values of this crate say in the terms of the machine: keys, outputs and actions; an effect of the rules in the order of Memo 205-1, the
 -- operation and then the new tags; and what the functions are lent. Assumes nothing.
 use Prim.Native.Nat.{ℕ, zero, suc, _/_, _<_, _≤_}

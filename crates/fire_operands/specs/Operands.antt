@@ -1,3 +1,4 @@
+-- Working definition: no public promise cites it.
 -- The operands of a tag among a ledger's tokens, and whether a firing's outputs can go in, as searches of the tokens. proofs/ joins them with the
 -- machine's definitions. Assumes nothing.
 use Prim.Native.Nat.{ℕ, zero, suc, _+_, _<_}

@@ -1,3 +1,4 @@
+-- Working definition: no public promise cites it.
 -- What a firing makes of a ledger's tokens and of the cells, as lists of their records, and what the code keeps beside the bytes. Assumes nothing.
 use Prim.Native.Nat.{ℕ, zero, suc, _*_, _/_, _≤_, _<_}
 use mathlib.Core.Path.{_≡_}

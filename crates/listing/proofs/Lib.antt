@@ -13,3 +13,4 @@ pub mod AnyTwoOrders
 pub mod Demand3
 pub mod Examples
 pub mod SavedOrders
+pub mod BoundedOrders

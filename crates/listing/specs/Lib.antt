@@ -6,3 +6,4 @@ pub mod Positions
 pub mod Dealt
 pub mod Demand3
 pub mod SavedOrders
+pub mod BoundedOrders

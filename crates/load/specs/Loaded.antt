@@ -1,3 +1,4 @@
+-- Working definition: no public promise cites it.
 -- What holds once the inputs are in the ledger, and the picks as a list that is used up from its front. Assumes nothing.
 use Prim.Native.Nat.{ℕ, _*_, _/_, _<_}
 use mathlib.Core.Path.{_≡_}

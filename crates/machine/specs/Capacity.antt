@@ -1,3 +1,4 @@
+-- Working definition: no public promise cites it.
 -- R-12, "The ledger a graph really takes": one machine with another capacity. The statements, over any machine with a lawful instruction set; they are
 -- proved in proofs/Capacity. Assumes nothing.
 use mathlib.Core.Path.{_≡_}

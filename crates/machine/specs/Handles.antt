@@ -1,3 +1,4 @@
+-- Working definition: no public promise cites it.
 -- A machine that works on handles: what stands for a value is its number in a table, and an effect may add to the table. Entries never change, so that a handle keeps
 -- its meaning. Such a run goes in step with the run over the values themselves. The statements; proved in proofs/Handles. Assumes nothing.
 use mathlib.Core.Path.{_≡_}

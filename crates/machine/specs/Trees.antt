@@ -1,3 +1,4 @@
+-- Working definition: no public promise cites it.
 -- A tree of activities: each sends one token to one port, and what comes to a port comes from the inputs or from one activity before. Stated of its runs: in
 -- every order the result receives the tree's value, or the run is refused. Proved in proofs/Trees. Assumes nothing.
 use mathlib.Core.Path.{_≡_}

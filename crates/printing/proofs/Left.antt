@@ -1,7 +1,7 @@
 -- What the proofs of the functions cite: the used records of a ledger are listed (`listed`), and what a run leaves of zeros is what is printed (`left-printed`).
 -- Assumes nothing.
 use Prim.Native.Nat.{ℕ, _-_, _*_, _≤_}
-use mathlib.Core.Path.{_≡_, ap, _∙_}
+use mathlib.Core.Path.{_≡_, ap, subst, _∙_}
 use mathlib.Core.List.{List, _++_}
 use native.Mathlib.Omega.{arith}
 use lib.ListN.{length, take, replicate, length-replicate}
@@ -9,7 +9,9 @@ use lib.Seq.{length-take-le, take-at}
 use Rattle.record.specs.TokensAndTags.{mostTokens, capacityOf}
 use Rattle.record.specs.Widths.{tokenWidth}
 use Rattle.rules.specs.declared.answer.Answer.{Answer}
-use Rattle.rules.specs.Run.{result, Ran}
+use Rattle.rules.specs.Run.{Result, result, Ran}
+use Rattle.rules.specs.Bounded.{bounded}
+use Rattle.rules.proofs.Bounded.{bound-zero}
 use Rattle.rules.proofs.Small.{answer-small}
 use Rattle.listing.specs.Listing.{listing, outAfter}
 use Rattle.listing.proofs.Answers.{Lengths, answers-done}
@@ -28,6 +30,12 @@ listed ledger sorted x rest t few fits room e =
     let done : x ≡ listing used = e ∙ ap (λ (k : ℕ). outAfter (take k ledger) (take k sorted)) all ∙ answers-done used (take n sorted) lengths .1 in
     let long : length x ≡ n = ap length done ∙ length-listing used (omega arith) ∙ size in
     ap (λ (k : ℕ). take k (x ++ rest)) all ∙ take-at x rest n long ∙ done
+
+-- a run with bound 0 is one without
+pub without-bound : (graph arrays inputs picks : List ℕ) (budget size count : ℕ) {r : Answer} {ledger ledger′ cells cells′ : List ℕ} → Ran (bounded graph arrays inputs picks budget 0 size count) r ledger ledger′ cells cells′
+    → Ran (result graph arrays inputs picks budget size count) r ledger ledger′ cells cells′
+without-bound graph arrays inputs picks budget size count {r} {ledger} {ledger′} {cells} {cells′} ran =
+    subst (λ (x : Result). Ran x r ledger ledger′ cells cells′) (bound-zero .ofRun graph arrays inputs picks budget size count) ran
 
 -- a run answers no more tokens than a ledger can have
 pub few-tokens : (graph arrays inputs picks : List ℕ) (budget size count : ℕ) {r : Answer} {ledger ledger′ cells cells′ : List ℕ} → Ran (result graph arrays inputs picks budget size count) r ledger ledger′ cells cells′ → r .tokens ≤ mostTokens

@@ -54,6 +54,7 @@ pub fn print_run(
         inputs,
         picks,
         BUDGET,
+        0,
         &mut ledger,
         &mut cells,
     );

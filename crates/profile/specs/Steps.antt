@@ -1,3 +1,4 @@
+-- Working definition: no public promise cites it.
 -- A profile, a step at a time, in the terms of the machine: what a step leaves, and what a profile leaves. Assumes nothing.
 use Prim.Native.Nat.{ℕ, zero, suc, _+_, _*_, _≤_, _<_}
 use mathlib.Core.Path.{_≡_}

@@ -1,3 +1,4 @@
+-- Working definition: no public promise cites it.
 -- The answer of an operation over ranges, as the definitions have it. Assumes nothing.
 use mathlib.Core.Option.{Option, none, some}
 use Rattle.arithmetic.specs.declared.Range.{Range}

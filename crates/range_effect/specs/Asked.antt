@@ -1,3 +1,4 @@
+-- Working definition: no public promise cites it.
 -- What an operation over handles asks for and adds to the table, in the order of Memo 205-1: the operation, then the new tags. Assumes nothing.
 use Prim.Native.Nat.{ℕ}
 use mathlib.Core.Path.{_≡_}

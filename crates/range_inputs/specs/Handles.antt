@@ -1,3 +1,4 @@
+-- Working definition: no public promise cites it.
 -- The inputs of a range run as handles, in bytes. Assumes nothing.
 use Prim.Native.Nat.{ℕ, zero, suc, _+_, _*_, _/_, _≤_}
 use mathlib.Core.Path.{_≡_}

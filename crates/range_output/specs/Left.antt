@@ -1,3 +1,4 @@
+-- Working definition: no public promise cites it.
 -- Tokens and cells over handles, read through the table of ranges: what a range run leaves of them. Assumes nothing.
 use Prim.Native.Nat.{ℕ}
 use mathlib.Core.List.{List, map}

@@ -1,3 +1,4 @@
+-- Working definition: no public promise cites it.
 -- The table of a range run in bytes: pairs of a low and a high value. Assumes nothing.
 use Prim.Native.Nat.{ℕ, _+_}
 use mathlib.Core.Path.{_≡_}

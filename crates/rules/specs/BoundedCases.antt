@@ -1,3 +1,4 @@
+-- Working definition: no public promise cites it.
 -- Worked cases of 02, R-9, as one table over bytes: which tokens hold a NEXT back, and runs with a bound. proofs/BoundedCases has the one fact over it. Assumes nothing.
 use Prim.Native.Nat.{ℕ, _+_, _*_}
 use mathlib.Core.Bool.{Bool, true, false}

@@ -1,3 +1,4 @@
+-- Working definition: no public promise cites it.
 -- 02, R-12, "The ledger a graph really takes", over the rules. The statements; they are proved in proofs/Capacity. Assumes nothing.
 use Prim.Native.Nat.{ℕ, _≤_, _<_}
 use mathlib.Core.Path.{_≡_}

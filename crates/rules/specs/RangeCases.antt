@@ -1,3 +1,4 @@
+-- Working definition: no public promise cites it.
 -- 02, R-11: worked cases of records and of whole range runs, as tables over bytes. proofs/RangeCases has one fact over each. Assumes nothing.
 use Prim.Native.Nat.{ℕ, _*_}
 use mathlib.Core.List.{List, [], _∷_, _++_}

@@ -1,3 +1,4 @@
+-- Working definition: no public promise cites it.
 -- 02, R-11, over handles: a token's 32-bit value is the number of a range in a table, so that the engine, which looks at no value, stays as it is. One new range for
 -- each input and at most one for each firing; range 0 is that of the single value 0, which is what a signal and an absent cell hold. All but CONST and the
 -- arithmetic is the plain effect, with a decided control and a single cell put in their places. Assumes nothing.

@@ -1,3 +1,4 @@
+-- Working definition: no public promise cites it.
 -- 02, R-13: what is asked of a saved state, record by record, as a pass over its tokens and one over its cells ask it: all conditions give one answer. Assumes nothing.
 use Prim.Native.Nat.{ℕ, zero, suc, _-_, _*_, _/_, _<_}
 use mathlib.Core.Path.{_≡_}

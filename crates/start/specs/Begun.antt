@@ -1,3 +1,4 @@
+-- Working definition: no public promise cites it.
 -- 01, "Firing": "An accepted run first sets all cells absent and writes its inputs to the ledger." What it is lent, and what holds then.
 -- Assumes nothing.
 use Prim.Native.Nat.{ℕ, _*_, _/_, _%_, _≤_}

@@ -1,3 +1,4 @@
+-- Working definition: no public promise cites it.
 -- What a run, a profile or a replay that came to an end of the machine answers, and leaves in ledger and cells. Assumes nothing.
 use mathlib.Core.Path.{_≡_}
 use mathlib.Core.List.{List, map}

@@ -1,3 +1,4 @@
+-- Working definition: no public promise cites it.
 -- The invariant of the matching store; what becomes of a token that is spent is in `store_enabled`, and passed on here. Assumes nothing.
 use Prim.Native.Nat.{ℕ}
 use mathlib.Core.List.{List}

@@ -1,3 +1,4 @@
+-- Working definition: no public promise cites it.
 -- Chains through the places of a ledger, and how they stand in one array. `heads` has the last place of each chain, `next` for each place the one before it in its chain,
 -- as place + 1 and 0 for none. A place with key 0 is in no chain, one with key c + 1 in chain c. Assumes nothing.
 use Prim.Native.Nat.{ℕ, zero, suc, _+_, _*_, _/_, _%_, _≤_, _<_}

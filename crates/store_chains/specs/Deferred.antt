@@ -1,3 +1,4 @@
+-- Working definition: no public promise cites it.
 -- Tokens that are deferred on a cell, and what a write of the cell makes of them. Assumes nothing.
 use Prim.Native.Nat.{ℕ, suc, _<_}
 use mathlib.Core.Bool.{Bool, false, _||_, cond}

@@ -1,3 +1,4 @@
+-- Working definition: no public promise cites it.
 -- A search of a list from its front. Assumes nothing.
 use Prim.Native.Nat.{ℕ, zero, suc, _<_}
 use mathlib.Core.Path.{_≡_}

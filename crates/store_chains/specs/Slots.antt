@@ -1,3 +1,4 @@
+-- Working definition: no public promise cites it.
 -- Where a token may arrive. Assumes nothing.
 use Prim.Native.Nat.{ℕ, _-_}
 use mathlib.Core.Path.{_≡_}

@@ -1,3 +1,4 @@
+-- Working definition: no public promise cites it.
 -- 01, "Firing": "An activity is enabled when all operands of its tag are live; OUT never is. Its place is the ledger position of its earliest
 -- operand. Enabled activities stand in order of place, each counted once." Assumes nothing.
 use Prim.Native.Nat.{ℕ, _+_}

@@ -1,3 +1,4 @@
+-- Working definition: no public promise cites it.
 -- What is kept beside the used records of a ledger: the chains by tag, and the flags of the enabled activities with their counts.
 -- Assumes nothing.
 use Prim.Native.Nat.{ℕ, _+_, _-_, _*_, _/_, _≤_, _<_}

@@ -1,3 +1,4 @@
+-- Working definition: no public promise cites it.
 -- Flags of 0 or 1 in a list: how many are 1 and at which places they stand. And how they are kept, in 69 words: 64 in a word,
 -- then a word that says which words have any, then the counts by blocks of 64 and by groups of 512.
 -- Assumes nothing.

@@ -1,3 +1,4 @@
+-- Working definition: no public promise cites it.
 -- The flags of the enabled activities of a ledger, from the tags of its tokens in order of arrival and the test which tags are enabled:
 -- an activity's place is that of its earliest token, and each activity is counted once. Over any kind of tag. Assumes nothing.
 use Prim.Native.Nat.{ℕ, suc, _-_}

@@ -1,3 +1,4 @@
+-- Working definition: no public promise cites it.
 -- What the contracts of the private functions cite: a text put in place into a buffer, and digits by their number. Assumes nothing.
 use Prim.Native.Nat.{ℕ, zero, suc, _+_, _*_, _/_, _%_, _≤_, _<_}
 use mathlib.Core.Bool.{cond}

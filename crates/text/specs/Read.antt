@@ -1,3 +1,4 @@
+-- Working definition: no public promise cites it.
 -- A decimal number read back from its bytes: what is said of `decimal`. Assumes nothing.
 use Prim.Native.Nat.{ℕ, _+_, _-_, _*_}
 use mathlib.Core.List.{List, [], _∷_}

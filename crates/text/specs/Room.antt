@@ -1,3 +1,4 @@
+-- Working definition: no public promise cites it.
 -- The length of a text: what its lines have at most, and what an answer holds, as a machine has it, where that is said of the first. Assumes nothing.
 use Prim.Native.Nat.{ℕ, _+_, _*_, _/_, _^_, _<_}
 use mathlib.Core.List.{List}

@@ -17,7 +17,7 @@ pub const NO_ANSWER: u64 = Printed::NO_ANSWER.0;
 
 /// Whether a word is the number of a refusal. Numbers 15 and 16 have left the table.
 pub fn is_refusal(word: u64) -> bool {
-    matches!(word, 1..=14 | 17..=20 | 22 | 24..=26)
+    matches!(word, 1..=14 | 17..=22 | 24..=26)
 }
 
 /// The packed answer of a word with its firings, tokens and place.
@@ -66,12 +66,6 @@ pub fn unpacked(answer: u64) -> (u64, u64, u64, u64) {
     (word.into(), firings.into(), tokens.into(), place.into())
 }
 
-/// The picks and the budget of a schedule without a bound; the C functions take none.
-fn unbounded(schedule: Schedule<'_>) -> (&[u8], u16) {
-    assert_eq!(schedule.bound, 0, "the engine takes no bound");
-    (schedule.picks, schedule.budget)
-}
-
 /// Runs the engine.
 pub fn run(
     program: Program,
@@ -81,8 +75,12 @@ pub fn run(
     cells: &mut [u8],
 ) -> u64 {
     let Program { graph, arrays } = program;
-    let (picks, budget) = unbounded(schedule);
-    ttda::run(graph, arrays, inputs, picks, budget, ledger, cells).0
+    let Schedule {
+        picks,
+        budget,
+        bound,
+    } = schedule;
+    ttda::run(graph, arrays, inputs, picks, budget, bound, ledger, cells).0
 }
 
 /// Goes on from the state that ledger and cells hold.
@@ -94,9 +92,16 @@ pub fn carry_on(
     cells: &mut [u8],
 ) -> u64 {
     let Program { graph, arrays } = program;
-    let (picks, budget) = unbounded(schedule);
+    let Schedule {
+        picks,
+        budget,
+        bound,
+    } = schedule;
     let Counts { firings, tokens } = saved;
-    ttda::carry_on(graph, arrays, picks, budget, firings, tokens, ledger, cells).0
+    ttda::carry_on(
+        graph, arrays, picks, budget, bound, firings, tokens, ledger, cells,
+    )
+    .0
 }
 
 /// The engine's profile in ideal steps; the answer and the number of records.
@@ -124,8 +129,15 @@ pub fn run_logged(
     log: &mut [u8],
 ) -> u64 {
     let Program { graph, arrays } = program;
-    let (picks, budget) = unbounded(schedule);
-    ttda::run_logged(graph, arrays, inputs, picks, budget, ledger, cells, log).0
+    let Schedule {
+        picks,
+        budget,
+        bound,
+    } = schedule;
+    ttda::run_logged(
+        graph, arrays, inputs, picks, budget, bound, ledger, cells, log,
+    )
+    .0
 }
 
 /// Fires what a log names.

@@ -1,5 +1,5 @@
-//! Loop bounding (02, R-9): bounded runs of the second emulator, what 02 claims of them,
-//! and what is tallied. The engine takes no bound; replays of these runs are compared.
+//! Loop bounding (02, R-9): bounded runs, whole, logged and cut in two, what 02 claims of them,
+//! and what is tallied.
 
 use layout::NEXT;
 use second::{Counts, Held, Outcome, LOG_RECORD, TOKEN_RECORD};

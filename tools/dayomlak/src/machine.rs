@@ -116,7 +116,7 @@ impl<'p> Machine<'p> {
             return self.carry_on(state, picks, budget);
         }
         let (graph, arrays, inputs) = self.lent();
-        self.call(|ledger, cells| ttda::run(graph, arrays, inputs, picks, budget, ledger, cells))
+        self.call(|ledger, cells| ttda::run(graph, arrays, inputs, picks, budget, 0, ledger, cells))
     }
 
     /// Goes on from a state. Budget and picks are those of this part.
@@ -132,6 +132,7 @@ impl<'p> Machine<'p> {
             arrays,
             picks,
             budget,
+            0,
             firings,
             tokens,
             &mut ledger,
@@ -196,7 +197,7 @@ impl<'p> Machine<'p> {
         let (graph, arrays, inputs) = self.lent();
         let end = self.call(|ledger, cells| {
             ttda::run_logged(
-                graph, arrays, inputs, picks, budget, ledger, cells, &mut log,
+                graph, arrays, inputs, picks, budget, 0, ledger, cells, &mut log,
             )
         });
         log.truncate(LOGGED * end.answer.firings);

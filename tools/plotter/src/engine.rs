@@ -83,6 +83,7 @@ impl Engine for Library {
             &asked.inputs,
             &asked.picks,
             asked.budget,
+            0,
             &mut ledger,
             &mut cells,
         );
@@ -124,6 +125,7 @@ impl Engine for Library {
             &asked.picks,
             kept.budget,
             asked.budget,
+            0,
             TOKEN * usize::from(kept.capacity),
             TOKEN * usize::from(asked.capacity),
             CELL * usize::from(kept.cells),

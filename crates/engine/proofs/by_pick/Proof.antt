@@ -16,7 +16,7 @@ unfolding picksOf
 by-pick-spec = tie.close (tie.spec
     (λ c κs. matching-counted (c .before .before .pre .matching))
     (λ c κs. matching-room (c .before .before .before .before .pre .matching))
-    (λ c. λ g right arrived table capacity count cs.
+    (λ c. λ flags held g right arrived back table capacity count cs.
     let n = c .before .before in
     let s = n .before .before .before in
     pick-none (s .args .tables .now) (s .args .ledger .now) (s .args .used) g right arrived table capacity count cs (picksOf (s .args .picks .now)) (s .args .firings)
@@ -27,7 +27,7 @@ by-pick-spec = tie.close (tie.spec
     let n = c .before .before .before in
     let low : c .number-of .result < n .enabled-count .result = rw (c .number-of .ensures) (mod-lt (c .before .pick-at .result) (omega (arith, c .before .before .if1 .left))) in
     (matching-counted (c .before .before .before .before .before .before .pre .matching), subst (λ (k : ℕ). c .number-of .result < k) (n .enabled-count .ensures) low))
-    (λ c. λ g right arrived table capacity count cs.
+    (λ c. λ flags held g right arrived back table capacity count cs.
     let n = c .before .before .before .before in
     let s = n .before .before .before in
     let m = s .pre .matching in

@@ -12,7 +12,7 @@ by-record-spec = tie.close (tie.spec
     (λ c κs. search needs)
     (λ c. search needs)
     (λ c. search needs)
-    (λ c. λ g right arrived table capacity count cs.
+    (λ c. λ flags held g right arrived back table capacity count cs.
     let n = c .before .before in
     let s = n .before .before .before in
     names-nothing (s .args .tables .now) (s .args .ledger .now) (s .args .used) g right arrived table capacity count cs (namesIn (s .args .log .now)) (s .args .firings)
@@ -20,14 +20,14 @@ by-record-spec = tie.close (tie.spec
     (λ c κs. search needs)
     (λ c. search needs)
     (λ c. search needs)
-    (λ c. λ g right arrived table capacity count cs.
+    (λ c. λ flags held g right arrived back table capacity count cs.
     let e = c .before .before in
     let t = e .before .before in
     let n = t .before .before in
     let s = n .before .before .before in
     names-none (s .args .tables .now) (s .args .ledger .now) (s .args .used) g right arrived table capacity count cs (namesIn (s .args .log .now)) (s .args .firings) _
     (sym (ap tagNamed (t .tag .given .1)) ∙ n .name-at .ensures) _ (e .enabled-by-tag .ensures .0) (c .enum-told2 .given .1))
-    (λ c. λ g right arrived table capacity count cs.
+    (λ c. λ flags held g right arrived back table capacity count cs.
     let p = c .before in
     let e = p .before .before in
     let t = e .before .before in

@@ -15,15 +15,15 @@ carry-on-spec = tie.close (tie.spec
     (λ c κs.
     let k = c .before .before .before .before in
     let a = k .before .before .before .before .before .before .args in
-    (lent (a .graph .now) (a .arrays .now) (a .picks .now) (a .ledger .now) (a .cells .now) (a .budget) (a .firings) (a .tokens) (sym (k .check-lent .ensures) ∙ c .before .before .enum-told .given .1), omega arith, omega arith))
+    (lent (a .graph .now) (a .arrays .now) (a .picks .now) (a .ledger .now) (a .cells .now) (a .budget) (a .bound) (a .firings) (a .tokens) (sym (k .check-lent .ensures) ∙ c .before .before .enum-told .given .1), omega arith, omega arith, omega arith))
     (λ c.
     let k = c .before .before .before .before in
     let a = k .before .before .before .before .before .before .args in
-    failed (a .graph .now) (a .arrays .now) (a .picks .now) (a .ledger .now) (a .cells .now) (a .budget) (a .firings) (a .tokens) _ _ (sym (k .check-lent .ensures) ∙ c .before .before .checked .given .1) _ (c .refused .ensures))
+    failed (a .graph .now) (a .arrays .now) (a .picks .now) (a .ledger .now) (a .cells .now) (a .budget) (a .bound) (a .firings) (a .tokens) _ _ (sym (k .check-lent .ensures) ∙ c .before .before .checked .given .1) _ (c .refused .ensures))
     (λ c. search needs)
     (λ c. search needs)
     (λ c.
     let r = c .before .before .before .before in
     let k = r .before .before .before .before .before in
     let a = k .before .before .before .before .before .before .args in
-    rw (lent-passed (a .graph .now) (a .arrays .now) (a .picks .now) (a .ledger .now) (a .cells .now) (a .budget) (a .firings) (a .tokens) (sym (k .check-lent .ensures) ∙ r .before .before .before .enum-told .given .1)) (r .resume .ensures)))
+    rw (lent-passed (a .graph .now) (a .arrays .now) (a .picks .now) (a .ledger .now) (a .cells .now) (a .budget) (a .bound) (a .firings) (a .tokens) (sym (k .check-lent .ensures) ∙ r .before .before .before .enum-told .given .1)) (r .resume .ensures)))

@@ -1,4 +1,5 @@
 -- `engine::choose` meets its contract. Assumes nothing.
+use mathlib.Core.List.{[]}
 use borrow.Author.Needs.{needs}
 use Rattle.store.proofs.Laws.{matching-known}
 use Rattle.engine.proofs.choose.Statement.{statement}
@@ -7,14 +8,20 @@ use Rattle.engine.proofs.choose.Tie as tie
 pub choose-spec : {M : Type 1} → statement M
 choose-spec = tie.close (tie.spec
     (λ c. search needs)
-    (λ c κs. record { links = c .before .before .before .before .args .links .now; matching = c .before .before .before .before .pre })
+    (λ c κs. record { links = c .before .before .before .before .args .links .now; matching = c .before .before .before .before .pre .0 })
     (λ c. search needs)
-    (λ c κs. record { links = c .before .before .before .before .args .links .now; matching = c .before .before .before .before .pre })
+    (λ c κs. record { links = c .before .before .before .before .args .links .now; matching = c .before .before .before .before .pre .0 })
     (λ c. search needs)
-    (λ c κs. matching-known (c .before .before .before .before .pre))
+    (λ c κs. matching-known (c .before .before .before .before .pre .0))
     (λ c. search needs)
-    (λ c κs. record { links = c .before .before .before .before .args .links .now; matching = c .before .before .before .before .pre })
-    (λ c. rw (c .before .enum-told .given .1) (c .oldest .ensures))
-    (λ c. rw (c .before .enum-told2 .given .1) (c .by-pick .ensures))
-    (λ c. rw (c .before .enum-told3 .given .1) (c .by-record .ensures))
-    (λ c. rw (c .before .enum-told4 .given .1) (c .by-place .ensures)))
+    (λ c κs. record { links = c .before .before .before .before .args .links .now; matching = c .before .before .before .before .pre .0 })
+    (λ c. search needs)
+    (λ c κs.
+    let s = c .before .before .before .before in
+    let beside = rw (c .enum-told5 .given .1) at (s .pre .1) in
+    (record { links = s .args .links .now; matching = s .pre .0 }, beside .0, beside .1))
+    (λ c. rw (c .before .enum-told .given .1) (c .oldest .ensures [] []))
+    (λ c. rw (c .before .enum-told2 .given .1) (c .by-pick .ensures [] []))
+    (λ c. rw (c .before .enum-told3 .given .1) (c .by-record .ensures [] []))
+    (λ c. rw (c .before .enum-told4 .given .1) (c .by-place .ensures [] []))
+    (λ c. rw (c .before .enum-told5 .given .1) (c .by-free .ensures (c .before .enum-told5 .given .0 .0))))

@@ -15,12 +15,12 @@ oldest-spec = tie.close (tie.spec
     (λ c κs. matching-counted (c .before .pre .matching))
     (λ c κs. matching-room (c .before .before .before .pre .matching))
     (λ c κs. (matching-counted (c .before .before .before .pre .matching), omega (arith, c .before .enabled-count .ensures, c .if1 .left)))
-    (λ c. λ g right arrived table capacity count cs.
+    (λ c. λ flags held g right arrived back table capacity count cs.
     let n = c .before .before in
     let s = n .before .before in
     pick-none (s .args .tables .now) (s .args .ledger .now) (s .args .used) g right arrived table capacity count cs [] 0
     (sym (n .enabled-count .ensures ∙ ap length (matching-places (s .pre .matching))) ∙ c .before .if1 .taken) _ (c .ending .ensures))
-    (λ c. λ g right arrived table capacity count cs.
+    (λ c. λ flags held g right arrived back table capacity count cs.
     let n = c .before .before in
     let s = n .before .before in
     let m = s .pre .matching in

@@ -3,9 +3,7 @@ use mathlib.Core.Path.{refl, sym, _∙_}
 use native.Mathlib.Omega.{arith}
 use borrow.Author.Needs.{needs}
 use borrow.Author.Tests.{not-true, not-false}
-use Rattle.record.specs.GraphRecords.{graphOf}
 use Rattle.fire.specs.Running.{Prepared}
-use Rattle.engine.proofs.Accepting.{ended-by-picks}
 use Rattle.engine.proofs.Resuming.{own-few, goes-on, refuses}
 use Rattle.engine.proofs.resume.Statement.{statement}
 use Rattle.engine.proofs.resume.Tie as tie
@@ -28,31 +26,26 @@ resume-spec = tie.close (tie.spec
     (λ c. search needs)
     (λ c.
     let k = c .before .before in
-    let a = k .before .before .before .before .before .before .before .before .before .before .before .before .before .args in
-    refuses (a .graph .now) (a .arrays .now) (a .picks .now) (a .ledger .now) (a .cells .now) (a .budget) (a .firings) (a .used)
+    let a = c .before .before .before .before .before .before .before .before .before .before .before .before .before .before .before .args in
+    refuses (a .graph .now) (a .arrays .now) (a .picks .now) (a .ledger .now) (a .cells .now) (a .budget) (a .bound) (a .firings) (a .used)
     (sym (not-true (k .take .result) (c .before .if1 .taken)) ∙ k .take .ensures .0) _ _ (c .refused .ensures) refl)
-    (λ c κs. search needs)
     (λ c. search needs)
     (λ c κs.
-    let k = c .before .before .before .before .before .before .before .before in
-    (prepared (k .before .before .before .before .before .before), k .take .ensures .1 (not-false (k .take .result) (c .before .before .before .before .before .before .before .if1 .left))))
+    let k = c .before .before .before .before .before .before .before in
+    (prepared (c .before .before .before .before .before .before .before .before .before .before .before .before .before), k .take .ensures .1 (not-false (k .take .result) (c .before .before .before .before .before .before .if1 .left)), c .before .before .before .before .before .before .before .before .before .before .before .before .before .before .before .before .before .before .before .before .pre .3))
     (λ c.
-    let p = c .before .before .before .before .before .before in
-    let o = p .before .before .before .before .before .before in
-    let m = o .before .before .before .before .before .before .before .before .before in
-    let s = m .before .before .before .before .before .before .before in
+    let p = c .before .before .before .before .before .before .go-on in
+    let m = c .before .before .before .before .before .before .before .before .before .before .before .before .before .before .before .before .before .before .before .before in
+    let s = c .before .before .before .before .before .before .before .before .before .before .before .before .before .before .before .before .before .before .before .before .before .before .before .before .before .before .before in
     let a = s .args in
-    let e = ended-by-picks (o .order-of .result) (a .picks .now) (o .order-of .ensures) (graphOf (a .graph .now)) _ _ _ _ _ (p .proceed .ensures .0) in
-    omega (arith, own-few (a .graph .now) (a .arrays .now) (a .picks .now) (a .ledger .now) (a .cells .now) (a .budget) (a .firings) (a .used) _ (m .make .ensures .named) _ _ _ e, s .pre .1, s .pre .2))
+    omega (arith, own-few (a .graph .now) (a .arrays .now) (a .picks .now) (a .ledger .now) (a .cells .now) (a .budget) (a .bound) (a .firings) (a .used) _ (m .make .ensures .named) _ _ _ (p .ensures .0), s .pre .1, s .pre .2))
     (λ c κs. search needs)
     (λ c. search needs)
     (λ c. search needs)
     (λ c.
-    let p = c .before .before .before .before .before .before .before in
-    let o = p .before .before .before .before .before .before in
-    let k = o .before .before .before in
-    let m = k .before .before .before .before .before .before in
-    let a = m .before .before .before .before .before .before .before .args in
-    let e = ended-by-picks (o .order-of .result) (a .picks .now) (o .order-of .ensures) (graphOf (a .graph .now)) _ _ _ _ _ (p .proceed .ensures .0) in
-    goes-on (a .graph .now) (a .arrays .now) (a .picks .now) (a .ledger .now) (a .cells .now) (a .budget) (a .firings) (a .used) _ (m .make .ensures .named)
-    (sym (not-false (k .take .result) (o .before .before .if1 .left)) ∙ k .take .ensures .0) (p .proceed .result) _ _ _ e (c .answered .ensures)))
+    let p = c .before .before .before .before .before .before .before .go-on in
+    let k = c .before .before .before .before .before .before .before .before .before .before .before .before .before .before .before in
+    let m = c .before .before .before .before .before .before .before .before .before .before .before .before .before .before .before .before .before .before .before .before .before in
+    let a = c .before .before .before .before .before .before .before .before .before .before .before .before .before .before .before .before .before .before .before .before .before .before .before .before .before .before .before .before .args in
+    goes-on (a .graph .now) (a .arrays .now) (a .picks .now) (a .ledger .now) (a .cells .now) (a .budget) (a .bound) (a .firings) (a .used) _ (m .make .ensures .named)
+    (sym (not-false (k .take .result) (c .before .before .before .before .before .before .before .before .before .before .before .before .before .before .if1 .left)) ∙ k .take .ensures .0) (p .result) _ _ _ (p .ensures .0) (c .answered .ensures)))

@@ -1,15 +1,17 @@
 -- `engine::run` meets its contract: a check that failed leaves everything as lent, and an accepted run ends as the rules say. Assumes nothing.
 use mathlib.Core.Path.{refl, sym, ap, _∙_}
 use lib.ListN.{length}
+use native.Mathlib.Omega.{arith}
 use borrow.Author.Needs.{needs}
 use Rattle.rules.specs.Answer.{valuesOf}
-use Rattle.rules.specs.Run.{result, unlessFailed, answer, ledgerAfter, cellsAfter}
-use Rattle.start.proofs.Starting.{accepted-by}
+use Rattle.rules.specs.Run.{unlessFailed, answer, ledgerAfter, cellsAfter}
+use Rattle.rules.specs.Bounded.{bounded}
+use Rattle.engine.proofs.Accepting.{accepted-bounded}
 use Rattle.engine.proofs.run.Statement.{statement}
 use Rattle.engine.proofs.run.Tie as tie
 
 pub run-spec : {M : Type 1} → statement M
-unfolding result unlessFailed answer ledgerAfter cellsAfter
+unfolding bounded unlessFailed answer ledgerAfter cellsAfter
 run-spec =
     tie.close
     (tie.spec
@@ -20,14 +22,14 @@ run-spec =
     (λ c. search needs)
     (λ c κs.
     let a = c .before .before .before .before .before .before .before .before .before .before .before .before .args in
-    accepted-by (a .graph .now) (a .arrays .now) (a .inputs .now) (a .picks .now) (length (a .ledger .now)) (length (a .cells .now)) (sym (c .before .before .before .before .before .check .ensures) ∙ c .before .before .before .enum-told .given .1))
+    (accepted-bounded (a .graph .now) (a .arrays .now) (a .inputs .now) (a .picks .now) (a .bound) (length (a .ledger .now)) (length (a .cells .now)) (sym (c .before .before .before .before .before .check-bounded .ensures) ∙ c .before .before .before .enum-told .given .1), omega arith))
     (λ c.
-    let e = sym (c .before .before .before .before .check .ensures) ∙ c .before .before .checked .given .1 in
+    let e = sym (c .before .before .before .before .check-bounded .ensures) ∙ c .before .before .checked .given .1 in
     let a = c .refused .ensures in
     rw e (record { answered = a; numbers = ap valuesOf a; ledgerLeft = refl; cellsLeft = refl }))
     (λ c. search needs)
     (λ c. search needs)
     (λ c.
-    let e = sym (c .before .before .before .before .before .before .before .before .before .before .before .check .ensures) ∙ c .before .before .before .before .before .before .before .before .before .enum-told .given .1 in
+    let e = sym (c .before .before .before .before .before .before .before .before .before .before .before .check-bounded .ensures) ∙ c .before .before .before .before .before .before .before .before .before .enum-told .given .1 in
     let l = c .before .before .before .before .before .accepted .ensures .0 in
     rw e (record { answered = l .answered; numbers = ap valuesOf (l .answered); ledgerLeft = l .ledgerLeft; cellsLeft = l .cellsLeft })))

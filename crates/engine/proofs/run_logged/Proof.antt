@@ -7,15 +7,16 @@ use borrow.Author.Needs.{needs}
 use Rattle.record.specs.Widths.{logWidth}
 use Rattle.rules.specs.Answer.{valuesOf}
 use Rattle.rules.specs.Run.{answer, ledgerAfter, cellsAfter}
-use Rattle.rules.specs.Log.{logged, logUnlessFailed, logAfter}
-use Rattle.rules.proofs.Log.{log-fits}
+use Rattle.rules.specs.Log.{logUnlessFailed, logAfter}
+use Rattle.rules.specs.Bounded.{boundLogged}
+use Rattle.rules.proofs.Bounded.{bound-log-fits}
 use Rattle.engine.proofs.Accepting.{accepted-logged}
 use Rattle.engine.proofs.Recording.{recorded-all}
 use Rattle.engine.proofs.run_logged.Statement.{statement}
 use Rattle.engine.proofs.run_logged.Tie as tie
 
 pub run-logged-spec : {M : Type 1} → statement M
-unfolding logged logUnlessFailed logAfter answer ledgerAfter cellsAfter
+unfolding boundLogged logUnlessFailed logAfter answer ledgerAfter cellsAfter
 run-logged-spec =
     tie.close
     (tie.spec
@@ -25,7 +26,7 @@ run-logged-spec =
     (λ c. search needs)
     (λ c κs.
     let a = c .before .before .before .before .before .before .before .before .before .before .before .before .before .args in
-    accepted-logged (a .graph .now) (a .arrays .now) (a .inputs .now) (a .picks .now) (a .budget) (length (a .ledger .now)) (length (a .cells .now)) (length (a .log .now)) (sym (c .before .before .before .before .before .check-logged .ensures) ∙ c .before .before .before .enum-told .given .1))
+    (accepted-logged (a .graph .now) (a .arrays .now) (a .inputs .now) (a .picks .now) (a .budget) (a .bound) (length (a .ledger .now)) (length (a .cells .now)) (length (a .log .now)) (sym (c .before .before .before .before .before .check-logged .ensures) ∙ c .before .before .before .enum-told .given .1), omega arith))
     (λ c.
     let e = sym (c .before .before .before .before .check-logged .ensures) ∙ c .before .before .checked .given .1 in
     let r = c .refused .ensures in
@@ -37,5 +38,5 @@ run-logged-spec =
     let a = c .before .before .before .before .before .before .before .before .before .before .before .before .before .before .before .before .before .before .before .before .args in
     let e = sym (c .before .before .before .before .before .before .before .before .before .before .before .before .check-logged .ensures) ∙ c .before .before .before .before .before .before .before .before .before .before .enum-told .given .1 in
     let r = c .before .before .before .before .before .before .accepted .ensures in
-    let room = rw e at (log-fits (a .graph .now) (a .arrays .now) (a .inputs .now) (a .picks .now) (a .budget) (length (a .ledger .now)) (length (a .cells .now)) (length (a .log .now))) in
+    let room = rw e at (bound-log-fits (a .graph .now) (a .arrays .now) (a .inputs .now) (a .picks .now) (a .budget) (a .bound) (length (a .ledger .now)) (length (a .cells .now)) (length (a .log .now))) in
     rw e (record { answered = r .0 .answered; numbers = ap valuesOf (r .0 .answered); ledgerLeft = r .0 .ledgerLeft; cellsLeft = r .0 .cellsLeft; logLeft = r .1 ∙ recorded-all _ (a .log .now) (omega (arith, room)) })))

@@ -6,18 +6,18 @@ use Rattle.engine.proofs.take_turn.Tie as tie
 
 pub take-turn-spec : {M : Type 1} → statement M
 take-turn-spec = tie.close (tie.spec
-    (λ c κs. c .before .before .before .before .before .before .before .pre .1 .matching)
+    (λ c κs. let s = c .before .before .before .before .before .before .before in (s .pre .1 .matching, s .pre .2))
     (λ c. search needs)
     (λ c. search needs)
     (λ c.
     let h = c .before .before .before in
     let s = h .before .before .before .before .before .before .before .before in
-    turn-ended _ (rw (c .before .chosen .given .1) at (chosen-now (s .args .graph .now) (s .args .order) (s .args .source .now) (s .args .firings) (h .choose .result) (h .choose .ensures) (s .pre .0) (s .pre .1))) (s .pre .1))
+    turn-ended _ (rw (c .before .chosen .given .1) at (chosen-now (s .args .graph .now) (s .args .order) (s .args .source .now) (s .args .firings) (h .choose .result) (s .args .held .now) (h .choose .ensures) (s .pre .0) (s .pre .1) (s .pre .3))) (s .pre .1))
     (λ c. search needs)
     (λ c κs.
     let h = c .before .before .before .before .before .before .before in
     let s = h .before .before .before .before .before .before .before .before in
-    let t = rw (c .before .before .before .before .before .chosen2 .given .1) at (chosen-now (s .args .graph .now) (s .args .order) (s .args .source .now) (s .args .firings) (h .choose .result) (h .choose .ensures) (s .pre .0) (s .pre .1)) in
+    let t = rw (c .before .before .before .before .before .chosen2 .given .1) at (chosen-now (s .args .graph .now) (s .args .order) (s .args .source .now) (s .args .firings) (h .choose .result) (s .args .held .now) (h .choose .ensures) (s .pre .0) (s .pre .1) (s .pre .3)) in
     (s .pre .0, s .pre .1, t .below, t .enabledThere))
     (λ c. search needs)
     (λ c. search needs)
@@ -26,10 +26,10 @@ take-turn-spec = tie.close (tie.spec
     (λ c.
     let h = c .before .before .before .before .before .before .before .before .before .before .before .before .before .before .before in
     let s = h .before .before .before .before .before .before .before .before in
-    turn-done _ (rw (c .before .before .before .before .before .before .before .before .before .before .before .before .before .chosen2 .given .1) at (chosen-now (s .args .graph .now) (s .args .order) (s .args .source .now) (s .args .firings) (h .choose .result) (h .choose .ensures) (s .pre .0) (s .pre .1))) (rw (c .before .fired .given .1) at (c .before .before .before .before .before .before .before .fire .ensures)))
+    turn-done _ (rw (c .before .before .before .before .before .before .before .before .before .before .before .before .before .chosen2 .given .1) at (chosen-now (s .args .graph .now) (s .args .order) (s .args .source .now) (s .args .firings) (h .choose .result) (s .args .held .now) (h .choose .ensures) (s .pre .0) (s .pre .1) (s .pre .3))) (rw (c .before .fired .given .1) at (c .before .before .before .before .before .before .before .fire .ensures)))
     (λ c. search needs)
     (λ c. search needs)
     (λ c.
     let h = c .before .before .before .before .before .before .before .before .before .before .before .before .before .before .before in
     let s = h .before .before .before .before .before .before .before .before in
-    turn-refused _ (rw (c .before .before .before .before .before .before .before .before .before .before .before .before .before .chosen2 .given .1) at (chosen-now (s .args .graph .now) (s .args .order) (s .args .source .now) (s .args .firings) (h .choose .result) (h .choose .ensures) (s .pre .0) (s .pre .1))) (rw (c .before .fired2 .given .1) at (c .before .before .before .before .before .before .before .fire .ensures))))
+    turn-refused _ (rw (c .before .before .before .before .before .before .before .before .before .before .before .before .before .chosen2 .given .1) at (chosen-now (s .args .graph .now) (s .args .order) (s .args .source .now) (s .args .firings) (h .choose .result) (s .args .held .now) (h .choose .ensures) (s .pre .0) (s .pre .1) (s .pre .3))) (rw (c .before .fired2 .given .1) at (c .before .before .before .before .before .before .before .fire .ensures))))

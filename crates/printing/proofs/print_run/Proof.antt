@@ -4,7 +4,7 @@ use mathlib.Core.Path.{ap, _∙_}
 use mathlib.Core.List.{List}
 use borrow.Author.Needs.{needs}
 use Rattle.text.specs.Text.{printedOf, outAfter}
-use Rattle.printing.proofs.Left.{few-tokens, within, left-printed}
+use Rattle.printing.proofs.Left.{without-bound, few-tokens, within, left-printed}
 use Rattle.printing.proofs.print_run.Statement.{statement}
 use Rattle.printing.proofs.print_run.Tie as tie
 
@@ -17,12 +17,12 @@ print-run-spec = tie.close (tie.spec
     (λ c. search needs)
     (λ c. search needs)
     (λ c κs.
-    let r = c .before .before .before .before .before .before .run .ensures in
+    let r = without-bound _ _ _ _ _ _ _ (c .before .before .before .before .before .before .run .ensures) in
     (few-tokens _ _ _ _ _ _ _ r, within _ _ (few-tokens _ _ _ _ _ _ _ r) (search needs), search needs))
     (λ c. search needs)
     (λ c.
     let p = c .before .before .before .print-left .ensures in
-    let r = c .before .before .before .before .before .before .before .before .before .before .run .ensures in
+    let r = without-bound _ _ _ _ _ _ _ (c .before .before .before .before .before .before .before .before .before .before .run .ensures) in
     let a = c .before .before .before .before .before .before .before .before .before .before .before .before .before .before .before .before .before .before .args in
     let e = left-printed (a .graph .now) (a .arrays .now) (a .inputs .now) (a .picks .now) r in
     record {

@@ -16,7 +16,7 @@ accepted-spec = tie.close (tie.spec
     (accepted-by (a .graph .now) (a .arrays .now) (a .inputs .now) [] (length (a .ledger .now)) (length (a .cells .now)) (s .pre), refl, refl))
     (λ c. search needs)
     (λ c κs. search needs)
-    (λ c κs. let b = c .before .before .before .before .before .before .before .before .before .before .before in (b .begin .ensures .prepared, b .begin .ensures .running))
+    (λ c κs. let b = c .before .before .before .before .before .before .before .before .before .before .before in (b .begin .ensures .prepared, b .begin .ensures .running, tt))
     (λ c. search needs)
     (λ c. search needs)
     (λ c.

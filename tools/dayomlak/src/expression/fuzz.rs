@@ -228,7 +228,7 @@ fn check_expression(expression: &Expression) {
 /// What OUT receives in a run.
 fn out(graph: &[u8], inputs: &[u8], instruction: u16) -> Option<i32> {
     let mut ledger = vec![0; TOKEN * 300];
-    let answer = ttda::run(graph, &[], inputs, &[], 2048, &mut ledger, &mut []);
+    let answer = ttda::run(graph, &[], inputs, &[], 2048, 0, &mut ledger, &mut []);
     assert!(matches!(answer.word(), Word::Completed | Word::Refused(12)));
     let tokens = tokens(&ledger[..TOKEN * answer.tokens()]);
     let out = tokens

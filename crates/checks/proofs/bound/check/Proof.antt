@@ -1,0 +1,16 @@
+-- `checks::bound::check` meets its contract. Assumes nothing.
+use borrow.Author.Needs.{needs}
+use Rattle.rules.specs.Bounded.{andBound}
+use Rattle.check_fields.proofs.Turns.{stopped}
+use Rattle.checks.proofs.bound.check.Statement.{statement}
+use Rattle.checks.proofs.bound.check.Tie as tie
+
+pub check-spec : {M : Type 1} → statement M
+unfolding andBound
+check-spec = tie.close (tie.spec
+    (λ c. search needs)
+    (λ c. search needs)
+    (λ c. stopped _ _ _ _ (c .enum-told2 .given .1))
+    (λ c κs. search needs)
+    (λ c. rw (c .before .before .enum-told .given .1, ← c .before .good2 .ensures, c .if1 .taken))
+    (λ c. rw (c .before .before .enum-told .given .1, ← c .before .good2 .ensures, c .if1 .left)))

@@ -1,0 +1,23 @@
+-- `engine::follow` meets its contract. Assumes nothing.
+use borrow.Author.Needs.{needs}
+use Rattle.engine.proofs.follow.Statement.{statement}
+use Rattle.engine.proofs.follow.Tie as tie
+
+pub follow-spec : {M : Type 1} → statement M
+follow-spec = tie.close (tie.spec
+    (λ c. search needs)
+    (λ c κs.
+    let f = rw (c .before .before .before .before .order .given .1) at (c .before .before .before .before .before .before .before .before .before .pre) in
+    (f .arities, f .grown, f .room .0, f .room .1, f .bound .0, f .bound .1, f .counted, f .unspent, f .carried))
+    (λ c. search needs)
+    (λ c. search needs)
+    (λ c. search needs)
+    (λ c. search needs)
+    (λ c. search needs)
+    (λ c.
+    let f = rw (c .before .before .before .before .before .before .before .order .given .1) at (c .before .before .before .before .before .before .before .before .before .before .before .before .pre) in
+    rw (c .before .before .before .before .before .before .before .order .given .1) (record { bound = f .bound; kept = c .before .before .follow .ensures }))
+    (λ c. rw (c .enum-told .given .1) tt)
+    (λ c. rw (c .enum-told2 .given .1) tt)
+    (λ c. rw (c .enum-told3 .given .1) tt)
+    (λ c. rw (c .enum-told4 .given .1) tt))

@@ -1,0 +1,3 @@
+-- The definitions of the flags of held activities. Assumes nothing.
+pub mod Searching
+pub mod Deciding
