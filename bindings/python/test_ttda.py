@@ -58,6 +58,16 @@ class Runs(unittest.TestCase):
         self.assertEqual((done.answer.word, done.cells), ('completed', [Cell(4, 'present', 7)]))
         self.assertEqual(ttda.run(text, arrays=[(0, 3), (9, 2)]).cells, [Cell(10, 'present', 7)])
 
+    def test_a_bound_holds_loops_back(self):
+        text = 'a: NEXT -> b\nb: NEXT -> out\nout: OUT\ngate: GATE -> out\ninput a = 5\ninput gate = 1\n'
+        self.assertEqual(ttda.run(text).answer, Answer('hung', 0, 2, 4, 0))
+        held = ttda.run(text, bound=2)
+        self.assertEqual(held.answer, Answer('hung', 0, 1, 3, 0))
+        self.assertEqual(ttda.run_logged(text, bound=2)[0], held)
+        self.assertEqual(ttda.carry_on(text, held, bound=2), held)
+        self.assertEqual(ttda.carry_on(text, held).answer.firings, 2)
+        self.assertEqual(ttda.run(text, bound=1).answer, Answer('refused', 21, 0, 0, 0))
+
     def test_refusals(self):
         self.assertEqual(ttda.run(b'').answer, Answer('refused', 1, 0, 0, 0))
         self.assertEqual(ttda.run(GRAPH, INPUTS, capacity=2).answer, Answer('refused', 8, 0, 2, 0))

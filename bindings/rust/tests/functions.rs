@@ -6,6 +6,8 @@ use ttda::{Answer, NotPrinted, Word};
 
 const ADD: u8 = 16;
 const OUT: u8 = 3;
+const GATE: u8 = 6;
+const NEXT: u8 = 7;
 const TEXT: &str = "completed 1 3 0\n0 0 0 0 7 spent\n0 0 0 1 -9 spent\n0 0 1 0 -2 live\n";
 
 fn graph() -> Vec<u8> {
@@ -74,6 +76,38 @@ fn a_budget_that_is_used_up_is_carried_on() {
         &mut cells,
     );
     assert_eq!(printed(answer, &ledger, &cells), TEXT);
+}
+
+/// Two NEXTs in a row beside an operand that waits: a bound of 2 holds the second one back, and 1 is none.
+#[test]
+fn a_bound_holds_loops_back() {
+    let mut graph = vec![0; 4 * INSTRUCTION];
+    graph[..5].copy_from_slice(&[NEXT, 1, 0, 0, 1]);
+    graph[INSTRUCTION..INSTRUCTION + 5].copy_from_slice(&[NEXT, 1, 0, 0, 2]);
+    graph[2 * INSTRUCTION] = OUT;
+    graph[3 * INSTRUCTION..3 * INSTRUCTION + 5].copy_from_slice(&[GATE, 1, 0, 0, 2]);
+    let mut inputs = vec![0; 2 * TOKEN];
+    inputs[TOKEN + 18] = 3;
+    for (bound, due) in [
+        (0, Answer::of(Word::HUNG, 2, 4, 0)),
+        (2, Answer::of(Word::HUNG, 1, 3, 0)),
+        (1, Answer::of(21, 0, 0, 0)),
+    ] {
+        let mut log = [0; 9 * LOGGED];
+        let (_, _, mut ledger, mut cells) = lent();
+        let mut run = |budget| {
+            let (ledger, cells) = (&mut ledger, &mut cells);
+            ttda::run(&graph, &[], &inputs, &[], budget, bound, ledger, cells)
+        };
+        assert_eq!(run(9), due, "bound {bound}");
+        let cut = run(1);
+        let (_, firings, tokens, _) = cut.parts();
+        let (ledger, cells) = (&mut ledger, &mut cells);
+        let carried = ttda::carry_on(&graph, &[], &[], 9, bound, firings, tokens, ledger, cells);
+        assert_eq!(carried, due, "bound {bound}");
+        let logged = ttda::run_logged(&graph, &[], &inputs, &[], 9, bound, ledger, cells, &mut log);
+        assert_eq!(logged, due, "bound {bound}");
+    }
 }
 
 #[test]

@@ -2,7 +2,7 @@
 //! and compares what it leaves with what the second emulator leaves, and what that
 //! one prints with the file `expected` beside the graph. What the graph needs is
 //! compared too: its bounds with the file `expected_bounds` if it is loop-free, else
-//! its profile with the file `expected_profile`.
+//! its profile with the file `expected_profile`. Then it is run under loop bounds.
 //!
 //! Usage: run_examples [FOLDER], by default the folder `examples` of the project; or
 //! run_examples --expected FILE.ttda, which prints what the second emulator prints, and
@@ -104,6 +104,10 @@ fn check(folder: &Path, name: &str) -> Result<String, String> {
     }
     let first = runs::typed_order(&files, &stored(folder, "expected")?)?;
     let orders = runs::other_orders(&files, &first)?;
+    let held = match runs::bounded_orders(&files, &first)? {
+        0 => String::new(),
+        held => format!("; with bounds {held} runs hang on held activities"),
+    };
     let needs = Needs::of(&files);
     if needs.text().into_bytes() != stored(folder, needs.file())? {
         let file = needs.file();
@@ -113,5 +117,5 @@ fn check(folder: &Path, name: &str) -> Result<String, String> {
         return Err(format!("{} is of no use here", needs.other_file()));
     }
     needs.engine_agrees(&files, &first)?;
-    Ok(format!("in {orders} orders, with {}", needs.file()))
+    Ok(format!("in {orders} orders, with {}{held}", needs.file()))
 }

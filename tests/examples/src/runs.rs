@@ -1,13 +1,15 @@
 //! Runs of an example: by the engine and by the second emulator, in many orders.
 
 use asm::Files;
-use second::{Answer, Program, Schedule};
+use second::{Answer, Outcome, Program, Schedule};
 
 use crate::{CELLS, RECORDS};
 
 const BUDGET: u16 = 2048;
 /// With oldest first and newest first, eleven orders or more.
 const RANDOM_LISTS: u64 = 12;
+/// Loop bounds: the smallest, one that many loops pass, and the largest.
+const BOUNDS: [u16; 3] = [2, 4, 256];
 
 /// What a run answers and leaves, the answer packed.
 #[derive(PartialEq, Eq)]
@@ -48,7 +50,7 @@ pub fn typed_order(files: &Files, expected: &[u8]) -> Result<Left, String> {
     if due.text() != expected {
         return Err("the second emulator prints other lines than expected".to_string());
     }
-    let first = engine_run(files, &files.picks);
+    let first = engine_run(files, Schedule::new(&files.picks, BUDGET));
     if first != due.left {
         return Err("the engine leaves other bytes than the second emulator".to_string());
     }
@@ -62,10 +64,35 @@ pub fn typed_order(files: &Files, expected: &[u8]) -> Result<Left, String> {
 pub fn other_orders(files: &Files, first: &Left) -> Result<usize, String> {
     let lists = pick_lists(files);
     for (number, picks) in lists.iter().enumerate() {
-        let other = engine_run(files, picks);
+        let other = engine_run(files, Schedule::new(picks, BUDGET));
         agree(first, &other).map_err(|what| format!("order {number}: {what}"))?;
     }
     Ok(lists.len())
+}
+
+/// Runs these orders and the typed one under loop bounds, each as the second emulator; what completes, or hangs with nothing
+/// held, ends as without a bound, and what is refused is refused without. Answers how many hung on held activities.
+pub fn bounded_orders(files: &Files, first: &Left) -> Result<usize, String> {
+    let mut lists = pick_lists(files);
+    lists.push(files.picks.clone());
+    let mut held = 0;
+    for bound in BOUNDS {
+        for (number, picks) in lists.iter().enumerate() {
+            let wrong = |what: &str| format!("bound {bound}, order {number}: {what}");
+            let schedule = Schedule::new(picks, BUDGET).bounded(bound);
+            let (due, other) = (second(files, schedule), engine_run(files, schedule));
+            if other != due.left {
+                return Err(wrong(
+                    "the engine leaves other bytes than the second emulator",
+                ));
+            }
+            match due.is_held(files, bound) {
+                true => held += 1,
+                false => agree(first, &other).map_err(|what| wrong(&what))?,
+            }
+        }
+    }
+    Ok(held)
 }
 
 /// The graph with its table of arrays.
@@ -75,11 +102,10 @@ pub fn program(files: &Files) -> Program<'_> {
 }
 
 /// Runs and lists as the program does.
-fn engine_run(files: &Files, picks: &[u8]) -> Left {
+fn engine_run(files: &Files, schedule: Schedule) -> Left {
     let mut ledger = vec![0; asm::TOKEN_RECORD * RECORDS];
     let mut cells = vec![0; 8 * CELLS];
     let (program, inputs) = (program(files), &files.inputs);
-    let schedule = Schedule::new(picks, BUDGET);
     let answer = engine::run(program, inputs, schedule, &mut ledger, &mut cells);
     Left::of_engine(answer, &ledger, cells)
 }
@@ -133,14 +159,23 @@ impl Second {
     pub fn text(&self) -> Vec<u8> {
         second::print(&self.answer, &self.left.listing, &self.left.cells)
     }
+
+    /// Whether it hung because a bound holds activities back.
+    fn is_held(&self, files: &Files, bound: u16) -> bool {
+        let held = second::held(&files.graph, bound, &self.left.listing);
+        self.answer.outcome == Outcome::Hung && held.is_some_and(|held| !held.is_empty())
+    }
 }
 
 /// Runs the second emulator with the picks of the files.
 pub fn second_run(files: &Files) -> Second {
+    second(files, Schedule::new(&files.picks, BUDGET))
+}
+
+fn second(files: &Files, schedule: Schedule) -> Second {
     let mut ledger = vec![0; asm::TOKEN_RECORD * RECORDS];
     let mut cells = vec![0; 8 * CELLS];
     let (program, inputs) = (program(files), &files.inputs);
-    let schedule = Schedule::new(&files.picks, BUDGET);
     let answer = second::run(program, inputs, schedule, &mut ledger, &mut cells);
     let used = &ledger[..asm::TOKEN_RECORD * answer.tokens];
     let mut listing = vec![0; used.len()];

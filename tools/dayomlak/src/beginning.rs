@@ -18,6 +18,7 @@ use crate::warnings;
 pub struct Beginning {
     pub program: Program,
     sizes: Sizes,
+    bound: u16,
     pub saved: Option<SavedFile>,
 }
 
@@ -58,8 +59,15 @@ impl Beginning {
         Beginning {
             program,
             sizes,
+            bound: 0,
             saved: None,
         }
+    }
+
+    /// Under a loop bound, if one is given. A saved state has its own.
+    pub fn bounded(mut self, bound: Option<u16>) -> Beginning {
+        self.bound = bound.unwrap_or(self.bound);
+        self
     }
 
     /// Loads a saved state.
@@ -76,6 +84,7 @@ impl Beginning {
                 capacity: saved.capacity.into(),
                 cells: saved.state.cell_count(),
             },
+            bound: saved.bound,
             saved: Some(saved),
         };
         conditions::check(&beginning.machine())?;
@@ -86,13 +95,14 @@ impl Beginning {
         Machine {
             program: &self.program,
             sizes: self.sizes,
+            bound: self.bound,
             start: self.saved.as_ref().map(|saved| &saved.state),
         }
     }
 
     /// In which order a run fired that began here, in words.
     pub fn order(&self, order: &Order, end: &End) -> String {
-        let words = order.words(&self.program);
+        let words = self.machine().order(order);
         let Some(saved) = &self.saved else {
             return words;
         };
@@ -114,6 +124,7 @@ impl Beginning {
             of: of.clone(),
             order: order.to_string(),
             capacity: self.sizes.capacity as u16,
+            bound: self.bound,
             text: self.program.text.clone().into_bytes(),
             graph: self.program.files.graph.clone(),
             arrays: self.program.files.arrays.clone(),

@@ -177,6 +177,13 @@ fn up_to<const MOST: u16>(word: &str) -> Result<u16, String> {
     number.ok_or(format!("it is a number from 0 to {MOST}"))
 }
 
+/// A loop bound of the command line.
+fn bound(word: &str) -> Result<u16, String> {
+    let number = word.parse().ok();
+    let bound = number.filter(|number| matches!(number, 0 | 2..=256));
+    bound.ok_or("a bound is 0 for none, or 2 to 256 (else 21, bad bound)".to_string())
+}
+
 /// How many may fire in a step.
 fn pace(word: &str) -> Result<Pace, String> {
     let number = word.parse().ok().filter(|number| *number > 0);
@@ -225,6 +232,21 @@ impl Buffers {
 }
 
 #[derive(Debug, Args)]
+pub struct Bounding {
+    /// The loop bound: a NEXT that would make iteration m is held back while its path has a token at work at m - K or
+    /// less; 0 for none, or 2 to 256
+    #[arg(long, value_name = "K", value_parser = bound)]
+    pub bound: Option<u16>,
+}
+
+impl Bounding {
+    /// The bound that is given, or none.
+    pub fn or_none(&self) -> u16 {
+        self.bound.unwrap_or(0)
+    }
+}
+
+#[derive(Debug, Args)]
 pub struct Firing {
     /// Which enabled activity fires next: oldest, newest, random:SEED, picks such as 0,3,1, a file with a name for each
     /// firing, or typed (the picks or the order of the graph's file, oldest without)
@@ -236,6 +258,8 @@ pub struct Firing {
     /// The most firings
     #[arg(long, value_name = "N", default_value_t = 2048, value_parser = up_to::<{ u16::MAX }>)]
     pub budget: u16,
+    #[command(flatten)]
+    pub bounding: Bounding,
 }
 
 impl Firing {
@@ -280,6 +304,9 @@ pub struct CarryOn {
     /// The most firings of this part
     #[arg(long, value_name = "N", default_value_t = 2048)]
     pub budget: u16,
+    /// The loop bound from here on, 0 for none, or 2 to 256 [default: that of the saved run]
+    #[arg(long, value_name = "K", value_parser = bound)]
+    pub bound: Option<u16>,
     /// Save what this part leaves, for `dayomlak carry-on`
     #[arg(long, value_name = "Y.saved")]
     pub save: Option<PathBuf>,
@@ -313,6 +340,8 @@ pub struct Compare {
     #[arg(long, value_name = "N")]
     pub orders: Option<u32>,
     #[command(flatten)]
+    pub bounding: Bounding,
+    #[command(flatten)]
     pub buffers: Buffers,
 }
 
@@ -332,6 +361,8 @@ pub struct Diff {
     #[command(flatten)]
     pub script: Script,
     #[command(flatten)]
+    pub bounding: Bounding,
+    #[command(flatten)]
     pub buffers: Buffers,
 }
 
@@ -347,6 +378,8 @@ pub struct Step {
     /// Read lines, also in a terminal
     #[arg(long)]
     pub lines: bool,
+    #[command(flatten)]
+    pub bounding: Bounding,
     #[command(flatten)]
     pub buffers: Buffers,
 }
@@ -409,10 +442,16 @@ pub struct Profile {
     /// Tokens by the firings of one run instead of steps
     #[arg(long, conflicts_with = "processors")]
     pub firings: bool,
-    /// The order of that run, as for `dayomlak run`; only with --firings or -o
+    /// Tokens by the firings of a run with this loop bound, 2 to 256; steps take no bound
+    #[arg(long, value_name = "K", value_parser = bound, conflicts_with = "processors")]
+    pub bound: Vec<u16>,
+    /// Beside these, tokens by the firings of the run without a bound
+    #[arg(long, conflicts_with = "processors")]
+    pub none: bool,
+    /// The order of that run, as for `dayomlak run`; only with --firings, --bound or -o
     #[arg(long, value_name = "ORDER")]
     pub order: Option<Order>,
-    /// The most firings of that run; only with --firings or -o
+    /// The most firings of that run; only with --firings, --bound or -o
     #[arg(long, value_name = "N", value_parser = up_to::<{ u16::MAX }>)]
     pub budget: Option<u16>,
     #[command(flatten)]
@@ -431,10 +470,10 @@ pub struct Timeline {
     #[arg(short, value_name = "X.svg")]
     pub output: PathBuf,
     /// By ideal steps, and not firing by firing
-    #[arg(long, conflicts_with_all = ["order", "picks", "budget"])]
+    #[arg(long, conflicts_with_all = ["order", "picks", "budget", "bound"])]
     pub steps: bool,
     /// By steps of at most so many firings, those first that were enabled first, or any for ideal steps
-    #[arg(long, value_name = "N", value_parser = pace, conflicts_with_all = ["order", "picks", "budget"])]
+    #[arg(long, value_name = "N", value_parser = pace, conflicts_with_all = ["order", "picks", "budget", "bound"])]
     pub processors: Option<Pace>,
     #[command(flatten)]
     pub firing: Firing,

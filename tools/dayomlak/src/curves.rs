@@ -10,7 +10,6 @@ use crate::answer::Word;
 use crate::failure::Failure;
 use crate::loads::Loads;
 use crate::machine::{End, Machine};
-use crate::program::Program;
 use crate::records::{State, Tag};
 use crate::saved::view::View;
 use crate::walk::Walk;
@@ -73,13 +72,13 @@ pub fn ideal(machine: &Machine, whole: &[Step]) -> Result<Steps, Failure> {
     let loads = loaded.as_ref().map_or(0, |(loads, _)| loads.len() as u32);
     if let Some((_, walk)) = loaded {
         steps.first = 0;
-        add(&mut steps, machine.program, loads, &walk.end);
+        add(&mut steps, machine, loads, &walk.end);
     }
     for (number, step) in (1..).zip(whole) {
         let (state, _) = machine.profile_within(number);
         let loads = if number == 1 { loads } else { 0 };
         let firings = u32::from(step.firings) - loads;
-        add(&mut steps, machine.program, firings, &state);
+        add(&mut steps, machine, firings, &state);
     }
     Ok(steps)
 }
@@ -93,7 +92,7 @@ fn processors(machine: &Machine, most: u16) -> Result<Paced, Failure> {
     };
     let (end, _) = march(machine, most, |number, firings, end| {
         steps.first = steps.first.min(number);
-        add(&mut steps, machine.program, firings, end);
+        add(&mut steps, machine, firings, end);
     })?;
     Ok(Paced { steps, end })
 }
@@ -166,7 +165,7 @@ pub fn along(machine: &Machine, log: &[Tag]) -> Result<Steps, Failure> {
     };
     let mut walk = Walk::new(machine)?;
     let mut note = |walk: &Walk| {
-        add(&mut steps, machine.program, 0, &walk.end);
+        add(&mut steps, machine, 0, &walk.end);
         steps.enabled.push(walk.enabled.len() as u32);
     };
     note(&walk);
@@ -192,12 +191,12 @@ fn loaded<'m>(machine: &'m Machine<'m>) -> Result<Option<(Vec<Tag>, Walk<'m>)>, 
 }
 
 /// Adds a column: so many firings, and what they leave.
-fn add(steps: &mut Steps, program: &Program, firings: u32, end: &End) {
+fn add(steps: &mut Steps, machine: &Machine, firings: u32, end: &End) {
     let tokens = end.tokens();
     let unspent = tokens.iter().filter(|token| token.state != State::Spent);
     steps.firings.push(firings);
     steps.tokens.push(unspent.count() as u32);
-    let waiting = View::of(program, &tokens).waiting;
+    let waiting = View::of(machine, &tokens).waiting;
     steps.waiting.push(waiting.len() as u32);
 }
 
@@ -205,6 +204,7 @@ fn add(steps: &mut Steps, program: &Program, firings: u32, end: &End) {
 mod tests {
     use super::*;
     use crate::machine::{Sizes, WHOLE};
+    use crate::program::Program;
 
     /// Two cells are loaded; a is slow, so that its partner waits.
     const TEXT: &str =

@@ -1,5 +1,5 @@
-//! A log in a file: a head in five lines that names the run, then a record for each firing. Without the head a file has bare
-//! records, which name no run.
+//! A log in a file: a head in lines that name the run, then a record for each firing. A run with a loop bound has a line more,
+//! with the bound. Without the head a file has bare records, which name no run.
 
 use std::fmt;
 
@@ -45,6 +45,8 @@ impl fmt::Display for Named {
 pub struct LogFile {
     /// `None` for bare records.
     pub of: Option<Named>,
+    /// The loop bound of the run, 0 for none or where it is not known. It decides what was fired, and not what records name.
+    pub bound: u16,
     pub records: Vec<u8>,
 }
 
@@ -57,6 +59,7 @@ impl LogFile {
             }
             return Ok(LogFile {
                 of: None,
+                bound: 0,
                 records: bytes.to_vec(),
             });
         }
@@ -67,7 +70,7 @@ impl LogFile {
                 "a log of form {form}, and this program reads form {FORM}"
             ));
         }
-        let (named, firings) = head.named().ok_or("its head is damaged")?;
+        let (named, bound, firings) = head.named().ok_or("its head is damaged")?;
         let records = head.0;
         if firings.checked_mul(LOGGED) != Some(records.len()) {
             let bytes = records.len();
@@ -75,6 +78,7 @@ impl LogFile {
         }
         Ok(LogFile {
             of: Some(named),
+            bound,
             records: records.to_vec(),
         })
     }
@@ -82,7 +86,7 @@ impl LogFile {
     pub fn encode(&self) -> Vec<u8> {
         let head = self
             .of
-            .map(|named| head(&named, self.records.len() / LOGGED));
+            .map(|named| head(&named, self.bound, self.records.len() / LOGGED));
         [head.unwrap_or_default().as_bytes(), &self.records].concat()
     }
 }
@@ -93,11 +97,15 @@ fn is_text(bytes: &[u8]) -> bool {
     !bytes.is_empty() && !bytes.iter().any(control)
 }
 
-fn head(named: &Named, firings: usize) -> String {
+fn head(named: &Named, bound: u16, firings: usize) -> String {
     let Sizes { capacity, cells } = named.sizes;
     let digits = named.fingerprint.digits();
+    let bound = match bound {
+        0 => String::new(),
+        bound => format!("bound {bound}\n"),
+    };
     format!(
-        "{START}{FORM}\ngraph and inputs {digits}\ncapacity {capacity}\ncells {cells}\nfirings {firings}\n"
+        "{START}{FORM}\ngraph and inputs {digits}\ncapacity {capacity}\ncells {cells}\n{bound}firings {firings}\n"
     )
 }
 
@@ -120,14 +128,26 @@ impl<'b> Head<'b> {
         (number.to_string() == value).then_some(number)
     }
 
-    /// The run that the lines name, and its firings.
-    fn named(&mut self) -> Option<(Named, usize)> {
+    /// The bound, where a line has one; without a bound there is no such line.
+    fn bound(&mut self) -> Option<u16> {
+        match self.0.starts_with(b"bound ") {
+            false => Some(0),
+            true => match self.number("bound ")? {
+                bound @ 2..=256 => Some(bound as u16),
+                _ => None,
+            },
+        }
+    }
+
+    /// The run that the lines name, its bound and its firings.
+    fn named(&mut self) -> Option<(Named, u16, usize)> {
         let fingerprint = Fingerprint::from_digits(self.value("graph and inputs ")?)?;
         let capacity = self.number("capacity ")?;
         let cells = self.number("cells ")?;
         let sizes = Sizes { capacity, cells };
+        let bound = self.bound()?;
         let firings = self.number("firings ")?;
-        Some((Named { fingerprint, sizes }, firings))
+        Some((Named { fingerprint, sizes }, bound, firings))
     }
 }
 
@@ -144,7 +164,23 @@ mod tests {
                     cells: 3,
                 },
             }),
+            bound: 0,
             records: vec![7; 2 * LOGGED],
+        }
+    }
+
+    /// A bound has a line of its own, and none has none.
+    #[test]
+    fn a_bound_is_read_back() {
+        let plain = String::from_utf8(log().encode()).unwrap();
+        assert!(!plain.contains("bound"));
+        let bounded = LogFile { bound: 2, ..log() };
+        let bytes = bounded.encode();
+        assert_eq!(LogFile::decode(&bytes), Ok(bounded));
+        let text = String::from_utf8(bytes).unwrap();
+        for wrong in ["0", "1", "257", "02", "x"] {
+            let text = text.replace("bound 2", &format!("bound {wrong}"));
+            assert!(LogFile::decode(text.as_bytes()).is_err(), "{wrong}");
         }
     }
 

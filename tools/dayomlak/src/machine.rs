@@ -1,10 +1,12 @@
 //! Runs of the proved engine over a program, with buffers of chosen sizes.
 
-use plotter::{Left, Step};
+use plotter::{Fingerprint, Left, Step};
 use ttda::widths::{self, PICK, STEP};
 
 use crate::answer::Answer;
 use crate::failure::Failure;
+use crate::orders::Order;
+use crate::pictures;
 use crate::program::Program;
 use crate::records::{self, Cell, Tag, Token, CELL, LOGGED, MOST_CELLS, MOST_RECORDS, TOKEN};
 use crate::saved::State;
@@ -94,10 +96,13 @@ impl From<&Left> for End {
     }
 }
 
-/// A program with the buffers that it is run in.
+/// A program with the buffers that it is run in, and the loop bound of its runs.
+#[derive(Clone, Copy)]
 pub struct Machine<'p> {
     pub program: &'p Program,
     pub sizes: Sizes,
+    /// 0 for none. Profiles and replays take none.
+    pub bound: u16,
     /// What runs go on from; without it they begin at the inputs.
     pub start: Option<&'p State>,
 }
@@ -107,7 +112,31 @@ impl<'p> Machine<'p> {
         Machine {
             program,
             sizes,
+            bound: 0,
             start: None,
+        }
+    }
+
+    /// The same with a loop bound, 0 for none.
+    pub fn bounded(self, bound: u16) -> Machine<'p> {
+        Machine { bound, ..self }
+    }
+
+    /// The fingerprint of its runs: graph, arrays, inputs and bound.
+    pub fn fingerprint(&self) -> Fingerprint {
+        pictures::fingerprint(&self.program.files).bounded(self.bound)
+    }
+
+    /// An order of its runs in words.
+    pub fn order(&self, order: &Order) -> String {
+        self.under_bound(&order.words(self.program))
+    }
+
+    /// The words of an order, with the bound if there is one.
+    pub fn under_bound(&self, order: &str) -> String {
+        match self.bound {
+            0 => order.to_string(),
+            bound => format!("{order}, bound {bound}"),
         }
     }
 
@@ -116,7 +145,10 @@ impl<'p> Machine<'p> {
             return self.carry_on(state, picks, budget);
         }
         let (graph, arrays, inputs) = self.lent();
-        self.call(|ledger, cells| ttda::run(graph, arrays, inputs, picks, budget, 0, ledger, cells))
+        let bound = self.bound;
+        self.call(|ledger, cells| {
+            ttda::run(graph, arrays, inputs, picks, budget, bound, ledger, cells)
+        })
     }
 
     /// Goes on from a state. Budget and picks are those of this part.
@@ -132,7 +164,7 @@ impl<'p> Machine<'p> {
             arrays,
             picks,
             budget,
-            0,
+            self.bound,
             firings,
             tokens,
             &mut ledger,
@@ -197,7 +229,7 @@ impl<'p> Machine<'p> {
         let (graph, arrays, inputs) = self.lent();
         let end = self.call(|ledger, cells| {
             ttda::run_logged(
-                graph, arrays, inputs, picks, budget, 0, ledger, cells, &mut log,
+                graph, arrays, inputs, picks, budget, self.bound, ledger, cells, &mut log,
             )
         });
         log.truncate(LOGGED * end.answer.firings);

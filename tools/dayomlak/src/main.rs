@@ -16,6 +16,7 @@ mod failure;
 mod forms;
 mod graph;
 mod graphviz;
+mod held;
 mod history;
 mod indices;
 mod json;

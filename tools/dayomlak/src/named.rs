@@ -80,15 +80,21 @@ fn not_enabled(
 ) -> Finding {
     let name = &named.name;
     let before = order[..number - 1].iter().position(|n| n.name == *name);
-    let words = match before {
-        Some(firing) => format!("it is fired already, in firing {}", firing + 1),
-        None if !is_instruction(walk, name) => "there is no such instruction".to_string(),
-        None => "not all its operands are there".to_string(),
+    let (is, words) = match (before, walk.held_by(name)) {
+        (Some(firing), _) => {
+            let words = format!("it is fired already, in firing {}", firing + 1);
+            ("not enabled", words)
+        }
+        (None, Some(by)) => ("held back", format!("bound {}, {by}", walk.machine().bound)),
+        (None, None) if is_instruction(walk, name) => {
+            ("not enabled", "not all its operands are there".to_string())
+        }
+        (None, None) => ("not enabled", "there is no such instruction".to_string()),
     };
-    let finding = Finding::error(format!("`{name}` is not enabled at firing {number}"))
+    let finding = Finding::error(format!("`{name}` is {is} at firing {number}"))
         .at(Some(named.span.clone()), words);
     if names.is_empty() {
-        let ended = results::headline(&walk.end, "as ordered");
+        let ended = results::headline(walk.machine(), &walk.end, "as ordered");
         return finding.note(format!("nothing is: {ended}"));
     }
     let more = names.len().saturating_sub(SHOWN);

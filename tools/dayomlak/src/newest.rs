@@ -24,6 +24,9 @@ use crate::saved::State;
 
 /// The picks of a whole run that fire the newest first.
 pub fn picks(machine: &Machine) -> Result<Vec<u8>, Failure> {
+    if machine.bound != 0 {
+        return bounded_picks(machine);
+    }
     let mut enabled: Vec<u16> = Vec::new();
     // Each round foretells one firing more at least.
     for _ in 0..=MOST_RECORDS {
@@ -38,13 +41,22 @@ pub fn picks(machine: &Machine) -> Result<Vec<u8>, Failure> {
     Err(Failure::Inconsistent(text.to_string()))
 }
 
+/// Under a bound an order in which less is held tells nothing of another, so that each state is asked for.
+fn bounded_picks(machine: &Machine) -> Result<Vec<u8>, Failure> {
+    let begun = machine.run(&[], 0);
+    match begun.answer.refused_at_once() {
+        true => Ok(Vec::new()),
+        false => picks_from(machine, &State::of(&begun)),
+    }
+}
+
 /// The picks of the firings from a saved state that fire the newest first. Here the state is at hand before each firing, so
 /// that e is counted there; that it divides as it should is shown as above.
 pub fn picks_from(machine: &Machine, state: &State) -> Result<Vec<u8>, Failure> {
     let (mut state, mut picks) = (state.clone(), Vec::new());
     loop {
         let tokens = records::tokens(&state.ledger);
-        let enabled = View::of(machine.program, &tokens).enabled.len() as u16;
+        let enabled = View::of(machine, &tokens).enabled.len() as u16;
         let fire = |pick: u16| machine.carry_on(&state, &pick.to_le_bytes(), 1);
         let end = fire(enabled.saturating_sub(1));
         if end != fire((2 * enabled).saturating_sub(1)) {

@@ -67,7 +67,7 @@ impl Order {
     /// The order in words, for a program with or without an order of its own.
     pub fn words(&self, program: &Program) -> String {
         match self {
-            Order::Typed if program.is_ordered => "in its typed order".to_string(),
+            Order::Typed if !program.order.is_empty() => "in its typed order".to_string(),
             Order::Typed if !program.files.picks.is_empty() => {
                 "in the order of its picks".to_string()
             }
@@ -94,6 +94,13 @@ impl Order {
         let rest = |picks: &[u8]| picks.get(used..).unwrap_or_default().to_vec();
         match (self, machine.start) {
             (Order::Oldest, _) => Ok(Vec::new()),
+            // What a name's number is depends on what the bound holds back.
+            (Order::Typed, _) if machine.bound != 0 && !machine.program.order.is_empty() => {
+                let program = machine.program;
+                let picks =
+                    named::picks(machine, &program.text_label, &program.text, &program.order)?;
+                Ok(bytes(picks.into_iter()))
+            }
             (Order::Typed, _) => Ok(rest(&machine.program.files.picks)),
             (Order::Newest, None) => newest::picks(machine),
             (Order::Newest, Some(state)) => newest::picks_from(machine, state),

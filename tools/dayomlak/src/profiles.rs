@@ -9,6 +9,9 @@ use crate::machine::Machine;
 use crate::orders::Order;
 use crate::program::Program;
 
+/// What is said of a profile beside a run with a bound.
+pub const NO_BOUND: &str = "ideal steps take no bound";
+
 /// The plot of a machine fired in an order, from the user's cache where the engine says that what is kept serves.
 pub fn plot(machine: &Machine, order: &Order, budget: u16) -> Result<Plot, Failure> {
     let files = &machine.program.files;
@@ -18,6 +21,7 @@ pub fn plot(machine: &Machine, order: &Order, budget: u16) -> Result<Plot, Failu
         inputs: files.inputs.clone(),
         picks: order.picks(machine)?,
         budget,
+        bound: machine.bound,
         capacity: machine.sizes.capacity as u16,
         cells: machine.sizes.cells as u16,
     };

@@ -34,8 +34,8 @@ pub struct Program {
     pub arrays: Arrays,
     /// The files that it was read from.
     pub sources: Vec<Source>,
-    /// Whether its picks come from an order by names.
-    pub is_ordered: bool,
+    /// Its order by names, which its picks come from; empty where it has none.
+    pub order: Vec<Named>,
     instructions: Vec<asm::Instruction>,
     inputs: Vec<Place>,
 }
@@ -75,10 +75,7 @@ impl Program {
             return Err(Failure::faulty(label, text, vec![finding]));
         }
         match read(&text) {
-            Ok(typed) => {
-                let order = typed.order.clone();
-                Program::new(label, text, typed).ordered(&order)
-            }
+            Ok(typed) => Program::new(label, text, typed).ordered(),
             Err(errors) => {
                 let findings = errors.0.into_iter().map(Finding::from).collect();
                 Err(Failure::faulty(label, text, findings))
@@ -88,10 +85,10 @@ impl Program {
 
     /// With the picks of its order. Where the largest buffers refuse nothing, smaller ones refuse a firing at most, and
     /// behind that one no pick is used.
-    fn ordered(mut self, order: &[Named]) -> Result<Program, Failure> {
-        if !order.is_empty() {
+    fn ordered(mut self) -> Result<Program, Failure> {
+        if !self.order.is_empty() {
             let machine = Machine::new(&self, Sizes::default());
-            let picks = named::picks(&machine, &self.label, &self.text, order)?;
+            let picks = named::picks(&machine, &self.label, &self.text, &self.order)?;
             self.files.picks = orders::bytes(picks.into_iter());
         }
         Ok(self)
@@ -115,7 +112,7 @@ impl Program {
             arrays,
             files: typed.files,
             sources: Vec::new(),
-            is_ordered: !typed.order.is_empty(),
+            order: typed.order,
             instructions: typed.instructions,
             inputs: typed.inputs,
         }
@@ -192,6 +189,13 @@ impl Program {
         self.instructions
             .get(instruction)
             .map(|i| i.place.span.clone())
+    }
+
+    /// The line of the text that an instruction stands in, counted from 1.
+    pub fn line(&self, instruction: u16) -> Option<usize> {
+        let start = self.span(instruction.into())?.start;
+        let before = self.text.get(..start)?;
+        Some(before.matches('\n').count() + 1)
     }
 
     /// Where an arc of an instruction stands in the text, or else the instruction.

@@ -23,7 +23,7 @@ const fn refusal(
 }
 
 #[rustfmt::skip]
-pub const TABLE: [Refusal; 22] = [
+pub const TABLE: [Refusal; 23] = [
     refusal(1, "graph length",
         "The graph has no instruction, more than 256, or its file is not in whole records of 16 bytes.",
         "Give 1 to 256 instructions."),
@@ -85,6 +85,9 @@ pub const TABLE: [Refusal; 22] = [
     refusal(20, "not enabled",
         "A record of the log names an activity that is not enabled, has no zero byte or is not whole.",
         "Replay a log with the graph and inputs it was made with; `dayomlak log` writes one."),
+    refusal(21, "bad bound",
+        "A loop bound is neither 0, for none, nor 2 to 256.",
+        "Give --bound 2 or more; a bound of 256 holds a NEXT back at iteration 255 only."),
     refusal(22, "bad array",
         "An array has a cell past the cells, there are more than 64 arrays, or their file is not in whole records of 4 bytes; \
          or FETCH or STORE names an array that is not in the table.",

@@ -2,8 +2,9 @@
 
 use crate::answer::{count, Word};
 use crate::graph::{LEAVE, OUT};
+use crate::held;
 use crate::loads::Loads;
-use crate::machine::End;
+use crate::machine::{End, Machine};
 use crate::program::Program;
 use crate::records::{self, Cell, State, Token};
 
@@ -13,7 +14,8 @@ const SHOWN: usize = 8;
 /// Results, tokens that wait and cells, a line each. What the run itself wrote comes before what inputs alone wrote, and
 /// the cells of lines such as `cell 3 = 7` and `a[3] = 7` are only counted: they hold what was typed. The tokens are those of the
 /// listing, so that equal listings give equal lines. A run that did not begin left nothing.
-pub fn lines(program: &Program, end: &End) -> Vec<String> {
+pub fn lines(machine: &Machine, end: &End) -> Vec<String> {
+    let program = machine.program;
     if end.answer.refused_at_once() {
         return Vec::new();
     }
@@ -28,7 +30,12 @@ pub fn lines(program: &Program, end: &End) -> Vec<String> {
         .filter(|t| !is_result(program, t))
         .collect();
     if end.answer.ended() {
-        lines.extend(others.iter().map(|token| waiting(program, token, &tokens)));
+        let held = held::left(machine, end).unwrap_or_default();
+        let line = |token: &&Token| match held.iter().find(|held| held.tag == token.tag) {
+            Some(held) => held.line(program, token.value),
+            None => waiting(program, token, &tokens),
+        };
+        lines.extend(others.iter().map(line));
     } else if !others.is_empty() {
         // Some of them may be enabled: they are under way and do not wait.
         lines.push(format!("({} under way)", count(others.len(), "token")));
@@ -120,9 +127,12 @@ fn cells<'p>(program: &'p Program, end: &End) -> impl Iterator<Item = (i32, Stri
 }
 
 /// The first line of an answer.
-pub fn headline(end: &End, order: &str) -> String {
+pub fn headline(machine: &Machine, end: &End, order: &str) -> String {
     let answer = &end.answer;
     let start = format!("{}: {}, {order}", answer.words(), answer.counts());
+    if let Some(held) = held::left(machine, end) {
+        return format!("{start}; {}", held::words(machine.program, &held));
+    }
     match answer.word {
         Word::Hung => format!("{start}; nothing more can fire, and some tokens still wait"),
         Word::Spent => format!("{start}; more can fire"),

@@ -6,6 +6,7 @@ use codespan_reporting::diagnostic::Severity;
 use crate::answer::{Answer, Word};
 use crate::diagnostics::Finding;
 use crate::failure::Failure;
+use crate::held::Held;
 use crate::json::{list, maybe, object, string};
 use crate::machine::{End, Machine};
 use crate::output;
@@ -100,7 +101,23 @@ pub fn lent(machine: &Machine) -> Fields {
     vec![
         ("capacity", machine.sizes.capacity.to_string()),
         ("cell_count", machine.sizes.cells.to_string()),
+        ("bound", machine.bound.to_string()),
     ]
+}
+
+/// Activities that the bound holds back, each with the tokens that hold it.
+pub fn held(program: &Program, held: &[Held]) -> String {
+    list(held.iter().map(|held| {
+        let by = held.by.iter().map(|holder| token(program, holder));
+        object(&[
+            ("name", string(&program.tag(&held.tag))),
+            ("path", string(&held.tag.path.to_string())),
+            ("iteration", held.tag.iteration.to_string()),
+            ("instruction", held.tag.instruction.to_string()),
+            ("line", maybe(program.line(held.tag.instruction))),
+            ("by", list(by)),
+        ])
+    }))
 }
 
 /// The counts of the saved state that a run went on from, if it did.
@@ -171,6 +188,7 @@ fn cell(program: &Program, number: i32, cell: Cell) -> Option<String> {
 pub fn finding(text: &str, finding: &Finding) -> String {
     let severity = match finding.severity {
         Severity::Warning => "warning",
+        Severity::Note => "note",
         _ => "error",
     };
     let at = finding.at.as_ref();

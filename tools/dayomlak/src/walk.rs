@@ -2,11 +2,12 @@
 
 use crate::answer::Word;
 use crate::failure::Failure;
+use crate::held::Held;
 use crate::machine::{self, End, Machine};
 use crate::orders;
 use crate::program::Program;
 use crate::records::{self, Tag};
-use crate::saved::view::View;
+use crate::saved::view::{disagreement, View};
 use crate::saved::State;
 
 /// A state of a run, and what can fire in it.
@@ -15,8 +16,10 @@ pub struct Walk<'m> {
     machine: &'m Machine<'m>,
     /// What the firings so far leave. A refused firing leaves what it found.
     pub end: End,
-    /// The enabled activities, as picks count them from 0: oldest first.
+    /// The enabled activities that no bound holds back, as picks count them from 0: oldest first.
     pub enabled: Vec<Tag>,
+    /// Those that the bound holds back.
+    pub held: Vec<Held>,
 }
 
 impl<'m> Walk<'m> {
@@ -32,19 +35,19 @@ impl<'m> Walk<'m> {
     }
 
     fn at(machine: &'m Machine<'m>, end: End) -> Result<Walk<'m>, Failure> {
-        let enabled = match end.answer.word {
-            Word::Refused(_) => Vec::new(),
-            _ => View::of(machine.program, &end.tokens()).enabled,
+        let view = match end.answer.word {
+            Word::Refused(_) => View::default(),
+            _ => View::of(machine, &end.tokens()),
         };
-        // The engine says whether anything is enabled, and must agree.
-        let is_more = end.answer.word == Word::Spent;
-        match is_more == enabled.is_empty() {
-            true => Err(disagreement()),
-            false => Ok(Walk {
+        // The engine says whether anything can fire, and must agree.
+        match view.agrees(&end) {
+            true => Ok(Walk {
                 machine,
                 end,
-                enabled,
+                enabled: view.enabled,
+                held: view.held,
             }),
+            false => Err(disagreement()),
         }
     }
 
@@ -77,8 +80,27 @@ impl<'m> Walk<'m> {
         }
     }
 
+    pub fn machine(&self) -> &'m Machine<'m> {
+        self.machine
+    }
+
     pub fn program(&self) -> &'m Program {
         self.machine.program
+    }
+
+    fn choice(&self) -> Choice {
+        Choice {
+            enabled: self.enabled.clone(),
+            held: self.held.clone(),
+        }
+    }
+
+    /// Which tokens hold an activity back, by its name, if the bound does.
+    pub fn held_by(&self, name: &str) -> Option<String> {
+        let program = self.program();
+        let mut held = self.held.iter();
+        let held = held.find(|held| program.tag(&held.tag) == name)?;
+        Some(held.by_words(program))
     }
 
     /// The enabled activities by names.
@@ -88,23 +110,24 @@ impl<'m> Walk<'m> {
     }
 }
 
-fn disagreement() -> Failure {
-    let text = "the engine and what is shown of a state do not agree on what is enabled";
-    Failure::Inconsistent(text.to_string())
+/// What can fire at a position of a run, as picks count it, and what the bound holds back.
+pub struct Choice {
+    pub enabled: Vec<Tag>,
+    pub held: Vec<Held>,
 }
 
-/// The enabled activities before each firing of a run, and before the one that comes next, if there is one.
-pub fn enabled(machine: &Machine, log: &[Tag]) -> Result<Vec<Vec<Tag>>, Failure> {
+/// What can fire before each firing of a run, and before the one that comes next, if there is one.
+pub fn choices(machine: &Machine, log: &[Tag]) -> Result<Vec<Choice>, Failure> {
     let mut walk = Walk::new(machine)?;
-    let mut enabled = Vec::new();
+    let mut choices = Vec::new();
     for tag in log {
-        enabled.push(walk.enabled.clone());
+        choices.push(walk.choice());
         if !walk.fire_tag(tag)? {
             return Err(disagreement());
         }
     }
-    enabled.push(walk.enabled);
-    Ok(enabled)
+    choices.push(walk.choice());
+    Ok(choices)
 }
 
 /// Enabled activities by their numbers: `0 j[0]  1 s[0]`.
@@ -133,9 +156,12 @@ mod tests {
         let program = program(TEXT);
         let machine = Machine::new(&program, Sizes::default());
         let (_, log) = machine.run_logged(&[], WHOLE);
-        let enabled = enabled(&machine, &log).unwrap();
-        let names = |tags: &Vec<Tag>| tags.iter().map(|t| program.tag(t)).collect::<Vec<_>>();
-        let names: Vec<Vec<String>> = enabled.iter().map(names).collect();
+        let choices = choices(&machine, &log).unwrap();
+        let names = |choice: &Choice| {
+            let tags = choice.enabled.iter();
+            tags.map(|t| program.tag(t)).collect::<Vec<_>>()
+        };
+        let names: Vec<Vec<String>> = choices.iter().map(names).collect();
         assert_eq!(names[0], ["read[0]", "a[0]", "write[0]"]);
         assert_eq!(names[2], ["write[0]"]);
         assert_eq!(names[3], ["plus[0]"]);

@@ -219,7 +219,7 @@ fn what_is_enabled_at_a_position() {
     let enabled = expected.map(|(name, number, since, until)| {
         format!("{{\"name\":\"{name}[0]\",\"at\":\"instruction-{number}\",\"since\":{since},\"until\":{until}}}")
     });
-    let shown = between(data(&page), "\"enabled\":[", "],\"tokens\"");
+    let shown = between(data(&page), "\"enabled\":[", "],\"held\"");
     assert_eq!(shown, enabled.join(","));
 }
 
@@ -331,7 +331,7 @@ fn refused_before_any_firing() {
         assert!(done.out.contains(words), "{done:?}");
         stands_alone(&page);
         assert!(between(&page, "<pre id=\"refusal\">", "</pre>").contains(words));
-        let empty = "\"firings\":[],\"refused\":null,\"enabled\":[],\"tokens\":[],\"cells\":[],\"steps\":[],\"firstStep\":1";
+        let empty = "\"firings\":[],\"refused\":null,\"enabled\":[],\"held\":[],\"tokens\":[],\"cells\":[],\"steps\":[],\"firstStep\":1";
         let start = "{\"before\":0,\"carriedOn\":false";
         assert_eq!(
             data(&page),

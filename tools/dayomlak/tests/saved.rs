@@ -558,7 +558,7 @@ const UNFIT: [Edit; 7] = [
         e.parts[0] = e.bytes()
     }),
     (
-        "it has a loop bound, which this program does not know: use a newer one",
+        "its head says a bound of 1, and a bound is 0 for none, or 2 to 256",
         |e| e.set("bound", "1"),
     ),
     ("its text is not the text of its graph", |e| {
@@ -811,9 +811,9 @@ fn the_page_of_a_damaged_state() {
     assert_eq!(done.status, 1);
     let page = fs::read_to_string(page).unwrap();
     assert!(page.contains("= a result is never spent: token 1, `other[0]`, is spent\n"));
-    assert!(
-        page.contains("\"firings\":[],\"refused\":null,\"enabled\":[],\"tokens\":[],\"cells\":[]")
-    );
+    assert!(page.contains(
+        "\"firings\":[],\"refused\":null,\"enabled\":[],\"held\":[],\"tokens\":[],\"cells\":[]"
+    ));
     let done = dayomlak(&["report", &file, "-o", &file]);
     assert_eq!((&done.out[..], done.status), ("", 2));
     assert!(

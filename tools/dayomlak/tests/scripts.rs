@@ -10,19 +10,34 @@ use common::{dayomlak, expect, typed, ROOT};
 const CALL: &str = "examples/call/call.ttda";
 const READ: &str = "examples/deferred_read/deferred_read.ttda";
 const FAULTY: &str = "examples/past_next/past_next.ttda";
+const LATE: &str = "examples/late_entry/late_entry.ttda";
 const CONSTANTS: &str = "examples/constants/constants.ttda";
 
 /// Every command with a graph, and the names that its output is stored by.
-const CALLS: [(&str, &[&str]); 15] = [
+const CALLS: [(&str, &[&str]); 19] = [
     ("run", &["run", CALL]),
     ("run-hung", &["run", READ, "--order", "newest"]),
     ("run-refused", &["run", FAULTY]),
     ("run-cut", &["run", CALL, "--budget", "3"]),
+    (
+        "run-held",
+        &["run", LATE, "--order", "oldest", "--bound", "2"],
+    ),
     ("check", &["check", FAULTY]),
     ("bounds", &["bounds", CONSTANTS]),
     ("bounds-refused", &["bounds", CALL]),
     ("compare", &["compare", CALL, "--orders", "2"]),
+    (
+        "compare-bound",
+        &["compare", LATE, "--orders", "2", "--bound", "2"],
+    ),
     ("trace", &["trace", READ, "--from", "2", "--count", "9"]),
+    (
+        "trace-bound",
+        &[
+            "trace", LATE, "--order", "oldest", "--bound", "2", "--from", "12",
+        ],
+    ),
     ("diff", &["diff", READ, "oldest", "newest"]),
     ("profile", &["profile", CALL]),
     (
@@ -32,6 +47,10 @@ const CALLS: [(&str, &[&str]); 15] = [
     (
         "profile-firings",
         &["profile", CALL, "--firings", "--budget", "2"],
+    ),
+    (
+        "profile-bound",
+        &["profile", LATE, "--bound", "2", "--budget", "2"],
     ),
     ("explain", &["explain", "9"]),
     ("explain-wrong", &["explain", "99"]),
@@ -99,11 +118,11 @@ fn tables_of_values() {
         "step,firings,tokens,waiting\n1,2,3,0\n2,2,3,0\n3,1,2,0\n"
     );
     let trace = dayomlak(&["trace", READ, "--csv", "--count", "2"]);
-    let lines = "firing,activity,operation,operands,effect,pick,enabled\n\
+    let lines = "firing,activity,operation,operands,effect,pick,enabled,held\n\
         1,read_5[0],FETCH,5,\"-> twice[0], write_6[0].1 deferred: cell 5 has no value yet\",0,\
-        read_5[0] read_6[0] read_7[0] write_5[0]\n\
+        read_5[0] read_6[0] read_7[0] write_5[0],\n\
         2,read_6[0],FETCH,6,-> out_6[0] deferred: cell 6 has no value yet,0,\
-        read_6[0] read_7[0] write_5[0]\n";
+        read_6[0] read_7[0] write_5[0],\n";
     assert_eq!(trace.out, lines);
     for command in ["profile", "trace"] {
         assert_eq!(dayomlak(&[command, READ, "--csv", "--json"]).status, 2);

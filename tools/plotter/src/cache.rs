@@ -20,7 +20,7 @@ pub struct Cache {
 impl Cache {
     /// A cache in a file, for the runs of one engine.
     pub fn new(file: PathBuf, engine: &str) -> Cache {
-        let head = format!("dayomlak plot 3, engine {engine}\n");
+        let head = format!("dayomlak plot 4, engine {engine}\n");
         Cache { file, head }
     }
 
@@ -78,6 +78,7 @@ fn encode(plot: &Plot, bytes: &mut Vec<u8>) {
         u64::from(request.capacity),
         u64::from(request.cells),
         u64::from(request.budget),
+        u64::from(request.bound),
         plot.left.answer,
         plot.profile.answer,
         plot.run.seconds,
@@ -106,7 +107,7 @@ fn decode(bytes: &[u8]) -> Option<Plot> {
     let mut reader = Reader(bytes);
     let small = |number: Option<u64>| u16::try_from(number?).ok();
     let (capacity, cells) = (small(reader.number())?, small(reader.number())?);
-    let budget = small(reader.number())?;
+    let (budget, bound) = (small(reader.number())?, small(reader.number())?);
     let (answer, profiled, seconds) = (reader.number()?, reader.number()?, reader.number()?);
     let (graph, arrays) = (reader.field()?, reader.field()?);
     let (inputs, picks) = (reader.field()?, reader.field()?);
@@ -118,6 +119,7 @@ fn decode(bytes: &[u8]) -> Option<Plot> {
         inputs,
         picks,
         budget,
+        bound,
         capacity,
         cells,
     };

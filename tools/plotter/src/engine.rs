@@ -11,6 +11,8 @@ pub struct Request {
     pub inputs: Vec<u8>,
     pub picks: Vec<u8>,
     pub budget: u16,
+    /// The loop bound, 0 for none. A profile takes none.
+    pub bound: u16,
     /// Records of the ledger.
     pub capacity: u16,
     /// I-structure cells.
@@ -27,7 +29,7 @@ pub struct Left {
     pub cells: Vec<u8>,
 }
 
-/// A run in ideal steps, which takes no picks and no budget.
+/// A run in ideal steps, which takes no picks, no budget and no loop bound.
 #[derive(Clone, Debug, PartialEq, Eq)]
 pub struct Profile {
     pub answer: u64,
@@ -83,7 +85,7 @@ impl Engine for Library {
             &asked.inputs,
             &asked.picks,
             asked.budget,
-            0,
+            asked.bound,
             &mut ledger,
             &mut cells,
         );
@@ -114,6 +116,10 @@ impl Engine for Library {
     }
 
     fn serves(&self, kept: &Request, answer: u64, asked: &Request) -> bool {
+        // The library's clause is of runs without a bound; with one, a run serves for itself alone.
+        if kept.bound != 0 || asked.bound != 0 {
+            return kept == asked;
+        }
         let served = ttda::serves(
             &kept.graph,
             &kept.arrays,
@@ -125,7 +131,6 @@ impl Engine for Library {
             &asked.picks,
             kept.budget,
             asked.budget,
-            0,
             TOKEN * usize::from(kept.capacity),
             TOKEN * usize::from(asked.capacity),
             CELL * usize::from(kept.cells),

@@ -13,6 +13,14 @@ impl Fingerprint {
         Fingerprint::of(&[&graphs, &tables, graph, arrays, inputs].concat())
     }
 
+    /// The fingerprint of a run under a loop bound: that of the run itself where there is none.
+    pub fn bounded(self, bound: u16) -> Fingerprint {
+        match bound {
+            0 => self,
+            _ => Fingerprint::of(&[&self.0[..], &bound.to_le_bytes()].concat()),
+        }
+    }
+
     pub fn of(bytes: &[u8]) -> Fingerprint {
         let mut state = primes().take(8).map(|prime| root(prime, 2));
         let mut state: [u32; 8] = std::array::from_fn(|_| state.next().unwrap_or(0));
@@ -170,6 +178,16 @@ mod tests {
         // As it was before there were arrays: the length in 8 bytes.
         assert_eq!(one, Fingerprint::of(&[2, 0, 0, 0, 0, 0, 0, 0, 1, 2, 3]));
         assert_eq!(one.to_string(), one.digits()[..16]);
+    }
+
+    /// Each bound has a fingerprint of its own, and none leaves it as it was.
+    #[test]
+    fn a_bound_counts() {
+        let one = Fingerprint::of_run(&[1, 2], &[], &[3]);
+        assert_eq!(one.bounded(0), one);
+        let bounds = [0, 2, 3, 256].map(|bound| one.bounded(bound).digits());
+        let others: std::collections::HashSet<_> = bounds.iter().collect();
+        assert_eq!(others.len(), bounds.len());
     }
 
     #[test]

@@ -18,8 +18,8 @@
 //! inputs[28 + 17] = 1;
 //! inputs[48..52].copy_from_slice(&(-9i32).to_le_bytes());
 //! let (arrays, picks) = (Vec::new(), Vec::new());
-//! let (budget, capacity, cells) = (2048, 2048, 1024);
-//! let request = Request { graph, arrays, inputs, picks, budget, capacity, cells };
+//! let (budget, bound, capacity, cells) = (2048, 0, 2048, 1024);
+//! let request = Request { graph, arrays, inputs, picks, budget, bound, capacity, cells };
 //! let asked = Run { request, order: "oldest first".to_string(), seconds: plotter::now() };
 //!
 //! let plot = Plot::of(&Library, None, asked);

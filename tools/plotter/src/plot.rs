@@ -22,12 +22,16 @@ pub struct Run {
 }
 
 impl Run {
-    /// Its order, and its budget where that may stop it.
+    /// Its order, its loop bound if it has one, and its budget where that may stop it.
     pub fn words(&self) -> String {
-        match self.request.budget {
-            WHOLE => self.order.clone(),
-            budget => format!("{}, budget {budget}", self.order),
+        let mut words = self.order.clone();
+        if self.request.bound != 0 {
+            words += &format!(", bound {}", self.request.bound);
         }
+        if self.request.budget != WHOLE {
+            words += &format!(", budget {}", self.request.budget);
+        }
+        words
     }
 
     pub fn date(&self) -> String {
@@ -84,7 +88,8 @@ impl Plot {
     pub fn asked_for(&self) -> Option<String> {
         let asked = self.asked.as_ref()?;
         let (own, other) = (&self.run.request, &asked.request);
-        let reason = match (own.picks == other.picks, own.budget == other.budget) {
+        let is_ordered_alike = own.picks == other.picks && own.bound == other.bound;
+        let reason = match (is_ordered_alike, own.budget == other.budget) {
             (true, true) => "the same run",
             (true, false) => "either budget is enough",
             (false, _) => "any order ends as this one",
@@ -97,8 +102,13 @@ impl Plot {
     fn facts(&self, words: &Words) -> Vec<String> {
         let request = &self.run.request;
         let fingerprint = Fingerprint::of_run(&request.graph, &request.arrays, &request.inputs);
+        let fingerprint = fingerprint.bounded(request.bound);
+        let what = match request.bound {
+            0 => "graph and inputs",
+            _ => "graph, inputs and bound",
+        };
         let (capacity, cells) = (request.capacity, request.cells);
-        let lent = format!("graph and inputs {fingerprint}, capacity {capacity}, {cells} cells");
+        let lent = format!("{what} {fingerprint}, capacity {capacity}, {cells} cells");
         let run = format!("run of {}: {}", self.run.date(), words.run);
         let mut facts = vec![lent, run];
         facts.extend(self.asked_for());

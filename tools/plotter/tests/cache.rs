@@ -41,7 +41,11 @@ impl Engine for StandIn {
     }
 
     fn serves(&self, kept: &Request, answer: u64, asked: &Request) -> bool {
-        assert_eq!((kept, answer), (&request(&[]), 1 << 32));
+        let unbounded = Request {
+            bound: 0,
+            ..kept.clone()
+        };
+        assert_eq!((unbounded, answer), (request(&[]), 1 << 32));
         assert_eq!(asked.graph, kept.graph);
         self.serves
     }
@@ -76,6 +80,7 @@ fn request(picks: &[u8]) -> Request {
         inputs: vec![4; 28],
         picks: picks.to_vec(),
         budget: 2048,
+        bound: 0,
         capacity: 20,
         cells: 1,
     }
@@ -149,6 +154,32 @@ fn the_reason_is_the_one_that_holds() {
     let line =
         "asked for: oldest first, budget 9, 2026-11-16 05:40:02 UTC; either budget is enough";
     assert_eq!(budget.asked_for().unwrap(), line);
+}
+
+/// A bounded run is called by its bound, in words and in the fingerprint, from the file too; it is never the same run as one without.
+#[test]
+fn a_bound_is_named() {
+    let (folder, engine) = (Folder::new(), StandIn::new(true));
+    let cache = folder.cache();
+    let mut bounded = asked("oldest first", &[], 0);
+    bounded.request.bound = 2;
+    Plot::of(&engine, Some(&cache), bounded.clone());
+    let served = Plot::of(&engine, Some(&cache), asked("oldest first", &[], 1));
+    assert_eq!(engine.runs.get(), 1);
+    assert_eq!(served.run, bounded);
+    assert_eq!(served.run.words(), "oldest first, bound 2");
+    let line = "asked for: oldest first, 2026-11-16 05:40:01 UTC; any order ends as this one";
+    assert_eq!(served.asked_for().unwrap(), line);
+    let fact = |plot: &Plot| {
+        let svg = plot.svg(&words(), Steps::default()).unwrap();
+        let from = svg.find("graph").unwrap();
+        svg[from..from + 40].to_string()
+    };
+    let plain = Plot::of(&engine, None, asked("oldest first", &[], 0));
+    assert!(fact(&served).starts_with("graph, inputs and bound "));
+    assert!(fact(&plain).starts_with("graph and inputs "));
+    let last = |fact: String| fact.split(' ').next_back().map(str::to_string);
+    assert_ne!(last(fact(&served)), last(fact(&plain)));
 }
 
 /// Every byte of the file counts, and so does the engine that it names.

@@ -49,7 +49,7 @@ fn gallery() -> Vec<asm::Files> {
     texts.map(|text| asm::assemble(&text).unwrap()).collect()
 }
 
-/// Runs of a graph that differ in one thing or in several: picks, two of which no run takes, budget, capacity, cell count.
+/// Runs of a graph that differ in one thing or in several: picks, two of which no run takes, budget, capacity, cell count, bound.
 fn runs(files: &asm::Files) -> Vec<Shown> {
     let picks = [0, 2, 60, 4096, 61, 4098].map(|bytes| vec![201; bytes]);
     let whole = Library.run(&request(files, &[], 2048, 2048, 1024)).answer;
@@ -62,6 +62,16 @@ fn runs(files: &asm::Files) -> Vec<Shown> {
             }
         }
     }
+    for bound in [2, 4] {
+        for (picks, budget) in [
+            (&picks[0], 2048),
+            (&picks[2], 2048),
+            (&picks[0], firings / 2),
+        ] {
+            let plain = request(files, picks, budget, 2048, 1024);
+            runs.push(Shown::of(Request { bound, ..plain }));
+        }
+    }
     runs
 }
 
@@ -72,6 +82,7 @@ fn request(files: &asm::Files, picks: &[u8], budget: u16, capacity: u16, cells: 
         inputs: files.inputs.clone(),
         picks: picks.to_vec(),
         budget,
+        bound: 0,
         capacity,
         cells,
     }
@@ -87,6 +98,8 @@ fn what_is_served_is_what_the_run_would_show() {
             assert!(kept.serves(kept));
             for asked in runs.iter().filter(|asked| kept.serves(asked)) {
                 assert!(kept.is_shown_alike(asked));
+                let bounds = (kept.request.bound, asked.request.bound);
+                assert!(bounds.0 == bounds.1 || bounds.1 == 0, "{bounds:?}");
                 other_orders += usize::from(kept.request.picks != asked.request.picks);
             }
         }

@@ -1,6 +1,7 @@
 //! `dayomlak diff`.
 
-use super::{compare, ended, load, summary};
+use super::compare::Compared;
+use super::{ended, load, summary};
 use crate::answer::Word;
 use crate::cli::Diff;
 use crate::failure::Failure;
@@ -15,27 +16,22 @@ use crate::walk::{self, Walk};
 pub fn diff(args: &Diff) -> Result<u8, Failure> {
     let program = load(&args.file.file)?;
     let machine = Machine::new(&program, args.buffers.sizes());
+    let machine = machine.bounded(args.bounding.or_none());
     let orders = [args.one.clone(), args.other.clone()];
-    let kinds = compare::kinds(&machine, &orders)?;
+    let compared = Compared::new(&machine, &orders, None)?;
     let parting = Parting::of(&machine, &orders)?;
-    let agree = compare::agrees(&kinds);
-    let first = orders[0].words(&program);
+    let (end, first) = compared.first(&machine);
     if args.script.json {
         let mut fields = script::lent(&machine);
         fields.extend(parting.fields());
-        fields.extend(compare::fields_of(&kinds, agree, None));
-        fields.extend(ended(&machine, &kinds[0].end, &first));
+        fields.extend(compared.fields());
+        fields.extend(ended(&machine, end, &first));
         script::print("diff", &program, fields)?;
-        return Ok(compare::compared(&kinds, agree));
+        return Ok(compared.status());
     }
-    let mut text = parting.words(&orders);
-    for kind in &kinds {
-        text += &format!("{}\n", compare::line(kind));
-    }
-    text += &format!("{}\n\n", compare::verdict(&kinds, false));
-    text += &summary(&machine, &kinds[0].end, &first);
+    let text = parting.words(&orders) + &compared.text() + &summary(&machine, end, &first);
     output::print(text.as_bytes())?;
-    Ok(compare::compared(&kinds, agree))
+    Ok(compared.status())
 }
 
 /// Where two runs part.

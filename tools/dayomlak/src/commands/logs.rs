@@ -14,21 +14,24 @@ use crate::machine::{End, Machine, Sizes};
 use crate::output::{self, Target};
 use crate::program::Program;
 use crate::records::{Tag, LOGGED};
-use crate::{forms, refused, saved};
+use crate::{forms, held, refused, saved};
 
 pub fn log(args: &Log) -> Result<u8, Failure> {
     let program = load(&args.file.file)?;
     let machine = Machine::new(&program, args.buffers.sizes());
+    let machine = machine.bounded(args.firing.bounding.or_none());
     let order = args.firing.order();
     let target = Target::new(&args.output, &program.sources_with(&order))?;
     let picks = order.picks(&machine)?;
     let (end, records) = machine.run_for_log(&picks, args.firing.budget);
-    let mut said = answer(&machine, &end, &order.words(&program));
+    held::check(&machine, &end)?;
+    let mut said = answer(&machine, &end, &machine.order(&order));
     match end.answer.refused_at_once() {
         true => said += "no log is written: the run did not begin\n",
         false => {
             let of = (!args.records).then(|| Named::of(&machine));
-            target.write(&LogFile { of, records }.encode())?;
+            let bound = machine.bound;
+            target.write(&LogFile { of, bound, records }.encode())?;
         }
     }
     target.say(&said)?;
@@ -54,7 +57,14 @@ pub fn replay(args: &Replay) -> Result<u8, Failure> {
         output::print(&end.text()?)?;
         return Ok(status(&end));
     }
-    let text = replayed(&machine, &end, &log.records, order) + &left(&machine, &end);
+    let mut text = replayed(&machine, &end, &log.records, order);
+    if log.bound != 0 && end.answer.word == Word::Spent {
+        text += &format!(
+            "the log is of a run with bound {}; a replay has none, so that what was held then can fire here\n",
+            log.bound
+        );
+    }
+    text += &left(&machine, &end);
     output::print(text.as_bytes())?;
     Ok(status(&end))
 }

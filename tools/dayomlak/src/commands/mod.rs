@@ -26,7 +26,7 @@ use crate::machine::{End, Machine};
 use crate::program::Program;
 use crate::saved::conditions;
 use crate::script::{self, Fields};
-use crate::{json, refused, results, warnings};
+use crate::{held, json, refused, results, warnings};
 
 /// Loads a program and shows its warnings.
 fn load(file: &str) -> Result<Program, Failure> {
@@ -35,13 +35,21 @@ fn load(file: &str) -> Result<Program, Failure> {
     Ok(program)
 }
 
-/// The answer of a run in words: why it was refused, or its first line.
+/// The answer of a run in words: why it was refused, or its first line, and why it hung on held activities.
 pub fn answer(machine: &Machine, end: &End, order: &str) -> String {
+    let first = match end.answer.word {
+        Word::Refused(_) => String::new(),
+        _ => results::headline(machine, end, order) + "\n",
+    };
+    first + &why(machine, end, order).unwrap_or_default()
+}
+
+/// Why a run was refused or hung on held activities, with the place in the text; `None` for another one.
+pub fn why(machine: &Machine, end: &End, order: &str) -> Option<String> {
     let program = machine.program;
-    match refusal(machine, end, order) {
-        Some(finding) => diagnostics::plain(&program.text_label, &program.text, &[finding]),
-        None => results::headline(end, order) + "\n",
-    }
+    let finding = refusal(machine, end, order).or_else(|| held::explain(machine, end))?;
+    let text = diagnostics::plain(&program.text_label, &program.text, &[finding]);
+    Some(text)
 }
 
 /// Why a run was refused; `None` for another one.
@@ -60,7 +68,7 @@ fn summary(machine: &Machine, end: &End, order: &str) -> String {
 
 /// What the run left, a line each.
 fn left(machine: &Machine, end: &End) -> String {
-    let lines = results::lines(machine.program, end).into_iter();
+    let lines = results::lines(machine, end).into_iter();
     lines.map(|line| line + "\n").collect()
 }
 
@@ -68,11 +76,17 @@ fn left(machine: &Machine, end: &End) -> String {
 fn ended(machine: &Machine, end: &End, order: &str) -> Fields {
     let program = machine.program;
     let refused = refusal(machine, end, order);
-    let refused = refused.map(|finding| script::finding(&program.text, &finding));
+    let said = |finding: Option<Finding>| {
+        let finding = finding.map(|finding| script::finding(&program.text, &finding));
+        finding.unwrap_or("null".to_string())
+    };
+    let held = held::of(machine, end);
     let mut fields = vec![
         ("order", json::string(order)),
         ("answer", script::answer(&end.answer)),
-        ("refused", refused.unwrap_or("null".to_string())),
+        ("refused", said(refused)),
+        ("hung", said(held::explain(machine, end))),
+        ("held", script::held(program, &held)),
     ];
     fields.extend(script::left(program, end));
     fields

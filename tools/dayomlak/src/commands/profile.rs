@@ -17,7 +17,7 @@ use crate::output::{self, Target};
 use crate::pictures::{self, Form};
 use crate::program::Program;
 use crate::sources::Source;
-use crate::{profiles, refused, results, script};
+use crate::{held, profiles, refused, results, script};
 
 /// The longest bar of the table.
 const BAR: usize = 30;
@@ -25,7 +25,7 @@ const BAR: usize = 30;
 const NO_RUN: &str = "--order and --budget are of the run that a picture shows beside the curves, or of --firings, and none is \
     asked for\n  steps take no picks and no budget: leave them out, or name a picture by -o X.svg";
 const ONE_ONLY: &str =
-    "--json and --csv are of one profile\n  ask for each file and each --processors by itself";
+    "--json and --csv are of one profile\n  ask for each file, each --processors and each --bound by itself";
 
 pub fn profile(args: &Profile) -> Result<u8, Failure> {
     let is_ordered = args.order.is_some() || args.budget.is_some();
@@ -33,9 +33,10 @@ pub fn profile(args: &Profile) -> Result<u8, Failure> {
         [] => &[Pace::Ideal],
         paces => paces,
     };
-    let is_ideal = paces == [Pace::Ideal] && !args.firings;
+    let is_by_firing = args.firings || !bounds(args).is_empty();
+    let is_ideal = paces == [Pace::Ideal] && !is_by_firing;
     match (&args.files[..], &args.output) {
-        _ if is_ordered && !args.firings && !(is_ideal && args.output.is_some()) => {
+        _ if is_ordered && !is_by_firing && !(is_ideal && args.output.is_some()) => {
             Err(Failure::Wrong(NO_RUN.to_string()))
         }
         ([file], None) if is_ideal => show_table(args, file),
@@ -44,29 +45,53 @@ pub fn profile(args: &Profile) -> Result<u8, Failure> {
     }
 }
 
+/// The loop bounds that are asked for, 0 for the run without one; none where bounds are not asked for.
+fn bounds(args: &Profile) -> Vec<u16> {
+    let bounds = args.bound.iter().copied();
+    bounds.chain(args.none.then_some(0)).collect()
+}
+
 /// Profiles that are shown together, or one of another kind than the engine's own.
 struct Several {
     programs: Vec<Program>,
-    runs: Vec<(String, Paced)>,
+    runs: Vec<Profiled>,
+}
+
+/// A run with its name.
+struct Profiled {
+    name: String,
+    bound: u16,
+    /// What it hung on, if on held activities.
+    held: Option<String>,
+    paced: Paced,
 }
 
 impl Several {
     fn new(args: &Profile, paces: &[Pace]) -> Result<Several, Failure> {
         let programs = args.files.iter().map(|file| load(file));
         let programs: Vec<Program> = programs.collect::<Result<_, _>>()?;
-        let order = args.order.clone().unwrap_or(Order::Typed);
         let mut runs = Vec::new();
         for program in &programs {
             let machine = Machine::new(program, args.buffers.sizes());
-            let name = |what: &str| format!("{}, {what}", program.label);
-            if args.firings {
-                let picks = order.picks(&machine)?;
-                let paced = curves::by_firing(&machine, &picks, args.budget.unwrap_or(WHOLE))?;
-                runs.push((name(&order.words(program)), paced));
-                continue;
-            }
-            for pace in paces {
-                runs.push((name(&pace.step()), curves::paced(&machine, *pace)?));
+            match (args.firings, &bounds(args)[..]) {
+                (true, []) => runs.push(Profiled::by_firing(args, &machine)?),
+                (false, []) => {
+                    for pace in paces {
+                        let name = format!("{}, {}", program.label, pace.step());
+                        let paced = curves::paced(&machine, *pace)?;
+                        runs.push(Profiled {
+                            name,
+                            bound: 0,
+                            held: None,
+                            paced,
+                        });
+                    }
+                }
+                (_, bounds) => {
+                    for bound in bounds {
+                        runs.push(Profiled::by_firing(args, &machine.bounded(*bound))?);
+                    }
+                }
             }
         }
         Ok(Several { programs, runs })
@@ -75,15 +100,15 @@ impl Several {
     fn show(&self, args: &Profile) -> Result<u8, Failure> {
         match (&args.output, &self.runs[..]) {
             (Some(path), _) => self.draw(args, path)?,
-            (None, [(_, paced)]) if args.form.script.json => {
+            (None, [Profiled { bound, paced, .. }]) if args.form.script.json => {
                 let program = &self.programs[0];
-                let machine = Machine::new(program, args.buffers.sizes());
+                let machine = Machine::new(program, args.buffers.sizes()).bounded(*bound);
                 let mut fields = script::lent(&machine);
                 fields.push(("answer", script::answer(&paced.end.answer)));
                 fields.push(("steps", list(columns(&paced.steps))));
                 script::print("profile", program, fields)?;
             }
-            (None, [(_, paced)]) if args.form.csv => {
+            (None, [Profiled { paced, .. }]) if args.form.csv => {
                 output::print(csv(&paced.steps).as_bytes())?;
             }
             _ if args.form.script.json || args.form.csv => {
@@ -91,20 +116,25 @@ impl Several {
             }
             _ => output::print(self.tables().as_bytes())?,
         }
-        let completed = self
-            .runs
-            .iter()
-            .all(|(_, paced)| paced.end.answer.completed());
-        Ok(match completed {
+        let mut runs = self.runs.iter();
+        Ok(match runs.all(|run| run.paced.end.answer.completed()) {
             true => failure::COMPLETED,
             false => failure::NOT_COMPLETED,
         })
     }
 
     fn tables(&self) -> String {
-        let table = |run: &(String, Paced)| format!("{}{}\n", table(&run.1.steps), ended_as(run));
+        let table = |run: &Profiled| format!("{}{}\n", table(&run.paced.steps), run.words());
         let tables = self.runs.iter().map(table);
-        tables.collect::<Vec<_>>().join("\n")
+        tables.collect::<Vec<_>>().join("\n") + self.about_bounds()
+    }
+
+    /// What is said where a bound is asked for and steps might be expected.
+    fn about_bounds(&self) -> &'static str {
+        match self.runs.iter().any(|run| run.bound != 0) {
+            true => "tokens by firings: ideal steps take no bound\n",
+            false => "",
+        }
     }
 
     fn draw(&self, args: &Profile, path: &Path) -> Result<(), Failure> {
@@ -117,15 +147,19 @@ impl Several {
         let labels: Vec<&str> = self.programs.iter().map(|p| p.label.as_str()).collect();
         let facts = self.programs.iter().map(|program| {
             let fingerprint = pictures::fingerprint(&program.files);
-            format!("{}: graph and inputs {fingerprint}", program.label)
+            let mut fact = format!("{}: graph and inputs {fingerprint}", program.label);
+            for bound in bounds(args).into_iter().filter(|bound| *bound != 0) {
+                fact += &format!(", with bound {bound} {}", fingerprint.bounded(bound));
+            }
+            fact
         });
         let mut facts: Vec<String> = facts.collect();
-        let names: Vec<String> = self.runs.iter().map(ended_as).collect();
+        let names: Vec<String> = self.runs.iter().map(Profiled::words).collect();
         // Of several, each stands beside its colour.
         if let [name] = &names[..] {
             facts.push(name.clone());
         }
-        let steps = self.runs.iter().map(|(_, paced)| paced.steps.clone());
+        let steps = self.runs.iter().map(|run| run.paced.steps.clone());
         let picture = Picture {
             title: &labels.join(", "),
             facts: &facts,
@@ -135,17 +169,43 @@ impl Several {
         let svg = drawing::svg(&picture);
         let svg = svg.map_err(|error| Failure::Inconsistent(format!("the picture: {error}")))?;
         target.write(&form.drawn(svg.into_bytes())?)?;
-        target.say(&(names.join("\n") + "\n"))
+        target.say(&(names.join("\n") + "\n" + self.about_bounds()))
     }
 }
 
-/// A run with how it ended, and in how many steps where it has some.
-fn ended_as((name, Paced { steps, end }): &(String, Paced)) -> String {
-    let (words, counts) = (end.answer.words(), end.answer.counts());
-    let whole = steps.firings.len().saturating_sub(1 - steps.first.min(1));
-    match steps.firings.is_empty() {
-        true => format!("{name}: {words}, {counts}"),
-        false => format!("{name}: {}, {words}, {counts}", count(whole, "step")),
+impl Profiled {
+    /// The run of a machine, whose firings are its columns.
+    fn by_firing(args: &Profile, machine: &Machine) -> Result<Profiled, Failure> {
+        let order = args.order.clone().unwrap_or(Order::Typed);
+        let picks = order.picks(machine)?;
+        let mut name = format!("{}, {}", machine.program.label, machine.order(&order));
+        if machine.bound == 0 && !bounds(args).is_empty() {
+            name += ", no bound";
+        }
+        let paced = curves::by_firing(machine, &picks, args.budget.unwrap_or(WHOLE))?;
+        let held = held::left(machine, &paced.end);
+        Ok(Profiled {
+            name,
+            bound: machine.bound,
+            held: held.map(|held| held::words(machine.program, &held)),
+            paced,
+        })
+    }
+
+    /// How it ended, and in how many steps where it has some.
+    fn words(&self) -> String {
+        let (name, Paced { steps, end }) = (&self.name, &self.paced);
+        let (words, counts) = (end.answer.words(), end.answer.counts());
+        let whole = steps.firings.len().saturating_sub(1 - steps.first.min(1));
+        let most = steps.tokens.iter().max().copied().unwrap_or(0);
+        let ended = match steps.firings.is_empty() {
+            true => format!("{name}: {words}, {counts}, at most {most} live or deferred"),
+            false => format!("{name}: {}, {words}, {counts}", count(whole, "step")),
+        };
+        match &self.held {
+            Some(held) => format!("{ended}; {held}"),
+            None => ended,
+        }
     }
 }
 
@@ -280,14 +340,14 @@ fn words(machine: &Machine, plot: &Plot, end: &End) -> Words {
         title: program.label.clone(),
         run: ended(machine, end, &plot.run.words()),
         profile,
-        left: results::lines(program, end),
+        left: results::lines(machine, end),
     }
 }
 
 /// How a run ended, with the firing, the file or the array that was refused.
 fn ended(machine: &Machine, end: &End, order: &str) -> String {
     let program = machine.program;
-    let words = results::headline(end, order);
+    let words = results::headline(machine, end, order);
     let bad_file = || match end.answer.word {
         Word::Refused(7) => refused::bad_store(program),
         Word::Refused(22) => refused::bad_table(program, machine.sizes).map(|(_, why)| why),

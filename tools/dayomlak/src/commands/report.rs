@@ -9,6 +9,7 @@ use crate::report;
 
 pub fn report(args: &Report) -> Result<u8, Failure> {
     let beginning = Beginning::load(&args.file.file, &args.buffers)?;
+    let beginning = beginning.bounded(args.firing.bounding.bound);
     let machine = beginning.machine();
     let sources = beginning.program.sources_with(&args.firing.order());
     let target = Target::new(&args.output, &sources)?;

@@ -6,6 +6,7 @@ use super::{ended, status, summary};
 use crate::beginning::Beginning;
 use crate::cli::{CarryOn, Run};
 use crate::failure::Failure;
+use crate::held;
 use crate::machine::End;
 use crate::orders::Order;
 use crate::output::{self, Target};
@@ -13,6 +14,7 @@ use crate::script::{self, Fields};
 
 pub fn run(args: &Run) -> Result<u8, Failure> {
     let beginning = Beginning::load_graph(&args.file.file, &args.buffers)?;
+    let beginning = beginning.bounded(args.firing.bounding.bound);
     let asked = Asked {
         command: "run",
         order: args.firing.order(),
@@ -24,7 +26,7 @@ pub fn run(args: &Run) -> Result<u8, Failure> {
 }
 
 pub fn carry_on(args: &CarryOn) -> Result<u8, Failure> {
-    let beginning = Beginning::load_saved(&args.file)?;
+    let beginning = Beginning::load_saved(&args.file)?.bounded(args.bound);
     let asked = Asked {
         command: "carry-on",
         order: args.order.clone(),
@@ -68,6 +70,7 @@ impl Asked<'_> {
         let target = self.target(beginning)?;
         let machine = beginning.machine();
         let end = machine.run(&self.order.picks(&machine)?, self.budget);
+        held::check(&machine, &end)?;
         let order = beginning.order(&self.order, &end);
         let begun = !end.answer.refused_at_once();
         if let (Some(target), true) = (&target, begun) {

@@ -22,10 +22,12 @@ pub fn show(args: &Show) -> Result<u8, Failure> {
     }
     let machine = beginning.machine();
     let end = machine.run(&[], 0);
-    let view = View::of(&beginning.program, &end.tokens());
-    if (end.answer.word == Word::Spent) == view.enabled.is_empty() {
-        let text = "the engine and what is shown of the state do not agree on what is enabled";
-        return Err(Failure::Inconsistent(text.to_string()));
+    let view = match end.answer.word {
+        Word::Refused(_) => View::default(),
+        _ => View::of(&machine, &end.tokens()),
+    };
+    if !view.agrees(&end) {
+        return Err(view::disagreement());
     }
     match args.script.json {
         true => script::print("show", &beginning.program, fields(&beginning, &end, &view))?,

@@ -20,6 +20,7 @@ pub fn step(args: &Step) -> Result<u8, Failure> {
     }
     let program = load(&args.file.file)?;
     let machine = Machine::new(&program, args.buffers.sizes());
+    let machine = machine.bounded(args.bounding.or_none());
     let mut session = Session::new(&machine)?;
     let terminal = Term::stdout();
     let is_terminal = terminal.is_term() && io::IsTerminal::is_terminal(&io::stdin());
@@ -28,6 +29,6 @@ pub fn step(args: &Step) -> Result<u8, Failure> {
         false => lines::run(&mut session, io::stdin().lock())?,
     }
     let end = &session.walk.end;
-    output::print(summary(&machine, end, "by hand").as_bytes())?;
+    output::print(summary(&machine, end, &session.words()).as_bytes())?;
     Ok(status(end))
 }

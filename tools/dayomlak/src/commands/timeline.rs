@@ -19,11 +19,12 @@ pub fn timeline(args: &cli::Timeline) -> Result<u8, Failure> {
     let order = args.firing.order();
     let target = Target::new(&args.output, &program.sources_with(&order))?;
     let machine = Machine::new(&program, args.buffers.sizes());
+    let machine = machine.bounded(args.firing.bounding.or_none());
     let timeline = match (args.processors, args.steps) {
         (Some(pace), _) => Timeline::by_step(&machine, pace)?,
         (None, true) => Timeline::by_step(&machine, Pace::Ideal)?,
         (None, false) => {
-            let (words, picks) = (order.words(&program), order.picks(&machine)?);
+            let (words, picks) = (machine.order(&order), order.picks(&machine)?);
             Timeline::by_firing(&machine, words, &picks, args.firing.budget)?
         }
     };

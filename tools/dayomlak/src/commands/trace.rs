@@ -10,10 +10,12 @@ use crate::history::{Firing, History, Touch};
 use crate::json::{list, maybe, object, string};
 use crate::program::Program;
 use crate::records::Tag;
-use crate::{effects, output, script, walk};
+use crate::walk::{self, Choice};
+use crate::{effects, output, script};
 
 pub fn trace(args: &Trace) -> Result<u8, Failure> {
     let beginning = Beginning::load(&args.file.file, &args.buffers)?;
+    let beginning = beginning.bounded(args.firing.bounding.bound);
     let (program, machine) = (&beginning.program, beginning.machine());
     let order = args.firing.order();
     let picks = order.picks(&machine)?;
@@ -23,7 +25,7 @@ pub fn trace(args: &Trace) -> Result<u8, Failure> {
         true => History::default(),
         false => History::of(&machine, &end, &log)?,
     };
-    let enabled = Enabled(program, walk::enabled(&machine, &log)?);
+    let enabled = Enabled(program, walk::choices(&machine, &log)?);
     let shown = shown(args, &history);
     if args.form.script.json {
         let firings = shown.map(|number| json(program, &history, &enabled, number));
@@ -44,22 +46,37 @@ pub fn trace(args: &Trace) -> Result<u8, Failure> {
 }
 
 /// The enabled activities before each firing, and behind the last.
-struct Enabled<'p>(&'p Program, Vec<Vec<Tag>>);
+struct Enabled<'p>(&'p Program, Vec<Choice>);
 
 impl Enabled<'_> {
     fn names(&self, number: usize) -> Vec<String> {
-        self.1[number].iter().map(|tag| self.0.tag(tag)).collect()
+        let tags = self.1[number].enabled.iter();
+        tags.map(|tag| self.0.tag(tag)).collect()
     }
 
     /// The number of an activity among those that are enabled before a firing.
     fn pick(&self, number: usize, tag: &Tag) -> Option<usize> {
-        self.1[number].iter().position(|enabled| enabled == tag)
+        let mut enabled = self.1[number].enabled.iter();
+        enabled.position(|enabled| enabled == tag)
     }
 
-    /// A line before a firing; behind the last one, if something is enabled there.
-    fn line(&self, number: usize) -> Option<String> {
-        let names = self.names(number);
-        (!names.is_empty()).then(|| format!("enabled: {}\n", walk::numbered(&names)))
+    /// What the bound holds back there, with what holds it.
+    fn held(&self, number: usize) -> Vec<String> {
+        let held = self.1[number].held.iter();
+        held.map(|held| held.words(self.0)).collect()
+    }
+
+    /// The lines before a firing; behind the last one, if something is enabled there.
+    fn lines(&self, number: usize) -> String {
+        let (names, held) = (self.names(number), self.held(number));
+        let mut text = String::new();
+        if !names.is_empty() {
+            text += &format!("enabled: {}\n", walk::numbered(&names));
+        }
+        if !held.is_empty() {
+            text += &format!("held: {}\n", held.join("  "));
+        }
+        text
     }
 }
 
@@ -105,6 +122,7 @@ fn json(program: &Program, history: &History, enabled: &Enabled, number: usize) 
             "enabled",
             list(enabled.names(number).iter().map(|name| string(name))),
         ),
+        ("held", script::held(program, &enabled.1[number].held)),
     ])
 }
 
@@ -131,7 +149,8 @@ fn touch(program: &Program, history: &History, firing: &Firing) -> String {
     ])
 }
 
-/// A line for each firing: number, activity, operation, operands, what it does, its pick and the names that it chooses from.
+/// A line for each firing: number, activity, operation, operands, what it does, its pick, the names that it chooses from and those
+/// that the bound holds back.
 fn csv(program: &Program, history: &History, enabled: &Enabled, shown: Range<usize>) -> String {
     let head = [
         "firing",
@@ -141,6 +160,7 @@ fn csv(program: &Program, history: &History, enabled: &Enabled, shown: Range<usi
         "effect",
         "pick",
         "enabled",
+        "held",
     ];
     let mut text = script::csv(&head.map(str::to_string));
     for number in shown {
@@ -149,6 +169,7 @@ fn csv(program: &Program, history: &History, enabled: &Enabled, shown: Range<usi
         row.push(effects::of(program, history, firing));
         row.push(maybe(enabled.pick(number, &firing.tag)));
         row.push(enabled.names(number).join(" "));
+        row.push(enabled.held(number).join(" "));
         text += &script::csv(&row);
     }
     text
@@ -167,7 +188,7 @@ fn lines(
         (columns, effects::of(program, history, firing))
     };
     let rows: Vec<([String; 4], String)> = shown.clone().map(row).collect();
-    let enabled_at = |number| enabled.and_then(|enabled| enabled.line(number));
+    let enabled_at = |number| enabled.map_or(String::new(), |enabled| enabled.lines(number));
     let width = |column: usize| {
         let widths = rows.iter().map(|(columns, _)| columns[column].len());
         widths.max().unwrap_or(0)
@@ -175,14 +196,14 @@ fn lines(
     let [w0, w1, w2, w3] = [0, 1, 2, 3].map(width);
     let mut text = String::new();
     for (at, ([number, activity, operation, operands], effects)) in shown.clone().zip(&rows) {
-        text += &enabled_at(at).unwrap_or_default();
+        text += &enabled_at(at);
         let line =
             format!("{number:>w0$}  {activity:w1$}  {operation:w2$}  {operands:>w3$}  {effects}");
         text += line.trim_end();
         text.push('\n');
     }
     if shown.end == history.firings.len() {
-        text += &enabled_at(shown.end).unwrap_or_default();
+        text += &enabled_at(shown.end);
     }
     text
 }

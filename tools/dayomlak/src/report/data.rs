@@ -17,7 +17,9 @@ use crate::json::{list, maybe, object, string};
 use crate::pictures::dot::{self, Drawing};
 use crate::program::Program;
 use crate::records::{self, Cell, Tag, Token};
-use crate::{refused, walk};
+use crate::refused;
+use crate::script::Fields;
+use crate::walk::{self, Choice};
 
 /// The data of a run. One that was refused before its inputs were written has no state.
 pub fn of(run: &Run, drawing: &Drawing, steps: &Steps) -> Result<String, Failure> {
@@ -31,15 +33,17 @@ pub fn of(run: &Run, drawing: &Drawing, steps: &Steps) -> Result<String, Failure
     let columns = firings.iter().zip(tokens).zip(waiting);
     let columns = columns.map(|((f, t), w)| format!("[{f},{t},{w}]"));
     let fault = fault(run, drawing).unwrap_or_default();
-    let nothing = ["[]", "null", "[]", "[]", "[]"].map(str::to_string);
-    let [firings, refused, enabled, tokens, cells] = match run.end.answer.refused_at_once() {
+    let nothing = ["[]", "null", "[]", "[]", "[]", "[]"].map(str::to_string);
+    let [firings, refused, enabled, held, tokens, cells] = match run.end.answer.refused_at_once() {
         true => nothing,
         false => {
             let data = Data::new(run, drawing, steps)?;
+            let choices = walk::choices(run.machine, &run.log)?;
             [
                 data.firings(),
                 data.refused(run),
-                data.enabled(run)?,
+                data.enabled(&choices),
+                data.held(&choices),
                 data.tokens(),
                 data.cells(),
             ]
@@ -51,6 +55,7 @@ pub fn of(run: &Run, drawing: &Drawing, steps: &Steps) -> Result<String, Failure
         ("firings", firings),
         ("refused", refused),
         ("enabled", enabled),
+        ("held", held),
         ("tokens", tokens),
         ("cells", cells),
         ("steps", list(columns)),
@@ -167,26 +172,54 @@ impl<'d> Data<'d> {
         }
     }
 
-    /// The activities that are ever enabled, by place: at which position each is so first, and at which no more.
-    fn enabled(&self, run: &Run) -> Result<String, Failure> {
-        let mut known: HashMap<Tag, (usize, usize)> = HashMap::new();
-        for (position, tags) in walk::enabled(run.machine, &run.log)?.iter().enumerate() {
-            for tag in tags {
-                known.entry(*tag).or_insert((position, 0)).1 = position + 1;
+    /// The activities that are ever enabled, by place: at which position each is so first, and at which no more. One that the
+    /// bound holds back for a time stands there several times.
+    fn enabled(&self, choices: &[Choice]) -> String {
+        let enabled = choices.iter().map(|choice| {
+            let tags = choice.enabled.iter();
+            tags.map(|tag| (*tag, String::new())).collect()
+        });
+        list(self.times(enabled).iter().map(|fields| object(fields)))
+    }
+
+    /// The activities that the bound ever holds back, likewise, and by what.
+    fn held(&self, choices: &[Choice]) -> String {
+        let held = choices.iter().map(|choice| {
+            let held = choice.held.iter();
+            held.map(|held| (held.tag, held.by_words(self.program)))
+                .collect()
+        });
+        list(self.times(held).iter().map(|fields| object(fields)))
+    }
+
+    /// The activities that stand at positions, by place, each with the positions at which it does so with the same words.
+    fn times(&self, positions: impl Iterator<Item = Vec<(Tag, String)>>) -> Vec<Fields> {
+        let mut known: HashMap<Tag, Vec<(usize, usize, String)>> = HashMap::new();
+        for (position, tags) in positions.enumerate() {
+            for (tag, words) in tags {
+                let times = known.entry(tag).or_default();
+                match times.last_mut() {
+                    Some((_, until, said)) if *until == position && *said == words => *until += 1,
+                    _ => times.push((position, position + 1, words)),
+                }
             }
         }
-        let mut seen = HashSet::new();
-        let tags = self.history.tokens.iter().map(|token| token.tag);
-        let by_place = tags.filter(|tag| seen.insert(*tag));
-        Ok(list(by_place.filter_map(|tag| {
-            let (since, until) = known.get(&tag)?;
-            Some(object(&[
+        let by_place = self.history.tokens.iter().map(|token| token.tag);
+        let times = by_place.flat_map(|tag| {
+            let times = known.remove(&tag).unwrap_or_default().into_iter();
+            times.map(move |(since, until, words)| (tag, since, until, words))
+        });
+        let fields = times.map(|(tag, since, until, words)| {
+            let mut fields = vec![
                 ("name", string(&self.program.tag(&tag))),
                 ("at", string(&self.drawing.instruction_id(tag.instruction))),
                 ("since", since.to_string()),
                 ("until", until.to_string()),
-            ]))
-        })))
+            ];
+            fields.extend((!words.is_empty()).then(|| ("by", string(&words))));
+            fields
+        });
+        fields.collect()
     }
 
     fn tokens(&self) -> String {

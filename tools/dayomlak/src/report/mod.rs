@@ -6,14 +6,13 @@ pub mod html;
 mod states;
 pub mod steps;
 
-use crate::answer::{count, Word};
+use crate::answer::count;
 use crate::beginning::Beginning;
 use crate::cli::Firing;
 use crate::commands;
 use crate::failure::Failure;
 use crate::graphviz;
 use crate::machine::{End, Machine};
-use crate::pictures;
 use crate::pictures::dot::Drawing;
 use crate::profiles;
 use crate::program::Program;
@@ -76,14 +75,17 @@ impl<'m> Run<'m> {
     fn facts(&self) -> Vec<(&'static str, String)> {
         let program = self.machine.program;
         let sizes = self.machine.sizes;
-        let fingerprint = pictures::fingerprint(&program.files);
+        let fingerprint = self.machine.fingerprint();
         let instructions = count(program.graph.instructions.len(), "instruction");
         let inputs = count(program.input_count(), "input");
         let buffers = format!("{} records, {} cells", sizes.capacity, sizes.cells);
         let engine = concat!(env!("CARGO_PKG_VERSION"), ", engine ", env!("ENGINE"));
         let mut facts = vec![
             (
-                "Graph and inputs",
+                match self.machine.bound {
+                    0 => "Graph and inputs",
+                    _ => "Graph, inputs and bound",
+                },
                 format!("{fingerprint} ({instructions}, {inputs})"),
             ),
             ("Order", self.order.clone()),
@@ -110,7 +112,7 @@ pub struct Shown {
     pub kind: String,
     pub answer: String,
     pub facts: Vec<(&'static str, String)>,
-    /// Why it was refused, with the place in the text.
+    /// Why it was refused or hung on held activities, with the place in the text.
     pub refusal: Option<String>,
     pub profile: String,
     pub left: String,
@@ -122,22 +124,23 @@ pub struct Shown {
 impl Shown {
     pub fn of(run: &Run, drawing: &Drawing, steps: &Steps) -> Result<Shown, Failure> {
         let program = run.machine.program;
-        let left = match results::lines(program, &run.end) {
+        let left = match results::lines(run.machine, &run.end) {
             lines if lines.is_empty() => "nothing".to_string(),
             lines => lines.join("\n"),
         };
         let profile = match run.machine.start {
-            None => profiles::words(program, &steps.whole, &steps.answer).join("; "),
+            None => {
+                let mut words = profiles::words(program, &steps.whole, &steps.answer);
+                words.extend((run.machine.bound != 0).then(|| profiles::NO_BOUND.to_string()));
+                words.join("; ")
+            }
             Some(_) => NO_PROFILE.to_string(),
         };
-        let refusal = match run.end.answer.word {
-            Word::Refused(_) => Some(commands::answer(run.machine, &run.end, &run.order)),
-            _ => None,
-        };
+        let refusal = commands::why(run.machine, &run.end, &run.order);
         let kind = run.end.answer.words();
         Ok(Shown {
             kind: kind.split(' ').next().unwrap_or_default().to_string(),
-            answer: results::headline(&run.end, &run.order),
+            answer: results::headline(run.machine, &run.end, &run.order),
             facts: run.facts(),
             refusal: refusal.map(|words| words.trim_end().to_string()),
             profile,

@@ -28,6 +28,7 @@ function takeData(found) {
   byId('slider').max = last;
   keepRoom('tokens', mostTokens());
   keepRoom('cells', data.cells.length);
+  byId('held-sample').hidden = data.held.length === 0;
   if (svg) placeSpots();
 }
 
@@ -67,15 +68,16 @@ function stateAt(position) {
     all: tokens,
     spent: tokens.filter((token) => token.state === 'spent').length,
     cells: itemsAt(data.cells, position),
-    enabled: enabledAt(position),
+    enabled: standAt(data.enabled, position),
+    held: standAt(data.held, position),
     next: refused ? data.refused : firingAt(position + 1),
   };
 }
 
-// What can fire next, in the order of picks. A refused firing changes nothing.
-function enabledAt(position) {
+// What can fire next, in the order of picks, or what the bound holds back. A refused firing changes nothing.
+function standAt(activities, position) {
   const at = Math.min(position, data.firings.length);
-  return data.enabled.filter(({ since, until }) => since <= at && at < until);
+  return activities.filter(({ since, until }) => since <= at && at < until);
 }
 
 function firingAt(position) {
@@ -207,8 +209,8 @@ function some(words) {
   return [...words.slice(0, MOST_NAMES), `and ${words.length - MOST_NAMES} more`];
 }
 
-// The enabled activities by their numbers; the one that fires next stands out.
-function showEnabled({ enabled, next }) {
+// The enabled activities by their numbers; the one that fires next stands out. Behind them stand those that are held back.
+function showEnabled({ enabled, held, next }) {
   const chips = enabled.slice(0, MOST_ROWS).map(({ name }, number) => {
     const item = document.createElement('li');
     item.append(...deeds.chip(number, name));
@@ -220,13 +222,20 @@ function showEnabled({ enabled, next }) {
     more.append(`and ${enabled.length - MOST_ROWS} more`);
     chips.push(more);
   }
-  byId('enabled-count').textContent = enabled.length === 0
+  const backs = held.slice(0, MOST_ROWS).map(({ name, by }) => {
+    const item = document.createElement('li');
+    item.append(...breakable(`${name} held ${by}`));
+    item.classList.add('held');
+    return item;
+  });
+  const free = enabled.length === 0
     ? 'Nothing can fire'
     : `${enabled.length} can fire, numbered as picks count them`;
-  const held = byId('enabled').contains(document.activeElement);
-  byId('enabled').replaceChildren(...chips);
+  byId('enabled-count').textContent = held.length === 0 ? free : `${free}; the bound holds ${held.length} back`;
+  const hadFocus = byId('enabled').contains(document.activeElement);
+  byId('enabled').replaceChildren(...chips, ...backs);
   // Who fires by keys goes on from there.
-  if (held) (byId('enabled').querySelector('button') || byId('graph')).focus();
+  if (hadFocus) (byId('enabled').querySelector('button') || byId('graph')).focus();
   keepInSight(byId('enabled').parentElement, byId('enabled').querySelector('.next'));
 }
 
@@ -343,6 +352,7 @@ function showPicture(state) {
   const { firing, refused, tokens } = state;
   const here = firing ? [firing.at] : [];
   mark('enabled', state.enabled.map(({ at }) => at));
+  mark('held', state.held.map(({ at }) => at));
   mark('fires', refused ? [] : here);
   mark('refuses', refused ? [...here, firing.arc] : [data.fault]);
   mark('chosen', chosen ? [chosen] : []);

@@ -358,6 +358,7 @@ mod tests {
             let machine = Machine {
                 program,
                 sizes,
+                bound: 0,
                 start: Some(state),
             };
             check(&machine).unwrap();

@@ -18,6 +18,8 @@ pub struct SavedFile {
     /// In which order it fired so far, in words.
     pub order: String,
     pub capacity: u16,
+    /// The loop bound that it fired under at last, 0 for none.
+    pub bound: u16,
     /// The graph as it was typed, with its names, inputs and picks.
     pub text: Vec<u8>,
     pub graph: Vec<u8>,
@@ -35,13 +37,14 @@ impl SavedFile {
             &self.state.cells,
         ];
         let mut head = format!(
-            "{START}{FORM}\nof {}\norder {}\nfirings {}\ntokens {}\ncapacity {}\ncells {}\nbound 0\n",
+            "{START}{FORM}\nof {}\norder {}\nfirings {}\ntokens {}\ncapacity {}\ncells {}\nbound {}\n",
             in_one_line(&self.of),
             self.order,
             self.state.firings,
             self.state.tokens(),
             self.capacity,
             self.state.cell_count(),
+            self.bound,
         );
         for (name, bytes) in PARTS.iter().zip(parts) {
             let sum = Fingerprint::of(bytes).digits();
@@ -164,16 +167,17 @@ impl Head {
             <[Vec<u8>; 5]>::try_from(parts).map_err(|_| damaged_head())?;
         self.check_records("tokens", self.tokens, TOKEN, ledger.len())?;
         self.check_records("cells", self.cells, CELL, cells.len())?;
-        if self.bound != 0 {
-            return Err(
-                "it has a loop bound, which this program does not know: use a newer one"
-                    .to_string(),
-            );
+        if !matches!(self.bound, 0 | 2..=256) {
+            let bound = self.bound;
+            return Err(format!(
+                "its head says a bound of {bound}, and a bound is 0 for none, or 2 to 256"
+            ));
         }
         Ok(SavedFile {
             of: self.of,
             order: self.order,
             capacity: self.capacity,
+            bound: self.bound,
             text,
             graph,
             arrays,
@@ -222,6 +226,7 @@ mod tests {
             of: "sum.ttda".to_string(),
             order: "oldest first".to_string(),
             capacity: 20,
+            bound: 0,
             text: b"a: OUT\n".to_vec(),
             graph: vec![3; 16],
             arrays: vec![2, 0, 1, 0],

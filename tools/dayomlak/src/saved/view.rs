@@ -1,9 +1,12 @@
-//! What stands where in a state: enabled activities, tokens that wait, deferred tokens and results.
+//! What stands where in a state: enabled activities, those that are held back, tokens that wait, deferred tokens and results.
 
 use std::collections::{HashMap, HashSet};
 
 use crate::activity::Activity;
-use crate::machine::End;
+use crate::answer::Word;
+use crate::failure::Failure;
+use crate::held::{self, Held};
+use crate::machine::{End, Machine};
 use crate::program::Program;
 use crate::records::{State, Tag, Token};
 use crate::results;
@@ -11,8 +14,10 @@ use crate::results;
 /// The tokens of a state that are not spent, by what they are, each in the order of the ledger.
 #[derive(Default)]
 pub struct View {
-    /// Activities whose operands are all live, oldest first.
+    /// Activities whose operands are all live and which no bound holds back, oldest first, as picks count them.
     pub enabled: Vec<Tag>,
+    /// Those that the loop bound holds back.
+    pub held: Vec<Held>,
     /// Operands without their partner.
     pub waiting: Vec<Token>,
     /// Tokens that wait for a cell.
@@ -21,7 +26,8 @@ pub struct View {
 }
 
 impl View {
-    pub fn of(program: &Program, tokens: &[Token]) -> View {
+    pub fn of(machine: &Machine, tokens: &[Token]) -> View {
+        let program = machine.program;
         let is_operand = |t: &&Token| t.state == State::Live && !results::is_result(program, t);
         let mut operands: HashMap<Tag, u8> = HashMap::new();
         for token in tokens.iter().filter(is_operand) {
@@ -41,11 +47,29 @@ impl View {
                 State::Live => {}
             }
         }
+        let enabled = std::mem::take(&mut view.enabled);
+        (view.enabled, view.held) = held::part(machine, tokens, enabled);
         view
+    }
+
+    /// Whether the engine, which answered so with these tokens, agrees on what can fire.
+    pub fn agrees(&self, end: &End) -> bool {
+        match end.answer.word {
+            Word::Spent => !self.enabled.is_empty(),
+            Word::Completed => self.enabled.is_empty() && self.held.is_empty(),
+            Word::Hung => self.enabled.is_empty(),
+            Word::Refused(_) => true,
+        }
     }
 }
 
-/// What is not enabled, by headings: tokens that wait, deferred ones, results and cells.
+/// The engine and a view do not agree.
+pub fn disagreement() -> Failure {
+    let text = "the engine and what is shown of a state do not agree on what is enabled";
+    Failure::Inconsistent(text.to_string())
+}
+
+/// What cannot fire, by headings: what is held back, tokens that wait, deferred ones, results and cells.
 pub fn parts(program: &Program, end: &End, view: &View) -> Vec<(&'static str, Vec<String>)> {
     let port = |t: &Token| program.port(&t.tag, t.port);
     let waits = |t: &Token| format!("{} = {}, for port {}", port(t), t.value, 1 - t.port);
@@ -53,7 +77,9 @@ pub fn parts(program: &Program, end: &End, view: &View) -> Vec<(&'static str, Ve
     let result = |t: &Token| format!("{} = {}", program.tag(&t.tag), t.value);
     let lines =
         |tokens: &[Token], line: &dyn Fn(&Token) -> String| tokens.iter().map(line).collect();
+    let held = view.held.iter().map(|held| held.words(program));
     let parts = [
+        ("held back", held.collect()),
         ("waiting for a partner", lines(&view.waiting, &waits)),
         ("deferred", lines(&view.deferred, &deferred)),
         ("results", lines(&view.results, &result)),

@@ -52,7 +52,10 @@ fn obey(session: &mut Session, words: &str) -> Result<Option<String>, Failure> {
                 Ok(None)
             }
             Some(number) => Ok(Some(format!("no activity {number} is enabled"))),
-            None => Ok(Some(format!("`{words}` is no command: {COMMANDS}"))),
+            None => Ok(Some(match session.walk.held_by(words) {
+                Some(by) => format!("{words} is held back, {by}"),
+                None => format!("`{words}` is no command: {COMMANDS}"),
+            })),
         },
     }
 }

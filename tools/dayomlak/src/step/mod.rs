@@ -66,12 +66,17 @@ impl<'m> Session<'m> {
         !self.walk.enabled.is_empty() && self.fired.len() < usize::from(WHOLE)
     }
 
+    /// Its order in words.
+    pub fn words(&self) -> String {
+        self.machine.under_bound("by hand")
+    }
+
     /// How far the run is.
     pub fn headline(&self) -> String {
         let answer = &self.walk.end.answer;
         match answer.word {
             Word::Spent => format!("after {}", answer.counts()),
-            _ => results::headline(&self.walk.end, "by hand"),
+            _ => results::headline(self.machine, &self.walk.end, &self.words()),
         }
     }
 
@@ -102,7 +107,7 @@ impl<'m> Session<'m> {
 
     /// Tokens that wait, results and cells.
     pub fn beside(&self) -> Parts {
-        let view = View::of(self.program(), &self.walk.end.tokens());
+        let view = View::of(self.machine, &self.walk.end.tokens());
         view::parts(self.program(), &self.walk.end, &view)
     }
 

@@ -5,7 +5,8 @@ use codespan_reporting::diagnostic::Severity;
 
 use super::wish::{Rest, Wish};
 use crate::answer::Word;
-use crate::commands::{self, compare};
+use crate::commands;
+use crate::commands::compare::Compared;
 use crate::diagnostics::Finding;
 use crate::failure::Failure;
 use crate::json::{list, object, string};
@@ -16,6 +17,7 @@ use crate::program::Program;
 use crate::records::Tag;
 use crate::report::steps::Steps;
 use crate::report::{self, Run, Shown};
+use crate::walk::Choice;
 use crate::{curves, walk, warnings};
 use plotter::Fingerprint;
 use ttda::widths::PICK;
@@ -138,15 +140,16 @@ fn picks(run: &Run) -> Result<Vec<u16>, Failure> {
     if run.end.answer.refused_at_once() {
         return Ok(Vec::new());
     }
-    let enabled = walk::enabled(run.machine, &run.log)?;
+    let choices = walk::choices(run.machine, &run.log)?;
     let refused = match run.end.answer.word {
         Word::Refused(_) => run.end.tokens().get(run.end.answer.place).map(|t| t.tag),
         _ => None,
     };
     let tags = run.log.iter().copied().chain(refused);
-    let pick = |(tag, enabled): (Tag, &Vec<Tag>)| enabled.iter().position(|known| *known == tag);
+    let pick =
+        |(tag, choice): (Tag, &Choice)| choice.enabled.iter().position(|known| *known == tag);
     let picks = tags
-        .zip(&enabled)
+        .zip(&choices)
         .map(pick)
         .map(|pick| pick.map(|pick| pick as u16));
     picks.collect::<Option<_>>().ok_or_else(|| {
@@ -157,9 +160,10 @@ fn picks(run: &Run) -> Result<Vec<u16>, Failure> {
 /// What another order came to, beside oldest first.
 fn verdict(run: &Run, picks: &[u16], seed: u64) -> Result<String, Failure> {
     let machine = run.machine;
-    let kinds = compare::kinds(machine, &[Order::Oldest, Order::Picks(picks.to_vec())])?;
-    let verdict = compare::verdict(&kinds, false);
-    Ok(match &kinds[..] {
+    let orders = [Order::Oldest, Order::Picks(picks.to_vec())];
+    let compared = Compared::new(machine, &orders, None)?;
+    let verdict = compared.verdict();
+    Ok(match &compared.kinds[..] {
         [both] => format!(
             "At random (seed {seed}) and oldest first alike: {}; {verdict}.",
             both.words

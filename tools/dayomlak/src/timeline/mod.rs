@@ -7,14 +7,14 @@ use std::collections::BTreeMap;
 
 use crate::curves::{self, Pace};
 use crate::failure::Failure;
+use crate::held;
 use crate::history::{History, Touch};
 use crate::machine::{End, Machine};
-use crate::program::Program;
 use crate::records::{Cell, Tag};
 
 /// The firings of a run by their times.
 pub struct Timeline<'p> {
-    pub program: &'p Program,
+    pub machine: Machine<'p>,
     /// What a unit of time is, such as `firing`.
     pub what: String,
     /// In which order the run fired, in words.
@@ -37,6 +37,7 @@ impl<'p> Timeline<'p> {
         budget: u16,
     ) -> Result<Timeline<'p>, Failure> {
         let (end, log) = machine.run_logged(picks, budget);
+        held::check(machine, &end)?;
         let times = (1..).zip(log).collect();
         Timeline::new(machine, ("firing".to_string(), order), end, times)
     }
@@ -53,12 +54,12 @@ impl<'p> Timeline<'p> {
         end: End,
         times: Vec<(usize, Tag)>,
     ) -> Result<Timeline<'p>, Failure> {
-        let program = machine.program;
+        let rows = machine.program.graph.instructions.len();
         let mut timeline = Timeline {
-            program,
+            machine: *machine,
             what,
             order,
-            rows: vec![Vec::new(); program.graph.instructions.len()],
+            rows: vec![Vec::new(); rows],
             cells: BTreeMap::new(),
             last: times.last().map_or(0, |(time, _)| *time),
             end,
@@ -98,6 +99,7 @@ impl<'p> Timeline<'p> {
 pub mod tests {
     use super::*;
     use crate::machine::{Sizes, WHOLE};
+    use crate::program::Program;
 
     pub const TEXT: &str = "read: FETCH -> plus.0\nplus: ADD -> out\nout: OUT\na: COPY -> plus.1\nwrite: STORE\n\
         cell 2 = -3\nb: COPY -> write.1\ninput read = 0\ninput a = 1\ninput write.0 = 0\ninput b = 5\n";

@@ -66,8 +66,8 @@ pub fn picture(timeline: &Timeline) -> String {
         viewBox=\"0 0 {width} {height}\" font-family=\"sans-serif\" font-size=\"11\">\n\
         <rect width=\"100%\" height=\"100%\" fill=\"white\"/>\n"
     );
-    let ended = results::headline(&timeline.end, &timeline.order);
-    let title = &timeline.program.label;
+    let ended = results::headline(&timeline.machine, &timeline.end, &timeline.order);
+    let title = &timeline.machine.program.label;
     svg += &text((MARGIN, 24), "start", "font-size=\"16\"", title);
     svg += &text((MARGIN, 44), "start", "", &ended);
     svg += &axis(timeline, &layout);
@@ -79,8 +79,8 @@ pub fn picture(timeline: &Timeline) -> String {
 
 /// An instruction's name and operation.
 fn label(timeline: &Timeline, row: usize) -> String {
-    let name = timeline.program.name(row as u16);
-    let operation = &timeline.program.graph.instructions[row];
+    let name = timeline.machine.program.name(row as u16);
+    let operation = &timeline.machine.program.graph.instructions[row];
     format!("{name}: {}", operation.words())
 }
 
@@ -126,7 +126,10 @@ fn mark(timeline: &Timeline, layout: &Layout, (time, row): (usize, usize), tags:
     let (x, y) = (layout.x(time), layout.y(row) + 2);
     let (width, height) = ((layout.unit - 1).max(2), ROW - 4);
     let colour = COLOURS[usize::from(tags[0].iteration) % COLOURS.len()];
-    let names: Vec<String> = tags.iter().map(|tag| timeline.program.tag(tag)).collect();
+    let names: Vec<String> = tags
+        .iter()
+        .map(|tag| timeline.machine.program.tag(tag))
+        .collect();
     let tip = format!("{} {time}: {}", timeline.what, names.join(", "));
     let tip = escaped(&tip);
     let mut svg = format!(

@@ -22,7 +22,7 @@ pub fn file(timeline: &Timeline) -> String {
 
 /// The signals by name. Instructions come first.
 fn head(timeline: &Timeline) -> String {
-    let (what, label) = (&timeline.what, one_word(&timeline.program.label));
+    let (what, label) = (&timeline.what, one_word(&timeline.machine.program.label));
     let date = plotter::date(plotter::now());
     let mut text = format!(
         "$date {date} $end\n$version dayomlak {} $end\n$comment {label} by {what}: {UNIT} ns are one $end\n\
@@ -30,13 +30,13 @@ fn head(timeline: &Timeline) -> String {
         env!("CARGO_PKG_VERSION")
     );
     for number in 0..timeline.rows.len() {
-        let name = one_word(&timeline.program.name(number as u16));
+        let name = one_word(&timeline.machine.program.name(number as u16));
         text += &format!("$var wire 1 {} {name} $end\n", id(number));
     }
     text += "$upscope $end\n$scope module cells $end\n";
     for (number, cell) in timeline.cells.keys().enumerate() {
         let id = id(timeline.rows.len() + number);
-        let name = one_word(&timeline.program.cell(*cell));
+        let name = one_word(&timeline.machine.program.cell(*cell));
         text += &format!("$var integer 32 {id} {name} $end\n");
     }
     text + "$upscope $end\n$enddefinitions $end\n"
