@@ -39,6 +39,13 @@ pub fn run_under_table(lent: &mut Lent, arrays: &mut [u8]) -> u64 {
     engine::run(program, &lent.work.inputs, schedule, ledger, cells)
 }
 
+/// The run with a loop bound.
+pub fn run_bounded(lent: &mut Lent, bound: u16) -> u64 {
+    let (program, inputs) = (lent.work.program(), &lent.work.inputs);
+    let schedule = Schedule::new(&lent.picks, BUDGET).bounded(bound);
+    engine::run(program, inputs, schedule, &mut lent.ledger, &mut lent.cells)
+}
+
 /// As many arrays as a table may have, all empty.
 pub fn full_table() -> Vec<u8> {
     vec![0; second::ARRAY_RECORD * second::MOST_ARRAYS]

@@ -7,8 +7,8 @@
 //! is run a block of times before the next, so that it meets the caches that it
 //! left; with `growth` only the growth is measured, of runs of one size that follow
 //! each other (growth.rs). The figures of the three differ. `program` measures the
-//! whole job of the printing program (program.rs). `once WORK`, `table WORK`, `calls WORK` and
-//! `folders DIR` are for the script `instructions`.
+//! whole job of the printing program (program.rs). `once WORK`, `table WORK`, `bounded WORK K`,
+//! `calls WORK` and `folders DIR` are for the script `instructions`.
 
 mod calls;
 mod growth;
@@ -53,10 +53,13 @@ fn main() {
         ["program"] => program::print(),
         ["once", work] => program::once(work),
         ["table", work] => program::table_once(work),
+        ["bounded", work, bound] => {
+            program::bounded_once(work, bound.parse().expect("a bound is a number"))
+        }
         ["calls", work] => program::calls_once(work),
         ["folders", folder] => program::write_folders(folder.as_ref()),
         _ => eprintln!(
-            "repeated, growth, program, once WORK, table WORK, calls WORK, folders DIR, or nothing"
+            "repeated, growth, program, once WORK, table WORK, bounded WORK K, calls WORK, folders DIR, or nothing"
         ),
     }
 }

@@ -137,6 +137,13 @@ pub fn table_once(name: &str) {
     );
 }
 
+/// One run of a work with a loop bound, for the same.
+pub fn bounded_once(name: &str, bound: u16) {
+    let (_, work, newest) = kind_of(name);
+    let mut lent = Lent::new(work(RECORDS), RECORDS, newest);
+    println!("{}", calls::run_bounded(&mut lent, bound));
+}
+
 /// One call of each kind beside a plain run on a work, for the same.
 pub fn calls_once(name: &str) {
     Calls::new(kind_of(name), RECORDS);
