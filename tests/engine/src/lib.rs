@@ -17,7 +17,7 @@ pub const NO_ANSWER: u64 = Printed::NO_ANSWER.0;
 
 /// Whether a word is the number of a refusal. Numbers 15 and 16 have left the table.
 pub fn is_refusal(word: u64) -> bool {
-    matches!(word, 1..=14 | 17..=22 | 24..=26)
+    matches!(word, 1..=14 | 17..=26)
 }
 
 /// The packed answer of a word with its firings, tokens and place.
