@@ -10,7 +10,7 @@ const KEYS: &str =
     "Keys: 0 to 9 fire, ← → Home End, Space plays, Ctrl-S saves, Escape leaves the text";
 const HINT: &str = "Click on a glowing instruction to fire it, on another one (or with Shift) for its tokens, on a curve to go there";
 /// The page is shown before anything is known of the text.
-const NOTHING: &str = "{\"before\":0,\"carriedOn\":false,\"firings\":[],\"refused\":null,\"enabled\":[],\"tokens\":[],\
+const NOTHING: &str = "{\"before\":0,\"carriedOn\":false,\"firings\":[],\"refused\":null,\"enabled\":[],\"held\":[],\"tokens\":[],\
     \"cells\":[],\"steps\":[],\"firstStep\":1,\"fault\":\"\"}";
 
 pub fn html(label: &str) -> String {
