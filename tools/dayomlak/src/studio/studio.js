@@ -117,13 +117,13 @@ function fire(name) {
   // What fires next in this run leaves the rest of it as it is.
   if (next && next.name === name && !isStale()) return go(firedHere() + 1);
   return fireFrom(() => {
-    const number = enabledAt(position).findIndex((activity) => activity.name === name);
+    const number = standAt(data.enabled, position).findIndex((activity) => activity.name === name);
     return [...studio.picks.slice(0, firedHere()), ...(number < 0 ? [] : [number])];
   }, 'stop');
 }
 
 function fireNumber(number) {
-  const activity = enabledAt(position)[number];
+  const activity = standAt(data.enabled, position)[number];
   if (activity) fire(activity.name);
 }
 
@@ -199,7 +199,7 @@ function chip(number, name) {
 }
 
 function press(id, event) {
-  const activity = enabledAt(position).find(({ at }) => at === id);
+  const activity = standAt(data.enabled, position).find(({ at }) => at === id);
   if (activity && !event.shiftKey) fire(activity.name);
   else choose(id);
 }
