@@ -5,7 +5,7 @@ pub mod Keys
 pub mod Dealt
 pub mod Tallies
 pub mod Passes
-pub mod Words
+pub mod Pairs
 pub mod RecordsAt
 pub mod Answers
 pub mod Laws

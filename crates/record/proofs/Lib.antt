@@ -1,4 +1,4 @@
--- Tables by computation, round trips of records and of a log's, what is read from bytes fits, records that are allowed, paths, and calls within calls. Assumes nothing.
+-- Tables by computation, round trips of records and of a log's, what is read from bytes fits, records that are allowed, paths, calls within calls, and keys by pairs of bytes. Assumes nothing.
 pub mod Computed
 pub mod Counts
 pub mod Records
@@ -7,3 +7,4 @@ pub mod Fitting
 pub mod Allowed
 pub mod Paths
 pub mod Calls
+pub mod KeyPairs

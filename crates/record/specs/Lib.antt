@@ -3,6 +3,7 @@ pub mod Widths
 pub mod Paths
 pub mod GraphRecords
 pub mod TokensAndTags
+pub mod KeyPairs
 pub mod Calls
 pub mod Cells
 pub mod Codecs
