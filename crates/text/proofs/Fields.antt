@@ -1,28 +1,31 @@
--- Lemmas on the fields of a token's line: digits of the table, a signed number by its bits, the word of a state; and on lines put from any place on. Assumes nothing.
+-- Lemmas on the fields of a token's line: digits of the table, a signed number by its bits, the word of a state; on lines put from any place on; and on cells that have none. Assumes nothing.
 use Prim.Native.Nat.{ℕ, zero, suc, _+_, _-_, _*_, _/_, _%_, _≤_, _<_}
 use native.Mathlib.Omega.{arith}
 use native.Mathlib.Nat.{zero-add}
 use mathlib.Core.Path.{_≡_, refl, sym, ap, _∙_}
 use mathlib.Core.Bool.{Bool, true, false}
-use mathlib.Core.List.{List, [], _∷_, _++_, map}
+use mathlib.Core.List.{List, [], _∷_, _++_, map, append-nil}
 use lib.Dec.{T, eqb, ltb, eqb→eq}
+use lib.Bits.{bitOr, or-comm, or-add-and, and-le-r}
 use lib.ListN.{length, getD, drop, length-map}
+use lib.Seq.{getD-drop}
 use borrow.Author.Tests.{eqb-true, eq-eqb, ne-eqb, lt-ltb, le-ltb, ltb-true, ltb-false}
 use mir.Syntax.{w32}
 use mir.Facts.{sfits-toZ}
 use mir.Val.{SFits}
-use Rattle.number.specs.Number.{signedOf, bitsOf}
+use Rattle.number.specs.Number.{byteAt, signedOf, bitsOf}
 use Rattle.number.proofs.Numbers.{bits-signed}
 use Rattle.buffer.specs.Rows.{rows}
 use Rattle.buffer.proofs.Tables.{length-rows, getD-rows}
 use Rattle.record.specs.TokensAndTags as Tokens
 use Rattle.record.specs.TokensAndTags.{contentOf}
 use Rattle.record.specs.Cells as Cells
+use Rattle.record.specs.declared.cell.Cell.the-variants.{Absent}
 use Rattle.record.specs.Widths.{tokenWidth, cellWidth}
 use Rattle.record.proofs.Computed.{every, at}
 use Rattle.text.specs.Words.{bytes}
 use Rattle.text.specs.Text.{digit, decimal, signedDecimal, stateWord, valueIn, tokenLine, cellLine}
-use Rattle.text.specs.Lines.{RoomFor, Added, packedDigits, Table, textOf, tokenLines, linesOfCells}
+use Rattle.text.specs.Lines.{RoomFor, Added, packedDigits, Table, textOf, tokenLines, linesOfCells, AbsentFrom}
 use Rattle.text.proofs.Decimals.{decimal-digit, length-more, signed-up, signed-down}
 use Rattle.text.proofs.Lines.{both}
 use Rattle.text.proofs.Whole.{map-rows, length-cells, cell-line, made, made-next, made-longer, made-within}
@@ -125,3 +128,62 @@ module _ (ls : List (List ℕ)) {lent out : List ℕ} {start at : ℕ} (j : ℕ)
 
   pub line-made : {after : List ℕ} {r : ℕ} → Added out after at r (getD ls j []) → Added lent after start r (made ls (j + 1))
   line-made b = rw (made-next ls j lt) (both a b)
+
+-- ---- cells that are passed over
+
+-- where the states of eight cells have no bit, each of them is 0
+or-none : (a b : ℕ) → bitOr a b ≡ 0 → (a ≡ 0) × (b ≡ 0)
+or-none a b e = (omega (arith, or-add-and a b, and-le-r a b), omega (arith, or-comm a b, or-add-and b a, and-le-r b a))
+
+-- the state of the j-th cell from k on
+state-from : (cells : List ℕ) (k j : ℕ) → byteAt (drop ((k + j) * cellWidth) cells) 4 ≡ byteAt (drop (k * cellWidth) cells) (j * cellWidth + 4)
+state-from cells k j =
+    let e : (k + j) * cellWidth + 4 ≡ k * cellWidth + (j * cellWidth + 4) = omega arith in
+    getD-drop ((k + j) * cellWidth) cells 4 0 ∙ ap (λ (i : ℕ). getD cells i 0) e ∙ sym (getD-drop (k * cellWidth) cells (j * cellWidth + 4) 0)
+
+-- byte i from cell k on is 0
+abbrev zeroIn : (cells : List ℕ) → (k i : ℕ) → Type 0
+zeroIn cells k i = byteAt (drop (k * cellWidth) cells) i ≡ 0
+
+absent-at : (cells : List ℕ) (k j : ℕ) → zeroIn cells k (j * cellWidth + 4) → Cells.cellAt cells (k + j) ≡ Absent
+unfolding Cells.decode Cells.cellOf
+absent-at cells k j e = rw (state-from cells k j ∙ e)
+
+pub eight-absent : (cells : List ℕ) (k : ℕ) → let s = drop (k * cellWidth) cells in
+    bitOr (bitOr (bitOr (bitOr (bitOr (bitOr (bitOr (byteAt s 4) (byteAt s 12)) (byteAt s 20)) (byteAt s 28)) (byteAt s 36)) (byteAt s 44)) (byteAt s 52)) (byteAt s 60) ≡ 0 → AbsentFrom cells k 8
+eight-absent cells k e =
+    let h7 = or-none _ _ e in
+    let h6 = or-none _ _ (h7 .0) in
+    let h5 = or-none _ _ (h6 .0) in
+    let h4 = or-none _ _ (h5 .0) in
+    let h3 = or-none _ _ (h4 .0) in
+    let h2 = or-none _ _ (h3 .0) in
+    let h1 = or-none _ _ (h2 .0) in
+    each (h1 .0) (h1 .1) (h2 .1) (h3 .1) (h4 .1) (h5 .1) (h6 .1) (h7 .1)
+  where
+    each : zeroIn cells k 4 → zeroIn cells k 12 → zeroIn cells k 20 → zeroIn cells k 28 → zeroIn cells k 36 → zeroIn cells k 44 → zeroIn cells k 52 → zeroIn cells k 60 → AbsentFrom cells k 8
+    each a b c d e f g h zero l = absent-at cells k 0 a
+    each a b c d e f g h (suc zero) l = absent-at cells k 1 b
+    each a b c d e f g h (suc (suc zero)) l = absent-at cells k 2 c
+    each a b c d e f g h (suc (suc (suc zero))) l = absent-at cells k 3 d
+    each a b c d e f g h (suc (suc (suc (suc zero)))) l = absent-at cells k 4 e
+    each a b c d e f g h (suc (suc (suc (suc (suc zero))))) l = absent-at cells k 5 f
+    each a b c d e f g h (suc (suc (suc (suc (suc (suc zero)))))) l = absent-at cells k 6 g
+    each a b c d e f g h (suc (suc (suc (suc (suc (suc (suc zero))))))) l = absent-at cells k 7 h
+    each a b c d e f g h (suc (suc (suc (suc (suc (suc (suc (suc j)))))))) l = absurd (omega arith)
+
+pub one-absent : (cells : List ℕ) (k : ℕ) → Cells.cellAt cells k ≡ Absent → AbsentFrom cells k 1
+one-absent cells k a j h = let e : k + j ≡ k = omega arith in rw e a
+
+-- so their lines are none
+pub made-passed : (cells : List ℕ) (k n : ℕ) → k + n ≤ length cells / cellWidth → AbsentFrom cells k n → made (linesOfCells cells) (k + n) ≡ made (linesOfCells cells) k
+unfolding cellLine
+made-passed cells k zero h a = let e : k + 0 ≡ k = omega arith in rw e
+made-passed cells k (suc n) h a =
+    let e : k + suc n ≡ k + n + 1 = omega arith in
+    let lt : k + n < length (linesOfCells cells) = omega (arith, count-cells cells) in
+    ap (made (linesOfCells cells)) e
+    ∙ made-next (linesOfCells cells) (k + n) lt
+    ∙ ap (λ (l : List ℕ). made (linesOfCells cells) (k + n) ++ l) (cell-at cells (k + n) (omega arith) ∙ rw (a n (omega arith)))
+    ∙ append-nil (made (linesOfCells cells) (k + n))
+    ∙ made-passed cells k n (omega arith) (λ j l. a j (omega arith))

@@ -12,6 +12,7 @@ use Rattle.record.specs.Cells as Cells
 use Rattle.record.specs.Widths.{tokenWidth, cellWidth}
 use Rattle.record.specs.Paths.{pathNumber}
 use Rattle.record.specs.declared.tag.Path.{Path}
+use Rattle.record.specs.declared.cell.Cell.the-variants.{Absent}
 use Rattle.record.specs.declared.token.Token.{Token}
 use Rattle.text.specs.Text.{digit, decimal, signedDecimal, line, valueIn, stateWord, tokenLine, cellLines}
 
@@ -70,3 +71,7 @@ tokenLines listing = map tokenLine (allRows tokenWidth Tokens.decode listing)
 
 abbrev pub linesOfCells : (cells : List ℕ) → List (List ℕ)
 linesOfCells cells = cellLines 0 (allRows cellWidth Cells.decode cells)
+
+-- n cells from k on are absent, and have no lines
+abbrev pub AbsentFrom : (cells : List ℕ) → (k n : ℕ) → Type 0
+AbsentFrom cells k n = (j : ℕ) → j < n → Cells.cellAt cells (k + j) ≡ Absent

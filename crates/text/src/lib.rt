@@ -14,9 +14,9 @@ ghost use mathlib.Core.List.{[], _++_};
 ghost use lib.Dec.{leb};
 ghost use lib.ListN.{length, drop, getD};
 ghost use Rattle.text.specs.Text.{answerLine, cellLine, lines, printed, printedOf, outAfter};
-ghost use Rattle.text.specs.Lines.{RoomFor, Added, textOf, tokenLines, linesOfCells};
+ghost use Rattle.text.specs.Lines.{RoomFor, Added, textOf, tokenLines, linesOfCells, AbsentFrom};
 ghost use Rattle.text.specs.Room.{mostBytes};
-ghost use mathlib.Core.Bool.{true};
+ghost use mathlib.Core.Bool.{false};
 ghost use Rattle.record.specs.Cells as Cells;
 ghost use Rattle.record.specs.declared.cell.Cell.the-variants.{Absent};
 ghost use Rattle.record.specs.Widths.{tokenWidth, cellWidth};
@@ -139,27 +139,43 @@ fn put_tokens(out: &mut [u8], from: usize, listing: &[u8]) -> usize
     at
 }
 
-// Whether cell k is absent.
-fn is_absent(cells: &[u8], k: usize) -> bool
+// Whether cell k has a line: one that is absent has none.
+fn has_line(cells: &[u8], k: usize) -> bool
     requires { ⌜ k < length (now cells) / cellWidth ⌝ }
-    ensures { λ r. ⌜ (r ≡ true → Cells.cellAt (now (cells .entry)) k ≡ Absent) ⌝ }
+    ensures { λ r. ⌜ (r ≡ false → Cells.cellAt (now (cells .entry)) k ≡ Absent) ⌝ }
 {
     match cell::cell_at(cells, k) {
-        Cell::Absent => true,
-        Cell::Waiting => false,
-        Cell::Present(_) => false,
+        Cell::Absent => false,
+        Cell::Waiting => true,
+        Cell::Present(_) => true,
     }
 }
 
-// Puts the line of cell k. Most cells are absent, and nothing is made ready for them.
-fn put_cell_at(out: &mut [u8], at: usize, cells: &[u8], k: usize) -> usize
-    requires { ⌜ (k < length (now cells) / cellWidth) × RoomFor (now out) at (cellLine k (Cells.cellAt (now cells) k)) ⌝ }
-    ensures { λ r. ⌜ Added (now (out .entry)) (now (out .exit)) at r (cellLine k (Cells.cellAt (now (cells .entry)) k)) ⌝ }
+// All bits of the states of the eight cells from k on.
+fn eight_states(cells: &[u8], k: usize) -> u8
+    requires { ⌜ k + 8 ≤ length (now cells) / cellWidth ⌝ }
+    ensures { λ r. ⌜ (r ≡ 0 → AbsentFrom (now (cells .entry)) k 8) ⌝ }
 {
-    if is_absent(cells, k) {
-        return at;
+    let s = buffer::row_at(cells, cell::WIDTH, k);
+    s[4] | s[12] | s[20] | s[28] | s[36] | s[44] | s[52] | s[60]
+}
+
+// How many cells from k on are passed over: none if cell k has a line; else that one, or eight together. Most cells are absent.
+fn passed_over(cells: &[u8], k: usize) -> usize
+    requires { ⌜ k < length (now cells) / cellWidth ⌝ }
+    ensures { λ r. ⌜ (k + r ≤ length (now (cells .entry)) / cellWidth) × AbsentFrom (now (cells .entry)) k r ⌝ }
+{
+    if has_line(cells, k) {
+        return 0;
     }
-    line::put_cell(out, at, k, cell::cell_at(cells, k))
+    if k % 8 == 0 {
+        if cells.len() / cell::WIDTH - k >= 8 {
+            if eight_states(cells, k) == 0 {
+                return 8;
+            }
+        }
+    }
+    1
 }
 
 // Puts the lines of the cells.
@@ -171,8 +187,13 @@ fn put_cells(out: &mut [u8], from: usize, cells: &[u8]) -> usize
     let mut at = from;
     let mut k = 0;
     while k < n {
-        at = put_cell_at(out, at, cells, k);
-        k += 1;
+        let absent = passed_over(cells, k);
+        if absent == 0 {
+            at = line::put_cell(out, at, k, cell::cell_at(cells, k));
+            k += 1;
+        } else {
+            k += absent;
+        }
     }
     at
 }
