@@ -117,8 +117,8 @@ fn completes(ledger: &[u8], other: Found, operands: u16) -> bool
     false
 }
 
-// The same of the token that arrived last, which is live or not, and whose partner is given: where it is an operand, the flag was
-// not raised before. A partner is earlier.
+// Raises the flag of the activity of the token that arrived last, which is live, if that completes it. Its partner is given, and is
+// earlier; where the token is an operand, the flag was not raised before.
 fn settle_arrived(
     flags: &mut [u64; 69],
     ledger: &[u8],
