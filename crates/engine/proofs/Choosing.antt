@@ -24,6 +24,7 @@ use Rattle.record.specs.Widths.{tokenWidth, logWidth}
 use Rattle.store_flags.specs.Flags.{places, placesFrom, flagsOf}
 use Rattle.store_chains.specs.declared.Found.{Found}
 use Rattle.store_chains.specs.declared.Found.the-variants.{At, Nothing}
+use Rattle.store_chains.proofs.Index.{and-left, and-right}
 use Rattle.store_enabled.specs.Enabled.{allLive, isEnabled, tagSame, placeOf, leads, enabledPlaces}
 use Rattle.store_enabled.specs.Store.{enabledAt}
 use Rattle.store_enabled.proofs.Right.{tag-equal}
@@ -144,6 +145,25 @@ module _ {tables links flags ledger : List ℕ} {used : ℕ} (m : Matching table
           let (j, lt, at) = among-places 0 place (flagsOf flags) (omega arith) in
           let all = matching-places m in
           absurd (omega (arith, matching-enabled-below m j (subst (λ (l : List ℕ). j < length l) all lt), at, ap (λ (l : List ℕ). getD l j 0) all))
+
+  -- the first enabled activity, and that it is the one of its tag
+  module _ (some : ¬ (length (places (flagsOf flags)) ≡ 0)) (place : ℕ) (first : place ≡ getD (places (flagsOf flags)) 0 0) where
+    among : 0 < length (enabledPlaces tables (tokens used ledger))
+    among = subst (λ (l : List ℕ). 0 < length l) (matching-places m) (omega (arith, some))
+
+    at-first : place ≡ getD (enabledPlaces tables (tokens used ledger)) 0 0
+    at-first = first ∙ ap (λ (l : List ℕ). getD l 0 0) (matching-places m)
+
+    pub first-there : place < used
+    first-there = subst (λ (p : ℕ). p < used) (sym at-first) (matching-enabled-below m 0 among)
+
+    pub first-named : (tag : Tag) → Tokens.sameTag (tokenAt ledger place .tag) tag ≡ true → At place ≡ enabledAt tables (tokens used ledger) tag
+    first-named tag same =
+        let own = tokenAt ledger place .tag in
+        let lead = subst (λ (p : ℕ). leads tables (tokens used ledger) p (tokenAt ledger p) ≡ true) (sym at-first) (matching-leads m 0 among) in
+        let there = eqb-true (placeOf (tokens used ledger) own) place (and-left _ _ lead) in
+        let on = and-right (eqb (placeOf (tokens used ledger) own) place) _ lead in
+        rw (tag-equal tag own same, on) (ap At (sym there))
 
 -- ---- what the machine has enabled
 

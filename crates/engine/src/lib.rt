@@ -7,6 +7,7 @@ use fire_commit::Fired;
 use record::cell;
 use record::log;
 use record::log::Named;
+use record::tag::Tag;
 use record::token;
 use rules::answer;
 use rules::answer::Answer;
@@ -21,14 +22,15 @@ ghost use mathlib.Core.Option.{none};
 ghost use lib.ListN.{length, getD};
 ghost use Rattle.record.specs.GraphRecords.{graphOf};
 ghost use Rattle.record.specs.Logs.{tagNamed};
-ghost use Rattle.record.specs.TokensAndTags.{tokenAt};
+ghost use Rattle.record.specs.TokensAndTags.{tokens, tokenAt};
 ghost use Rattle.record.specs.Widths.{tokenWidth, cellWidth};
 ghost use Rattle.rules.specs.Answer.{valuesChecked};
 ghost use Rattle.rules.specs.Check.{checkGraph};
 ghost use Rattle.rules.specs.Run.{Ran};
 ghost use Rattle.rules.specs.Bounded.{BoundCarriedOn};
 ghost use Rattle.rules.specs.Log.{namesIn};
-ghost use Rattle.store_enabled.specs.Store.{Known};
+ghost use Rattle.store_chains.specs.Search.{Within};
+ghost use Rattle.store_enabled.specs.Store.{enabledAt};
 ghost use Rattle.store.specs.Matching.{Matching};
 ghost use Rattle.fire.specs.Running.{stateIn, askedIn, Prepared, Running};
 ghost use Rattle.store_flags.specs.Flags.{Under, flagsOf, Counted};
@@ -74,7 +76,7 @@ fn oldest(tables: &[u16; 641], flags: &[u64; 69], ledger: &[u8], used: usize) ->
     requires { ⌜ Flagged (now tables) (now flags) (now ledger) used ⌝ }
     ensures { λ r. ⌜ ((flags held : List ℕ) → ChosenAs r Oldest [] 0 (now (tables .entry)) flags held (now (ledger .entry)) used) ⌝ }
 {
-    if store::enabled_count(flags) == 0 {
+    if store_flags::is_empty(flags) {
         Choice::Ended(ending::ending(tables, ledger, used))
     } else {
         Choice::At(store::enabled_at(flags, 0))
@@ -111,23 +113,48 @@ fn name_at(log: &[u8], i: usize) -> Named
     log::name_at(log, i)
 }
 
+// The place of the activity of a tag, if it is enabled. A log of a run without picks names the first each time, so that one is tried
+// before any search.
+fn place_named(
+    tables: &[u16; 641],
+    links: &[u16; 9216],
+    flags: &[u64; 69],
+    ledger: &[u8],
+    used: usize,
+    tag: Tag,
+) -> Found
+    requires { ⌜ Matching (now tables) (now links) (now flags) (now ledger) used ⌝ }
+    ensures { λ r. ⌜ (r ≡ enabledAt (now (tables .entry)) (tokens used (now (ledger .entry))) tag) × Within r used ⌝ }
+{
+    if !store_flags::is_empty(flags) {
+        let first = store::enabled_at(flags, 0);
+        let t = token::token_at(ledger, first);
+        let own = t.tag;
+        if own.same(tag) {
+            return Found::At(first);
+        }
+    }
+    store::enabled_by_tag(tables, links, ledger, used, tag)
+}
+
 // The one that the record of this turn names, if it is enabled.
 fn by_record(
     tables: &[u16; 641],
     links: &[u16; 9216],
+    flags: &[u64; 69],
     ledger: &[u8],
     used: usize,
     log: &[u8],
     firings: usize,
 ) -> Choice
-    requires { ⌜ Known (now links) (now ledger) used ⌝ }
+    requires { ⌜ Matching (now tables) (now links) (now flags) (now ledger) used ⌝ }
     ensures { λ r. ⌜ ((flags held : List ℕ) → ChosenAs r Log (now (log .entry)) firings (now (tables .entry)) flags held (now (ledger .entry)) used) ⌝ }
 {
     let not_enabled = Choice::Ended(Outcome::Refused(Refusal::NotEnabled, firings));
     let Named::Activity(tag) = name_at(log, firings) else {
         return not_enabled;
     };
-    let Found::At(place) = store::enabled_by_tag(tables, links, ledger, used, tag) else {
+    let Found::At(place) = place_named(tables, links, flags, ledger, used, tag) else {
         return not_enabled;
     };
     Choice::At(place)
@@ -193,7 +220,7 @@ fn choose(
     match order {
         Order::Oldest => oldest(tables, flags, ledger, used),
         Order::Picks => by_pick(tables, flags, ledger, used, source, firings),
-        Order::Log => by_record(tables, links, ledger, used, source, firings),
+        Order::Log => by_record(tables, links, flags, ledger, used, source, firings),
         Order::Places => by_place(tables, flags, ledger, used, source, firings),
         Order::Free(_) => by_free(tables, flags, held, ledger, used, source, firings),
     }
@@ -293,8 +320,9 @@ fn follow(
     }
 }
 
-// A run goes on from a state, and notes each firing. Whoever chooses, this is the loop.
-fn turns(
+// A run goes on from a state, and notes each firing. Whoever chooses, this is the loop. The arrays of what is held back are lent; an
+// order that holds nothing back does not look at them.
+pub fn turns(
     graph: &[u8],
     tables: &[u16; 641],
     order: Order,
@@ -358,7 +386,7 @@ fn turns(
     answer::answered(outcome, firings, used)
 }
 
-// The same where nothing is held back: runs, replays and the steps of profiles.
+// The same where nothing is held back: runs and replays.
 pub fn proceed(
     graph: &[u8],
     tables: &[u16; 641],
@@ -445,8 +473,8 @@ fn proceed_bounded(
     let mut held = [0u64; 69];
     let mut marks = [0u16; 4096];
     let order = Order::Free(bound);
-    follow(
-        order,
+    // Not by `follow`: a second caller would cost each turn of every run a call.
+    held::follow(
         graph,
         tables,
         flags,
@@ -454,6 +482,7 @@ fn proceed_bounded(
         0,
         going.used,
         0,
+        bound,
         &mut nexts,
         &mut held,
         &mut marks,

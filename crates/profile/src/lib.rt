@@ -14,7 +14,7 @@ use rules::answer::Profiled;
 use rules::answer::Refusal;
 ghost use Prim.Native.Nat.{ℕ, _/_, _<_, _≤_};
 ghost use mathlib.Core.Path.{_≡_};
-ghost use lib.ListN.{length, getD};
+ghost use lib.ListN.{length, getD, set};
 ghost use Rattle.buffer.specs.Rows.{putRow};
 ghost use Rattle.record.specs.GraphRecords.{graphOf};
 ghost use Rattle.record.specs.TokensAndTags.{tokens, tokenAt};
@@ -25,7 +25,7 @@ ghost use Rattle.rules.specs.declared.answer.Checked.the-variants.{Passed};
 ghost use Rattle.rules.specs.Run.{firstState, picksOf};
 ghost use Rattle.rules.specs.Profile.{stepWidth, checkProfileStores, checkProfile, encode};
 ghost use Rattle.rules.specs.Runs.{lentToProfile, leftByProfile, ProfiledOn};
-ghost use Rattle.store_flags.specs.Flags.{Counted, places, flagsOf};
+ghost use Rattle.store_flags.specs.Flags.{Counted, place, places, inWord, flagsOf};
 ghost use Rattle.store_enabled.specs.Enabled.{arityOf, enabledPlaces};
 ghost use Rattle.fire.specs.Running.{Prepared, Running};
 ghost use Rattle.start.specs.Begun.{machineLent};
@@ -131,18 +131,53 @@ fn no_record(tables: &[u16; 641], flags: &[u64; 69], ledger: &[u8], used: usize)
     }
 }
 
+// The place of the first one of a word's flags, 64 where there is none.
+fn lowest(word: u64) -> usize
+    ensures { λ r. ⌜ r ≡ place 0 (inWord word) ⌝ }
+{
+    u64::trailing_zeros(word) as usize
+}
+
+// The word with flag k, which is raised, lowered.
+fn lowered(word: u64, k: usize) -> u64
+    requires { ⌜ (k < 64) × (getD (inWord word) k 0 ≡ 1) ⌝ }
+    ensures { λ r. ⌜ inWord r ≡ set (inWord word) k 0 ⌝ }
+{
+    word - (1 << k)
+}
+
+// Writes the places of so many enabled activities, which are all, in order and 2 bytes each. From the word of the first on, the flags
+// of a word are taken away in turn.
+fn put_places(flags: &[u64; 69], count: usize, out: &mut [u8; 4096])
+    requires { ⌜ Counted (now flags) × (length (now out) ≡ 4096) × (count ≡ length (places (flagsOf (now flags)))) × (0 < count) ⌝ }
+    ensures { λ _. ⌜ PlacesIn count (now (flags .entry)) (now (out .exit)) ⌝ }
+{
+    let mut b = store::enabled_at(flags, 0) / 64;
+    let mut rest = flags[b];
+    let mut k = 0;
+    while k < count {
+        let p = lowest(rest);
+        if p < 64 {
+            let place = b * 64 + p;
+            out[2 * k] = (place % 256) as u8;
+            out[2 * k + 1] = (place / 256) as u8;
+            rest = lowered(rest, p);
+            k += 1;
+        } else {
+            b += 1;
+            rest = flags[b];
+        }
+    }
+}
+
 // Writes the places of the enabled activities, in order and 2 bytes each, and answers how many there are.
 fn enabled_places(flags: &[u64; 69], out: &mut [u8; 4096]) -> usize
     requires { ⌜ Counted (now flags) × (length (now out) ≡ 4096) ⌝ }
     ensures { λ r. ⌜ PlacesIn r (now (flags .entry)) (now (out .exit)) ⌝ }
 {
     let count = store::enabled_count(flags);
-    let mut k = 0;
-    while k < count {
-        let place = store::enabled_at(flags, k);
-        out[2 * k] = (place % 256) as u8;
-        out[2 * k + 1] = (place / 256) as u8;
-        k += 1;
+    if count != 0 {
+        put_places(flags, count, out);
     }
     count
 }
@@ -162,7 +197,8 @@ fn operands_at(tables: &[u16; 641], ledger: &[u8], places: &[u8], count: usize) 
 }
 
 // An ideal step from a state of `start` tokens, of which `live` are live or deferred. What becomes enabled within it fires in
-// the next step at the earliest, so the places are taken first, and the whole step is a run by these places.
+// the next step at the earliest, so the places are taken first, and the whole step is a run by these places. Nothing is held back: the
+// arrays for that are lent, so that they are not cleared for each step.
 fn step(
     graph: &[u8],
     tables: &[u16; 641],
@@ -171,6 +207,8 @@ fn step(
     ledger: &mut [u8],
     cells: &mut [u8],
     turns: &mut [u8; 4096],
+    nexts: &mut [u64; 69],
+    held: &mut [u64; 69],
     start: usize,
     live: usize,
 ) -> StepEnd
@@ -184,13 +222,17 @@ fn step(
     }
     let spent = operands_at(tables, ledger, turns, count);
     let mut none = [0u8; 0];
-    let done = engine::proceed(
+    let mut marks = [0u16; 0];
+    let done = engine::turns(
         graph,
         tables,
         Order::Places,
         turns,
         links,
         flags,
+        nexts,
+        held,
+        &mut marks,
         ledger,
         cells,
         &mut none,
@@ -237,6 +279,8 @@ fn proceed(
 {
     let room = profile.len() / WIDTH;
     let mut turns = [0u8; 4096];
+    let mut nexts = [0u64; 69];
+    let mut held = [0u64; 69];
     let mut used = start;
     let mut unspent = start;
     let mut firings = 0;
@@ -250,6 +294,8 @@ fn proceed(
             ledger,
             cells,
             &mut turns,
+            &mut nexts,
+            &mut held,
             used,
             unspent,
         );

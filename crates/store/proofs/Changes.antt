@@ -18,8 +18,7 @@ use Rattle.record.specs.Widths.{tokenWidth}
 use Rattle.store_chains.specs.Chains.{bucketKey}
 use Rattle.store_chains.specs.Deferred.{LowCell, keyOf, cellKey, Waiting, contentWoken, woken}
 use Rattle.store_chains.proofs.Chains.{chained-same, chained-past}
-use Rattle.store_chains.proofs.Deferred.{Walk, walk-start, walk-step, walk-end, waiting-woken}
-use Rattle.store_enabled.specs.Enabled.{isLive}
+use Rattle.store_chains.proofs.Deferred.{Walk, walk-start, walk-own, walk-step, walk-end, waiting-woken}
 use Rattle.store_enabled.specs.Store.{Stored, tokensSpent}
 use Rattle.store_enabled.proofs.Bytes.{split, rest-put}
 use Rattle.store_enabled.proofs.Store.{stored-links, all-append, all-set, all-at}
@@ -102,12 +101,6 @@ module _ (cell : ℕ) (v : ℤ) where
       go true = tt
       go false = w
 
-  -- what is live stays live
-  pub woken-live : (x : Content) → isLive x ≡ true → isLive (contentWoken cell v x) ≡ true
-  woken-live (Live x) e = refl
-  woken-live (Spent x) e = e
-  woken-live (Deferred n) e = let z : _≡_ {A = ℕ} 0 1 = cc in absurd (omega arith)
-
   all-woken : (ts : List Token) → All Low ts → All Low (map (woken cell v) ts)
   all-woken [] w = tt
   all-woken (t ∷ ts) w = (woken-low (t .content) (w .0), all-woken ts (w .1))
@@ -131,6 +124,15 @@ module _ (cell : ℕ) (v : ℤ) where
     module _ (flags₁ m : List ℕ) (at : ℕ) (g : Waking tables links l used flags₁ m at) where
       pub waking-low : at ≤ used
       waking-low = omega (arith, g .walk .low, length-rows tokenWidth decode used l)
+
+      -- the next one gets the value
+      pub waking-own : (at ≡ 0 → ⊥) → contentWoken cell v (tokenAt m (at - 1) .content) ≡ Live v
+      unfolding Inside
+      waking-own z =
+          let d = tokenAt m (at - 1) in
+          let low = waking-low in
+          let here : getD (tokens used m) (at - 1) d ≡ d = getD-rows tokenWidth decode used (at - 1) m d (omega arith) in
+          rw here at (walk-own cell v links (tokens used l) d (w .inside .deferred) small (tokens used m) at z (g .walk))
 
       -- one more is woken
       pub waking-step : (at ≡ 0 → ⊥) → (flags₂ m₂ : List ℕ) → length m₂ ≡ length m

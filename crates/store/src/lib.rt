@@ -15,6 +15,7 @@ ghost use lib.ListN.{length, getD, drop};
 ghost use Rattle.buffer.specs.Rows.{putRow, joined};
 ghost use Rattle.record.specs.TokensAndTags.{encode, tokens, standsAt};
 ghost use Rattle.record.specs.Widths.{tokenWidth};
+ghost use Rattle.record.specs.declared.token.Content.the-variants.{Live};
 ghost use Rattle.store_flags.specs.Flags.{places, flagsOf, Counted};
 ghost use Rattle.store_chains.specs.Search.{firstFrom, Within};
 ghost use Rattle.store_chains.specs.Slots.{Open, SoughtAt};
@@ -113,31 +114,15 @@ pub fn spend_operands(flags: &mut [u64; 69], ledger: &mut [u8], first: usize, se
     store_enabled::spend_operands(flags, ledger, first, second);
 }
 
-fn content_woken(x: Content, cell: u32, v: i32) -> Content
-    ensures { λ r. ⌜ r ≡ Deferred.contentWoken cell v x ⌝ }
-{
-    match x {
-        Content::Live(w) => Content::Live(w),
-        Content::Spent(w) => Content::Spent(w),
-        Content::Deferred(n) => {
-            if n == cell {
-                Content::Live(v)
-            } else {
-                Content::Deferred(n)
-            }
-        }
-    }
-}
-
-fn woken(t: Token, cell: u32, v: i32) -> Token
-    ensures { λ r. ⌜ r ≡ Deferred.woken cell v t ⌝ }
+// A deferred token with the value that it waited for.
+fn woken(t: Token, v: i32) -> Token
+    ensures { λ r. ⌜ r ≡ record { tag = t .tag; port = t .port; content = Live v } ⌝ }
 {
     let tag = t.tag;
-    let content = t.content;
     Token {
         tag,
         port: t.port,
-        content: content_woken(content, cell, v),
+        content: Content::Live(v),
     }
 }
 
@@ -161,7 +146,7 @@ pub fn wake(
     while at != 0 {
         let i = at - 1;
         let t = token::token_at(ledger, i);
-        let u = woken(t, cell, v);
+        let u = woken(t, v);
         store_enabled::change(tables, links, flags, ledger, used, i, u);
         at = store_chains::wide(links[i + store_chains::LATER]);
     }

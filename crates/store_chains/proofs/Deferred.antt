@@ -16,7 +16,7 @@ use Rattle.record.specs.declared.token.Content.the-variants.{Live, Spent, Defer
 use Rattle.store_chains.specs.Chains.{lastBelow, part, Linked, Chained}
 use Rattle.store_chains.specs.Deferred.{keyOf, cellKey, anyOn, Waiting, contentWoken, woken}
 use Rattle.store_chains.proofs.Parts.{part-set, part-before}
-use Rattle.store_chains.proofs.Chains.{last-same, last-none, key-at, walk-first, on-first, walk-next, next-below, on-next}
+use Rattle.store_chains.proofs.Chains.{last-same, last-none, key-at, walk-first, on-first, on-key, walk-next, next-below, on-next}
 use Rattle.store_chains.proofs.Walks.{On}
 
 -- ---- a list whose elements from a place on are changed
@@ -74,6 +74,11 @@ module _ (cell : ℕ) (v : ℤ) where
   woken-other : (t : Token) → (cellKey t ≡ suc cell → ⊥) → woken cell v t ≡ t
   woken-other t h = rw (content-other (t .content) h)
 
+  content-own : (x : Content) → keyOf x ≡ suc cell → contentWoken cell v x ≡ Live v
+  content-own (Live w) e = absurd (omega arith)
+  content-own (Spent w) e = absurd (omega arith)
+  content-own (Deferred n) e = rw (eq-eqb n cell (omega arith))
+
   key-own : (x : Content) → keyOf x ≡ suc cell → keyOf (contentWoken cell v x) ≡ 0
   key-own (Live w) e = refl
   key-own (Spent w) e = refl
@@ -130,6 +135,16 @@ module _ (cell : ℕ) (v : ℤ) where
             so-far = rw h (s ∙ above-skip (woken cell v) ts (suc cell) ks d (passes ts d) i (le-of-lt g));
           },
         )
+
+    -- the token that the walk is at is deferred on the cell
+    pub walk-own : (us : List Token) (at : ℕ) → (at ≡ 0 → ⊥) → Walk ts us at → contentWoken cell v (getD us (at - 1) d .content) ≡ Live v
+    walk-own us zero z m = absurd (z refl)
+    walk-own us (suc i) z m =
+        let g : i < length ts = m .low in
+        let e : suc i - 1 ≡ i = omega arith in
+        let u : getD us i d ≡ getD ts i d = ap (λ (q : List Token). getD q i d) (m .so-far) ∙ above-at (woken cell v) ts (suc i) i d (omega arith) g in
+        let key : cellKey (getD ts i d) ≡ suc cell = sym (key-at cellKey ts i d g) ∙ on-key 6144 1024 cellKey links ts w cell small i (m .on) in
+        rw (e, u) (content-own (getD ts i d .content) key)
 
     pub walk-end : (us : List Token) → Walk ts us 0 → us ≡ map (woken cell v) ts
     walk-end us m = m .so-far ∙ above-all (woken cell v) ts

@@ -9,12 +9,17 @@ use native.Mathlib.Decide.{decLe}
 use lib.Dec.{eqb}
 use lib.ListN.{length, getD, set, length-map}
 use lib.Seq.{set-getD}
+use mathlib.Core.Logic.{_⊎_, inl, inr}
+use denote.Enum.Declared.{tagOf as variantOf}
 use borrow.Author.Tests.{eqb-true, eqb-false, ne-eqb}
 use Rattle.buffer.specs.Rows.{All}
 use Rattle.record.specs.TokensAndTags.{tokens, tokenAt, standsAt}
 use Rattle.record.specs.Widths.{tokenWidth}
 use Rattle.record.specs.declared.tag.Tag.{Tag}
 use Rattle.record.specs.declared.token.Token.{Token}
+use Rattle.record.specs.declared.token.Content.{Content}
+use Rattle.record.proofs.token.Content.{the-type}
+use Rattle.record.specs.declared.token.Content.the-variants.{Live, Spent, Deferred}
 use Rattle.store_flags.specs.Marks.{bit, firstOf}
 use Rattle.store_flags.proofs.Marks.{marked-past}
 use Rattle.store_chains.specs.declared.Found.{Found}
@@ -282,6 +287,13 @@ module _ (tag : Tag) (port i n : ℕ) (m : List ℕ) (h : i < n) (low : port < 2
 
 -- ---- the token that arrived last
 
+-- what is spent or deferred is not live
+pub not-live : (x : Content) → (variantOf the-type x ≡ 1) ⊎ (variantOf the-type x ≡ 2) → isLive x ≡ false
+not-live (Live v) (inl e) = absurd (omega arith)
+not-live (Live v) (inr e) = absurd (omega arith)
+not-live (Spent v) k = refl
+not-live (Deferred cell) k = refl
+
 module _ {m : List ℕ} {own : ℕ} {tag : Tag} {port : ℕ} {other : Found} (w : Last m own tag port other) where
   last-within : Within other (own + 1)
   last-within = rw (w .partner) (found-within (standsAt tag (1 - port)) (own + 1) m)
@@ -299,6 +311,18 @@ module _ {m : List ℕ} {own : ℕ} {tag : Tag} {port : ℕ} {other : Found} (w 
   -- and whether it is ready
   pub last-ready : (k : ℕ) → readyWith k port (liveFound (tokenAt m) (At own)) (liveFound (tokenAt m) other) ≡ allLive k (tokens (own + 1) m) tag
   last-ready k = own-ready tag port own (own + 1) m (omega arith) (w .low) (w .first) other (w .partner) k
+
+  -- a live operand completes it if the other is live, where there is one
+  pub last-completes : (k : ℕ) → (k ≡ 1 → port ≡ 0) → isLive (tokenAt m own .content) ≡ true → readyOf k true (liveFound (tokenAt m) other) ≡ allLive k (tokens (own + 1) m) tag
+  last-completes k alone on = sym (go (eqb port 0) refl (eqb k 1) refl (eqb k 2) (liveFound (tokenAt m) other)) ∙ ap (λ (b : Bool). readyWith k port b (liveFound (tokenAt m) other)) (sym on) ∙ last-ready k
+    where
+      go : (b : Bool) → eqb port 0 ≡ b → (one : Bool) → eqb k 1 ≡ one → (two : Bool) (x : Bool)
+          → cond b (cond one true (cond two (true && x) false)) (cond one x (cond two (x && true) false)) ≡ cond one true (cond two (true && x) false)
+      go true e one f two x = refl
+      go false e true f two x = absurd (omega (arith, eqb-false port 0 e, alone (eqb-true k 1 f)))
+      go false e false f true true = refl
+      go false e false f true false = refl
+      go false e false f false x = refl
 
   pub last-waits : (k : ℕ) → (k ≡ 1 → port ≡ 0) → isLive (tokenAt m own .content) ≡ false → allLive k (tokens (own + 1) m) tag ≡ false
   last-waits k alone off = own-waits tag port own (own + 1) m (omega arith) (w .low) (w .first) other (w .partner) k alone off

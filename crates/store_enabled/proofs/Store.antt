@@ -6,7 +6,7 @@ use native.Mathlib.Omega.{arith}
 use native.Mathlib.Numerals.{add-one}
 use native.Mathlib.Nat.{le-of-suc-le-suc}
 use lib.ListN.{length, getD, set}
-use lib.Seq.{map-set-same}
+use lib.Seq.{map-set-same, getD-append-add}
 use Rattle.buffer.specs.Rows.{putRow, All}
 use Rattle.record.specs.TokensAndTags.{tokens, tokenAt, decode, encode, standsAt, TokenFits}
 use Rattle.buffer.proofs.Tables.{length-rows, getD-rows}
@@ -96,6 +96,14 @@ module _ (tables links flags l : List ℕ) (used : ℕ) (t : Token) (w : Stored 
           right = rw (put′, e) (right-append tables ts t (flagsOf flags) (omega arith) (w .right));
         };
       }
+
+  -- it stands there
+  pub added-there : tokenAt m used ≡ t
+  added-there =
+      let ts = tokens used l in
+      let n : length ts ≡ used = length-rows tokenWidth decode used l in
+      let k : used ≡ length ts + 0 = omega arith in
+      sym (getD-rows tokenWidth decode (used + 1) used m t (omega arith)) ∙ ap (λ (us : List Token). getD us used t) (added .more) ∙ ap (λ (i : ℕ). getD (ts ++ t ∷ []) i t) k ∙ getD-append-add ts (t ∷ []) 0 t
 
   -- it is the last, with the partner of its slot
   pub added-last : (s : Slot) → Open (tokens used l) (t .tag) (t .port) s → Last m used (t .tag) (t .port) (s .partner)

@@ -2,6 +2,7 @@
 // operands of an activity are spent, and the flag of its activity is put right.
 use record::tag::Tag;
 use record::token;
+use record::token::Content;
 use record::token::Token;
 use store_chains::Found;
 use store_chains::Slot;
@@ -102,8 +103,22 @@ fn settle_changed(
     }
 }
 
-// The same of the token that arrived last, whose partner is given: where it is an operand, the flag was not raised before. A
-// partner is earlier.
+// Whether a live operand completes its activity, whose other operand is `other` where two are waited for.
+fn completes(ledger: &[u8], other: Found, operands: u16) -> bool
+    requires { ⌜ Within other (length (now ledger) / tokenWidth) ⌝ }
+    ensures { λ r. ⌜ r ≡ readyOf operands true (liveFound (tokenAt (now (ledger .entry))) other) ⌝ }
+{
+    if operands == 1 {
+        return true;
+    }
+    if operands == 2 {
+        return live(ledger, other);
+    }
+    false
+}
+
+// Raises the flag of the activity of the token that arrived last, which is live, if that completes it. Its partner is given, and is
+// earlier; where the token is an operand, the flag was not raised before.
 fn settle_arrived(
     flags: &mut [u64; 69],
     ledger: &[u8],
@@ -113,14 +128,14 @@ fn settle_arrived(
     other: Found,
     operands: u16,
 )
-    requires { ⌜ Counted (now flags) × Last (now ledger) own tag port other × (port < operands → getD (flagsOf (now flags)) (placeOf (tokens (own + 1) (now ledger)) tag) 0 ≡ 0) ⌝ }
+    requires { ⌜ Counted (now flags) × Last (now ledger) own tag port other × (isLive (tokenAt (now ledger) own .content) ≡ true) × (port < operands → getD (flagsOf (now flags)) (placeOf (tokens (own + 1) (now ledger)) tag) 0 ≡ 0) ⌝ }
     ensures { λ _. ⌜ flagsOf (now (flags .exit)) ≡ raisedIf (ltb port operands && allLive operands (tokens (own + 1) (now (ledger .entry))) tag) (flagsOf (now (flags .entry))) (placeOf (tokens (own + 1) (now (ledger .entry))) tag) ⌝ }
     ensures { λ _. ⌜ Counted (now (flags .exit)) ⌝ }
 {
     if operands <= port as u16 {
         return;
     }
-    if ready_with(ledger, port, Found::At(own), other, operands) {
+    if completes(ledger, other, operands) {
         store_flags::raise(flags, place_or(other, own));
     }
 }
@@ -193,7 +208,10 @@ pub fn append(
     store_chains::enter(links, used, t, slot.bucket);
     let operands = arity(tables, tag);
     let other = slot.partner;
-    settle_arrived(flags, ledger, used, tag, t.port, other, operands);
+    let content = t.content;
+    if let Content::Live(_) = content {
+        settle_arrived(flags, ledger, used, tag, t.port, other, operands);
+    }
 }
 
 // Enters the token t that stands in record `used` already, in its slot. One that is not live enables nothing. `settle_arrived` is not called: a second caller would cost each arrival of a run a call.
@@ -213,12 +231,12 @@ pub fn enter(
 {
     let tag = t.tag;
     store_chains::enter(links, used, t, slot.bucket);
-    if !live(ledger, Found::At(used)) {
-        return;
-    }
-    let other = slot.partner;
-    if ready_with(ledger, t.port, Found::At(used), other, arity(tables, tag)) {
-        store_flags::raise(flags, place_or(other, used));
+    let content = t.content;
+    if let Content::Live(_) = content {
+        let other = slot.partner;
+        if completes(ledger, other, arity(tables, tag)) {
+            store_flags::raise(flags, place_or(other, used));
+        }
     }
 }
 

@@ -1,14 +1,16 @@
 -- Laws of the flags of one word, which are its binary digits: how many they are, which of them is set, a word with one of them changed, and where the
 -- first and the last one stand. Assumes nothing.
-use Prim.Native.Nat.{ℕ, zero, suc, _+_, _-_, _*_, _/_, _%_, _^_, _≤_, _<_}
+use Prim.Native.Nat.{ℕ, zero, suc, _+_, _-_, _*_, _/_, _%_, _^_, _≤_, _<_, max}
 use mathlib.Core.Path.{_≡_, refl, sym, ap, _∙_}
 use mathlib.Core.List.{List, _∷_}
 use native.Mathlib.Omega.{arith}
-use native.Mathlib.Nat.{not-suc-le-zero, le-of-suc-le-suc, pow-succ', div-div-eq-div-mul, mul-left-comm, div-one, one-mul, mod-eq-of-lt}
+use native.Mathlib.Nat.{not-suc-le-zero, le-of-suc-le-suc, pow-succ', div-div-eq-div-mul, mul-left-comm, div-one, one-mul, mod-eq-of-lt, max-zero}
+use lib.Bits.{bitOr, or-step, or-zero-r}
 use lib.Count.{trailingZeros, leadingZeros, under, leading-of-zero}
 use lib.ListN.{length, getD, set, replicate}
 use lib.Pow.{pow-lt}
-use borrow.Author.Tests.{lt-ltb}
+use lib.Dec.{eqb}
+use borrow.Author.Tests.{lt-ltb, eq-eqb, ne-eqb}
 use Rattle.store_flags.specs.Flags.{ones, place, digits, inWord}
 use Rattle.store_flags.proofs.Laws.{Binary, place-later, ones-none}
 
@@ -54,6 +56,28 @@ digits-put (suc n) w (suc k) v x h g b e =
     let m : (w - 2 * (x * 2 ^ k) + 2 * (v * 2 ^ k)) % 2 ≡ w % 2 = omega (arith, ih .0) in
     let d : (w - 2 * (x * 2 ^ k) + 2 * (v * 2 ^ k)) / 2 ≡ changed (w / 2) k x v = omega (arith, ih .0) in
     rw (p, q) (omega (arith, ih .0), omega (arith, ih .0, ih .1), rw (m, d, ih .2))
+
+-- digit k set, whether it was or not
+digits-marked : (n w k : ℕ) → k < n → digits n (bitOr w (2 ^ k)) ≡ set (digits n w) k 1
+digits-marked zero w k h = absurd (not-suc-le-zero h)
+digits-marked (suc n) w zero h =
+    let e : bitOr w 1 ≡ w / 2 * 2 + 1 = or-step w 1 ∙ (λ i. or-zero-r (w / 2) i * 2 + one (w % 2) (omega arith) i) in
+    let m : (w / 2 * 2 + 1) % 2 ≡ 1 = omega arith in
+    let d : (w / 2 * 2 + 1) / 2 ≡ w / 2 = omega arith in
+    rw (e, m, d)
+  where
+    one : (x : ℕ) → x ≤ 1 → max x 1 ≡ 1
+    one zero g = refl
+    one (suc zero) g = refl
+    one (suc (suc x)) g = absurd (omega arith)
+digits-marked (suc n) w (suc k) h =
+    let r : 2 ^ suc k ≡ 2 * 2 ^ k = pow-succ' 2 k in
+    let half : 2 ^ suc k / 2 ≡ 2 ^ k = omega arith in
+    let even : 2 ^ suc k % 2 ≡ 0 = omega arith in
+    let e : bitOr w (2 ^ suc k) ≡ bitOr (w / 2) (2 ^ k) * 2 + w % 2 = or-step w (2 ^ suc k) ∙ (λ i. bitOr (w / 2) (half i) * 2 + max (w % 2) (even i)) ∙ ap (λ (x : ℕ). bitOr (w / 2) (2 ^ k) * 2 + x) (max-zero (w % 2)) in
+    let m : (bitOr (w / 2) (2 ^ k) * 2 + w % 2) % 2 ≡ w % 2 = omega arith in
+    let d : (bitOr (w / 2) (2 ^ k) * 2 + w % 2) / 2 ≡ bitOr (w / 2) (2 ^ k) = omega arith in
+    rw (e, m, d, digits-marked n (w / 2) k (le-of-suc-le-suc h))
 
 -- ---- the first one and the last one
 
@@ -128,6 +152,11 @@ pub word-positive : (w : ℕ) → 0 < ones (inWord w) → 0 < w
 word-positive zero h = absurd (omega (arith, rw word-none at h, ones-none 64))
 word-positive (suc w) h = omega arith
 
+-- a word is 0 where no flag is set, and only there
+pub word-empty : (w : ℕ) → w < 2 ^ 64 → eqb w 0 ≡ eqb (ones (inWord w)) 0
+word-empty zero h = eq-eqb 0 0 refl ∙ sym (eq-eqb (ones (inWord 0)) 0 (ap ones word-none ∙ ones-none 64))
+word-empty (suc w) h = ne-eqb (suc w) 0 (λ z. omega arith) ∙ sym (ne-eqb (ones (inWord (suc w))) 0 (λ z. omega (arith, word-some (suc w) (omega arith) h)))
+
 pub word-at : (w k : ℕ) → k < 64 → getD (inWord w) k 0 ≡ w / 2 ^ k % 2
 unfolding inWord
 word-at w k h = digits-at 64 w k h
@@ -149,6 +178,11 @@ word-lowered w k h g e =
     let p = word-put w k 0 1 h g (omega arith) (sym e) in
     let same : changed w k 1 0 ≡ w - 2 ^ k = omega arith in
     (omega (arith, p .0), rw same at (p .2))
+
+-- a flag is raised, whether it was or not
+pub word-marked : (w k : ℕ) → k < 64 → inWord (bitOr w (2 ^ k)) ≡ set (inWord w) k 1
+unfolding inWord
+word-marked w k h = digits-marked 64 w k h
 
 -- a flag's digit fits a word
 pub one-fits : (k : ℕ) → k < 64 → 1 * 2 ^ k % 2 ^ 64 ≡ 2 ^ k

@@ -5,6 +5,9 @@ use mathlib.Core.Path.{_≡_, refl, sym, ap, _∙_}
 use mathlib.Core.List.{List, [], _∷_, _++_, map}
 use native.Mathlib.Omega.{arith}
 use native.Mathlib.Nat.{not-suc-le-zero, le-of-suc-le-suc}
+use native.Mathlib.Decide.{decLe}
+use lib.Dec.{eqb}
+use borrow.Author.Tests.{eq-eqb, ne-eqb}
 use lib.ListN.{take-append-drop, length, getD, set, take, drop, replicate, length-append, length-set, length-map, List·getD-append, List·getD-map}
 use lib.Seq.{take-append-seam, drop-append-add, take-set-lt, take-set-le, drop-set-lt, drop-set-add, getD-set-same, getD-set-other, getD-take, getD-drop, length-take-le, set-append-left}
 use Rattle.store_flags.specs.Flags.{ones, place, inWord, flagsIn, flagsOf, atMostOne, any, Summed, Counted}
@@ -62,6 +65,15 @@ in-none (suc n) [] z = refl
 in-none (suc n) (w ∷ ws) z =
     let here : ones (inWord w) ≡ 0 = none-of (ones (inWord w)) (omega arith) in
     omega (arith, ones-append (inWord w) (flagsIn n ws), in-none n ws (omega arith))
+
+-- and the other way round
+in-empty : (n : ℕ) (ws : List ℕ) → ones (flagsIn n ws) ≡ 0 → ones (map any (take n ws)) ≡ 0
+in-empty zero ws z = refl
+in-empty (suc n) [] z = refl
+in-empty (suc n) (w ∷ ws) z =
+    let both = ones-append (inWord w) (flagsIn n ws) in
+    let none : ones (inWord w) ≡ 0 = omega (arith, both) in
+    omega (arith, ap atMostOne none, in-empty n ws (omega (arith, both)))
 
 in-some : (n : ℕ) (ws : List ℕ) → 0 < ones (flagsIn n ws) → 0 < ones (map any (take n ws))
 in-some n ws p = go (ones (map any (take n ws))) refl
@@ -138,6 +150,23 @@ module _ {ws : List ℕ} (s : Summed ws) where
       let all : ones (inWord (getD ws 32 0)) ≡ ones marks + ones (replicate 32 0) = ap ones (s .last) ∙ ones-append marks (replicate 32 0) in
       let e : place 0 (inWord (getD ws 32 0)) ≡ place 0 marks = ap (place 0) (s .last) ∙ place-left 0 marks (replicate 32 0) (first .0) in
       rw e (word-positive (getD ws 32 0) (omega (arith, first .0)), first .1, first .2, first .3)
+
+  -- and it has none where no flag is set, and only there
+  pub words-empty : eqb (ones (inWord (getD ws 32 0))) 0 ≡ eqb (ones (flagsOf ws)) 0
+  unfolding flagsOf
+  words-empty = go (decLe 1 (ones (inWord (getD ws 32 0))))
+    where
+      marks : List ℕ
+      marks = map any (take 32 ws)
+
+      all : ones (inWord (getD ws 32 0)) ≡ ones marks
+      all = ap ones (s .last) ∙ ones-append marks (replicate 32 0) ∙ omega (arith, ones-none 32)
+
+      go : Dec (1 ≤ ones (inWord (getD ws 32 0))) → eqb (ones (inWord (getD ws 32 0))) 0 ≡ eqb (ones (flagsIn 32 ws)) 0
+      go (yes h) =
+          let there : ¬ (ones (flagsIn 32 ws) ≡ 0) = λ z. omega (arith, all, in-empty 32 ws z) in
+          ne-eqb (ones (inWord (getD ws 32 0))) 0 (λ z. omega arith) ∙ sym (ne-eqb (ones (flagsIn 32 ws)) 0 there)
+      go (no z) = eq-eqb (ones (inWord (getD ws 32 0))) 0 (omega arith) ∙ sym (eq-eqb (ones (flagsIn 32 ws)) 0 (in-none 32 ws (omega (arith, all))))
 
 -- ---- the invariant
 

@@ -33,12 +33,12 @@ fn lowered(word: u64, k: usize) -> u64
     word - (1 << k)
 }
 
-// The marks of words, one of which is that of word b: it was `before`, and a flag of it is raised.
-fn mark(marks: u64, b: usize, before: u64) -> u64
-    requires { ⌜ (b < 64) × (getD (inWord marks) b 0 ≡ any before) ⌝ }
-    ensures { λ r. ⌜ inWord r ≡ set (inWord marks) b 1 ⌝ }
+// The word with flag k raised, whether it was or not.
+fn marked(word: u64, k: usize) -> u64
+    requires { ⌜ k < 64 ⌝ }
+    ensures { λ r. ⌜ inWord r ≡ set (inWord word) k 1 ⌝ }
 {
-    if before == 0 { raised(marks, b) } else { marks }
+    word | (1 << k)
 }
 
 // The same, where a flag of it is lowered, and it is `after`.
@@ -47,6 +47,13 @@ fn unmark(marks: u64, b: usize, after: u64) -> u64
     ensures { λ r. ⌜ inWord r ≡ set (inWord marks) b (any after) ⌝ }
 {
     if after == 0 { lowered(marks, b) } else { marks }
+}
+
+// Whether there is none.
+fn has_none(word: u64) -> bool
+    ensures { λ r. ⌜ r ≡ eqb (ones (inWord word)) 0 ⌝ }
+{
+    word == 0
 }
 
 // The place of the first one.
@@ -85,7 +92,7 @@ fn select_in(word: u64, on: usize, k: usize) -> usize
 
 // ---- all words
 
-// Raises flag i, which is lowered. If it is the first one of its word, so is the word's mark.
+// Raises flag i, which is lowered, and its word's mark.
 pub fn raise(flags: &mut [u64; 69], i: usize)
     requires { ⌜ (i < 2048) × Counted (now flags) × (getD (flagsOf (now flags)) i 0 ≡ 0) ⌝ }
     ensures { λ _. ⌜ flagsOf (now (flags .exit)) ≡ set (flagsOf (now (flags .entry))) i 1 ⌝ }
@@ -97,7 +104,7 @@ pub fn raise(flags: &mut [u64; 69], i: usize)
     let in_group = flags[GROUPS + i / 512];
     let marks = flags[ANY];
     flags[b] = raised(word, i % 64);
-    flags[ANY] = mark(marks, b, word);
+    flags[ANY] = marked(marks, b);
     flags[COUNTS + b] = in_word + 1;
     flags[GROUPS + i / 512] = in_group + 1;
 }
@@ -132,6 +139,14 @@ pub fn count(flags: &[u64; 69]) -> usize
     ensures { λ r. ⌜ r ≡ length (places (flagsOf (now (flags .entry)))) ⌝ }
 {
     (flags[GROUPS] + flags[GROUPS + 1] + flags[GROUPS + 2] + flags[GROUPS + 3]) as usize
+}
+
+// Whether there is none.
+pub fn is_empty(flags: &[u64; 69]) -> bool
+    requires { ⌜ Counted (now flags) ⌝ }
+    ensures { λ r. ⌜ r ≡ eqb (length (places (flagsOf (now (flags .entry))))) 0 ⌝ }
+{
+    has_none(flags[ANY])
 }
 
 // The place of the first one, where there is one.

@@ -26,7 +26,7 @@ by-record-spec = tie.close (tie.spec
     let n = t .before .before in
     let s = n .before .before .before in
     names-none (s .args .tables .now) (s .args .ledger .now) (s .args .used) g right arrived table capacity count cs (namesIn (s .args .log .now)) (s .args .firings) _
-    (sym (ap tagNamed (t .tag .given .1)) ∙ n .name-at .ensures) _ (e .enabled-by-tag .ensures .0) (c .enum-told2 .given .1))
+    (sym (ap tagNamed (t .tag .given .1)) ∙ n .name-at .ensures) _ (e .place-named .ensures .0) (c .enum-told2 .given .1))
     (λ c. λ flags held g right arrived back table capacity count cs.
     let p = c .before in
     let e = p .before .before in
@@ -34,4 +34,4 @@ by-record-spec = tie.close (tie.spec
     let n = t .before .before in
     let s = n .before .before .before in
     names-there (s .args .tables .now) (s .args .ledger .now) (s .args .used) g right arrived table capacity count cs (namesIn (s .args .log .now)) (s .args .firings) _
-    (sym (ap tagNamed (t .tag .given .1)) ∙ n .name-at .ensures) _ (e .enabled-by-tag .ensures .0) _ (p .place .given .1) (rw (p .place .given .1) at (e .enabled-by-tag .ensures .1))))
+    (sym (ap tagNamed (t .tag .given .1)) ∙ n .name-at .ensures) _ (e .place-named .ensures .0) _ (p .place .given .1) (rw (p .place .given .1) at (e .place-named .ensures .1))))

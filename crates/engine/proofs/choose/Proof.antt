@@ -1,7 +1,6 @@
 -- `engine::choose` meets its contract. Assumes nothing.
 use mathlib.Core.List.{[]}
 use borrow.Author.Needs.{needs}
-use Rattle.store.proofs.Laws.{matching-known}
 use Rattle.engine.proofs.choose.Statement.{statement}
 use Rattle.engine.proofs.choose.Tie as tie
 
@@ -12,7 +11,7 @@ choose-spec = tie.close (tie.spec
     (λ c. search needs)
     (λ c κs. record { links = c .before .before .before .before .args .links .now; matching = c .before .before .before .before .pre .0 })
     (λ c. search needs)
-    (λ c κs. matching-known (c .before .before .before .before .pre .0))
+    (λ c κs. c .before .before .before .before .pre .0)
     (λ c. search needs)
     (λ c κs. record { links = c .before .before .before .before .args .links .now; matching = c .before .before .before .before .pre .0 })
     (λ c. search needs)

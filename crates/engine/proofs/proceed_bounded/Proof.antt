@@ -11,9 +11,11 @@ use Rattle.engine.proofs.proceed_bounded.Tie as tie
 pub proceed-bounded-spec : {M : Type 1} → statement M
 proceed-bounded-spec = tie.close (tie.spec
     (λ c. search needs)
-    (λ c κs. let s = c .before .before .before .before .before .before .before .before .before .before in started-on (s .args .graph .now) (s .pre .0) (s .pre .1) (s .args .bound) (s .pre .2) (s .pre .3))
+    (λ c κs. let s = c .before .before .before .before .before .before .before .before .before .before in
+    let f = started-on (s .args .graph .now) (s .pre .0) (s .pre .1) (s .args .bound) (s .pre .2) (s .pre .3) in
+    (f .arities, f .grown, f .room .0, f .room .1, f .bound .0, f .bound .1, f .counted, f .unspent, f .carried))
     (λ c. search needs)
-    (λ c κs. let s = c .before .before .before .before .before .before .before .before .before .before .before .before .before .before .before .before .before .before .before .before in (s .pre .0, s .pre .1, c .before .before .before .before .before .before .before .before .before .follow .ensures))
+    (λ c κs. let s = c .before .before .before .before .before .before .before .before .before .before .before .before .before .before .before .before .before .before .before .before in (s .pre .0, s .pre .1, record { bound = (s .pre .2, s .pre .3); kept = c .before .before .before .before .before .before .before .before .before .follow .ensures }))
     (λ c κs.
     let s = c .before .before .before .before .before .before .before .before .before .before .before .before .before .before .before .before .before .before .before .before .before .before .before .before .before .before .before .before .before .before .before in
     let t = c .before .before .before .before .before .before .before .before .before .before .turns in

@@ -51,28 +51,29 @@ step-spec =
     let s = n .before .before .before .before .before .before in
     (few n, place-below _ (s .pre .0) (s .pre .1) (n .enabled-places .ensures)))
     (λ c. search needs)
-    (λ c κs. search needs)
     (λ c. search needs)
-    (λ c. c .before .before .before .before .before .before .proceed .ensures .0 .grown)
+    (λ c κs. let s = c .before .before .before .before .before .before .before .before .before .before .before .before .before .before .before .before .before .before .before .before .before in (s .pre .0, s .pre .1, tt))
+    (λ c. search needs)
+    (λ c. c .before .before .before .before .before .before .before .turns .ensures .0 .grown)
     (λ c.
-    let s = c .before .before .before .before .before .before .before .before .before .before .before .before .before .before .before .before .before .before .before .before .before .before .before .before .before in
-    omega (arith, unspent-below (s .pre .1) (s .pre .2), matching-few (s .pre .1 .matching), matching-few (c .before .before .before .before .before .before .proceed .ensures .0 .running .matching)))
+    let s = c .before .before .before .before .before .before .before .before .before .before .before .before .before .before .before .before .before .before .before .before .before .before .before .before .before .before .before .before .before in
+    omega (arith, unspent-below (s .pre .1) (s .pre .2), matching-few (s .pre .1 .matching), matching-few (c .before .before .before .before .before .before .before .turns .ensures .0 .running .matching)))
     (λ c.
-    let p = c .before .before .before .before .before .before in
-    let n = c .before .before .before .before .before .before .before .before .before .before .before .before .before .before .before .before .before .before .before in
+    let p = c .before .before .before .before .before .before .before in
+    let n = c .before .before .before .before .before .before .before .before .before .before .before .before .before .before .before .before .before .before .before .before .before .before .before in
     let s = n .before .before .before .before .before .before in
-    omega (arith, c .before .before .before .before .before .before .before .before .before .before .before .before .before .before .operands-at .ensures, unspent-now _ (s .pre .0) (s .pre .1) (n .enabled-places .ensures) (p .proceed .ensures .0) (c .before .before .before .before .before .before .before .before .before .before .before .before .before .before .before .before .before .before .if1 .left) (unrefused (p .proceed .result .outcome) (c .match .keys2)) (s .pre .2)))
+    omega (arith, c .before .before .before .before .before .before .before .before .before .before .before .before .before .before .before .before .before .before .operands-at .ensures, unspent-now _ (s .pre .0) (s .pre .1) (n .enabled-places .ensures) (p .turns .ensures .0) (c .before .before .before .before .before .before .before .before .before .before .before .before .before .before .before .before .before .before .before .before .before .before .if1 .left) (unrefused (p .turns .result .outcome) (c .match .keys2)) (s .pre .2)))
     (λ c. search needs)
     (λ c. search needs)
     (λ c.
-    let p = c .before .before .before .before .before .before .before .before in
-    let n = c .before .before .before .before .before .before .before .before .before .before .before .before .before .before .before .before .before .before .before .before .before in
+    let p = c .before .before .before .before .before .before .before .before .before in
+    let n = c .before .before .before .before .before .before .before .before .before .before .before .before .before .before .before .before .before .before .before .before .before .before .before .before .before in
     let s = n .before .before .before .before .before .before in
-    (step-cut _ (s .pre .0) (s .pre .1) (n .enabled-places .ensures) (p .proceed .ensures .0) (c .before .before .before .before .before .before .before .before .before .before .before .before .before .before .before .before .before .before .before .before .if1 .left) _ _ (c .before .outcome .given .1), n .enabled-places .ensures .size))
+    (step-cut _ (s .pre .0) (s .pre .1) (n .enabled-places .ensures) (p .turns .ensures .0) (c .before .before .before .before .before .before .before .before .before .before .before .before .before .before .before .before .before .before .before .before .before .before .before .before .if1 .left) _ _ (c .before .outcome .given .1), n .enabled-places .ensures .size))
     (λ c. search needs)
     (λ c. search needs)
     (λ c.
-    let p = c .before .before .before .before .before .before in
-    let n = c .before .before .before .before .before .before .before .before .before .before .before .before .before .before .before .before .before .before .before in
+    let p = c .before .before .before .before .before .before .before in
+    let n = c .before .before .before .before .before .before .before .before .before .before .before .before .before .before .before .before .before .before .before .before .before .before .before in
     let s = n .before .before .before .before .before .before in
-    (rw (c .before .before .before .before .before .before .before .before .before .before .before .before .before .before .operands-at .ensures) (step-whole _ (s .pre .0) (s .pre .1) (n .enabled-places .ensures) (p .proceed .ensures .0) (c .before .before .before .before .before .before .before .before .before .before .before .before .before .before .before .before .before .before .if1 .left) (unrefused (p .proceed .result .outcome) (c .match .keys2)) (s .pre .2)), n .enabled-places .ensures .size)))
+    (rw (c .before .before .before .before .before .before .before .before .before .before .before .before .before .before .before .before .before .before .operands-at .ensures) (step-whole _ (s .pre .0) (s .pre .1) (n .enabled-places .ensures) (p .turns .ensures .0) (c .before .before .before .before .before .before .before .before .before .before .before .before .before .before .before .before .before .before .before .before .before .before .if1 .left) (unrefused (p .turns .result .outcome) (c .match .keys2)) (s .pre .2)), n .enabled-places .ensures .size)))

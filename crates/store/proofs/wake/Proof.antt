@@ -1,16 +1,19 @@
 -- `store::wake` meets its contract. The loop's invariant: the tokens of the cell's chain from `at` back are as they were, and those past it
 -- are woken. The measure is `at`, since a chain goes back. Assumes nothing.
-use Prim.Native.Nat.{_+_, _-_, _≤_, _<_}
-use mathlib.Core.Path.{_≡_, _∙_}
+use Prim.Native.Nat.{ℕ, _+_, _-_, _≤_, _<_}
+use mathlib.Core.Path.{_≡_, refl, sym, _∙_}
 use native.Mathlib.Omega.{arith}
 use mir.Facts.{toZ-ofZ}
 use mir.Syntax.{w32}
 use mir.Val.{toZ, ofZ}
 use borrow.Author.Needs.{needs}
+use lib.IntN.{ℤ}
 use lib.ListN.{getD}
 use Rattle.record.specs.TokensAndTags.{tokenAt}
+use Rattle.record.specs.declared.token.Token.{Token}
+use Rattle.record.specs.declared.token.Content.the-variants.{Live}
 use Rattle.store_chains.specs.Deferred as Deferred
-use Rattle.store.proofs.Changes.{woken-live, Waking, waking-start, waking-low, waking-step, waking-tokens, waking-ledger, waking-end}
+use Rattle.store.proofs.Changes.{Waking, waking-start, waking-low, waking-own, waking-step, waking-tokens, waking-ledger, waking-end}
 use Rattle.store.proofs.wake.Statement.{statement}
 use Rattle.store.proofs.wake.Tie as tie
 
@@ -28,6 +31,10 @@ low c =
     let l = c .loop in
     waking-low (a .cell) (toZ w32 (ofZ w32 (a .v))) (a .tables .now) (a .links .now) (a .flags .now) (a .ledger .now) (a .used) (s .pre .0) (s .pre .1) (l .flags) (l .ledger) (l .at) (l .inv)
 
+-- a token that gets the value is woken
+gets : (cell : ℕ) (v : ℤ) (t : Token) → Deferred.contentWoken cell v (t .content) ≡ Live v → record { tag = t .tag; port = t .port; content = Live v } ≡ Deferred.woken cell v t
+gets cell v t e = λ i. record { tag = t .tag; port = t .port; content = sym e i }
+
 stepped : (c : tie.After-change Inv-loop μ-loop) → let a = c .before .before .before .before .before .before .before .before .before .before .before .before .args in
     let l = c .before .before .before .before .before .before .before .before .loop in
     let n = getD (a .links .now) (l .at - 1 + 7168) 0 in
@@ -38,8 +45,10 @@ stepped c =
     let l = c .before .before .before .before .before .before .before .before .loop in
     let p = c .change in
     let z = toZ w32 (ofZ w32 (a .v)) in
-    let e : c .before .before .before .before .woken .result ≡ Deferred.woken (a .cell) z (tokenAt (l .ledger) (l .at - 1)) = c .before .before .before .before .woken .ensures ∙ rw (c .before .before .before .before .before .token-at .ensures) in
-    waking-step (a .cell) z (a .tables .now) (a .links .now) (a .flags .now) (a .ledger .now) (a .used) (s .pre .0) (s .pre .1) (l .flags) (l .ledger) (l .at) (l .inv) (c .before .before .before .before .before .before .before .loop-test .taken)
+    let z≢ = c .before .before .before .before .before .before .before .loop-test .taken in
+    let own = waking-own (a .cell) z (a .tables .now) (a .links .now) (a .flags .now) (a .ledger .now) (a .used) (s .pre .0) (s .pre .1) (l .flags) (l .ledger) (l .at) (l .inv) z≢ in
+    let e : c .before .before .before .before .woken .result ≡ Deferred.woken (a .cell) z (tokenAt (l .ledger) (l .at - 1)) = c .before .before .before .before .woken .ensures ∙ rw (c .before .before .before .before .before .token-at .ensures) (gets (a .cell) z (tokenAt (l .ledger) (l .at - 1)) own) in
+    waking-step (a .cell) z (a .tables .now) (a .links .now) (a .flags .now) (a .ledger .now) (a .used) (s .pre .0) (s .pre .1) (l .flags) (l .ledger) (l .at) (l .inv) z≢
     (p .last .1 .1 .0) (p .last .1 .1 .1 .0) (omega (arith, p .kept .1 .1 .1 .0)) (rw e at (p .ensures .0)) (rw e at (p .ensures .1 .0)) (p .ensures .1 .1)
 
 pub wake-spec : {M : Type 1} → statement M
@@ -59,11 +68,10 @@ wake-spec = tie.close (tie.spec
     (λ c κs. omega (arith, low (c .before .before), c .before .loop-test .taken, c .before .before .loop .inv .store .known .room))
     (λ c κs. search needs)
     (λ c κs.
-    let a = c .before .before .before .before .before .before .before .before .before .before .before .args in
     let l = c .before .before .before .before .before .before .before .loop in
     let e = c .before .before .before .woken .ensures in
     let t = c .before .before .before .before .token-at .ensures in
-    (l .inv .store, omega (arith, low (c .before .before .before .before .before .before .before), c .before .before .before .before .before .before .loop-test .taken), rw (e, t), rw (e, t), rw (e, t) (woken-live (a .cell) (toZ w32 (ofZ w32 (a .v))) (tokenAt (l .ledger) (l .at - 1) .content))))
+    (l .inv .store, omega (arith, low (c .before .before .before .before .before .before .before), c .before .before .before .before .before .before .loop-test .taken), rw (e, t), rw (e, t), rw e (λ h. refl)))
     (λ c. search needs)
     (λ c. search needs)
     (λ c. omega (arith, c .before .before .before .before .before .before .before .before .before .before .loop .inv .walk .on .small, c .before .before .before .before .before .before .before .before .before .loop-test .taken))

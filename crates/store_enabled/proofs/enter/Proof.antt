@@ -1,19 +1,19 @@
 -- `store_enabled::enter` meets its contract: as `append`, of a record that is written already. Assumes nothing.
 use Prim.Native.Nat.{ℕ, _+_}
 use mathlib.Core.Path.{_≡_, refl, sym, ap, _∙_}
-use mathlib.Core.Bool.{false}
+use mathlib.Core.Bool.{true, false}
 use mathlib.Core.List.{[], _∷_, _++_}
 use borrow.Author.Needs.{needs}
-use borrow.Author.Tests.{not-true}
-use Rattle.record.specs.TokensAndTags.{tokens, decode}
+use Rattle.record.specs.TokensAndTags.{tokens, tokenAt, decode}
+use Rattle.record.specs.declared.token.Token.{Token}
 use Rattle.buffer.proofs.Tables.{length-rows}
 use Rattle.record.specs.Widths.{tokenWidth}
 use Rattle.store_flags.specs.Flags.{flagsOf}
 use Rattle.store_chains.specs.Deferred.{Waiting}
-use Rattle.store_enabled.specs.Enabled.{allLive, arityOf, isEnabled}
-use Rattle.store_enabled.specs.Store.{Stored, Last}
+use Rattle.store_enabled.specs.Enabled.{isLive, arityOf, isEnabled}
+use Rattle.store_enabled.specs.Store.{Stored, Last, liveFound, readyOf}
 use Rattle.store_enabled.proofs.Store.{Moved, added, added-last}
-use Rattle.store_enabled.proofs.Arriving.{flag-before, port-below, right-wait, last-partner, last-place, last-flag, last-ready, last-waits}
+use Rattle.store_enabled.proofs.Arriving.{flag-before, port-below, right-wait, last-partner, last-place, last-flag, last-completes, last-waits, not-live}
 use Rattle.store_enabled.proofs.enter.Statement.{statement}
 use Rattle.store_enabled.proofs.enter.Tie as tie
 
@@ -58,26 +58,22 @@ last c =
     (c .enter .ensures .0 (tokens (a .used) l) (length-rows tokenWidth decode (a .used) l) (s .pre .0 .known .index)) (a .slot) (s .pre .5)
 
 -- whether its tag is enabled
-whole : (c : tie.After-ready-with) → let a = c .before .before .before .before .before .before .before .before .before .args in
-    c .ready-with .result ≡ isEnabled (a .tables .now) (tokens (a .used + 1) (a .ledger .now)) (a .t .tag)
+whole : (c : tie.After-completes) → let a = c .before .before .before .before .before .before .before .before .before .args in
+    c .completes .result ≡ isEnabled (a .tables .now) (tokens (a .used + 1) (a .ledger .now)) (a .t .tag)
 whole c =
-    let k = c .before in
-    let n = k .before .before .before .before in
-    let a = n .before .before .before .before .args in
-    c .ready-with .ensures ∙ last-ready (last n) (k .arity .result) ∙ ap (λ (m : ℕ). allLive m (tokens (a .used + 1) (a .ledger .now)) (a .t .tag)) (k .arity .ensures)
+    let n = c .before .before .before .before .before in
+    let s = n .before .before .before .before in
+    let a = s .args in
+    let k = arityOf (a .tables .now) (a .t .tag) in
+    let live = ap (λ (x : Token). isLive (x .content)) (s .pre .3 .same) ∙ ap isLive (c .before .before .before .enum-told .given .1) in
+    c .completes .ensures ∙ ap (λ (m : ℕ). readyOf m true (liveFound (tokenAt (a .ledger .now)) (a .slot .partner))) (c .before .arity .ensures) ∙ last-completes (last n) k (s .pre .3 .alone) live
 
 pub enter-spec : {M : Type 1} → statement M
 enter-spec = tie.close (tie.spec
     (λ c κs. let s = c .before .before .before in (s .pre .2, s .pre .4, s .pre .5 .bucket))
+    (λ c. search needs)
     (λ c κs. search needs)
-    (λ c.
-    let n = c .before .before in
-    let s = n .before .before .before .before in
-    let a = s .args in
-    let off = sym (c .before .live .ensures) ∙ not-true (c .before .live .result) (c .if1 .taken) in
-    (entered n .more, (stays n (last-waits (last n) (arityOf (a .tables .now) (a .t .tag)) (s .pre .3 .alone) off), waiting n)))
-    (λ c κs. search needs)
-    (λ c κs. let w = last (c .before .before .before .before) in (w .room, last-partner w))
+    (λ c κs. last-partner (last (c .before .before .before .before)))
     (λ c κs. search needs)
     (λ c κs.
     let r = c .before .before .before in
@@ -85,7 +81,7 @@ enter-spec = tie.close (tie.spec
     let s = n .before .before .before .before in
     let a = s .args in
     let ts = tokens (a .used + 1) (a .ledger .now) in
-    let on = sym (whole r) ∙ c .before .before .if2 .taken in
+    let on = sym (whole r) ∙ c .before .before .if1 .taken in
     let below = port-below (arityOf (a .tables .now) (a .t .tag)) (a .t .port) ts (a .t .tag) (s .pre .3 .low) (s .pre .3 .alone) on in
     let down = flag-before (a .tables .now) (a .ledger .now) (a .used) (a .t) (flagsOf (a .flags .now)) (s .pre .0 .right) (s .pre .5 .free) (s .pre .3 .low) below in
     (rw (c .place-or .ensures) (last-flag (last n)), s .pre .0 .counted, rw (c .place-or .ensures, ← last-place (last n), entered n .more) down))
@@ -93,8 +89,15 @@ enter-spec = tie.close (tie.spec
     let r = c .before .before .before .before in
     let n = r .before .before .before .before .before in
     let e = entered n in
-    let on = sym (whole r) ∙ c .before .before .before .if2 .taken in
+    let on = sym (whole r) ∙ c .before .before .before .if1 .taken in
     (e .more, (e .stored (c .raise .last .0) (c .raise .ensures .0 ∙ rw (c .before .place-or .ensures, last-place (last n), on)) (c .raise .ensures .1), waiting n)))
     (λ c.
-    let n = c .before .before .before .before .before .before in
-    (entered n .more, (stays n (sym (whole (c .before)) ∙ c .if2 .left), waiting n))))
+    let r = c .before in
+    let n = r .before .before .before .before .before in
+    (entered n .more, (stays n (sym (whole r) ∙ c .if1 .left), waiting n)))
+    (λ c.
+    let n = c .before in
+    let s = n .before .before .before .before in
+    let a = s .args in
+    let off = ap (λ (x : Token). isLive (x .content)) (s .pre .3 .same) ∙ not-live (a .t .content) (c .match .keys2) in
+    (entered n .more, (stays n (last-waits (last n) (arityOf (a .tables .now) (a .t .tag)) (s .pre .3 .alone) off), waiting n))))

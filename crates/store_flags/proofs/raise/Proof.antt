@@ -5,7 +5,7 @@ use native.Mathlib.Omega.{arith}
 use lib.ListN.{getD, set}
 use borrow.Author.Needs.{needs}
 use Rattle.store_flags.specs.Flags.{inWord}
-use Rattle.store_flags.proofs.Words.{words-flag, word-bounds, group-bounds, mark-at, any-raised, flags-put, counted-put}
+use Rattle.store_flags.proofs.Words.{words-flag, word-bounds, group-bounds, any-raised, flags-put, counted-put}
 use Rattle.store_flags.proofs.raise.Statement.{statement}
 use Rattle.store_flags.proofs.raise.Tie as tie
 
@@ -25,9 +25,7 @@ raise-spec = tie.close (tie.spec
     (omega arith, words-flag (s .pre .1 .summed) (s .args .i) (s .pre .0) ∙ s .pre .2))
     (λ c. search needs)
     (λ c. search needs)
-    (λ c κs.
-    let s = c .before .before .before .before .before in
-    (omega arith, mark-at (s .pre .1 .summed) (s .args .i / 64) (omega (arith, s .pre .0))))
+    (λ c κs. omega (arith, c .before .before .before .before .before .pre .0))
     (λ c. search needs)
     (λ c. let s = c .before .before .before .before .before .before in record { fits = omega (arith, word-bounds (s .pre .1) (s .args .i) (s .pre .0)) })
     (λ c. search needs)
@@ -43,7 +41,7 @@ raise-spec = tie.close (tie.spec
     let f = s .args .flags .now in
     let w = c .before .raised in
     let some = any-raised (getD f (i / 64) 0) (w .result) (i % 64) (omega arith) (w .ensures) in
-    let marked = c .mark .ensures ∙ ap (λ (x : ℕ). set (inWord (getD f 32 0)) (i / 64) x) (sym some) in (
-      flags-put (s .pre .1) i 1 (w .result) (c .mark .result) _ _ (s .pre .0) (omega arith) (w .ensures) marked (omega (arith, s .pre .2)) (omega (arith, s .pre .2)),
-      counted-put (s .pre .1) i 1 (w .result) (c .mark .result) _ _ (s .pre .0) (omega arith) (w .ensures) marked (omega (arith, s .pre .2)) (omega (arith, s .pre .2)),
+    let marked = c .marked .ensures ∙ ap (λ (x : ℕ). set (inWord (getD f 32 0)) (i / 64) x) (sym some) in (
+      flags-put (s .pre .1) i 1 (w .result) (c .marked .result) _ _ (s .pre .0) (omega arith) (w .ensures) marked (omega (arith, s .pre .2)) (omega (arith, s .pre .2)),
+      counted-put (s .pre .1) i 1 (w .result) (c .marked .result) _ _ (s .pre .0) (omega arith) (w .ensures) marked (omega (arith, s .pre .2)) (omega (arith, s .pre .2)),
     )))

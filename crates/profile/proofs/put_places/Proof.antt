@@ -1,0 +1,99 @@
+-- `profile::put_places` meets its contract. The invariant: the first k places are written, and the other ones are left (proofs/Places). The measure: the
+-- places and the words that are left. Assumes nothing.
+use Prim.Native.Nat.{ℕ, _+_, _-_, _*_, _≤_, _<_}
+use mathlib.Core.Path.{_≡_, sym, _∙_}
+use native.Mathlib.Omega.{arith}
+use lib.ListN.{length, length-set, getD, set}
+use borrow.Author.Needs.{needs}
+use Rattle.store_flags.specs.Flags.{places, place, ones, inWord, flagsOf}
+use Rattle.store_flags.proofs.Laws.{ones-places, place-places}
+use Rattle.profile.proofs.Places.{Left, left-start, left-word, left-one, Copied, copied-none, copied-next, copied-read, places-few}
+use Rattle.profile.proofs.put_places.Statement.{statement}
+use Rattle.profile.proofs.put_places.Tie as tie
+
+abbrev Inv-loop : tie.InvT-loop
+Inv-loop flags count out₀ b₀ rest₀ k₀ out b rest k = Left flags b rest k × Copied k (places (flagsOf flags)) out × (length out ≡ 4096) × (k ≤ count)
+
+abbrev μ-loop : tie.MeasureT-loop
+μ-loop flags count out₀ b₀ rest₀ k₀ out b rest k = (count - k) + (32 - b)
+
+module _ (s : tie.Start Inv-loop μ-loop) where
+  all : length (places (flagsOf (s .args .flags .now))) ≡ ones (flagsOf (s .args .flags .now))
+  all = ones-places 0 (flagsOf (s .args .flags .now)) (s .pre .0 .tallied .binary)
+
+  few : s .args .count ≤ 2048
+  few = omega (arith, s .pre .2, places-few (s .args .flags .now) (s .pre .0))
+
+-- the next one is sought
+module _ (c : tie.After-lowest Inv-loop μ-loop) where
+  abbrev start : tie.Start Inv-loop μ-loop
+  start = c .before .before .before .before .before
+
+  more : c .before .before .loop .k < ones (flagsOf (start .args .flags .now))
+  more = omega (arith, all start, start .pre .2, c .before .loop-test .taken)
+
+  room : c .before .before .loop .k < 2048
+  room = omega (arith, few start, c .before .loop-test .taken)
+
+  -- in this word, and it is the one of its number
+  one : c .lowest .result < 64 → let l = c .before .before .loop in let f = start .args .flags .now in
+      (getD (inWord (l .rest)) (c .lowest .result) 0 ≡ 1) × (l .b * 64 + c .lowest .result ≡ getD (places (flagsOf f)) (l .k) 0)
+      × ((rest′ : ℕ) → inWord rest′ ≡ set (inWord (l .rest)) (c .lowest .result) 0 → Left f (l .b) rest′ (l .k + 1))
+  one h =
+      let l = c .before .before .loop in
+      let o = left-one (start .pre .0) (l .b) (l .rest) (l .k) (l .inv .0) more (c .lowest .result) (c .lowest .ensures) h in
+      (o .0, omega (arith, o .1, place-places 0 (l .k) (flagsOf (start .args .flags .now)) (start .pre .0 .tallied .binary) more), o .2)
+
+  -- or in a later one
+  next : 64 ≤ c .lowest .result → let l = c .before .before .loop in let f = start .args .flags .now in
+      (l .b + 1 < 32) × Left f (l .b + 1) (getD f (l .b + 1) 0) (l .k)
+  next h = let l = c .before .before .loop in left-word (start .pre .0) (l .b) (l .rest) (l .k) (l .inv .0) more (omega (arith, c .lowest .ensures))
+
+pub put-places-spec : {M : Type 1} → statement M
+put-places-spec = tie.close (tie.spec
+    Inv-loop
+    μ-loop
+    (λ c κs. (c .pre .0, omega (arith, c .pre .2, c .pre .3)))
+    (λ c. omega (arith, c .enabled-at .ensures .1))
+    (λ c. omega (arith, c .enabled-at .ensures .1))
+    (λ c.
+    let s = c .before .before in
+    let f = flagsOf (s .args .flags .now) in
+    let some : 0 < ones f = omega (arith, all s, s .pre .2, s .pre .3) in
+    let first : c .before .enabled-at .result ≡ place 0 f = omega (arith, c .before .enabled-at .ensures .0, place-places 0 0 f (s .pre .0 .tallied .binary) some) in
+    (left-start (s .pre .0) (c .before .enabled-at .result) some first, copied-none (places f) (s .args .out .now), s .pre .1, omega arith))
+    (λ c κs. search needs)
+    (λ c. omega (arith, c .before .before .before .loop .inv .0 .word))
+    (λ c. omega (arith, c .before .before .before .loop .inv .0 .word, c .if1 .taken))
+    (λ c. omega arith)
+    (λ c. omega (arith, room (c .before)))
+    (λ c. omega (arith, room (c .before)))
+    (λ c. omega (arith, c .before .before .before .loop .inv .0 .word, c .if1 .taken))
+    (λ c. omega (arith, room (c .before)))
+    (λ c. omega (arith, room (c .before)))
+    (λ c. omega (arith, room (c .before)))
+    (λ c κs. (c .if1 .taken, one (c .before) (c .if1 .taken) .0))
+    (λ c. omega (arith, room (c .before .before)))
+    (λ c. omega (arith, c .before .before .before .loop-test .taken))
+    (λ c.
+    let n = c .before .before in
+    let l = n .before .before .loop in
+    let o = one n (c .before .if1 .taken) in
+    let fits : 2 * l .k + 1 < length (l .out) = omega (arith, l .inv .2, room n) in
+    (o .2 (c .lowered .result) (c .lowered .ensures), copied-next (l .k) _ (places (flagsOf (start n .args .flags .now))) (l .out) fits (o .1) (l .inv .1), simp length-set (l .inv .2), omega (arith, n .before .loop-test .taken)))
+    (λ c. omega (arith, c .before .before .before .loop .inv .0 .word))
+    (λ c. omega (arith, c .before .before .before .loop .inv .0 .word))
+    (λ c. omega (arith, c .before .before .before .loop .inv .0 .word))
+    (λ c. omega (arith, c .before .before .before .before .loop .inv .0 .word))
+    (λ c.
+    let n = c .before .before in
+    let l = n .before .before .loop in
+    (next n (omega (arith, c .before .if1 .left)) .1, l .inv .1, l .inv .2, l .inv .3))
+    (λ c.
+    let l = c .before .loop in
+    let s = c .before .before .before .before in
+    record {
+      counted = s .pre .2;
+      written = λ k h. copied-read (l .k) (places (flagsOf (s .args .flags .now))) (l .out) (omega (arith, few s, l .inv .3)) (l .inv .2) (l .inv .1) k (omega (arith, c .loop-test .left));
+      size = l .inv .2;
+    }))
