@@ -1,0 +1,2 @@
+-- Why the counts are right, and which hang they tell. Assumes nothing.
+pub mod Counting
