@@ -34,7 +34,7 @@ use Rattle.rules.specs.declared.answer.Checked.the-variants.{Passed, Failed}
 use Rattle.rules.specs.Check.{_andThen_, demand, checkGraph, checkStores, checkArrays, checkInputs, mostCells}
 use Rattle.rules.specs.InstructionSet.{machineOf}
 use Rattle.rules.specs.Run.{tokenRecord, cellRecord, firstState, picksOf, Result, refusedAtOnce, ranTo, outcomeOf, answer, ledgerAfter, cellsAfter}
-use Rattle.rules.specs.Runs.{LentToRun, LeftByRun, Quiescent}
+use Rattle.rules.specs.Runs.{LentToRun, LeftByRun, Completed, Quiescent}
 use Rattle.rules.specs.Parts.{leftBy}
 use Rattle.rules.specs.Held.{heldIn}
 use Rattle.rules.specs.Saved.{taken}
@@ -159,9 +159,6 @@ module _ (graph arrays inputs : List ℕ) (graphBytes : Bytes graph) (inputBytes
       × (length (heldOf M (heldIn (graphOf graph) k) (e .state)) ≡ 0 ↔ NoneHeld M (heldIn (graphOf graph) k) (e .state) (e .outcome))
   said h = tells M (heldIn (graphOf graph) k) (e .state) (e .outcome) budget (length log) (quiet (e .outcome) h) (ran .says)
 
-  abbrev left : LeftByRun
-  left = leftBy (ranTo e) ledger cells
-
   finds : Quiescent (outcomeOf (e .outcome)) → counts graph k (e .firings) (length (e .state .tokens)) ledger′ cells′ ≡ Found (heldBackIn graph k ledger′ cells′ (length (e .state .tokens))) (heldBackIn graph k ledger′ cells′ (length (e .state .tokens)))
   finds h =
       sym (is-counted graph ledger′ cells′ k (e .firings) (length (e .state .tokens)) (sym is-taken) _ _ (held-back ∙ said h .0 ∙ sym enabled-back) refl
@@ -170,11 +167,21 @@ module _ (graph arrays inputs : List ℕ) (graphBytes : Bytes graph) (inputBytes
   none-left : Quiescent (outcomeOf (e .outcome)) → heldBackIn graph k ledger′ cells′ (length (e .state .tokens)) ≡ 0 ↔ LeavesNoneHeld graph arrays k (length ledger) (length cells) (ranTo e)
   none-left h = let (there, back) = said h .1 in (λ z. there (sym held-back ∙ z), λ n. held-back ∙ back n)
 
+  done : (o : Outcome Refusal) → Completed (outcomeOf o) → Ends.Completed o
+  done completed h = tt
+  done hung h = h
+  done budgetSpent h = h
+  done (refused r p) h = h
+
+  none-completed : Quiescent (outcomeOf (e .outcome)) → Completed (outcomeOf (e .outcome)) → heldBackIn graph k ledger′ cells′ (length (e .state .tokens)) ≡ 0
+  none-completed h c = none-left h .1 (inl (done (e .outcome) c))
+
 -- ---- of any run
 
 -- a result, and what it leaves
 record Tells (graph arrays : List ℕ) (k : ℕ) (ledger cells : List ℕ) (z : Result) : Type 0 where
   found : counts graph k (answer z .firings) (answer z .tokens) (ledgerAfter z ledger) (cellsAfter z cells) ≡ Found (heldLeft graph k (leftBy z ledger cells)) (heldLeft graph k (leftBy z ledger cells))
+  none : Completed (answer z .outcome) → heldLeft graph k (leftBy z ledger cells) ≡ 0
   exactly : heldLeft graph k (leftBy z ledger cells) ≡ 0 ↔ LeavesNoneHeld graph arrays k (length ledger) (length cells) z
 
 module _ (graph arrays inputs : List ℕ) (graphBytes : Bytes graph) (inputBytes : Bytes inputs) (picks ledger cells : List ℕ) (budget k : ℕ) where
@@ -197,6 +204,7 @@ module _ (graph arrays inputs : List ℕ) (graphBytes : Bytes graph) (inputBytes
       let w = stores-whole (length inputs) (length picks) (length ledger) (length cells) s in
       record {
         found = finds graph arrays inputs graphBytes inputBytes picks ledger cells budget k a (w .wholeLedger) (w .wholeCells) b h;
+        none = none-completed graph arrays inputs graphBytes inputBytes picks ledger cells budget k a (w .wholeLedger) (w .wholeCells) b h;
         exactly = none-left graph arrays inputs graphBytes inputBytes picks ledger cells budget k a (w .wholeLedger) (w .wholeCells) b h;
       })
 
@@ -205,4 +213,4 @@ which-hang graph arrays inputs graphBytes inputBytes budget k l x ran done =
     let z = bounded graph arrays inputs (l .picks) budget k (length (l .ledger)) (length (l .cells)) in
     let same : x ≡ leftBy z (l .ledger) (l .cells) = λ i. record { answer = ran .answered i; ledger = ran .ledgerLeft i; cells = ran .cellsLeft i } in
     let t = result-tells graph arrays inputs graphBytes inputBytes (l .picks) (l .ledger) (l .cells) budget k (subst (λ (r : Answer). Quiescent (r .outcome)) (ran .answered) done) in
-    subst (TellsHang graph arrays inputs budget k l) (sym same) (record { found = t .found; exactly = t .exactly })
+    subst (TellsHang graph arrays inputs budget k l) (sym same) (record { found = t .found; completed = t .none; exactly = t .exactly })
