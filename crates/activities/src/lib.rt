@@ -123,13 +123,6 @@ pub fn count(
     let checked = check_lent(graph, k, ledger.len(), cells.len());
     match checked {
         Checked::Failed(r, place) => Tally::Refused(r, place),
-        Checked::Passed => count_taken(
-            graph,
-            k,
-            firings as usize,
-            tokens as usize,
-            ledger,
-            cells,
-        ),
+        Checked::Passed => count_taken(graph, k, firings as usize, tokens as usize, ledger, cells),
     }
 }

@@ -173,7 +173,7 @@ module _ (k a : Request) (kept-end : Ended) (graphBytes : Bytes (k .graph)) (inp
         let bounds : a .limits .bound ≡ k .limits .bound = sym (eqb-true (k .limits .bound) (a .limits .bound) o) in
         let picks : m .picks ≡ l .picks = asked .picks ∙ sym (same-list (k .picks) (a .picks) p) ∙ sym (kept .picks) in
         let one : bounded (k .graph) (k .arrays) (k .inputs) (m .picks) (a .limits .budget) (a .limits .bound) (length (m .ledger)) (length (m .cells))
-            ≡ bounded (k .graph) (k .arrays) (k .inputs) (l .picks) (k .limits .budget) (k .limits .bound) (length (l .ledger)) (length (l .cells)) =
+        ≡ bounded (k .graph) (k .arrays) (k .inputs) (l .picks) (k .limits .budget) (k .limits .bound) (length (l .ledger)) (length (l .cells)) =
         λ i. bounded (k .graph) (k .arrays) (k .inputs) (picks i) (budgets i) (bounds i) (ledger-size i) (cells-size i) in
         shown (k .graph) (k .arrays) (k .inputs) graphBytes inputBytes (k .limits .budget) (k .limits .bound) l m cells-size x y (kept .ran)
         (subst (λ (z : Result). Ran z (y .answer) (m .ledger) (y .ledger) (m .cells) (y .cells)) one ran)

@@ -35,10 +35,6 @@ pub record Request : Type 0 where
 abbrev pub request : (graph arrays inputs picks : List ℕ) → Limits → Request
 request graph arrays inputs picks limits = record { graph = graph; arrays = arrays; inputs = inputs; picks = picks; limits = limits }
 
--- by its numbers
-abbrev pub requestOf : (graph arrays inputs picks : List ℕ) → (budget bound ledger cells : ℕ) → Request
-requestOf graph arrays inputs picks budget bound ledger cells = request graph arrays inputs picks (record { budget = budget; bound = bound; ledger = ledger; cells = cells })
-
 -- ---- when one serves for another
 
 abbrev pub sameBytes : List ℕ → List ℕ → Bool
