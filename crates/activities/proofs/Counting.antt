@@ -36,7 +36,8 @@ use Rattle.fire.proofs.Place.{on-ports}
 use Rattle.held.specs.Deciding.{Decided}
 use Rattle.held.proofs.Free.{held-under, free-places}
 use Rattle.activities.specs.declared.Tally.the-variants.{Found, Refused}
-use Rattle.activities.specs.Counts.{enabledIn, heldBackIn, lentChecked, counted, counts, Lent, Ready}
+use Rattle.activities.specs.Counts.{enabledIn, heldBackIn, lentChecked, counted, counts}
+use Rattle.activities.specs.Ready.{Lent, Ready}
 
 -- ---- of any list
 

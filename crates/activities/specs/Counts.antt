@@ -1,23 +1,18 @@
 -- 02, R-9: the activities of a saved state that are enabled, and those of them that a bound holds back, counted. `count` promises `counts`. Assumes nothing.
-use Prim.Native.Nat.{ℕ, _/_, _%_, _≤_}
-use mathlib.Core.Path.{_≡_}
+use Prim.Native.Nat.{ℕ}
 use mathlib.Core.Bool.{not}
 use mathlib.Core.List.{List, []}
 use lib.ListN.{length}
-use Rattle.record.specs.declared.tag.Tag.{Tag}
 use Rattle.record.specs.GraphRecords.{graphOf}
-use Rattle.record.specs.TokensAndTags.{mostTokens, capacityOf}
-use Rattle.record.specs.Widths.{cellWidth}
 use Rattle.machine.specs.Machine.{Machine, StateOf, Activity, enabled}
 use Rattle.machine.specs.Bounded.{Held, without}
 use Rattle.rules.specs.declared.answer.Checked.{Checked}
 use Rattle.rules.specs.declared.answer.Checked.the-variants.{Passed, Failed}
 use Rattle.rules.specs.declared.answer.Refusal.the-variants.{DamagedState}
-use Rattle.rules.specs.Check.{demand, _andThen_, checkGraph, checkStores, mostCells}
+use Rattle.rules.specs.Check.{demand, _andThen_, checkGraph, checkStores}
 use Rattle.rules.specs.Bounded.{andBound}
 use Rattle.rules.specs.Held.{heldIn}
 use Rattle.rules.specs.Saved.{stateSaved, machineSaved, taken}
-use Rattle.fire.specs.Running.{Prepared, Running}
 use Rattle.activities.specs.declared.Tally.{Tally}
 use Rattle.activities.specs.declared.Tally.the-variants.{Found, Refused}
 
@@ -50,17 +45,3 @@ counted graph k firings n ledger cells =
 
 unfoldable pub counts : (graph : List ℕ) → (bound firings tokens : ℕ) → (ledger cells : List ℕ) → Tally
 counts graph k firings n ledger cells = unlessRefused (lentChecked graph k (length ledger) (length cells)) (counted graph k firings n ledger cells)
-
--- ---- what the counting goes by
-
-pub record Lent (graph : List ℕ) (ledger cells : ℕ) : Type 0 where
-  pub graphPassed : checkGraph graph ≡ Passed
-  pub few : capacityOf ledger ≤ mostTokens
-  pub cellRecords : (cells % cellWidth ≡ 0) × (cells / cellWidth ≤ mostCells)
-
--- the flags are those of the enabled activities, as between the firings of a run
-pub record Ready (graph tables flags ledger : List ℕ) (used : ℕ) : Type 0 where
-  pub prepared : Prepared graph tables
-  pub links : List ℕ
-  pub cells : List ℕ
-  pub running : Running (graphOf graph) tables links flags ledger cells used

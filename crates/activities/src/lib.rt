@@ -16,7 +16,8 @@ ghost use Rattle.machine.specs.Bounded.{freeOf};
 ghost use Rattle.rules.specs.InstructionSet.{machineOf};
 ghost use Rattle.rules.specs.Held.{heldIn};
 ghost use Rattle.abstraction.specs.States.{stateHeld};
-ghost use Rattle.activities.specs.Counts.{lentChecked, Lent, Ready, counted, counts};
+ghost use Rattle.activities.specs.Counts.{lentChecked, counted, counts};
+ghost use Rattle.activities.specs.Ready.{Lent, Ready};
 
 // What is found of a state: so many activities are enabled, and so many of these are held back; or it is refused.
 pub enum Tally {

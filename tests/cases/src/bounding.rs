@@ -79,7 +79,7 @@ fn late_entries() -> Vec<BoundCase> {
         let lent = late_entry().picks(&j_first);
         cases.push(case(name, lent, bound, completed, 0));
     }
-    for (budget, says, held) in [(11, "spent 11 16 0", 0), (12, "hung 12 16 0", 1)] {
+    for (budget, says, held) in [(11, "spent 11 15 0", 0), (12, "hung 12 16 0", 1)] {
         let name = format!("late_entry, bound 2, budget {budget}");
         let lent = late_entry().budget(budget);
         cases.push(case(name, lent, 2, says, held));
