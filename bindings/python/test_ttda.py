@@ -105,8 +105,21 @@ class Runs(unittest.TestCase):
         kept = ttda.Request(graph, ttda.input_bytes([Input(0, 0, 7), Input(0, 1, -9)]))
         answer = ttda.run(kept.graph, kept.inputs).answer
         self.assertTrue(ttda.serves(kept, answer, kept._replace(picks=ttda.pick_bytes([5]))))
-        for other in [dict(budget=0), dict(capacity=100), dict(cells=8), dict(picks=b'\0'), dict(inputs=b'')]:
+        for other in [dict(budget=0), dict(capacity=100), dict(cells=8), dict(picks=b'\0'), dict(inputs=b''), dict(bound=2)]:
             self.assertFalse(ttda.serves(kept, answer, kept._replace(**other)), other)
+
+    def test_which_hang_it_was(self):
+        # A loop 0 to 1 and back, and a STORE whose value never comes: a bound of 2 holds the NEXT of iteration 1.
+        graph = ttda.graph_bytes([ttda.Instruction('NEXT', [(1, 0)]), ttda.Instruction('COPY', [(0, 0)]), ttda.Instruction('STORE', [])])
+        kept = ttda.Request(graph, ttda.input_bytes([Input(0, 0, 1), Input(2, 0, 0)]), bound=2)
+        done = ttda.run(kept.graph, kept.inputs, bound=2)
+        self.assertEqual(done.answer.word, 'hung')
+        self.assertEqual(ttda.held(graph, done, 2), ttda.Held(1, 1))
+        self.assertEqual(ttda.held(graph, done, 0), ttda.Held(0, 1))
+        self.assertEqual(ttda.held(graph, done, 1).refusal, 21)
+        self.assertTrue(ttda.serves(kept, done.answer, kept, 1))
+        self.assertFalse(ttda.serves(kept, done.answer, kept._replace(bound=0), 1))
+        self.assertTrue(ttda.serves(kept, done.answer, kept._replace(bound=0), 0))
 
     def test_old_records(self):
         old = bytes(12) + b'\7\0\0\0' + bytes(4)

@@ -127,6 +127,14 @@ class Request(NamedTuple):
     capacity: int = 2048
     cells: int = 1024
     arrays: bytes = b''
+    bound: int = 0
+
+
+class Held(NamedTuple):
+    """How many activities a bound holds back in what a run left, and how many are enabled in all; or the number of the refusal."""
+    held: int
+    enabled: int
+    refusal: int = 0
 
 
 class Files(NamedTuple):
@@ -138,7 +146,7 @@ class Files(NamedTuple):
 
 
 # The functions of ttda.h, with their parameters: r a buffer that is read, w one that is written, h a number of 16 bits, q one of 64,
-# n a number that is written, l a length.
+# n a number that is written, l a record of limits.
 _FUNCTIONS = {
     'ttda_run': 'rrrrhhww',
     'ttda_carry_on': 'rrrhhhhww',
@@ -151,7 +159,8 @@ _FUNCTIONS = {
     'ttda_list': 'rw',
     'ttda_convert': 'rw',
     'ttda_convert_log': 'rw',
-    'ttda_serves': 'rrrrrrrrhhllllq',
+    'ttda_held': 'rhhhrr',
+    'ttda_serves': 'rrrrlqqrrrrl',
     'ttda_print': 'qrrw',
 }
 _TYPES = {
@@ -160,7 +169,7 @@ _TYPES = {
     'h': [ctypes.c_uint16],
     'q': [ctypes.c_uint64],
     'n': [ctypes.POINTER(ctypes.c_uint64)],
-    'l': [ctypes.c_size_t],
+    'l': [ctypes.POINTER(ctypes.c_uint64)],
 }
 _HERE = os.path.dirname(os.path.abspath(__file__))
 _library = None
@@ -361,13 +370,27 @@ def expression_value(expression, values) -> Tuple[Answer, Optional[int]]:
     return Answer('refused' if word else 'completed', word, 0, 0, place), None if word else value
 
 
-def serves(kept: Request, answer: Answer, asked: Request) -> bool:
-    """Whether what was kept of a run that gave this answer (listing, cells, profile) is that of the run asked for, too."""
+def held(graph, left: Run, bound) -> Held:
+    """Which hang it was: how many activities a bound holds back in what a run left. If there are some, a run without the bound may end
+    otherwise."""
+    counts = left.answer.firings, left.answer.tokens
+    number = _call('ttda_held', _lent(graph, b'').graph, bound, *counts, left.ledger, left.memory)
+    word, held_back, enabled, _ = struct.unpack('<4H', struct.pack('<Q', number))
+    return Held(held_back, enabled, word)
+
+
+def serves(kept: Request, answer: Answer, asked: Request, held_back: int = 0) -> bool:
+    """Whether what was kept of a run that gave this answer (listing, cells, profile) is that of the run asked for, too. Of a hang,
+    `held_back` is what `held` counts."""
     word = answer.refusal or next(number for number, name in _WORDS.items() if name == answer.word)
     number, = struct.unpack('<Q', struct.pack('<4H', word, answer.firings, answer.tokens, answer.place))
-    lengths = [request.capacity * TOKEN.size for request in (kept, asked)] + [request.cells * CELL.size for request in (kept, asked)]
-    lent = [part for request in (kept, asked) for part in (request.graph, request.arrays, request.inputs, request.picks)]
-    return _call('ttda_serves', *lent, kept.budget, asked.budget, *lengths, number) == 1
+    return _call('ttda_serves', *_request(kept), number, held_back, *_request(asked)) == 1
+
+
+def _request(request):
+    """The parts of a request in the order of ttda_serves."""
+    limits = (request.budget, request.bound, request.capacity * TOKEN.size, request.cells * CELL.size)
+    return request.graph, request.arrays, request.inputs, request.picks, (ctypes.c_uint64 * 4)(*limits)
 
 
 def converted(records) -> bytes:

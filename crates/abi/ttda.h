@@ -75,12 +75,14 @@ enum {
     TTDA_MOST_EXPRESSION = 100
 };
 
-/* The four numbers of an answer, and the value in an answer of ttda_expression_value. */
+/* The four numbers of an answer, the value in an answer of ttda_expression_value, and the two counts in one of ttda_held. */
 static inline uint16_t ttda_word(uint64_t answer) { return (uint16_t)answer; }
 static inline uint16_t ttda_firings(uint64_t answer) { return (uint16_t)(answer >> 16); }
 static inline uint16_t ttda_tokens(uint64_t answer) { return (uint16_t)(answer >> 32); }
 static inline uint16_t ttda_place(uint64_t answer) { return (uint16_t)(answer >> 48); }
 static inline int32_t ttda_value(uint64_t answer) { return (int32_t)(uint32_t)(answer >> 16); }
+static inline uint16_t ttda_held_back(uint64_t answer) { return ttda_firings(answer); }
+static inline uint16_t ttda_enabled(uint64_t answer) { return ttda_tokens(answer); }
 
 /* Runs a graph. arrays is a table of named arrays, first cell and length of each, 16 bits each: the constant of a FETCH or a STORE
    names one, counted from 1, and its operand is an index, counted from 1; constant 0 is the whole store. A table of no bytes has no
@@ -93,7 +95,7 @@ static inline int32_t ttda_value(uint64_t answer) { return (int32_t)(uint32_t)(a
    bound: 0 for none, or 2 to 256; anything else is refused by 21. Then a NEXT that would make iteration m is held back while its path has,
    at iteration m - bound or less, a live token that is no result or a deferred one, or such a token stands in a path entered from there.
    Picks count without what is held back; where nothing else is enabled, the answer is hung. A run with a bound that completes, or hangs
-   with nothing held back, ends as every run without one does at a budget of 2,048. */
+   with nothing held back, ends as every run without one does at a budget of 2,048; ttda_held tells the two hangs apart. */
 uint64_t ttda_run(const uint8_t *graph, size_t graph_len,
                   const uint8_t *arrays, size_t arrays_len,
                   const uint8_t *inputs, size_t inputs_len,
@@ -187,23 +189,39 @@ uint64_t ttda_convert(const uint8_t *old, size_t old_len,
 uint64_t ttda_convert_log(const uint8_t *old, size_t old_len,
                           uint8_t *out, size_t out_len);
 
+/* Which hang it was: how many activities a bound holds back in a saved state, as ttda_carry_on takes one. The answer has 16 bits each, lowest
+   first: the word (0, or 1 to 5, 7, 21 or 24 refused), the activities held back (ttda_held_back has them), all that are enabled
+   (ttda_enabled has them), place. In what a run left that completed or hung with this bound, all that are enabled are held back; it ends
+   as every run without a bound exactly if there are none.
+   Writes: nothing. 7: ledger or cells are not whole records, or too many. 21: as ttda_run. 24: as ttda_carry_on. */
+uint64_t ttda_held(const uint8_t *graph, size_t graph_len,
+                   uint16_t bound, uint16_t firings, uint16_t tokens,
+                   const uint8_t *ledger, size_t ledger_len,
+                   const uint8_t *cells, size_t cells_len);
+
+/* What a run is given beside graph, named arrays, inputs and picks: its budget, its bound, and the lengths in bytes of the ledger and the
+   cells that it is lent. */
+struct ttda_limits {
+    uint64_t budget, bound, ledger_len, cells_len;
+};
+
 /* Whether what was kept of one run (its answer, listing and cells, and the profile of its graph) serves for a run that is asked for: 1, or 0.
-   Both are given alike: graph, named arrays, inputs, picks, budget, and the lengths in bytes of the ledger and the cells that ttda_run is lent; kept_answer is what
-   ttda_run answered. 1 if graph, arrays, inputs and both lengths are equal, and either picks and budget are equal too, or the kept run completed or hung, the
-   picks asked for are whole records, 2,048 at most, and the budget asked for is no less than the kept firings. Then the run asked for has that answer
-   and that listing and, unless it is refused before any firing, those cells, and ttda_profile writes the same records. */
+   kept_answer is what ttda_run answered, and kept_held, of a hang, how many activities ttda_held finds held back in what it left; of
+   another answer it is not looked at. 1 if graph, arrays, inputs and both lengths are equal, and either picks, budget and bound are equal too, or
+   the kept run completed, or hung with none held back, the bound asked for is 0, the picks asked for are whole records, 2,048 at
+   most, and the budget asked for is no less than the kept firings. Then the run asked for has that answer and that listing and, unless it
+   is refused before any firing, those cells, and ttda_profile writes the same records. */
 uint64_t ttda_serves(const uint8_t *kept_graph, size_t kept_graph_len,
                      const uint8_t *kept_arrays, size_t kept_arrays_len,
                      const uint8_t *kept_inputs, size_t kept_inputs_len,
                      const uint8_t *kept_picks, size_t kept_picks_len,
+                     const struct ttda_limits *kept_limits,
+                     uint64_t kept_answer, uint64_t kept_held,
                      const uint8_t *graph, size_t graph_len,
                      const uint8_t *arrays, size_t arrays_len,
                      const uint8_t *inputs, size_t inputs_len,
                      const uint8_t *picks, size_t picks_len,
-                     uint16_t kept_budget, uint16_t budget,
-                     size_t kept_ledger_len, size_t ledger_len,
-                     size_t kept_cells_len, size_t cells_len,
-                     uint64_t kept_answer);
+                     const struct ttda_limits *limits);
 
 /* What ttda_print answers where it writes nothing. A text has 11 bytes at least, so neither is a length. */
 #define TTDA_TOO_SMALL 0

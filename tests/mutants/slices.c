@@ -29,10 +29,12 @@ uint64_t unproved_carry_on(const struct slice *graph, const struct slice *arrays
                            uint16_t bound, uint16_t firings, uint16_t tokens, const struct slice *ledger, const struct slice *cells);
 uint64_t unproved_expression(const struct slice *expression, const struct slice *graph);
 uint64_t unproved_expression_value(const struct slice *expression, const struct slice *values);
+uint64_t unproved_held(const struct slice *graph, uint16_t bound, uint16_t firings, uint16_t tokens, const struct slice *ledger,
+                       const struct slice *cells);
 uint64_t unproved_serves(const struct slice *kept_graph, const struct slice *kept_arrays, const struct slice *kept_inputs,
-                         const struct slice *kept_picks, const struct slice *graph, const struct slice *arrays,
-                         const struct slice *inputs, const struct slice *picks, uint16_t kept_budget, uint16_t budget,
-                         size_t kept_ledger, size_t ledger, size_t kept_cells, size_t cells, uint64_t kept_answer);
+                         const struct slice *kept_picks, const uint64_t *kept_limits, uint64_t kept_answer, uint64_t kept_held,
+                         const struct slice *graph, const struct slice *arrays, const struct slice *inputs,
+                         const struct slice *picks, const uint64_t *limits);
 uint64_t unproved_list(const struct slice *ledger, const struct slice *out);
 uint64_t unproved_convert(const struct slice *old, const struct slice *out);
 uint64_t unproved_convert_log(const struct slice *old, const struct slice *out);
@@ -117,17 +119,22 @@ uint64_t ttda_expression_value(const uint8_t *expression, size_t expression_len,
     return unproved_expression_value(&e, &v);
 }
 
+uint64_t ttda_held(const uint8_t *graph, size_t graph_len, uint16_t bound, uint16_t firings, uint16_t tokens,
+                   const uint8_t *ledger, size_t ledger_len, const uint8_t *cells, size_t cells_len) {
+    const struct slice g = {graph, graph_len}, l = {ledger, ledger_len}, c = {cells, cells_len};
+    count();
+    return unproved_held(&g, bound, firings, tokens, &l, &c);
+}
+
 uint64_t ttda_serves(const uint8_t *kept_graph, size_t kept_graph_len, const uint8_t *kept_arrays, size_t kept_arrays_len,
                      const uint8_t *kept_inputs, size_t kept_inputs_len, const uint8_t *kept_picks, size_t kept_picks_len,
-                     const uint8_t *graph, size_t graph_len, const uint8_t *arrays, size_t arrays_len, const uint8_t *inputs,
-                     size_t inputs_len, const uint8_t *picks, size_t picks_len, uint16_t kept_budget, uint16_t budget,
-                     size_t kept_ledger_len, size_t ledger_len, size_t kept_cells_len, size_t cells_len,
-                     uint64_t kept_answer) {
+                     const uint64_t *kept_limits, uint64_t kept_answer, uint64_t kept_held, const uint8_t *graph,
+                     size_t graph_len, const uint8_t *arrays, size_t arrays_len, const uint8_t *inputs, size_t inputs_len,
+                     const uint8_t *picks, size_t picks_len, const uint64_t *limits) {
     const struct slice kg = {kept_graph, kept_graph_len}, ka = {kept_arrays, kept_arrays_len};
     const struct slice ki = {kept_inputs, kept_inputs_len}, kp = {kept_picks, kept_picks_len};
     const struct slice g = {graph, graph_len}, a = {arrays, arrays_len}, i = {inputs, inputs_len}, p = {picks, picks_len};
-    return unproved_serves(&kg, &ka, &ki, &kp, &g, &a, &i, &p, kept_budget, budget, kept_ledger_len, ledger_len,
-                           kept_cells_len, cells_len, kept_answer);
+    return unproved_serves(&kg, &ka, &ki, &kp, kept_limits, kept_answer, kept_held, &g, &a, &i, &p, limits);
 }
 
 uint64_t ttda_list(const uint8_t *ledger, size_t ledger_len, uint8_t *out, size_t out_len) {

@@ -80,6 +80,31 @@ impl Value {
     }
 }
 
+/// What `held` answers: 16 bits each, lowest first, of word, activities held back, enabled activities and place.
+#[derive(Clone, Copy, Debug, PartialEq, Eq, Hash)]
+pub struct Held(pub u64);
+
+impl Held {
+    /// Completed if the state was taken, else the refusal.
+    pub fn word(self) -> Word {
+        Answer(self.0).word()
+    }
+
+    /// The activities that the bound holds back.
+    pub fn held(self) -> usize {
+        Answer(self.0).firings()
+    }
+
+    /// All that are enabled, held back or not.
+    pub fn enabled(self) -> usize {
+        Answer(self.0).tokens()
+    }
+
+    pub fn place(self) -> usize {
+        Answer(self.0).place()
+    }
+}
+
 /// What `serves` answers: 1 if what was kept serves, and 0 if not.
 #[derive(Clone, Copy, Debug, PartialEq, Eq, Hash)]
 pub struct Served(pub u64);

@@ -1,9 +1,10 @@
 //! The functions of crates/abi/ttda.h, a line each, with their parameters in its order. Of each line the macro makes the
 //! declaration of the C function and the function that Rust calls. A parameter is `lent` (a buffer that is read), `written`
-//! (one that is written), `counted` (a number that is written), `answered` (an answer of an earlier call), or a number of
-//! the type that stands there.
+//! (one that is written), `counted` (a number that is written), `answered` (an answer of an earlier call), `limits` (a record of
+//! four numbers), or a number of the type that stands there.
 
-use crate::answers::{Answer, Copied, Printed, Served, Value};
+use crate::answers::{Answer, Copied, Held, Printed, Served, Value};
+use crate::limits::Limits;
 
 macro_rules! functions {
     ($($(#[$about:meta])* $name:ident = $c:ident($($parameters:tt)*) -> $answer:ident;)*) => {
@@ -26,6 +27,9 @@ macro_rules! function {
     };
     ($head:tt [$($given:tt)*] [$($declared:tt)*] [$($passed:tt)*] $p:ident: answered, $($rest:tt)*) => {
         function! { $head [$($given)* $p: Answer,] [$($declared)* u64,] [$($passed)* $p.0,] $($rest)* }
+    };
+    ($head:tt [$($given:tt)*] [$($declared:tt)*] [$($passed:tt)*] $p:ident: limits, $($rest:tt)*) => {
+        function! { $head [$($given)* $p: &Limits,] [$($declared)* *const Limits,] [$($passed)* $p,] $($rest)* }
     };
     ($head:tt [$($given:tt)*] [$($declared:tt)*] [$($passed:tt)*] $p:ident: $number:ident, $($rest:tt)*) => {
         function! { $head [$($given)* $p: $number,] [$($declared)* $number,] [$($passed)* $p,] $($rest)* }
@@ -73,10 +77,12 @@ functions! {
     /// The value of an expression, of the values of its variables.
     expression_value = ttda_expression_value(expression: lent, values: lent) -> Value;
 
-    /// Whether what was kept of one run serves for a run that is asked for. Ledger and cells are given by their lengths in bytes.
-    serves = ttda_serves(kept_graph: lent, kept_arrays: lent, kept_inputs: lent, kept_picks: lent, graph: lent,
-        arrays: lent, inputs: lent, picks: lent, kept_budget: u16, budget: u16, kept_ledger: usize, ledger: usize, kept_cells: usize, cells: usize,
-        kept_answer: answered) -> Served;
+    /// How many activities a bound holds back in what a run left, and how many are enabled in all.
+    held = ttda_held(graph: lent, bound: u16, firings: u16, tokens: u16, ledger: lent, cells: lent) -> Held;
+
+    /// Whether what was kept of one run serves for a run that is asked for. `kept_held` is, of a hang, what `held` counts as held back.
+    serves = ttda_serves(kept_graph: lent, kept_arrays: lent, kept_inputs: lent, kept_picks: lent, kept_limits: limits,
+        kept_answer: answered, kept_held: u64, graph: lent, arrays: lent, inputs: lent, picks: lent, limits: limits) -> Served;
 
     /// Sorts the used records of a ledger into `out` of the same length.
     list = ttda_list(ledger: lent, out: written) -> Copied;

@@ -3,7 +3,9 @@
 
 mod answers;
 mod functions;
+mod limits;
 pub mod widths;
 
-pub use answers::{Answer, Copied, NotPrinted, Printed, Served, Value, Word};
+pub use answers::{Answer, Copied, Held, NotPrinted, Printed, Served, Value, Word};
 pub use functions::*;
+pub use limits::Limits;

@@ -2,7 +2,7 @@
 //! declaration has other parameters than the library.
 
 use ttda::widths::{CELL, INSTRUCTION, LOGGED, OLD_TOKEN, STEP, TOKEN};
-use ttda::{Answer, NotPrinted, Word};
+use ttda::{Answer, Limits, NotPrinted, Word};
 
 const ADD: u8 = 16;
 const OUT: u8 = 3;
@@ -201,41 +201,121 @@ fn what_is_not_printed_says_why() {
 fn a_kept_run_serves_other_orders_and_no_other_run() {
     let (graph, inputs) = (graph(), inputs(TOKEN, 20));
     let kept = Answer::of(Word::COMPLETED, 1, 3, 0);
-    let serves = |graph: &[u8], inputs: &[u8], picks: &[u8], budget, ledger, cells, answer| {
-        let (kept_graph, kept_inputs) = (self::graph(), self::inputs(TOKEN, 20));
-        let (kept_ledger, kept_cells) = (4 * TOKEN, 2 * CELL);
-        let served = ttda::serves(
-            &kept_graph,
+    let kept_limits = Limits {
+        budget: 9,
+        bound: 0,
+        ledger: 4 * TOKEN as u64,
+        cells: 2 * CELL as u64,
+    };
+    let serves = |graph: &[u8], inputs: &[u8], picks: &[u8], limits, answer| {
+        let (own, from) = (self::graph(), self::inputs(TOKEN, 20));
+        ttda::serves(
+            &own,
             &[],
-            &kept_inputs,
+            &from,
             &[],
+            &kept_limits,
+            answer,
+            0,
             graph,
             &[],
             inputs,
             picks,
-            9,
-            budget,
-            kept_ledger,
-            ledger,
-            kept_cells,
-            cells,
-            answer,
-        );
-        served.is_yes()
+            &limits,
+        )
+        .is_yes()
     };
-    let (ledger, cells) = (4 * TOKEN, 2 * CELL);
+    let same = kept_limits;
     let mut other = (graph.clone(), inputs.clone());
     other.0[8] = 1;
     other.1[20] = 8;
-    assert!(serves(&graph, &inputs, &[], 9, ledger, cells, kept));
-    assert!(serves(&graph, &inputs, &[1, 0], 1, ledger, cells, kept));
-    assert!(!serves(&other.0, &inputs, &[], 9, ledger, cells, kept));
-    assert!(!serves(&graph, &other.1, &[], 9, ledger, cells, kept));
-    assert!(!serves(&graph, &inputs, &[1], 9, ledger, cells, kept));
-    assert!(!serves(&graph, &inputs, &[], 0, ledger, cells, kept));
-    assert!(!serves(&graph, &inputs, &[], 9, 5 * TOKEN, cells, kept));
-    assert!(!serves(&graph, &inputs, &[], 9, ledger, 3 * CELL, kept));
+    assert!(serves(&graph, &inputs, &[], same, kept));
+    let just = Limits { budget: 1, ..same };
+    assert!(serves(&graph, &inputs, &[1, 0], just, kept));
+    assert!(!serves(&other.0, &inputs, &[], same, kept));
+    assert!(!serves(&graph, &other.1, &[], same, kept));
+    assert!(!serves(&graph, &inputs, &[1], same, kept));
+    for limits in [
+        Limits { budget: 0, ..same },
+        Limits { bound: 2, ..same },
+        Limits {
+            ledger: 5 * TOKEN as u64,
+            ..same
+        },
+        Limits {
+            cells: 3 * CELL as u64,
+            ..same
+        },
+    ] {
+        assert!(!serves(&graph, &inputs, &[], limits, kept), "{limits:?}");
+    }
     let refused = Answer::of(9, 1, 3, 0);
-    assert!(serves(&graph, &inputs, &[], 9, ledger, cells, refused));
-    assert!(!serves(&graph, &inputs, &[1, 0], 9, ledger, cells, refused));
+    assert!(serves(&graph, &inputs, &[], same, refused));
+    assert!(!serves(&graph, &inputs, &[1, 0], same, refused));
+}
+
+/// A root loop, 0 NEXT to 1, 1 COPY to 0, and a STORE that waits for its value at iteration 0: with a bound of 2 the NEXT of
+/// iteration 1 is held, and the hang serves itself alone.
+#[test]
+fn a_hang_on_held_activities_is_told_and_serves_itself_alone() {
+    let record = |code: u8, to: &[u8]| {
+        let mut record = [0; 16];
+        (record[0], record[1]) = (code, to.len() as u8);
+        if let [to] = to {
+            record[4] = *to;
+        }
+        record
+    };
+    let graph = [record(7, &[1]), record(1, &[0]), record(11, &[])].concat();
+    let mut inputs = vec![0; 2 * TOKEN];
+    inputs[TOKEN + 18] = 2;
+    let (mut ledger, mut cells) = (vec![0; 600 * TOKEN], [0; CELL]);
+    let hung = ttda::run(&graph, &[], &inputs, &[], 2048, 2, &mut ledger, &mut cells);
+    assert_eq!(hung.word(), Word::Hung);
+    let counts = |bound, tokens: usize| {
+        let (firings, tokens) = (hung.firings() as u16, tokens as u16);
+        ttda::held(&graph, bound, firings, tokens, &ledger, &cells)
+    };
+    let found = counts(2, hung.tokens());
+    let parts = |held: ttda::Held| (held.word(), held.held(), held.enabled(), held.place());
+    assert_eq!(parts(found), (Word::Completed, 1, 1, 0));
+    assert_eq!(parts(counts(0, hung.tokens())), (Word::Completed, 0, 1, 0));
+    assert_eq!(counts(1, hung.tokens()).word(), Word::Refused(21));
+    assert_eq!(counts(2, hung.tokens() + 1).word(), Word::Refused(24));
+    let bounded = Limits {
+        budget: 2048,
+        bound: 2,
+        ledger: ledger.len() as u64,
+        cells: cells.len() as u64,
+    };
+    let serves = |held, limits: Limits| {
+        let kept = (&graph, &inputs);
+        ttda::serves(
+            kept.0,
+            &[],
+            kept.1,
+            &[],
+            &bounded,
+            hung,
+            held,
+            &graph,
+            &[],
+            &inputs,
+            &[],
+            &limits,
+        )
+        .is_yes()
+    };
+    let unbounded = Limits {
+        bound: 0,
+        ..bounded
+    };
+    let another = Limits {
+        bound: 3,
+        ..bounded
+    };
+    assert!(serves(found.held() as u64, bounded));
+    assert!(!serves(found.held() as u64, unbounded));
+    assert!(serves(0, unbounded));
+    assert!(!serves(0, another));
 }

@@ -4,6 +4,7 @@ use mathlib.Core.Path.{_≡_}
 use mathlib.Core.Bool.{cond}
 use mathlib.Core.List.{List, [], _∷_}
 use lib.Dec.{eqb}
+use lib.ListN.{getD}
 use Rattle.number.specs.Number.{bitsOf}
 use Rattle.rules.specs.Answer.{Values, numberOf}
 use Rattle.rules.specs.declared.answer.Refusal.{Refusal}
@@ -17,6 +18,10 @@ use Rattle.rules.specs.declared.answer.Made.{Made}
 use Rattle.rules.specs.declared.answer.Made.the-variants as Making
 use Rattle.rules.specs.declared.answer.Evaluated.{Evaluated}
 use Rattle.rules.specs.declared.answer.Evaluated.the-variants as Evaluation
+use Rattle.activities.specs.declared.Tally.{Tally}
+use Rattle.activities.specs.declared.Tally.the-variants as Counting
+use Rattle.plot_cache.specs.declared.Limits.{Limits}
+use Rattle.plot_cache.specs.declared.Ended as Ending
 use Rattle.plot_cache.specs.Serves.{Request, serves, Served}
 use Rattle.text.specs.Text.{printed, printedOf, outAfter}
 use Rattle.text.specs.declared.Printed.{Printed}
@@ -42,6 +47,11 @@ madeNumber (Making.Refused r place) = record { word = numberOf r; firings = 0; t
 abbrev pub valueNumber : Evaluated → Values
 valueNumber (Evaluation.Value v) = record { word = 0; firings = bitsOf v % 65536; tokens = bitsOf v / 65536; place = 0 }
 valueNumber (Evaluation.Refused r place) = record { word = numberOf r; firings = 0; tokens = 0; place = place }
+
+-- the activities of a saved state: word 0, the held in the place of the firings and all enabled in that of the tokens, or the refusal's number with its place
+abbrev pub tallyNumber : Tally → Values
+tallyNumber (Counting.Found enabled held) = record { word = 0; firings = held; tokens = enabled; place = 0 }
+tallyNumber (Counting.Refused r place) = record { word = numberOf r; firings = 0; tokens = 0; place = place }
 
 -- ---- the way back
 
@@ -111,15 +121,22 @@ answerNeeded (Bounds.Refused r place) = record { outcome = Refused r place; firi
 
 -- ---- what the cache of the plotter answers
 
--- 1 if what is kept of a run with this answer serves, else 0; a number that is no answer's serves nothing
-abbrev pub servesNumber : (kept : Request) → Unpacked → (asked : Request) → ℕ
-servesNumber k (Answered a) q = cond (serves k a q) 1 0
-servesNumber k NoAnswer q = 0
+-- what a run is given beside its bytes, in four numbers
+unfoldable pub limitsIn : List ℕ → Limits
+limitsIn l = record { budget = getD l 0 0; bound = getD l 1 0; ledger = getD l 2 0; cells = getD l 3 0 }
 
--- the promise of `ttda_serves`: if it says 1, what is kept of a run that answered so serves
-pub record ServesNumber (kept : Request) (n : ℕ) (asked : Request) (r : ℕ) : Type 0 where
-  pub exactly : r ≡ servesNumber kept (unpacked n) asked
-  pub holds : r ≡ 1 → (a : Answer) → unpacked n ≡ Answered a → Served kept a asked
+abbrev pub ended : Answer → (held : ℕ) → Ending.Ended
+ended a held = record { answer = a; held = held }
+
+-- 1 if what is kept of a run that ended so serves, else 0; a number that is no answer's serves nothing
+abbrev pub servesNumber : (kept : Request) → Unpacked → (held : ℕ) → (asked : Request) → ℕ
+servesNumber k (Answered a) held q = cond (serves k (ended a held) q) 1 0
+servesNumber k NoAnswer held q = 0
+
+-- the promise of `ttda_serves`: if it says 1, what is kept of a run that ended so serves
+pub record ServesNumber (kept : Request) (n held : ℕ) (asked : Request) (r : ℕ) : Type 0 where
+  pub exactly : r ≡ servesNumber kept (unpacked n) held asked
+  pub holds : r ≡ 1 → (a : Answer) → unpacked n ≡ Answered a → Served kept (ended a held) asked
 
 -- ---- what printing answers and leaves
 

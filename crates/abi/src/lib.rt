@@ -1,7 +1,9 @@
-// What Rust and C link: the run, with and without a log, the replay, the profile, the bounds, expressions, the listing and the
-// printed lines over numbers and byte slices, with the promises of the crates behind them.
+// What Rust and C link: the run, with and without a log, the replay, the profile, the bounds, the activities that a bound holds back,
+// expressions, the listing and the printed lines over numbers and byte slices, with the promises of the crates behind them.
+use activities::Tally;
 use convert::Converted;
 use listing::Listed;
+use plot_cache::Ended;
 use plot_cache::Limits;
 use rules::answer;
 use rules::answer::Answer;
@@ -23,11 +25,12 @@ ghost use Rattle.rules.specs.Run.{answer as Run·answer};
 ghost use Rattle.rules.specs.Bounded.{bounded, boundLogged, boundCarried};
 ghost use Rattle.rules.specs.Log.{logAfter, replayed};
 ghost use Rattle.rules.specs.Profile.{profiled, profileAnswer, profileAfter};
-ghost use Rattle.plot_cache.specs.Serves.{requestOf};
+ghost use Rattle.activities.specs.Counts.{counts};
+ghost use Rattle.plot_cache.specs.Serves.{request};
 ghost use Rattle.convert.specs.Convert.{tokenRest, logRest, numberOf as Convert·numberOf, answer as Convert·answer, outAfter as Convert·outAfter};
 ghost use Rattle.listing.specs.Listing.{outAfter};
 ghost use Rattle.listing.specs.Listing.{answer as Listing·answer};
-ghost use Rattle.abi.specs.Numbers.{packed, madeNumber, valueNumber, refusalOf, unplaced, outcomeOf, unpacked, ServesNumber, printAnswer, printAfter};
+ghost use Rattle.abi.specs.Numbers.{packed, madeNumber, valueNumber, refusalOf, unplaced, outcomeOf, unpacked, tallyNumber, limitsIn, ServesNumber, printAnswer, printAfter};
 
 // What a word says of a refusal.
 enum Numbered {
@@ -329,48 +332,75 @@ pub extern "C" fn ttda_list(ledger: &[u8], out: &mut [u8]) -> u64
     }
 }
 
-// 1 if what is kept of a run that answered so serves for the run that is asked for, else 0. Ledgers and cells by their lengths in
-// bytes.
+// How many activities a bound holds back in a saved state, and how many are enabled in all.
+#[no_mangle]
+pub extern "C" fn ttda_held(
+    graph: &[u8],
+    bound: u16,
+    firings: u16,
+    tokens: u16,
+    ledger: &[u8],
+    cells: &[u8],
+) -> u64
+    ensures { λ r. ⌜ r ≡ packed (tallyNumber (counts (now (graph .entry)) bound firings tokens (now (ledger .entry)) (now (cells .entry)))) ⌝ }
+{
+    let tally = activities::count(graph, bound, firings, tokens, ledger, cells);
+    match tally {
+        Tally::Found { enabled, held } => number_of(Answer {
+            outcome: Outcome::Completed,
+            firings: held,
+            tokens: enabled,
+        }),
+        Tally::Refused(r, place) => number_of(answer::refused(r, place)),
+    }
+}
+
+// Budget, bound, and the lengths in bytes of ledger and cells.
+fn limits_in(numbers: &[u64; 4]) -> Limits
+    ensures { λ r. ⌜ r ≡ limitsIn (now (numbers .entry)) ⌝ }
+{
+    Limits {
+        budget: numbers[0] as usize,
+        bound: numbers[1] as usize,
+        ledger: numbers[2] as usize,
+        cells: numbers[3] as usize,
+    }
+}
+
+// 1 if what is kept of a run that ended so serves for the run that is asked for, else 0.
 #[no_mangle]
 pub extern "C" fn ttda_serves(
     kept_graph: &[u8],
     kept_arrays: &[u8],
     kept_inputs: &[u8],
     kept_picks: &[u8],
+    kept_limits: &[u64; 4],
+    kept_answer: u64,
+    kept_held: u64,
     graph: &[u8],
     arrays: &[u8],
     inputs: &[u8],
     picks: &[u8],
-    kept_budget: u16,
-    budget: u16,
-    kept_ledger: usize,
-    ledger: usize,
-    kept_cells: usize,
-    cells: usize,
-    kept_answer: u64,
+    limits: &[u64; 4],
 ) -> u64
-    ensures { λ r. ⌜ ServesNumber (requestOf (now («kept_graph» .entry)) (now («kept_arrays» .entry)) (now («kept_inputs» .entry)) (now («kept_picks» .entry)) «kept_budget» «kept_ledger» «kept_cells») «kept_answer» (requestOf (now (graph .entry)) (now (arrays .entry)) (now (inputs .entry)) (now (picks .entry)) budget ledger cells) r ⌝ }
+    ensures { λ r. ⌜ ServesNumber (request (now («kept_graph» .entry)) (now («kept_arrays» .entry)) (now («kept_inputs» .entry)) (now («kept_picks» .entry)) (limitsIn (now («kept_limits» .entry)))) «kept_answer» «kept_held» (request (now (graph .entry)) (now (arrays .entry)) (now (inputs .entry)) (now (picks .entry)) (limitsIn (now (limits .entry)))) r ⌝ }
 {
-    let Unpacked::Answered(a) = unpack(kept_answer) else {
+    let Unpacked::Answered(answer) = unpack(kept_answer) else {
         return 0;
     };
-    let kept = Limits {
-        budget: kept_budget,
-        ledger: kept_ledger,
-        cells: kept_cells,
+    let end = Ended {
+        answer,
+        held: kept_held as usize,
     };
-    let asked = Limits {
-        budget,
-        ledger,
-        cells,
-    };
+    let kept = limits_in(kept_limits);
+    let asked = limits_in(limits);
     if plot_cache::serves(
         kept_graph,
         kept_arrays,
         kept_inputs,
         kept_picks,
         kept,
-        a,
+        end,
         graph,
         arrays,
         inputs,

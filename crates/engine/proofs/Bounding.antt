@@ -1,5 +1,5 @@
 -- 02, R-9: a choice among the activities that are not held back; what is known of them from firing to firing; and how a run with a bound is settled. Assumes nothing.
-use Prim.Native.Nat.{ℕ, zero, suc, _+_, _/_, _%_, _≤_, _<_}
+use Prim.Native.Nat.{ℕ, zero, suc, _+_, _-_, _/_, _%_, _≤_, _<_}
 use mathlib.Core.Path.{_≡_, refl, sym, ap, subst, _∙_}
 use mathlib.Core.Bool.{Bool, true, false, _&&_}
 use mathlib.Core.List.{List, [], _∷_, map}
@@ -26,7 +26,7 @@ use Rattle.rules.specs.declared.answer.Answer.{Answer}
 use Rattle.rules.specs.InstructionSet.{machineOf}
 use Rattle.rules.specs.Run.{picksOf, outcomeOf}
 use Rattle.rules.specs.Held.{heldIn}
-use Rattle.store_flags.specs.Flags.{places, minus, flagsOf}
+use Rattle.store_flags.specs.Flags.{places, placesFrom, minus, flagsOf}
 use Rattle.store_flags.specs.Marks.{bit, Marked}
 use Rattle.store_enabled.specs.Enabled.{enabledPlaces}
 use Rattle.store_enabled.specs.Store.{Right}
@@ -57,6 +57,19 @@ minus-le [] m i = omega arith
 minus-le (x ∷ l) [] i = omega arith
 minus-le (x ∷ l) (y ∷ m) zero = omega arith
 minus-le (x ∷ l) (y ∷ m) (suc i) = minus-le l m i
+
+-- where no flag is raised there, nothing is taken away
+none-minus : (i : ℕ) (l m : List ℕ) → length (placesFrom i m) ≡ 0 → minus l m ≡ l
+none-minus i [] m h = refl
+none-minus i (x ∷ l) [] h = refl
+none-minus i (x ∷ l) (zero ∷ m) h = λ j. less-none x j ∷ none-minus (suc i) l m h j
+  where
+    less-none : (n : ℕ) → n - 0 ≡ n
+    less-none n = omega arith
+none-minus i (x ∷ l) (suc y ∷ m) h = absurd (omega arith)
+
+pub all-free : (l m : List ℕ) → length (places m) ≡ 0 → minus l m ≡ l
+all-free l m h = none-minus 0 l m h
 
 module _ (tables ledger : List ℕ) (used : ℕ) (g : List Instruction) (right : Arities g tables) (arrived : Arrived g (tokens used ledger)) (table : List NamedArray) (capacity count : ℕ) (cs : List Cell)
     (links flags held : List ℕ) (m : Matching tables links flags ledger used) (k : ℕ) (d : Decided g k flags held ledger used) where

@@ -33,7 +33,7 @@ ghost use Rattle.store_chains.specs.Search.{Within};
 ghost use Rattle.store_enabled.specs.Store.{enabledAt};
 ghost use Rattle.store.specs.Matching.{Matching};
 ghost use Rattle.fire.specs.Running.{stateIn, askedIn, Prepared, Running};
-ghost use Rattle.store_flags.specs.Flags.{Under, flagsOf, Counted};
+ghost use Rattle.store_flags.specs.Flags.{places, minus, Under, flagsOf, Counted};
 ghost use Rattle.start.specs.Begun.{Accepted};
 ghost use Rattle.start.specs.Ended.{EndedAt};
 ghost use Rattle.engine.specs.Promise.{lentToRun, leftByRun, BoundedOn, lentToLogged, leftByLogged, BoundLoggedOn};
@@ -181,6 +181,18 @@ fn by_place(
     Choice::Ended(Outcome::Refused(Refusal::NotEnabled, firings))
 }
 
+// The place of number k of the activities that are not held back. Where none is, they are all that are enabled.
+fn free_at(flags: &[u64; 69], held: &[u64; 69], k: usize) -> usize
+    requires { ⌜ Counted (now flags) × Counted (now held) × Under (flagsOf (now held)) (flagsOf (now flags)) × (k < length (places (minus (flagsOf (now flags)) (flagsOf (now held))))) ⌝ }
+    ensures { λ r. ⌜ r ≡ getD (places (minus (flagsOf (now (flags .entry))) (flagsOf (now (held .entry))))) k 0 ⌝ }
+{
+    if store_flags::count(held) == 0 {
+        store_flags::select(flags, k)
+    } else {
+        store_flags::select_but(flags, held, k)
+    }
+}
+
 // 02, R-9: the one that the pick of this turn takes of those that are not held back.
 fn by_free(
     tables: &[u16; 641],
@@ -199,7 +211,7 @@ fn by_free(
         return Choice::Ended(ending::ending(tables, ledger, used));
     }
     let number = number_of(load::pick_at(picks, firings), e);
-    Choice::At(store_flags::select_but(flags, held, number))
+    Choice::At(free_at(flags, held, number))
 }
 
 // The choice of a turn.

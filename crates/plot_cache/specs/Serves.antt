@@ -1,5 +1,5 @@
 -- The cache of the plotter (the mission: it "is built above the engine and keeps a cache of the last listing"): when what is kept of one run serves for a run that is asked
--- for, and what is promised then, over the promises of `run` (crate engine), `list` and `profile`. The promise is proved in proofs/Served. Assumes nothing.
+-- for, and what is promised then, over the promises of `run` (crate engine), `list` and `profile`, and of `count` (crate activities), which tells one hang from another. The promise is proved in proofs/Served. Assumes nothing.
 use Prim.Native.Nat.{ℕ, _*_}
 use mathlib.Core.Path.{_≡_}
 use mathlib.Core.Logic.{_⊎_}
@@ -10,14 +10,17 @@ use lib.ListN.{length, take}
 use Rattle.buffer.specs.Rows.{whole}
 use Rattle.record.specs.TokensAndTags.{mostTokens}
 use Rattle.record.specs.Widths.{pickWidth}
-use Rattle.rules.specs.declared.answer.Answer.{Answer}
 use Rattle.rules.specs.declared.answer.Outcome.{Outcome}
 use Rattle.rules.specs.declared.answer.Outcome.the-variants.{Completed, Hung, Spent, Refused}
 use Rattle.rules.specs.Profile.{stepWidth}
-use Rattle.rules.specs.Runs.{LentToRun, LeftByRun, RanOn, LentToProfile, LeftByProfile, ProfiledOn}
+use Rattle.rules.specs.Runs.{LentToRun, LeftByRun, LentToProfile, LeftByProfile, ProfiledOn}
+use Rattle.rules.specs.Runs as Runs
+use Rattle.rules.specs.Bounded.{BoundedOn}
+use Rattle.activities.specs.Hangs.{heldLeft}
 use Rattle.listing.specs.Listing.{answer, outAfter}
 use Rattle.listing.specs.Demand3.{used}
 use Rattle.plot_cache.specs.declared.Limits.{Limits}
+use Rattle.plot_cache.specs.declared.Ended.{Ended}
 
 -- ---- a run that is kept or asked for
 
@@ -32,10 +35,6 @@ pub record Request : Type 0 where
 abbrev pub request : (graph arrays inputs picks : List ℕ) → Limits → Request
 request graph arrays inputs picks limits = record { graph = graph; arrays = arrays; inputs = inputs; picks = picks; limits = limits }
 
--- by its numbers
-abbrev pub requestOf : (graph arrays inputs picks : List ℕ) → (budget ledger cells : ℕ) → Request
-requestOf graph arrays inputs picks budget ledger cells = request graph arrays inputs picks (record { budget = budget; ledger = ledger; cells = cells })
-
 -- ---- when one serves for another
 
 abbrev pub sameBytes : List ℕ → List ℕ → Bool
@@ -49,25 +48,27 @@ unfoldable pub sameMachine : (graph graph′ arrays arrays′ inputs inputs′ :
 sameMachine graph graph′ arrays arrays′ inputs inputs′ l l′ =
     sameBytes graph graph′ && (sameBytes arrays arrays′ && (sameBytes inputs inputs′ && (eqb (l .ledger) (l′ .ledger) && eqb (l .cells) (l′ .cells))))
 
--- and the same order in every byte
-unfoldable pub sameOrder : (picks picks′ : List ℕ) → (budget budget′ : ℕ) → Bool
-sameOrder picks picks′ budget budget′ = eqb budget budget′ && sameBytes picks picks′
+-- and the same order in every byte, under one bound
+unfoldable pub sameOrder : (picks picks′ : List ℕ) → Limits → Limits → Bool
+sameOrder picks picks′ l l′ = eqb (l .budget) (l′ .budget) && (eqb (l .bound) (l′ .bound) && sameBytes picks picks′)
 
-unfoldable pub rests : Outcome → Bool
-rests Completed = true
-rests Hung = true
-rests Spent = false
-rests (Refused r place) = false
+-- nothing is left enabled. R-9: "completes, or hangs with no held activity left"
+unfoldable pub rests : Outcome → (held : ℕ) → Bool
+rests Completed held = true
+rests Hung held = eqb held 0
+rests Spent held = false
+rests (Refused r place) held = false
 
--- demand 3: a run that completed or hung ends as every order does, "picks [..] of allowed length", whose budget has room for its firings. The picks by their length in bytes
-unfoldable pub anyOrder : Answer → (picks budget : ℕ) → Bool
-anyOrder r picks budget = rests (r .outcome) && (whole pickWidth mostTokens picks && leb (r .firings) budget)
+-- demand 3: a run that completed or hung ends as every order does, "picks [..] of allowed length", whose budget has room for its firings. R-9: so does one with a bound, and
+-- the order is one without: with a bound it might hang on held ones. The picks by their length in bytes
+unfoldable pub anyOrder : Ended → (picks : ℕ) → Limits → Bool
+anyOrder e picks l = rests (e .answer .outcome) (e .held) && (eqb (l .bound) 0 && (whole pickWidth mostTokens picks && leb (e .answer .firings) (l .budget)))
 
--- of a run that gave the answer r
-unfoldable pub serves : (kept : Request) → (r : Answer) → (asked : Request) → Bool
-serves k r a =
+-- of a run that ended so
+unfoldable pub serves : (kept : Request) → Ended → (asked : Request) → Bool
+serves k e a =
     sameMachine (k .graph) (a .graph) (k .arrays) (a .arrays) (k .inputs) (a .inputs) (k .limits) (a .limits)
-    && (sameOrder (k .picks) (a .picks) (k .limits .budget) (a .limits .budget) || anyOrder r (length (a .picks)) (a .limits .budget))
+    && (sameOrder (k .picks) (a .picks) (k .limits) (a .limits) || anyOrder e (length (a .picks)) (a .limits))
 
 -- ---- what is promised then
 
@@ -76,7 +77,7 @@ pub record RanAs (q : Request) (l : LentToRun) (x : LeftByRun) : Type 0 where
   pub picks : l .picks ≡ q .picks
   pub ledger : length (l .ledger) ≡ q .limits .ledger
   pub cells : length (l .cells) ≡ q .limits .cells
-  pub ran : RanOn (q .graph) (q .arrays) (q .inputs) (q .limits .budget) l x
+  pub ran : BoundedOn (q .graph) (q .arrays) (q .inputs) (q .limits .budget) (q .limits .bound) l x
 
 -- and `profile`, which takes no picks and no budget
 pub record ProfiledAs (q : Request) (l : LentToProfile) (x : LeftByProfile) : Type 0 where
@@ -98,13 +99,18 @@ pub record PlottedAlike (x y : LeftByProfile) : Type 0 where
   pub answers : x .answer ≡ y .answer
   pub records : take (x .answer .records * stepWidth) (x .profile) ≡ take (y .answer .records * stepWidth) (y .profile)
 
--- what is kept serves: if the kept answer is that of the kept run, the run that is asked for shows the same; and so does its profile, in room for as many records
-pub record Served (kept : Request) (r : Answer) (asked : Request) : Type 0 where
-  pub runs : (l m : LentToRun) (x y : LeftByRun) → RanAs kept l x → x .answer ≡ r → RanAs asked m y → ShownAlike l m x y
+-- what is kept is of this run: its answer and, of a hang, how many activities its bound holds back in what it left
+pub record KeptOf (q : Request) (x : LeftByRun) (e : Ended) : Type 0 where
+  pub answer : x .answer ≡ e .answer
+  pub held : Runs.Hung (x .answer .outcome) → heldLeft (q .graph) (q .limits .bound) x ≡ e .held
+
+-- what is kept serves: the run that is asked for shows the same as the kept one; and so does its profile, in room for as many records
+pub record Served (kept : Request) (e : Ended) (asked : Request) : Type 0 where
+  pub runs : (l m : LentToRun) (x y : LeftByRun) → RanAs kept l x → KeptOf kept x e → RanAs asked m y → ShownAlike l m x y
   pub profiles : (l m : LentToProfile) (x y : LeftByProfile) → ProfiledAs kept l x → ProfiledAs asked m y → length (l .profile) ≡ length (m .profile) → PlottedAlike x y
 
 -- the promise of `serves`
-pub record Decided (kept : Request) (r : Answer) (asked : Request) (said : Bool) : Type 0 where
+pub record Decided (kept : Request) (e : Ended) (asked : Request) (said : Bool) : Type 0 where
   -- it says yes exactly where it may
-  pub exactly : said ≡ serves kept r asked
-  pub holds : said ≡ true → Served kept r asked
+  pub exactly : said ≡ serves kept e asked
+  pub holds : said ≡ true → Served kept e asked

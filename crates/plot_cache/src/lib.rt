@@ -7,11 +7,20 @@ ghost use mathlib.Core.Path.{_≡_};
 ghost use mathlib.Core.Bool.{true};
 ghost use Rattle.plot_cache.specs.Serves.{sameBytes, sameMachine, sameOrder, rests, anyOrder, request, Decided};
 
-// What a run is given beside graph, table of named arrays, inputs and picks: its budget, and the lengths in bytes of ledger and cells.
+// What a run is given beside graph, table of named arrays, inputs and picks: its budget, its bound, and the lengths in bytes of ledger
+// and cells.
 pub struct Limits {
-    pub budget: u16,
+    pub budget: usize,
+    pub bound: usize,
     pub ledger: usize,
     pub cells: usize,
+}
+
+// How a run ended: its answer and, of a hang, how many activities its bound holds back in what it left. Only where there is none does it
+// end as every order does.
+pub struct Ended {
+    pub answer: Answer,
+    pub held: usize,
 }
 
 fn same(a: &[u8], b: &[u8]) -> bool
@@ -39,48 +48,51 @@ fn same_machine(
                 && (kept.ledger == asked.ledger && kept.cells == asked.cells)))
 }
 
-// Whether two runs fire alike: equal picks and budgets.
-fn same_order(kept_picks: &[u8], kept_budget: u16, picks: &[u8], budget: u16) -> bool
-    ensures { λ r. ⌜ r ≡ sameOrder (now («kept_picks» .entry)) (now (picks .entry)) «kept_budget» budget ⌝ }
+// Whether two runs fire alike: equal picks, budgets and bounds.
+fn same_order(kept_picks: &[u8], kept: Limits, picks: &[u8], asked: Limits) -> bool
+    ensures { λ r. ⌜ r ≡ sameOrder (now («kept_picks» .entry)) (now (picks .entry)) kept asked ⌝ }
 {
-    kept_budget == budget && same(kept_picks, picks)
+    kept.budget == asked.budget && (kept.bound == asked.bound && same(kept_picks, picks))
 }
 
-// Whether nothing is enabled: completed or hung.
-fn rests(outcome: Outcome) -> bool
-    ensures { λ r. ⌜ r ≡ rests outcome ⌝ }
+// Whether nothing is left enabled: completed, or hung with nothing held back.
+fn rests(outcome: Outcome, held: usize) -> bool
+    ensures { λ r. ⌜ r ≡ rests outcome held ⌝ }
 {
     match outcome {
         Outcome::Completed => true,
-        Outcome::Hung => true,
+        Outcome::Hung => held == 0,
         Outcome::Spent => false,
         Outcome::Refused(_, _) => false,
     }
 }
 
-// Whether a run with this answer ends as every order does that has so many bytes of picks and this budget.
-fn any_order(answer: Answer, picks: usize, budget: u16) -> bool
-    ensures { λ r. ⌜ r ≡ anyOrder answer picks budget ⌝ }
+// Whether a run that ended so ends as every order without a bound does that has so many bytes of picks and this budget.
+fn any_order(end: Ended, picks: usize, asked: Limits) -> bool
+    ensures { λ r. ⌜ r ≡ anyOrder end picks asked ⌝ }
 {
+    let answer = end.answer;
     let outcome = answer.outcome;
-    rests(outcome) && (buffer::whole(pick::WIDTH, 2048, picks) && answer.firings <= budget as usize)
+    rests(outcome, end.held)
+        && (asked.bound == 0
+            && (buffer::whole(pick::WIDTH, 2048, picks) && answer.firings <= asked.budget))
 }
 
-// Whether what is kept of a run with this answer serves for the run that is asked for.
+// Whether what is kept of a run that ended so serves for the run that is asked for.
 pub fn serves(
     kept_graph: &[u8],
     kept_arrays: &[u8],
     kept_inputs: &[u8],
     kept_picks: &[u8],
     kept: Limits,
-    answer: Answer,
+    end: Ended,
     graph: &[u8],
     arrays: &[u8],
     inputs: &[u8],
     picks: &[u8],
     asked: Limits,
 ) -> bool
-    ensures { λ r. ⌜ Decided (request (now («kept_graph» .entry)) (now («kept_arrays» .entry)) (now («kept_inputs» .entry)) (now («kept_picks» .entry)) kept) answer (request (now (graph .entry)) (now (arrays .entry)) (now (inputs .entry)) (now (picks .entry)) asked) r ⌝ }
+    ensures { λ r. ⌜ Decided (request (now («kept_graph» .entry)) (now («kept_arrays» .entry)) (now («kept_inputs» .entry)) (now («kept_picks» .entry)) kept) end (request (now (graph .entry)) (now (arrays .entry)) (now (inputs .entry)) (now (picks .entry)) asked) r ⌝ }
 {
     same_machine(
         kept_graph,
@@ -92,6 +104,5 @@ pub fn serves(
         inputs,
         asked,
     )
-        && (same_order(kept_picks, kept.budget, picks, asked.budget)
-            || any_order(answer, picks.len(), asked.budget))
+        && (same_order(kept_picks, kept, picks, asked) || any_order(end, picks.len(), asked))
 }

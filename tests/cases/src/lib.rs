@@ -13,14 +13,15 @@
 //! - `procedures`: a LEAVE under path 0 is a result (02, R-5);
 //! - `sites`: every LEAVE in an entered path has its caller (02, R-6);
 //! - `levels`: calls nest eight levels deep (02, R-8);
-//! - `profiles`, `logs`, `bounds`, `arrays`, `expressions`, `saved`: profiles in ideal
-//!   steps (02, R-1), logs and replays, bounds, named arrays,
-//!   expressions and saved states, which the tests of these names call
-//!   through the C functions, apart from the program;
+//! - `profiles`, `logs`, `bounds`, `bounding`, `arrays`, `expressions`, `saved`: profiles
+//!   in ideal steps (02, R-1), logs and replays, bounds, loop bounding,
+//!   named arrays, expressions and saved states, which the tests of
+//!   these names call through the C functions, apart from the program;
 //! - `apart`: which cases tell the wrong emulators of 01 and 02 from a right one.
 
 pub mod apart;
 pub mod arrays;
+pub mod bounding;
 pub mod bounds;
 pub mod expressions;
 mod hung;

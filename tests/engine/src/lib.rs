@@ -2,7 +2,7 @@
 //! so that a comparison sees every bit.
 
 use second::{Bounds, Counts, Outcome, Program, Refusal, Schedule};
-use ttda::{Answer, Printed, Word};
+use ttda::{Answer, Limits, Printed, Word};
 
 /// The word of a completed run in a packed answer; a refused run has the refusal's number.
 pub const COMPLETED: u64 = Word::COMPLETED as u64;
@@ -187,24 +187,46 @@ pub struct Request<'a> {
     pub cells: usize,
 }
 
-/// Whether what was kept of a run with its packed answer serves for a run that is asked for: 1 or 0.
-pub fn serves(kept: &Request, kept_answer: u64, asked: &Request) -> u64 {
+impl Request<'_> {
+    fn limits(&self) -> Limits {
+        Limits {
+            budget: self.schedule.budget.into(),
+            bound: self.schedule.bound.into(),
+            ledger: self.ledger as u64,
+            cells: self.cells as u64,
+        }
+    }
+}
+
+/// How many activities a bound holds back in a saved state, and how many are enabled in all; `None` if it is refused.
+pub fn held(
+    graph: &[u8],
+    bound: u16,
+    saved: Counts,
+    ledger: &[u8],
+    cells: &[u8],
+) -> Option<(usize, usize)> {
+    let Counts { firings, tokens } = saved;
+    let found = ttda::held(graph, bound, firings, tokens, ledger, cells);
+    (found.word() == Word::Completed).then_some((found.held(), found.enabled()))
+}
+
+/// Whether what was kept of a run with its packed answer, and so many activities held back if it hung, serves for a run that
+/// is asked for: 1 or 0.
+pub fn serves(kept: &Request, kept_answer: u64, kept_held: usize, asked: &Request) -> u64 {
     ttda::serves(
         kept.program.graph,
         kept.program.arrays,
         kept.inputs,
         kept.schedule.picks,
+        &kept.limits(),
+        Answer(kept_answer),
+        kept_held as u64,
         asked.program.graph,
         asked.program.arrays,
         asked.inputs,
         asked.schedule.picks,
-        kept.schedule.budget,
-        asked.schedule.budget,
-        kept.ledger,
-        asked.ledger,
-        kept.cells,
-        asked.cells,
-        Answer(kept_answer),
+        &asked.limits(),
     )
     .0
 }

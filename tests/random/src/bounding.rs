@@ -56,6 +56,7 @@ impl Harness {
         let held = held_in(&case, &left);
         let result = claimed(&case, unbounded, &left, &held);
         let result = result.and_then(|()| same_as_unbounded(order, &case, &left));
+        let result = result.and_then(|()| counted(&case, &left, held.len()));
         self.tally
             .count_bounded(names(unbounded, order, &case, &left, &held));
         if let Err(reason) = result {
@@ -121,7 +122,8 @@ fn bound(prng: &mut Prng) -> u16 {
     bound as u16
 }
 
-fn held_in(case: &Case, left: &Left) -> Vec<Held> {
+/// What a bound holds back in what a run left, by the second emulator.
+pub fn held_in(case: &Case, left: &Left) -> Vec<Held> {
     if left.answer.refused_at_once() {
         return Vec::new();
     }
@@ -156,6 +158,30 @@ fn waits_besides(case: &Case, left: &Left, held: &[Held]) -> Result<(), String> 
         "bound {}: {count} tokens hold each other",
         case.bound
     ))
+}
+
+/// The engine counts as many held activities; at rest no other is enabled, and one is where the budget is spent.
+fn counted(case: &Case, left: &Left, held: usize) -> Result<(), String> {
+    if left.answer.refused_at_once() {
+        return Ok(());
+    }
+    let saved = Counts {
+        firings: left.answer.firings as u16,
+        tokens: left.answer.tokens as u16,
+    };
+    let found = engine::held(&case.graph, case.bound, saved, &left.ledger, &left.cells);
+    let right = match (left.answer.outcome, found) {
+        (_, None) => false,
+        (Outcome::Completed, Some(counts)) => counts == (0, 0) && held == 0,
+        (Outcome::Hung, Some(counts)) => counts == (held, held),
+        (Outcome::Spent | Outcome::Refused(_), Some((own, enabled))) => {
+            own == held && enabled > held
+        }
+    };
+    if right {
+        return Ok(());
+    }
+    Err(format!("{held} held, counted as {found:?}"))
 }
 
 /// A bound of 256 holds only NEXTs at iteration 255.

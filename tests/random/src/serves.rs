@@ -4,6 +4,7 @@
 use engine::Request;
 use second::{Outcome, CELL_RECORD, MOST_RECORDS, PICK_RECORD, TOKEN_RECORD};
 
+use crate::bounding::held_in;
 use crate::case::{Call, Case};
 use crate::damage::{damage_picks, flip};
 use crate::orders::End;
@@ -11,16 +12,17 @@ use crate::prng::Prng;
 use crate::Harness;
 
 impl Harness {
-    /// A run is kept, with any budget; others are asked for, and it itself.
+    /// A run is kept, with any budget and some with a bound; others are asked for, and it itself.
     pub fn all_requests(&mut self, ends: &[End], prng: &mut Prng) {
         let end = &ends[prng.below(ends.len())];
-        let kept = if prng.one_in(3) {
-            let firings = end.left.answer.firings;
-            let budget = prng.below(firings + 2) as u16;
-            self.kept(end.case.clone(), budget)
-        } else {
-            self.kept(end.case.clone(), end.case.budget)
-        };
+        let mut case = end.case.clone();
+        if prng.one_in(3) {
+            case.budget = prng.below(end.left.answer.firings + 2) as u16;
+        }
+        if prng.one_in(3) {
+            case.bound = 2 + prng.below(3) as u16;
+        }
+        let kept = self.kept(case);
         for _ in 0..4 {
             let mut asked = kept.case.clone();
             let change = change(&mut asked, kept.left.answer.firings, ends, prng);
@@ -28,9 +30,8 @@ impl Harness {
         }
     }
 
-    fn kept(&mut self, mut case: Case, budget: u16) -> End {
+    fn kept(&mut self, mut case: Case) -> End {
         case.call = Call::Run;
-        case.budget = budget;
         let left = self.call(&case);
         End { case, left }
     }
@@ -38,9 +39,11 @@ impl Harness {
     fn request(&mut self, kept: &End, asked: &Case, change: Change) {
         self.requests += 1;
         let answer = engine::packed_answer(&kept.left.answer);
-        let found = engine::serves(&request_of(&kept.case), answer, &request_of(asked));
-        let due = serves(kept, asked);
-        self.tally.count_request(name(kept, asked, change, due));
+        let held = held_in(&kept.case, &kept.left).len();
+        let found = engine::serves(&request_of(&kept.case), answer, held, &request_of(asked));
+        let due = serves(kept, held, asked);
+        self.tally
+            .count_request(name(kept, held, asked, change, due));
         if found != u64::from(due) {
             self.fail(
                 asked,
@@ -86,22 +89,30 @@ fn request_of(case: &Case) -> Request<'_> {
     }
 }
 
-/// The clause of ttda.h: all else equal, the same picks and budget, or another order of
-/// a run that completed or hung, with picks of allowed length and a budget for its
-/// firings.
-fn serves(kept: &End, asked: &Case) -> bool {
+/// The clause of ttda.h: all else equal, the same picks, budget and bound, or an order
+/// without a bound of a run that completed or hung with nothing held, with picks of
+/// allowed length and a budget for its firings.
+fn serves(kept: &End, held: usize, asked: &Case) -> bool {
     let case = &kept.case;
     let alike = case.graph == asked.graph
         && case.arrays == asked.arrays
         && case.inputs == asked.inputs
         && case.ledger_bytes == asked.ledger_bytes
         && case.cells_bytes == asked.cells_bytes;
-    let same_order = case.picks == asked.picks && case.budget == asked.budget;
-    let at_rest = matches!(kept.left.answer.outcome, Outcome::Completed | Outcome::Hung);
+    let same_order = is_itself(case, asked);
+    let at_rest = match kept.left.answer.outcome {
+        Outcome::Completed => true,
+        Outcome::Hung => held == 0,
+        Outcome::Spent | Outcome::Refused(_) => false,
+    };
     let picks = asked.picks.len();
     let picks_fit = picks % PICK_RECORD == 0 && picks <= PICK_RECORD * MOST_RECORDS;
     let enough = usize::from(asked.budget) >= kept.left.answer.firings;
-    alike && (same_order || at_rest && picks_fit && enough)
+    alike && (same_order || at_rest && asked.bound == 0 && picks_fit && enough)
+}
+
+fn is_itself(kept: &Case, asked: &Case) -> bool {
+    kept.picks == asked.picks && kept.budget == asked.budget && kept.bound == asked.bound
 }
 
 /// What is asked for otherwise than it was kept.
@@ -111,6 +122,7 @@ enum Change {
     Order,
     Picks,
     Budget,
+    Bound,
     Graph,
     Arrays,
     Inputs,
@@ -119,7 +131,7 @@ enum Change {
 }
 
 fn change(asked: &mut Case, firings: usize, ends: &[End], prng: &mut Prng) -> Change {
-    const CHANGES: [Change; 12] = [
+    const CHANGES: [Change; 14] = [
         Change::Nothing,
         Change::Order,
         Change::Order,
@@ -127,6 +139,8 @@ fn change(asked: &mut Case, firings: usize, ends: &[End], prng: &mut Prng) -> Ch
         Change::Picks,
         Change::Budget,
         Change::Budget,
+        Change::Bound,
+        Change::Bound,
         Change::Graph,
         Change::Arrays,
         Change::Inputs,
@@ -134,6 +148,9 @@ fn change(asked: &mut Case, firings: usize, ends: &[End], prng: &mut Prng) -> Ch
         Change::Cells,
     ];
     let change = CHANGES[prng.below(CHANGES.len())];
+    if !matches!(change, Change::Nothing) && prng.one_in(2) {
+        asked.bound = 0;
+    }
     match change {
         Change::Nothing => {}
         Change::Order => asked.picks = ends[prng.below(ends.len())].case.picks.clone(),
@@ -142,6 +159,7 @@ fn change(asked: &mut Case, firings: usize, ends: &[End], prng: &mut Prng) -> Ch
             let near = (firings + prng.below(3)).saturating_sub(1) as u16;
             asked.budget = [near, near, 0, prng.word() as u16][prng.below(4)];
         }
+        Change::Bound => asked.bound = [0, 2, 3, 256][prng.below(4)],
         Change::Graph => flip(&mut asked.graph, prng),
         Change::Arrays if prng.one_in(2) => flip(&mut asked.arrays, prng),
         Change::Arrays => asked.arrays.extend(layout::array(0, 0)),
@@ -163,12 +181,17 @@ fn resized(length: usize, record: usize, prng: &mut Prng) -> usize {
 }
 
 /// What has to come up among the runs that are asked for.
-pub const NAMES: [&str; 16] = [
+pub const NAMES: [&str; 21] = [
     "a run at rest, itself",
     "a spent run, itself",
     "a refused run, itself",
+    "a hang on held ones, itself",
     "another order, completed",
     "another order, hung",
+    "without the bound, completed",
+    "without the bound, hung",
+    "not a hang on held ones",
+    "not with another bound",
     "with just the budget",
     "not an order of a spent run",
     "not one of a refused run",
@@ -182,28 +205,40 @@ pub const NAMES: [&str; 16] = [
     "not otherwise",
 ];
 
-fn name(kept: &End, asked: &Case, change: Change, served: bool) -> &'static str {
+fn name(kept: &End, held: usize, asked: &Case, change: Change, served: bool) -> &'static str {
     let answer = &kept.left.answer;
-    let itself = kept.case.picks == asked.picks && kept.case.budget == asked.budget;
+    let case = &kept.case;
+    if served {
+        return served_name(kept, held, asked, change);
+    }
+    match (answer.outcome, change) {
+        (_, Change::Graph) => "not of another graph",
+        (_, Change::Arrays) => "not of another table",
+        (_, Change::Inputs) => "not of other inputs",
+        (_, Change::Ledger) => "not of another capacity",
+        (_, Change::Cells) => "not of other cells",
+        (Outcome::Spent, _) => "not an order of a spent run",
+        (Outcome::Refused(_), _) => "not one of a refused run",
+        (_, Change::Picks) => "not with picks refused by 7",
+        (Outcome::Hung, _) if held > 0 => "not a hang on held ones",
+        _ if asked.bound != 0 && asked.bound != case.bound => "not with another bound",
+        _ if usize::from(asked.budget) + 1 == answer.firings => "not with a budget less by one",
+        _ => "not otherwise",
+    }
+}
+
+fn served_name(kept: &End, held: usize, asked: &Case, change: Change) -> &'static str {
+    let answer = &kept.left.answer;
     let just = usize::from(asked.budget) == answer.firings;
-    match (served, answer.outcome, change) {
-        (true, Outcome::Spent, _) => "a spent run, itself",
-        (true, Outcome::Refused(_), _) => "a refused run, itself",
-        (true, _, _) if itself => "a run at rest, itself",
-        (true, _, Change::Budget) if just => "with just the budget",
-        (true, Outcome::Completed, _) => "another order, completed",
-        (true, Outcome::Hung, _) => "another order, hung",
-        (false, _, Change::Graph) => "not of another graph",
-        (false, _, Change::Arrays) => "not of another table",
-        (false, _, Change::Inputs) => "not of other inputs",
-        (false, _, Change::Ledger) => "not of another capacity",
-        (false, _, Change::Cells) => "not of other cells",
-        (false, Outcome::Spent, _) => "not an order of a spent run",
-        (false, Outcome::Refused(_), _) => "not one of a refused run",
-        (false, _, Change::Picks) => "not with picks refused by 7",
-        (false, _, _) if usize::from(asked.budget) + 1 == answer.firings => {
-            "not with a budget less by one"
-        }
-        (false, _, _) => "not otherwise",
+    match (answer.outcome, change) {
+        (Outcome::Spent, _) => "a spent run, itself",
+        (Outcome::Refused(_), _) => "a refused run, itself",
+        (Outcome::Hung, _) if held > 0 => "a hang on held ones, itself",
+        _ if is_itself(&kept.case, asked) => "a run at rest, itself",
+        (_, Change::Budget) if just => "with just the budget",
+        (Outcome::Completed, _) if kept.case.bound != 0 => "without the bound, completed",
+        (Outcome::Hung, _) if kept.case.bound != 0 => "without the bound, hung",
+        (Outcome::Completed, _) => "another order, completed",
+        (Outcome::Hung, _) => "another order, hung",
     }
 }

@@ -104,12 +104,17 @@ pub fn of(machine: &Machine, end: &End) -> Vec<Held> {
     }
 }
 
-/// Whether the engine agrees on what is held where a bounded run ended or stopped. Where it does not, nothing is shown.
+/// Whether the engine agrees on what is held where a bounded run ended or stopped, and counts as many. Where it does not, nothing is
+/// shown.
 pub fn check(machine: &Machine, end: &End) -> Result<(), Failure> {
-    let is_shown = machine.bound != 0 && !matches!(end.answer.word, Word::Refused(_));
-    match is_shown && !View::of(machine, &end.tokens()).agrees(end) {
-        true => Err(view::disagreement()),
-        false => Ok(()),
+    if machine.bound == 0 || matches!(end.answer.word, Word::Refused(_)) {
+        return Ok(());
+    }
+    let view = View::of(machine, &end.tokens());
+    let (held, free) = (view.held.len(), view.enabled.len());
+    match view.agrees(end) && machine.held(end) == Some((held, held + free)) {
+        true => Ok(()),
+        false => Err(view::disagreement()),
     }
 }
 

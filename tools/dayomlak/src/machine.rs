@@ -270,6 +270,16 @@ impl<'p> Machine<'p> {
         Answer::of(ttda::bounds(graph, inputs).0)
     }
 
+    /// How many activities the engine counts as held back, and how many as enabled, in what a run left; `None` if it refuses the
+    /// state.
+    pub fn held(&self, end: &End) -> Option<(usize, usize)> {
+        let (graph, _, _) = self.lent();
+        let (ledger, cells) = end.bytes();
+        let (_, firings, tokens, _) = ttda::Answer(end.answer.packed).parts();
+        let found = ttda::held(graph, self.bound, firings, tokens, ledger, cells);
+        (found.word() == ttda::Word::Completed).then(|| (found.held(), found.enabled()))
+    }
+
     /// What every call is lent: the graph, its arrays and its inputs.
     fn lent(&self) -> (&[u8], &[u8], &[u8]) {
         let files = &self.program.files;

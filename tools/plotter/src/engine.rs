@@ -69,8 +69,8 @@ pub trait Engine {
     /// The profile of the graph, arrays and inputs that are asked for.
     fn profile(&self, asked: &Request) -> Profile;
 
-    /// Whether the run asked for gives the kept answer, and the listing, cells and profile of the kept run in every byte.
-    fn serves(&self, kept: &Request, answer: u64, asked: &Request) -> bool;
+    /// Whether the run asked for gives the answer of the kept run, which left this, and its listing, cells and profile in every byte.
+    fn serves(&self, kept: &Request, left: &Left, asked: &Request) -> bool;
 }
 
 /// The proved library, lent buffers of zeros.
@@ -115,29 +115,46 @@ impl Engine for Library {
         }
     }
 
-    fn serves(&self, kept: &Request, answer: u64, asked: &Request) -> bool {
-        // The library's clause is of runs without a bound; with one, a run serves for itself alone.
-        if kept.bound != 0 || asked.bound != 0 {
-            return kept == asked;
-        }
+    fn serves(&self, kept: &Request, left: &Left, asked: &Request) -> bool {
         let served = ttda::serves(
             &kept.graph,
             &kept.arrays,
             &kept.inputs,
             &kept.picks,
+            &limits(kept),
+            ttda::Answer(left.answer),
+            held(kept, left),
             &asked.graph,
             &asked.arrays,
             &asked.inputs,
             &asked.picks,
-            kept.budget,
-            asked.budget,
-            TOKEN * usize::from(kept.capacity),
-            TOKEN * usize::from(asked.capacity),
-            CELL * usize::from(kept.cells),
-            CELL * usize::from(asked.cells),
-            ttda::Answer(answer),
+            &limits(asked),
         );
         served.is_yes()
+    }
+}
+
+/// How many activities the bound of a run holds back in what it left. A run that is refused before any firing leaves no state, and
+/// none is asked of it.
+fn held(kept: &Request, left: &Left) -> u64 {
+    let (_, firings, tokens, _) = ttda::Answer(left.answer).parts();
+    let counts = ttda::held(
+        &kept.graph,
+        kept.bound,
+        firings,
+        tokens,
+        &left.ledger,
+        &left.cells,
+    );
+    counts.held() as u64
+}
+
+fn limits(request: &Request) -> ttda::Limits {
+    ttda::Limits {
+        budget: request.budget.into(),
+        bound: request.bound.into(),
+        ledger: (TOKEN * usize::from(request.capacity)) as u64,
+        cells: (CELL * usize::from(request.cells)) as u64,
     }
 }
 

@@ -64,8 +64,7 @@ impl Plot {
     /// The plot of a run: the kept one where the engine says that it serves, else a new one, which is kept.
     pub fn of(engine: &impl Engine, cache: Option<&Cache>, asked: Run) -> Plot {
         let kept = cache.and_then(Cache::load);
-        let serves =
-            |kept: &Plot| engine.serves(&kept.run.request, kept.left.answer, &asked.request);
+        let serves = |kept: &Plot| engine.serves(&kept.run.request, &kept.left, &asked.request);
         if let Some(kept) = kept.filter(serves) {
             return Plot {
                 asked: Some(asked),
@@ -88,8 +87,9 @@ impl Plot {
     pub fn asked_for(&self) -> Option<String> {
         let asked = self.asked.as_ref()?;
         let (own, other) = (&self.run.request, &asked.request);
-        let is_ordered_alike = own.picks == other.picks && own.bound == other.bound;
+        let is_ordered_alike = own.picks == other.picks;
         let reason = match (is_ordered_alike, own.budget == other.budget) {
+            _ if own.bound != other.bound => "any order without a bound ends as this one",
             (true, true) => "the same run",
             (true, false) => "either budget is enough",
             (false, _) => "any order ends as this one",

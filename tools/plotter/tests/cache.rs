@@ -40,12 +40,12 @@ impl Engine for StandIn {
         Profile { answer: 77, steps }
     }
 
-    fn serves(&self, kept: &Request, answer: u64, asked: &Request) -> bool {
+    fn serves(&self, kept: &Request, left: &Left, asked: &Request) -> bool {
         let unbounded = Request {
             bound: 0,
             ..kept.clone()
         };
-        assert_eq!((unbounded, answer), (request(&[]), 1 << 32));
+        assert_eq!((unbounded, left.answer), (request(&[]), 1 << 32));
         assert_eq!(asked.graph, kept.graph);
         self.serves
     }
@@ -168,7 +168,7 @@ fn a_bound_is_named() {
     assert_eq!(engine.runs.get(), 1);
     assert_eq!(served.run, bounded);
     assert_eq!(served.run.words(), "oldest first, bound 2");
-    let line = "asked for: oldest first, 2026-11-16 05:40:01 UTC; any order ends as this one";
+    let line = "asked for: oldest first, 2026-11-16 05:40:01 UTC; any order without a bound ends as this one";
     assert_eq!(served.asked_for().unwrap(), line);
     let fact = |plot: &Plot| {
         let svg = plot.svg(&words(), Steps::default()).unwrap();

@@ -29,7 +29,7 @@ impl Shown {
     }
 
     fn serves(&self, asked: &Shown) -> bool {
-        Library.serves(&self.request, self.left.answer, &asked.request)
+        Library.serves(&self.request, &self.left, &asked.request)
     }
 
     fn is_shown_alike(&self, other: &Shown) -> bool {
@@ -88,10 +88,11 @@ fn request(files: &asm::Files, picks: &[u8], budget: u16, capacity: u16, cells: 
     }
 }
 
-/// Whatever is served is what its own run would show; and every run serves itself, and some serve another order.
+/// Whatever is served is what its own run would show; every run serves itself, some serve another order, and some with a bound
+/// serve one without.
 #[test]
 fn what_is_served_is_what_the_run_would_show() {
-    let (mut graphs, mut other_orders) = (0, 0);
+    let (mut graphs, mut other_orders, mut unbounded) = (0, 0, 0);
     for files in gallery() {
         let runs = runs(&files);
         for kept in &runs {
@@ -101,13 +102,14 @@ fn what_is_served_is_what_the_run_would_show() {
                 let bounds = (kept.request.bound, asked.request.bound);
                 assert!(bounds.0 == bounds.1 || bounds.1 == 0, "{bounds:?}");
                 other_orders += usize::from(kept.request.picks != asked.request.picks);
+                unbounded += usize::from(bounds.0 != bounds.1);
             }
         }
         graphs += 1;
     }
     assert!(
-        graphs > 40 && other_orders > 1000,
-        "{graphs}, {other_orders}"
+        graphs > 40 && other_orders > 1000 && unbounded > 1000,
+        "{graphs}, {other_orders}, {unbounded}"
     );
 }
 

@@ -1,7 +1,8 @@
 -- `abi::ttda_serves` meets its contract: the cache's decision as a number, from the promise of `plot_cache::serves`. Assumes nothing.
 use borrow.Author.Needs.{needs}
 use mathlib.Core.Path.{sym, _∙_}
-use Rattle.plot_cache.specs.Serves.{requestOf}
+use Rattle.plot_cache.specs.Serves.{request}
+use Rattle.abi.specs.Numbers.{limitsIn}
 use Rattle.abi.proofs.Serving.{by-answer, no-answer}
 use Rattle.abi.proofs.ttda_serves.Statement.{statement}
 use Rattle.abi.proofs.ttda_serves.Tie as tie
@@ -13,19 +14,23 @@ ttda-serves-spec = tie.close (tie.spec
     (λ c. search needs)
     (λ c.
     let a = c .before .before .before .before .before .before .before .before .before .before .before .args in
-    let kept = requestOf (a .kept-graph .now) (a .kept-arrays .now) (a .kept-inputs .now) (a .kept-picks .now) (a .kept-budget) (a .kept-ledger) (a .kept-cells) in
-    let asked = requestOf (a .graph .now) (a .arrays .now) (a .inputs .now) (a .picks .now) (a .budget) (a .ledger) (a .cells) in
-    no-answer kept (a .kept-answer) asked (sym (c .before .before .unpack .ensures) ∙ c .enum-told .given .1))
+    let kept = request (a .kept-graph .now) (a .kept-arrays .now) (a .kept-inputs .now) (a .kept-picks .now) (limitsIn (a .kept-limits .now)) in
+    let asked = request (a .graph .now) (a .arrays .now) (a .inputs .now) (a .picks .now) (limitsIn (a .limits .now)) in
+    no-answer kept (a .kept-answer) (a .kept-held) asked (sym (c .before .before .unpack .ensures) ∙ c .enum-told .given .1))
+    (λ c κs. search needs)
+    (λ c κs. search needs)
     (λ c κs. search needs)
     (λ c.
-    let a = c .before .before .before .before .before .before .before .before .before .before .before .before .before .before .args in
-    let kept = requestOf (a .kept-graph .now) (a .kept-arrays .now) (a .kept-inputs .now) (a .kept-picks .now) (a .kept-budget) (a .kept-ledger) (a .kept-cells) in
-    let asked = requestOf (a .graph .now) (a .arrays .now) (a .inputs .now) (a .picks .now) (a .budget) (a .ledger) (a .cells) in
-    let e = sym (c .before .before .before .before .before .unpack .ensures) ∙ c .before .before .before .a .given .1 in
-    by-answer kept (a .kept-answer) asked _ (c .before .serves .result) 1 e (c .before .serves .ensures) (rw (c .if1 .taken)))
+    let a = c .before .before .before .before .before .before .before .before .before .before .before .before .before .before .before .before .args in
+    let kept = request (a .kept-graph .now) (a .kept-arrays .now) (a .kept-inputs .now) (a .kept-picks .now) (c .before .before .before .limits-in .result) in
+    let asked = request (a .graph .now) (a .arrays .now) (a .inputs .now) (a .picks .now) (c .before .before .limits-in2 .result) in
+    let e = sym (c .before .before .before .before .before .before .before .unpack .ensures) ∙ c .before .before .before .before .before .answer .given .1 in
+    rw (← c .before .before .before .limits-in .ensures, ← c .before .before .limits-in2 .ensures)
+    (by-answer kept (a .kept-answer) (a .kept-held) asked _ (c .before .serves .result) 1 e (c .before .serves .ensures) (rw (c .if1 .taken))))
     (λ c.
-    let a = c .before .before .before .before .before .before .before .before .before .before .before .before .before .before .args in
-    let kept = requestOf (a .kept-graph .now) (a .kept-arrays .now) (a .kept-inputs .now) (a .kept-picks .now) (a .kept-budget) (a .kept-ledger) (a .kept-cells) in
-    let asked = requestOf (a .graph .now) (a .arrays .now) (a .inputs .now) (a .picks .now) (a .budget) (a .ledger) (a .cells) in
-    let e = sym (c .before .before .before .before .before .unpack .ensures) ∙ c .before .before .before .a .given .1 in
-    by-answer kept (a .kept-answer) asked _ (c .before .serves .result) 0 e (c .before .serves .ensures) (rw (c .if1 .left))))
+    let a = c .before .before .before .before .before .before .before .before .before .before .before .before .before .before .before .before .args in
+    let kept = request (a .kept-graph .now) (a .kept-arrays .now) (a .kept-inputs .now) (a .kept-picks .now) (c .before .before .before .limits-in .result) in
+    let asked = request (a .graph .now) (a .arrays .now) (a .inputs .now) (a .picks .now) (c .before .before .limits-in2 .result) in
+    let e = sym (c .before .before .before .before .before .before .before .unpack .ensures) ∙ c .before .before .before .before .before .answer .given .1 in
+    rw (← c .before .before .before .limits-in .ensures, ← c .before .before .limits-in2 .ensures)
+    (by-answer kept (a .kept-answer) (a .kept-held) asked _ (c .before .serves .result) 0 e (c .before .serves .ensures) (rw (c .if1 .left)))))

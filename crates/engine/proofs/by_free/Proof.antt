@@ -38,4 +38,4 @@ by-free-spec = tie.close (tie.spec
     let s = n .before .before .before in
     free-there (s .args .tables .now) (s .args .ledger .now) (s .args .used) g right arrived table capacity count cs (s .pre .0 .links) (s .args .flags .now) (s .args .held .now) (s .pre .0 .matching) bound back (picksOf (s .args .picks .now)) (s .args .firings) _
     (λ z. c .before .before .before .if1 .left (n .count-but .ensures ∙ z))
-    (numbered (places (minus (flagsOf (s .args .flags .now)) (flagsOf (s .args .held .now)))) (picksOf (s .args .picks .now)) (s .args .firings) _ _ _ _ (n .count-but .ensures) (c .before .before .pick-at .ensures .0) (c .before .number-of .ensures) (c .select-but .ensures .0))))
+    (numbered (places (minus (flagsOf (s .args .flags .now)) (flagsOf (s .args .held .now)))) (picksOf (s .args .picks .now)) (s .args .firings) _ _ _ _ (n .count-but .ensures) (c .before .before .pick-at .ensures .0) (c .before .number-of .ensures) (c .free-at .ensures))))

@@ -1,5 +1,6 @@
 -- `plot_cache::any_order` meets its contract. Assumes nothing.
 use borrow.Author.Needs.{needs}
+use borrow.Author.Tests.{eq-eqb, ne-eqb}
 use Rattle.plot_cache.specs.Serves.{anyOrder}
 use Rattle.plot_cache.proofs.any_order.Statement.{statement}
 use Rattle.plot_cache.proofs.any_order.Tie as tie
@@ -9,6 +10,7 @@ unfolding anyOrder
 any-order-spec = tie.close (tie.spec
     (λ c κs. search needs)
     (λ c κs. search needs)
-    (λ c. rw (← c .before .before .before .before .rests .ensures, c .before .before .before .if1 .taken, ← c .before .before .whole .ensures, c .before .if2 .taken))
-    (λ c. rw (← c .before .before .before .rests .ensures, c .before .before .if1 .taken, ← c .before .whole .ensures, c .if2 .left))
+    (λ c. rw (← c .before .before .before .before .before .before .before .rests .ensures, c .before .before .before .before .before .before .if1 .taken, eq-eqb _ _ (c .before .before .before .before .if2 .taken), ← c .before .before .before .whole .ensures, c .before .before .if3 .taken))
+    (λ c. rw (← c .before .before .before .before .before .rests .ensures, c .before .before .before .before .if1 .taken, eq-eqb _ _ (c .before .before .if2 .taken), ← c .before .whole .ensures, c .if3 .left))
+    (λ c. rw (← c .before .before .before .rests .ensures, c .before .before .if1 .taken, ne-eqb _ _ (c .if2 .left)))
     (λ c. rw (← c .before .rests .ensures, c .if1 .left)))

@@ -7,14 +7,12 @@ use Rattle.plot_cache.proofs.rests.Tie as tie
 
 pub rests-spec : {M : Type 1} → statement M
 unfolding rests
-rests-spec =
-    tie.close
-    (tie.spec
+rests-spec = tie.close (tie.spec
     (λ c. search needs)
     (λ c. search needs)
     (λ c. search needs)
     (λ c. search needs)
     (λ c. search needs)
-    (λ c. search needs)
+    (λ c. rw (c .enum-told2 .given .1))
     (λ c. search needs)
     (λ c. search needs))

@@ -9,5 +9,6 @@ pub same-order-spec : {M : Type 1} → statement M
 unfolding sameOrder
 same-order-spec = tie.close (tie.spec
     (λ c κs. search needs)
-    (λ c. rw (eq-eqb _ _ (c .before .if1 .taken)) (c .same .ensures))
+    (λ c. rw (eq-eqb _ _ (c .before .before .before .before .if1 .taken), eq-eqb _ _ (c .before .if2 .taken)) (c .same .ensures))
+    (λ c. rw (eq-eqb _ _ (c .before .before .before .if1 .taken), ne-eqb _ _ (c .if2 .left)))
     (λ c. rw (ne-eqb _ _ (c .if1 .left))))

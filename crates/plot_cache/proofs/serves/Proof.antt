@@ -18,18 +18,18 @@ serves-spec = tie.close (tie.spec
     let inputBytes : Bytes (a .kept-inputs .now) = λ i. c .before .before .before .before .before .before .before .before .before .shared-slice-known3 .given i .fits in
     let kept = request (a .kept-graph .now) (a .kept-arrays .now) (a .kept-inputs .now) (a .kept-picks .now) (a .kept) in
     let asked = request (a .graph .now) (a .arrays .now) (a .inputs .now) (a .picks .now) (a .asked) in
-    decided kept (a .answer) asked _ graphBytes inputBytes (rw (← c .before .before .before .same-machine .ensures, c .before .before .if1 .taken, ← c .before .same-order .ensures, c .if2 .taken)))
+    decided kept (a .end) asked _ graphBytes inputBytes (rw (← c .before .before .before .same-machine .ensures, c .before .before .if1 .taken, ← c .before .same-order .ensures, c .if2 .taken)))
     (λ c.
     let a = c .before .before .before .before .before .before .before .before .before .before .before .before .before .args in
     let graphBytes : Bytes (a .kept-graph .now) = λ i. c .before .before .before .before .before .before .before .before .before .before .before .before .shared-slice-known .given i .fits in
     let inputBytes : Bytes (a .kept-inputs .now) = λ i. c .before .before .before .before .before .before .before .before .before .before .shared-slice-known3 .given i .fits in
     let kept = request (a .kept-graph .now) (a .kept-arrays .now) (a .kept-inputs .now) (a .kept-picks .now) (a .kept) in
     let asked = request (a .graph .now) (a .arrays .now) (a .inputs .now) (a .picks .now) (a .asked) in
-    decided kept (a .answer) asked _ graphBytes inputBytes (rw (← c .before .before .before .before .same-machine .ensures, c .before .before .before .if1 .taken, ← c .before .before .same-order .ensures, c .before .if2 .left) (c .any-order .ensures)))
+    decided kept (a .end) asked _ graphBytes inputBytes (rw (← c .before .before .before .before .same-machine .ensures, c .before .before .before .if1 .taken, ← c .before .before .same-order .ensures, c .before .if2 .left) (c .any-order .ensures)))
     (λ c.
     let a = c .before .before .before .before .before .before .before .before .before .before .args in
     let graphBytes : Bytes (a .kept-graph .now) = λ i. c .before .before .before .before .before .before .before .before .before .shared-slice-known .given i .fits in
     let inputBytes : Bytes (a .kept-inputs .now) = λ i. c .before .before .before .before .before .before .before .shared-slice-known3 .given i .fits in
     let kept = request (a .kept-graph .now) (a .kept-arrays .now) (a .kept-inputs .now) (a .kept-picks .now) (a .kept) in
     let asked = request (a .graph .now) (a .arrays .now) (a .inputs .now) (a .picks .now) (a .asked) in
-    decided kept (a .answer) asked _ graphBytes inputBytes (rw (← c .before .same-machine .ensures, c .if1 .left))))
+    decided kept (a .end) asked _ graphBytes inputBytes (rw (← c .before .same-machine .ensures, c .if1 .left))))
