@@ -1,6 +1,5 @@
 // A range run (02, R-11): the inputs become handles into a table of ranges, the engine's choices are fired over handles, and what is left is written as
 // ranges.
-use arithmetic::Range;
 use checks::arrays;
 use checks::bound;
 use checks::graph;
@@ -16,6 +15,26 @@ use rules::answer::Answer;
 use rules::answer::Checked;
 use rules::answer::Outcome;
 use rules::answer::Refusal;
+ghost use Prim.Native.Nat.{_*_, _/_, _+_, _≤_, _<_};
+ghost use mathlib.Core.Path.{_≡_};
+ghost use mathlib.Core.Bool.{_&&_};
+ghost use lib.ListN.{length};
+ghost use Rattle.buffer.specs.Rows as Rows;
+ghost use Rattle.record.specs.GraphRecords.{graphOf};
+ghost use Rattle.record.specs.Arrays.{arraysOf};
+ghost use Rattle.record.specs.Widths.{tokenWidth, cellWidth, pickWidth, rangeTokenWidth, rangeCellWidth};
+ghost use Rattle.rules.specs.Run.{firstState};
+ghost use Rattle.rules.specs.RangeRun.{rangeCapacityOf, checkRangeStores, RangesRan};
+ghost use Rattle.abstraction.specs.Tables.{arraysIn};
+ghost use Rattle.fire.specs.Running.{stateIn, Prepared, Running};
+ghost use Rattle.start.specs.Begun.{Accepted};
+ghost use Rattle.engine.specs.Turns.{chooserFor, ByPicks, Plain, Beside, HeldBack, Bounding};
+ghost use Rattle.engine.specs.declared.Order.the-variants.{Free};
+ghost use Rattle.range_table.specs.Table.{pairWidth, tableOf};
+ghost use Rattle.range_inputs.specs.Handles.{handlesOf};
+ghost use Rattle.range_fire.specs.Tried.{RoomForOne, stepAt};
+ghost use Rattle.range_engine.specs.Promise.{lentToRun, leftByRun, RangesOn};
+ghost use Rattle.range_engine.specs.Over.{TakenAs, Room, endOver, settledOver, RanOver, Tells, Fits, AsMany, ownBytes, storeBytes, Leaves, Lent, withInputs, lentChecked};
 
 // A turn, and how many ranges the table has after it.
 pub struct Taken {
@@ -52,6 +71,8 @@ fn take_turn(
     cells: &mut [u8],
     used: usize,
 ) -> Taken
+    requires { ⌜ Prepared (now graph) (now tables) × Running (graphOf (now graph)) (now tables) (now links) (now flags) (now ledger) (now cells) used × Beside order (now flags) (now held) × HeldBack order (graphOf (now graph)) (now flags) (now held) (now ledger) used × RoomForOne (now table) count ⌝ }
+    ensures { λ r. ⌜ TakenAs r (graphOf (now (graph .entry))) (chooserFor order (now (picks .entry)) (graphOf (now (graph .entry))) (now (tables .entry)) (now (ledger .entry)) (now (cells .entry)) firings (stateIn (now (ledger .entry)) (now (cells .entry)) used)) (stepAt (graphOf (now (graph .entry))) (now (tables .entry)) (now (ledger .entry)) (now (cells .entry)) used (tableOf count (now (table .entry)))) (now (tables .entry)) (now (links .exit)) (now (flags .exit)) (now (ledger .exit)) (now (cells .exit)) (now (table .exit)) used (now (ledger .entry)) (now (cells .entry)) (now (table .entry)) count ⌝ }
 {
     let chosen = engine::choose(
         order,
@@ -112,6 +133,9 @@ fn turns(
     cells: &mut [u8],
     going: Going,
 ) -> Ran
+    requires { ⌜ Prepared (now graph) (now tables) × Running (graphOf (now graph)) (now tables) (now links) (now flags) (now ledger) (now cells) (going .used) × Bounding order (graphOf (now graph)) (now tables) (now flags) (now ledger) (going .used) (now nexts) (now held) (now marks) × Room (now table) (going .count) (going .used) ⌝ }
+    ensures { λ r. ⌜ RanOver (endOver order (now (picks .entry)) (graphOf (now (graph .entry))) (now (tables .entry)) (now (ledger .entry)) (now (cells .entry)) (going .used) (going .budget) (tableOf (going .count) (now (table .entry)))) r (graphOf (now (graph .entry))) (now (tables .entry)) (now (links .exit)) (now (flags .exit)) (now (ledger .exit)) (now (cells .exit)) (now (table .exit)) (going .used) (now (ledger .entry)) (now (cells .entry)) (now (table .entry)) ⌝ }
+    ensures { λ r. ⌜ Bounding order (graphOf (now (graph .entry))) (now (tables .entry)) (now (flags .exit)) (now (ledger .exit)) (r .answer .tokens) (now (nexts .exit)) (now (held .exit)) (now (marks .exit)) ⌝ }
 {
     let budget = going.budget;
     let mut used = going.used;
@@ -168,6 +192,7 @@ fn turns(
     }
 }
 
+// Without a bound.
 fn proceed(
     graph: &[u8],
     tables: &[u16; 641],
@@ -179,6 +204,9 @@ fn proceed(
     cells: &mut [u8],
     going: Going,
 ) -> Ran
+    requires { ⌜ Prepared (now graph) (now tables) × Running (graphOf (now graph)) (now tables) (now links) (now flags) (now ledger) (now cells) (going .used) × Room (now table) (going .count) (going .used) ⌝ }
+    ensures { λ r. ⌜ Tells 0 (now (picks .entry)) (going .budget) (graphOf (now (graph .entry))) (arraysIn (now (tables .entry))) (length (now (ledger .entry)) / tokenWidth) (length (now (cells .entry)) / cellWidth) (tableOf (going .count) (now (table .entry))) (stateIn (now (ledger .entry)) (now (cells .entry)) (going .used)) r (now (ledger .exit)) (now (cells .exit)) (now (table .exit)) ⌝ }
+    ensures { λ r. ⌜ Fits r (now (ledger .exit)) (now (cells .exit)) (now (table .exit)) (now (ledger .entry)) (now (cells .entry)) (now (table .entry)) ⌝ }
 {
     let mut nexts = [0u64; 69];
     let mut held = [0u64; 69];
@@ -201,6 +229,7 @@ fn proceed(
     )
 }
 
+// 02, R-9: with one.
 fn proceed_bounded(
     graph: &[u8],
     tables: &[u16; 641],
@@ -213,6 +242,9 @@ fn proceed_bounded(
     cells: &mut [u8],
     going: Going,
 ) -> Ran
+    requires { ⌜ Prepared (now graph) (now tables) × Running (graphOf (now graph)) (now tables) (now links) (now flags) (now ledger) (now cells) (going .used) × Room (now table) (going .count) (going .used) × (0 < bound) × (bound < 65536) ⌝ }
+    ensures { λ r. ⌜ Tells bound (now (picks .entry)) (going .budget) (graphOf (now (graph .entry))) (arraysIn (now (tables .entry))) (length (now (ledger .entry)) / tokenWidth) (length (now (cells .entry)) / cellWidth) (tableOf (going .count) (now (table .entry))) (stateIn (now (ledger .entry)) (now (cells .entry)) (going .used)) r (now (ledger .exit)) (now (cells .exit)) (now (table .exit)) ⌝ }
+    ensures { λ r. ⌜ Fits r (now (ledger .exit)) (now (cells .exit)) (now (table .exit)) (now (ledger .entry)) (now (cells .entry)) (now (table .entry)) ⌝ }
 {
     let mut nexts = [0u64; 69];
     let mut held = [0u64; 69];
@@ -253,6 +285,7 @@ fn proceed_bounded(
     }
 }
 
+// A run goes on from a state under picks, with a bound or, where it is 0, without one.
 fn go_on(
     graph: &[u8],
     tables: &[u16; 641],
@@ -265,6 +298,9 @@ fn go_on(
     cells: &mut [u8],
     going: Going,
 ) -> Ran
+    requires { ⌜ Prepared (now graph) (now tables) × Running (graphOf (now graph)) (now tables) (now links) (now flags) (now ledger) (now cells) (going .used) × Room (now table) (going .count) (going .used) × (bound < 65536) ⌝ }
+    ensures { λ r. ⌜ Tells bound (now (picks .entry)) (going .budget) (graphOf (now (graph .entry))) (arraysIn (now (tables .entry))) (length (now (ledger .entry)) / tokenWidth) (length (now (cells .entry)) / cellWidth) (tableOf (going .count) (now (table .entry))) (stateIn (now (ledger .entry)) (now (cells .entry)) (going .used)) r (now (ledger .exit)) (now (cells .exit)) (now (table .exit)) ⌝ }
+    ensures { λ r. ⌜ Fits r (now (ledger .exit)) (now (cells .exit)) (now (table .exit)) (now (ledger .entry)) (now (cells .entry)) (now (table .entry)) ⌝ }
 {
     if bound != 0 {
         return proceed_bounded(
@@ -305,6 +341,9 @@ fn over_handles(
     ledger: &mut [u8],
     cells: &mut [u8],
 ) -> Ran
+    requires { ⌜ Accepted (now graph) (now arrays) (now handles) (length (now ledger)) (length (now cells)) × (bound < 65536) × (2050 * pairWidth ≤ length (now table)) ⌝ }
+    ensures { λ r. ⌜ Tells bound (now (picks .entry)) budget (graphOf (now (graph .entry))) (arraysOf (now (arrays .entry))) (length (now (ledger .entry)) / tokenWidth) (length (now (cells .entry)) / cellWidth) (tableOf (length (now (handles .entry)) / tokenWidth + 1) (now (table .entry))) (firstState (now (handles .entry)) (length (now (cells .entry)) / cellWidth)) r (now (ledger .exit)) (now (cells .exit)) (now (table .exit)) ⌝ }
+    ensures { λ r. ⌜ Fits r (now (ledger .exit)) (now (cells .exit)) (now (table .exit)) (now (ledger .entry)) (now (cells .entry)) (now (table .entry)) ⌝ }
 {
     let mut tables = [0u16; 641];
     let mut links = [0u16; 9216];
@@ -337,7 +376,41 @@ fn over_handles(
     )
 }
 
-// A run that passed every check: it goes over handles, and its tokens and cells are written as ranges.
+// It runs in `own` and `store`, of as many records as ledger and cells, to which its tokens and cells are written as ranges.
+fn written(
+    graph: &[u8],
+    arrays: &[u8],
+    handles: &[u8],
+    picks: &[u8],
+    budget: usize,
+    bound: usize,
+    table: &mut [u8],
+    own: &mut [u8],
+    store: &mut [u8],
+    ledger: &mut [u8],
+    cells: &mut [u8],
+) -> Answer
+    requires { ⌜ Accepted (now graph) (now arrays) (now handles) (length (now own)) (length (now store)) × (bound < 65536) × (2050 * pairWidth ≤ length (now table)) × AsMany (length (now own)) (length (now store)) (length (now ledger)) (length (now cells)) ⌝ }
+    ensures { λ r. ⌜ Leaves bound (now (picks .entry)) budget (now (graph .entry)) (now (arrays .entry)) (now (handles .entry)) (now (table .entry)) r (now (ledger .entry)) (now (cells .entry)) (now (ledger .exit)) (now (cells .exit)) ⌝ }
+{
+    let ran = over_handles(
+        graph,
+        arrays,
+        handles,
+        picks,
+        budget,
+        bound,
+        table,
+        own,
+        store,
+    );
+    let a = ran.answer;
+    range_output::put_tokens(table, ran.count, own, a.tokens, ledger);
+    range_output::put_cells(table, ran.count, store, store.len() / cell::WIDTH, cells);
+    a
+}
+
+// A run that passed every check.
 fn accepted(
     graph: &[u8],
     arrays: &[u8],
@@ -349,13 +422,14 @@ fn accepted(
     ledger: &mut [u8],
     cells: &mut [u8],
 ) -> Answer
+    requires { ⌜ Accepted (now graph) (now arrays) (now handles) (ownBytes (length (now ledger))) (storeBytes (length (now cells))) × (bound < 65536) × (2050 * pairWidth ≤ length (now table)) ⌝ }
+    ensures { λ r. ⌜ Leaves bound (now (picks .entry)) budget (now (graph .entry)) (now (arrays .entry)) (now (handles .entry)) (now (table .entry)) r (now (ledger .entry)) (now (cells .entry)) (now (ledger .exit)) (now (cells .exit)) ⌝ }
 {
     let mut own = [0u8; 57344];
     let mut store = [0u8; 8192];
     let bytes = ledger.len() / range_output::TOKEN_WIDTH * token::WIDTH;
-    let count = cells.len() / range_output::CELL_WIDTH;
-    let cell_bytes = count * cell::WIDTH;
-    let ran = over_handles(
+    let cell_bytes = cells.len() / range_output::CELL_WIDTH * cell::WIDTH;
+    written(
         graph,
         arrays,
         handles,
@@ -365,14 +439,79 @@ fn accepted(
         table,
         &mut own[0..bytes],
         &mut store[0..cell_bytes],
-    );
-    let a = ran.answer;
-    range_output::put_tokens(table, ran.count, &own, a.tokens, ledger);
-    range_output::put_cells(table, ran.count, &store, count, cells);
-    a
+        ledger,
+        cells,
+    )
+}
+
+// The inputs become handles and are checked.
+fn handled(
+    graph: &[u8],
+    arrays: &[u8],
+    inputs: &[u8],
+    picks: &[u8],
+    budget: usize,
+    bound: usize,
+    handles: &mut [u8],
+    table: &mut [u8],
+    ledger: &mut [u8],
+    cells: &mut [u8],
+) -> Answer
+    requires { ⌜ Lent (now graph) (now arrays) (length (now inputs)) (length (now ledger)) (length (now cells)) × (bound < 65536) × (length (now handles) ≡ ownBytes (length (now inputs))) × (2050 * pairWidth ≤ length (now table)) ⌝ }
+    ensures { λ r. ⌜ RangesRan (withInputs bound (now (picks .entry)) budget (now (graph .entry)) (now (arrays .entry)) (now (inputs .entry)) (length (now (ledger .entry))) (length (now (cells .entry)))) r (now (ledger .entry)) (now (ledger .exit)) (now (cells .entry)) (now (cells .exit)) ⌝ }
+{
+    range_inputs::narrow(inputs, handles, table);
+    let capacity = ledger.len() / range_output::TOKEN_WIDTH;
+    let checked = range_inputs::check(graph, inputs, handles, capacity);
+    match checked {
+        Checked::Failed(r, place) => answer::refused(r, place),
+        Checked::Passed => accepted(
+            graph,
+            arrays,
+            handles,
+            picks,
+            budget,
+            bound,
+            table,
+            ledger,
+            cells,
+        ),
+    }
+}
+
+// Everything but the inputs has passed its check.
+fn with_inputs(
+    graph: &[u8],
+    arrays: &[u8],
+    inputs: &[u8],
+    picks: &[u8],
+    budget: usize,
+    bound: usize,
+    ledger: &mut [u8],
+    cells: &mut [u8],
+) -> Answer
+    requires { ⌜ Lent (now graph) (now arrays) (length (now inputs)) (length (now ledger)) (length (now cells)) × (bound < 65536) ⌝ }
+    ensures { λ r. ⌜ RangesRan (withInputs bound (now (picks .entry)) budget (now (graph .entry)) (now (arrays .entry)) (now (inputs .entry)) (length (now (ledger .entry))) (length (now (cells .entry)))) r (now (ledger .entry)) (now (ledger .exit)) (now (cells .entry)) (now (cells .exit)) ⌝ }
+{
+    let mut handles = [0u8; 57344];
+    let mut table = [0u8; 16400];
+    let bytes = inputs.len() / range_inputs::WIDTH * token::WIDTH;
+    handled(
+        graph,
+        arrays,
+        inputs,
+        picks,
+        budget,
+        bound,
+        &mut handles[0..bytes],
+        &mut table,
+        ledger,
+        cells,
+    )
 }
 
 fn all_whole(inputs: usize, picks: usize, ledger: usize, cells: usize) -> bool
+    ensures { λ r. ⌜ r ≡ (Rows.whole rangeTokenWidth 2048 inputs && (Rows.whole pickWidth 2048 picks && (Rows.whole rangeTokenWidth 2048 ledger && Rows.whole rangeCellWidth 1024 cells))) ⌝ }
 {
     buffer::whole(range_output::TOKEN_WIDTH, 2048, inputs)
         && (buffer::whole(pick::WIDTH, 2048, picks)
@@ -380,7 +519,9 @@ fn all_whole(inputs: usize, picks: usize, ledger: usize, cells: usize) -> bool
                 && buffer::whole(range_output::CELL_WIDTH, 1024, cells)))
 }
 
+// Refusal 7, by the lengths in bytes.
 fn check_stores(inputs: usize, picks: usize, ledger: usize, cells: usize) -> Checked
+    ensures { λ c. ⌜ c ≡ checkRangeStores inputs picks ledger cells ⌝ }
 {
     if all_whole(inputs, picks, ledger, cells) {
         Checked::Passed
@@ -389,6 +530,7 @@ fn check_stores(inputs: usize, picks: usize, ledger: usize, cells: usize) -> Che
     }
 }
 
+// The checks before that of the inputs, with all buffers by their lengths in bytes.
 fn check_lent(
     graph: &[u8],
     arrays: &[u8],
@@ -398,6 +540,7 @@ fn check_lent(
     ledger: usize,
     cells: usize,
 ) -> Checked
+    ensures { λ r. ⌜ r ≡ lentChecked (now (graph .entry)) (now (arrays .entry)) inputs picks bound ledger cells ⌝ }
 {
     let of_graph = graph::check(graph);
     let Checked::Passed = of_graph else {
@@ -410,45 +553,7 @@ fn check_lent(
     arrays::check(graph, arrays, cells / range_output::CELL_WIDTH)
 }
 
-// The inputs as handles are checked, and the run goes on.
-fn with_inputs(
-    graph: &[u8],
-    arrays: &[u8],
-    inputs: &[u8],
-    picks: &[u8],
-    budget: usize,
-    bound: usize,
-    ledger: &mut [u8],
-    cells: &mut [u8],
-) -> Answer
-{
-    let mut handles = [0u8; 57344];
-    let mut table = [0u8; 16400];
-    let bytes = inputs.len() / range_inputs::WIDTH * token::WIDTH;
-    range_inputs::narrow(inputs, &mut handles[0..bytes], &mut table);
-    let checked = range_inputs::check(
-        graph,
-        inputs,
-        &handles[0..bytes],
-        ledger.len() / range_output::TOKEN_WIDTH,
-    );
-    match checked {
-        Checked::Failed(r, place) => answer::refused(r, place),
-        Checked::Passed => accepted(
-            graph,
-            arrays,
-            &handles[0..bytes],
-            picks,
-            budget,
-            bound,
-            &mut table,
-            ledger,
-            cells,
-        ),
-    }
-}
-
-// A range run over lent bytes.
+// A range run over lent bytes: its answer, and what it leaves in ledger and cells, are what the rules give. The bound is 0 for none.
 pub fn run_ranges(
     graph: &[u8],
     arrays: &[u8],
@@ -459,6 +564,7 @@ pub fn run_ranges(
     ledger: &mut [u8],
     cells: &mut [u8],
 ) -> Answer
+    ensures { λ r. ⌜ RangesOn (now (graph .entry)) (now (arrays .entry)) (now (inputs .entry)) budget bound (lentToRun (now (picks .entry)) (now (ledger .entry)) (now (cells .entry))) (leftByRun r (now (ledger .exit)) (now (cells .exit))) ⌝ }
 {
     let k = bound as usize;
     let checked = check_lent(
