@@ -8,7 +8,7 @@
 //! left; with `growth` only the growth is measured, of runs of one size that follow
 //! each other (growth.rs). The figures of the three differ. `program` measures the
 //! whole job of the printing program (program.rs). `once WORK`, `table WORK`, `bounded WORK K`,
-//! `calls WORK` and `folders DIR` are for the script `instructions`.
+//! `ranges WORK`, `calls WORK` and `folders DIR` are for the script `instructions`.
 
 mod calls;
 mod growth;
@@ -56,10 +56,11 @@ fn main() {
         ["bounded", work, bound] => {
             program::bounded_once(work, bound.parse().expect("a bound is a number"))
         }
+        ["ranges", work] => program::ranges_once(work),
         ["calls", work] => program::calls_once(work),
         ["folders", folder] => program::write_folders(folder.as_ref()),
         _ => eprintln!(
-            "repeated, growth, program, once WORK, table WORK, bounded WORK K, calls WORK, folders DIR, or nothing"
+            "repeated, growth, program, once WORK, table WORK, bounded WORK K, ranges WORK, calls WORK, folders DIR, or nothing"
         ),
     }
 }

@@ -144,6 +144,55 @@ pub fn bounded_once(name: &str, bound: u16) {
     println!("{}", calls::run_bounded(&mut lent, bound));
 }
 
+/// One range run of a work with single values, and the plain run of its lows, for the same. Each token and cell is the
+/// plain one with its value again at its end.
+pub fn ranges_once(name: &str) {
+    let (_, work, _) = kind_of(name);
+    let work = work(RECORDS);
+    let wide = |records: &[u8], width: usize, value: usize| -> Vec<u8> {
+        let records = records.chunks_exact(width);
+        records
+            .flat_map(|record| [record, &record[value..value + 4]].concat())
+            .collect()
+    };
+    let mut ledger = vec![0; second::TOKEN_RECORD * RECORDS];
+    let mut cells = vec![0; second::CELL_RECORD * CELLS];
+    let mut range_ledger = vec![0; second::RANGE_TOKEN_RECORD * RECORDS];
+    let mut range_cells = vec![0; second::RANGE_CELL_RECORD * CELLS];
+    let schedule = Schedule::new(&[], BUDGET);
+    let answer = engine::run(
+        work.program(),
+        &work.inputs,
+        schedule,
+        &mut ledger,
+        &mut cells,
+    );
+    let inputs = wide(&work.inputs, second::TOKEN_RECORD, 20);
+    let ranged = engine::run_ranges(
+        work.program(),
+        &inputs,
+        schedule,
+        &mut range_ledger,
+        &mut range_cells,
+    );
+    assert_eq!(engine::unpacked(ranged), engine::unpacked(answer));
+    let used = engine::unpacked(answer).2 as usize;
+    let tokens = wide(
+        &ledger[..second::TOKEN_RECORD * used],
+        second::TOKEN_RECORD,
+        20,
+    );
+    assert!(
+        range_ledger[..tokens.len()] == tokens,
+        "other tokens than the plain run's"
+    );
+    assert!(
+        range_cells == wide(&cells, second::CELL_RECORD, 0),
+        "other cells than the plain run's"
+    );
+    println!("{used}");
+}
+
 /// One call of each kind beside a plain run on a work, for the same.
 pub fn calls_once(name: &str) {
     Calls::new(kind_of(name), RECORDS);

@@ -4,7 +4,7 @@ import os
 import unittest
 
 import ttda
-from ttda import Activity, Answer, Cell, Input, Instruction, Step, Token
+from ttda import Activity, Answer, Cell, Input, Instruction, RangeCell, RangeInput, RangeToken, Step, Token
 
 ROOT = os.path.join(os.path.dirname(os.path.abspath(__file__)), '..', '..')
 GRAPH = [Instruction('ADD', [(1, 0)]), Instruction('OUT')]
@@ -67,6 +67,15 @@ class Runs(unittest.TestCase):
         self.assertEqual(ttda.carry_on(text, held, bound=2), held)
         self.assertEqual(ttda.carry_on(text, held).answer.firings, 2)
         self.assertEqual(ttda.run(text, bound=1).answer, Answer('refused', 21, 0, 0, 0))
+
+    def test_inputs_between_limits(self):
+        done = ttda.run_ranges(GRAPH, [RangeInput(0, 0, 7, 8), RangeInput(0, 1, -9, -5)])
+        self.assertEqual((done.answer, done.cells), (Answer('completed', 0, 1, 3, 0), []))
+        self.assertEqual(done.tokens[2], RangeToken(0, 0, 1, 0, -2, 3, 'live'))
+        store = [Instruction('STORE')]
+        self.assertEqual(ttda.run_ranges(store, [RangeInput(0, 0, 3, 3), RangeInput(0, 1, 1, 4)]).cells, [RangeCell(3, 'present', 1, 4)])
+        self.assertEqual(ttda.run_ranges(store, [RangeInput(0, 0, 3, 4), RangeInput(0, 1, 1, 4)]).answer, Answer('refused', 23, 0, 2, 0))
+        self.assertEqual(ttda.run_ranges(GRAPH, [RangeInput(0, 0, 8, 7)]).answer, Answer('refused', 23, 0, 0, 0))
 
     def test_refusals(self):
         self.assertEqual(ttda.run(b'').answer, Answer('refused', 1, 0, 0, 0))

@@ -23,6 +23,8 @@ TOKEN = struct.Struct('<16s2BHiB3x')
 OLD_TOKEN_BYTES = 20
 OLD_LOG_BYTES = 12
 CELL = struct.Struct('<iB3x')
+RANGE_TOKEN = struct.Struct('<16s2BHiB3xi')
+RANGE_CELL = struct.Struct('<iB3xi')
 LOGGED = struct.Struct('<16sBxH')
 STEP = struct.Struct('<2H')
 
@@ -73,6 +75,51 @@ class Cell(NamedTuple):
     number: int
     state: str
     value: int
+
+
+class RangeInput(NamedTuple):
+    """A value that is known only between limits, on a port of an instruction at the beginning."""
+    instruction: int
+    port: int
+    low: int
+    high: int
+
+
+class RangeToken(NamedTuple):
+    """A token of a range run. Both values of a deferred one are the cell that it waits for."""
+    path: int
+    iteration: int
+    instruction: int
+    port: int
+    low: int
+    high: int
+    state: str
+
+
+class RangeCell(NamedTuple):
+    """A cell of a range run that is waiting or present."""
+    number: int
+    state: str
+    low: int
+    high: int
+
+
+class RangeRun(NamedTuple):
+    """What a range run answered and left, as `Run`."""
+    answer: Answer
+    ledger: bytes
+    memory: bytes
+
+    @property
+    def tokens(self) -> List[RangeToken]:
+        """The tokens in order of arrival."""
+        return [RangeToken(int.from_bytes(path, 'little'), iteration, instruction, port, low, high, _TOKEN_STATES[min(state, 2)])
+                for path, iteration, port, instruction, low, state, high in RANGE_TOKEN.iter_unpack(self.ledger)]
+
+    @property
+    def cells(self) -> List[RangeCell]:
+        records = enumerate(RANGE_CELL.iter_unpack(self.memory))
+        return [RangeCell(number, _CELL_STATES[state], low, high) for number, (low, state, high) in records if 0 < state < 3]
 
 
 class Step(NamedTuple):
@@ -149,6 +196,7 @@ class Files(NamedTuple):
 # n a number that is written, l a record of limits.
 _FUNCTIONS = {
     'ttda_run': 'rrrrhhww',
+    'ttda_run_ranges': 'rrrrhhww',
     'ttda_carry_on': 'rrrhhhhww',
     'ttda_run_logged': 'rrrrhhwww',
     'ttda_replay': 'rrrrww',
@@ -303,6 +351,19 @@ def run(graph, inputs=None, picks=None, budget=MOST_RECORDS, capacity=MOST_RECOR
     files = _lent(graph, inputs, picks, arrays)
     number = _call('ttda_run', files.graph, files.arrays, files.inputs, files.picks, budget, bound, ledger, memory)
     return _left(number, ledger, memory)
+
+
+def run_ranges(graph, inputs, picks=None, budget=MOST_RECORDS, capacity=MOST_RECORDS, cells=MOST_CELLS, arrays=None,
+               bound=0) -> RangeRun:
+    """Runs a graph whose inputs, a list of RangeInput or their bytes, are known only between limits. What completes or hangs here does so
+    for every choice of the inputs, with each value in its range."""
+    ledger = ctypes.create_string_buffer(RANGE_TOKEN.size * capacity)
+    memory = ctypes.create_string_buffer(RANGE_CELL.size * cells)
+    files = _lent(graph, b'', picks, arrays)
+    lent = inputs if isinstance(inputs, bytes) else b''.join(
+        RANGE_TOKEN.pack(bytes(16), 0, port, instruction, low, 0, high) for instruction, port, low, high in inputs)
+    answer = _answer(_call('ttda_run_ranges', files.graph, files.arrays, lent, files.picks, budget, bound, ledger, memory))
+    return RangeRun(answer, ledger.raw[:RANGE_TOKEN.size * answer.tokens], memory.raw)
 
 
 def carry_on(graph, left, picks=(), budget=MOST_RECORDS, capacity=MOST_RECORDS, arrays=None, bound=0) -> Run:

@@ -1,4 +1,4 @@
-//! Links libabi.a, the proved engine, which `rt staticlib abi` makes. TTDA_LIB names its folder (an absolute path; the
+//! Links libabi.a, the proved engine, which `tools/library` makes. TTDA_LIB names its folder (an absolute path; the
 //! default is target/staticlib in the project's root), and TTDA_LINK names further system libraries that it needs, parted
 //! by spaces (for example "m pthread").
 
@@ -18,7 +18,7 @@ fn main() {
     println!("cargo:rerun-if-changed={}", library.display());
     let bytes = fs::read(&library).unwrap_or_else(|error| {
         let path = library.display();
-        panic!("{path}: {error}; `rt staticlib abi` makes it, or TTDA_LIB names its folder")
+        panic!("{path}: {error}; `tools/library` makes it, or TTDA_LIB names its folder")
     });
     // For the build scripts of whoever depends on this crate, as DEP_ABI_ENGINE.
     println!("cargo:engine={:016x}", fingerprint(&bytes));

@@ -1,4 +1,4 @@
-/* The functions of target/staticlib/libabi.a, which `rt staticlib abi` makes. Numbers and records are little-endian; docs/FORMATS.md
+/* The functions of target/staticlib/libabi.a, which `tools/library` makes. Numbers and records are little-endian; docs/FORMATS.md
    gives the formats and the refusals.
 
    A buffer is lent: its owner is the caller, and no function keeps a pointer. Each function may be called from any thread. The
@@ -57,6 +57,8 @@ enum {
     TTDA_TOKEN_BYTES = 28,
     TTDA_OLD_TOKEN_BYTES = 20,
     TTDA_CELL_BYTES = 8,
+    TTDA_RANGE_TOKEN_BYTES = 32,
+    TTDA_RANGE_CELL_BYTES = 12,
     TTDA_ARRAY_BYTES = 4,
     TTDA_PICK_BYTES = 2,
     TTDA_LOG_BYTES = 20,
@@ -103,6 +105,25 @@ uint64_t ttda_run(const uint8_t *graph, size_t graph_len,
                   uint16_t budget, uint16_t bound,
                   uint8_t *ledger, size_t ledger_len,
                   uint8_t *cells, size_t cells_len);
+
+/* Runs a graph whose inputs are known only between limits. Each token and cell record has a low value, in the field of a plain one, and a
+   high value in 4 further bytes at its end: TTDA_RANGE_TOKEN_BYTES and TTDA_RANGE_CELL_BYTES. A deferred token has its cell number in both.
+   ADD, SUB, MUL, DIV and the comparisons send the smallest range that holds every outcome; REM of two single values is exact, and otherwise goes by the
+   divisor's largest magnitude m: from 1 - m, or 0 if the dividend cannot be negative, to m - 1, or 0 if it cannot be positive. The answer,
+   the table, picks, budget and bound are those of ttda_run, with 12 if an outcome is out of range or a divisor may be 0, and with 23, after 17
+   and before 8, for a SWITCH control that may be zero or not, or a cell number or index that is not a single value; 23 is also, after 6 of all
+   inputs, an input whose low value exceeds its high one.
+   A range run that completes or hangs promises of every plain run whose inputs lie in the ranges, with as many records in ledger and cells and all
+   else equal, that it ends alike, with as many firings and the same tokens place by place but for their values, each of which lies in its range.
+   Writes: as ttda_run.
+   7 and 22: as ttda_run, by the bytes of these records. */
+uint64_t ttda_run_ranges(const uint8_t *graph, size_t graph_len,
+                         const uint8_t *arrays, size_t arrays_len,
+                         const uint8_t *inputs, size_t inputs_len,
+                         const uint8_t *picks, size_t picks_len,
+                         uint16_t budget, uint16_t bound,
+                         uint8_t *ledger, size_t ledger_len,
+                         uint8_t *cells, size_t cells_len);
 
 /* Goes on from a saved state: the first `tokens` records of the ledger, all cells, and the firings and tokens of the answer that came with
    them. Budget and picks are those of this part; the answer counts all firings. A state is taken exactly if it meets the conditions that

@@ -53,6 +53,11 @@ functions! {
     run = ttda_run(graph: lent, arrays: lent, inputs: lent, picks: lent, budget: u16, bound: u16,
         ledger: written, cells: written) -> Answer;
 
+    /// Runs a graph whose inputs are known only between limits. Records are wider: `RANGE_TOKEN_WIDTH` and
+    /// `RANGE_CELL_WIDTH` of `widths`.
+    run_ranges = ttda_run_ranges(graph: lent, arrays: lent, inputs: lent, picks: lent, budget: u16, bound: u16,
+        ledger: written, cells: written) -> Answer;
+
     /// Goes on from what a run left in ledger and cells, and from the firings and tokens that it answered.
     carry_on = ttda_carry_on(graph: lent, arrays: lent, picks: lent, budget: u16, bound: u16, firings: u16,
         tokens: u16, ledger: written, cells: written) -> Answer;

@@ -8,6 +8,10 @@ pub const TOKEN: usize = 28;
 pub const OLD_TOKEN: usize = 20;
 /// Bytes of an I-structure cell.
 pub const CELL: usize = 8;
+/// Bytes of a token in inputs and ledger of a range run: a plain token of the low value, and the high value.
+pub const RANGE_TOKEN_WIDTH: usize = TOKEN + 4;
+/// Bytes of a cell of a range run: a plain cell of the low value, and the high value.
+pub const RANGE_CELL_WIDTH: usize = CELL + 4;
 /// Bytes of a pick.
 pub const PICK: usize = 2;
 /// Bytes of a firing in a log.

@@ -1,7 +1,9 @@
 //! Every function once, on 01's example: 7 and -9 go to an ADD, and the sum to an OUT. A test here fails where a
 //! declaration has other parameters than the library.
 
-use ttda::widths::{CELL, INSTRUCTION, LOGGED, OLD_TOKEN, STEP, TOKEN};
+use ttda::widths::{
+    CELL, INSTRUCTION, LOGGED, OLD_TOKEN, RANGE_CELL_WIDTH, RANGE_TOKEN_WIDTH, STEP, TOKEN,
+};
 use ttda::{Answer, Limits, NotPrinted, Word};
 
 const ADD: u8 = 16;
@@ -53,6 +55,25 @@ fn a_run_is_listed_and_printed() {
         (Word::Completed, 1, 3)
     );
     assert_eq!(printed(answer, &ledger, &cells), TEXT);
+}
+
+/// 7 to 8, and -9 to -5.
+#[test]
+fn inputs_between_limits() {
+    let graph = graph();
+    let mut inputs = inputs(RANGE_TOKEN_WIDTH, 20);
+    inputs[TOKEN..][..4].copy_from_slice(&8i32.to_le_bytes());
+    inputs[RANGE_TOKEN_WIDTH + TOKEN..].copy_from_slice(&(-5i32).to_le_bytes());
+    let (mut ledger, mut cells) = ([0; 4 * RANGE_TOKEN_WIDTH], [1; 2 * RANGE_CELL_WIDTH]);
+    let answer = ttda::run_ranges(&graph, &[], &inputs, &[], 9, 0, &mut ledger, &mut cells);
+    assert_eq!(answer, Answer::of(Word::COMPLETED, 1, 3, 0));
+    let sum = &ledger[2 * RANGE_TOKEN_WIDTH..3 * RANGE_TOKEN_WIDTH];
+    assert_eq!(sum[20..24], (-2i32).to_le_bytes());
+    assert_eq!(sum[TOKEN..], 3i32.to_le_bytes());
+    assert_eq!(cells, [0; 2 * RANGE_CELL_WIDTH]);
+    inputs[TOKEN] = 6;
+    let answer = ttda::run_ranges(&graph, &[], &inputs, &[], 9, 0, &mut ledger, &mut cells);
+    assert_eq!(answer, Answer::of(23, 0, 0, 0));
 }
 
 #[test]

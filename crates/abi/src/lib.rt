@@ -62,7 +62,7 @@ fn place_of(outcome: Outcome) -> usize
 }
 
 // An answer in one number: its word, firings, tokens and place, 16 bits each.
-fn number_of(a: Answer) -> u64
+pub fn number_of(a: Answer) -> u64
     ensures { λ r. ⌜ r ≡ packed (valuesOf a) ⌝ }
 {
     let outcome = a.outcome;

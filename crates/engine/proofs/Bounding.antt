@@ -16,16 +16,17 @@ use Rattle.record.specs.declared.instruction.Instruction.{Instruction}
 use Rattle.record.specs.GraphRecords.{graphOf}
 use Rattle.record.specs.TokensAndTags.{tokens, tokenAt}
 use Rattle.record.specs.Widths.{tokenWidth, cellWidth}
-use Rattle.machine.specs.Machine.{Machine, StateOf, Activity, Outcome, End, onList, ending, pickOf, byPicks, end}
-use Rattle.machine.specs.Bounded.{byFree, freeOf, settled, runBounded, logBounded}
+use Rattle.machine.specs.Machine.{Machine, StateOf, Effect, Activity, Outcome, End, onList, ending, pickOf, byPicks, end}
+use Rattle.machine.specs.Orders.{CellsBelow}
+use Rattle.machine.specs.Bounded.{byFree, freeOf, settled}
 use Rattle.machine.specs.Choosers.{takes, ends}
-use Rattle.machine.proofs.Bounded.{unbounded}
 use Rattle.rules.specs.declared.answer.Refusal.{Refusal}
 use Rattle.rules.specs.declared.answer.Outcome as AnswerOutcome
 use Rattle.rules.specs.declared.answer.Answer.{Answer}
 use Rattle.rules.specs.InstructionSet.{machineOf}
 use Rattle.rules.specs.Run.{picksOf, outcomeOf}
 use Rattle.rules.specs.Held.{heldIn}
+use Rattle.rules.proofs.Lawful.{lawful}
 use Rattle.store_flags.specs.Flags.{places, placesFrom, minus, flagsOf}
 use Rattle.store_flags.specs.Marks.{bit, Marked}
 use Rattle.store_enabled.specs.Enabled.{enabledPlaces}
@@ -36,6 +37,7 @@ use Rattle.abstraction.specs.States.{noToken, stateHeld}
 use Rattle.abstraction.specs.Tables.{Arities, arraysIn}
 use Rattle.fire_outputs.specs.Outputs.{cellsIn}
 use Rattle.fire.proofs.Place.{on-ports}
+use Rattle.fire.proofs.Effects.{asked-below}
 use Rattle.fire.specs.Running.{machineFor, stateIn, askedIn, Arrived, Running, Went, Prepared}
 use Rattle.ending.specs.Endings.{EndsAs}
 use Rattle.held.specs.Deciding.{heldAt, Decided}
@@ -43,12 +45,10 @@ use Rattle.held.proofs.Deciding.{places-one, among}
 use Rattle.held.proofs.Following.{carried-later, carried-none}
 use Rattle.held.proofs.Free.{held-under, free-places}
 use Rattle.held.proofs.Fired.{went-later, flags-unspent}
-use Rattle.start.specs.Ended.{EndedAt}
 use Rattle.engine.specs.declared.Order.{Order}
 use Rattle.engine.specs.declared.Order.the-variants.{Oldest, Picks, Log, Places, Free}
-use Rattle.engine.specs.Turns.{Plain, Beside, HeldBack, Bounding, FiredOn, Takes, Ends, endOf, firedBy, Proceeded, Settled, restsThere, asItWas, endBounded, firedBounded}
+use Rattle.engine.specs.Turns.{Plain, Beside, HeldBack, Bounding, FiredOn, Takes, Ends, Proceeded, Settled, restsThere, asItWas}
 use Rattle.engine.proofs.Choosing.{getD-map, taken-there}
-use Rattle.engine.proofs.Looping.{ended-at}
 
 -- ---- a choice
 
@@ -171,7 +171,12 @@ module _ (graph : List ℕ) {tables links flags ledger cells : List ℕ} {used :
       let d = b .kept .decided in
       (d .counted, held-under g [] 0 0 k tables links flags held ledger used [] (ready .aritiesRight) (on-ports g (tokens used ledger) (now .arrived)) (now .matching) d)
 
-  module _ {τ : Tag} {links′ flags′ ledger′ cells′ : List ℕ} {n : ℕ} (w : Went g τ (askedIn g tables ledger cells used τ) tables links′ flags′ ledger′ cells′ n used ledger cells) where
+  -- what the rules ask for names cells of the store
+  pub below-here : (τ : Tag) → CellsBelow (length cells / cellWidth) (askedIn g tables ledger cells used τ)
+  below-here τ = asked-below (machineFor g tables ledger cells) (lawful graph (ready .passed) (arraysIn tables) (length ledger / tokenWidth) (length cells / cellWidth)) (stateIn ledger cells used) τ
+
+  -- a firing of whatever effect
+  module _ {τ : Tag} {e : Effect Refusal Tag ℤ} (below : CellsBelow (length cells / cellWidth) e) {links′ flags′ ledger′ cells′ : List ℕ} {n : ℕ} (w : Went g τ e tables links′ flags′ ledger′ cells′ n used ledger cells) where
     pub fired-on : (order : Order) (nexts held marks : List ℕ) → Bounding order g tables flags ledger used nexts held marks → FiredOn order g tables flags′ ledger′ used n nexts held marks
     fired-on Oldest nexts held marks b = tt
     fired-on Picks nexts held marks b = tt
@@ -184,7 +189,7 @@ module _ (graph : List ℕ) {tables links flags ledger cells : List ℕ} {used :
       bound = b .bound;
       counted = matching-counted (w .running .matching);
       unspent = flags-unspent g (ready .aritiesRight) (on-ports g (tokens n ledger′) (w .running .arrived)) (w .running .matching);
-      carried = carried-later g tables ledger ledger′ k used (went-later graph ready now w) nexts held marks (b .kept .carried);
+      carried = carried-later g tables ledger ledger′ k used (went-later graph now below w) nexts held marks (b .kept .carried);
     }
 
   pub started-on : (k : ℕ) → 0 < k → k < 65536 → FiredOn (Free k) g tables flags ledger 0 used (replicate 69 0) (replicate 69 0) (replicate 4096 0)
@@ -223,32 +228,32 @@ module _ (graph : List ℕ) {tables links flags ledger cells : List ℕ} {used :
 
 -- ---- the end of a run with a bound
 
--- "If only held ones remain, the answer is hung, at a used-up budget too."
-module _ (g : List Instruction) (k : ℕ) (picks tables links flags held ledger cells ledger₀ cells₀ : List ℕ) (start budget : ℕ) (own r : Answer) (right : Arities g tables)
-    (p : Proceeded (endOf (Free k) picks g tables ledger₀ cells₀ start budget) own g tables links flags ledger cells start ledger₀ cells₀) (d : Decided g k flags held ledger (own .tokens)) where
+-- "If only held ones remain, the answer is hung, at a used-up budget too.": a run that came to the end e, whatever its firings asked for, is settled
+module _ (g : List Instruction) (k : ℕ) (tables links flags held ledger cells ledger₀ cells₀ : List ℕ) (start : ℕ) (e : End Refusal Tag ℤ) (own r : Answer) (right : Arities g tables)
+    (p : Proceeded e own g tables links flags ledger cells start ledger₀ cells₀) (d : Decided g k flags held ledger (own .tokens)) where
   abbrev M₀ : Machine
   M₀ = machineFor g tables ledger₀ cells₀
 
   abbrev s₁ : StateOf M₀
   s₁ = stateIn ledger cells (own .tokens)
 
-  as-settled : (o : Outcome Refusal) → onList (freeOf M₀ (heldIn g k) s₁) (ending M₀ s₁) (λ a more. p .outcome) ≡ o → endBounded k picks g tables ledger₀ cells₀ start budget ≡ end M₀ o (own .firings) s₁
-  as-settled o e =
-      ap (settled M₀ (heldIn g k) 0) (p .ends) ∙ (λ i. end M₀ (e i) (zero-less (own .firings) i) s₁)
+  as-settled : (o : Outcome Refusal) → onList (freeOf M₀ (heldIn g k) s₁) (ending M₀ s₁) (λ a more. p .outcome) ≡ o → settled M₀ (heldIn g k) 0 e ≡ end M₀ o (own .firings) s₁
+  as-settled o h =
+      ap (settled M₀ (heldIn g k) 0) (p .ends) ∙ (λ i. end M₀ (h i) (zero-less (own .firings) i) s₁)
     where
       zero-less : (n : ℕ) → 0 + n ≡ n
       zero-less n = omega arith
 
-  ended : (o : Outcome Refusal) (x : AnswerOutcome.Outcome) → outcomeOf o ≡ x → endBounded k picks g tables ledger₀ cells₀ start budget ≡ end M₀ o (own .firings) s₁
-      → EndedAt (endBounded k picks g tables ledger₀ cells₀ start budget) (record { outcome = x; firings = own .firings; tokens = own .tokens }) ledger₀ cells₀ ledger cells
-  ended o x told e = ended-at (record { outcome = o; told = told; ends = e; running = p .running; grown = p .grown; size = p .size; rest = p .rest; cellSize = p .cellSize })
+  ended : (o : Outcome Refusal) (x : AnswerOutcome.Outcome) → outcomeOf o ≡ x → settled M₀ (heldIn g k) 0 e ≡ end M₀ o (own .firings) s₁
+      → Proceeded (settled M₀ (heldIn g k) 0 e) (record { outcome = x; firings = own .firings; tokens = own .tokens }) g tables links flags ledger cells start ledger₀ cells₀
+  ended o x told h = record { outcome = o; told = told; ends = h; running = p .running; grown = p .grown; size = p .size; rest = p .rest; cellSize = p .cellSize }
 
-  pub settled-end : Settled tables flags held ledger own r → EndedAt (endBounded k picks g tables ledger₀ cells₀ start budget) r ledger₀ cells₀ ledger cells
-  settled-end (restsThere z o said e) =
-      subst (λ (a : Answer). EndedAt (endBounded k picks g tables ledger₀ cells₀ start budget) a ledger₀ cells₀ ledger cells) (sym e)
+  pub settled-end : Settled tables flags held ledger own r → Proceeded (settled M₀ (heldIn g k) 0 e) r g tables links flags ledger cells start ledger₀ cells₀
+  settled-end (restsThere z o said h) =
+      subst (λ (a : Answer). Proceeded (settled M₀ (heldIn g k) 0 e) a g tables links flags ledger cells start ledger₀ cells₀) (sym h)
       (ended (ending M₀ s₁) o (sym (said g right (arraysIn tables) (length ledger₀ / tokenWidth) (length cells₀ / cellWidth) (cellsIn cells)))
       (as-settled (ending M₀ s₁) (none-left tables ledger (own .tokens) g right (p .running .arrived) (arraysIn tables) (length ledger₀ / tokenWidth) (length cells₀ / cellWidth) (cellsIn cells) links flags held (p .running .matching) k d (ending M₀ s₁) _ z)))
-  settled-end (asItWas n e) =
-      subst (λ (a : Answer). EndedAt (endBounded k picks g tables ledger₀ cells₀ start budget) a ledger₀ cells₀ ledger cells) (sym e)
+  settled-end (asItWas n h) =
+      subst (λ (a : Answer). Proceeded (settled M₀ (heldIn g k) 0 e) a g tables links flags ledger cells start ledger₀ cells₀) (sym h)
       (ended (p .outcome) (own .outcome) (p .told)
       (as-settled (p .outcome) (some-left tables ledger (own .tokens) g right (p .running .arrived) (arraysIn tables) (length ledger₀ / tokenWidth) (length cells₀ / cellWidth) (cellsIn cells) links flags held (p .running .matching) k d (ending M₀ s₁) (p .outcome) n)))

@@ -11,7 +11,7 @@ use Rattle.record.specs.declared.tag.Tag.{Tag}
 use Rattle.record.specs.declared.instruction.Instruction.{Instruction}
 use Rattle.record.specs.TokensAndTags.{tokens, tokenAt}
 use Rattle.record.specs.Widths.{tokenWidth, cellWidth}
-use Rattle.machine.specs.Machine.{Machine, StateOf, State, Activity, Outcome, End, fire, fired, commit, byPicks, runBy, end}
+use Rattle.machine.specs.Machine.{Machine, StateOf, State, Effect, Activity, Outcome, End, fire, fired, commit, byPicks, runBy, end}
 use Rattle.machine.specs.Choosers.{takes, Chooser, restsAt, runFrom, logFrom}
 use Rattle.machine.proofs.Choosers.{fromEnds, fromFired, fromRefused, fromZero, logEnds, logFired, logRefused, logZero}
 use Rattle.fire_outputs.proofs.Laws.{rest-on}
@@ -23,7 +23,7 @@ use Rattle.rules.specs.Run.{outcomeOf}
 use Rattle.abstraction.specs.Tables.{Arities, arraysIn}
 use Rattle.fire_outputs.specs.Outputs.{cellsIn}
 use Rattle.fire.proofs.Place.{on-ports}
-use Rattle.fire.specs.Running.{machineFor, stateIn, Running, asked, askedIn}
+use Rattle.fire.specs.Running.{machineFor, stateIn, Running, Went, asked, askedIn}
 use Rattle.fire.proofs.Effects.{fires-asked}
 use Rattle.ending.specs.Endings.{RestsAs}
 use Rattle.ending.proofs.Laws.{rests-there}
@@ -57,16 +57,66 @@ ended-at {e} {r} {g} {tables} {ledger′ = ledger′} {cells′ = cells′} {led
     (subst (λ (o : AnswerOutcome.Outcome). EndedAt (end (machineFor g tables ledger cells) (p .outcome) (r .firings) (stateIn ledger′ cells′ (r .tokens))) (record { outcome = o; firings = r .firings; tokens = r .tokens }) ledger cells ledger′ cells′) (p .told)
     (left g (p .running) ledger cells (p .rest) (p .cellSize) (p .outcome) (r .firings)))
 
--- ---- the loop
+-- ---- between firings, whatever they asked for
 
--- after so many firings, from a ledger and cells as lent
-pub record SoFar (g : List Instruction) (order : Order) (source ledger₀ cells₀ : List ℕ) (start budget : ℕ) (tables links flags ledger cells : List ℕ) (used firings : ℕ) : Type 0 where
-  pub within : firings ≤ budget
+-- after some firings, from a ledger and cells as lent
+pub record Underway (g : List Instruction) (ledger₀ cells₀ : List ℕ) (start : ℕ) (tables links flags ledger cells : List ℕ) (used : ℕ) : Type 0 where
   pub running : Running g tables links flags ledger cells used
   pub grown : start ≤ used
   pub size : length ledger ≡ length ledger₀
   pub rest : drop (used * tokenWidth) ledger ≡ drop (used * tokenWidth) ledger₀
   pub cellSize : length cells ≡ length cells₀
+
+module _ (g : List Instruction) (ledger₀ cells₀ : List ℕ) (start : ℕ) (tables : List ℕ) where
+  pub none-fired : {links flags : List ℕ} → Running g tables links flags ledger₀ cells₀ start → Underway g ledger₀ cells₀ start tables links flags ledger₀ cells₀ start
+  none-fired r = record { running = r; grown = omega arith; size = refl; rest = refl; cellSize = refl }
+
+  module _ {links flags ledger cells : List ℕ} {used : ℕ} (u : Underway g ledger₀ cells₀ start tables links flags ledger cells used) where
+    -- what holds at the lengths of these buffers holds at those of the lent ones, which are the same
+    pub as-lent : (P : (capacity count : ℕ) → Type 0) → P (length ledger / tokenWidth) (length cells / cellWidth) → P (length ledger₀ / tokenWidth) (length cells₀ / cellWidth)
+    as-lent P h = subst (λ (b : ℕ). P (length ledger₀ / tokenWidth) (b / cellWidth)) (u .cellSize) (subst (λ (b : ℕ). P (b / tokenWidth) (length cells / cellWidth)) (u .size) h)
+
+    pub went-on : {τ : Tag} {e : Effect Refusal Tag ℤ} {links′ flags′ ledger′ cells′ : List ℕ} {n : ℕ} → Went g τ e tables links′ flags′ ledger′ cells′ n used ledger cells
+        → Underway g ledger₀ cells₀ start tables links′ flags′ ledger′ cells′ n
+    went-on {n = n} w = record {
+      running = w .running;
+      grown = omega (arith, u .grown, w .grown);
+      size = w .size ∙ u .size;
+      rest = w .rest ∙ rest-on ledger ledger₀ used n (w .grown) (u .rest);
+      cellSize = w .cellSize ∙ u .cellSize;
+    }
+
+    module _ {e : End Refusal Tag ℤ} (f : ℕ) where
+      -- the run ends here
+      pub ends-here : (o : Outcome Refusal) (w : AnswerOutcome.Outcome) {links′ flags′ ledger′ cells′ : List ℕ} → outcomeOf o ≡ w → e ≡ end (machineFor g tables ledger₀ cells₀) o f (stateIn ledger cells used)
+          → Running g tables links′ flags′ ledger′ cells′ used → ledger′ ≡ ledger → cells′ ≡ cells
+          → Proceeded e (record { outcome = w; firings = f; tokens = used }) g tables links′ flags′ ledger′ cells′ start ledger₀ cells₀
+      ends-here o w told h r l c = record {
+        outcome = o;
+        told = told;
+        ends = h ∙ (λ i. end (machineFor g tables ledger₀ cells₀) o f (stateIn (sym l i) (sym c i) used));
+        running = r;
+        grown = u .grown;
+        size = ap length l ∙ u .size;
+        rest = ap (drop (used * tokenWidth)) l ∙ u .rest;
+        cellSize = ap length c ∙ u .cellSize;
+      }
+
+      -- with no firing left to do
+      pub rests-here : Arities g tables → (w : AnswerOutcome.Outcome) → RestsAs w tables (tokens used ledger) → e ≡ restsAt (machineFor g tables ledger₀ cells₀) f (stateIn ledger cells used)
+          → Proceeded e (record { outcome = w; firings = f; tokens = used }) g tables links flags ledger cells start ledger₀ cells₀
+      rests-here right w said h =
+          let M = machineFor g tables ledger₀ cells₀ in
+          let s = stateIn ledger cells used in
+          let told = said g right (on-ports g (tokens used ledger) (u .running .arrived)) (arraysIn tables) (length ledger₀ / tokenWidth) (length cells₀ / cellWidth) (cellsIn cells) (byPicks M) [] f in
+          ends-here (runBy M (byPicks M) 0 [] f s .outcome) w (sym told) (h ∙ rest-is M f s ∙ rests-there M (byPicks M) [] f s) (u .running) refl refl
+
+-- ---- the loop
+
+-- after so many firings, from a ledger and cells as lent
+pub record SoFar (g : List Instruction) (order : Order) (source ledger₀ cells₀ : List ℕ) (start budget : ℕ) (tables links flags ledger cells : List ℕ) (used firings : ℕ) : Type 0 where
+  pub within : firings ≤ budget
+  pub under : Underway g ledger₀ cells₀ start tables links flags ledger cells used
   -- the run that is left to do
   pub toDo : endOf order source g tables ledger₀ cells₀ start budget
       ≡ runFrom (machineFor g tables ledger₀ cells₀) (chooserFor order source g tables ledger₀ cells₀) (budget - firings) firings (stateIn ledger cells used)
@@ -94,11 +144,7 @@ module _ (g : List Instruction) (order : Order) (source ledger₀ cells₀ : Lis
   pub begun : {links flags : List ℕ} → Running g tables links flags ledger₀ cells₀ start → SoFar g order source ledger₀ cells₀ start budget tables links flags ledger₀ cells₀ start 0
   begun r = record {
     within = omega arith;
-    running = r;
-    grown = omega arith;
-    size = refl;
-    rest = refl;
-    cellSize = refl;
+    under = none-fired g ledger₀ cells₀ start tables r;
     toDo = ap (λ (b : ℕ). runFrom M₀ c₀ b 0 (stateIn ledger₀ cells₀ start)) all-left;
   }
 
@@ -115,10 +161,6 @@ module _ (g : List Instruction) (order : Order) (source ledger₀ cells₀ : Lis
     abbrev s : State Tag ℤ
     s = stateIn ledger cells used
 
-    -- what holds at the lengths of these buffers holds at those of the lent ones, which are the same
-    as-lent : (P : (capacity count : ℕ) → Type 0) → P (length ledger / tokenWidth) (length cells / cellWidth) → P (length ledger₀ / tokenWidth) (length cells₀ / cellWidth)
-    as-lent P h = subst (λ (b : ℕ). P (length ledger₀ / tokenWidth) (b / cellWidth)) (so .cellSize) (subst (λ (b : ℕ). P (b / tokenWidth) (length cells / cellWidth)) (so .size) h)
-
     to-do : (b : ℕ) → budget - firings ≡ b → endOf order source g tables ledger₀ cells₀ start budget ≡ runFrom M₀ c₀ b firings s
     to-do b e = so .toDo ∙ ap (λ (n : ℕ). runFrom M₀ c₀ n firings s) e
 
@@ -129,58 +171,36 @@ module _ (g : List Instruction) (order : Order) (source ledger₀ cells₀ : Lis
       its = record { place = place; tag = tokenAt ledger′ place .tag }
 
       took : c₀ firings s ≡ takes its
-      took = as-lent (λ p q. chooserOf order source g (arraysIn tables) p q firings s ≡ takes its) (a .taken)
+      took = as-lent g ledger₀ cells₀ start tables (so .under) (λ p q. chooserOf order source g (arraysIn tables) p q firings s ≡ takes its) (a .taken)
 
       stepped : fire M₀ s (tokenAt ledger′ place .tag) ≡ fired (stateIn ledger′ cells′ n)
       stepped =
           let τ = tokenAt ledger′ place .tag in
-          fires-asked M₀ s τ ∙ as-lent (λ p q. commit (machineOf g (arraysIn tables) p q) s τ (asked (machineOf g (arraysIn tables) p q) s τ) ≡ fired (stateIn ledger′ cells′ n)) (a .went .step)
+          fires-asked M₀ s τ ∙ as-lent g ledger₀ cells₀ start tables (so .under) (λ p q. commit (machineOf g (arraysIn tables) p q) s τ (asked (machineOf g (arraysIn tables) p q) s τ) ≡ fired (stateIn ledger′ cells′ n)) (a .went .step)
 
       pub advanced : SoFar g order source ledger₀ cells₀ start budget tables links′ flags′ ledger′ cells′ n (firings + 1)
-      advanced =
-          let w = a .went in
-          record {
-            within = omega arith;
-            running = w .running;
-            grown = omega (arith, so .grown, w .grown);
-            size = w .size ∙ so .size;
-            rest = w .rest ∙ rest-on ledger ledger₀ used n (w .grown) (so .rest);
-            cellSize = w .cellSize ∙ so .cellSize;
-            toDo = rw (add-one firings) (to-do (suc (budget - suc firings)) (omega arith) ∙ fromFired M₀ c₀ (budget - suc firings) firings s its took (stateIn ledger′ cells′ n) stepped);
-          }
-
-    ends-as : (o : Outcome Refusal) (w : AnswerOutcome.Outcome) {links′ flags′ ledger′ cells′ : List ℕ} → outcomeOf o ≡ w
-        → endOf order source g tables ledger₀ cells₀ start budget ≡ end M₀ o firings s
-        → Running g tables links′ flags′ ledger′ cells′ used → ledger′ ≡ ledger → cells′ ≡ cells
-        → Proceeded (endOf order source g tables ledger₀ cells₀ start budget) (record { outcome = w; firings = firings; tokens = used }) g tables links′ flags′ ledger′ cells′ start ledger₀ cells₀
-    ends-as o w told e r l c = record {
-      outcome = o;
-      told = told;
-      ends = e ∙ (λ i. end M₀ o firings (stateIn (sym l i) (sym c i) used));
-      running = r;
-      grown = so .grown;
-      size = ap length l ∙ so .size;
-      rest = ap (drop (used * tokenWidth)) l ∙ so .rest;
-      cellSize = ap length c ∙ so .cellSize;
-    }
+      advanced = record {
+        within = omega arith;
+        under = went-on g ledger₀ cells₀ start tables (so .under) (a .went);
+        toDo = rw (add-one firings) (to-do (suc (budget - suc firings)) (omega arith) ∙ fromFired M₀ c₀ (budget - suc firings) firings s its took (stateIn ledger′ cells′ n) stepped);
+      }
 
     stops-there : {o : AnswerOutcome.Outcome} {links′ flags′ ledger′ cells′ : List ℕ}
         → (a : Halted o g (chooserFor order source g tables ledger cells firings (stateIn ledger cells used)) (askedIn g tables ledger cells used) tables links′ flags′ ledger′ cells′ used ledger cells) → Stops M₀ s (c₀ firings s) (asked M₀ s) (a .outcome)
-    stops-there a = as-lent (λ p q. Stops (machineOf g (arraysIn tables) p q) s (chooserOf order source g (arraysIn tables) p q firings s) (asked (machineOf g (arraysIn tables) p q) s) (a .outcome)) (a .stops)
+    stops-there a = as-lent g ledger₀ cells₀ start tables (so .under) (λ p q. Stops (machineOf g (arraysIn tables) p q) s (chooserOf order source g (arraysIn tables) p q firings s) (asked (machineOf g (arraysIn tables) p q) s) (a .outcome)) (a .stops)
 
     -- a turn that ended the run
     pub halted : firings < budget → {o : AnswerOutcome.Outcome} {links′ flags′ ledger′ cells′ : List ℕ}
         → Halted o g (chooserFor order source g tables ledger cells firings (stateIn ledger cells used)) (askedIn g tables ledger cells used) tables links′ flags′ ledger′ cells′ used ledger cells
         → Proceeded (endOf order source g tables ledger₀ cells₀ start budget) (record { outcome = o; firings = firings; tokens = used }) g tables links′ flags′ ledger′ cells′ start ledger₀ cells₀
-    halted h {o} a = ends-as (a .outcome) o (a .told) (to-do (suc (budget - suc firings)) (omega arith) ∙ stopped M₀ c₀ (budget - suc firings) firings s (a .outcome) (stops-there a)) (a .running) (a .sameLedger) (a .sameCells)
+    halted h {o} a =
+        ends-here g ledger₀ cells₀ start tables (so .under) firings (a .outcome) o (a .told)
+        (to-do (suc (budget - suc firings)) (omega arith) ∙ stopped M₀ c₀ (budget - suc firings) firings s (a .outcome) (stops-there a)) (a .running) (a .sameLedger) (a .sameCells)
 
     -- the budget is spent
     pub finished : budget ≤ firings → Arities g tables → (w : AnswerOutcome.Outcome) → RestsAs w tables (tokens used ledger)
         → Proceeded (endOf order source g tables ledger₀ cells₀ start budget) (record { outcome = w; firings = firings; tokens = used }) g tables links flags ledger cells start ledger₀ cells₀
-    finished h right w said =
-        let o = runBy M₀ (byPicks M₀) 0 [] firings s .outcome in
-        let told = said g right (on-ports g (tokens used ledger) (so .running .arrived)) (arraysIn tables) (length ledger₀ / tokenWidth) (length cells₀ / cellWidth) (cellsIn cells) (byPicks M₀) [] firings in
-        ends-as o w (sym told) (to-do 0 (omega arith) ∙ fromZero M₀ c₀ firings s ∙ rest-is M₀ firings s ∙ rests-there M₀ (byPicks M₀) [] firings s) (so .running) refl refl
+    finished h right w said = rests-here g ledger₀ cells₀ start tables (so .under) firings right w said (to-do 0 (omega arith) ∙ fromZero M₀ c₀ firings s)
 
     -- ---- the log
 

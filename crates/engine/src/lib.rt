@@ -215,7 +215,7 @@ fn by_free(
 }
 
 // The choice of a turn.
-fn choose(
+pub fn choose(
     order: Order,
     source: &[u8],
     firings: usize,
@@ -295,7 +295,7 @@ pub struct Going {
 }
 
 // 02, R-9: after a firing of the activity at a place, which left n tokens where there were `used`, the held activities are known again.
-fn follow(
+pub fn follow(
     order: Order,
     graph: &[u8],
     tables: &[u16; 641],
@@ -436,7 +436,7 @@ pub fn proceed(
 }
 
 // Without picks the first is taken each time, and needs no number.
-fn order_of(picks: &[u8]) -> Order
+pub fn order_of(picks: &[u8]) -> Order
     ensures { λ r. ⌜ ByPicks r (now (picks .entry)) × Plain r ⌝ }
 {
     if picks.len() == 0 {
@@ -447,7 +447,7 @@ fn order_of(picks: &[u8]) -> Order
 }
 
 // "If only held ones remain, the answer is hung, at a used-up budget too.": what a run with a bound answered, where it ended.
-fn settle(
+pub fn settle(
     tables: &[u16; 641],
     flags: &[u64; 69],
     held: &[u64; 69],

@@ -16,6 +16,14 @@ fires-asked M s τ = go (operands M (look M s) τ)
     go none = refl
     go (some p) = refl
 
+-- what is asked for by a lawful instruction set names cells of the store
+pub asked-below : (M : Machine) → Lawful M → (s : StateOf M) (τ : M .Tag) → CellsBelow (M .cellCount) (asked M s τ)
+asked-below M law s τ = go (operands M (look M s) τ)
+  where
+    go : (q : Option (Operands (M .Value))) → CellsBelow (M .cellCount) (onOption q (refuse (M .secondToken)) (λ p. M .effect τ (p .left) (p .right)))
+    go none = tt
+    go (some p) = law .cellsBelow τ (p .left) (p .right)
+
 -- the machine in which every activity asks for e
 abbrev asking : (M : Machine) → EffectOf M → Machine
 asking M e = record {

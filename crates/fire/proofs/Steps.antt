@@ -191,7 +191,7 @@ module _ (graph : List ℕ) (passed : checkGraph graph ≡ Passed) {tables links
     pub places : Places (arityIn (graphOf graph) τ) (tokens used ledger) τ i j v w
     places = matched-places (tokens used ledger) τ (arityIn (graphOf graph) τ) few matched
 
-    there : operands M (look M s) τ ≡ some (record { left = v; right = w })
+    pub there : operands M (look M s) τ ≡ some (record { left = v; right = w })
     there = held-operands (graphOf graph) (arraysIn tables) (length ledger / tokenWidth) (length cells / cellWidth) (tokens used ledger) (cellsIn cells) τ few ∙ ap valuesOf matched
 
     pub asked-found : asked M s τ ≡ effectIn (graphOf graph) (arraysIn tables) (length cells / cellWidth) τ v w
@@ -310,10 +310,10 @@ module _ (graph : List ℕ) {tables links flags ledger cells : List ℕ} {used :
   abbrev s₁ : State Tag ℤ
   s₁ = stateIn ledger cells used
 
-  -- it asks for a refusal: nothing was written
-  asks-refusal : (σ : Tag) {r : Refusal} → asked M₁ s₁ σ ≡ refuse r → Stopped r (graphOf graph) σ (askedIn (graphOf graph) tables ledger cells used σ) tables links flags ledger cells used ledger cells
+  -- whatever asks for it, a refusal: nothing was written
+  pub asks-refusal : (σ : Tag) {e : Effect Refusal Tag ℤ} {r : Refusal} → e ≡ refuse r → Stopped r (graphOf graph) σ e tables links flags ledger cells used ledger cells
   unfolding commit
-  asks-refusal σ e = record { step = ap (commit M₁ s₁ σ) e; running = now; sameLedger = refl; sameCells = refl }
+  asks-refusal σ h = record { step = ap (commit M₁ s₁ σ) h; running = now; sameLedger = refl; sameCells = refl }
 
   -- the operands that matching found, and the token that the code read at the place
   module _ (t : Record.Token) (same : t ≡ tokenAt ledger place) (i j : ℕ) (v w : ℤ)

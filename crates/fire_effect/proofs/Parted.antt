@@ -27,6 +27,7 @@ use Rattle.rules.specs.InstructionSet.{EffectHere, allUnder, sendComputed, onCe
 use Rattle.fire_effect.specs.declared.output.Outputs.{Outputs}
 use Rattle.fire_effect.specs.declared.operate.Action.{Action}
 use Rattle.fire_effect.specs.declared.operate.Action.the-variants.{Send, Read, Write}
+use Rattle.fire_effect.specs.declared.operate.Operated.{Operated}
 use Rattle.fire_effect.specs.declared.operate.Operated.the-variants.{Refuse, Act}
 use Rattle.fire_effect.specs.declared.operate.Named.the-variants.{Cell, NoSuchCell}
 use Rattle.fire_effect.specs.declared.tags.NewTags.{NewTags}
@@ -86,6 +87,21 @@ then-done (Read c) (Tags.To o) f d = rw (← d .held (pos 0))
 then-done (Write c v) (Tags.Refuse q) f d = rw (← d .held (pos 0))
 then-done (Write c v) (Tags.To o) f d = rw (← d .held (pos 0))
 
+-- an effect that is an operation and then new tags, whoever operates: its refusal by either, and else what the action and the outputs ask for
+module _ (y : Operated) (f : ℤ → EffectHere) {e : EffectHere} (parts : e ≡ thenTags y f) where
+  pub first-refused : {q : Refusal} → y ≡ Refuse q → e ≡ refuse q
+  first-refused h = parts ∙ ap (λ (z : Operated). thenTags z f) h
+
+  module _ {x : Action} (operated : y ≡ Act x) {m : NewTags} (made : Makes m f) where
+    both-done : e ≡ done x m
+    both-done = parts ∙ ap (λ (z : Operated). thenTags z f) operated ∙ then-done x m f made
+
+    pub second-refused : {q : Refusal} → m ≡ Tags.Refuse q → e ≡ refuse q
+    second-refused h = both-done ∙ ap (done x) h
+
+    pub both-held : {s : Outputs} → m ≡ Tags.To s → actionHeld x (keysOf s) ≡ e
+    both-held h = sym (both-done ∙ ap (done x) h)
+
 -- the instruction r of a tag's instruction number, and its operation o
 module _ (graph : List ℕ) (table : List NamedArray) (cells : ℕ) (τ : Tag) (inside : τ .instruction < length graph / graphWidth) (a b : ℤ) (r : Instruction) (o : Operation)
     (fetched : r ≡ instructionIn graph (τ .instruction)) (decoded : o ≡ operationOf (r .code)) where
@@ -94,18 +110,15 @@ module _ (graph : List ℕ) (table : List NamedArray) (cells : ℕ) (τ : Tag) (
   in-turn = rw (in-bytes graph (τ .instruction) inside, ← fetched, ← decoded) (parted o (graphOf graph) table cells τ r a b)
 
   pub operation-refused : {q : Refusal} → operatedOf o table (r .constant) cells a b ≡ Refuse q → effectIn (graphOf graph) table cells τ a b ≡ refuse q
-  operation-refused e = in-turn ∙ rw e
+  operation-refused e = first-refused _ _ in-turn e
 
   module _ {x : Action} (operated : operatedOf o table (r .constant) cells a b ≡ Act x) {m : NewTags} (made : Makes m (newTagsOf o (graphOf graph) τ r b)) where
-    both-done : effectIn (graphOf graph) table cells τ a b ≡ done x m
-    both-done = in-turn ∙ ap (λ y. thenTags y (newTagsOf o (graphOf graph) τ r b)) operated ∙ then-done x m _ made
-
     pub tags-refused : {q : Refusal} → m ≡ Tags.Refuse q → effectIn (graphOf graph) table cells τ a b ≡ refuse q
-    tags-refused e = both-done ∙ ap (done x) e
+    tags-refused e = second-refused _ _ in-turn operated made e
 
     pub effected : checkGraph graph ≡ Passed → {s : Outputs} → m ≡ Tags.To s → Effected (graphOf graph) table cells τ a b x s
     effected passed {s} e =
-        let held : actionHeld x (keysOf s) ≡ effectIn (graphOf graph) table cells τ a b = sym (both-done ∙ ap (done x) e) in
+        let held : actionHeld x (keysOf s) ≡ effectIn (graphOf graph) table cells τ a b = both-held _ _ in-turn operated made e in
         record {
           held = held;
           counted = rw e at (made .counted);

@@ -1,9 +1,9 @@
--- What a firing does to the records: it keeps their tags, a proper token stays proper and a spent one spent (`went-later`); and the earliest token of an enabled activity is
--- not spent (`flags-unspent`). Assumes nothing.
+-- What a firing does to the records, whatever it asked for: it keeps their tags, a proper token stays proper and a spent one spent (`went-later`); and the earliest token
+-- of an enabled activity is not spent (`flags-unspent`). Assumes nothing.
 use Prim.Native.Nat.{ℕ, zero, suc, _+_, _/_, _≤_, _<_}
 use mathlib.Core.Path.{_≡_, refl, sym, ap, subst, _∙_}
 use mathlib.Core.Bool.{Bool, true, false, _&&_, cond}
-use mathlib.Core.Option.{Option}
+use mathlib.Core.Option.{Option, none, some}
 use mathlib.Core.List.{List, [], _∷_, _++_, map}
 use native.Mathlib.Omega.{arith}
 use lib.Dec.{eqb}
@@ -20,13 +20,13 @@ use Rattle.record.specs.GraphRecords.{graphOf}
 use Rattle.record.specs.TokensAndTags.{tokens, tokenAt, decode, standsAt}
 use Rattle.record.specs.Widths.{tokenWidth, cellWidth}
 use Rattle.buffer.proofs.Tables.{length-rows, getD-rows}
-use Rattle.machine.specs.Machine.{Content, live, spent, deferred, Token, Machine, StateOf, fired, fire, isProper, spend, changed, operandOf}
-use Rattle.machine.specs.Orders.{Lawful, Good}
-use Rattle.machine.proofs.View.{settle, change}
-use Rattle.machine.proofs.Pending.{FiredAs, firedAfter}
+use Rattle.machine.specs.Machine.{Content, live, spent, deferred, Token, Machine, Effect, fired, isProper, spend, changed, operandOf}
+use Rattle.machine.specs.Orders.{CellsBelow}
+use Rattle.machine.proofs.View.{settle, DeltaOf, deltaOf, change}
+use Rattle.machine.proofs.Store.{After, Answer, commitResult}
+use Rattle.rules.specs.declared.answer.Refusal.{Refusal}
 use Rattle.rules.specs.InstructionSet.{arityIn}
 use Rattle.rules.specs.Run.{contentHeld, tokenHeld}
-use Rattle.rules.proofs.Lawful.{lawful}
 use Rattle.store_flags.specs.Flags.{places, flagsOf}
 use Rattle.store_flags.specs.Marks.{bit}
 use Rattle.store_chains.specs.declared.Found.{Found}
@@ -41,10 +41,9 @@ use Rattle.store_enabled.proofs.Store.{all-at}
 use Rattle.store.specs.Matching.{Matching}
 use Rattle.store.proofs.Laws.{matching-stored, matching-places, matching-leads}
 use Rattle.abstraction.specs.States.{noToken, OnPorts}
-use Rattle.abstraction.specs.Tables.{Arities, arraysIn}
+use Rattle.abstraction.specs.Tables.{Arities}
 use Rattle.ending.specs.Endings.{properBy}
-use Rattle.fire.specs.Running.{machineFor, stateIn, askedIn, Running, Went, Prepared}
-use Rattle.fire.proofs.Effects.{fires-asked}
+use Rattle.fire.specs.Running.{machineFor, stateIn, Running, Went}
 use Rattle.held.specs.Deciding.{isSpent, FlagsUnspent, Later}
 use Rattle.held.proofs.Deciding.{among}
 
@@ -88,13 +87,22 @@ getD-map f (x ∷ l) (suc i) d = getD-map f l i d
 held-there : (l : List ℕ) (k i : ℕ) → i < k → getD (map tokenHeld (tokens k l)) i (tokenHeld noToken) ≡ tokenHeld (tokenAt l i)
 held-there l k i h = getD-map tokenHeld (tokens k l) i noToken ∙ ap tokenHeld (getD-rows tokenWidth decode k i l noToken h)
 
-module _ (graph : List ℕ) {tables links flags links′ flags′ ledger′ cells′ : List ℕ} {n used : ℕ} {ledger cells : List ℕ} {τ : Tag} (ready : Prepared graph tables)
-    (now : Running (graphOf graph) tables links flags ledger cells used) (w : Went (graphOf graph) τ (askedIn (graphOf graph) tables ledger cells used τ) tables links′ flags′ ledger′ cells′ n used ledger cells) where
+-- a firing of whatever effect, if that names cells of the store
+module _ (graph : List ℕ) {tables links flags links′ flags′ ledger′ cells′ : List ℕ} {n used : ℕ} {ledger cells : List ℕ} {τ : Tag} {e : Effect Refusal Tag ℤ}
+    (now : Running (graphOf graph) tables links flags ledger cells used) (below : CellsBelow (length cells / cellWidth) e) (w : Went (graphOf graph) τ e tables links′ flags′ ledger′ cells′ n used ledger cells) where
   abbrev M : Machine
   M = machineFor (graphOf graph) tables ledger cells
 
-  after : FiredAs M (stateIn ledger cells used) τ (stateIn ledger′ cells′ n)
-  after = firedAfter M (lawful graph (ready .passed) (arraysIn tables) (length ledger / tokenWidth) (length cells / cellWidth)) (stateIn ledger cells used) (now .good) τ (stateIn ledger′ cells′ n) (fires-asked M (stateIn ledger cells used) τ ∙ w .step)
+  record Became : Type 0 where
+    delta : DeltaOf M
+    after : After M (stateIn ledger cells used) τ delta (stateIn ledger′ cells′ n)
+
+  after : Became
+  after = go (deltaOf M e) (rw (w .step) at (commitResult M (stateIn ledger cells used) τ e (now .good .distinct) (rw (now .good .cellCount) below)))
+    where
+      go : (q : Option (DeltaOf M)) → Answer M (stateIn ledger cells used) τ q (fired (stateIn ledger′ cells′ n)) → Became
+      go none a = absurd a
+      go (some d) a = record { delta = d; after = a }
 
   same : (i : ℕ) → i < used → tokenHeld (tokenAt ledger′ i) ≡ changed (change M τ (after .delta)) (tokenHeld (tokenAt ledger i))
   same i h =

@@ -83,6 +83,23 @@ pub fn run(
     ttda::run(graph, arrays, inputs, picks, budget, bound, ledger, cells).0
 }
 
+/// Runs the engine over ranges.
+pub fn run_ranges(
+    program: Program,
+    inputs: &[u8],
+    schedule: Schedule,
+    ledger: &mut [u8],
+    cells: &mut [u8],
+) -> u64 {
+    let Program { graph, arrays } = program;
+    let Schedule {
+        picks,
+        budget,
+        bound,
+    } = schedule;
+    ttda::run_ranges(graph, arrays, inputs, picks, budget, bound, ledger, cells).0
+}
+
 /// Goes on from the state that ledger and cells hold.
 pub fn carry_on(
     program: Program,

@@ -1,16 +1,25 @@
-//! Range runs (02, R-11) of the second emulator, beside its plain runs of choices within
-//! the ranges. The engine has no range run.
+//! Range runs (02, R-11): the engine against the second emulator, whole and damaged, with and
+//! without a bound, and the engine's plain runs of choices within the ranges.
 
 use layout::{FETCH, STORE, SWITCH};
 use second::{Answer, Outcome, CELL_RECORD, RANGE_CELL_RECORD, RANGE_TOKEN_RECORD, TOKEN_RECORD};
 
-use crate::case::Case;
+use crate::case::{Case, Guarded};
+use crate::damage;
 use crate::orders::End;
 use crate::prng::Prng;
 use crate::Harness;
 
 /// Most choices of the inputs that are all tried; of more some are.
 const MOST_CHOICES: usize = 16;
+
+/// What is lent to a range run: a plain case, with inputs, ledger and cells of its own.
+struct Lent<'a> {
+    case: &'a Case,
+    inputs: Vec<u8>,
+    ledger_bytes: usize,
+    cells_bytes: usize,
+}
 
 /// What a range run leaves.
 struct Ranged {
@@ -27,15 +36,15 @@ impl Ranged {
 }
 
 impl Harness {
-    /// Inputs widened to ranges, in two orders, beside plain runs of choices.
+    /// Inputs widened to ranges, in two orders, beside plain runs of choices; then under a
+    /// bound, with another budget, and damaged.
     pub fn all_ranges(&mut self, ends: &[End], prng: &mut Prng) {
         let case = &ends[prng.below(ends.len())].case;
         if !case.stores_fit() {
             return;
         }
         let inputs = widened(&case.inputs, prng);
-        let left = range_run(case, &inputs);
-        self.ranges += 1;
+        let left = self.range_run(&lent(case, &inputs));
         self.tally.count_ranges(names(case, &left));
         let result = self.choices(case, &inputs, &left, prng);
         if let Err(reason) = result {
@@ -45,9 +54,54 @@ impl Harness {
             picks: ends[prng.below(ends.len())].case.picks.clone(),
             ..case.clone()
         };
-        if let Err(reason) = agree(&left, &range_run(&other, &inputs)) {
+        let again = self.range_run(&lent(&other, &inputs));
+        if let Err(reason) = agree(&left, &again) {
             self.fail(&other, &format!("ranges in another order: {reason}"));
         }
+        self.other_ranges(&other, &inputs, prng);
+    }
+
+    /// The same inputs under a bound and a budget, good ones and bad ones, and damaged.
+    fn other_ranges(&mut self, case: &Case, inputs: &[u8], prng: &mut Prng) {
+        let mut case = case.clone();
+        case.bound = [2, 3, 8, 256, 1, 257][prng.below(6)];
+        case.garbage = prng.word();
+        let left = self.range_run(&lent(&case, inputs));
+        self.tally.count_ranges(vec![match left.answer.refusal() {
+            Some(21) => "21",
+            _ => "a good bound",
+        }]);
+        let result = self.choices(&case, inputs, &left, prng);
+        if let Err(reason) = result {
+            self.fail(&case, &format!("ranges, bound {}: {reason}", case.bound));
+        }
+        case.bound = 0;
+        case.budget = [0, 1, prng.below(40) as u16][prng.below(3)];
+        self.range_run(&lent(&case, inputs));
+        case.budget = 2048;
+        for _ in 0..2 {
+            let mut case = case.clone();
+            let mut lent = damaged(&mut case, inputs, prng);
+            if prng.one_in(3) {
+                damage::flip(&mut lent.inputs, prng);
+            }
+            let left = self.range_run(&lent);
+            self.tally
+                .count_ranges(vec![match left.answer.refused_at_once() {
+                    true => "damaged, refused at once",
+                    false => "damaged, and run",
+                }]);
+        }
+    }
+
+    /// The engine's range run must leave what the second emulator's does, in every byte.
+    fn range_run(&mut self, lent: &Lent) -> Ranged {
+        self.ranges += 1;
+        let (left, result) = compared(lent);
+        if let Err(reason) = result {
+            self.fail(lent.case, &format!("range run: {reason}"));
+        }
+        left
     }
 
     /// Plain runs of all choices, or of some.
@@ -146,18 +200,72 @@ fn a_choice(inputs: &[u8], prng: &mut Prng) -> Vec<u8> {
     chosen(inputs, &values)
 }
 
-fn range_run(case: &Case, inputs: &[u8]) -> Ranged {
-    let capacity = case.ledger_bytes / TOKEN_RECORD;
-    let cell_count = case.cells_bytes / CELL_RECORD;
-    let mut ledger = vec![0; RANGE_TOKEN_RECORD * capacity];
-    let mut cells = vec![0; RANGE_CELL_RECORD * cell_count];
-    let (program, schedule) = (case.program(), case.schedule());
-    let answer = second::run_ranges(program, inputs, schedule, &mut ledger, &mut cells);
-    Ranged {
+/// Buffers of as many records as the case's.
+fn lent<'a>(case: &'a Case, inputs: &[u8]) -> Lent<'a> {
+    Lent {
+        case,
+        inputs: inputs.to_vec(),
+        ledger_bytes: case.ledger_bytes / TOKEN_RECORD * RANGE_TOKEN_RECORD,
+        cells_bytes: case.cells_bytes / CELL_RECORD * RANGE_CELL_RECORD,
+    }
+}
+
+/// A case damaged as a plain one is, or in the lengths of what a range run is lent.
+fn damaged<'a>(case: &'a mut Case, inputs: &[u8], prng: &mut Prng) -> Lent<'a> {
+    case.kind = "damaged";
+    let which = prng.below(5);
+    match which {
+        0 => damage::damage_graph(&mut case.graph, prng),
+        1 => damage::damage(case, prng),
+        _ => {}
+    }
+    let mut lent = lent(case, inputs);
+    match which {
+        2 => lent.inputs.truncate(prng.below(inputs.len() + 1)),
+        3 => lent.ledger_bytes = prng.below(lent.ledger_bytes + 2),
+        4 => lent.cells_bytes = prng.below(lent.cells_bytes + 2),
+        _ => {}
+    }
+    lent
+}
+
+/// What the second emulator leaves, and whether the engine leaves the same.
+fn compared(lent: &Lent) -> (Ranged, Result<(), String>) {
+    let mut prng = Prng::new(lent.case.garbage);
+    let mut garbage = |length: usize| {
+        let mut bytes = vec![0; length];
+        prng.fill(&mut bytes);
+        bytes
+    };
+    let (mut ledger, mut cells) = (garbage(lent.ledger_bytes), garbage(lent.cells_bytes));
+    let mut found_ledger = Guarded::new(&ledger, 17);
+    let mut found_cells = Guarded::new(&cells, 19);
+    let (program, schedule) = (lent.case.program(), lent.case.schedule());
+    let answer = second::run_ranges(program, &lent.inputs, schedule, &mut ledger, &mut cells);
+    let found = engine::run_ranges(
+        program,
+        &lent.inputs,
+        schedule,
+        found_ledger.lent(),
+        found_cells.lent(),
+    );
+    let due = engine::packed_answer(&answer);
+    let result = match found == due {
+        true => found_ledger
+            .holds("ledger", &ledger)
+            .and_then(|()| found_cells.holds("cells", &cells)),
+        false => Err(format!(
+            "answer (word, firings, tokens, place): {:?}, due {:?}",
+            engine::unpacked(found),
+            engine::unpacked(due)
+        )),
+    };
+    let left = Ranged {
         answer,
         ledger,
         cells,
-    }
+    };
+    (left, result)
 }
 
 /// A plain run ends as the range run, with each value in its range; it may be refused by
@@ -169,9 +277,14 @@ fn holds(left: &Ranged, plain: &Case) -> Result<(), String> {
     let mut ledger = vec![0; plain.ledger_bytes];
     let mut cells = vec![0; plain.cells_bytes];
     let (program, schedule) = (plain.program(), plain.schedule());
-    let answer = second::run(program, &plain.inputs, schedule, &mut ledger, &mut cells);
-    if answer != left.answer {
+    let answer = engine::run(program, &plain.inputs, schedule, &mut ledger, &mut cells);
+    if answer != engine::packed_answer(&left.answer) {
+        let answer = engine::unpacked(answer);
         return Err(format!("{answer:?}, due {:?}", left.answer));
+    }
+    // Then both left every byte as lent.
+    if left.answer.refused_at_once() {
+        return Ok(());
     }
     let inside = |value: &[u8], low: &[u8], high: &[u8]| {
         (number(low)..=number(high)).contains(&number(value))
@@ -213,7 +326,7 @@ fn agree(one: &Ranged, other: &Ranged) -> Result<(), String> {
 }
 
 /// What has to come up among the range runs.
-pub const NAMES: [&str; 15] = [
+pub const NAMES: [&str; 19] = [
     "completed",
     "hung",
     "refused at once",
@@ -229,6 +342,10 @@ pub const NAMES: [&str; 15] = [
     "a cell that is a range",
     "all choices",
     "some choices",
+    "21",
+    "a good bound",
+    "damaged, refused at once",
+    "damaged, and run",
 ];
 
 /// Which of the names a range run has.

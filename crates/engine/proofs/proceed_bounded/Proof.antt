@@ -4,6 +4,7 @@ use borrow.Author.Needs.{needs}
 use Rattle.record.specs.GraphRecords.{graphOf}
 use Rattle.store.proofs.Laws.{matching-counted, matching-room}
 use Rattle.engine.specs.declared.Order.the-variants.{Free}
+use Rattle.engine.proofs.Looping.{ended-at}
 use Rattle.engine.proofs.Bounding.{started-on, beside-of, settled-end}
 use Rattle.engine.proofs.proceed_bounded.Statement.{statement}
 use Rattle.engine.proofs.proceed_bounded.Tie as tie
@@ -29,4 +30,4 @@ proceed-bounded-spec = tie.close (tie.spec
     let s = c .before .before .before .before .before .before .before .before .before .before .before .before .before .before .before .before .before .before .before .before .before .before .before .before .before .before .before .before .before .before .before .before in
     let a = s .args in
     let t = c .before .before .before .before .before .before .before .before .before .before .before .turns in
-    (settled-end (graphOf (a .graph .now)) (a .bound) (a .picks .now) (a .tables .now) _ _ _ _ _ (a .ledger .now) (a .cells .now) (a .going .used) (a .going .budget) (t .result) _ (s .pre .0 .aritiesRight) (t .ensures .0) (t .ensures .1 .1 .kept .decided) (c .settle .ensures), t .ensures .1 .0)))
+    (ended-at (settled-end (graphOf (a .graph .now)) (a .bound) (a .tables .now) _ _ _ _ _ (a .ledger .now) (a .cells .now) (a .going .used) _ (t .result) _ (s .pre .0 .aritiesRight) (t .ensures .0) (t .ensures .1 .1 .kept .decided) (c .settle .ensures)), t .ensures .1 .0)))

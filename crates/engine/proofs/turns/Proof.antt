@@ -9,7 +9,7 @@ use Rattle.record.specs.GraphRecords.{graphOf}
 use Rattle.store.proofs.Laws.{matching-counted, matching-places, matching-room}
 use Rattle.engine.specs.Turns.{Bounding}
 use Rattle.engine.proofs.Looping.{SoFar, Noted, begun, noted-none, advanced, noted-on, halted, noted-halted, finished, noted-finished}
-use Rattle.engine.proofs.Bounding.{back-of, beside-of, fired-on, halted-on}
+use Rattle.engine.proofs.Bounding.{back-of, beside-of, below-here, fired-on, halted-on}
 use Rattle.engine.proofs.turns.Statement.{statement}
 use Rattle.engine.proofs.turns.Tie as tie
 
@@ -36,7 +36,7 @@ turns-spec = tie.close (tie.spec
     let l = c .before .before .before .before .before .before .loop in
     let s = c .before .before .before .before .before .before .before .before .before .before .before .before .before in
     let o = s .args .order in
-    (s .pre .0, l .inv .0 .running, beside-of (s .args .graph .now) (s .pre .0) (l .inv .0 .running) o (l .nexts) (l .held) (l .marks) (l .inv .2), back-of (s .args .graph .now) (s .pre .0) (l .inv .0 .running) o (l .nexts) (l .held) (l .marks) (l .inv .2)))
+    (s .pre .0, l .inv .0 .under .running, beside-of (s .args .graph .now) (s .pre .0) (l .inv .0 .under .running) o (l .nexts) (l .held) (l .marks) (l .inv .2), back-of (s .args .graph .now) (s .pre .0) (l .inv .0 .under .running) o (l .nexts) (l .held) (l .marks) (l .inv .2)))
     (λ c. search needs)
     (λ c κs.
     let a = rw (c .before .before .before .turned .given .1) at (c .before .before .before .before .before .before .before .before .before .take-turn .ensures) in
@@ -45,7 +45,7 @@ turns-spec = tie.close (tie.spec
     let l = c .before .before .before .before .before .before .before .before .before .before .before .before .before .before .before .before .before .before .before .before .before .before .before .before .loop in
     let s = c .before .before .before .before .before .before .before .before .before .before .before .before .before .before .before .before .before .before .before .before .before .before .before .before .before .before .before .before .before .before .before in
     let a = rw (c .before .before .before .before .before .before .before .before .before .before .before .turned .given .1) at (c .before .before .before .before .before .before .before .before .before .before .before .before .before .before .before .before .before .take-turn .ensures) in
-    fired-on (s .args .graph .now) (s .pre .0) (l .inv .0 .running) (a .went) (s .args .order) (l .nexts) (l .held) (l .marks) (l .inv .2))
+    fired-on (s .args .graph .now) (s .pre .0) (l .inv .0 .under .running) (below-here (s .args .graph .now) (s .pre .0) (l .inv .0 .under .running) _) (a .went) (s .args .order) (l .nexts) (l .held) (l .marks) (l .inv .2))
     (λ c. omega (arith, budget-fits (c .before .before .before .before .before .before .before .before .before .before .before .before .before .before .before .before .before .before .before .before .before .before .before .before .before .before .before .before .before .before .before .before .before .before), c .before .before .before .before .before .before .before .before .before .before .before .before .before .before .before .before .before .before .before .before .before .before .before .before .before .before .loop-test .taken))
     (λ c. omega (arith, c .before .before .before .before .before .before .before .before .before .before .before .before .before .before .before .before .before .before .before .before .before .before .before .before .before .before .loop-test .taken))
     (λ c.
@@ -66,9 +66,9 @@ turns-spec = tie.close (tie.spec
     let s = c .before .before .before .before .before .before .before .before .before .before .before .before .before .before .before .before .before .before .before .before .before .before in
     let a = rw (c .before .before .turned2 .given .1) at (c .before .before .before .before .before .before .before .before .take-turn .ensures) in (
       rw (c .answered .ensures) (halted _ _ _ _ _ _ _ _ (l .0) h a),
-      (noted-halted _ _ _ _ _ _ _ _ (l .0) (l .1) h a, rw (c .answered .ensures) (halted-on (s .args .graph .now) (s .pre .0) (l .0 .running) (s .args .order) (k .nexts) (k .held) (k .marks) (a .running) (a .sameLedger) (l .2))),
+      (noted-halted _ _ _ _ _ _ _ _ (l .0) (l .1) h a, rw (c .answered .ensures) (halted-on (s .args .graph .now) (s .pre .0) (l .0 .under .running) (s .args .order) (k .nexts) (k .held) (k .marks) (a .running) (a .sameLedger) (l .2))),
     ))
-    (λ c κs. let m = c .before .before .before .loop .inv .0 .running .matching in (matching-counted m, matching-places m, matching-room m))
+    (λ c κs. let m = c .before .before .before .loop .inv .0 .under .running .matching in (matching-counted m, matching-places m, matching-room m))
     (λ c κs. search needs)
     (λ c. c .before .before .before .before .before .loop .inv .3)
     (λ c. search needs)

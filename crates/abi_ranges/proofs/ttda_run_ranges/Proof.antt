@@ -1,0 +1,17 @@
+-- `abi_ranges::ttda_run_ranges` meets its contract: the range run as a number, from its promise. Assumes nothing.
+use borrow.Author.Needs.{needs}
+use mathlib.Core.Path.{ap, _∙_}
+use Rattle.rules.specs.Answer.{valuesOf}
+use Rattle.abi.specs.Numbers.{packed}
+use Rattle.abi_ranges.proofs.ttda_run_ranges.Statement.{statement}
+use Rattle.abi_ranges.proofs.ttda_run_ranges.Tie as tie
+
+pub ttda-run-ranges-spec : {M : Type 1} → statement M
+ttda-run-ranges-spec = tie.close (tie.spec
+    (λ c κs. search needs)
+    (λ c κs. search needs)
+    (λ c. search needs)
+    (λ c. search needs)
+    (λ c.
+    let ran = c .before .before .before .before .before .run-ranges .ensures in
+    (c .number-of .ensures ∙ ap (λ a. packed (valuesOf a)) (ran .answered), (ran .ledgerLeft, ran .cellsLeft))))

@@ -1,0 +1,19 @@
+-- `range_engine::check_lent` meets its contract. Assumes nothing.
+use borrow.Author.Needs.{needs}
+use Rattle.check_fields.proofs.Turns.{stopped}
+use Rattle.range_engine.proofs.check_lent.Statement.{statement}
+use Rattle.range_engine.proofs.check_lent.Tie as tie
+
+pub check-lent-spec : {M : Type 1} → statement M
+check-lent-spec = tie.close (tie.spec
+    (λ c κs. search needs)
+    (λ c. search needs)
+    (λ c. search needs)
+    (λ c. rw (← c .before .before .check .ensures) (stopped _ _ _ _ (c .enum-told2 .given .1)))
+    (λ c κs. search needs)
+    (λ c κs. search needs)
+    (λ c. search needs)
+    (λ c. search needs)
+    (λ c. rw (← c .before .before .before .before .before .before .check .ensures, c .before .before .before .before .enum-told .given .1, ← c .before .before .before .check-stores .ensures, ← c .before .before .check2 .ensures) (stopped _ _ _ _ (c .enum-told4 .given .1)))
+    (λ c κs. search needs)
+    (λ c. rw (← c .before .before .before .before .before .before .before .check .ensures, c .before .before .before .before .before .enum-told .given .1, ← c .before .before .before .before .check-stores .ensures, ← c .before .before .before .check2 .ensures, c .before .enum-told3 .given .1) (c .check3 .ensures)))

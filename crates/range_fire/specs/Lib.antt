@@ -1,0 +1,2 @@
+-- The definitions of a firing over handles. Assumes nothing.
+pub mod Tried
