@@ -1,4 +1,4 @@
-//! `dayomlak`: the tagged-token dataflow machine for the people who use it. Every firing, listing, profile, log and bound
+//! `dayomlak`: the tagged-token dataflow machine for the people who use it. Every firing, range, listing, profile, log and bound
 //! that it shows is the proved engine's; what is here reads text, chooses picks, names, draws and explains.
 
 mod activity;
