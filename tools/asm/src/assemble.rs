@@ -5,6 +5,7 @@ use crate::errors::{Error, Errors, Fault, Span};
 use crate::names::{too_many, Names, STORE};
 use crate::operations::Constant;
 use crate::parse::parse_line;
+use crate::ranges::{RangedInput, Value};
 use crate::statement::{Line, Statement, Target, Typed};
 use crate::words::{order_words, span_of, words, Word};
 use crate::{Files, GRAPH_RECORD, TOKEN_RECORD};
@@ -47,6 +48,8 @@ pub struct Program {
     pub instructions: Vec<Instruction>,
     /// The place of each input.
     pub inputs: Vec<Place>,
+    /// The inputs that are typed as ranges, in their order. The files have the low end of each.
+    pub ranges: Vec<RangedInput>,
     /// The activities of an order. Which picks they are, only a run shows.
     pub order: Vec<Named>,
 }
@@ -61,15 +64,24 @@ pub struct Named {
 /// Assembles a text. Names may be used before they are defined. A text without
 /// `raw` and with 1 to 256 instructions gives a graph and a table of arrays that
 /// pass the check, with 1,024 cells. An order by names is refused: files have
-/// picks, which only a run shows.
+/// picks, which only a run shows. So is a range: files have single values.
 pub fn assemble(text: &str) -> Result<Files, Errors> {
     let program = read(text)?;
-    let Some(first) = program.order.first() else {
+    let mut errors: Vec<Error> = program
+        .ranges
+        .iter()
+        .map(|range| range.fault().on_line(line_of(text, &range.span)))
+        .collect();
+    if let Some(first) = program.order.first() {
+        let fault = Fault::new(first.span.clone(), "the picks of an order are not known");
+        let hint = "`dayomlak asm` fires the graph to find them";
+        errors.push(fault.hint(hint).on_line(line_of(text, &first.span)));
+    }
+    if errors.is_empty() {
         return Ok(program.files);
-    };
-    let fault = Fault::new(first.span.clone(), "the picks of an order are not known");
-    let hint = "`dayomlak asm` fires the graph to find them";
-    Err(Errors(vec![fault.hint(hint).on_line(line_of(text, first))]))
+    }
+    errors.sort_by_key(|error| error.span.start);
+    Err(Errors(errors))
 }
 
 /// Reads an order that stands in a file of its own: a name for each firing.
@@ -125,9 +137,9 @@ fn numbered(text: &str) -> impl Iterator<Item = (usize, usize, &str)> {
         })
 }
 
-/// The line that a name stands in.
-fn line_of(text: &str, named: &Named) -> usize {
-    text[..named.span.start].matches('\n').count() + 1
+/// The line that a part of the text begins in.
+fn line_of(text: &str, span: &Span) -> usize {
+    text[..span.start].matches('\n').count() + 1
 }
 
 /// The names of activities. Only that of a line that loads a cell has a space, `cell 3[0]`.
@@ -171,14 +183,14 @@ impl Program {
             Statement::Typed(typed) => return self.typed(names, line, typed),
             Statement::Raw(record) => self.instruction(line, *record),
             Statement::Input(target, value) => match names.resolve(target) {
-                Ok((number, port)) => self.input(line, input_record(number, port, *value)),
+                Ok((number, port)) => self.valued(line, (number, port), value),
                 Err(fault) => return vec![fault],
             },
             Statement::RawInput(record) => self.input(line, *record),
-            Statement::Cell(cell, value) => self.load(line, 0, *cell, *value),
+            Statement::Cell(cell, value) => self.load(line, 0, *cell, value),
             Statement::Element(element, value) => {
                 let array = names.element(element);
-                self.load(line, *array.as_ref().unwrap_or(&0), element.index, *value);
+                self.load(line, *array.as_ref().unwrap_or(&0), element.index, value);
                 return array.err().into_iter().collect();
             }
             // Their table is made before the instructions.
@@ -205,16 +217,16 @@ impl Program {
             .filter(|_| !self.files.picks.is_empty())?;
         let fault = Fault::new(first.span.clone(), "an order beside picks");
         let fault = fault.hint("either of them says what fires: leave one out");
-        Some(fault.on_line(line_of(text, first)))
+        Some(fault.on_line(line_of(text, &first.span)))
     }
 
     /// A STORE to an array, or to the whole store by 0, and the two inputs that fire it.
-    fn load(&mut self, line: &Line, array: i32, index: i32, value: i32) {
+    fn load(&mut self, line: &Line, array: i32, index: i32, value: &Value) {
         // The number fits: Names has counted the instructions.
         let store = self.instructions.len() as u16;
         self.instruction(line, graph_record(STORE, &[], array));
         self.input(line, input_record(store, 0, index));
-        self.input(line, input_record(store, 1, value));
+        self.valued(line, (store, 1), value);
     }
 
     fn typed(&mut self, names: &mut Names, line: &Line, typed: &Typed) -> Vec<Fault> {
@@ -256,6 +268,12 @@ impl Program {
             (_, Some(name)) => name.text.to_string(),
             (_, None) => format!("#{}", self.instructions.len()),
         }
+    }
+
+    /// An input with its value, or with the low end of its range.
+    fn valued(&mut self, line: &Line, (number, port): (u16, u8), value: &Value) {
+        self.ranges.extend(value.ranged(self.inputs.len()));
+        self.input(line, input_record(number, port, value.low()));
     }
 
     fn input(&mut self, line: &Line, record: [u8; TOKEN_RECORD]) {

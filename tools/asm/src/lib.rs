@@ -10,6 +10,7 @@ mod names;
 mod operations;
 mod parse;
 mod parse_arrays;
+mod ranges;
 mod statement;
 mod words;
 
@@ -17,6 +18,7 @@ pub use assemble::{assemble, read, read_order, Array, Instruction, Named, Place,
 pub use disassemble::disassemble;
 pub use errors::{Error, Errors, Span};
 pub use operations::{by_code, Constant, Operation};
+pub use ranges::RangedInput;
 
 /// Bytes of a graph record.
 pub const GRAPH_RECORD: usize = 16;

@@ -4,6 +4,7 @@ use crate::errors::Fault;
 use crate::hints;
 use crate::operations::{by_name, is_arithmetic, with_constant, Constant, Operation};
 use crate::parse_arrays::{is_element, named_array, parse_array, parse_array_name, parse_load};
+use crate::ranges::{self, parse_value};
 use crate::statement::{Line, Statement, Target, Typed};
 use crate::words::{span_of, Word};
 
@@ -200,12 +201,13 @@ fn parse_input<'t>(first: Word<'t>, rest: &[Word<'t>]) -> Result<Statement<'t>, 
             Err(fault.hint(format!("it is loaded without `input`: `{text} = {value}`")))
         }
         [target, equals, value] if equals.text == "=" => {
-            let value = parse_number(*value, NUMBER)?;
+            let value = parse_value(*value)?;
             Ok(Statement::Input(parse_target(*target)?, value))
         }
         _ => {
             let span = first.start..rest.last().map_or(first.span(), Word::span).end;
-            Err(Fault::new(span, "an input is `input name.port = value`"))
+            let fault = Fault::new(span, "an input is `input name.port = value`");
+            Err(fault.maybe(ranges::with_spaces(rest)))
         }
     }
 }
@@ -224,15 +226,12 @@ fn parse_cell<'t>(first: Word<'t>, rest: &[Word<'t>]) -> Result<Statement<'t>, F
                 let text = format!("`{number}` is not {what}");
                 return Err(Fault::new(cell.span(), text));
             }
-            Ok(Statement::Cell(
-                i32::from(number),
-                parse_number(*value, NUMBER)?,
-            ))
+            Ok(Statement::Cell(i32::from(number), parse_value(*value)?))
         }
         _ => {
             let span = first.start..rest.last().map_or(first.span(), Word::span).end;
             let text = "a cell is loaded by `cell number = value`";
-            Err(Fault::new(span, text))
+            Err(Fault::new(span, text).maybe(ranges::with_spaces(rest)))
         }
     }
 }
@@ -346,10 +345,14 @@ fn parse_constant(
     match (operation.constant, words) {
         (Constant::Unused, []) => Ok((operation, 0)),
         (Constant::Unused, [word]) if is_arithmetic(&operation) => {
-            let constant = parse_number(*word, NUMBER).map_err(|fault| fault.maybe(arrow()))?;
+            let hint = || ranges::as_constant(word.text).or_else(arrow);
+            let constant = parse_number(*word, NUMBER).map_err(|fault| fault.maybe(hint()))?;
             Ok((with_constant(operation), constant))
         }
-        (Constant::Value, [word]) => Ok((operation, parse_number(*word, NUMBER)?)),
+        (Constant::Value, [word]) => {
+            let hint = |fault: Fault| fault.maybe(ranges::as_constant(word.text));
+            Ok((operation, parse_number(*word, NUMBER).map_err(hint)?))
+        }
         (Constant::Site, [site, word]) if site.text == "site" => {
             let site = parse_byte(*word, 1, "a site, 1 to 255")?;
             Ok((operation, site))

@@ -4,7 +4,8 @@ use crate::arrays::MOST_CELLS;
 use crate::errors::Fault;
 use crate::hints;
 use crate::operations::Operation;
-use crate::parse::{check_name, parse_bytes, parse_number, NUMBER};
+use crate::parse::{check_name, parse_bytes, parse_number};
+use crate::ranges::{self, parse_value};
 use crate::statement::{Element, Extent, Statement};
 use crate::words::{span_of, Word};
 
@@ -60,7 +61,7 @@ fn length_in_brackets(rest: &[Word]) -> Option<String> {
 /// `name[index] = value`.
 pub fn parse_load<'t>(first: Word<'t>, rest: &[Word<'t>]) -> Result<Statement<'t>, Fault> {
     let span = first.start..rest.last().map_or(first.span(), Word::span).end;
-    let form = || Fault::new(span.clone(), ELEMENT_FORM);
+    let form = || Fault::new(span.clone(), ELEMENT_FORM).maybe(ranges::with_spaces(rest));
     let [equals, value] = rest else {
         return Err(form());
     };
@@ -73,7 +74,7 @@ pub fn parse_load<'t>(first: Word<'t>, rest: &[Word<'t>]) -> Result<Statement<'t
         index: parse_number(first.part(open + 1, end - 1), "an index")?,
         word: first,
     };
-    Ok(Statement::Element(element, parse_number(*value, NUMBER)?))
+    Ok(Statement::Element(element, parse_value(*value)?))
 }
 
 /// The array of a line with a fault, as far as it can be told.

@@ -3,6 +3,7 @@
 use crate::assemble::Place;
 use crate::errors::Span;
 use crate::operations::Operation;
+use crate::ranges::Value;
 use crate::words::Word;
 use crate::{ARRAY_RECORD, GRAPH_RECORD, TOKEN_RECORD};
 
@@ -48,13 +49,13 @@ pub enum Statement<'t> {
     Typed(Typed<'t>),
     /// A graph record in bytes.
     Raw([u8; GRAPH_RECORD]),
-    Input(Target<'t>, i32),
+    Input(Target<'t>, Value),
     /// An input record in bytes.
     RawInput([u8; TOKEN_RECORD]),
     /// A cell and its value: a STORE and the two inputs that fire it.
-    Cell(i32, i32),
+    Cell(i32, Value),
     /// An element and its value: a STORE to its array and the two inputs that fire it.
-    Element(Element<'t>, i32),
+    Element(Element<'t>, Value),
     /// An array and the cells that it takes.
     Array(Word<'t>, Extent),
     /// An array and its record in bytes.

@@ -147,10 +147,46 @@ const ELEMENTS: [Case; 22] = [
     ("x: STORE 9a", 1, "9a", "`9a` is no name: letters, digits and _, no digit first", None),
 ];
 
+const INPUT: &str = "an input is `input name.port = value`";
+const RANGE: &str = "a range is `low..high`, both included";
+const ONLY: Option<&str> = Some("only `dayomlak ranges` takes one");
+
+/// Ranges with faults, and ranges where files are made, which have single values.
+#[rustfmt::skip]
+const RANGES: [Case; 26] = [
+    ("x: OUT\ninput x = 3..5", 2, "3..5", "`3..5` is a range", ONLY),
+    ("x: OUT\ninput x = 5..5", 2, "5..5", "`5..5` is a range", ONLY),
+    ("cell 3 = -9..-7", 1, "-9..-7", "`-9..-7` is a range", ONLY),
+    ("array a = 3\na[2] = 1..4", 2, "1..4", "`1..4` is a range", ONLY),
+    ("x: OUT\ninput x = 5..3", 2, "5..3", "`5..3` has its low end above its high end", Some("the low end stands first: `3..5`")),
+    ("cell 3 = 9..7", 1, "9..7", "`9..7` has its low end above its high end", Some("the low end stands first: `7..9`")),
+    ("array a = 3\na[2] = 0..-1", 2, "0..-1", "`0..-1` has its low end above its high end", Some("the low end stands first: `-1..0`")),
+    ("x: OUT\ninput x = ..5", 2, "..5", "`..5` lacks an end", Some(RANGE)),
+    ("x: OUT\ninput x = 3..", 2, "3..", "`3..` lacks an end", Some(RANGE)),
+    ("x: OUT\ninput x = 3..y", 2, "y", "`y` is not a signed number of 32 bits", None),
+    ("x: OUT\ninput x = 3..2147483648", 2, "2147483648", "`2147483648` is not a signed number of 32 bits", None),
+    ("x: OUT\ninput x = -2147483649..3", 2, "-2147483649", "`-2147483649` is not a signed number of 32 bits", None),
+    ("x: OUT\ninput x = 3 .. 5", 2, "input x = 3 .. 5", INPUT, Some("a range has no spaces: `3..5`")),
+    ("cell 3 = 7 ..9", 1, "cell 3 = 7 ..9", "a cell is loaded by `cell number = value`", Some("a range has no spaces: `7..9`")),
+    ("array a = 3\na[2] = 1.. 4", 2, "a[2] = 1.. 4", ELEMENT, Some("a range has no spaces: `1..4`")),
+    ("x: OUT\ninput x = 3...5", 2, ".5", "`.5` is not a signed number of 32 bits", Some("a range is `low..high`, both included: `3..5`")),
+    ("x: OUT\ninput x = 3..=5", 2, "input x = 3..=5", INPUT, Some("a range is `low..high`, both included: `3..5`")),
+    ("x: OUT\ninput x = 3…5", 2, "3…5", "`3…5` is not a signed number of 32 bits", Some("a range is `low..high`, both included: `3..5`")),
+    ("x: OUT\ninput x = 40±2", 2, "40±2", "`40±2` is not a signed number of 32 bits", Some("a range is `low..high`, both included: `38..42`")),
+    ("x: OUT\ninput x = 40 +/- 2", 2, "input x = 40 +/- 2", INPUT, Some("a range is `low..high`, both included: `38..42`")),
+    ("x: OUT\ninput x = 3-5", 2, "3-5", "`3-5` is not a signed number of 32 bits", Some("a range is `low..high`, both included: `3..5`")),
+    ("x: OUT\ninput x = 5-3", 2, "5-3", "`5-3` is not a signed number of 32 bits", None),
+    ("cell 3 = 3 to 5", 1, "cell 3 = 3 to 5", "a cell is loaded by `cell number = value`", Some("a range is `low..high`, both included: `3..5`")),
+    ("x: OUT\ninput x = 40±-2", 2, "40±-2", "`40±-2` is not a signed number of 32 bits", None),
+    ("x: CONST 3..5 -> x", 1, "3..5", "`3..5` is not a signed number of 32 bits", Some("a constant is one number; a range comes by `input name = 3..5`")),
+    ("x: ADD 3..5 -> x", 1, "3..5", "`3..5` is not a signed number of 32 bits", Some("a constant is one number; a range comes by `input name = 3..5`")),
+];
+
 #[test]
 fn each_error_has_its_place_and_its_hint() {
     let cases = OPERATIONS.into_iter().chain(CONSTANTS).chain(NAMES);
-    for (text, line, marked, message, hint) in cases.chain(ARRAYS).chain(ELEMENTS) {
+    let cases = cases.chain(ARRAYS).chain(ELEMENTS).chain(RANGES);
+    for (text, line, marked, message, hint) in cases {
         let errors = errors(text);
         assert_eq!(errors.len(), 1, "{text}: {errors:?}");
         let error = &errors[0];

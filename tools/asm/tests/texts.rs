@@ -121,6 +121,26 @@ fn a_cell_is_loaded_by_a_store() {
     assert!(assemble("cell: OUT\ninput cell.0 = 3\n").is_ok());
 }
 
+/// The files have the low ends, and every range is kept with its input and its place.
+#[test]
+fn ranges_beside_the_files() {
+    let text = "array a = 3\nx: ADD -> out\nout: OUT\ncell 7 = -9..-7\ninput x.0=3..5\ninput x.1 = 4\na[2] = -2147483648..2147483647\n";
+    let program = read(text).unwrap();
+    let lows = "array a = 3\nx: ADD -> out\nout: OUT\ncell 7 = -9\ninput x.0=3\ninput x.1 = 4\na[2] = -2147483648\n";
+    assert_eq!(program.files, assemble(lows).unwrap());
+    let ranges = program.ranges.iter();
+    let ranges: Vec<_> = ranges
+        .map(|r| (r.input, r.low, r.high, &text[r.span.clone()]))
+        .collect();
+    let expected = [
+        (1, -9, -7, "-9..-7"),
+        (2, 3, 5, "3..5"),
+        (5, i32::MIN, i32::MAX, "-2147483648..2147483647"),
+    ];
+    assert_eq!(ranges, expected);
+    assert_eq!(read(lows).unwrap().ranges, []);
+}
+
 /// Arrays take the cells behind those above them, unless a cell is typed, and name them by their numbers.
 #[test]
 fn arrays_and_their_elements() {

@@ -3,6 +3,7 @@
 use crate::graph::{Destination, Instruction, ENTER, LEAVE, NEXT, SWITCH};
 use crate::program::Program;
 use crate::records::{Tag, Token};
+use crate::value::Value;
 
 /// A port under a tag, which takes one token in a whole run.
 pub type Port = (Tag, u8);
@@ -12,7 +13,7 @@ pub struct Activity<'p> {
     pub tag: Tag,
     pub instruction: &'p Instruction,
     /// By port.
-    pub operands: Vec<i32>,
+    pub operands: Vec<Value>,
 }
 
 impl<'p> Activity<'p> {
@@ -42,7 +43,9 @@ impl<'p> Activity<'p> {
             }
             NEXT => arcs.map(|arc| Some(end(self.tag.next(), arc))).collect(),
             SWITCH => {
-                let taken = usize::from(self.operands.get(1) == Some(&0));
+                // A control that may be 0 or not is refused: of another one the low end decides.
+                let taken =
+                    usize::from(self.operands.get(1).is_some_and(|control| control.low == 0));
                 let side = |(side, arc)| (side == taken).then(|| end(self.tag, arc));
                 arcs.enumerate().map(side).collect()
             }

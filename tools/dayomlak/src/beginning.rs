@@ -97,6 +97,7 @@ impl Beginning {
             sizes: self.sizes,
             bound: self.bound,
             start: self.saved.as_ref().map(|saved| &saved.state),
+            ranged: false,
         }
     }
 

@@ -27,6 +27,8 @@ pub struct Cli {
 pub enum Command {
     /// Run a graph: the answer, results, waiting tokens and cells
     Run(Run),
+    /// Run a graph whose inputs are known only between limits, such as 3..5
+    Ranges(Ranges),
     /// Carry on with a run that was saved
     CarryOn(CarryOn),
     /// What stands where in a saved run: answer, enabled activities, tokens, cells
@@ -78,6 +80,7 @@ impl Command {
     pub fn scripted(&self) -> Option<(&'static str, &str)> {
         let (name, script, file) = match self {
             Command::Run(args) => ("run", &args.script, args.file.file.as_str()),
+            Command::Ranges(args) => ("ranges", &args.script, args.file.file.as_str()),
             Command::CarryOn(args) => ("carry-on", &args.script, args.file.as_str()),
             Command::Show(args) => ("show", &args.script, args.file.as_str()),
             Command::Check(args) => ("check", &args.script, args.file.file.as_str()),
@@ -103,6 +106,7 @@ impl Command {
         let from_inputs = "of a run from its inputs";
         let (name, why) = match self {
             Command::Run(_) => ("run", "`dayomlak carry-on` goes on from it".to_string()),
+            Command::Ranges(_) => ("ranges", format!("ranges are {from_inputs}")),
             Command::Profile(_) => ("profile", format!("a profile is {from_inputs}")),
             Command::Timeline(_) => ("timeline", format!("a timeline is {from_inputs}")),
             Command::Log(_) => ("log", format!("a log is {from_inputs}")),
@@ -284,6 +288,39 @@ pub struct Run {
     /// Print the listing, byte for byte as the program ttda does
     #[arg(long, conflicts_with = "json")]
     pub listing: bool,
+}
+
+#[derive(Debug, Args)]
+#[command(
+    after_help = "A range is typed as `input x.0 = 3..5`, `cell 3 = 7..9` or `a[2] = 1..4`, both ends included. If the run completes or \
+    hangs, so does the plain run of every choice of inputs within their ranges, with as many firings, and every value lies \
+    in the range that is shown for it.\n\nTry: dayomlak ranges speed.ttda --sample 1000 -o speed.svg"
+)]
+pub struct Ranges {
+    #[command(flatten)]
+    pub file: File,
+    #[command(flatten)]
+    pub script: Script,
+    #[command(flatten)]
+    pub firing: Firing,
+    #[command(flatten)]
+    pub buffers: Buffers,
+    #[command(flatten)]
+    pub sampling: Sampling,
+    /// Where a picture of the samples beside their ranges goes: X.svg, X.png or X.pdf
+    #[arg(short, value_name = "X.svg", requires = "sample")]
+    pub output: Option<PathBuf>,
+}
+
+#[derive(Debug, Args)]
+pub struct Sampling {
+    /// Make so many plain runs too, 1 to 100000, their inputs chosen at random within their ranges, and compare each with
+    /// what is promised
+    #[arg(long, value_name = "N", value_parser = clap::value_parser!(u32).range(1..=100_000))]
+    pub sample: Option<u32>,
+    /// Which random inputs these are
+    #[arg(long, value_name = "SEED", default_value_t = 1, requires = "sample")]
+    pub seed: u64,
 }
 
 #[derive(Debug, Args)]

@@ -2,6 +2,7 @@
 
 use crate::history::{Firing, History, Touch};
 use crate::program::Program;
+use crate::value::Value;
 
 /// The values of its operands, by port.
 pub fn operands(history: &History, firing: &Firing) -> String {
@@ -37,7 +38,7 @@ pub fn of(program: &Program, history: &History, firing: &Firing) -> String {
             let value = firing
                 .operands
                 .get(1)
-                .map_or(0, |place| history.tokens[*place].value);
+                .map_or(Value::of(0), |place| history.tokens[*place].value);
             parts.push(format!("{} := {value}", touched(cell)));
             if !woken.is_empty() {
                 parts.push(format!("wakes {}", names(&mut woken.iter().copied())));

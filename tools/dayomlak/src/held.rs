@@ -12,6 +12,7 @@ use crate::program::Program;
 use crate::records::{State, Tag, Token};
 use crate::results;
 use crate::saved::view::{self, View};
+use crate::value::Value;
 
 /// So many tokens are named.
 const SHOWN: usize = 4;
@@ -30,7 +31,7 @@ pub struct Held {
 
 impl Held {
     /// The activity with its operand and what holds it, each with its line of the text.
-    pub fn line(&self, program: &Program, operand: i32) -> String {
+    pub fn line(&self, program: &Program, operand: Value) -> String {
         let name = at_line(program, &program.tag(&self.tag), self.tag.instruction);
         let by = listed(self.by.iter().map(|token| {
             let name = program.port(&token.tag, token.port);
@@ -201,7 +202,7 @@ pub fn explain(machine: &Machine, end: &End) -> Option<Finding> {
 fn holds(program: &Program, token: &Token) -> String {
     let name = program.port(&token.tag, token.port);
     match token.state {
-        State::Deferred => format!("`{name}` waits for {}", program.cell(token.value)),
+        State::Deferred => format!("`{name}` waits for {}", program.cell(token.value.low)),
         _ => format!("`{name}` waits for its partner"),
     }
 }
@@ -240,7 +241,7 @@ mod tests {
         let token = |tag| Token {
             tag,
             port: 0,
-            value: 1,
+            value: Value::of(1),
             state: State::Live,
         };
         let next = token(tag(next.0, next.1, 0));

@@ -79,7 +79,11 @@ impl Cells {
         }
         let tokens = records::tokens(&state.ledger).into_iter().enumerate();
         for (place, token) in tokens.filter(|(_, t)| t.state == State::Deferred) {
-            cells.waiting.entry(token.value).or_default().push(place);
+            cells
+                .waiting
+                .entry(token.value.low)
+                .or_default()
+                .push(place);
         }
         cells
     }
@@ -140,7 +144,7 @@ fn firings(
             .collect::<Option<_>>()?;
         let outputs = used..used + instruction.outputs();
         used = outputs.end;
-        let operand = tokens[*operands.first()?].value;
+        let operand = tokens[*operands.first()?].value.low;
         let touch = cells.touch(instruction, operand, &outputs);
         firings.push(Firing {
             tag: *tag,

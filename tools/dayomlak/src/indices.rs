@@ -40,10 +40,11 @@ pub fn of_inputs(program: &Program) -> Found {
     let mut found = Vec::new();
     for (place, input) in records::tokens(&program.files.inputs).iter().enumerate() {
         let number = input.tag.instruction;
-        let Some(instruction) = program.graph.get(number).filter(|_| input.port == 0) else {
+        let is_index = input.port == 0 && program.range(place).is_none();
+        let Some(instruction) = program.graph.get(number).filter(|_| is_index) else {
             continue;
         };
-        if let Some(finding) = outside(program, number, instruction, input.value) {
+        if let Some(finding) = outside(program, number, instruction, input.value.low) {
             let finding = finding.at(program.input_span(place), "the index");
             found.push((number.into(), finding));
         }

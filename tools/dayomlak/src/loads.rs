@@ -26,8 +26,8 @@ impl Loads {
             if let (true, Some((operand, value)), None) =
                 (only && !fed.contains(&number), sent.next(), sent.next())
             {
-                let cell = instruction.cell(operand.value);
-                cells.extend(cell.map(|cell| (number, (cell, value.value))));
+                let cell = instruction.cell(operand.value.low);
+                cells.extend(cell.map(|cell| (number, (cell, value.value.low))));
             }
         }
         Loads { cells }

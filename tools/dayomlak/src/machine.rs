@@ -8,7 +8,10 @@ use crate::failure::Failure;
 use crate::orders::Order;
 use crate::pictures;
 use crate::program::Program;
-use crate::records::{self, Cell, Tag, Token, CELL, LOGGED, MOST_CELLS, MOST_RECORDS, TOKEN};
+use crate::ranges;
+use crate::records::{
+    self, Cell, Tag, Token, CELL, LOGGED, MOST_CELLS, MOST_RECORDS, RANGE_CELL, RANGE_TOKEN, TOKEN,
+};
 use crate::saved::State;
 
 /// The budget that no run exceeds: firings never exceed tokens.
@@ -38,6 +41,8 @@ pub struct End {
     /// The used records, in order of arrival.
     ledger: Vec<u8>,
     cells: Vec<u8>,
+    /// Whether the records are those of a run of ranges.
+    pub ranged: bool,
 }
 
 impl End {
@@ -46,6 +51,15 @@ impl End {
             answer,
             ledger,
             cells,
+            ranged: false,
+        }
+    }
+
+    /// Of a run of ranges.
+    pub fn of_ranges(answer: Answer, ledger: Vec<u8>, cells: Vec<u8>) -> End {
+        End {
+            ranged: true,
+            ..End::of(answer, ledger, cells)
         }
     }
 
@@ -56,14 +70,30 @@ impl End {
 
     /// The tokens in order of arrival.
     pub fn tokens(&self) -> Vec<Token> {
-        records::tokens(&self.ledger)
+        match self.ranged {
+            true => records::range_tokens(&self.ledger),
+            false => records::tokens(&self.ledger),
+        }
     }
 
     pub fn cells(&self) -> Vec<Cell> {
-        records::cells(&self.cells)
+        match self.ranged {
+            true => records::range_cells(&self.cells),
+            false => records::cells(&self.cells),
+        }
     }
 
-    /// The sorted records of the tokens.
+    /// The tokens in the order of the listing: by path, iteration, instruction and port. The engine lists plain records only.
+    pub fn listed(&self) -> Vec<Token> {
+        if !self.ranged {
+            return records::tokens(&self.listing());
+        }
+        let mut tokens = self.tokens();
+        tokens.sort_by_key(|token| (token.tag, token.port));
+        tokens
+    }
+
+    /// The sorted records of the tokens, of a plain run.
     pub fn listing(&self) -> Vec<u8> {
         let mut listing = vec![0; self.ledger.len()];
         ttda::list(&self.ledger, &mut listing);
@@ -105,6 +135,8 @@ pub struct Machine<'p> {
     pub bound: u16,
     /// What runs go on from; without it they begin at the inputs.
     pub start: Option<&'p State>,
+    /// Whether runs are of ranges. All else that is asked of it is of the low ends.
+    pub ranged: bool,
 }
 
 impl<'p> Machine<'p> {
@@ -114,7 +146,13 @@ impl<'p> Machine<'p> {
             sizes,
             bound: 0,
             start: None,
+            ranged: false,
         }
+    }
+
+    /// The same for runs of ranges, or for plain ones, of the low ends.
+    pub fn ranged(self, ranged: bool) -> Machine<'p> {
+        Machine { ranged, ..self }
     }
 
     /// The same with a loop bound, 0 for none.
@@ -144,11 +182,39 @@ impl<'p> Machine<'p> {
         if let Some(state) = self.start {
             return self.carry_on(state, picks, budget);
         }
-        let (graph, arrays, inputs) = self.lent();
+        match self.ranged {
+            true => self.run_ranges(picks, budget),
+            false => self.run_inputs(&self.program.files.inputs, picks, budget),
+        }
+    }
+
+    /// A plain run with these inputs in the place of the program's own.
+    pub fn run_inputs(&self, inputs: &[u8], picks: &[u8], budget: u16) -> End {
+        let (graph, arrays, _) = self.lent();
         let bound = self.bound;
         self.call(|ledger, cells| {
             ttda::run(graph, arrays, inputs, picks, budget, bound, ledger, cells)
         })
+    }
+
+    fn run_ranges(&self, picks: &[u8], budget: u16) -> End {
+        let (graph, arrays, _) = self.lent();
+        let inputs = self.program.range_inputs();
+        let mut ledger = vec![0; RANGE_TOKEN * self.sizes.capacity];
+        let mut cells = vec![0; RANGE_CELL * self.sizes.cells];
+        let answer = ranges::run::run_ranges(
+            graph,
+            arrays,
+            &inputs,
+            picks,
+            budget,
+            self.bound,
+            &mut ledger,
+            &mut cells,
+        );
+        let answer = Answer::of(answer.0);
+        ledger.truncate(RANGE_TOKEN * answer.tokens);
+        End::of_ranges(answer, ledger, cells)
     }
 
     /// Goes on from a state. Budget and picks are those of this part.

@@ -1,4 +1,4 @@
-//! `dayomlak`: the tagged-token dataflow machine for the people who use it. Every firing, listing, profile, log and bound
+//! `dayomlak`: the tagged-token dataflow machine for the people who use it. Every firing, range, listing, profile, log and bound
 //! that it shows is the proved engine's; what is here reads text, chooses picks, names, draws and explains.
 
 mod activity;
@@ -32,6 +32,8 @@ mod output;
 mod pictures;
 mod profiles;
 mod program;
+mod random;
+mod ranges;
 mod records;
 mod refusals;
 mod refused;
@@ -44,6 +46,7 @@ mod sources;
 mod step;
 mod studio;
 mod timeline;
+mod value;
 mod walk;
 mod warnings;
 
@@ -59,6 +62,7 @@ use failure::{Failure, Faults};
 fn done(command: &Command) -> Result<u8, Failure> {
     match command {
         Command::Run(args) => commands::run::run(args),
+        Command::Ranges(args) => commands::ranges::ranges(args),
         Command::CarryOn(args) => commands::run::carry_on(args),
         Command::Show(args) => commands::show::show(args),
         Command::Check(args) => commands::check::check(args),

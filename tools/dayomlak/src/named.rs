@@ -10,6 +10,7 @@ use crate::diagnostics::Finding;
 use crate::failure::Failure;
 use crate::log_file;
 use crate::machine::Machine;
+use crate::orders;
 use crate::program;
 use crate::results;
 use crate::saved;
@@ -45,7 +46,9 @@ pub fn picks(
     text: &str,
     order: &[Named],
 ) -> Result<Vec<u16>, Failure> {
-    let mut walk = Walk::new(machine)?;
+    // A run of ranges and the run of their low ends go in step, as far as the former goes.
+    let lows = machine.ranged(false);
+    let mut walk = Walk::new(&lows)?;
     let mut picks = Vec::new();
     for (number, named) in (1..).zip(order).skip(machine.given().0) {
         if let Word::Refused(_) = walk.end.answer.word {
@@ -53,6 +56,9 @@ pub fn picks(
         }
         let names = walk.names();
         let Some(pick) = names.iter().position(|name| *name == named.name) else {
+            if machine.ranged && is_refused(machine, &picks) {
+                break;
+            }
             let finding = not_enabled(&walk, names, number, named, order);
             return Err(Failure::faulty(label, text, vec![finding]));
         };
@@ -60,6 +66,13 @@ pub fn picks(
         picks.push(pick as u16);
     }
     Ok(picks)
+}
+
+/// Whether a run by these picks is refused.
+fn is_refused(machine: &Machine, picks: &[u16]) -> bool {
+    let bytes = orders::bytes(picks.iter().copied());
+    let end = machine.run(&bytes, picks.len() as u16);
+    matches!(end.answer.word, Word::Refused(_))
 }
 
 /// Whether the instruction of an activity is there, whatever its iteration and calls.

@@ -9,6 +9,7 @@ use ttda::widths::PICK;
 use crate::failure::Failure;
 use crate::machine::Machine;
 use crate::program::Program;
+use crate::random::Random;
 use crate::records::MOST_RECORDS;
 use crate::sources::Source;
 use crate::{named, newest};
@@ -102,7 +103,8 @@ impl Order {
                 Ok(bytes(picks.into_iter()))
             }
             (Order::Typed, _) => Ok(rest(&machine.program.files.picks)),
-            (Order::Newest, None) => newest::picks(machine),
+            // A run of ranges goes in step with that of their low ends.
+            (Order::Newest, None) => newest::picks(&machine.ranged(false)),
             (Order::Newest, Some(state)) => newest::picks_from(machine, state),
             (Order::Random(seed), _) => Ok(rest(&random(*seed))),
             (Order::Picks(picks), _) => Ok(rest(&bytes(picks.iter().copied()))),
@@ -155,16 +157,10 @@ pub fn bytes(picks: impl Iterator<Item = u16>) -> Vec<u8> {
     picks.flat_map(u16::to_le_bytes).collect()
 }
 
-/// As many random picks as a run can use (splitmix64).
+/// As many random picks as a run can use.
 fn random(seed: u64) -> Vec<u8> {
-    let mut state = seed;
-    let picks = std::iter::repeat_with(|| {
-        state = state.wrapping_add(0x9e37_79b9_7f4a_7c15);
-        let mut word = state;
-        word = (word ^ (word >> 30)).wrapping_mul(0xbf58_476d_1ce4_e5b9);
-        word = (word ^ (word >> 27)).wrapping_mul(0x94d0_49bb_1331_11eb);
-        (word ^ (word >> 31)) as u16
-    });
+    let mut random = Random::new(seed);
+    let picks = std::iter::repeat_with(|| random.word() as u16);
     bytes(picks.take(MOST_RECORDS))
 }
 

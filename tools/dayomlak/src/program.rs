@@ -4,7 +4,7 @@ use std::fs;
 use std::io::{self, Read};
 use std::path::{Path, PathBuf};
 
-use asm::{disassemble, read, Files, Named, Place, Span};
+use asm::{disassemble, read, Files, Named, Place, RangedInput, Span, TOKEN_RECORD};
 
 use crate::arrays::Arrays;
 use crate::diagnostics::Finding;
@@ -14,7 +14,7 @@ use crate::machine::{Machine, Sizes};
 use crate::orders::Order;
 use crate::records::Tag;
 use crate::sources::Source;
-use crate::{log_file, named, orders, saved};
+use crate::{log_file, named, orders, ranges, saved};
 
 /// The files of a folder.
 const FILES: [&str; 4] = ["graph", "arrays", "inputs", "picks"];
@@ -36,6 +36,8 @@ pub struct Program {
     pub sources: Vec<Source>,
     /// Its order by names, which its picks come from; empty where it has none.
     pub order: Vec<Named>,
+    /// The inputs that are known only between limits; its files have the low end of each. Only `dayomlak ranges` has any.
+    pub ranges: Vec<RangedInput>,
     instructions: Vec<asm::Instruction>,
     inputs: Vec<Place>,
 }
@@ -43,6 +45,18 @@ pub struct Program {
 impl Program {
     /// Loads what a command is given.
     pub fn load(file: &str) -> Result<Program, Failure> {
+        Program::load_by(file, Program::typed)
+    }
+
+    /// Loads what a command is given that takes ranges.
+    pub fn load_ranges(file: &str) -> Result<Program, Failure> {
+        Program::load_by(file, Program::typed_ranges)
+    }
+
+    fn load_by(
+        file: &str,
+        typed: fn(&str, Vec<u8>) -> Result<Program, Failure>,
+    ) -> Result<Program, Failure> {
         let path = Path::new(file);
         if path.is_dir() {
             let program = Program::folder(file, files(path)?);
@@ -53,7 +67,7 @@ impl Program {
             return Ok(program.read_from(FILES.iter().filter_map(source)));
         }
         let (bytes, source) = bytes(file, "the graph itself")?;
-        Ok(Program::typed(label(file), bytes)?.read_from(source))
+        Ok(typed(label(file), bytes)?.read_from(source))
     }
 
     fn read_from(mut self, sources: impl IntoIterator<Item = Source>) -> Program {
@@ -61,8 +75,18 @@ impl Program {
         self
     }
 
-    /// A typed graph.
+    /// A typed graph, whose inputs are single values.
     pub fn typed(label: &str, bytes: Vec<u8>) -> Result<Program, Failure> {
+        Program::parsed(label, bytes)?.single_values()?.ordered()
+    }
+
+    /// A typed graph, whose inputs may be ranges.
+    pub fn typed_ranges(label: &str, bytes: Vec<u8>) -> Result<Program, Failure> {
+        Program::parsed(label, bytes)?.ordered()
+    }
+
+    /// A typed graph, without the picks of its order.
+    fn parsed(label: &str, bytes: Vec<u8>) -> Result<Program, Failure> {
         if bytes.starts_with(log_file::START.as_bytes()) {
             let text = format!("{label} is a log\n  `dayomlak replay` takes it behind its graph");
             return Err(Failure::Wrong(text));
@@ -75,7 +99,7 @@ impl Program {
             return Err(Failure::faulty(label, text, vec![finding]));
         }
         match read(&text) {
-            Ok(typed) => Program::new(label, text, typed).ordered(),
+            Ok(typed) => Ok(Program::new(label, text, typed)),
             Err(errors) => {
                 let findings = errors.0.into_iter().map(Finding::from).collect();
                 Err(Failure::faulty(label, text, findings))
@@ -83,11 +107,20 @@ impl Program {
         }
     }
 
+    /// Refuses ranges: what is not `dayomlak ranges` would show the run of their low ends alone.
+    fn single_values(self) -> Result<Program, Failure> {
+        let findings = ranges::findings(&self);
+        match findings.is_empty() {
+            true => Ok(self),
+            false => Err(Failure::faulty(&self.label, self.text, findings)),
+        }
+    }
+
     /// With the picks of its order. Where the largest buffers refuse nothing, smaller ones refuse a firing at most, and
     /// behind that one no pick is used.
     fn ordered(mut self) -> Result<Program, Failure> {
         if !self.order.is_empty() {
-            let machine = Machine::new(&self, Sizes::default());
+            let machine = Machine::new(&self, Sizes::default()).ranged(!self.ranges.is_empty());
             let picks = named::picks(&machine, &self.label, &self.text, &self.order)?;
             self.files.picks = orders::bytes(picks.into_iter());
         }
@@ -113,6 +146,7 @@ impl Program {
             files: typed.files,
             sources: Vec::new(),
             order: typed.order,
+            ranges: typed.ranges,
             instructions: typed.instructions,
             inputs: typed.inputs,
         }
@@ -211,7 +245,26 @@ impl Program {
     }
 
     pub fn input_count(&self) -> usize {
-        self.files.inputs.len() / asm::TOKEN_RECORD
+        self.files.inputs.len() / TOKEN_RECORD
+    }
+
+    /// The range of an input, where it is typed as one.
+    pub fn range(&self, input: usize) -> Option<&RangedInput> {
+        self.ranges.iter().find(|range| range.input == input)
+    }
+
+    /// The inputs as a run of ranges takes them: behind each record its high value. What is not whole stays so.
+    pub fn range_inputs(&self) -> Vec<u8> {
+        let records = self.files.inputs.chunks(TOKEN_RECORD).enumerate();
+        let record = |(number, record): (usize, &[u8])| {
+            let mut bytes = record.to_vec();
+            if let (TOKEN_RECORD, Some(low)) = (record.len(), record.get(20..24)) {
+                let high = self.range(number).map(|range| range.high.to_le_bytes());
+                bytes.extend(high.as_ref().map_or(low, |high| high));
+            }
+            bytes
+        };
+        records.flat_map(record).collect()
     }
 }
 

@@ -2,6 +2,12 @@
 
 pub use ttda::widths::{CELL, LOGGED, MOST_CELLS, MOST_RECORDS, TOKEN};
 
+use crate::value::Value;
+
+/// Bytes of a token and of a cell in a run of ranges: the high value stands behind a plain record of the low one.
+pub const RANGE_TOKEN: usize = TOKEN + 4;
+pub const RANGE_CELL: usize = CELL + 4;
+
 /// What an activity is named by.
 #[derive(Clone, Copy, Debug, PartialEq, Eq, PartialOrd, Ord, Hash)]
 pub struct Tag {
@@ -83,7 +89,7 @@ pub struct Token {
     pub tag: Tag,
     pub port: u8,
     /// The cell that it waits for, where it is deferred.
-    pub value: i32,
+    pub value: Value,
     pub state: State,
 }
 
@@ -92,7 +98,7 @@ impl Token {
         Token {
             tag: Tag::of(record),
             port: record[17],
-            value: i32::from_le_bytes(bytes(record, 20)),
+            value: value(record, 20, TOKEN),
             state: match record[24] {
                 0 => State::Live,
                 1 => State::Spent,
@@ -106,7 +112,17 @@ impl Token {
 pub enum Cell {
     Absent,
     Waiting,
-    Present(i32),
+    Present(Value),
+}
+
+impl Cell {
+    fn of(record: &[u8]) -> Cell {
+        match record[4] {
+            1 => Cell::Waiting,
+            2 => Cell::Present(value(record, 0, CELL)),
+            _ => Cell::Absent,
+        }
+    }
 }
 
 pub fn tokens(ledger: &[u8]) -> Vec<Token> {
@@ -114,12 +130,27 @@ pub fn tokens(ledger: &[u8]) -> Vec<Token> {
 }
 
 pub fn cells(records: &[u8]) -> Vec<Cell> {
-    let cell = |record: &[u8]| match record[4] {
-        1 => Cell::Waiting,
-        2 => Cell::Present(i32::from_le_bytes(bytes(record, 0))),
-        _ => Cell::Absent,
+    records.chunks_exact(CELL).map(Cell::of).collect()
+}
+
+/// The tokens of a run of ranges.
+pub fn range_tokens(ledger: &[u8]) -> Vec<Token> {
+    ledger.chunks_exact(RANGE_TOKEN).map(Token::of).collect()
+}
+
+/// The cells of a run of ranges.
+pub fn range_cells(records: &[u8]) -> Vec<Cell> {
+    records.chunks_exact(RANGE_CELL).map(Cell::of).collect()
+}
+
+/// The number at a place of a record; of a range, up to the one that stands behind the plain record.
+fn value(record: &[u8], at: usize, plain: usize) -> Value {
+    let low = i32::from_le_bytes(bytes(record, at));
+    let high = match record.len() {
+        length if length == plain => low,
+        _ => i32::from_le_bytes(bytes(record, plain)),
     };
-    records.chunks_exact(CELL).map(cell).collect()
+    Value { low, high }
 }
 
 /// The bytes of a number at a place of a record.
@@ -170,10 +201,21 @@ mod tests {
                 instruction: 260,
             },
             port: 1,
-            value: -2,
+            value: Value::of(-2),
             state: State::Deferred,
         };
         assert_eq!(tokens(&record), [token]);
         assert_eq!(Tag::of(&record), token.tag);
+        record.extend(300i32.to_le_bytes());
+        let value = Value { low: -2, high: 300 };
+        assert_eq!(range_tokens(&record), [Token { value, ..token }]);
+    }
+
+    #[test]
+    fn a_cell_record() {
+        let record = [0xfe, 0xff, 0xff, 0xff, 2, 0, 0, 0, 44, 1, 0, 0];
+        assert_eq!(cells(&record[..8]), [Cell::Present(Value::of(-2))]);
+        let value = Value { low: -2, high: 300 };
+        assert_eq!(range_cells(&record), [Cell::Present(value)]);
     }
 }

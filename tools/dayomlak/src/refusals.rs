@@ -23,7 +23,7 @@ const fn refusal(
 }
 
 #[rustfmt::skip]
-pub const TABLE: [Refusal; 23] = [
+pub const TABLE: [Refusal; 24] = [
     refusal(1, "graph length",
         "The graph has no instruction, more than 256, or its file is not in whole records of 16 bytes.",
         "Give 1 to 256 instructions."),
@@ -92,6 +92,10 @@ pub const TABLE: [Refusal; 23] = [
         "An array has a cell past the cells, there are more than 64 arrays, or their file is not in whole records of 4 bytes; \
          or FETCH or STORE names an array that is not in the table.",
         "Let every array end within the cells; --cells gives up to 1,024. Name arrays by lines such as `array a = 8`."),
+    refusal(23, "undecided",
+        "In a run of ranges: the control of a SWITCH may be 0 or not, or the cell number or index of a FETCH or STORE is not a single \
+         value; or an input has its low end above its high end.",
+        "Narrow the inputs that it comes from, or run each part of their ranges by itself, so that it is decided in each."),
     refusal(24, "damaged state",
         "Ledger, cells and counts do not meet the conditions for a saved state of this graph: fields and states allowed, a tag and port \
          once, paths of sites that have an ENTER, a tag's operands all spent or none, no result spent, each deferred token at a cell, \

@@ -3,14 +3,17 @@
 use asm::{ARRAY_RECORD, MOST_ARRAYS};
 use ttda::widths::{MOST_INSTRUCTIONS, PICK};
 
-use crate::activity::Activity;
+use crate::activity::{Activity, Port};
 use crate::answer::{count, Answer, Word};
 use crate::arrays::Array;
 use crate::diagnostics::Finding;
 use crate::graph::STORE;
 use crate::machine::{End, Sizes};
 use crate::program::Program;
+use crate::ranges::origins;
+use crate::ranges::undecided::Undecided;
 use crate::records::{self, State, Tag, Token, MOST_CELLS, MOST_RECORDS, TOKEN};
+use crate::value::Value;
 use crate::{forms, refusals, second_token};
 
 /// The finding of a refused run; `None` for another one.
@@ -69,6 +72,12 @@ fn at_once(program: &Program, number: u16, answer: &Answer, sizes: Sizes) -> Fin
                 count(sizes.capacity, "record")
             )),
         9 => second_input(program, place, finding),
+        23 => finding
+            .at(
+                program.input_span(place),
+                "its low end is above its high end",
+            )
+            .note(meaning),
         22 => bad_array(program, place, sizes, finding),
         // Which condition is broken, only the saved state says.
         24 => finding,
@@ -229,6 +238,9 @@ impl<'p> Refused<'p> {
             10 => {
                 "Look where the number comes from; --cells gives up to 1,024 cells, counted from 0."
             }
+            12 if self.is_for_a_range() => {
+                "Every outcome of the operands' ranges counts: narrow the inputs that they come from."
+            }
             12 if self.divides_by_zero() => "Guard the division by a SWITCH.",
             12 => "Values are -2,147,483,648 to 2,147,483,647; look where the operands come from.",
             number => refusals::by_number(number).map_or("", |refusal| refusal.what_to_do),
@@ -251,6 +263,10 @@ impl<'p> Refused<'p> {
         if self.number == 9 {
             return second_token::explain(finding, &self.activity, &self.tokens);
         }
+        if self.number == 23 {
+            let undecided = Undecided::of(&self.activity, &self.tokens);
+            return undecided.explain(finding).note(self.what_to_do());
+        }
         let here = self.program.span(self.activity.tag.instruction.into());
         let finding = finding.at(here, self.obstacle()).note(self.what_to_do());
         match (self.number, self.other_writer(), self.array()) {
@@ -258,6 +274,7 @@ impl<'p> Refused<'p> {
                 finding.also(self.program.span(writer.into()), "the first write")
             }
             (10, _, Some(array)) => finding.also(array.span.clone(), array.elements()),
+            (12, _, _) if self.is_for_a_range() => finding.note(self.origins()),
             _ => finding,
         }
     }
@@ -266,14 +283,15 @@ impl<'p> Refused<'p> {
     fn other_writer(&self) -> Option<u16> {
         let operand = self.activity.operands.first();
         let operand = operand.filter(|_| self.number == 11)?;
-        let cell = self.activity.instruction.cell(*operand)?;
+        let cell = self.activity.instruction.cell(operand.low)?;
         let writer = self.writer(cell)?.instruction;
         (writer != self.activity.tag.instruction).then_some(writer)
     }
 
     /// What stood in the way.
     fn obstacle(&self) -> String {
-        let first = self.activity.operands.first().copied().unwrap_or(0);
+        // Cells and indices are single values: 23 refuses others.
+        let first = self.activity.operands.first().map_or(0, |value| value.low);
         match self.number {
             8 => self.full(),
             10 => self.no_cell(first),
@@ -319,26 +337,51 @@ impl<'p> Refused<'p> {
         let graph = &self.program.graph;
         let wrote = |t: &&Token| {
             let store = graph.get(t.tag.instruction).filter(|i| i.code == STORE);
-            let written = store.and_then(|store| store.cell(t.value));
+            let written = store.and_then(|store| store.cell(t.value.low));
             t.state == State::Spent && t.port == 0 && written == Some(cell)
         };
         self.tokens.iter().find(wrote).map(|t| t.tag)
     }
 
     fn out_of_range(&self) -> String {
-        match self.divides_by_zero() {
-            true => "the divisor is 0".to_string(),
-            false => "the result does not fit in 32 signed bits".to_string(),
+        match self.divisor().filter(|divisor| divisor.contains(0)) {
+            Some(divisor) if divisor.is_single() => "the divisor is 0".to_string(),
+            Some(divisor) => format!("the divisor may be 0: it is {divisor}"),
+            None if self.is_for_a_range() => "a result may be past 32 signed bits".to_string(),
+            None => "the result does not fit in 32 signed bits".to_string(),
+        }
+    }
+
+    /// Whether it is refused for what its operands may be, and not for what they are.
+    fn is_for_a_range(&self) -> bool {
+        let mut operands = self.activity.operands.iter();
+        let has_range = operands.any(|operand| !operand.is_single());
+        has_range && self.divisor() != Some(Value::of(0))
+    }
+
+    /// The inputs that the operands' ranges come from.
+    fn origins(&self) -> String {
+        let tag = self.activity.tag;
+        let ports: Vec<Port> = (0..self.activity.instruction.operands())
+            .map(|port| (tag, port))
+            .collect();
+        let inputs = origins::of(self.program, &self.tokens, &ports);
+        format!(
+            "the ranges come from {}",
+            origins::words(self.program, &inputs)
+        )
+    }
+
+    fn divisor(&self) -> Option<Value> {
+        match self.activity.instruction.code {
+            19 | 20 => self.activity.operands.get(1).copied(),
+            35 | 36 => Some(Value::of(self.activity.instruction.constant)),
+            _ => None,
         }
     }
 
     fn divides_by_zero(&self) -> bool {
-        let divisor = match self.activity.instruction.code {
-            19 | 20 => self.activity.operands.get(1),
-            35 | 36 => Some(&self.activity.instruction.constant),
-            _ => None,
-        };
-        divisor == Some(&0)
+        self.divisor().is_some_and(|divisor| divisor.contains(0))
     }
 
     fn no_return(&self) -> String {

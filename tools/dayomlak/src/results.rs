@@ -6,7 +6,7 @@ use crate::held;
 use crate::loads::Loads;
 use crate::machine::{End, Machine};
 use crate::program::Program;
-use crate::records::{self, Cell, State, Token};
+use crate::records::{Cell, State, Token};
 
 /// So many iterations are named one by one.
 const SHOWN: usize = 8;
@@ -19,7 +19,7 @@ pub fn lines(machine: &Machine, end: &End) -> Vec<String> {
     if end.answer.refused_at_once() {
         return Vec::new();
     }
-    let tokens = records::tokens(&end.listing());
+    let tokens = end.listed();
     let left: Vec<&Token> = tokens.iter().filter(|t| t.state != State::Spent).collect();
     let results = left.iter().filter(|token| is_result(program, token));
     let mut lines: Vec<String> = results
@@ -72,7 +72,7 @@ fn waiting(program: &Program, token: &Token, tokens: &[Token]) -> String {
     let name = program.port(&token.tag, token.port);
     match token.state {
         State::Deferred => {
-            let cell = program.cell(token.value);
+            let cell = program.cell(token.value.low);
             format!("{name} waits for {cell}, which nothing wrote")
         }
         _ => {

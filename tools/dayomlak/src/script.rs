@@ -11,7 +11,8 @@ use crate::json::{list, maybe, object, string};
 use crate::machine::{End, Machine};
 use crate::output;
 use crate::program::{Program, STANDARD_INPUT};
-use crate::records::{self, Cell, State, Token};
+use crate::records::{Cell, State, Token};
+use crate::value::Value;
 use crate::{refusals, results, warnings};
 
 /// Changes where a field goes or gets another meaning, and not where one comes.
@@ -106,9 +107,9 @@ pub fn lent(machine: &Machine) -> Fields {
 }
 
 /// Activities that the bound holds back, each with the tokens that hold it.
-pub fn held(program: &Program, held: &[Held]) -> String {
+pub fn held(program: &Program, held: &[Held], ranged: bool) -> String {
     list(held.iter().map(|held| {
-        let by = held.by.iter().map(|holder| token(program, holder));
+        let by = held.by.iter().map(|holder| token(program, holder, ranged));
         object(&[
             ("name", string(&program.tag(&held.tag))),
             ("path", string(&held.tag.path.to_string())),
@@ -132,15 +133,15 @@ pub fn from(machine: &Machine) -> Option<(&'static str, String)> {
 
 /// Results, tokens that are neither results nor spent, and cells that are not absent.
 pub fn left(program: &Program, end: &End) -> Fields {
-    let tokens = records::tokens(&end.listing());
+    let (tokens, ranged) = (end.listed(), end.ranged);
     let unspent = tokens.iter().filter(|t| t.state != State::Spent);
     let (results, others): (Vec<&Token>, Vec<&Token>) =
         unspent.partition(|t| results::is_result(program, t));
-    let all = |tokens: Vec<&Token>| list(tokens.into_iter().map(|t| token(program, t)));
+    let all = |tokens: Vec<&Token>| list(tokens.into_iter().map(|t| token(program, t, ranged)));
     // What a run that did not begin was lent is nothing that it left.
     let begun = !end.answer.refused_at_once();
     let cells = (0..).zip(end.cells()).filter(|_| begun);
-    let cells = cells.filter_map(|(number, c)| cell(program, number, c));
+    let cells = cells.filter_map(|(number, c)| cell(program, number, c, ranged));
     vec![
         ("results", all(results)),
         ("left", all(others)),
@@ -149,39 +150,56 @@ pub fn left(program: &Program, end: &End) -> Fields {
 }
 
 /// A token. Paths have up to 128 bits, and so are strings.
-pub fn token(program: &Program, token: &Token) -> String {
-    object(&[
+pub fn token(program: &Program, token: &Token, ranged: bool) -> String {
+    let mut fields = vec![
         ("name", string(&program.port(&token.tag, token.port))),
         ("path", string(&token.tag.path.to_string())),
         ("iteration", token.tag.iteration.to_string()),
         ("instruction", token.tag.instruction.to_string()),
         ("port", token.port.to_string()),
-        ("value", token.value.to_string()),
-        ("state", string(token.state.word())),
-        ("waits_for", awaited(program, token)),
-    ])
+    ];
+    fields.extend(value(Some(token.value), ranged));
+    fields.push(("state", string(token.state.word())));
+    fields.push(("waits_for", awaited(program, token)));
+    object(&fields)
+}
+
+/// One number, or, in a run of ranges, both ends; null where there is none.
+fn value(value: Option<Value>, ranged: bool) -> Fields {
+    let number = |end: fn(Value) -> i32| {
+        let number = value.map(|value| end(value).to_string());
+        number.unwrap_or("null".to_string())
+    };
+    match ranged {
+        true => vec![
+            ("low", number(|value| value.low)),
+            ("high", number(|value| value.high)),
+        ],
+        false => vec![("value", number(|value| value.low))],
+    }
 }
 
 /// The name of the cell that a deferred token waits for.
 fn awaited(program: &Program, token: &Token) -> String {
     match token.state {
-        State::Deferred => string(&program.cell(token.value)),
+        State::Deferred => string(&program.cell(token.value.low)),
         State::Live | State::Spent => "null".to_string(),
     }
 }
 
-fn cell(program: &Program, number: i32, cell: Cell) -> Option<String> {
-    let (state, value) = match cell {
+fn cell(program: &Program, number: i32, cell: Cell, ranged: bool) -> Option<String> {
+    let (state, held) = match cell {
         Cell::Absent => return None,
-        Cell::Waiting => ("waiting", "null".to_string()),
-        Cell::Present(value) => ("present", value.to_string()),
+        Cell::Waiting => ("waiting", None),
+        Cell::Present(value) => ("present", Some(value)),
     };
-    Some(object(&[
+    let mut fields = vec![
         ("cell", number.to_string()),
         ("name", string(&program.cell(number))),
         ("state", string(state)),
-        ("value", value),
-    ]))
+    ];
+    fields.extend(value(held, ranged));
+    Some(object(&fields))
 }
 
 /// A message, with its line and column, counted from 1, if it has a place.

@@ -102,7 +102,7 @@ impl Meeting<'_> {
         let (tag, port) = &self.port;
         let name = self.program.port(tag, *port);
         let state = match first.state {
-            State::Deferred => format!("deferred on {}", self.program.cell(first.value)),
+            State::Deferred => format!("deferred on {}", self.program.cell(first.value.low)),
             state => format!("{}, {}", first.value, state.word()),
         };
         let words = format!("`{name}` had a token already: {state}");

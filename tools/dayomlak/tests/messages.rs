@@ -238,12 +238,12 @@ fn a_log_that_cannot_be_replayed() {
 
 #[test]
 fn every_number_is_explained() {
-    for number in (1..=14).chain(17..=22).chain(24..=26) {
+    for number in (1..=14).chain(17..=26) {
         let done = dayomlak(&["explain", &number.to_string()]);
         assert_eq!((done.status, &done.err[..]), (0, ""));
         expect(&format!("messages/explain-{number}"), &done);
     }
-    for number in ["0", "15", "16", "23", "100"] {
+    for number in ["0", "15", "16", "27", "100"] {
         assert_eq!(dayomlak(&["explain", number]).status, 2);
     }
 }

@@ -11,10 +11,11 @@ const CALL: &str = "examples/call/call.ttda";
 const READ: &str = "examples/deferred_read/deferred_read.ttda";
 const FAULTY: &str = "examples/past_next/past_next.ttda";
 const LATE: &str = "examples/late_entry/late_entry.ttda";
+const RANGES: &str = "examples/measurement/measurement.ranges";
 const CONSTANTS: &str = "examples/constants/constants.ttda";
 
 /// Every command with a graph, and the names that its output is stored by.
-const CALLS: [(&str, &[&str]); 19] = [
+const CALLS: [(&str, &[&str]); 21] = [
     ("run", &["run", CALL]),
     ("run-hung", &["run", READ, "--order", "newest"]),
     ("run-refused", &["run", FAULTY]),
@@ -22,6 +23,11 @@ const CALLS: [(&str, &[&str]); 19] = [
     (
         "run-held",
         &["run", LATE, "--order", "oldest", "--bound", "2"],
+    ),
+    ("ranges", &["ranges", RANGES]),
+    (
+        "ranges-samples",
+        &["ranges", RANGES, "--sample", "20", "--seed", "7"],
     ),
     ("check", &["check", FAULTY]),
     ("bounds", &["bounds", CONSTANTS]),
@@ -131,7 +137,9 @@ fn tables_of_values() {
 
 #[test]
 fn completion_and_manual_know_every_command() {
-    let commands = ["run", "compare", "report", "disasm", "explain", "bounds"];
+    let commands = [
+        "run", "ranges", "compare", "report", "disasm", "explain", "bounds",
+    ];
     for shell in ["bash", "zsh", "fish"] {
         let done = dayomlak(&["completion", shell]);
         assert_eq!(done.status, 0);

@@ -7,8 +7,9 @@ use std::process::Stdio;
 
 use common::{command, dayomlak, done, typed, Folder};
 
-const COMMANDS: [&str; 19] = [
+const COMMANDS: [&str; 20] = [
     "run",
+    "ranges",
     "carry-on",
     "show",
     "check",
@@ -71,6 +72,11 @@ fn wrong_command_lines() {
         &["run", "-", "--cells", "1025"],
         &["run", "-", "--budget", "65536"],
         &["log", "-"],
+        &["ranges", "-", "--seed", "3"],
+        &["ranges", "-", "--sample", "0"],
+        &["ranges", "-", "--sample", "100001"],
+        &["ranges", "-", "-o", "x.svg"],
+        &["ranges", "-", "--bound", "1"],
         &["carry-on"],
         &["carry-on", "x", "--capacity", "3"],
         &["show", "x", "--json", "--text"],

@@ -196,6 +196,13 @@ fn runs_and_pictures() {
     assert!(answer.body.contains("\"kind\":\"refused\""));
     let answer = studio.post("run", "- stop", "a: D -> o\n");
     assert!(answer.body.contains("\"run\":null") && answer.body.contains("\"from\":3,\"to\":4"));
+    let answer = studio.post("run", "- stop", "o: OUT\ninput o = 3..5\n");
+    assert!(answer.body.contains("\"run\":null") && answer.body.contains("`3..5` is a range"));
+    assert!(
+        answer.body.contains("\"from\":17,\"to\":21"),
+        "{}",
+        answer.body
+    );
     assert_eq!(studio.post("picture", "", "a: D -> o\n").status, 500);
     let answer = studio.post("picture", "", TEXT);
     assert!(answer.body.contains("COPY"), "{}", answer.body);

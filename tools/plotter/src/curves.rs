@@ -248,7 +248,7 @@ fn write(
 }
 
 /// A line in lines that have room, cut at spaces.
-fn wrapped(line: &str) -> Vec<String> {
+pub fn wrapped(line: &str) -> Vec<String> {
     let mut lines = vec![String::new()];
     for word in line.split(' ') {
         let last = lines.len() - 1;

@@ -149,7 +149,7 @@ fn said(
         .into_iter()
         .find(|t| usize::from(t.tag.instruction) == expression.parts.len());
     match (value.word(), end.answer.word, out) {
-        (Word::Completed, Word::Completed, Some(out)) if out.value == value.value() => {
+        (Word::Completed, Word::Completed, Some(out)) if out.value.low == value.value() => {
             let text = expression::one_line(&expression.text);
             let answer = answer(machine, end, "oldest first");
             Ok(format!("{text} = {}\n{answer}", out.value))
@@ -170,7 +170,7 @@ fn out_of_range(expression: &Expression, end: &End) -> Option<Finding> {
     let part = expression.part(tag.instruction.into())?;
     let operand = |port| {
         let token = tokens.iter().find(|t| t.tag == tag && t.port == port);
-        token.map(|token| token.value)
+        token.map(|token| token.value.low)
     };
     let (left, right) = (operand(0)?, operand(1)?);
     let Kind::Operation(operator, ..) = part.kind else {

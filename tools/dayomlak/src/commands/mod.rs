@@ -11,6 +11,7 @@ pub mod files;
 pub mod install;
 pub mod logs;
 pub mod profile;
+pub mod ranges;
 pub mod report;
 pub mod run;
 pub mod show;
@@ -86,7 +87,7 @@ fn ended(machine: &Machine, end: &End, order: &str) -> Fields {
         ("answer", script::answer(&end.answer)),
         ("refused", said(refused)),
         ("hung", said(held::explain(machine, end))),
-        ("held", script::held(program, &held)),
+        ("held", script::held(program, &held, end.ranged)),
     ];
     fields.extend(script::left(program, end));
     fields

@@ -43,7 +43,7 @@ fn fields(beginning: &Beginning, end: &End, view: &View) -> Fields {
     let machine = beginning.machine();
     let program = &beginning.program;
     let order = beginning.saved.as_ref().map_or("", |saved| &saved.order);
-    let tokens = |tokens: &[Token]| list(tokens.iter().map(|t| script::token(program, t)));
+    let tokens = |tokens: &[Token]| list(tokens.iter().map(|t| script::token(program, t, false)));
     let enabled = view.enabled.iter().map(|tag| {
         object(&[
             ("name", string(&program.tag(tag))),

@@ -122,7 +122,10 @@ fn json(program: &Program, history: &History, enabled: &Enabled, number: usize) 
             "enabled",
             list(enabled.names(number).iter().map(|name| string(name))),
         ),
-        ("held", script::held(program, &enabled.1[number].held)),
+        (
+            "held",
+            script::held(program, &enabled.1[number].held, false),
+        ),
     ])
 }
 

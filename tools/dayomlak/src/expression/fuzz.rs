@@ -234,7 +234,7 @@ fn out(graph: &[u8], inputs: &[u8], instruction: u16) -> Option<i32> {
     let out = tokens
         .into_iter()
         .find(|t| t.tag.instruction == instruction);
-    out.map(|token| token.value)
+    out.map(|token| token.value.low)
 }
 
 #[test]

@@ -282,7 +282,7 @@ impl<'d> Data<'d> {
     /// The destination that a SWITCH sent to: its control says so, also where both are one port.
     fn side(&self, firing: &Firing) -> usize {
         let control = firing.operands.get(1);
-        usize::from(control.is_some_and(|place| self.history.tokens[*place].value == 0))
+        usize::from(control.is_some_and(|place| self.history.tokens[*place].value.low == 0))
     }
 
     fn cells(&self) -> String {

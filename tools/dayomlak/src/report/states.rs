@@ -63,6 +63,7 @@ mod tests {
     use crate::machine::{Sizes, WHOLE};
     use crate::program::Program;
     use crate::records::State::{Deferred, Live, Spent};
+    use crate::value::Value;
 
     /// Oldest first, the read comes before the write.
     const TEXT: &str = "read: FETCH -> out\nout: OUT\nwrite: STORE\n\
@@ -84,13 +85,13 @@ mod tests {
         let states = states(WHOLE, &[]).unwrap();
         let token = |place: usize| {
             let changes = states.tokens[place].iter();
-            let change = |(at, token): &(usize, Token)| (*at, token.state, token.value);
+            let change = |(at, token): &(usize, Token)| (*at, token.state, token.value.low);
             changes.map(change).collect::<Vec<_>>()
         };
         assert_eq!(token(0), [(0, Live, 3), (1, Spent, 3)]);
         assert_eq!(token(2), [(0, Live, 7), (2, Spent, 7)]);
         assert_eq!(token(3), [(1, Deferred, 3), (2, Live, 7)]);
-        let cell = vec![(1, Cell::Waiting), (2, Cell::Present(7))];
+        let cell = vec![(1, Cell::Waiting), (2, Cell::Present(Value::of(7)))];
         assert_eq!(states.cells, BTreeMap::from([(3, cell)]));
     }
 

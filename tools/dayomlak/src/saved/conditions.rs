@@ -251,7 +251,7 @@ impl<'p> Look<'p> {
 
     /// The cell that a deferred token names, if it is there.
     fn deferred_on(&self, token: &Token) -> Option<usize> {
-        let cell = usize::try_from(token.value).ok()?;
+        let cell = usize::try_from(token.value.low).ok()?;
         (token.state == records::State::Deferred && cell < self.cells.len()).then_some(cell)
     }
 
@@ -259,7 +259,7 @@ impl<'p> Look<'p> {
         self.first(DEFERRED, |_, token| {
             let deferred = token.state == records::State::Deferred;
             let (cell, cells) = (
-                self.program.cell(token.value),
+                self.program.cell(token.value.low),
                 count(self.cells.len(), "cell"),
             );
             (deferred && self.deferred_on(token).is_none())
@@ -280,7 +280,7 @@ impl<'p> Look<'p> {
                 Cell::Absent => "absent",
                 Cell::Present(_) => "present",
             };
-            let cell = self.program.cell(token.value);
+            let cell = self.program.cell(token.value.low);
             Some(format!("is deferred on {cell}, which is {word}"))
         });
         token.or_else(|| {
@@ -356,6 +356,7 @@ mod tests {
         let (mut taken, mut refused) = (0, 0);
         let mut look = |state: &State| {
             let machine = Machine {
+                ranged: false,
                 program,
                 sizes,
                 bound: 0,

@@ -10,6 +10,7 @@ use crate::machine::{End, Machine};
 use crate::program::Program;
 use crate::records::{State, Tag, Token};
 use crate::results;
+use crate::value::Value;
 
 /// The tokens of a state that are not spent, by what they are, each in the order of the ledger.
 #[derive(Default)]
@@ -73,7 +74,7 @@ pub fn disagreement() -> Failure {
 pub fn parts(program: &Program, end: &End, view: &View) -> Vec<(&'static str, Vec<String>)> {
     let port = |t: &Token| program.port(&t.tag, t.port);
     let waits = |t: &Token| format!("{} = {}, for port {}", port(t), t.value, 1 - t.port);
-    let deferred = |t: &Token| format!("{}, for {}", port(t), program.cell(t.value));
+    let deferred = |t: &Token| format!("{}, for {}", port(t), program.cell(t.value.low));
     let result = |t: &Token| format!("{} = {}", program.tag(&t.tag), t.value);
     let lines =
         |tokens: &[Token], line: &dyn Fn(&Token) -> String| tokens.iter().map(line).collect();
@@ -94,7 +95,7 @@ pub fn activity(program: &Program, tokens: &[Token], tag: &Tag) -> String {
     let name = program.tag(tag);
     match Activity::of(program, tokens, *tag) {
         Some(activity) => {
-            let operands: Vec<String> = activity.operands.iter().map(i32::to_string).collect();
+            let operands: Vec<String> = activity.operands.iter().map(Value::to_string).collect();
             let operation = activity.instruction.words();
             format!("{name}: {operation} with {}", operands.join(" and "))
         }

@@ -100,6 +100,7 @@ pub mod tests {
     use super::*;
     use crate::machine::{Sizes, WHOLE};
     use crate::program::Program;
+    use crate::value::Value;
 
     pub const TEXT: &str = "read: FETCH -> plus.0\nplus: ADD -> out\nout: OUT\na: COPY -> plus.1\nwrite: STORE\n\
         cell 2 = -3\nb: COPY -> write.1\ninput read = 0\ninput a = 1\ninput write.0 = 0\ninput b = 5\n";
@@ -124,8 +125,8 @@ pub mod tests {
         timeline(TEXT, None, |timeline| {
             let expected: [&[usize]; 7] = [&[2], &[6], &[], &[3], &[5], &[1], &[4]];
             assert_eq!(times(timeline), expected);
-            let read = vec![(2, Cell::Waiting), (5, Cell::Present(5))];
-            let loaded = vec![(1, Cell::Present(-3))];
+            let read = vec![(2, Cell::Waiting), (5, Cell::Present(Value::of(5)))];
+            let loaded = vec![(1, Cell::Present(Value::of(-3)))];
             assert_eq!(timeline.cells, BTreeMap::from([(0, read), (2, loaded)]));
             assert_eq!((timeline.last, timeline.end.answer.firings), (6, 6));
         });
@@ -137,9 +138,9 @@ pub mod tests {
         timeline(TEXT, Some(Pace::Ideal), |timeline| {
             let expected: [&[usize]; 7] = [&[1], &[3], &[], &[1], &[2], &[0], &[1]];
             assert_eq!(times(timeline), expected);
-            let read = [(1, Cell::Waiting), (2, Cell::Present(5))];
+            let read = [(1, Cell::Waiting), (2, Cell::Present(Value::of(5)))];
             assert_eq!(timeline.cells[&0], read);
-            assert_eq!(timeline.cells[&2], [(0, Cell::Present(-3))]);
+            assert_eq!(timeline.cells[&2], [(0, Cell::Present(Value::of(-3)))]);
         });
         timeline(TEXT, Some(Pace::Processors(1)), |timeline| {
             let expected: [&[usize]; 7] = [&[1], &[5], &[], &[2], &[4], &[0], &[3]];

@@ -79,7 +79,7 @@ fn value(cell: &Cell) -> String {
     match cell {
         Cell::Absent => "x".to_string(),
         Cell::Waiting => "z".to_string(),
-        Cell::Present(value) => format!("{value:b}"),
+        Cell::Present(value) => format!("{:b}", value.low),
     }
 }
 
