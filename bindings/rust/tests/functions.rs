@@ -19,7 +19,7 @@ fn graph() -> Vec<u8> {
     graph
 }
 
-/// The two inputs, in records whose value comes after so many bytes.
+/// The two inputs, in records of this width with the value at this byte.
 fn inputs(width: usize, value: usize) -> Vec<u8> {
     let mut inputs = vec![0; 2 * width];
     inputs[value..value + 4].copy_from_slice(&7i32.to_le_bytes());
