@@ -210,6 +210,16 @@ fn old_records_are_made_new() {
     assert!(!ttda::convert_log(&[0; 13], &mut log).is_done());
 }
 
+/// Tokens with every field as long as it can be: the path of 128 bits, the least value, the longest word.
+#[test]
+fn the_longest_lines_have_room() {
+    let mut longest = [255; TOKEN];
+    longest[20..].copy_from_slice(&[0, 0, 0, 128, 2, 0, 0, 0]);
+    let text = printed(Answer::of(0, 0, 10, 0), &longest.repeat(10), &[]);
+    let lengths: Vec<usize> = text.lines().skip(1).map(str::len).collect();
+    assert_eq!(lengths, [74; 10]);
+}
+
 #[test]
 fn what_is_not_printed_says_why() {
     let printed = |answer| ttda::print(answer, &[], &[], &mut [0; 5]).length();
