@@ -48,7 +48,7 @@ impl Left {
     }
 }
 
-/// The bytes of the longest text of so many tokens (`text-within` of the crate text).
+/// The bytes of the longest text of these tokens (`text-within` of the crate text).
 pub fn longest(tokens: usize) -> usize {
     74 + 75 * tokens + 46 * CELLS
 }

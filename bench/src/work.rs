@@ -236,7 +236,7 @@ pub fn chain(backward: bool) -> Work {
     work
 }
 
-/// The sum of so many variables, as the records of an expression in the place of a graph.
+/// The sum of variables, as the records of an expression in the place of a graph.
 pub fn sum(variables: u8) -> Work {
     let operation = |number: u8| {
         let left = if number == 0 {

@@ -19,6 +19,11 @@ class Runs(unittest.TestCase):
         self.assertEqual(done.tokens[2], Token(0, 0, 1, 0, -2, 'live'))
         self.assertEqual((done.listing, done.cells, done.text), (done.tokens, [], TEXT))
 
+    def test_the_longest_lines_have_room(self):
+        longest = ttda.TOKEN.pack(16 * b'\xff', 255, 255, 65535, -2 ** 31, 2)
+        done = ttda.run(GRAPH, INPUTS)._replace(ledger=10 * longest, memory=b'', answer=Answer('completed', 0, 1, 10, 0))
+        self.assertEqual([len(line) for line in done.text.splitlines()[1:]], 10 * [74])
+
     def test_bytes_are_taken_as_they_are(self):
         graph, inputs = ttda.graph_bytes(GRAPH), ttda.input_bytes(INPUTS)
         self.assertEqual((len(graph), len(inputs)), (32, 56))

@@ -160,7 +160,7 @@ class Run(NamedTuple):
     @property
     def text(self) -> str:
         """The lines that the program ttda prints."""
-        room = ctypes.create_string_buffer(74 + 56 * self.answer.tokens + 46 * (len(self.memory) // CELL.size))
+        room = ctypes.create_string_buffer(74 + 75 * self.answer.tokens + 46 * (len(self.memory) // CELL.size))
         length = _call('ttda_print', self.number, _listed(self.ledger), self.memory, room)
         return room.raw[:length].decode('ascii')
 

@@ -32,7 +32,7 @@ pub const MOST_CELLS: usize = 1024;
 /// Most records of an expression.
 pub const MOST_EXPRESSION: usize = 100;
 
-/// Room enough for what `print` writes of so many tokens and cells.
+/// Room enough for what `print` writes of these tokens and cells.
 pub const fn printed(tokens: usize, cells: usize) -> usize {
-    74 + 56 * tokens + 46 * cells
+    74 + 75 * tokens + 46 * cells
 }

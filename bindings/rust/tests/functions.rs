@@ -19,7 +19,7 @@ fn graph() -> Vec<u8> {
     graph
 }
 
-/// The two inputs, in records whose value comes after so many bytes.
+/// The two inputs, in records of this width with the value at this byte.
 fn inputs(width: usize, value: usize) -> Vec<u8> {
     let mut inputs = vec![0; 2 * width];
     inputs[value..value + 4].copy_from_slice(&7i32.to_le_bytes());
@@ -208,6 +208,16 @@ fn old_records_are_made_new() {
     assert!(ttda::convert_log(&old, &mut log).is_done());
     assert_eq!((log[0], &log[1..]), (7, &[0; 19][..]));
     assert!(!ttda::convert_log(&[0; 13], &mut log).is_done());
+}
+
+/// Tokens with every field as long as it can be: the path of 128 bits, the least value, the longest word.
+#[test]
+fn the_longest_lines_have_room() {
+    let mut longest = [255; TOKEN];
+    longest[20..].copy_from_slice(&[0, 0, 0, 128, 2, 0, 0, 0]);
+    let text = printed(Answer::of(0, 0, 10, 0), &longest.repeat(10), &[]);
+    let lengths: Vec<usize> = text.lines().skip(1).map(str::len).collect();
+    assert_eq!(lengths, [74; 10]);
 }
 
 #[test]

@@ -165,11 +165,3 @@ module _ (g : List Instruction) (table : List NamedArray) (capacity cells : ℕ)
           ≡ foundContent d (t ∷ ts) (cond b (At 0) (shift (firstFrom (standsAt tag port) 0 ts)))
       go true ih = refl
       go false ih = ih ∙ found-cons d t ts (firstFrom (standsAt tag port) 0 ts)
-
-  pub held-find-at : (tag : Tag) (port i : ℕ) (ts : List Record.Token) (d : Record.Token) → firstFrom (standsAt tag port) 0 ts ≡ At i
-      → find M (record { tag = tag; port = port }) (map tokenHeld ts) ≡ some (contentHeld (getD ts i d .content))
-  held-find-at tag port i ts d e = held-find tag port d ts ∙ rw e
-
-  pub held-find-nothing : (tag : Tag) (port : ℕ) (ts : List Record.Token) (d : Record.Token) → firstFrom (standsAt tag port) 0 ts ≡ Nothing
-      → find M (record { tag = tag; port = port }) (map tokenHeld ts) ≡ none
-  held-find-nothing tag port ts d e = held-find tag port d ts ∙ rw e

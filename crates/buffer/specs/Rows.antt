@@ -5,7 +5,7 @@ use mathlib.Core.List.{List, [], _∷_, _++_}
 use lib.ListN.{length, take, drop}
 use lib.Dec.{eqb, leb}
 
--- whole records of that width, so many at most, in a buffer of that length
+-- whole records of that width, and no more than `most`, in a buffer of that length
 abbrev pub whole : (width most length : ℕ) → Bool
 whole width most n = eqb (n % width) 0 && leb (n / width) most
 

@@ -5,7 +5,7 @@ ghost use lib.ListN.{length, drop};
 ghost use Rattle.buffer.specs.Rows as Rows;
 ghost use Rattle.buffer.specs.Rows.{written, putRow};
 
-// Whether a buffer of that length holds whole records of that width, so many at most.
+// Whether a buffer of that length holds whole records of that width, and no more than `most`.
 pub fn whole(width: usize, most: usize, len: usize) -> bool
     requires { ⌜ 0 < width ⌝ }
     ensures { λ r. ⌜ r ≡ Rows.whole width most len ⌝ }

@@ -58,9 +58,6 @@ both-in-use zero d e h k = absurd (h refl)
 both-in-use (suc zero) d e h k = absurd (k refl)
 both-in-use (suc (suc n)) d e h k = refl
 
-pub one-up : (n : ℕ) → (n ≡ 0 → ⊥) → 1 ≤ n
-one-up n h = omega arith
-
 -- what an activity waits for, by its instruction's code
 abbrev pub arityBy : (code : ℕ) → Tag → ℕ
 arityBy c τ = cond (eqb c 3 || eqb c 9 && isRoot (τ .path)) 0 (operandsOf c)

@@ -7,7 +7,6 @@ use mathlib.Core.Bool.{Bool, true, false, not, _&&_}
 use mathlib.Core.List.{List, []}
 use lib.ListN.{length, getD, take, drop}
 use lib.Dec.{eqb, leb, ltb}
-use lib.IntN.{pos, natAbs}
 use borrow.Author.Tests.{eqb-true, leb-true, ltb-true, ltb-false, not-true}
 use Rattle.record.specs.declared.instruction.Destination.{Destination}
 use Rattle.record.specs.declared.instruction.Instruction.{Instruction}
@@ -23,10 +22,9 @@ use Rattle.record.specs.Widths.{tokenWidth, stateOffset, cellWidth, graphWidth,
 use Rattle.record.proofs.Paths.{root-words}
 use Rattle.rules.specs.declared.answer.Refusal.the-variants.{GraphLength, BadInput, SecondToken}
 use Rattle.rules.specs.declared.answer.Checked.the-variants.{Passed}
-use Rattle.rules.specs.Check.{demand, all, instructionAt, operandsAt, fanOutAllowed, unusedAreZero, goodArc, within, goodSite, checkRecord, checkGraph, checkStores, checkArrays, goodInput, secondInput, checkInputs, check}
+use Rattle.rules.specs.Check.{demand, all, instructionAt, operandsAt, fanOutAllowed, unusedAreZero, goodArc, goodSite, checkRecord, checkGraph, checkStores, checkArrays, goodInput, secondInput, checkInputs, check}
 use Rattle.check_inputs.specs.Inputs.{tokensOf}
-use Rattle.check_fields.proofs.Turns.{and-true-left, and-true-right, both-passed, demanded, each-passed, all-at}
-use Rattle.check_fields.proofs.Constants.{within-is}
+use Rattle.check_fields.proofs.Turns.{and-true-left, and-true-right, both-passed, demanded, each-passed}
 use Rattle.check_fields.proofs.Graphs.{length-graph, past}
 use Rattle.check_inputs.proofs.Tokens.{length-tokens, in-tokens}
 
@@ -78,22 +76,6 @@ inside g i port p = go (ltb i (length g)) refl
 pub good-arc : (g : List Instruction) (d : Destination) → goodArc g d ≡ true → (d .instruction < length g) × (d .port < operandsAt g (d .instruction))
 unfolding goodArc
 good-arc g d e = let p = ltb-true (d .port) (operandsAt g (d .instruction)) e in (inside g (d .instruction) (d .port) p, p)
-
--- the destinations in use
-pub passed-arc : (g : List Instruction) (i : ℕ) (r : Instruction) → GoodRecord g i r → (k : ℕ) → k < length (destinations r) → (d : Destination)
-    → (getD (destinations r) k d .instruction < length g) × (getD (destinations r) k d .port < operandsAt g (getD (destinations r) k d .instruction))
-passed-arc g i r good k h d = good-arc g (getD (destinations r) k d) (all-at (goodArc g) (destinations r) (good .arcs) k h d)
-
--- the constants of ENTER and LEAVE
-pub enter-constant : (g : List Instruction) (i : ℕ) (r : Instruction) → GoodRecord g i r → r .code ≡ 8
-    → (r .constant ≡ pos (natAbs (r .constant))) × (1 ≤ natAbs (r .constant)) × (natAbs (r .constant) ≤ 255)
-unfolding goodSite
-enter-constant g i r good e = within-is 1 255 (r .constant) (and-true-left (within 1 255 (r .constant)) _ (rw e at (good .site)))
-
-pub leave-constant : (g : List Instruction) (i : ℕ) (r : Instruction) → GoodRecord g i r → r .code ≡ 9
-    → (r .constant ≡ pos (natAbs (r .constant))) × (0 ≤ natAbs (r .constant)) × (natAbs (r .constant) ≤ 255)
-unfolding goodSite
-leave-constant g i r good e = within-is 0 255 (r .constant) (rw e at (good .site))
 
 -- ---- the stores, by their lengths in bytes
 

@@ -16,7 +16,7 @@ ghost use Rattle.record.specs.Arrays.{arraysOf};
 ghost use Rattle.record.specs.Widths.{arrayWidth};
 ghost use Rattle.rules.specs.Check.{demand, all, inTurn, insideStore, namesGood, checkArrays};
 
-// An array of so many cells from a first one ends in the store.
+// Whether an array from a first cell on, of this length, ends in the store.
 fn ends_inside(first: u16, length: u16, cells: usize) -> bool
     ensures { λ r. ⌜ r ≡ insideStore cells (record { first = first; length = length }) ⌝ }
 {

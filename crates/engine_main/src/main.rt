@@ -108,7 +108,7 @@ fn say_run(answer: Answer, records: &[u8], cells: &[u8]) {
     }
 }
 
-// The bytes of so many records, at most the ledger's.
+// The bytes of the used records, at most the ledger's.
 fn used_bytes(tokens: usize, ledger: &[u8]) -> usize
     ensures { λ r. ⌜ r ≤ length (now (ledger .entry)) ⌝ }
 {
@@ -215,7 +215,7 @@ fn show_name() {
     say(b"\n");
 }
 
-// Shows so many cases, or those before one whose mark is missing, and answers how many.
+// Shows n cases, or those before one whose mark is missing, and answers how many.
 fn show_cases(n: usize) -> usize {
     let mut shown = 0;
     while shown < n {

@@ -22,9 +22,6 @@ module _ (ts : List Term) (i : ℕ) (t : Term) (l : i < length ts) (e : getD ts 
   pub variables-next : variableNumber ts (i + 1) ≡ variableNumber ts i + count isVariable (t ∷ [])
   variables-next = ap (count isVariable) (take-next ts i t l e) ∙ count-append isVariable (take i ts) (t ∷ [])
 
-pub few-variables : (ts : List Term) → count isVariable ts ≤ length ts
-few-variables ts = omega (arith, count-both ts)
-
 -- the records before it that are not variables are operations
 pub instruction-number : (ts : List Term) (i : ℕ) → i ≤ length ts → (t : Term) → termAt ts i ≡ t
     → instructionFor ts i ≡ cond (isVariable t) (variableNumber ts i) (count isVariable ts + (i - variableNumber ts i))

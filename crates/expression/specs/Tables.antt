@@ -1,5 +1,5 @@
 -- Working definition: no public promise cites it.
--- What is kept while an expression is gone through: the records named so far, and the instruction of each record. Assumes nothing.
+-- What is kept on the way through an expression: the records named so far, and the instruction of each record. Assumes nothing.
 use Prim.Native.Nat.{ℕ, _<_}
 use mathlib.Core.Path.{_≡_}
 use mathlib.Core.Bool.{Bool, true, false}

@@ -105,7 +105,7 @@ fn check(expression: &[u8]) -> Checked
     all_named(expression, &named)
 }
 
-// For a graph of so many bytes.
+// For a graph with `room` bytes.
 pub fn made(expression: &[u8], room: usize) -> Checked
     ensures { λ c. ⌜ c ≡ checkMade (now (expression .entry)) room ⌝ }
 {
@@ -119,7 +119,7 @@ pub fn made(expression: &[u8], room: usize) -> Checked
     Checked::Passed
 }
 
-// For values of so many bytes.
+// For values of `len` bytes.
 pub fn values(expression: &[u8], len: usize) -> Checked
     ensures { λ c. ⌜ c ≡ checkValues (now (expression .entry)) len ⌝ }
 {

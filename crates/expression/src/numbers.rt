@@ -33,7 +33,7 @@ pub fn variables(expression: &[u8]) -> usize
     n
 }
 
-// The instruction of a record, behind so many variables and i records in all, of n variables.
+// The instruction of record i, which `before` of the n variables come before.
 fn number_of(t: Term, before: usize, i: usize, n: usize) -> usize
     requires { ⌜ (before ≤ i) × (n + i ≤ 200) ⌝ }
     ensures { λ r. ⌜ (r ≡ cond (isVariable t) before (n + (i - before))) × (r ≤ n + i) ⌝ }

@@ -64,7 +64,7 @@ fn note(out: &mut [u16; 641], r: Instruction)
     }
 }
 
-// The returns. The records are gone through from the last to the first, since the first ENTER of a site counts.
+// The returns, from the last record to the first, since the first ENTER of a site counts.
 fn returns(graph: &[u8], out: &mut [u16; 641])
     ensures { λ _. ⌜ Returns (graphOf (now (graph .entry))) (now (out .exit)) × (length (now (out .exit)) ≡ 641) ⌝ }
 {

@@ -33,7 +33,7 @@ fn print_listing(ledger: &[u8], out: &mut [u8]) {
     print_bytes(out);
 }
 
-// The same with an output of so many bytes, all 170.
+// The same with an output of `bytes` bytes, each 170.
 fn print_lent(ledger: &[u8], bytes: usize)
     requires { ⌜ bytes ≤ 12 * tokenWidth ⌝ }
 {
@@ -41,7 +41,7 @@ fn print_lent(ledger: &[u8], bytes: usize)
     print_listing(ledger, &mut out[0..bytes]);
 }
 
-// The answer for so many bytes of zeros.
+// The answer for a ledger of zeros.
 fn print_limit(bytes: usize)
     requires { ⌜ bytes ≤ 65536 ⌝ }
 {

@@ -1,16 +1,15 @@
--- What callers may use of the cleared cells and of the picks. Assumes nothing.
+-- What callers may use of the cleared cells. Assumes nothing.
 use Prim.Native.Nat.{ℕ, zero, suc, _*_}
 use mathlib.Core.Path.{_≡_, refl, sym, _∙_}
-use mathlib.Core.List.{List, [], _∷_, append-nil}
+use mathlib.Core.List.{[], append-nil}
 use native.Mathlib.Nat.{suc-mul, add-comm}
-use lib.ListN.{getD, drop, replicate, length-replicate, replicate-append-replicate}
+use lib.ListN.{replicate, length-replicate, replicate-append-replicate}
 use Rattle.buffer.specs.Rows.{joined, All}
 use Rattle.record.specs.Cells as Cells
 use Rattle.record.specs.Cells.{CellFits}
 use Rattle.record.specs.declared.cell.Cell.the-variants.{Absent}
 use Rattle.record.proofs.Records.{cells-joined}
 use Rattle.record.specs.Widths.{cellWidth}
-use Rattle.load.specs.Loaded.{headOr0, tailOf}
 
 -- ---- cells of zeros are absent
 
@@ -31,17 +30,3 @@ pub zeros-cells : (n : ℕ) → Cells.cells n (replicate (n * cellWidth) 0) ≡ 
 zeros-cells n =
     let e = cells-joined (replicate n Absent) [] (absent-fit n) in
     rw (zeros-joined n) (rw (length-replicate n Absent, append-nil (joined Cells.encode (replicate n Absent))) at e)
-
--- ---- the picks, used up from their front
-
-pub head-drop : (k : ℕ) (xs : List ℕ) → headOr0 (drop k xs) ≡ getD xs k 0
-head-drop zero [] = refl
-head-drop zero (x ∷ xs) = refl
-head-drop (suc k) [] = refl
-head-drop (suc k) (x ∷ xs) = head-drop k xs
-
-pub tail-drop : (k : ℕ) (xs : List ℕ) → tailOf (drop k xs) ≡ drop (suc k) xs
-tail-drop zero [] = refl
-tail-drop zero (x ∷ xs) = refl
-tail-drop (suc k) [] = refl
-tail-drop (suc k) (x ∷ xs) = tail-drop k xs

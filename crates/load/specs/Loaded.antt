@@ -1,8 +1,8 @@
 -- Working definition: no public promise cites it.
--- What holds once the inputs are in the ledger, and the picks as a list that is used up from its front. Assumes nothing.
+-- What holds once the inputs are in the ledger. Assumes nothing.
 use Prim.Native.Nat.{ℕ, _*_, _/_, _<_}
 use mathlib.Core.Path.{_≡_}
-use mathlib.Core.List.{List, [], _∷_}
+use mathlib.Core.List.{List}
 use lib.ListN.{length, take, drop}
 use Rattle.buffer.specs.Rows.{allRows}
 use Rattle.record.specs.TokensAndTags.{tokens, tokenAt, decode}
@@ -31,12 +31,3 @@ pub record Loaded (tables links flags ledger ledger′ inputs : List ℕ) (r : �
   pub size : length ledger′ ≡ length ledger
   -- 01, "Tokens and tags": "bytes past what is written stay as lent"
   pub rest : drop (r * tokenWidth) ledger′ ≡ drop (r * tokenWidth) ledger
-
--- 01, "Firing": "Once picks run out, the first is taken", which is pick 0
-abbrev pub headOr0 : List ℕ → ℕ
-headOr0 [] = 0
-headOr0 (x ∷ xs) = x
-
-abbrev pub tailOf : List ℕ → List ℕ
-tailOf [] = []
-tailOf (x ∷ xs) = xs

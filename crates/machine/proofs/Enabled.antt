@@ -141,18 +141,6 @@ module _ (M : Machine) where
       let h = placeThere (a .tag) (at M (a .tag) 0) (live v) (s .tokens) o f in
       omega arith
 
-  fromCount : (s : StateOf M) (i : ℕ) (ts : Ledger M) → length (enabledFrom M s i ts) ≤ length ts
-  fromCount s i [] = omega arith
-  fromCount s i (t ∷ ts) = go (isPlace M s i t) (fromCount s (suc i) ts)
-    where
-      go : (b : Bool) → length (enabledFrom M s (suc i) ts) ≤ length ts → length (cond b (act i (t .key .tag) ∷ enabledFrom M s (suc i) ts) (enabledFrom M s (suc i) ts)) ≤ suc (length ts)
-      go true h = omega arith
-      go false h = omega arith
-
-  pub enabledCount : (s : StateOf M) → length (enabled M s) ≤ length (s .tokens)
-  unfolding enabled
-  enabledCount s = fromCount s 0 (s .tokens)
-
   -- ---- and over the view
 
   pub enabledReady : (s : StateOf M) (a : Activity (M .Tag)) → List·Memᴰ a (enabled M s) → Ready M (view M s) (a .tag)

@@ -257,7 +257,7 @@ module _ (M : Machine) (W : Type 0) (effect : M .Tag → W → W → Effect (M .
     filledRelated τ c g noMore = noMore
     filledRelated τ c g (pair (atKey {k = k} h) t) = pair (atKey (fillRelated R c g (spendRelated R (operandOf M τ k) h))) (filledRelated τ c g t)
 
-    -- of whatever effects, if they are related: those of the machines, or those of a machine whose effects add to a table
+    -- of any effects that are related: those of the machines, or those of a machine whose effects add to a table
     pub commitRelated : R (M .signal) signal → (s : StateOf M) (u : StateOf N) → RelatedState R s u → (τ : M .Tag) {e : EffectOf M} {d : EffectOf N} → RelatedEffect R Alone e d
         → RelatedFired R Alone (commit M s τ e) (commit N u τ d)
     unfolding commit

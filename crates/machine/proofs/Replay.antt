@@ -114,16 +114,6 @@ module _ (M : Machine) where
         go [] h = absurd (List·Memᴰ·not-nil h)
         go (b ∷ l) h = refl
 
-    pub replayNotEnabled : (name : Option (M .Tag)) (log : List (Option (M .Tag))) (f : ℕ) (s : StateOf M) → named M name (enabled M s) ≡ none
-        → replay M notEnabled (name ∷ log) f s ≡ end M (refused notEnabled f) f s
-    unfolding replay
-    replayNotEnabled name log f s e = rw e
-
-    pub replayRefused : (name : Option (M .Tag)) (log : List (Option (M .Tag))) (f : ℕ) (s : StateOf M) (a : Activity (M .Tag)) (r : M .Refusal) → named M name (enabled M s) ≡ some a
-        → fire M s (a .tag) ≡ notFired r → replay M notEnabled (name ∷ log) f s ≡ end M (refused r (a .place)) f s
-    unfolding replay
-    replayRefused name log f s a r e q = rw (e, q)
-
     pub replayFired : (name : Option (M .Tag)) (log : List (Option (M .Tag))) (f : ℕ) (s x : StateOf M) (a : Activity (M .Tag)) → named M name (enabled M s) ≡ some a → fire M s (a .tag) ≡ fired x
         → replay M notEnabled (name ∷ log) f s ≡ replay M notEnabled log (suc f) x
     unfolding replay

@@ -1,5 +1,5 @@
--- One induction over runs (`along`), and the first that comes of it: every run is a firing sequence, its log (`ran`). So one sequence to an
--- end, of whatever kind, tells how every order ends (`oneTellsAll`). Assumes nothing. The latter takes that the instruction set is lawful,
+-- One induction over runs (`along`), and the first that comes of it: every run is a firing sequence, its log (`ran`). So one sequence to any
+-- end tells how every order ends (`oneTellsAll`). Assumes nothing. The latter takes that the instruction set is lawful,
 -- and of the state that it is well-formed.
 use mathlib.Core.Path.{_≡_, refl, sym, ap, _∙_}
 use mathlib.Core.List.{List, [], _∷_, List·Memᴰ, List·Memᴰ·head}

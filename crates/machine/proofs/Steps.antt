@@ -71,14 +71,6 @@ module _ (M : Machine) where
     cut : (before : List (Activity (M .Tag))) (a : Activity (M .Tag)) (more : List (Activity (M .Tag))) (x : StateOf M) (r : M .Refusal) → l ≡ before ++ (a ∷ more) → Fires M s (tagsOf M before) x
         → List·Memᴰ a (enabled M x) → fire M x (a .tag) ≡ notFired r → Turn l s
 
-  pub turnFired : (a : Activity (M .Tag)) (l : List (Activity (M .Tag))) (f : ℕ) (s x : StateOf M) (next : ℕ → StateOf M → ProfileOf M) → fire M s (a .tag) ≡ fired x
-      → inTurn M (a ∷ l) f s next ≡ inTurn M l (suc f) x next
-  turnFired a l f s x next e = rw e
-
-  pub turnRefused : (a : Activity (M .Tag)) (l : List (Activity (M .Tag))) (f : ℕ) (s : StateOf M) (r : M .Refusal) (next : ℕ → StateOf M → ProfileOf M) → fire M s (a .tag) ≡ notFired r
-      → inTurn M (a ∷ l) f s next ≡ endsHere M (end M (refused r (a .place)) f s)
-  turnRefused a l f s r next e = rw e
-
   firesWhole : (l : List (Activity (M .Tag))) (f : ℕ) (s x : StateOf M) (next : ℕ → StateOf M → ProfileOf M) → Fires M s (tagsOf M l) x → inTurn M l f s next ≡ next (f + length l) x
   firesWhole [] f s x next p = let z : f ≡ f + 0 = omega arith in ap (next f) p ∙ ap (λ (n : ℕ). next n x) z
   firesWhole (a ∷ l) f s x next (y, e, p) = let z : suc f + length l ≡ f + suc (length l) = omega arith in rw e (firesWhole l (suc f) y x next p ∙ ap (λ (n : ℕ). next n x) z)

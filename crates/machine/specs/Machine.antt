@@ -131,7 +131,7 @@ isProper arity (live v) = eqb arity 0
 isProper arity (spent v) = true
 isProper arity (deferred c) = false
 
--- there is a token, of whatever state
+-- there is a token, in any state
 abbrev pub isThere : {W : Type 0} → Option (Content W) → Bool
 isThere none = false
 isThere (some x) = true
@@ -288,7 +288,7 @@ module _ (M : Machine) where
   among k [] = false
   among k (j ∷ js) = when (sameKey k j) true (among k js)
 
-  -- by a token of whatever state
+  -- by a token in any state
   abbrev pub taken : Key (M .Tag) → Ledger → Bool
   taken k ts = isThere (find k ts)
 

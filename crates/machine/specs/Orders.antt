@@ -162,7 +162,7 @@ module _ (M : Machine) where
   abbrev pub outputs : StateOf M → M .Tag → ℕ
   outputs s τ = onOption (operands M (look M s) τ) 0 (λ p. length (keysOf (M .effect τ (p .left) (p .right))))
 
-  -- x is reached from s by so many firings, with so many outputs in all: the last of them, of τ, came after y
+  -- x is reached from s by firings that sent this number of outputs in all: the last of them, of τ, came after y
   abbrev pub Reached : StateOf M → (firings : ℕ) → (sent : ℕ) → StateOf M → Type 0
   Reached s zero o x = (o ≡ 0) × (x ≡ s)
   Reached s (suc f) o x = (y : StateOf M) × (n : ℕ) × (τ : M .Tag) × Reached s f n y × (fire M y τ ≡ fired x) × (o ≡ n + outputs y τ)

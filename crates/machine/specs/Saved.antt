@@ -44,7 +44,7 @@ allUpTo test zero = true
 allUpTo test (suc n) = test n && allUpTo test n
 
 module _ (M : Machine) where
-  -- "Each part's budget counts its own firings", "its picks divided alike": the first part has the budget a and the picks of so many firings. Each
+  -- "Each part's budget counts its own firings", "its picks divided alike": the first part has the budget a and the picks of a firings. Each
   -- later part goes on from the firings and the state that the one before it left; none follows a refusal
   abbrev pub inParts : Choice M → (a : ℕ) → (later : List ℕ) → (picks : List ℕ) → (f : ℕ) → StateOf M → EndOf M
   inParts choose a [] picks f s = runBy M choose a picks f s

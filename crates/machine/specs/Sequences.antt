@@ -104,7 +104,7 @@ module _ (M : Machine) where
       let b = choose s (firstPick picks) a more in
       ifFired (fire M s (b .tag)) (λ x. b .tag ∷ logOf choose budget (laterPicks picks) x) [])
 
-  -- e is the end of a run, of whatever kind, that starts from s after f firings and does the firings τs
+  -- e is any end of a run that starts from s after f firings and does the firings τs
   pub record Logged (s : StateOf M) (f : ℕ) (τs : List (M .Tag)) (e : EndOf M) : Type 0 where
     pub fires : Fires s τs (e .state)
     pub firings : e .firings ≡ f + length τs
@@ -126,7 +126,7 @@ module _ (M : Machine) where
   EveryOrder s f enough e = (c : Choice M) → LawfulChoice M c → (budget : ℕ) → enough ≤ budget → (picks : List ℕ)
       → Alike e (runBy M c budget picks f s)
 
-  -- so one sequence to an end, of whatever kind, tells how every order ends: completed or hung, as its state says
+  -- so one sequence to any end tells how every order ends: completed or hung, as its state says
   abbrev pub OneTellsAll : Type 0
   OneTellsAll = (s : StateOf M) → Good M s → (f : ℕ) (τs : List (M .Tag)) (e : EndOf M) → Logged s f τs e → NothingEnabled (e .state)
       → e .outcome ≡ ending M (e .state) → EveryOrder s f (length τs) e

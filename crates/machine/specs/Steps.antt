@@ -75,7 +75,7 @@ module _ (M : Machine) where
 
   -- `profileFull` is refusal 18
   module _ (profileFull : M .Refusal) where
-    -- so many records are left. "Refused: 18, profile full, before a step that has no record left."
+    -- `left` records are left. "Refused: 18, profile full, before a step that has no record left."
     unfoldable pub profile : (left : ℕ) → (f : ℕ) → StateOf M → ProfileOf
     profile zero f s = onList (enabled M s) (endsHere (end M (ending M s) f s)) (λ a more. endsHere (end M (refused profileFull 0) f s))
     profile (suc left) f s =

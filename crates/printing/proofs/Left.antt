@@ -41,7 +41,7 @@ without-bound graph arrays inputs picks budget size count {r} {ledger} {ledger�
 pub few-tokens : (graph arrays inputs picks : List ℕ) (budget size count : ℕ) {r : Answer} {ledger ledger′ cells cells′ : List ℕ} → Ran (result graph arrays inputs picks budget size count) r ledger ledger′ cells cells′ → r .tokens ≤ mostTokens
 few-tokens graph arrays inputs picks budget size count ran = rw (ran .answered) (answer-small graph arrays inputs picks budget size count .tokens)
 
--- and the program's ledger has so many
+-- and the program's ledger has room for them
 pub within : (t size : ℕ) → t ≤ mostTokens → size ≡ ledgerBytes → t ≤ capacityOf size
 within t size few e = omega arith
 

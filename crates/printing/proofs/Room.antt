@@ -51,7 +51,7 @@ ledgerLeft x = listing (take (answer x .tokens * tokenWidth) (ledgerAfter x (rep
 abbrev cellsLeft : Result → List ℕ
 cellsLeft x = cellsAfter x (replicate cellBytes 0)
 
--- so many tokens, each of which fits
+-- tokens that the program's ledger has room for, each of which fits
 pub record FewTokens (l : List ℕ) : Type 0 where
   pub fit : All TokenFits (allRows tokenWidth Tokens.decode l)
   pub few : length l ≤ ledgerBytes

@@ -49,7 +49,7 @@ module _ (graph arrays inputs : List ℕ) (graphBytes : Bytes graph) (inputBytes
   abbrev ended : List ℕ → Result
   ended picks = result graph arrays inputs picks 2048 (length (replicate {A = ℕ} ledgerBytes 0)) (length (replicate {A = ℕ} cellBytes 0))
 
-  -- the program's run is one with buffers of so many zeros
+  -- the program's run is one with buffers of zeros
   same-run : (picks : List ℕ) → ended picks ≡ runOf graph arrays inputs picks
   unfolding runOf
   same-run picks = rw (length-replicate {A = ℕ} ledgerBytes 0, length-replicate {A = ℕ} cellBytes 0)

@@ -39,7 +39,7 @@ pub record PrintedRun (graph arrays inputs picks : List ℕ) (r : Printed) (out 
   pub answered : r ≡ printedOf (printedRun graph arrays inputs picks) out
   pub outLeft : out′ ≡ outAfter (printedRun graph arrays inputs picks) out
 
--- an output of so many bytes has room for every text; it is proved in proofs/Room
+-- an output of this length has room for every text; it is proved in proofs/Room
 abbrev pub mostBytes : ℕ
 mostBytes = 200778
 

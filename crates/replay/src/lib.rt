@@ -20,7 +20,7 @@ ghost use Rattle.rules.specs.Runs.{ReplayedOn};
 ghost use Rattle.start.specs.Begun.{machineLent};
 ghost use Rattle.start.specs.Ended.{EndedAt};
 
-// How many records a log of so many bytes has, the last one whole or not.
+// How many records a log of `bytes` bytes has, the last one whole or not.
 fn records_in(bytes: usize) -> usize
     ensures { λ r. ⌜ r ≡ (bytes + (logWidth - 1)) / logWidth ⌝ }
 {

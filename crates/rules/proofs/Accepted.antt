@@ -27,7 +27,7 @@ use Rattle.rules.proofs.Inputs.{start}
 
 -- ---- the stores
 
--- whole records: as many bytes as so many records have
+-- whole records: the bytes divide by the width, and the records are no more than the most
 pub whole-bytes : (width most n : ℕ) → whole width most n ≡ true → (n % width ≡ 0) × (n / width ≤ most)
 whole-bytes width most n e =
     let parts = both (eqb (n % width) 0) (leb (n / width) most) e in

@@ -61,7 +61,7 @@ log-stores inputs picks ledger cells budget lent e =
 
 pub record LogPassed (graph arrays inputs picks : List ℕ) (budget ledger cells lent : ℕ) : Type 0 where
   pub stores : Whole (length inputs) (length picks) ledger cells
-  -- so many records, at least
+  -- the log has a record for each firing of the budget, or for as many as there can be
   pub room : (leb budget (lent / logWidth) || leb mostTokens (lent / logWidth)) ≡ true
   pub start : Accepted graph inputs (capacityOf ledger)
 

@@ -79,7 +79,7 @@ module _ {A : Type 0} (w : ℕ) (write : A → List ℕ) (len : (a : A) → leng
 
 -- ---- a ledger and cells with a state in them
 
--- so many cells have so many bytes
+-- the ledger has room for the tokens, and the cells are those of the state
 pub record Rooms (s : State Tag ℤ) (ledger cells : List ℕ) : Type 0 where
   pub forTokens : length (s .tokens) ≤ length ledger / tokenWidth
   pub forCells : length (s .cells) ≡ length cells / cellWidth

@@ -29,7 +29,7 @@ pub data Case : Type 0 where
   bounding : (graph arrays inputs picks : List ℕ) → (budget bound : ℕ) → Values → List (Token Tag ℤ) → Case
   -- the answer alone
   answering : (graph inputs picks : List ℕ) → (budget bound : ℕ) → Values → Case
-  -- one with a log of so many bytes: the answer, the log's bytes
+  -- one with a log of `lent` bytes: the answer, the log's bytes
   logging : (graph inputs : List ℕ) → (budget bound lent : ℕ) → Values → List ℕ → Case
   -- one from a saved state of tokens without a cell, with a table of arrays: the answer, the tokens
   carrying : (graph arrays : List ℕ) → (budget bound firings : ℕ) → (saved : List (Token Tag ℤ)) → Values → List (Token Tag ℤ) → Case

@@ -73,9 +73,9 @@ pub data Case : Type 0 where
   running : (graph inputs picks : List ℕ) → (budget capacity cells : ℕ) → Values → List (Token Tag ℤ) → List Numbered → Case
   -- a run with a table of arrays: what is lent, with the records of the table; the answer, the tokens, the cells that are not absent
   naming : (graph arrays inputs : List ℕ) → (cells : ℕ) → Values → List (Token Tag ℤ) → List Numbered → Case
-  -- a profile of so many bytes: what is lent; the answer, its records, the tokens
+  -- a profile of `lent` bytes: what is lent; the answer, its records, the tokens
   profiling : (graph inputs : List ℕ) → (capacity cells lent : ℕ) → Values → List StepRecord → List (Token Tag ℤ) → Case
-  -- a run with a log of so many bytes: what is lent; the answer, the log's bytes
+  -- a run with a log of `lent` bytes: what is lent; the answer, the log's bytes
   logging : (graph inputs picks : List ℕ) → (budget lent : ℕ) → Values → List ℕ → Case
   -- a replay: what is lent; the answer
   replaying : (graph inputs log : List ℕ) → Values → Case
@@ -485,7 +485,7 @@ distinguishing =
 abbrev pub step : (firings unspent : ℕ) → StepRecord
 step f u = record { firings = f; unspent = u }
 
--- ADD of 7 and -9, with a profile of so many bytes
+-- ADD of 7 and -9, with a profile of `lent` bytes
 abbrev pub added : (lent : ℕ) → Values → List StepRecord → List (Token Tag ℤ) → Case
 added lent a rs ts = profiling (binary 16) (operands (pos 7) (negsuc 8)) 2048 8 lent a rs ts
 

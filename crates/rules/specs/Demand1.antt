@@ -1,6 +1,6 @@
 -- Demand 1: "The answer to a run, over all bytes lent as graph, inputs, picks, ledger and cells, is the one that the rules give [..] A refusal before any
 -- firing is tried leaves ledger and cells untouched; a refused firing leaves both exactly as it found them." The first sentence is `Ran` (specs/Run), which
--- `run` of the crate engine promises. What is stated here holds of every result, and so of whatever keeps `Ran`; it is proved in proofs/Left. Assumes nothing.
+-- `run` of the crate engine promises. What is stated here holds of every result, and so of every run that keeps `Ran`; it is proved in proofs/Left. Assumes nothing.
 use Prim.Native.Nat.{ℕ, _*_}
 use mathlib.Core.Path.{_≡_}
 use mathlib.Core.List.{List}

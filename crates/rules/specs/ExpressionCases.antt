@@ -25,7 +25,7 @@ abbrev pub variable : List ℕ
 variable = term 0 0 0
 
 pub data Case : Type 0 where
-  -- of an expression and an output of so many bytes: the answer
+  -- of an expression and the length of an output: the answer
   making : (expression : List ℕ) → (output : ℕ) → Made → Case
   -- of an expression and an output: what is left there
   writing : (expression output : List ℕ) → (left : List ℕ) → Case

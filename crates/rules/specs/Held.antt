@@ -28,7 +28,7 @@ use Rattle.rules.specs.Saved.{onLeft}
 
 -- ---- where a tag stands in a path
 
--- the iteration of a path that a tag stands at: in the path itself its own, and in a path entered from there the one that it was entered from. So many levels are
+-- the iteration of a path that a tag stands at: in the path itself its own, and in a path entered from there the one that it was entered from. `levels` levels are
 -- looked at
 abbrev pub standsWithin : (levels : ℕ) → Path → Tag → Option ℕ
 standsWithin zero p τ = none

@@ -21,7 +21,7 @@ module _ (graph arrays inputs : List ℕ) (ledger cells : ℕ) where
   abbrev s : State Tag ℤ
   s = firstState inputs (cells / cellWidth)
 
-  -- the firings that the answer counts lead from the inputs to the end, with so many outputs in all. So of the end the invariants hold: a port receives one
+  -- the firings that the answer counts lead from the inputs to the end. So of the end the invariants hold: a port receives one
   -- token at most, tokens are the inputs plus the outputs, a cell is waiting exactly where a token is deferred on it, a tag's operands are spent together,
   -- and results never are
   pub record EndLawful (firings : ℕ) (x : State Tag ℤ) : Type 0 where

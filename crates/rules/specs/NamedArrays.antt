@@ -13,7 +13,7 @@ use Rattle.rules.specs.declared.answer.Checked.the-variants.{Passed}
 use Rattle.rules.specs.Check.{checkArrays}
 use Rattle.rules.specs.InstructionSet.{EffectHere, onCell, arrayAt, cellNumber}
 
--- of the array a, which has the constant n in this table, in a store of so many cells
+-- of the array a, which has the constant n in this table, in a store of `cells` cells
 pub record ByName (cells : ℕ) (table : List NamedArray) (n : ℕ) (a : NamedArray) (f : ℕ → EffectHere) : Type 0 where
   -- "index 1 is its first cell"
   pub inside : (i : ℕ) → 1 ≤ i → i ≤ a .length → onCell cells (cellNumber table (pos n) (pos i)) f ≡ f (a .first + i - 1)

@@ -55,7 +55,7 @@ abbrev pub onLeft : {A : Type 0} → Left → A → ((site : ℕ) → Tag → A)
 onLeft (To site caller) a f = f site caller
 onLeft NoCaller a f = a
 
--- "each path made of sites that have an ENTER with its levels unbroken": LEAVE finds one after the other, and then no caller. So many levels at most
+-- "each path made of sites that have an ENTER with its levels unbroken": LEAVE finds one after the other, and then no caller. `levels` at most
 abbrev pub pathMade : List Instruction → (levels : ℕ) → Tag → Bool
 pathMade g zero τ = onLeft (leaveOf τ) true (λ site caller. false)
 pathMade g (suc n) τ = onLeft (leaveOf τ) true (λ site caller. any (entersSite (pos site)) g && pathMade g n caller)

@@ -45,7 +45,7 @@ pub struct Answer {
     pub tokens: usize,
 }
 
-// The answer of a run that came to this outcome after so many firings, and left so many tokens.
+// The answer of a run with this outcome, its firings and the tokens that it left.
 pub fn answered(outcome: Outcome, firings: usize, tokens: usize) -> Answer
     ensures { λ r. ⌜ r ≡ record { outcome = outcome; firings = firings; tokens = tokens } ⌝ }
 {
@@ -75,13 +75,13 @@ pub enum Checked {
     Failed(Refusal, usize),
 }
 
-// What a graph will need, before it runs: so many firings and so many tokens at most.
+// What a graph will need, before it runs: the most firings and the most tokens.
 pub enum Needs {
     AtMost { firings: usize, tokens: usize },
     Refused(Refusal, usize),
 }
 
-// What becomes of an expression: a graph of so many records.
+// What becomes of an expression: a graph, by the number of its records.
 pub enum Made {
     Records(usize),
     Refused(Refusal, usize),

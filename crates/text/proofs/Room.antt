@@ -39,7 +39,7 @@ use Rattle.text.proofs.Paths.{path-short}
 use Rattle.text.proofs.Decimals.{at-most, short}
 use Rattle.text.proofs.Whole.{joined-append, line-token, line-cell}
 
--- ---- a line by its fields: each has at most so many bytes, and one byte behind it
+-- ---- a line by its fields: each has at most its number of bytes, and one byte behind it
 
 abbrev Each : List (List ℕ) → List ℕ → Type 0
 Each [] [] = Unit {0}

@@ -15,8 +15,6 @@ use Rattle.buffer.proofs.Tables.{length-rows, getD-rows}
 use Rattle.record.specs.Widths.{tokenWidth, cellWidth}
 use Rattle.rules.specs.declared.answer.Answer.{Answer}
 use Rattle.text.specs.Text.{tokenLine, cellLine, cellLines, lines}
-use Rattle.text.specs.Lines.{RoomFor, Added}
-use Rattle.text.proofs.Lines.{both}
 
 -- ---- which line stands where
 
@@ -97,12 +95,3 @@ module _ (ls : List (List ℕ)) where
   made-within j =
       let e = ap (λ (l : List (List ℕ)). length (joined (λ (l : List ℕ). l) l)) (take-append-drop j ls) in
       omega (arith, e, ap length (joined-append (take j ls) (drop j ls)), length-append (made j) (joined (λ (l : List ℕ). l) (drop j ls)))
-
--- ---- the first j lines are put at the start of a buffer: `at` is where they end
-
-module _ (ls : List (List ℕ)) {lent out : List ℕ} {at : ℕ} (j : ℕ) (lt : j < length ls) (a : Added lent out 0 at (made ls j)) where
-  pub next-room : RoomFor lent 0 (joined (λ (l : List ℕ). l) ls) → RoomFor out at (getD ls j [])
-  next-room h = record { room = omega (arith, h .room, a .place, a .kept, made-longer ls j lt, made-within ls (j + 1)) }
-
-  pub next-made : {after : List ℕ} {r : ℕ} → Added out after at r (getD ls j []) → Added lent after 0 r (made ls (j + 1))
-  next-made b = rw (made-next ls j lt) (both a b)

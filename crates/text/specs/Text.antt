@@ -31,7 +31,7 @@ use Rattle.text.specs.declared.Printed.the-variants.{Done, TooSmall}
 abbrev pub digit : ℕ → ℕ
 digit d = 48 + d
 
--- the digits of n, most significant first, by so many steps at most
+-- the digits of n, most significant first, at most as many as there are steps
 abbrev pub digitsBy : (steps n : ℕ) → List ℕ
 digitsBy zero n = []
 digitsBy (suc s) n = elim (ltb n 10) [ true ↦ digit n ∷ [] | false ↦ digitsBy s (n / 10) ++ digit (n % 10) ∷ [] ]

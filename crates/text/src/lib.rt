@@ -22,7 +22,7 @@ ghost use Rattle.record.specs.declared.cell.Cell.the-variants.{Absent};
 ghost use Rattle.record.specs.Widths.{tokenWidth, cellWidth};
 
 pub enum Printed {
-    // So many bytes were written.
+    // How many bytes were written.
     Done(usize),
     TooSmall,
 }
@@ -78,7 +78,7 @@ fn most_first(answer: Answer) -> usize
     }
 }
 
-// Whether a first line of so many bytes and the longest lines of the records are at most `room` bytes.
+// Whether a first line of `first` bytes and the longest lines of the records are at most `room` bytes.
 fn longest_fits(first: usize, listing: &[u8], cells: &[u8], room: usize) -> bool
     ensures { λ r. ⌜ r ≡ leb (first + mostBytes (now (listing .entry)) (now (cells .entry))) room ⌝ }
 {

@@ -31,7 +31,7 @@ fn show(answer: Answer, listing: &[u8], cells: &[u8], out: &mut [u8]) {
     io::write_all(1, b"\n");
 }
 
-// In a buffer of so many bytes.
+// In a buffer of `bytes` bytes.
 fn show_in(answer: Answer, listing: &[u8], cells: &[u8], bytes: usize)
     requires { ⌜ bytes ≤ 512 ⌝ }
 {

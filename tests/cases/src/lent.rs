@@ -105,12 +105,12 @@ impl Lent {
         self
     }
 
-    /// A ledger of so many records that hold garbage.
+    /// A ledger with this capacity, whose records hold garbage.
     pub fn capacity(self, records: usize) -> Lent {
         self.ledger_bytes(records * TOKEN_RECORD)
     }
 
-    /// So many cells that hold garbage.
+    /// Cells that hold garbage, by their number.
     pub fn cells(self, count: usize) -> Lent {
         self.cell_bytes(count * CELL_RECORD)
     }
@@ -129,13 +129,13 @@ impl Lent {
         self
     }
 
-    /// Picks of so many bytes, all zeros.
+    /// Picks of this length in bytes, all zeros.
     pub fn pick_bytes(mut self, length: usize) -> Lent {
         self.picks.length = length;
         self
     }
 
-    /// A ledger of so many bytes; garbage in the first 200.
+    /// A ledger of this length in bytes; garbage in its first ten records.
     pub fn ledger_bytes(mut self, length: usize) -> Lent {
         self.ledger = Part {
             given: garbage(length.min(10 * TOKEN_RECORD)),
@@ -144,7 +144,7 @@ impl Lent {
         self
     }
 
-    /// Cells of so many bytes; garbage in the first 200.
+    /// Cells of this length in bytes; garbage in the first 25.
     pub fn cell_bytes(mut self, length: usize) -> Lent {
         self.cells = Part {
             given: garbage(length.min(25 * CELL_RECORD)),

@@ -36,7 +36,7 @@ pub struct ReplayCase {
     pub says: &'static str,
 }
 
-/// A run with a log of so many records, and the records written.
+/// A run with a log, by the number of its records, and the records written.
 fn logged(
     name: &'static str,
     lent: Lent,

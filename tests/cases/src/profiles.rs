@@ -13,7 +13,7 @@ pub struct ProfileCase {
     pub steps: String,
 }
 
-/// A case with a profile of so many records.
+/// A case with a profile, by the number of its records.
 fn profile(
     name: &'static str,
     lent: Lent,

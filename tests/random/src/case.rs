@@ -11,9 +11,9 @@ use crate::prng::Prng;
 #[derive(Clone)]
 pub enum Call {
     Run,
-    /// A run with a log of so many bytes.
+    /// A run with a log of this length in bytes.
     Logged(usize),
-    /// A profile of so many bytes; picks and budget are not lent.
+    /// A profile of this length in bytes; picks and budget are not lent.
     Profile(usize),
     /// The replay of a log; picks and budget are not lent.
     Replay(Vec<u8>),

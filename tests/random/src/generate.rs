@@ -384,7 +384,7 @@ impl<'a> Generator<'a> {
         self.instruction(FETCH, fan_out, name, vec![address])
     }
 
-    /// A constant of FETCH and STORE for so many cells, and the operand that means the
+    /// A constant of FETCH and STORE for these cells, and the operand that means the
     /// first of them: an array that has them and its index, or 0 and the cell's number.
     fn name(&mut self, first: i32, length: i32) -> (i32, i32) {
         if !self.named || self.prng.one_in(3) {

@@ -6,7 +6,7 @@ use second::Outcome;
 use crate::case::{Case, Left};
 use crate::prng::Prng;
 
-/// The bytes of a profile for a graph of so many steps: just enough, too few, more, or
+/// The bytes of a profile for a graph with these steps: just enough, too few, more, or
 /// not whole.
 pub fn bytes(steps: usize, prng: &mut Prng) -> usize {
     match prng.below(8) {

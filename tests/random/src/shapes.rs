@@ -248,7 +248,7 @@ fn share_arc(draft: &mut Draft, prng: &mut Prng) {
     }
 }
 
-/// Another constant, the name of one of so many arrays at FETCH and STORE.
+/// Another constant; at FETCH and STORE the name of one of the arrays.
 fn change_constant(instruction: &mut Instruction, names: usize, prng: &mut Prng) {
     match instruction.code {
         FETCH | STORE => instruction.constant = prng.below(names + 1) as i32,

@@ -21,7 +21,7 @@ impl NamedArray {
     }
 }
 
-/// A checked table over a store of so many cells.
+/// A checked table, and how many cells its store has.
 pub struct Arrays {
     table: Vec<NamedArray>,
     cell_count: usize,

@@ -5,7 +5,7 @@ use crate::token::Token;
 use crate::{fits, parse_inputs, Refusal, MOST_RECORDS, TOKEN_RECORD};
 
 /// The most firings and tokens of a run, and whether every run that completes or hangs
-/// has just so many, since no SWITCH or FETCH is reached.
+/// has exactly these, since no SWITCH or FETCH is reached.
 #[derive(Clone, Copy, Debug, PartialEq, Eq)]
 pub struct Bounds {
     pub firings: usize,

@@ -330,7 +330,7 @@ impl Lent<'_> {
     }
 }
 
-/// Whether a buffer is whole records and at most so many (01, refusal 7).
+/// Whether a buffer is whole records, and no more than `most` (01, refusal 7).
 fn fits(length: usize, record: usize, most: usize) -> bool {
     length % record == 0 && length / record <= most
 }

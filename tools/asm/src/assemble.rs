@@ -30,7 +30,7 @@ pub struct Instruction {
     pub arcs: Vec<Span>,
 }
 
-/// A named array: its elements, counted from 1, are so many cells from the first on.
+/// A named array: its elements, counted from 1, are the cells from the first on.
 #[derive(Clone, Debug, PartialEq, Eq)]
 pub struct Array {
     pub name: String,

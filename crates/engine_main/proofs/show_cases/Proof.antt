@@ -1,4 +1,4 @@
--- `engine_main::show_cases` is safe and ends: it shows no more than so many cases. Assumes nothing.
+-- `engine_main::show_cases` is safe and ends: it shows at most n cases. Assumes nothing.
 use Prim.Native.Nat.{_-_}
 use native.Mathlib.Omega.{arith}
 use borrow.Author.Needs.{needs}

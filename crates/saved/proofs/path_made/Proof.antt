@@ -1,4 +1,4 @@
--- `saved::path_made` meets its contract. The invariant: so many levels more decide of the path that is left. Assumes nothing.
+-- `saved::path_made` meets its contract. The invariant: the levels that are left decide of the path that is left. Assumes nothing.
 use Prim.Native.Nat.{ℕ, _≤_, _-_, suc}
 use native.Mathlib.Omega.{arith}
 use mathlib.Core.List.{List}

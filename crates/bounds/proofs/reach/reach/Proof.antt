@@ -1,4 +1,4 @@
--- `bounds::reach::reach` meets its contract. The invariant: the table has at least what so many rounds of the definition reach. Assumes nothing.
+-- `bounds::reach::reach` meets its contract. The invariant: the table has at least what the rounds of the definition have reached. Assumes nothing.
 use Prim.Native.Nat.{_-_, _/_, _≤_}
 use native.Mathlib.Omega.{arith}
 use mathlib.Core.List.{List}
