@@ -174,18 +174,18 @@ module _ (graph : List ℕ) (order : Order) (source ledger₀ cells₀ table₀ 
       came {o} (byChoice e) h =
           let more : tableOf count′ table′ ≡ t = held-by (ends o) e ∙ append-nil t in (
             to-do (suc (budget - suc firings)) (omega arith)
-            ∙ onEnds (rangeMachineOf (graphOf graph) (arraysIn tables) (length ledger₀ / tokenWidth) (length cells₀ / cellWidth)) ℤ (effectIn (graphOf graph) (arraysIn tables) (length cells₀ / cellWidth)) (pos 0)
-            (stepIn (graphOf graph) (arraysIn tables) (length cells₀ / cellWidth)) natAbs related (chooserFor order source (graphOf graph) tables ledger₀ cells₀) (budget - suc firings) firings t s o (chosen-there (ends o) e)
-            ∙ (λ i. record { table = sym more i; ended = end M₀ o firings s }),
+                ∙ onEnds (rangeMachineOf (graphOf graph) (arraysIn tables) (length ledger₀ / tokenWidth) (length cells₀ / cellWidth)) ℤ (effectIn (graphOf graph) (arraysIn tables) (length cells₀ / cellWidth)) (pos 0)
+                (stepIn (graphOf graph) (arraysIn tables) (length cells₀ / cellWidth)) natAbs related (chooserFor order source (graphOf graph) tables ledger₀ cells₀) (budget - suc firings) firings t s o (chosen-there (ends o) e)
+                ∙ (λ i. record { table = sym more i; ended = end M₀ o firings s }),
             omega (arith, grown-count count count′ table table′ [] (held-by (ends o) e)),
           )
       came {o} (byRefusal a r e f q) h =
           let more : tableOf count′ table′ ≡ t ++ steps (a .tag) .added = held-by (takes a) e in (
             to-do (suc (budget - suc firings)) (omega arith)
-            ∙ onRefused (rangeMachineOf (graphOf graph) (arraysIn tables) (length ledger₀ / tokenWidth) (length cells₀ / cellWidth)) ℤ (effectIn (graphOf graph) (arraysIn tables) (length cells₀ / cellWidth)) (pos 0)
-            (stepIn (graphOf graph) (arraysIn tables) (length cells₀ / cellWidth)) natAbs related (chooserFor order source (graphOf graph) tables ledger₀ cells₀) (budget - suc firings) firings t s a (chosen-there (takes a) e)
-            (tableOf count′ table′) r (fires-there (a .tag) ∙ (λ i. record { table = sym more i; result = f i }))
-            ∙ (λ i. record { table = tableOf count′ table′; ended = end M₀ (sym q i) firings s }),
+                ∙ onRefused (rangeMachineOf (graphOf graph) (arraysIn tables) (length ledger₀ / tokenWidth) (length cells₀ / cellWidth)) ℤ (effectIn (graphOf graph) (arraysIn tables) (length cells₀ / cellWidth)) (pos 0)
+                (stepIn (graphOf graph) (arraysIn tables) (length cells₀ / cellWidth)) natAbs related (chooserFor order source (graphOf graph) tables ledger₀ cells₀) (budget - suc firings) firings t s a (chosen-there (takes a) e)
+                (tableOf count′ table′) r (fires-there (a .tag) ∙ (λ i. record { table = sym more i; result = f i }))
+                ∙ (λ i. record { table = tableOf count′ table′; ended = end M₀ (sym q i) firings s }),
             omega (arith, grown-count count count′ table table′ (steps (a .tag) .added) more, step-one graph (ready .passed) tables ledger cells used t (a .tag)),
           )
 
@@ -213,8 +213,8 @@ module _ (graph : List ℕ) (order : Order) (source ledger₀ cells₀ table₀ 
     finished h right w said =
         let few = matching-few (so .under .running .matching) in
         let e = to-do 0 (omega arith)
-            ∙ onZero (rangeMachineOf (graphOf graph) (arraysIn tables) (length ledger₀ / tokenWidth) (length cells₀ / cellWidth)) ℤ (effectIn (graphOf graph) (arraysIn tables) (length cells₀ / cellWidth)) (pos 0)
-            (stepIn (graphOf graph) (arraysIn tables) (length cells₀ / cellWidth)) natAbs related (chooserFor order source (graphOf graph) tables ledger₀ cells₀) firings t s in
+        ∙ onZero (rangeMachineOf (graphOf graph) (arraysIn tables) (length ledger₀ / tokenWidth) (length cells₀ / cellWidth)) ℤ (effectIn (graphOf graph) (arraysIn tables) (length cells₀ / cellWidth)) (pos 0)
+        (stepIn (graphOf graph) (arraysIn tables) (length cells₀ / cellWidth)) natAbs related (chooserFor order source (graphOf graph) tables ledger₀ cells₀) firings t s in
         record {
           proceeded = rests-here (graphOf graph) ledger₀ cells₀ start tables (so .under) firings right w said (ap (λ (x : Tabled Refusal Tag Range ℤ). x .ended) e);
           tabled = ap (λ (x : Tabled Refusal Tag Range ℤ). x .table) e;

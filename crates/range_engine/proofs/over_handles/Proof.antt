@@ -22,6 +22,7 @@ over-handles-spec = tie.close (tie.spec
     let a = c .before .before .before .before .before .before .before .before .before .before .before .before .before .before .before .before .before .before .before .before .before .before .before .before .before .before .before .before .before .before .args in
     let b = c .before .before .before .before .before .before .before .before .before .before .before .before .before .before .before .before .before .begin .ensures in
     let g = c .before .before .before .before .before .before .go-on in
-    let f = g .ensures .1 in
-    (told-first (a .graph .now) (a .arrays .now) (a .handles .now) b (a .bound) (a .picks .now) (a .budget) (a .table .now) (g .result) _ _ _ (g .ensures .0),
-    record { few = f .few; room = f .room; size = f .size ∙ b .size; cellSize = f .cellSize ∙ b .cellSize; tableSize = f .tableSize })))
+    let f = g .ensures .1 in (
+      told-first (a .graph .now) (a .arrays .now) (a .handles .now) b (a .bound) (a .picks .now) (a .budget) (a .table .now) (g .result) _ _ _ (g .ensures .0),
+      record { few = f .few; room = f .room; size = f .size ∙ b .size; cellSize = f .cellSize ∙ b .cellSize; tableSize = f .tableSize },
+    )))

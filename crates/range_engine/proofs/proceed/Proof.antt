@@ -20,6 +20,7 @@ proceed-spec = tie.close (tie.spec
     let s = c .before .before .before .before .before .before .before .before .before .before .before .before .before .before .before .before .before .before .before .before .before .before in
     let a = s .args in
     let o = c .before .before .before .before .before .before .before .before .before .before .before .before .before .before .before .before .order-of in
-    let t = c .before .before .before .before .before .before .before .turns in
-    (tells-plain (o .result) (a .picks .now) (o .ensures .0) (graphOf (a .graph .now)) (a .tables .now) _ _ _ _ _ (a .ledger .now) (a .cells .now) (a .table .now) (a .going .used) (a .going .budget) (a .going .count) (t .result) (t .ensures .0),
-    fits-left (t .ensures .0) (t .ensures .0 .proceeded))))
+    let t = c .before .before .before .before .before .before .before .turns in (
+      tells-plain (o .result) (a .picks .now) (o .ensures .0) (graphOf (a .graph .now)) (a .tables .now) _ _ _ _ _ (a .ledger .now) (a .cells .now) (a .table .now) (a .going .used) (a .going .budget) (a .going .count) (t .result) (t .ensures .0),
+      fits-left (t .ensures .0) (t .ensures .0 .proceeded),
+    )))

@@ -27,6 +27,7 @@ proceed-bounded-spec = tie.close (tie.spec
     let s = c .before .before .before .before .before .before .before .before .before .before .before .before .before .before .before .before .before .before .before .before .before .before .before .before .before .before .before .before .before .before .before .before .before in
     let a = s .args in
     let t = c .before .before .before .before .before .before .before .before .before .before .before .before .turns in
-    let p = settled-end (graphOf (a .graph .now)) (a .bound) (a .tables .now) _ _ _ _ _ (a .ledger .now) (a .cells .now) (a .going .used) _ (t .result .answer) _ (s .pre .0 .aritiesRight) (t .ensures .0 .proceeded) (t .ensures .1 .kept .decided) (c .settle .ensures) in
-    (tells-bounded (a .bound) (a .picks .now) (graphOf (a .graph .now)) (a .tables .now) _ _ _ _ _ (a .ledger .now) (a .cells .now) (a .table .now) (a .going .used) (a .going .budget) (a .going .count) (t .result) (t .ensures .0) _ p,
-    fits-left (t .ensures .0) p)))
+    let p = settled-end (graphOf (a .graph .now)) (a .bound) (a .tables .now) _ _ _ _ _ (a .ledger .now) (a .cells .now) (a .going .used) _ (t .result .answer) _ (s .pre .0 .aritiesRight) (t .ensures .0 .proceeded) (t .ensures .1 .kept .decided) (c .settle .ensures) in (
+      tells-bounded (a .bound) (a .picks .now) (graphOf (a .graph .now)) (a .tables .now) _ _ _ _ _ (a .ledger .now) (a .cells .now) (a .table .now) (a .going .used) (a .going .budget) (a .going .count) (t .result) (t .ensures .0) _ p,
+      fits-left (t .ensures .0) p,
+    )))

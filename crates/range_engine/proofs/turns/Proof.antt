@@ -44,9 +44,13 @@ turns-spec = tie.close (tie.spec
     let l = c .before .before .before .before .before .before .before in
     let s = start l in
     let o = s .args .order in
-    let i = l .loop .inv in
-    (s .pre .0, i .0 .under .running, beside-of (s .args .graph .now) (s .pre .0) (i .0 .under .running) o (l .loop .nexts) (l .loop .held) (l .loop .marks) (i .1),
-    back-of (s .args .graph .now) (s .pre .0) (i .0 .under .running) o (l .loop .nexts) (l .loop .held) (l .loop .marks) (i .1), room-for-one (s .args .graph .now) _ _ _ _ _ _ _ _ _ (i .0)))
+    let i = l .loop .inv in (
+      s .pre .0,
+      i .0 .under .running,
+      beside-of (s .args .graph .now) (s .pre .0) (i .0 .under .running) o (l .loop .nexts) (l .loop .held) (l .loop .marks) (i .1),
+      back-of (s .args .graph .now) (s .pre .0) (i .0 .under .running) o (l .loop .nexts) (l .loop .held) (l .loop .marks) (i .1),
+      room-for-one (s .args .graph .now) _ _ _ _ _ _ _ _ _ (i .0),
+    ))
     (λ c. search needs)
     (λ c κs.
     let y = c .before .before .before .before .before .before .before .before .before .before .before .before .before .before in
@@ -59,9 +63,11 @@ turns-spec = tie.close (tie.spec
     let y = c .before .before .before .before .before .before .before .before .before .before .before .before .before .before .before .before .before in
     let l = looped y in
     let s = start l in
-    let e = y .take-turn .ensures in
-    (advanced (s .args .graph .now) _ _ _ _ _ _ _ _ _ (l .loop .inv .0) (s .pre .0) _ _ (e .held) (e .size) (c .before .before .before .before .before .before .before .before .before .before .before .before .before .before .before .before .before .before .before .before .before .before .before .before .loop-test .taken) (rw (c .before .before .before .before .before .before .before .before .before .turned .given .1) at (e .turned)),
-    c .before .before .follow .ensures, c .before .marks .given ∙ l .loop .inv .2))
+    let e = y .take-turn .ensures in (
+      advanced (s .args .graph .now) _ _ _ _ _ _ _ _ _ (l .loop .inv .0) (s .pre .0) _ _ (e .held) (e .size) (c .before .before .before .before .before .before .before .before .before .before .before .before .before .before .before .before .before .before .before .before .before .before .before .before .loop-test .taken) (rw (c .before .before .before .before .before .before .before .before .before .turned .given .1) at (e .turned)),
+      c .before .before .follow .ensures,
+      c .before .marks .given ∙ l .loop .inv .2,
+    ))
     (λ c. search needs)
     (λ c κs. search needs)
     (λ c. search needs)
@@ -73,9 +79,10 @@ turns-spec = tie.close (tie.spec
     let l = looped y in
     let s = start l in
     let e = y .take-turn .ensures in
-    let a = rw (c .before .before .turned2 .given .1) at (e .turned) in
-    (rw (c .answered .ensures) (halted (s .args .graph .now) _ _ _ _ _ _ _ _ _ (l .loop .inv .0) (s .pre .0) _ _ (e .held) (e .size) (c .before .before .before .before .before .before .before .before .before .before .before .before .before .before .before .before .before .loop-test .taken) a),
-    rw (c .answered .ensures) (halted-on (s .args .graph .now) (s .pre .0) (l .loop .inv .0 .under .running) (s .args .order) (l .loop .nexts) (l .loop .held) (l .loop .marks) (a .running) (a .sameLedger) (l .loop .inv .1))))
+    let a = rw (c .before .before .turned2 .given .1) at (e .turned) in (
+      rw (c .answered .ensures) (halted (s .args .graph .now) _ _ _ _ _ _ _ _ _ (l .loop .inv .0) (s .pre .0) _ _ (e .held) (e .size) (c .before .before .before .before .before .before .before .before .before .before .before .before .before .before .before .before .before .loop-test .taken) a),
+      rw (c .answered .ensures) (halted-on (s .args .graph .now) (s .pre .0) (l .loop .inv .0 .under .running) (s .args .order) (l .loop .nexts) (l .loop .held) (l .loop .marks) (a .running) (a .sameLedger) (l .loop .inv .1)),
+    ))
     (λ c κs. let m = c .before .before .before .loop .inv .0 .under .running .matching in (matching-counted m, matching-places m, matching-room m))
     (λ c κs. search needs)
     (λ c. search needs)

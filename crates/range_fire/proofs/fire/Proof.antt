@@ -152,9 +152,10 @@ fire-spec =
     let m = operands f in
     let t = read m in
     let s = start t in
-    let asks = rw (toZ-ofZ (constant-fits e), toZ-ofZ (left-fits f), toZ-ofZ (right-fits f)) at (e .operate .ensures) in
-    (lent-here _ (s .pre .0) (s .pre .1) (s .args .place) (s .pre .2) (s .pre .3) _ _ _ _ (found m),
-    fits-commit _ (s .pre .0) (s .pre .1) (s .args .place) (s .pre .2) (t .token-at .result) (t .token-at .ensures) _ _ _ _ (found m) _ _ (f .instruction-at .ensures) (y .before .before .decode .ensures) _ _ _ _ asks (n .before .before .before .operated2 .given .1) (made n) (o .made2 .given .1)))
+    let asks = rw (toZ-ofZ (constant-fits e), toZ-ofZ (left-fits f), toZ-ofZ (right-fits f)) at (e .operate .ensures) in (
+      lent-here _ (s .pre .0) (s .pre .1) (s .args .place) (s .pre .2) (s .pre .3) _ _ _ _ (found m),
+      fits-commit _ (s .pre .0) (s .pre .1) (s .args .place) (s .pre .2) (t .token-at .result) (t .token-at .ensures) _ _ _ _ (found m) _ _ (f .instruction-at .ensures) (y .before .before .decode .ensures) _ _ _ _ asks (n .before .before .before .operated2 .given .1) (made n) (o .made2 .given .1),
+    ))
     (λ c. search needs)
     (λ c. search needs)
     (λ c. search needs)

@@ -1,0 +1,2 @@
+-- The claims about range runs in bytes, proved. Assumes nothing.
+pub mod Choices
