@@ -16,6 +16,9 @@ struct slice {
 uint64_t unproved_run(const struct slice *graph, const struct slice *arrays, const struct slice *inputs,
                       const struct slice *picks, uint16_t budget, uint16_t bound, const struct slice *ledger,
                       const struct slice *cells);
+uint64_t unproved_run_ranges(const struct slice *graph, const struct slice *arrays, const struct slice *inputs,
+                             const struct slice *picks, uint16_t budget, uint16_t bound, const struct slice *ledger,
+                             const struct slice *cells);
 uint64_t unproved_profile(const struct slice *graph, const struct slice *arrays, const struct slice *inputs,
                           const struct slice *ledger, const struct slice *cells, const struct slice *profile,
                           uint64_t *records);
@@ -64,6 +67,15 @@ uint64_t ttda_run(const uint8_t *graph, size_t graph_len, const uint8_t *arrays,
     const struct slice l = {ledger, ledger_len}, c = {cells, cells_len};
     count();
     return unproved_run(&g, &a, &i, &p, budget, bound, &l, &c);
+}
+
+uint64_t ttda_run_ranges(const uint8_t *graph, size_t graph_len, const uint8_t *arrays, size_t arrays_len, const uint8_t *inputs,
+                         size_t inputs_len, const uint8_t *picks, size_t picks_len, uint16_t budget, uint16_t bound,
+                         uint8_t *ledger, size_t ledger_len, uint8_t *cells, size_t cells_len) {
+    const struct slice g = {graph, graph_len}, a = {arrays, arrays_len}, i = {inputs, inputs_len}, p = {picks, picks_len};
+    const struct slice l = {ledger, ledger_len}, c = {cells, cells_len};
+    count();
+    return unproved_run_ranges(&g, &a, &i, &p, budget, bound, &l, &c);
 }
 
 uint64_t ttda_profile(const uint8_t *graph, size_t graph_len, const uint8_t *arrays, size_t arrays_len, const uint8_t *inputs,

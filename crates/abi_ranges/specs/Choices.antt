@@ -1,4 +1,3 @@
--- Working definition: no public promise cites it.
 -- 02, R-11, in bytes: "For all choices of inputs within their ranges, a completed range run promises that the plain run with equal capacity, cell count and all else
 -- completes with as many firings and that each value lies in its token's range." It speaks of what `run_ranges` (crate range_engine) and `run` (crate engine) promise. The
 -- statements; they are proved in proofs/Choices. Assumes nothing.

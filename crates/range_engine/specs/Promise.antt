@@ -1,4 +1,3 @@
--- Working definition: no public promise cites it.
 -- 02, R-11: the promise of a range run by name, in the words of a run's (`lentToRun`, `leftByRun`). Assumes nothing.
 use Prim.Native.Nat.{ℕ}
 use mathlib.Core.List.{List}
