@@ -24,7 +24,7 @@ int main(void) {
     uint8_t none[1] = {0};
     uint64_t answer = ttda_run(graph, sizeof graph, none, 0, inputs, sizeof inputs, none, 0, 2048, 0,
                                ledger, sizeof ledger, cells, sizeof cells);
-    /* So many bytes of the ledger as the answer has tokens. */
+    /* The bytes of the ledger that have tokens. */
     size_t used = TTDA_TOKEN_BYTES * (size_t)ttda_tokens(answer);
     ttda_list(ledger, used, listing, used);
     size_t written = ttda_print(answer, listing, used, cells, sizeof cells, text, sizeof text);

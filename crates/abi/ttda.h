@@ -249,7 +249,7 @@ uint64_t ttda_serves(const uint8_t *kept_graph, size_t kept_graph_len,
 #define TTDA_TOO_SMALL 0
 #define TTDA_NO_ANSWER 1
 
-/* Room enough for what ttda_print writes of so many tokens and cells. */
+/* Room enough for what ttda_print writes of these tokens and cells. */
 #define TTDA_PRINTED_BYTES(tokens, cells) (74 + 75 * (size_t)(tokens) + 46 * (size_t)(cells))
 
 /* Prints the answer of ttda_run, ttda_carry_on, ttda_run_logged, ttda_replay or ttda_profile, a listing of ttda_list and the cells, as the

@@ -114,7 +114,7 @@ counted NoOutcome firings tokens = NoAnswer
 unfoldable pub unpacked : ℕ → Unpacked
 unpacked n = counted (outcomeOf (n % 65536) (n / 281474976710656)) (n / 65536 % 65536) (n / 4294967296 % 65536)
 
--- the bounds of 02, R-3, as an answer: completed with so many firings and tokens at most, or refused
+-- the bounds of 02, R-3, as an answer: completed, with the most firings and the most tokens, or refused
 abbrev pub answerNeeded : Needs → Answer
 answerNeeded (Bounds.AtMost firings tokens) = record { outcome = Completed; firings = firings; tokens = tokens }
 answerNeeded (Bounds.Refused r place) = record { outcome = Refused r place; firings = 0; tokens = 0 }

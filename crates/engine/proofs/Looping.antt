@@ -1,4 +1,4 @@
--- The loop of a run, whoever chooses: what holds of ledger, cells and log after so many firings, and that a turn, a refusal, the chooser's end and a spent budget end
+-- The loop of a run, whoever chooses: what holds of ledger, cells and log after some firings, and that a turn, a refusal, the chooser's end and a spent budget end
 -- it as the machine's run ends. Assumes nothing.
 use Prim.Native.Nat.{ℕ, suc, _+_, _-_, _*_, _/_, _≤_, _<_}
 use mathlib.Core.Path.{_≡_, refl, sym, ap, _∙_, subst}
@@ -113,7 +113,7 @@ module _ (g : List Instruction) (ledger₀ cells₀ : List ℕ) (start : ℕ) (t
 
 -- ---- the loop
 
--- after so many firings, from a ledger and cells as lent
+-- after some firings, from a ledger and cells as lent
 pub record SoFar (g : List Instruction) (order : Order) (source ledger₀ cells₀ : List ℕ) (start budget : ℕ) (tables links flags ledger cells : List ℕ) (used firings : ℕ) : Type 0 where
   pub within : firings ≤ budget
   pub under : Underway g ledger₀ cells₀ start tables links flags ledger cells used
@@ -121,7 +121,7 @@ pub record SoFar (g : List Instruction) (order : Order) (source ledger₀ cells�
   pub toDo : endOf order source g tables ledger₀ cells₀ start budget
       ≡ runFrom (machineFor g tables ledger₀ cells₀) (chooserFor order source g tables ledger₀ cells₀) (budget - firings) firings (stateIn ledger cells used)
 
--- the log after so many firings, from one as lent
+-- the log after some firings, from one as lent
 pub record Noted (g : List Instruction) (order : Order) (source tables ledger₀ cells₀ log₀ : List ℕ) (start budget : ℕ) (ledger cells log : List ℕ) (used firings : ℕ) : Type 0 where
   pub done : List Tag
   pub count : length done ≡ firings

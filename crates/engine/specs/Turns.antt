@@ -173,7 +173,7 @@ Turned (Turns.Ended o) g chosen asks tables links flags ledger′ cells′ used 
 
 -- ---- a run
 
--- the end of a run from a state of so many tokens, and its log
+-- the end of a run from a state, and its log
 abbrev pub endOf : Order → (source : List ℕ) → List Instruction → (tables ledger cells : List ℕ) → (used budget : ℕ) → End Refusal Tag ℤ
 endOf order source g tables ledger cells used budget = runFrom (machineFor g tables ledger cells) (chooserFor order source g tables ledger cells) budget 0 (stateIn ledger cells used)
 

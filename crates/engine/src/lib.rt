@@ -57,7 +57,7 @@ pub enum Choice {
     Ended(Outcome),
 }
 
-// What a turn of a run comes to: the activity at a place fired and left so many tokens, or the run is at its end.
+// What a turn of a run comes to: the activity at a place fired, with the tokens that it left, or the run is at its end.
 pub enum Turn {
     Fired(usize, usize),
     Ended(Outcome),
@@ -288,7 +288,7 @@ fn note(log: &mut [u8], i: usize, ledger: &[u8], place: usize)
     }
 }
 
-// What a run goes on from and how far: the tokens in the ledger, and the firings that it may do.
+// Where a run resumes: tokens in the ledger, firings left.
 pub struct Going {
     pub used: usize,
     pub budget: usize,

@@ -33,7 +33,7 @@ committedOf capacity ts cs i j a o =
     cond (writesAgain a cs) (refused SecondWrite)
     (ifAdmitted (admittedOf capacity ts o) (done (wokenBy a (spentAt i j ts) ++ outputsOf (contentBy a cs) o) (cellsBy a cs)))
 
--- the code's answer is that of the definition: done with so many tokens, or refused with ledger and cells as they were
+-- the code's answer is that of the definition: done, with the tokens used, or refused with ledger and cells as they were
 abbrev pub CommittedTo : Fired → Committed → (tables links flags ledger′ cells′ : List ℕ) → (used : ℕ) → (ledger cells : List ℕ) → Type 0
 CommittedTo (Fires.Done n) (done ts cs) tables links flags ledger′ cells′ used ledger cells =
     Kept tables links flags ledger′ n ts ledger × CellsKept cells′ cs cells

@@ -78,7 +78,7 @@ isPresent (Present v) = true
 
 -- ---- an action
 
--- the cell that an action names is one of so many
+-- the cell that an action names is one of those that there are
 abbrev pub OnCells : (cells : ℕ) → Action → Type 0
 OnCells n (Send v) = Unit {0}
 OnCells n (Read c) = c < n

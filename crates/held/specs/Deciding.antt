@@ -68,7 +68,7 @@ pub data Dropped (ledger : List ℕ) (place : ℕ) (nexts held nexts′ held′ 
 abbrev pub FlagsUnspent : (flags ledger : List ℕ) → (used : ℕ) → Type 0
 FlagsUnspent flags ledger used = (i : ℕ) → i < used → getD flags i 0 ≡ 1 → isSpent (tokenAt ledger i .content) ≡ false
 
--- what the last call left, of records as they are now: it had looked at so many
+-- what the last call left, of records as they are now, and how many of them it had looked at
 pub record Carried (g : List Instruction) (tables ledger : List ℕ) (bound used : ℕ) (nexts held marks : List ℕ) : Type 0 where
   pub countedNexts : Counted nexts
   pub countedHeld : Counted held

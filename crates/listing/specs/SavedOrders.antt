@@ -21,7 +21,7 @@ CarriedTo graph arrays budget firings n l x = CarriedOn graph arrays (l .picks) 
 abbrev pub NotBadStore : (graph : List ℕ) → LentToRun → Type 0
 NotBadStore graph l = checkGraph graph ≡ Passed → Allowed (l .picks) (length (l .ledger)) (length (l .cells))
 
--- both are lent one state: equal records of so many tokens, equal cells, and room for as many. What stands behind the records may differ
+-- both are lent one state: equal records of the tokens, equal cells, and equal room. What stands behind the records may differ
 pub record OneState (tokens : ℕ) (l m : LentToRun) : Type 0 where
   pub capacity : length (l .ledger) ≡ length (m .ledger)
   pub records : take (tokens * tokenWidth) (l .ledger) ≡ take (tokens * tokenWidth) (m .ledger)

@@ -67,7 +67,7 @@ fn rests(outcome: Outcome, held: usize) -> bool
     }
 }
 
-// Whether a run that ended so ends as every order without a bound does that has so many bytes of picks and this budget.
+// Whether a run that ended so ends as every order without a bound does that has this length of picks and this budget.
 fn any_order(end: Ended, picks: usize, asked: Limits) -> bool
     ensures { λ r. ⌜ r ≡ anyOrder end picks asked ⌝ }
 {

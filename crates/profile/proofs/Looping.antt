@@ -1,4 +1,4 @@
--- The loop of a profile: what holds after so many whole steps, and that a refusal, nothing enabled and no record left end it as the machine's profile ends.
+-- The loop of a profile: what holds after some whole steps, and that a refusal, nothing enabled and no record left end it as the machine's profile ends.
 -- Assumes nothing.
 use Prim.Native.Nat.{ℕ, suc, _+_, _-_, _*_, _/_, _≤_, _<_}
 use mathlib.Core.Path.{_≡_, refl, sym, ap, _∙_, subst}
@@ -80,7 +80,7 @@ length-record : (r : StepRecord) → length (encode r) ≡ stepWidth
 unfolding encode
 length-record r = refl
 
--- after so many whole steps, from ledger, cells and profile as lent
+-- after some whole steps, from ledger, cells and profile as lent
 pub record SoFar (g : List Instruction) (ledger₀ cells₀ profile₀ : List ℕ) (start room : ℕ) (tables links flags ledger cells profile′ : List ℕ) (used unspent firings records : ℕ) : Type 0 where
   pub rs : List StepRecord
   pub counted : length rs ≡ records

@@ -37,7 +37,7 @@ use Rattle.profile.specs.declared.StepEnd.the-variants as StepEnds
 abbrev pub unspentAt : List Instruction → (tables ledger cells : List ℕ) → (used : ℕ) → ℕ
 unspentAt g tables ledger cells used = unspentIn (machineFor g tables ledger cells) (stateIn ledger cells used .tokens)
 
--- the profile from a state, with so many records left and so many firings done
+-- the profile from a state, by the records that are left and the firings done
 abbrev pub profileFrom : List Instruction → (left firings : ℕ) → (tables ledger cells : List ℕ) → (used : ℕ) → Profile Refusal Tag ℤ
 profileFrom g left f tables ledger cells used = profile (machineFor g tables ledger cells) ProfileFull left f (stateIn ledger cells used)
 
@@ -54,7 +54,7 @@ abbrev pub operandsUpTo : (tables ledger from : List ℕ) → ℕ → ℕ
 operandsUpTo tables ledger from zero = 0
 operandsUpTo tables ledger from (suc k) = operandsUpTo tables ledger from k + arityOf tables (tokenAt ledger (getD from k 0) .tag)
 
--- so many firings led from one state of the buffers to another
+-- this number of firings led from one state of the buffers to another
 pub record Went (g : List Instruction) (tables links flags ledger′ cells′ : List ℕ) (done n used : ℕ) (ledger cells : List ℕ) : Type 0 where
   pub log : List Tag
   pub fires : Fires (machineFor g tables ledger cells) (stateIn ledger cells used) log (stateIn ledger′ cells′ n)

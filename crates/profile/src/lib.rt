@@ -34,8 +34,8 @@ ghost use Rattle.profile.specs.Steps.{PlacesIn, operandsUpTo, unspentAt,
 // The bytes of a step's record.
 pub const WIDTH: usize = 4;
 
-// What an ideal step comes to: all its activities fired, so many of them, and left so many tokens, of which so many are live or
-// deferred; or the profile is at its end, after so many of the step's firings and with so many tokens.
+// What an ideal step comes to: all its activities fired, with their number, the tokens, and those of them that are live or
+// deferred; or the profile is at its end, with the firings of the step that were done and the tokens.
 pub enum StepEnd {
     Whole(usize, usize, usize),
     Ended(Outcome, usize, usize),

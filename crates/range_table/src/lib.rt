@@ -59,7 +59,7 @@ pub fn meaning(table: &[u8], count: usize, handle: i32) -> Range
     }
 }
 
-// A new pair at the end of a table of so many.
+// A new pair at the end of a table.
 pub fn add(table: &mut [u8], count: usize, r: Range)
     requires { ⌜ count * pairWidth + pairWidth ≤ length (now table) ⌝ }
     ensures { λ _. ⌜ Added (now (table .entry)) (now (table .exit)) count r ⌝ }

@@ -72,7 +72,7 @@ pub at-least : (c : Call) (cs : List Call) → All CallFits (c ∷ cs) → 65536
 at-least c [] f = omega (arith, f .0 .some)
 at-least c (d ∷ ds) f = rw (pow-suc 65536 (length ds)) (omega (arith, at-least d ds (f .1)))
 
--- where there may be so many levels, ENTER goes in from fewer, and from no others
+-- where there may be `levels` levels, ENTER goes in from fewer, and from no others
 pub enters : (levels : ℕ) (k : Tag) (site : ℕ) (cs : List Call) → All CallFits cs → pathNumber (k .path) ≡ pathOf cs → length cs < levels
     → enterWithin levels k site ≡ In (entered k site)
 unfolding enterWithin

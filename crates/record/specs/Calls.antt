@@ -30,7 +30,7 @@ mostLevels = 8
 abbrev pub entered : Tag → (site : ℕ) → Tag
 entered k site = record { path = pathWords (pathNumber (k .path) * 65536 + site * 256 + k .iteration); iteration = 0; instruction = k .instruction }
 
--- where there may be so many levels; a site is 1 at least, so a path of n levels is at least 65,536 to the n less 1 (proofs/Calls)
+-- where there may be `levels` levels; a site is 1 at least, so a path of n levels is at least 65,536 to the n less 1 (proofs/Calls)
 unfoldable pub enterWithin : (levels : ℕ) → Tag → (site : ℕ) → Entered
 enterWithin levels k site = cond (ltb (pathNumber (k .path)) (65536 ^ (levels - 1))) (In (entered k site)) TooDeep
 
@@ -79,5 +79,5 @@ pub record CallLaws : Type 0 where
       → enterWithin levels k site ≡ In (entered k site)
   pub tooDeep : (levels : ℕ) (k : Tag) (site : ℕ) (cs : List Call) → All CallFits cs → pathNumber (k .path) ≡ pathOf cs → 0 < levels → levels ≤ length cs
       → enterWithin levels k site ≡ TooDeep
-  -- a path of so many levels is a number of so many times 16 bits: 128 for the most, the newest four in the lower 64
+  -- a path of n levels is a number of n times 16 bits: 128 for the most, the newest four in the lower 64
   pub within : (cs : List Call) → All CallFits cs → pathOf cs < 65536 ^ length cs

@@ -265,7 +265,7 @@ fn select_block_but(flags: &[u64; 69], held: &[u64; 69], from: usize, k: usize) 
     0
 }
 
-// The place of one number k, where there are so many.
+// The place of one number k, where there is one.
 fn select_group_but(flags: &[u64; 69], held: &[u64; 69], k: usize) -> usize
     requires { ⌜ Counted (now flags) × Counted (now held) × Under (flagsOf (now held)) (flagsOf (now flags)) × (k < ones (minus (flagsOf (now flags)) (flagsOf (now held)))) ⌝ }
     ensures { λ r. ⌜ r ≡ place k (minus (flagsOf (now (flags .entry))) (flagsOf (now (held .entry)))) ⌝ }

@@ -19,7 +19,7 @@ use crate::walk::Walk;
 pub enum Pace {
     /// All that is enabled at the start of a step fires in it.
     Ideal,
-    /// So many of them at most, those first that were enabled first.
+    /// At most this number of them, those first that were enabled first.
     Processors(u16),
 }
 
@@ -83,7 +83,7 @@ pub fn ideal(machine: &Machine, whole: &[Step]) -> Result<Steps, Failure> {
     Ok(steps)
 }
 
-/// Fires at most so many in a step.
+/// Fires at most this number in a step.
 fn processors(machine: &Machine, most: u16) -> Result<Paced, Failure> {
     let mut steps = Steps {
         what: Pace::Processors(most).step(),
@@ -106,7 +106,7 @@ pub fn in_steps(machine: &Machine, pace: Pace) -> Result<(End, Vec<(usize, Tag)>
     march(machine, most, |_, _, _| {})
 }
 
-/// Fires at most so many in a step, in the order in which they were enabled; the engine fires each. Whole steps are shown, by
+/// Fires at most this number in a step, in the order in which they were enabled; the engine fires each. Whole steps are shown, by
 /// number, firings and what they leave.
 fn march(
     machine: &Machine,
@@ -190,7 +190,7 @@ fn loaded<'m>(machine: &'m Machine<'m>) -> Result<Option<(Vec<Tag>, Walk<'m>)>, 
     Ok(is_there.then_some((tags, walk)))
 }
 
-/// Adds a column: so many firings, and what they leave.
+/// Adds a column: the firings, and what they leave.
 fn add(steps: &mut Steps, machine: &Machine, firings: u32, end: &End) {
     let tokens = end.tokens();
     let unspent = tokens.iter().filter(|token| token.state != State::Spent);

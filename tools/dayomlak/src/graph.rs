@@ -180,7 +180,7 @@ impl Graph {
         Some(instruction.constant)
     }
 
-    /// The instruction that stands so many behind another, if there is one.
+    /// The instruction at this distance behind another, if there is one.
     fn behind(&self, instruction: u16, constant: i32) -> Option<u16> {
         let number = i32::from(instruction).checked_add(constant)?;
         let number = u16::try_from(number).ok()?;

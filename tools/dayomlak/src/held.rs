@@ -14,7 +14,7 @@ use crate::results;
 use crate::saved::view::{self, View};
 use crate::value::Value;
 
-/// So many tokens are named.
+/// How many tokens are named.
 const SHOWN: usize = 4;
 
 const WHY: &str =

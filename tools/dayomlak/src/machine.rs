@@ -311,7 +311,7 @@ impl<'p> Machine<'p> {
         self.profile_within(MOST_RECORDS)
     }
 
-    /// The profile with room for so many steps; before the next one it is refused by 18.
+    /// The profile with room for these steps; before the next one it is refused by 18.
     pub fn profile_within(&self, most: usize) -> (End, Vec<Step>) {
         let (graph, arrays, inputs) = self.lent();
         let (mut profile, mut records) = (vec![0; STEP * most], 0);

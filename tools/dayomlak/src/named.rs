@@ -16,7 +16,7 @@ use crate::results;
 use crate::saved;
 use crate::walk::{self, Walk};
 
-/// So many enabled activities are named.
+/// How many enabled activities are named.
 const SHOWN: usize = 40;
 
 /// The picks of an order in a file of its own.

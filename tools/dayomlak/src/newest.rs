@@ -127,7 +127,7 @@ struct Schedule<'h> {
     graph: &'h Graph,
     history: &'h History,
     known: HashMap<Tag, &'h Firing>,
-    /// The tokens so far, in order of arrival, are so many.
+    /// How many tokens there are so far, in order of arrival.
     arrived: usize,
     /// Where each token arrived.
     places: Vec<usize>,

@@ -16,7 +16,7 @@ use crate::{named, newest};
 
 const WHAT: &str =
     "an order is oldest, newest, random:SEED (a number), typed, picks such as 0,3,1, or a file";
-/// So many picks are named in words.
+/// How many picks are named in words.
 const SHOWN: usize = 12;
 
 #[derive(Clone, Debug, PartialEq, Eq)]

@@ -8,7 +8,7 @@ use crate::machine::{End, Machine};
 use crate::program::Program;
 use crate::records::{Cell, State, Token};
 
-/// So many iterations are named one by one.
+/// How many iterations are named one by one.
 const SHOWN: usize = 8;
 
 /// Results, tokens that wait and cells, a line each. What the run itself wrote comes before what inputs alone wrote, and

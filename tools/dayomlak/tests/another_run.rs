@@ -18,7 +18,7 @@ fn folder_of(folder: &Folder, text: &str) -> String {
     files
 }
 
-/// So many picks as lines of a text.
+/// Picks as lines of a text, by their number.
 fn picks(count: usize) -> String {
     "picks 0\n".repeat(count)
 }

@@ -80,7 +80,7 @@ fn stands_alone(page: &str) {
     }
 }
 
-/// The lines of the listing after so many firings, tokens and cells, as the data of a page give them.
+/// The lines of the listing after these firings, tokens and cells, as the data of a page give them.
 fn lines_at(page: &str, position: usize) -> Vec<String> {
     let at = |item: &str| {
         let changes = between(item, "\"changes\":[[", "]]");

@@ -14,7 +14,7 @@ const LINE: u32 = 18;
 const MARGIN: u32 = 16;
 /// As many characters have room in a line, whatever font is at hand.
 const CHARACTERS: usize = 130;
-/// What the run left stands in so many columns, of so many lines at most.
+/// The columns in which what the run left stands, and the most lines of each.
 const COLUMNS: usize = 3;
 const ROWS: usize = 8;
 /// More steps than this stand close together.

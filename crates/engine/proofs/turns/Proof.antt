@@ -1,4 +1,4 @@
--- `engine::turns` meets its contract. The invariant is what holds after so many firings (proofs/Looping), and what is known of the held activities (proofs/Bounding); the measure
+-- `engine::turns` meets its contract. The invariant is what holds after some firings (proofs/Looping), and what is known of the held activities (proofs/Bounding); the measure
 -- is how many the budget still allows. Assumes nothing.
 use Prim.Native.Nat.{_-_, _<_}
 use mathlib.Core.Path.{_≡_, refl, _∙_}

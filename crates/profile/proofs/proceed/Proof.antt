@@ -1,4 +1,4 @@
--- `profile::proceed` meets its contract. The invariant is what holds after so many whole steps (proofs/Looping), the measure how many records are left.
+-- `profile::proceed` meets its contract. The invariant is what holds after some whole steps (proofs/Looping), the measure how many records are left.
 -- Assumes nothing.
 use Prim.Native.Nat.{_-_, _/_, _<_}
 use mathlib.Core.Path.{_≡_, _∙_}

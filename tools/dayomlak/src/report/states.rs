@@ -1,4 +1,4 @@
-//! The states of a run, firing by firing. Each is what the engine leaves with a budget of so many firings; here they are
+//! The states of a run, firing by firing. Each is what the engine leaves with a budget of its firings; here they are
 //! only compared, and kept as changes.
 
 use std::collections::BTreeMap;

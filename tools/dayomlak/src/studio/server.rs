@@ -13,7 +13,7 @@ use crate::failure::Failure;
 
 /// A browser opens some at once, and holds some open that it may need.
 const MOST_CONNECTIONS: usize = 32;
-/// So many are told that there are too many; the others are closed.
+/// How many are told that there are too many; the others are closed.
 const MOST_THREADS: usize = 64;
 /// A request that is not there by then is not waited for, nor is a reader of its answer.
 const PATIENCE: Duration = Duration::from_secs(10);
