@@ -9,7 +9,7 @@
    Nothing is checked of these three: whoever breaks one has no promise of what happens. All else is checked, and refused by a number.
    Where a row below names what is written, all other bytes lent stay as they were.
 
-   Stack: ttda_run and ttda_run_logged take at most 31 KB, ttda_carry_on 32, ttda_profile 27, ttda_replay 22, ttda_list 17, the others below 8. */
+   Stack: ttda_run and ttda_run_logged take at most 31 KB, ttda_carry_on and ttda_held 32, ttda_profile 27, ttda_replay 22, ttda_list 17, the others below 8. */
 #ifndef TTDA_H
 #define TTDA_H
 
