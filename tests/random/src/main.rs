@@ -81,8 +81,17 @@ impl Harness {
         let (left, result) = compare(case, &mut self.clock);
         if case.bound > 0 {
             self.bounded += 1;
-            return left;
+        } else {
+            self.count(case, &left);
         }
+        if let Err(reason) = result {
+            self.fail(case, &reason);
+        }
+        left
+    }
+
+    /// Counts a call without a bound by what it is and by what it came to.
+    fn count(&mut self, case: &Case, left: &Left) {
         match case.call {
             Call::Run | Call::Logged(_) => self.runs += 1,
             Call::Profile(_) => self.profiles += 1,
@@ -92,16 +101,12 @@ impl Harness {
                 self.carried += 1;
             }
         }
-        self.tally.count(case, &left);
-        if let Err(reason) = result {
-            self.fail(case, &reason);
-        }
-        left
+        self.tally.count(case, left);
     }
 
     /// All calls that were compared.
     fn calls(&self) -> u64 {
-        self.runs + self.profiles + self.replays + self.bounds + self.expressions
+        self.bounded + self.runs + self.profiles + self.replays + self.bounds + self.expressions
     }
 
     fn fail(&mut self, case: &Case, reason: &str) {
