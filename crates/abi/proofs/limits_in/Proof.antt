@@ -7,8 +7,8 @@ use Rattle.abi.proofs.limits_in.Tie as tie
 pub limits-in-spec : {M : Type 1} → statement M
 unfolding limitsIn
 limits-in-spec = tie.close (tie.spec
-    (λ c. search needs)
-    (λ c. search needs)
-    (λ c. search needs)
-    (λ c. search needs)
-    (λ c. search needs))
+    (λ c. search needs)  -- element-copy-out-t4
+    (λ c. search needs)  -- element-copy-out-t8
+    (λ c. search needs)  -- element-copy-out-t12
+    (λ c. search needs)  -- element-copy-out-t16
+    (λ c. search needs))  -- returns

@@ -9,10 +9,10 @@ use Rattle.abi.proofs.ttda_bounds.Tie as tie
 
 pub ttda-bounds-spec : {M : Type 1} → statement M
 ttda-bounds-spec = tie.close (tie.spec
-    (λ c κs. search needs)
-    (λ c. search needs)
-    (λ c κs. search needs)
-    (λ c. search needs)
-    (λ c κs. search needs)
-    (λ c. c .number-of .ensures ∙ ap (λ (n : Needs). packed (valuesNeeded n)) (sym (c .before .before .needs .given .1) ∙ c .before .before .before .before .bounds .ensures .answered))
-    (λ c. c .number-of2 .ensures ∙ ap (λ (n : Needs). packed (valuesNeeded n)) (sym (c .before .before .needs2 .given .1) ∙ c .before .before .before .before .bounds .ensures .answered)))
+    (λ c κs. search needs)  -- bounds-requires
+    (λ c. search needs)  -- enum-known-needs
+    (λ c κs. search needs)  -- number-of-requires
+    (λ c. search needs)  -- enum-known-needs-2
+    (λ c κs. search needs)  -- number-of-requires-2
+    (λ c. c .number-of .ensures ∙ ap (λ (n : Needs). packed (valuesNeeded n)) (sym (c .before .before .needs .given .1) ∙ c .before .before .before .before .bounds .ensures .answered))  -- returns
+    (λ c. c .number-of2 .ensures ∙ ap (λ (n : Needs). packed (valuesNeeded n)) (sym (c .before .before .needs2 .given .1) ∙ c .before .before .before .before .bounds .ensures .answered)))  -- returns-2

@@ -6,9 +6,9 @@ use Rattle.abi.proofs.ttda_convert_log.Tie as tie
 
 pub ttda-convert-log-spec : {M : Type 1} → statement M
 ttda-convert-log-spec = tie.close (tie.spec
-    (λ c κs. search needs)
-    (λ c. search needs)
-    (λ c. search needs)
-    (λ c.
+    (λ c κs. search needs)  -- convert-log-requires
+    (λ c. search needs)  -- converted-number-requires
+    (λ c. search needs)  -- same-length
+    (λ c.  -- returns
     let made = c .before .before .before .convert-log .ensures in
     (c .converted-number .ensures ∙ made .answered, made .written)))

@@ -11,18 +11,18 @@ use Rattle.abi.proofs.ttda_expression.Tie as tie
 
 pub ttda-expression-spec : {M : Type 1} → statement M
 ttda-expression-spec = tie.close (tie.spec
-    (λ c κs. search needs)
-    (λ c. search needs)
-    (λ c κs. search needs)
-    (λ c. search needs)
-    (λ c κs. search needs)
-    (λ c κs. search needs)
-    (λ c. c .before .before .before .before .before .before .to-graph .kept .1 .0)
-    (λ c.
+    (λ c κs. search needs)  -- to-graph-requires
+    (λ c. search needs)  -- enum-known-made
+    (λ c κs. search needs)  -- number-of-requires
+    (λ c. search needs)  -- enum-known-made-2
+    (λ c κs. search needs)  -- refused-requires
+    (λ c κs. search needs)  -- number-of-requires-2
+    (λ c. c .before .before .before .before .before .before .to-graph .kept .1 .0)  -- same-length
+    (λ c.  -- returns
     let m = c .before .before .before .before .before .before .to-graph .ensures in
     (c .number-of .ensures ∙ ap (λ (n : Made). packed (madeNumber n)) (sym (c .before .before .made .given .1) ∙ m .answered), m .outputLeft))
-    (λ c. c .before .before .before .before .before .before .before .to-graph .kept .1 .0)
-    (λ c.
+    (λ c. c .before .before .before .before .before .before .before .to-graph .kept .1 .0)  -- same-length-2
+    (λ c.  -- returns-2
     let m = c .before .before .before .before .before .before .before .to-graph .ensures in (
       c .number-of2 .ensures ∙ ap (λ (a : Answer). packed (valuesOf a)) (c .before .refused .ensures)
           ∙ ap (λ (n : Made). packed (madeNumber n)) (sym (c .before .before .before .made2 .given .1) ∙ m .answered),

@@ -10,11 +10,11 @@ use Rattle.abi.proofs.ttda_held.Tie as tie
 
 pub ttda-held-spec : {M : Type 1} → statement M
 ttda-held-spec = tie.close (tie.spec
-    (λ c κs. search needs)
-    (λ c. search needs)
-    (λ c κs. search needs)
-    (λ c. search needs)
-    (λ c κs. search needs)
-    (λ c κs. search needs)
-    (λ c. c .number-of .ensures ∙ ap (λ (t : Tally). packed (tallyNumber t)) (sym (c .before .before .tally .given .1) ∙ c .before .before .before .before .count .ensures))
-    (λ c. c .number-of2 .ensures ∙ ap (λ (a : Answer). packed (valuesOf a)) (c .before .refused .ensures) ∙ ap (λ (t : Tally). packed (tallyNumber t)) (sym (c .before .before .before .tally2 .given .1) ∙ c .before .before .before .before .before .count .ensures)))
+    (λ c κs. search needs)  -- count-requires
+    (λ c. search needs)  -- enum-known-tally
+    (λ c κs. search needs)  -- number-of-requires
+    (λ c. search needs)  -- enum-known-tally-2
+    (λ c κs. search needs)  -- refused-requires
+    (λ c κs. search needs)  -- number-of-requires-2
+    (λ c. c .number-of .ensures ∙ ap (λ (t : Tally). packed (tallyNumber t)) (sym (c .before .before .tally .given .1) ∙ c .before .before .before .before .count .ensures))  -- returns
+    (λ c. c .number-of2 .ensures ∙ ap (λ (a : Answer). packed (valuesOf a)) (c .before .refused .ensures) ∙ ap (λ (t : Tally). packed (tallyNumber t)) (sym (c .before .before .before .tally2 .given .1) ∙ c .before .before .before .before .before .count .ensures)))  -- returns-2

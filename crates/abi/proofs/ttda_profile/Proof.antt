@@ -9,12 +9,12 @@ use Rattle.abi.proofs.ttda_profile.Tie as tie
 
 pub ttda-profile-spec : {M : Type 1} → statement M
 ttda-profile-spec = tie.close (tie.spec
-    (λ c κs. search needs)
-    (λ c κs. search needs)
-    (λ c. search needs)
-    (λ c. search needs)
-    (λ c. search needs)
-    (λ c.
+    (λ c κs. search needs)  -- profile-requires
+    (λ c κs. search needs)  -- number-of-requires
+    (λ c. search needs)  -- same-length
+    (λ c. search needs)  -- same-length-2
+    (λ c. search needs)  -- same-length-3
+    (λ c.  -- returns
     let ran = c .before .before .before .before .before .before .before .before .profile .ensures in (
       c .number-of .ensures ∙ ap (λ (a : Profiled). packed (valuesOf (a .answer))) (ran .answered),
       (ap (λ (a : Profiled). a .records) (ran .answered), (ran .ledgerLeft, (ran .cellsLeft, ran .profileLeft))),

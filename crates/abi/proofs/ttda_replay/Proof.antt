@@ -8,10 +8,10 @@ use Rattle.abi.proofs.ttda_replay.Tie as tie
 
 pub ttda-replay-spec : {M : Type 1} → statement M
 ttda-replay-spec = tie.close (tie.spec
-    (λ c κs. search needs)
-    (λ c κs. search needs)
-    (λ c. search needs)
-    (λ c. search needs)
-    (λ c.
+    (λ c κs. search needs)  -- replay-requires
+    (λ c κs. search needs)  -- number-of-requires
+    (λ c. search needs)  -- same-length
+    (λ c. search needs)  -- same-length-2
+    (λ c.  -- returns
     let ran = c .before .before .before .before .before .replay .ensures in
     (c .number-of .ensures ∙ ap (λ a. packed (valuesOf a)) (ran .answered), (ran .ledgerLeft, ran .cellsLeft))))

@@ -8,11 +8,11 @@ use Rattle.abi.proofs.ttda_run_logged.Tie as tie
 
 pub ttda-run-logged-spec : {M : Type 1} → statement M
 ttda-run-logged-spec = tie.close (tie.spec
-    (λ c κs. search needs)
-    (λ c κs. search needs)
-    (λ c. search needs)
-    (λ c. search needs)
-    (λ c. search needs)
-    (λ c.
+    (λ c κs. search needs)  -- run-logged-requires
+    (λ c κs. search needs)  -- number-of-requires
+    (λ c. search needs)  -- same-length
+    (λ c. search needs)  -- same-length-2
+    (λ c. search needs)  -- same-length-3
+    (λ c.  -- returns
     let ran = c .before .before .before .before .before .before .before .run-logged .ensures in
     (c .number-of .ensures ∙ ap (λ a. packed (valuesOf a)) (ran .answered), (ran .ledgerLeft, (ran .cellsLeft, ran .logLeft)))))

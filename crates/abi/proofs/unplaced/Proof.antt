@@ -5,5 +5,5 @@ use Rattle.abi.proofs.unplaced.Tie as tie
 
 pub unplaced-spec : {M : Type 1} → statement M
 unplaced-spec = tie.close (tie.spec
-    (λ c. rw (eq-eqb _ _ (c .if1 .taken)))
-    (λ c. rw (ne-eqb _ _ (c .if1 .left))))
+    (λ c. rw (eq-eqb _ _ (c .if1 .taken)))  -- returns
+    (λ c. rw (ne-eqb _ _ (c .if1 .left))))  -- returns-2

@@ -19,14 +19,14 @@ prepared c =
 
 pub count-taken-spec : {M : Type 1} → statement M
 count-taken-spec = tie.close (tie.spec
-    (λ c. search needs)
-    (λ c κs. (c .before .before .before .before .before .pre .0 .graphPassed, omega arith))
-    (λ c κs. let s = c .before .before .before .before .before .before .before .before .before in (prepared (c .before .before .before), s .pre .0 .few, s .pre .0 .cellRecords .0, s .pre .0 .cellRecords .1, refl, refl))
-    (λ c.
+    (λ c. search needs)  -- slice-aggregate-make
+    (λ c κs. (c .before .before .before .before .before .pre .0 .graphPassed, omega arith))  -- make-requires
+    (λ c κs. let s = c .before .before .before .before .before .before .before .before .before in (prepared (c .before .before .before), s .pre .0 .few, s .pre .0 .cellRecords .0, s .pre .0 .cellRecords .1, refl, refl))  -- take-requires
+    (λ c.  -- returns
     let a = c .before .before .before .before .before .before .before .before .before .before .before .args in
     is-damaged (a .graph .now) (a .ledger .now) (a .cells .now) (a .bound) (a .firings) (a .used) (sym (not-true (c .before .take .result) (c .if1 .taken)) ∙ c .before .take .ensures .0))
-    (λ c κs. matching-counted (c .before .before .take .ensures .1 (not-false (c .before .before .take .result) (c .before .if1 .left)) .matching))
-    (λ c.
+    (λ c κs. matching-counted (c .before .before .take .ensures .1 (not-false (c .before .before .take .result) (c .before .if1 .left)) .matching))  -- count-requires
+    (λ c.  -- returns-2
     let k = c .before .before .before .before in
     let a = c .before .before .before .before .before .before .before .before .before .before .before .before .before .before .args in
     let t = not-false (k .take .result) (c .before .before .before .if1 .left) in
@@ -34,19 +34,19 @@ count-taken-spec = tie.close (tie.spec
     is-counted (a .graph .now) (a .ledger .now) (a .cells .now) (a .bound) (a .firings) (a .used) (sym t ∙ k .take .ensures .0) _ _
     (c .before .count .ensures ∙ found-enabled (a .graph .now) r (a .cells .now))
     (found-none (a .graph .now) (a .ledger .now) (a .cells .now) (a .used) ∙ ap (λ (b : ℕ). heldBackIn (a .graph .now) b (a .ledger .now) (a .cells .now) (a .used)) (sym (c .if2 .taken))))
-    (λ c κs.
+    (λ c κs.  -- count-free-requires
     let k = c .before .before .before .before .before .before in
     let a = c .before .before .before .before .before .before .before .before .before .before .before .before .before .before .before .before .args in
     let t = not-false (k .take .result) (c .before .before .before .before .before .if1 .left) in
     let r = ready (prepared (c .before .before .before .before .before .before .before .before .before .before)) (k .take .ensures .1 t) in
     (r, omega (arith, c .before .before .if2 .left), c .before .before .before .before .before .before .before .before .before .before .before .before .before .before .before .before .pre .1))
-    (λ c.
+    (λ c.  -- sub-t26
     let k = c .before .before .before .before .before .before .before in
     let a = c .before .before .before .before .before .before .before .before .before .before .before .before .before .before .before .before .before .args in
     let t = not-false (k .take .result) (c .before .before .before .before .before .before .if1 .left) in
     let r = ready (prepared (c .before .before .before .before .before .before .before .before .before .before .before)) (k .take .ensures .1 t) in
     omega (arith, c .before .before .before .before .count .ensures, free-few (a .graph .now) r (a .cells .now) (a .bound) (c .count-free .result) (c .count-free .ensures)))
-    (λ c.
+    (λ c.  -- returns-3
     let k = c .before .before .before .before .before .before .before in
     let a = c .before .before .before .before .before .before .before .before .before .before .before .before .before .before .before .before .before .args in
     let t = not-false (k .take .result) (c .before .before .before .before .before .before .if1 .left) in

@@ -18,27 +18,27 @@ pub compute-spec : {M : Type 1} → statement M
 compute-spec =
     tie.close
     (tie.spec
-    (λ c. search needs)
-    (λ c κs. search needs)
-    (λ c. search needs)
-    (λ c κs. search needs)
-    (λ c. search needs)
-    (λ c κs. search needs)
-    (λ c. search needs)
-    (λ c κs. search needs)
-    (λ c. search needs)
-    (λ c κs. search needs)
-    (λ c. search needs)
-    (λ c κs. search needs)
-    (λ c. search needs)
-    (λ c κs. search needs)
-    (λ c. search needs)
-    (λ c κs. search needs)
-    (λ c. arm (c .before .before .before) (c .before .enum-told .given .1) (c .add .ensures))
-    (λ c. arm (c .before .before .before) (c .before .enum-told2 .given .1) (c .sub .ensures))
-    (λ c. arm (c .before .before .before) (c .before .enum-told3 .given .1) (c .mul .ensures))
-    (λ c. arm (c .before .before .before) (c .before .enum-told4 .given .1) (c .div .ensures))
-    (λ c. arm (c .before .before .before) (c .before .enum-told5 .given .1) (c .rem .ensures))
-    (λ c. arm (c .before .before .before) (c .before .enum-told6 .given .1) (c .lt .ensures))
-    (λ c. arm (c .before .before .before) (c .before .enum-told7 .given .1) (c .le .ensures))
-    (λ c. arm (c .before .before .before) (c .before .enum-told8 .given .1) (c .eq .ensures)))
+    (λ c. search needs)  -- enum-told
+    (λ c κs. search needs)  -- add-requires
+    (λ c. search needs)  -- enum-told-2
+    (λ c κs. search needs)  -- sub-requires
+    (λ c. search needs)  -- enum-told-3
+    (λ c κs. search needs)  -- mul-requires
+    (λ c. search needs)  -- enum-told-4
+    (λ c κs. search needs)  -- div-requires
+    (λ c. search needs)  -- enum-told-5
+    (λ c κs. search needs)  -- rem-requires
+    (λ c. search needs)  -- enum-told-6
+    (λ c κs. search needs)  -- lt-requires
+    (λ c. search needs)  -- enum-told-7
+    (λ c κs. search needs)  -- le-requires
+    (λ c. search needs)  -- enum-told-8
+    (λ c κs. search needs)  -- eq-requires
+    (λ c. arm (c .before .before .before) (c .before .enum-told .given .1) (c .add .ensures))  -- returns
+    (λ c. arm (c .before .before .before) (c .before .enum-told2 .given .1) (c .sub .ensures))  -- returns-2
+    (λ c. arm (c .before .before .before) (c .before .enum-told3 .given .1) (c .mul .ensures))  -- returns-3
+    (λ c. arm (c .before .before .before) (c .before .enum-told4 .given .1) (c .div .ensures))  -- returns-4
+    (λ c. arm (c .before .before .before) (c .before .enum-told5 .given .1) (c .rem .ensures))  -- returns-5
+    (λ c. arm (c .before .before .before) (c .before .enum-told6 .given .1) (c .lt .ensures))  -- returns-6
+    (λ c. arm (c .before .before .before) (c .before .enum-told7 .given .1) (c .le .ensures))  -- returns-7
+    (λ c. arm (c .before .before .before) (c .before .enum-told8 .given .1) (c .eq .ensures)))  -- returns-8

@@ -40,18 +40,18 @@ alike e d = cc
 pub at-most-spec : {M : Type 1} → statement M
 unfolding Needs.needs
 at-most-spec = tie.close (tie.spec
-    (λ c κs.
+    (λ c κs.  -- given-requires
     let a = c .before .before .args in
     let p = c .before .before .pre in
     inputs-inside (a .graph .now) (graph-passed (a .graph .now) (a .inputs .now) p) (a .inputs .now) (inputs-passed (a .graph .now) (a .inputs .now) p))
-    (λ c κs.
+    (λ c κs.  -- reach-requires
     let a = c .before .before .before .before .args in
     graph-passed (a .graph .now) (a .inputs .now) (c .before .before .before .before .pre))
-    (λ c κs.
+    (λ c κs.  -- total-requires
     let a = c .before .before .before .before .before .before .args in
     omega (arith, passed-length (a .graph .now) (graph-passed (a .graph .now) (a .inputs .now) (c .before .before .before .before .before .before .pre)) .1, length-graph (a .graph .now)))
-    (λ c. search needs)
-    (λ c.
+    (λ c. search needs)  -- add-t12
+    (λ c.  -- returns
     let a = c .before .before .before .before .before .before .before .before .args in
     let p = c .before .before .before .before .before .before .before .before .pre in
     let g = graphOf (a .graph .now) in

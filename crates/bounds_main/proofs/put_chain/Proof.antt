@@ -18,11 +18,11 @@ pub put-chain-spec : {M : Type 1} → statement M
 put-chain-spec = tie.close (tie.spec
     Inv-loop
     μ-loop
-    (λ c. (omega arith, refl))
-    (λ c κs. search needs)
-    (λ c. omega arith)
-    (λ c. omega arith)
-    (λ c. omega arith)
-    (λ c. omega arith)
-    (λ c. omega arith)
-    (λ c. search needs))
+    (λ c. (omega arith, refl))  -- loop-holds
+    (λ c κs. search needs)  -- put-requires
+    (λ c. omega arith)  -- cast-to
+    (λ c. omega arith)  -- add-i
+    (λ c. omega arith)  -- loop-less
+    (λ c. omega arith)  -- loop-again
+    (λ c. omega arith)  -- same-length
+    (λ c. search needs))  -- returns

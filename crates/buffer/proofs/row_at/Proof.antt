@@ -9,8 +9,8 @@ pub row-at-spec : {M : Type 1} → statement M
 row-at-spec =
     tie.close
     (tie.spec
-    (λ c. search needs)
-    (λ c. search needs)
-    (λ c. search needs)
-    (λ c. search needs)
-    (λ c. tail-part (c .before .args .i * c .before .args .width) (c .before .args .s .now)))
+    (λ c. search needs)  -- mul-at
+    (λ c. search needs)  -- sub-result
+    (λ c. search needs)  -- part-result-start
+    (λ c. search needs)  -- part-result-end
+    (λ c. tail-part (c .before .args .i * c .before .args .width) (c .before .args .s .now)))  -- returns

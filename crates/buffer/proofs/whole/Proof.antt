@@ -6,7 +6,7 @@ use Rattle.buffer.proofs.whole.Tie as tie
 
 pub whole-spec : {M : Type 1} → statement M
 whole-spec = tie.close (tie.spec
-    (λ c. search needs)
-    (λ c. search needs)
-    (λ c. rw (eq-eqb _ _ (c .if1 .taken)))
-    (λ c. rw (ne-eqb _ _ (c .if1 .left))))
+    (λ c. search needs)  -- rem-if1
+    (λ c. search needs)  -- div-result
+    (λ c. rw (eq-eqb _ _ (c .if1 .taken)))  -- returns
+    (λ c. rw (ne-eqb _ _ (c .if1 .left))))  -- returns-2

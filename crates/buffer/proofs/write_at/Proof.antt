@@ -11,13 +11,13 @@ use Rattle.buffer.proofs.write_at.Tie as tie
 pub write-at-spec : {M : Type 1} → statement M
 unfolding written
 write-at-spec = tie.close (tie.spec
-    (λ c. search needs)
-    (λ c. search needs)
-    (λ c. search needs)
-    (λ c. search needs)
-    (λ c κs. search needs)
-    (λ c. search needs)
-    (λ c.
+    (λ c. search needs)  -- add-end
+    (λ c. search needs)  -- sub-fill
+    (λ c. search needs)  -- part-fill-start
+    (λ c. search needs)  -- part-fill-end
+    (λ c κs. search needs)  -- fill-requires
+    (λ c. search needs)  -- same-length
+    (λ c.  -- returns
     let d = c .before .before in
     let a = d .before .before .before .before .args in
     rw (d .fill .ensures, post-is (a .at) (a .at + length (a .src .now)) (a .buf .now) (omega arith))))

@@ -28,11 +28,11 @@ pub fields-spec : {M : Type 1} → statement M
 fields-spec = tie.close (tie.spec
     Inv-loop
     μ-loop
-    (λ c κs. search needs)
-    (λ c. (omega arith, refl))
-    (λ c κs. omega arith)
-    (λ c κs. (c .before .before .before .before .counts .ensures, rw (c .row-at .ensures, length-drop) (omega arith)))
-    (λ c.
+    (λ c κs. search needs)  -- counts-requires
+    (λ c. (omega arith, refl))  -- loop-holds
+    (λ c κs. omega arith)  -- row-at-requires
+    (λ c κs. (c .before .before .before .before .counts .ensures, rw (c .row-at .ensures, length-drop) (omega arith)))  -- good-requires
+    (λ c.  -- returns
     let l = c .before .before .before .before .before .loop in
     let a = c .before .before .before .before .before .before .before .before .before .args in
     let g = graphOf (a .graph .now) in
@@ -42,9 +42,9 @@ fields-spec = tie.close (tie.spec
     let e = getD-rows tokenWidth (goodInput g) (length s / tokenWidth) (l .i) s x h ∙ sym (c .before .good2 .ensures ∙ ap (goodInput g) (c .before .before .row-at .ensures)) in
     let t = l .inv .1 ∙ turn (λ k good. demand good BadInput k) (allRows tokenWidth (goodInput g) s) (l .i) x (omega (arith, length-rows tokenWidth (goodInput g) (length s / tokenWidth) s)) e (ap (λ (b : Bool). demand b BadInput (l .i)) (not-true x (c .if1 .taken))) in
     sym t)
-    (λ c. omega arith)
-    (λ c. omega arith)
-    (λ c.
+    (λ c. omega arith)  -- add-i
+    (λ c. omega arith)  -- loop-less
+    (λ c.  -- loop-again
     let l = c .before .before .before .before .before .loop in
     let a = c .before .before .before .before .before .before .before .before .before .args in
     let g = graphOf (a .graph .now) in
@@ -54,7 +54,7 @@ fields-spec = tie.close (tie.spec
     let e = getD-rows tokenWidth (goodInput g) (length s / tokenWidth) (l .i) s x h ∙ sym (c .before .good2 .ensures ∙ ap (goodInput g) (c .before .before .row-at .ensures)) in
     let t = l .inv .1 ∙ turn (λ k good. demand good BadInput k) (allRows tokenWidth (goodInput g) s) (l .i) x (omega (arith, length-rows tokenWidth (goodInput g) (length s / tokenWidth) s)) e (ap (λ (b : Bool). demand b BadInput (l .i)) (not-false x (c .if1 .left))) in
     (omega arith, t))
-    (λ c.
+    (λ c.  -- returns-2
     let a = c .before .before .before .before .before .args in
     let s = a .inputs .now in
     let xs = allRows tokenWidth (goodInput (graphOf (a .graph .now))) s in

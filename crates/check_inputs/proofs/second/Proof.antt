@@ -29,14 +29,14 @@ unfolding secondInput
 second-spec = tie.close (tie.spec
     Inv-loop
     μ-loop
-    (λ c. (omega arith, refl, none-seen, refl))
-    (λ c κs. omega arith)
-    (λ c κs. search needs)
-    (λ c. omega arith)
-    (λ c κs.
+    (λ c. (omega arith, refl, none-seen, refl))  -- loop-holds
+    (λ c κs. omega arith)  -- token-at-requires
+    (λ c κs. search needs)  -- entry-requires
+    (λ c. omega arith)  -- array-read-is-second
+    (λ c κs.  -- is-second-requires
     let t = c .before .token-at .result in
     (omega arith, λ z. c .before .before .before .loop .inv .2 (t .tag) (t .port) (rw (c .entry .ensures .0) at z)))
-    (λ c.
+    (λ c.  -- returns
     let l = c .before .before .before .before .before .loop in
     let s = c .before .before .before .before .before .before .before .args .inputs .now in
     let x = c .before .before .before .token-at .result in
@@ -45,10 +45,10 @@ second-spec = tie.close (tie.spec
     let e = in-tokens s (l .i) h x ∙ sym (c .before .before .before .token-at .ensures) in
     let t = l .inv .1 ∙ turn (λ k t. demand (not (secondInput (take k (tokensOf s)) t)) SecondToken k) (tokensOf s) (l .i) x k e (ap (λ (b : Bool). demand (not b) SecondToken (l .i)) (sym (c .before .is-second .ensures) ∙ c .if1 .taken)) in
     sym t)
-    (λ c. omega arith)
-    (λ c. omega arith)
-    (λ c. omega arith)
-    (λ c.
+    (λ c. omega arith)  -- array-write-seen
+    (λ c. omega arith)  -- add-i
+    (λ c. omega arith)  -- loop-less
+    (λ c.  -- loop-again
     let l = c .before .before .before .before .before .loop in
     let s = c .before .before .before .before .before .before .before .args .inputs .now in
     let x = c .before .before .before .token-at .result in
@@ -62,6 +62,6 @@ second-spec = tie.close (tie.spec
       rw (take-next (tokensOf s) (l .i) x k e, n) (see (take (l .i) (tokensOf s)) (l .seen) x (l .inv .2) (l .inv .3)),
       length-set (l .seen) _ 1 ∙ l .inv .3,
     ))
-    (λ c.
+    (λ c.  -- returns-2
     let s = c .before .before .before .args .inputs .now in
     sym (c .before .loop .inv .1 ∙ turn-end (λ k t. demand (not (secondInput (take k (tokensOf s)) t)) SecondToken k) (tokensOf s) (c .before .loop .i) (omega (arith, length-tokens s)))))

@@ -24,10 +24,10 @@ pub taken-spec : {M : Type 1} → statement M
 taken-spec = tie.close (tie.spec
     Inv-loop
     μ-loop
-    (λ c. (omega arith, refl))
-    (λ c κs. omega arith)
-    (λ c κs. search needs)
-    (λ c.
+    (λ c. (omega arith, refl))  -- loop-holds
+    (λ c κs. omega arith)  -- token-at-requires
+    (λ c κs. search needs)  -- stands-at-requires
+    (λ c.  -- returns
     let l = c .before .before .before .before .loop in
     let a = c .before .before .before .before .before .before .args in
     let s = a .inputs .now in
@@ -37,9 +37,9 @@ taken-spec = tie.close (tie.spec
     let f = standsAt (a .tag) (a .port) in
     let t : any f (take (l .j + 1) (tokensOf s)) ≡ c .before .stands-at .result = any-next f (tokensOf s) (l .j) x (omega (arith, length-tokens s)) e ∙ rw (l .inv .1, ← c .before .stands-at .ensures) in
     sym (any-more f (tokensOf s) (l .j + 1) (a .n) (omega arith) (t ∙ c .if1 .taken)))
-    (λ c. omega arith)
-    (λ c. omega arith)
-    (λ c.
+    (λ c. omega arith)  -- add-j
+    (λ c. omega arith)  -- loop-less
+    (λ c.  -- loop-again
     let l = c .before .before .before .before .loop in
     let a = c .before .before .before .before .before .before .args in
     let s = a .inputs .now in
@@ -49,7 +49,7 @@ taken-spec = tie.close (tie.spec
     let f = standsAt (a .tag) (a .port) in
     let t : any f (take (l .j + 1) (tokensOf s)) ≡ c .before .stands-at .result = any-next f (tokensOf s) (l .j) x (omega (arith, length-tokens s)) e ∙ rw (l .inv .1, ← c .before .stands-at .ensures) in
     (omega arith, t ∙ c .if1 .left))
-    (λ c.
+    (λ c.  -- returns-2
     let l = c .before .loop in
     let e : l .j ≡ c .before .before .before .args .n = omega arith in
     sym (rw e at (l .inv .1))))

@@ -8,6 +8,6 @@ use Rattle.checks.proofs.check.Tie as tie
 pub check-spec : {M : Type 1} → statement M
 unfolding check
 check-spec = tie.close (tie.spec
-    (λ c κs. search needs)
-    (λ c κs. search needs)
-    (λ c. c .in-order .ensures ∙ rw (c .before .check .ensures)))
+    (λ c κs. search needs)  -- check-requires
+    (λ c κs. search needs)  -- in-order-requires
+    (λ c. c .in-order .ensures ∙ rw (c .before .check .ensures)))  -- returns

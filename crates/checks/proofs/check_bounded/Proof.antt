@@ -8,7 +8,7 @@ use Rattle.checks.proofs.check_bounded.Tie as tie
 pub check-bounded-spec : {M : Type 1} → statement M
 unfolding checkBounded
 check-bounded-spec = tie.close (tie.spec
-    (λ c κs. search needs)
-    (λ c κs. search needs)
-    (λ c κs. search needs)
-    (λ c. c .in-order .ensures ∙ rw (c .before .check2 .ensures, c .before .before .check .ensures)))
+    (λ c κs. search needs)  -- check-requires
+    (λ c κs. search needs)  -- check-requires-2
+    (λ c κs. search needs)  -- in-order-requires
+    (λ c. c .in-order .ensures ∙ rw (c .before .check2 .ensures, c .before .before .check .ensures)))  -- returns

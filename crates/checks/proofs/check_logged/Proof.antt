@@ -8,7 +8,7 @@ use Rattle.checks.proofs.check_logged.Tie as tie
 pub check-logged-spec : {M : Type 1} → statement M
 unfolding checkBoundLogged
 check-logged-spec = tie.close (tie.spec
-    (λ c κs. search needs)
-    (λ c κs. search needs)
-    (λ c κs. search needs)
-    (λ c. c .in-order .ensures ∙ rw (c .before .check .ensures, c .before .before .check-logged .ensures)))
+    (λ c κs. search needs)  -- check-logged-requires
+    (λ c κs. search needs)  -- check-requires
+    (λ c κs. search needs)  -- in-order-requires
+    (λ c. c .in-order .ensures ∙ rw (c .before .check .ensures, c .before .before .check-logged .ensures)))  -- returns

@@ -13,13 +13,13 @@ use Rattle.convert.proofs.accepts.Tie as tie
 pub accepts-spec : {M : Type 1} → statement M
 unfolding accepted
 accepts-spec = tie.close (tie.spec
-    (λ c. search needs)
-    (λ c κs. search needs)
-    (λ c. search needs)
-    (λ c. search needs)
-    (λ c.
+    (λ c. search needs)  -- add-width
+    (λ c κs. search needs)  -- whole-requires
+    (λ c. search needs)  -- div-result
+    (λ c. search needs)  -- add-result
+    (λ c.  -- mul-result
     let a = c .before .before in
     let few = whole-bytes (8 + a .args .rest) mostTokens (a .args .old) (sym (c .before .whole .ensures) ∙ c .if1 .taken) .1 in
     record { fits = omega (arith, mul-le-mul {m₁ = 16 + a .args .rest} {n₂ = mostTokens} {m₂ = 28} few (omega arith)) })
-    (λ c. rw (sym (c .before .whole .ensures) ∙ c .if1 .taken))
-    (λ c. rw (sym (c .before .whole .ensures), c .if1 .left)))
+    (λ c. rw (sym (c .before .whole .ensures) ∙ c .if1 .taken))  -- returns
+    (λ c. rw (sym (c .before .whole .ensures), c .if1 .left)))  -- returns-2

@@ -17,16 +17,16 @@ unfolding answer outAfter accepted
 convert-records-spec =
     tie.close
     (tie.spec
-    (λ c κs. search needs)
-    (λ c κs.
+    (λ c κs. search needs)  -- accepts-requires
+    (λ c κs.  -- put-records-requires
     let a = c .before .before .before .before .before in
     let e = sym (c .before .before .accepts .ensures) ∙ c .before .if1 .taken in
     (a .pre, eqb-true _ _ (both (whole (8 + a .args .rest) mostTokens (length (a .args .old .now))) _ e .1)))
-    (λ c. search needs)
-    (λ c.
+    (λ c. search needs)  -- same-length
+    (λ c.  -- returns
     let d = c .before .before .before .before in
     let e = sym (d .before .accepts .ensures) ∙ d .if1 .taken in
     record { answered = rw e; written = rw e (c .before .before .put-records .ensures) })
-    (λ c.
+    (λ c.  -- returns-2
     let e = sym (c .before .accepts .ensures) ∙ c .if1 .left in
     record { answered = rw e; written = rw e }))

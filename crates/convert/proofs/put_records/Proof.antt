@@ -26,16 +26,16 @@ put-records-spec =
     (tie.spec
     Inv-loop
     μ-loop
-    (λ c. search needs)
-    (λ c. search needs)
-    (λ c. (omega arith, c .before .before .pre .1, rw (zero-mul (16 + c .before .before .args .rest))))
-    (λ c κs.
+    (λ c. search needs)  -- add-count
+    (λ c. search needs)  -- div-count
+    (λ c. (omega arith, c .before .before .pre .1, rw (zero-mul (16 + c .before .before .args .rest))))  -- loop-holds
+    (λ c κs.  -- put-record-requires
     let a = c .before .before .before .before .before in
     let l = c .before .before .loop in
     (a .pre .0, (inside-old (a .args .rest) (a .args .old .now) (l .i) (c .before .loop-test .taken), inside-new (a .args .rest) (a .args .old .now) (l .out) (l .i) (l .inv .1) (c .before .loop-test .taken))))
-    (λ c. search needs)
-    (λ c. omega arith)
-    (λ c.
+    (λ c. search needs)  -- add-i
+    (λ c. omega arith)  -- loop-less
+    (λ c.  -- loop-again
     let p = c .before .before .put-record in
     let l = c .before .before .before .before .before .loop in
     let a = c .before .before .before .before .before .before .before .before in
@@ -45,8 +45,8 @@ put-records-spec =
       p .kept .1 .1 .0 ∙ l .inv .1,
       rw (p .ensures) (one-more (a .args .rest) (a .args .old .now) (l .out) (l .i) (inside-old (a .args .rest) (a .args .old .now) (l .i) more) (omega (arith, room)) (l .inv .2)),
     ))
-    (λ c. omega arith)
-    (λ c.
+    (λ c. omega arith)  -- same-length
+    (λ c.  -- returns
     let l = c .before .loop in
     let a = c .before .before .before .before in
     let rest = a .args .rest in

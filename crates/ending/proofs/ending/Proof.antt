@@ -24,25 +24,25 @@ ending-spec =
     (tie.spec
     Inv-loop
     μ-loop
-    (λ c.
+    (λ c.  -- loop-holds
     let s = c .before in
     let ts = tokens (s .args .used) (s .args .ledger .now) in
     let past : length ts ≤ s .args .used = omega (arith, length-rows tokenWidth decode (s .args .used) (s .args .ledger .now)) in
     (omega arith, ap (allBy (s .args .tables .now)) (drop-of-length-le ts past)))
-    (λ c. omega arith)
-    (λ c κs. omega arith)
-    (λ c.
+    (λ c. omega arith)  -- sub-i
+    (λ c κs. omega arith)  -- proper-at-requires
+    (λ c.  -- returns
     let l = c .before .before .before in
     let a = l .before .before .args in
     let next : suc (l .loop .i - 1) ≡ l .loop .i = omega arith in
     ends-hung (a .tables .now) (tokens (a .used) (a .ledger .now)) (stop-here _ _ (a .used) _ _ next (l .loop .inv .0) (sym (c .before .proper-at .ensures) ∙ not-true _ (c .if1 .taken))))
-    (λ c. omega arith)
-    (λ c.
+    (λ c. omega arith)  -- loop-less
+    (λ c.  -- loop-again
     let l = c .before .before .before in
     let a = l .before .before .args in
     let next : suc (l .loop .i - 1) ≡ l .loop .i = omega arith in
     (omega arith, pass-on (a .tables .now) (a .ledger .now) (a .used) _ _ next (l .loop .inv .0) (l .loop .inv .1) (sym (c .before .proper-at .ensures) ∙ not-false _ (c .if1 .left))))
-    (λ c.
+    (λ c.  -- returns-2
     let l = c .before in
     let a = l .before .before .args in
     let none : l .loop .i ≡ 0 = omega arith in

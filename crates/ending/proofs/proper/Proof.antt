@@ -7,10 +7,10 @@ pub proper-spec : {M : Type 1} → statement M
 proper-spec =
     tie.close
     (tie.spec
-    (λ c. search needs)
-    (λ c κs. search needs)
-    (λ c. search needs)
-    (λ c. search needs)
-    (λ c. rw (c .before .before .enum-told .given .1, c .arity .ensures))
-    (λ c. search needs)
-    (λ c. search needs))
+    (λ c. search needs)  -- enum-told
+    (λ c κs. search needs)  -- arity-requires
+    (λ c. search needs)  -- enum-told-2
+    (λ c. search needs)  -- enum-told-3
+    (λ c. rw (c .before .before .enum-told .given .1, c .arity .ensures))  -- returns
+    (λ c. search needs)  -- returns-2
+    (λ c. search needs))  -- returns-3

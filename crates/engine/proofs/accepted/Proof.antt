@@ -7,12 +7,12 @@ use Rattle.engine.proofs.accepted.Tie as tie
 
 pub accepted-spec : {M : Type 1} → statement M
 accepted-spec = tie.close (tie.spec
-    (λ c κs. (c .before .before .before .before .before .before .before .before .before .before .before .before .pre .0, refl, refl))
-    (λ c κs. let b = c .before .before .before .before .before .before .before .before .before .before in (b .begin .ensures .prepared, b .begin .ensures .running, c .before .before .before .before .before .before .before .before .before .before .before .before .before .before .before .before .before .before .before .before .before .before .before .pre .1))
-    (λ c. search needs)
-    (λ c. search needs)
-    (λ c. search needs)
-    (λ c.
+    (λ c κs. (c .before .before .before .before .before .before .before .before .before .before .before .before .pre .0, refl, refl))  -- begin-requires
+    (λ c κs. let b = c .before .before .before .before .before .before .before .before .before .before in (b .begin .ensures .prepared, b .begin .ensures .running, c .before .before .before .before .before .before .before .before .before .before .before .before .before .before .before .before .before .before .before .before .before .before .before .pre .1))  -- go-on-requires
+    (λ c. search needs)  -- same-length
+    (λ c. search needs)  -- same-length-2
+    (λ c. search needs)  -- same-length-3
+    (λ c.  -- returns
     let p = c .before .before .before .before .before .before .go-on in
     let b = c .before .before .before .before .before .before .before .before .before .before .before .before .before .before .before .before .before .begin in
     let s = c .before .before .before .before .before .before .before .before .before .before .before .before .before .before .before .before .before .before .before .before .before .before .before .before .before .before .before .before .before .before in

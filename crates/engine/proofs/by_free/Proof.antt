@@ -19,21 +19,21 @@ numbered free picks f place pick e number a b c d = d ∙ ap (λ (n : ℕ). getD
 pub by-free-spec : {M : Type 1} → statement M
 unfolding picksOf
 by-free-spec = tie.close (tie.spec
-    (λ c κs. let s = c .before .before in (matching-counted (s .pre .0 .matching), s .pre .1, s .pre .2))
-    (λ c κs. matching-room (c .before .before .before .before .pre .0 .matching))
-    (λ c. λ bound g right arrived back table capacity count cs.
+    (λ c κs. let s = c .before .before in (matching-counted (s .pre .0 .matching), s .pre .1, s .pre .2))  -- count-but-requires
+    (λ c κs. matching-room (c .before .before .before .before .pre .0 .matching))  -- ending-requires
+    (λ c. λ bound g right arrived back table capacity count cs.  -- returns
     let n = c .before .before in
     let s = n .before .before .before in
     free-none (s .args .tables .now) (s .args .ledger .now) (s .args .used) g right arrived table capacity count cs (s .pre .0 .links) (s .args .flags .now) (s .args .held .now) (s .pre .0 .matching) bound back (picksOf (s .args .picks .now)) (s .args .firings)
     (sym (n .count-but .ensures) ∙ c .before .if1 .taken) _ (c .ending .ensures))
-    (λ c κs. search needs)
-    (λ c κs. search needs)
-    (λ c κs.
+    (λ c κs. search needs)  -- pick-at-requires
+    (λ c κs. search needs)  -- number-of-requires
+    (λ c κs.  -- free-at-requires
     let n = c .before .before .before in
     let s = c .before .before .before .before .before .before in
     let low : c .number-of .result < n .count-but .result = rw (c .number-of .ensures) (mod-lt (c .before .pick-at .result) (omega (arith, c .before .before .if1 .left))) in
     (matching-counted (s .pre .0 .matching), s .pre .1, s .pre .2, subst (λ (k : ℕ). c .number-of .result < k) (n .count-but .ensures) low))
-    (λ c. λ bound g right arrived back table capacity count cs.
+    (λ c. λ bound g right arrived back table capacity count cs.  -- returns-2
     let n = c .before .before .before .before in
     let s = n .before .before .before in
     free-there (s .args .tables .now) (s .args .ledger .now) (s .args .used) g right arrived table capacity count cs (s .pre .0 .links) (s .args .flags .now) (s .args .held .now) (s .pre .0 .matching) bound back (picksOf (s .args .picks .now)) (s .args .firings) _

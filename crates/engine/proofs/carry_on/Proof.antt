@@ -8,21 +8,21 @@ use Rattle.engine.proofs.carry_on.Tie as tie
 
 pub carry-on-spec : {M : Type 1} → statement M
 carry-on-spec = tie.close (tie.spec
-    (λ c κs. search needs)
-    (λ c. search needs)
-    (λ c κs. search needs)
-    (λ c. search needs)
-    (λ c κs.
+    (λ c κs. search needs)  -- check-lent-requires
+    (λ c. search needs)  -- enum-known-checked
+    (λ c κs. search needs)  -- refused-requires
+    (λ c. search needs)  -- enum-told
+    (λ c κs.  -- resume-requires
     let k = c .before .before .before .before in
     let a = k .before .before .before .before .before .before .args in
     (lent (a .graph .now) (a .arrays .now) (a .picks .now) (a .ledger .now) (a .cells .now) (a .budget) (a .bound) (a .firings) (a .tokens) (sym (k .check-lent .ensures) ∙ c .before .before .enum-told .given .1), omega arith, omega arith, omega arith))
-    (λ c.
+    (λ c.  -- returns
     let k = c .before .before .before .before in
     let a = k .before .before .before .before .before .before .args in
     failed (a .graph .now) (a .arrays .now) (a .picks .now) (a .ledger .now) (a .cells .now) (a .budget) (a .bound) (a .firings) (a .tokens) _ _ (sym (k .check-lent .ensures) ∙ c .before .before .checked .given .1) _ (c .refused .ensures))
-    (λ c. search needs)
-    (λ c. search needs)
-    (λ c.
+    (λ c. search needs)  -- same-length
+    (λ c. search needs)  -- same-length-2
+    (λ c.  -- returns-2
     let r = c .before .before .before .before in
     let k = r .before .before .before .before .before in
     let a = k .before .before .before .before .before .before .args in

@@ -7,5 +7,5 @@ use Rattle.engine.proofs.check_graph.Tie as tie
 
 pub check-graph-spec : {M : Type 1} → statement M
 check-graph-spec = tie.close (tie.spec
-    (λ c κs. search needs)
-    (λ c. (c .check .ensures, ap valuesChecked (c .check .ensures))))
+    (λ c κs. search needs)  -- check-requires
+    (λ c. (c .check .ensures, ap valuesChecked (c .check .ensures))))  -- returns

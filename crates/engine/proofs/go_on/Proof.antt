@@ -12,17 +12,17 @@ use Rattle.engine.proofs.go_on.Tie as tie
 
 pub go-on-spec : {M : Type 1} → statement M
 go-on-spec = tie.close (tie.spec
-    (λ c κs. let s = c .before .before .before .before .before .before .before .before .before .before .before in (s .pre .0, s .pre .1, omega (arith, c .before .before .before .before .before .if1 .taken), s .pre .2))
-    (λ c. search needs)
-    (λ c. search needs)
-    (λ c. search needs)
-    (λ c. let p = c .before .before .before .before .before .before .proceed-bounded in (p .ensures .0, p .ensures .1))
-    (λ c κs. search needs)
-    (λ c κs. let s = c .before .before .before .before .before .before .before .before .before .before .before .before in (s .pre .0, s .pre .1, c .before .before .before .before .before .order-of .ensures .1))
-    (λ c. search needs)
-    (λ c. search needs)
-    (λ c. search needs)
-    (λ c.
+    (λ c κs. let s = c .before .before .before .before .before .before .before .before .before .before .before in (s .pre .0, s .pre .1, omega (arith, c .before .before .before .before .before .if1 .taken), s .pre .2))  -- proceed-bounded-requires
+    (λ c. search needs)  -- same-length
+    (λ c. search needs)  -- same-length-2
+    (λ c. search needs)  -- same-length-3
+    (λ c. let p = c .before .before .before .before .before .before .proceed-bounded in (p .ensures .0, p .ensures .1))  -- returns
+    (λ c κs. search needs)  -- order-of-requires
+    (λ c κs. let s = c .before .before .before .before .before .before .before .before .before .before .before .before in (s .pre .0, s .pre .1, c .before .before .before .before .before .order-of .ensures .1))  -- proceed-requires
+    (λ c. search needs)  -- same-length-4
+    (λ c. search needs)  -- same-length-5
+    (λ c. search needs)  -- same-length-6
+    (λ c.  -- returns-2
     let s = c .before .before .before .before .before .before .before .before .before .before .before .before .before .before .before .before .before .before .before in
     let a = s .args in
     let o = c .before .before .before .before .before .before .before .before .before .before .before .before .order-of in

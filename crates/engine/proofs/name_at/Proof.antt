@@ -8,6 +8,6 @@ use Rattle.engine.proofs.name_at.Tie as tie
 
 pub name-at-spec : {M : Type 1} → statement M
 name-at-spec = tie.close (tie.spec
-    (λ c. name-past (c .before .before .args .log .now) (c .before .before .args .i) (c .if1 .taken))
-    (λ c κs. search needs)
-    (λ c. c .name-at .ensures ∙ name-there (c .before .before .before .args .log .now) (c .before .before .before .args .i) (omega (arith, c .before .if1 .left))))
+    (λ c. name-past (c .before .before .args .log .now) (c .before .before .args .i) (c .if1 .taken))  -- returns
+    (λ c κs. search needs)  -- name-at-requires
+    (λ c. c .name-at .ensures ∙ name-there (c .before .before .before .args .log .now) (c .before .before .before .args .i) (omega (arith, c .before .if1 .left))))  -- returns-2

@@ -9,10 +9,10 @@ use Rattle.engine.proofs.note.Tie as tie
 pub note-spec : {M : Type 1} → statement M
 unfolding noted
 note-spec = tie.close (tie.spec
-    (λ c κs. search needs)
-    (λ c κs. search needs)
-    (λ c. search needs)
-    (λ c.
+    (λ c κs. search needs)  -- token-at-requires
+    (λ c κs. search needs)  -- put-tag-requires
+    (λ c. search needs)  -- same-length
+    (λ c.  -- returns
     let p = c .before .before in
     p .put-tag .ensures ∙ rw (lt-ltb _ _ (p .before .before .before .if1 .taken), p .before .before .token-at .ensures))
-    (λ c. rw (le-ltb _ _ (c .if1 .left))))
+    (λ c. rw (le-ltb _ _ (c .if1 .left))))  -- returns-2

@@ -6,4 +6,7 @@ use Rattle.engine.proofs.number_of.Statement.{statement}
 use Rattle.engine.proofs.number_of.Tie as tie
 
 pub number-of-spec : {M : Type 1} → statement M
-number-of-spec = tie.close (tie.spec (λ c. search needs) (λ c. sym (mod-eq-of-lt (c .if1 .taken))) (λ c. search needs))
+number-of-spec = tie.close (tie.spec
+    (λ c. search needs)  -- rem-result
+    (λ c. sym (mod-eq-of-lt (c .if1 .taken)))  -- returns
+    (λ c. search needs))  -- returns-2

@@ -18,5 +18,5 @@ none-lent (x ∷ l) h = absurd (omega arith)
 
 pub order-of-spec : {M : Type 1} → statement M
 order-of-spec = tie.close (tie.spec
-    (λ c. (λ g table capacity count. ap (byPick (machineOf g table capacity count) (byPicks (machineOf g table capacity count))) (none-lent (c .before .args .picks .now) (c .if1 .taken)), tt))
-    (λ c. (λ g table capacity count. refl, tt)))
+    (λ c. (λ g table capacity count. ap (byPick (machineOf g table capacity count) (byPicks (machineOf g table capacity count))) (none-lent (c .before .args .picks .now) (c .if1 .taken)), tt))  -- returns
+    (λ c. (λ g table capacity count. refl, tt)))  -- returns-2

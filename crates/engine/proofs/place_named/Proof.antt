@@ -28,14 +28,14 @@ module _ (c : tie.After-enabled-at) where
 
 pub place-named-spec : {M : Type 1} → statement M
 place-named-spec = tie.close (tie.spec
-    (λ c κs. matching-counted (c .before .pre))
-    (λ c κs. (matching-counted (c .before .before .before .pre), omega (arith, some (c .before) (not-true (c .before .is-empty .result) (c .if1 .taken)))))
-    (λ c κs. omega (arith, there c, matching-room (c .before .before .before .before .pre)))
-    (λ c κs. search needs)
-    (λ c.
+    (λ c κs. matching-counted (c .before .pre))  -- is-empty-requires
+    (λ c κs. (matching-counted (c .before .before .before .pre), omega (arith, some (c .before) (not-true (c .before .is-empty .result) (c .if1 .taken)))))  -- enabled-at-requires
+    (λ c κs. omega (arith, there c, matching-room (c .before .before .before .before .pre)))  -- token-at-requires
+    (λ c κs. search needs)  -- same-requires
+    (λ c.  -- returns
     let f = c .before .before .before .before in
     let s = f .before .before .before .before in
     let same = ap (λ (t : Token). sameTag (t .tag) (s .args .tag)) (sym (c .before .before .before .token-at .ensures)) ∙ sym (c .before .same .ensures) ∙ c .if2 .taken in
     (first-named (s .pre) (enabled f) (f .enabled-at .result) (f .enabled-at .ensures .0) (s .args .tag) same, there f))
-    (λ c κs. matching-known (c .before .before .before .pre))
-    (λ c. c .enabled-by-tag .ensures))
+    (λ c κs. matching-known (c .before .before .before .pre))  -- enabled-by-tag-requires
+    (λ c. c .enabled-by-tag .ensures))  -- returns-2

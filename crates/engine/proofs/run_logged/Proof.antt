@@ -20,21 +20,21 @@ unfolding boundLogged logUnlessFailed logAfter answer ledgerAfter cellsAfter
 run-logged-spec =
     tie.close
     (tie.spec
-    (λ c κs. search needs)
-    (λ c. search needs)
-    (λ c κs. search needs)
-    (λ c. search needs)
-    (λ c κs.
+    (λ c κs. search needs)  -- check-logged-requires
+    (λ c. search needs)  -- enum-known-checked
+    (λ c κs. search needs)  -- refused-requires
+    (λ c. search needs)  -- enum-told
+    (λ c κs.  -- accepted-requires
     let a = c .before .before .before .before .before .before .before .before .before .before .before .before .before .args in
     (accepted-logged (a .graph .now) (a .arrays .now) (a .inputs .now) (a .picks .now) (a .budget) (a .bound) (length (a .ledger .now)) (length (a .cells .now)) (length (a .log .now)) (sym (c .before .before .before .before .before .check-logged .ensures) ∙ c .before .before .before .enum-told .given .1), omega arith))
-    (λ c.
+    (λ c.  -- returns
     let e = sym (c .before .before .before .before .check-logged .ensures) ∙ c .before .before .checked .given .1 in
     let r = c .refused .ensures in
     rw e (record { answered = r; numbers = ap valuesOf r; ledgerLeft = refl; cellsLeft = refl; logLeft = refl }))
-    (λ c. search needs)
-    (λ c. search needs)
-    (λ c. search needs)
-    (λ c.
+    (λ c. search needs)  -- same-length
+    (λ c. search needs)  -- same-length-2
+    (λ c. search needs)  -- same-length-3
+    (λ c.  -- returns-2
     let a = c .before .before .before .before .before .before .before .before .before .before .before .before .before .before .before .before .before .before .before .before .args in
     let e = sym (c .before .before .before .before .before .before .before .before .before .before .before .before .check-logged .ensures) ∙ c .before .before .before .before .before .before .before .before .before .before .enum-told .given .1 in
     let r = c .before .before .before .before .before .before .accepted .ensures in

@@ -7,8 +7,8 @@ use Rattle.engine.proofs.settle.Tie as tie
 
 pub settle-spec : {M : Type 1} → statement M
 settle-spec = tie.close (tie.spec
-    (λ c κs. let s = c .before in (s .pre .0, s .pre .1, s .pre .2))
-    (λ c κs. c .before .before .before .pre .3)
-    (λ c κs. search needs)
-    (λ c. restsThere (sym (c .before .before .before .count-but .ensures) ∙ c .before .before .if1 .taken) _ (c .before .ending .ensures) (c .answered .ensures))
-    (λ c. asItWas (λ z. c .if1 .left (c .before .count-but .ensures ∙ z)) refl))
+    (λ c κs. let s = c .before in (s .pre .0, s .pre .1, s .pre .2))  -- count-but-requires
+    (λ c κs. c .before .before .before .pre .3)  -- ending-requires
+    (λ c κs. search needs)  -- answered-requires
+    (λ c. restsThere (sym (c .before .before .before .count-but .ensures) ∙ c .before .before .if1 .taken) _ (c .before .ending .ensures) (c .answered .ensures))  -- returns
+    (λ c. asItWas (λ z. c .if1 .left (c .before .count-but .ensures ∙ z)) refl))  -- returns-2

@@ -17,11 +17,11 @@ first-changed-spec =
     (tie.spec
     Inv-loop
     μ-loop
-    (λ c. tt)
-    (λ c. omega arith)
-    (λ c. omega arith)
-    (λ c. tt)
-    (λ c. omega arith)
-    (λ c. omega arith)
-    (λ c. tt)
-    (λ c. tt))
+    (λ c. tt)  -- loop-holds
+    (λ c. omega arith)  -- shared-slice-read-if1
+    (λ c. omega arith)  -- shared-slice-read-if1-2
+    (λ c. tt)  -- returns
+    (λ c. omega arith)  -- add-i
+    (λ c. omega arith)  -- loop-less
+    (λ c. tt)  -- loop-again
+    (λ c. tt))  -- returns-2

@@ -19,14 +19,14 @@ pub say-run-spec : {M : Type 1} → statement M
 say-run-spec =
     tie.close
     (tie.spec
-    (λ c. search needs)
-    (λ c κs. search needs)
-    (λ c. search needs)
+    (λ c. search needs)  -- slice-aggregate-print
+    (λ c κs. search needs)  -- print-requires
+    (λ c. search needs)  -- enum-known-n
     array-share-prefix-out
     slice-aggregate-say
-    (λ c κs. search needs)
-    (λ c. search needs)
-    (λ c. search needs)
-    (λ c κs. search needs)
-    (λ c. search needs)
-    (λ c. search needs))
+    (λ c κs. search needs)  -- say-requires
+    (λ c. search needs)  -- enum-told
+    (λ c. search needs)  -- slice-aggregate-say-2
+    (λ c κs. search needs)  -- say-requires-2
+    (λ c. search needs)  -- returns
+    (λ c. search needs))  -- returns-2

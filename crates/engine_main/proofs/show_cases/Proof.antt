@@ -17,12 +17,12 @@ show-cases-spec =
     (tie.spec
     Inv-loop
     μ-loop
-    (λ c. tt)
-    (λ c κs. search needs)
-    (λ c. tt)
-    (λ c κs. search needs)
-    (λ c κs. search needs)
-    (λ c. omega arith)
-    (λ c. omega arith)
-    (λ c. tt)
-    (λ c. tt))
+    (λ c. tt)  -- loop-holds
+    (λ c κs. search needs)  -- read-mark-requires
+    (λ c. tt)  -- returns
+    (λ c κs. search needs)  -- show-name-requires
+    (λ c κs. search needs)  -- show-parts-requires
+    (λ c. omega arith)  -- add-shown
+    (λ c. omega arith)  -- loop-less
+    (λ c. tt)  -- loop-again
+    (λ c. tt))  -- returns-2

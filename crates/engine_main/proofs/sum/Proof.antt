@@ -18,13 +18,13 @@ sum-spec =
     (tie.spec
     Inv-loop
     μ-loop
-    (λ c. omega arith)
-    (λ c. omega arith)
-    (λ c. omega arith)
-    (λ c κs. search needs)
-    (λ c. omega arith)
-    (λ c. omega arith)
-    (λ c. omega arith)
-    (λ c. omega arith)
-    (λ c. omega arith)
-    (λ c. search needs))
+    (λ c. omega arith)  -- loop-holds
+    (λ c. omega arith)  -- mul-total
+    (λ c. omega arith)  -- shared-slice-read-wide
+    (λ c κs. search needs)  -- wide-requires
+    (λ c. omega arith)  -- add-total
+    (λ c. omega arith)  -- add-total-2
+    (λ c. omega arith)  -- add-i
+    (λ c. omega arith)  -- loop-less
+    (λ c. omega arith)  -- loop-again
+    (λ c. search needs))  -- returns

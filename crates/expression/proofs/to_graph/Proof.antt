@@ -15,17 +15,17 @@ use Rattle.expression.proofs.to_graph.Tie as tie
 
 pub to-graph-spec : {M : Type 1} → statement M
 to-graph-spec = tie.close (tie.spec
-    (λ c κs. search needs)
-    (λ c. search needs)
-    (λ c κs. sym (c .before .before .before .made .ensures) ∙ c .before .enum-told .given .1)
-    (λ c. search needs)
-    (λ c. search needs)
-    (λ c. c .before .before .write .kept .1 .0)
-    (λ c.
+    (λ c κs. search needs)  -- made-requires
+    (λ c. search needs)  -- enum-told
+    (λ c κs. sym (c .before .before .before .made .ensures) ∙ c .before .enum-told .given .1)  -- write-requires
+    (λ c. search needs)  -- add-t13
+    (λ c. search needs)  -- enum-known-checked
+    (λ c. c .before .before .write .kept .1 .0)  -- same-length
+    (λ c.  -- returns
     let s = c .before .before .before .before .before .before .before .before .before .args .expression .now in
     let ok = sym (c .before .before .before .before .before .before .made .ensures) ∙ c .before .before .before .before .enum-told .given .1 in
     record { answered = rw ok (ap Records (records s)); outputLeft = rw ok (c .before .before .write .ensures) })
-    (λ c.
+    (λ c.  -- returns-2
     let failed = sym (c .before .before .before .made .ensures) ∙ c .before .checked .given .1 in
     record { answered = rw failed; outputLeft = rw failed }))
   where

@@ -18,12 +18,12 @@ pub put-counts-spec : {M : Type 1} → statement M
 put-counts-spec = tie.close (tie.spec
     Inv-loop
     μ-loop
-    (λ c. (omega arith, refl, refl))
-    (λ c. record { sfits = omega arith })
-    (λ c κs. (omega arith, omega arith, omega arith))
-    (λ c. omega arith)
-    (λ c. omega arith)
-    (λ c. (omega arith, omega arith, omega arith))
-    (λ c. omega arith)
-    (λ c. omega arith)
-    (λ c. search needs))
+    (λ c. (omega arith, refl, refl))  -- loop-holds
+    (λ c. record { sfits = omega arith })  -- cast-put-value
+    (λ c κs. (omega arith, omega arith, omega arith))  -- put-value-requires
+    (λ c. omega arith)  -- add-k
+    (λ c. omega arith)  -- loop-less
+    (λ c. (omega arith, omega arith, omega arith))  -- loop-again
+    (λ c. omega arith)  -- same-length
+    (λ c. omega arith)  -- same-length-2
+    (λ c. search needs))  -- returns

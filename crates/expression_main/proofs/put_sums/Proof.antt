@@ -18,14 +18,14 @@ pub put-sums-spec : {M : Type 1} → statement M
 put-sums-spec = tie.close (tie.spec
     Inv-loop
     μ-loop
-    (λ c. (omega arith, refl))
-    (λ c. omega arith)
-    (λ c. omega arith)
-    (λ c. omega arith)
-    (λ c. omega arith)
-    (λ c κs. omega arith)
-    (λ c. omega arith)
-    (λ c. omega arith)
-    (λ c. (omega arith, omega arith))
-    (λ c. omega arith)
-    (λ c. search needs))
+    (λ c. (omega arith, refl))  -- loop-holds
+    (λ c. omega arith)  -- sub-put-term
+    (λ c. omega arith)  -- cast-put-term
+    (λ c. omega arith)  -- sub-put-term-2
+    (λ c. omega arith)  -- cast-put-term-2
+    (λ c κs. omega arith)  -- put-term-requires
+    (λ c. omega arith)  -- add-i
+    (λ c. omega arith)  -- loop-less
+    (λ c. (omega arith, omega arith))  -- loop-again
+    (λ c. omega arith)  -- same-length
+    (λ c. search needs))  -- returns

@@ -106,22 +106,22 @@ pub fire-spec : {M : Type 1} → statement M
 fire-spec =
     tie.close
     (tie.spec
-    (λ c κs.
+    (λ c κs.  -- token-at-requires
     let s = c .before .before .before .before in
     room _ (s .pre .0) (s .pre .1) (s .args .place) (s .pre .2))
-    (λ c κs. search needs)
-    (λ c κs.
+    (λ c κs. search needs)  -- arity-requires
+    (λ c κs.  -- operands-of-requires
     let a = c .before .before in
     let t = a .before .before .before in
     let s = start t in
     (matching-known (s .pre .1 .matching), earliest-here (s .pre .0) (s .pre .1) (s .args .place) (s .pre .2) (s .pre .3) (t .token-at .result) (a .arity .result) (t .token-at .ensures) (a .arity .ensures)))
-    (λ c. search needs)
-    (λ c κs. in-graph (read (c .before .before .before)))
-    (λ c κs. search needs)
-    (λ c κs. search needs)
-    (λ c. search needs)
-    (λ c. search needs)
-    (λ c.
+    (λ c. search needs)  -- cast-instruction-at
+    (λ c κs. in-graph (read (c .before .before .before)))  -- instruction-at-requires
+    (λ c κs. search needs)  -- decode-requires
+    (λ c κs. search needs)  -- operate-requires
+    (λ c. search needs)  -- enum-known-operated
+    (λ c. search needs)  -- same-length
+    (λ c.  -- returns
     let e = c .before .before .before in
     let f = fetched e in
     let m = operands f in
@@ -129,16 +129,16 @@ fire-spec =
     let s = start t in
     stopped-here _ (s .pre .0) (s .pre .1) (s .args .place) (s .pre .2) (t .token-at .result) (t .token-at .ensures) _ _ _ _ (found m)
     (operation-refused _ _ _ _ (in-graph t) _ _ _ _ (f .instruction-at .ensures) (e .before .before .before .decode .ensures) (sym (did e) ∙ c .before .operated .given .1)))
-    (λ c. search needs)
-    (λ c κs.
+    (λ c. search needs)  -- enum-known-operated-2
+    (λ c κs.  -- new-tags-requires
     let e = c .before .before .before in
     let f = fetched e in
     let t = read (operands f) in
     let s = start t in
     rw (e .before .before .before .decode .ensures, f .instruction-at .ensures) (ready _ _ (in-graph t) _ (s .pre .0 .passed) (s .pre .0 .returnsRight)))
-    (λ c. search needs)
-    (λ c. search needs)
-    (λ c.
+    (λ c. search needs)  -- enum-known-made
+    (λ c. search needs)  -- same-length-2
+    (λ c.  -- returns-2
     let n = c .before .before .before in
     let e = operated n in
     let f = fetched e in
@@ -147,15 +147,15 @@ fire-spec =
     let s = start t in
     stopped-here _ (s .pre .0) (s .pre .1) (s .args .place) (s .pre .2) (t .token-at .result) (t .token-at .ensures) _ _ _ _ (found m)
     (tags-refused _ _ _ _ (in-graph t) _ _ _ _ (f .instruction-at .ensures) (e .before .before .before .decode .ensures) (sym (did e) ∙ n .before .before .operated2 .given .1) (made n) (c .before .made .given .1)))
-    (λ c. search needs)
-    (λ c κs.
+    (λ c. search needs)  -- enum-known-made-2
+    (λ c κs.  -- commit-requires
     let o = c .before .before .before .before .before in
     let m = operands (fetched (operated (o .before .before))) in
     let s = start (read m) in
     (lent-here _ (s .pre .0) (s .pre .1) (s .args .place) (s .pre .2) (s .pre .3) _ _ _ _ (found m), fitting _ _ _ _ _ _ _ _ (sent o)))
-    (λ c. search needs)
-    (λ c. search needs)
-    (λ c.
+    (λ c. search needs)  -- same-length-3
+    (λ c. search needs)  -- same-length-4
+    (λ c.  -- returns-3
     let q = c .before .before .before .before in
     let o = q .before .before .before .before .before .before in
     let m = operands (fetched (operated (o .before .before))) in

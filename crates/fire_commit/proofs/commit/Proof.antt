@@ -25,29 +25,29 @@ gave c e = rw e at (c .admit .ensures)
 
 pub commit-spec : {M : Type 1} → statement M
 commit-spec = tie.close (tie.spec
-    (λ c κs. c .before .before .before .pre .1 .2)
-    (λ c. search needs)
-    (λ c. let s = c .before .before .before .before .before in left-refused (s .pre .0) (second-write _ _ _ _ _ (s .args .action) (s .args .sent) (again (c .before) (c .if1 .taken))))
-    (λ c κs.
+    (λ c κs. c .before .before .before .pre .1 .2)  -- writes-again-requires
+    (λ c. search needs)  -- same-length
+    (λ c. let s = c .before .before .before .before .before in left-refused (s .pre .0) (second-write _ _ _ _ _ (s .args .action) (s .args .sent) (again (c .before) (c .if1 .taken))))  -- returns
+    (λ c κs.  -- admit-requires
     let s = c .before .before .before .before .before .before .before in
     let m = s .pre .0 .matching in
     (matching-known m, matching-few m, s .pre .1 .0, s .pre .1 .1))
-    (λ c. search needs)
-    (λ c. search needs)
-    (λ c κs.
+    (λ c. search needs)  -- enum-known-admitted
+    (λ c. search needs)  -- enum-known-admitted-2
+    (λ c κs.  -- carry-out-requires
     let s = c .before .before .before .before .before .before .before .before .before .before .before .before .before .before .before in
     let a = s .args in
     let f = s .pre .1 in
     let yes = gave (c .before .before .before .before .before .before .before) (c .before .before .before .before .before .admitted2 .given .1) in
     (s .pre .0, admitted-room _ (a .used) (a .ledger .now) (a .sent) (yes .0), f .0, f .1, f .2, yes .1))
-    (λ c. search needs)
-    (λ c. search needs)
-    (λ c.
+    (λ c. search needs)  -- same-length-2
+    (λ c. search needs)  -- same-length-3
+    (λ c.  -- returns-2
     let s = c .before .before .before .before .before .before .before .before .before .before .before in
     left-refused (s .pre .0) (act-refused _ _ _ _ _ (s .args .action) (s .args .sent) (again (c .before .before .before .before .before .before .before) (c .before .before .before .before .before .before .if1 .left)) (gave (c .before .before .before) (c .before .admitted .given .1))))
-    (λ c. search needs)
-    (λ c. search needs)
-    (λ c.
+    (λ c. search needs)  -- same-length-4
+    (λ c. search needs)  -- same-length-5
+    (λ c.  -- returns-3
     let s = c .before .before .before .before .before .before .before .before .before .before .before .before .before .before .before .before .before .before .before .before in
     let e = c .before .before .before .before .carry-out .ensures in
     left-done (s .args .used)

@@ -21,52 +21,52 @@ opened k e = rw e at (k .seek .ensures)
 pub admit-spec : {M : Type 1} → statement M
 unfolding admittedOf anyTakenOf isTaken
 admit-spec = tie.close (tie.spec
-    (λ c. search needs)
-    (λ c. search needs)
-    (λ c.
+    (λ c. search needs)  -- cast-if1
+    (λ c. search needs)  -- add-if1
+    (λ c.  -- returns
     let a = c .before .before .before .before .before .args in
     rw (length-rows tokenWidth decode (a .used) (a .ledger .now), lt-ltb _ _ (c .if1 .taken)))
-    (λ c.
+    (λ c.  -- returns-2
     let d = c .before .before in
     let a = d .before .before .before .before .before .args in
     (rw (length-rows tokenWidth decode (a .used) (a .ledger .now), le-ltb _ _ (d .if1 .left), eq-eqb _ _ (c .if2 .taken)), rw (c .if2 .taken) tt))
-    (λ c κs.
+    (λ c κs.  -- seek-requires
     let s = c .before .before .before .before .before .before .before .before in
     let o = s .args .outputs in
     (s .pre .0, low-first (o .first) (o .second) (o .count) (c .before .if2 .left) (s .pre .3)))
-    (λ c. search needs)
-    (λ c. search needs)
-    (λ c.
+    (λ c. search needs)  -- enum-known-slot
+    (λ c. search needs)  -- enum-told
+    (λ c.  -- returns-3
     let k = c .before .before in
     let a = k .before .before .before .before .before .before .before .before .before .args in
     let taken = rw (c .enum-told .given .1) at (k .seek .ensures) in
     rw (length-rows tokenWidth decode (a .used) (a .ledger .now), le-ltb _ _ (k .before .before .before .before .if1 .left), ne-eqb _ _ (k .before .before .if2 .left), taken))
-    (λ c.
+    (λ c.  -- returns-4
     let k = c .before .before .before .before .before in
     let a = k .before .before .before .before .before .before .before .before .before .args in
     let o = opened k (c .before .before .before .slot .given .1) in
     (rw (length-rows tokenWidth decode (a .used) (a .ledger .now), le-ltb _ _ (k .before .before .before .before .if1 .left), ne-eqb _ _ (k .before .before .if2 .left), o .free, eq-eqb _ _ (c .if3 .taken)), rw (c .if3 .taken) o))
-    (λ c κs. search needs)
-    (λ c.
+    (λ c κs. search needs)  -- same-keys-requires
+    (λ c.  -- returns-5
     let k = c .before .before .before .before .before .before .before in
     let a = k .before .before .before .before .before .before .before .before .before .args in
     let o = opened k (c .before .before .before .before .before .slot .given .1) in
     rw (length-rows tokenWidth decode (a .used) (a .ledger .now), le-ltb _ _ (k .before .before .before .before .if1 .left), ne-eqb _ _ (k .before .before .if2 .left), o .free, ne-eqb _ _ (c .before .before .if3 .left), sym (c .before .same-keys .ensures) ∙ c .if4 .taken))
-    (λ c κs.
+    (λ c κs.  -- seek-requires-2
     let s = c .before .before .before .before .before .before .before .before .before .before .before .before .before .before .before .before .before in
     let o = s .args .outputs in
     (s .pre .0, low-second (o .first) (o .second) (o .count) (c .before .before .before .before .before .before .before .before .before .before .if2 .left) (s .pre .3) (c .before .before .before .if3 .left)))
-    (λ c. search needs)
-    (λ c. search needs)
-    (λ c.
+    (λ c. search needs)  -- enum-known-next
+    (λ c. search needs)  -- enum-told-2
+    (λ c.  -- returns-6
     let d = c .before .before .before .before in
     let k = d .before .before .before .before .before .before .before in
     let a = k .before .before .before .before .before .before .before .before .before .args in
     let o = opened k (d .before .before .before .before .before .slot .given .1) in
     let taken = rw (c .enum-told2 .given .1) at (c .before .before .seek2 .ensures) in
     rw (length-rows tokenWidth decode (a .used) (a .ledger .now), le-ltb _ _ (k .before .before .before .before .if1 .left), ne-eqb _ _ (k .before .before .if2 .left), o .free, ne-eqb _ _ (d .before .before .if3 .left), sym (d .before .same-keys .ensures) ∙ d .if4 .left, taken))
-    (λ c κs. search needs)
-    (λ c.
+    (λ c κs. search needs)  -- beside-requires
+    (λ c.  -- returns-7
     let d = c .before .before .before .before .before .before in
     let k = d .before .before .before .before .before .before .before in
     let s = k .before .before .before .before .before .before .before .before .before in

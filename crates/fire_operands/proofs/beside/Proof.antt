@@ -7,10 +7,10 @@ use Rattle.fire_operands.proofs.beside.Tie as tie
 
 pub beside-spec : {M : Type 1} → statement M
 beside-spec = tie.close (tie.spec
-    (λ c κs. search needs)
-    (λ c ts x len low apart free o.
+    (λ c κs. search needs)  -- same-requires
+    (λ c ts x len low apart free o.  -- returns
     let a = c .before .before .before .before .args in
     rw len at (open-beside (a .first) (a .second) (a .slot) ts x low apart free o (sym (c .before .same .ensures) ∙ c .if1 .taken)))
-    (λ c ts x len low apart free o.
+    (λ c ts x len low apart free o.  -- returns-2
     let a = c .before .before .before .before .args in
     open-apart (a .first) (a .second) (a .slot) ts x low apart free o (sym (c .before .same .ensures) ∙ c .if1 .left)))

@@ -10,27 +10,27 @@ use Rattle.fire_operands.proofs.operands_of.Tie as tie
 
 pub operands-of-spec : {M : Type 1} → statement M
 operands-of-spec = tie.close (tie.spec
-    (λ c κs. let s = c .before in within (s .pre .0) (s .pre .1))
-    (λ c κs. search needs)
-    (λ c.
+    (λ c κs. let s = c .before in within (s .pre .0) (s .pre .1))  -- token-at-requires
+    (λ c κs. search needs)  -- value-in-requires
+    (λ c.  -- returns
     let v = c .before .value-in in
     let t = c .before .before in
     let s = t .before .before in
     rw (toZ-ofZ {w = w32} (record { sfits = v .ok }), v .ensures) (alone (s .pre .0) (s .pre .1) _ (t .token-at .ensures) (c .if1 .taken)))
-    (λ c.
+    (λ c.  -- sub-find
     let t = c .before .before .before in
     let s = t .before .before in
     omega (arith, port-low (s .pre .0) (s .pre .1) _ (t .token-at .ensures)))
-    (λ c κs. search needs)
-    (λ c κs. search needs)
-    (λ c κs.
+    (λ c κs. search needs)  -- find-requires
+    (λ c κs. search needs)  -- place-or-requires
+    (λ c κs.  -- token-at-requires-2
     let f = c .before .find in
     let n = c .before .before .before in
     let t = n .before .before in
     let s = t .before .before in
     rw (c .place-or .ensures) (other-within (s .pre .0) (s .pre .1) _ (t .token-at .ensures) (n .if1 .left) (f .result) (f .ensures .0)))
-    (λ c κs. search needs)
-    (λ c.
+    (λ c κs. search needs)  -- value-in-requires-2
+    (λ c.  -- returns-2
     let f = c .before .before .before .before .before in
     let n = f .before .before in
     let t = n .before .before in
@@ -41,7 +41,7 @@ operands-of-spec = tie.close (tie.spec
     let right : SFits w32 (u .result) = record { sfits = u .ok } in
     rw (toZ-ofZ left, toZ-ofZ right, v .ensures, u .ensures, c .before .before .before .token-at2 .ensures, c .before .before .before .before .place-or .ensures)
     (as-first (s .pre .0) (s .pre .1) _ (t .token-at .ensures) (n .if1 .left) (f .find .result) (f .find .ensures .0) (c .if2 .taken)))
-    (λ c.
+    (λ c.  -- returns-3
     let f = c .before .before .before .before .before in
     let n = f .before .before in
     let t = n .before .before in

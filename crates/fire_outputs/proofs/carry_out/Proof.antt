@@ -26,18 +26,18 @@ spent c =
 
 pub carry-out-spec : {M : Type 1} → statement M
 carry-out-spec = tie.close (tie.spec
-    (λ c κs.
+    (λ c κs.  -- spend-operands-requires
     let l = c .before .before .before .before .pre .0 in
     let few = matching-few (l .matching) in
     let room = matching-room (l .matching) in
     (matching-counted (l .matching), l .raised, omega (arith, l .activity .firstWithin), omega (arith, l .activity .secondWithin), omega (arith, l .activity .firstWithin), omega (arith, l .activity .secondWithin)))
-    (λ c κs. let p = c .before .before .before .before .before .before .before .before .pre in (p .0 .store, p .4))
-    (λ c κs.
+    (λ c κs. let p = c .before .before .before .before .before .before .before .before .pre in (p .0 .store, p .4))  -- change-cells-requires
+    (λ c κs.  -- wake-requires
     let s = c .before .before .before .before .before .before .before .before .before .before .before .before .before .before in
     let l = s .pre .0 in
     let k = spent (c .before .before .before .before .before .before .before .before .before) in
     (k .matching, on-more (s .args .action) (l .store .few) (s .pre .4)))
-    (λ c κs.
+    (λ c κs.  -- append-outputs-requires
     let s = c .before .before .before .before .before .before .before .before .before .before .before .before .before .before .before .before .before .before .before .before in
     let a = s .args in
     let p = s .pre in
@@ -45,9 +45,9 @@ carry-out-spec = tie.close (tie.spec
     let w = c .before .before .before .before .before .wake .ensures in
     let low = low-content (a .action) (cellsIn (a .cells .now)) (on-more (a .action) (p .0 .store .few) (p .4)) in
     (w .matching, kept-room w (kept-room k (p .1)), kept-most w (kept-most k (p .0 .few)), p .2, p .3, rw (c .before .before .before .before .before .before .before .before .before .before .before .change-cells .ensures .0) low, rw (w .held, k .held) (keys-carried (a .action) (a .operands .first) (a .operands .second) (tokens (a .used) (a .ledger .now)) (a .outputs) (a .first) (a .second) (p .5))))
-    (λ c. search needs)
-    (λ c. search needs)
-    (λ c.
+    (λ c. search needs)  -- same-length
+    (λ c. search needs)  -- same-length-2
+    (λ c.  -- returns
     let s = c .before .before .before .before .before .before .before .before .before .before .before .before .before .before .before .before .before .before .before .before .before .before .before in
     let a = s .args in
     let k = spent (c .before .before .before .before .before .before .before .before .before .before .before .before .before .before .before .before .before .before) in

@@ -14,19 +14,19 @@ use Rattle.fire_outputs.proofs.fetch.Tie as tie
 
 pub fetch-spec : {M : Type 1} → statement M
 fetch-spec = tie.close (tie.spec
-    (λ c κs. search needs)
-    (λ c. search needs)
-    (λ c κs. search needs)
-    (λ c. search needs)
-    (λ c.
+    (λ c κs. search needs)  -- cell-at-requires
+    (λ c. search needs)  -- enum-known-found
+    (λ c κs. search needs)  -- put-cell-requires
+    (λ c. search needs)  -- same-length
+    (λ c.  -- returns
     let s = c .before .before .before .before .before .before .before .before in
     let a = s .args in
     let n : NoValue (getD (cellsIn (a .cells .now)) (a .number) Absent) = rw (cell-held (a .cells .now) (a .number) (s .pre .1), ← (c .before .before .before .before .before .cell-at .ensures)) (no-value (c .before .before .before .before .before .cell-at .result) (c .before .before .before .before .match .keys2)) in (
       sym (n .defers (a .number)),
       cells-as (cells-written (s .pre .0) (a .number) Waiting (s .pre .1) tt (c .before .before .put-cell .ensures .0)) (ap (set (cellsIn (a .cells .now)) (a .number)) (sym (n .waits))),
     ))
-    (λ c. search needs)
-    (λ c.
+    (λ c. search needs)  -- same-length-2
+    (λ c.  -- returns-2
     let s = c .before .before .before .before .before .before in
     let a = s .args in
     let g = c .before .found .given in

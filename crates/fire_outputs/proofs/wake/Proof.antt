@@ -10,11 +10,11 @@ use Rattle.fire_outputs.proofs.wake.Tie as tie
 
 pub wake-spec : {M : Type 1} → statement M
 wake-spec = tie.close (tie.spec
-    (λ c. search needs)
-    (λ c. let s = c .before .before in kept-as (kept-same (s .pre .0)) (sym (no-write (s .args .action) (c .match .keys2) .wakes _)))
-    (λ c κs. let p = c .before .before .before .before .before .before .before .pre in (p .0, rw (c .before .before .before .before .action .given .1) at (p .1)))
-    (λ c. search needs)
-    (λ c.
+    (λ c. search needs)  -- enum-known-action
+    (λ c. let s = c .before .before in kept-as (kept-same (s .pre .0)) (sym (no-write (s .args .action) (c .match .keys2) .wakes _)))  -- returns
+    (λ c κs. let p = c .before .before .before .before .before .before .before .pre in (p .0, rw (c .before .before .before .before .action .given .1) at (p .1)))  -- wake-requires
+    (λ c. search needs)  -- same-length
+    (λ c.  -- returns-2
     let g = c .before .before .before .before .before .before .before .action .given in
     let f : SFits w32 (g .0 .1 .0) = record { sfits = c .before .before .before .before .before .before .known-told .given .1 .0 .1 } in
     let e = c .before .before .wake .ensures in

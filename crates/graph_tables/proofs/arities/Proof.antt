@@ -24,15 +24,15 @@ pub arities-spec : {M : Type 1} → statement M
 arities-spec = tie.close (tie.spec
     Inv-loop
     μ-loop
-    (λ c κs. search needs)
-    (λ c. (omega arith, c .before .before .pre .1, (λ τ h. absurd (omega arith)), λ k h. refl))
-    (λ c κs. c .before .before .before .counts .ensures)
-    (λ c. omega arith)
-    (λ c. omega arith)
-    (λ c. omega arith)
-    (λ c. omega arith)
-    (λ c. omega arith)
-    (λ c.
+    (λ c κs. search needs)  -- counts-requires
+    (λ c. (omega arith, c .before .before .pre .1, (λ τ h. absurd (omega arith)), λ k h. refl))  -- loop-holds
+    (λ c κs. c .before .before .before .counts .ensures)  -- entry-at-requires
+    (λ c. omega arith)  -- add-out
+    (λ c. omega arith)  -- mul-out
+    (λ c. omega arith)  -- element-write-out
+    (λ c. omega arith)  -- add-i
+    (λ c. omega arith)  -- loop-less
+    (λ c.  -- loop-again
     let l = c .before .before .before .loop in
     let v = c .entry-at .result in (
       omega arith,
@@ -40,7 +40,7 @@ arities-spec = tie.close (tie.spec
       entry-next (graphOf (c .before .before .before .before .before .before .args .graph .now)) (l .out) (l .i) v (omega arith) (l .inv .2) (c .entry-at .ensures),
       λ k h. getD-set-other (l .out) (l .i + 385) k v 0 (λ e. omega arith) ∙ l .inv .3 k h,
     ))
-    (λ c.
+    (λ c.  -- returns
     let l = c .before .loop in
     let s = c .before .before .before .before in
     ((all-arities (s .args .graph .now) (l .out) (s .pre .0) (l .inv .1) (λ τ h. l .inv .2 τ (omega arith)), l .inv .1), λ r site h. l .inv .3 site h ∙ r site h)))

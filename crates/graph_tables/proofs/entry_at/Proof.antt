@@ -12,14 +12,14 @@ use Rattle.graph_tables.proofs.entry_at.Tie as tie
 pub entry-at-spec : {M : Type 1} → statement M
 unfolding waitedFor rowOf
 entry-at-spec = tie.close (tie.spec
-    (λ c. search needs)
-    (λ c. search needs)
-    (λ c κs. search needs)
-    (λ c. search needs)
-    (λ c. let a = c .before .before .before .before .args in entry-in (a .graph .now) (a .i) 0 (omega arith) (λ τ. rw (c .match .keys1)))
-    (λ c. let a = c .before .before .before .before .args in entry-in (a .graph .now) (a .i) 3 (omega arith) (λ τ. rw (c .match .keys2)))
-    (λ c.
+    (λ c. search needs)  -- mul-code
+    (λ c. search needs)  -- shared-slice-read-code
+    (λ c κs. search needs)  -- count-of-requires
+    (λ c. search needs)  -- cast-result
+    (λ c. let a = c .before .before .before .before .args in entry-in (a .graph .now) (a .i) 0 (omega arith) (λ τ. rw (c .match .keys1)))  -- returns
+    (λ c. let a = c .before .before .before .before .args in entry-in (a .graph .now) (a .i) 3 (omega arith) (λ τ. rw (c .match .keys2)))  -- returns-2
+    (λ c.  -- returns-3
     let a = c .before .before .before .before .before .args in
     let m = c .before .match in
     entry-in (a .graph .now) (a .i) (c .count-of .result) (omega arith) (λ τ. rw (c .count-of .ensures) (count-entry _ τ (m .rest .0 .1) (m .rest .1))))
-    (λ c. λ τ e. sym (arity-past (c .before .before .args .graph .now) τ (omega arith))))
+    (λ c. λ τ e. sym (arity-past (c .before .before .args .graph .now) τ (omega arith))))  -- returns-4

@@ -8,10 +8,10 @@ use Rattle.graph_tables.proofs.make.Tie as tie
 
 pub make-spec : {M : Type 1} → statement M
 make-spec = tie.close (tie.spec
-    (λ c κs. search needs)
-    (λ c κs. search needs)
-    (λ c κs. search needs)
-    (λ c.
+    (λ c κs. search needs)  -- returns-requires
+    (λ c κs. search needs)  -- arities-requires
+    (λ c κs. search needs)  -- name-requires
+    (λ c.  -- returns
     let n = c .name .ensures in
     let a = c .before .before .arities .ensures in
     let r = c .before .before .before .before .returns .ensures in

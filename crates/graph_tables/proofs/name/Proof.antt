@@ -19,27 +19,27 @@ pub name-spec : {M : Type 1} → statement M
 name-spec = tie.close (tie.spec
     Inv-loop
     μ-loop
-    (λ c. omega (arith, c .before .pre .0))
-    (λ c. omega (arith, c .before .pre .1))
-    (λ c. let s = c .before in none-named (s .args .arrays .now) (s .args .out .now) (s .pre .0) (s .pre .1))
-    (λ c κs. omega (arith, c .loop-test .taken))
-    (λ c. let l = c .before .before .loop in omega (arith, l .inv .few, l .inv .most))
-    (λ c. let l = c .before .before .loop in omega (arith, l .inv .few, l .inv .most))
-    (λ c. let l = c .before .before .loop in omega (arith, l .inv .few, l .inv .most))
-    (λ c. let l = c .before .before .loop in omega (arith, c .before .loop-test .taken, l .inv .most, l .inv .size))
-    (λ c. let l = c .before .before .loop in omega (arith, l .inv .few, l .inv .most))
-    (λ c. let l = c .before .before .loop in omega (arith, l .inv .few, l .inv .most))
-    (λ c. let l = c .before .before .loop in omega (arith, l .inv .few, l .inv .most))
-    (λ c.
+    (λ c. omega (arith, c .before .pre .0))  -- cast-out
+    (λ c. omega (arith, c .before .pre .1))  -- element-write-out
+    (λ c. let s = c .before in none-named (s .args .arrays .now) (s .args .out .now) (s .pre .0) (s .pre .1))  -- loop-holds
+    (λ c κs. omega (arith, c .loop-test .taken))  -- array-at-requires
+    (λ c. let l = c .before .before .loop in omega (arith, l .inv .few, l .inv .most))  -- mul-out
+    (λ c. let l = c .before .before .loop in omega (arith, l .inv .few, l .inv .most))  -- add-out
+    (λ c. let l = c .before .before .loop in omega (arith, l .inv .few, l .inv .most))  -- mul-out-2
+    (λ c. let l = c .before .before .loop in omega (arith, c .before .loop-test .taken, l .inv .most, l .inv .size))  -- element-write-out-2
+    (λ c. let l = c .before .before .loop in omega (arith, l .inv .few, l .inv .most))  -- mul-out-3
+    (λ c. let l = c .before .before .loop in omega (arith, l .inv .few, l .inv .most))  -- add-out-2
+    (λ c. let l = c .before .before .loop in omega (arith, l .inv .few, l .inv .most))  -- mul-out-4
+    (λ c.  -- element-write-out-3
     let l = c .before .before .loop in
     omega (arith, c .before .loop-test .taken, l .inv .most, l .inv .size, length-set (l .out) (l .i * 2 + 257) (c .array-at .result .first)))
-    (λ c. let l = c .before .before .loop in omega (arith, l .inv .few, l .inv .most))
-    (λ c. omega (arith, c .before .loop-test .taken))
-    (λ c.
+    (λ c. let l = c .before .before .loop in omega (arith, l .inv .few, l .inv .most))  -- add-i
+    (λ c. omega (arith, c .before .loop-test .taken))  -- loop-less
+    (λ c.  -- loop-again
     let l = c .before .before .loop in
     let s = c .before .before .before .before in
     one-more (s .args .arrays .now) _ (l .out) (l .i) (l .inv) (c .before .loop-test .taken) (c .array-at .result) (c .array-at .ensures))
-    (λ c.
+    (λ c.  -- returns
     let l = c .before .loop in
     let s = c .before .before .before in
     let lent = s .args .out .now in

@@ -25,14 +25,14 @@ pub returns-spec : {M : Type 1} → statement M
 returns-spec = tie.close (tie.spec
     Inv-loop
     μ-loop
-    (λ c.
+    (λ c.  -- loop-holds
     let g = c .before .before .args .graph .now in
     (omega arith, refl, rw (drop-of-length-le (graphOf g) {i = length g / graphWidth} (omega (arith, length-graph g))) no-returns))
-    (λ c. omega arith)
-    (λ c κs. omega arith)
-    (λ c κs. search needs)
-    (λ c. omega arith)
-    (λ c.
+    (λ c. omega arith)  -- sub-i
+    (λ c κs. omega arith)  -- instruction-at-requires
+    (λ c κs. search needs)  -- note-requires
+    (λ c. omega arith)  -- loop-less
+    (λ c.  -- loop-again
     let l = c .before .before .before .before .loop in
     let g = c .before .before .before .before .before .before .before .args .graph .now in
     let j = l .i - 1 in
@@ -45,6 +45,6 @@ returns-spec = tie.close (tie.spec
       rw (c .note .ensures) (length-at-site (l .out) r _ ∙ l .inv .1),
       rw (d, c .note .ensures) (note-returns (drop (l .i) (graphOf g)) (l .out) r (l .inv .2) (omega (arith, l .inv .1))),
     ))
-    (λ c.
+    (λ c.  -- returns
     let z : c .before .loop .i ≡ 0 = omega arith in
     (rw z at (c .before .loop .inv .2), c .before .loop .inv .1)))

@@ -23,26 +23,26 @@ pub decide-spec : {M : Type 1} → statement M
 decide-spec = tie.close (tie.spec
     Inv-loop
     μ-loop
-    (λ c κs. c .before .before .before .pre .6)
-    (λ c. let s = c .before .before .before .before in (s .pre .7, none-looked _ _ _ (s .pre .9), s .pre .10))
-    (λ c κs. let s = c .before .before .before .before .before .before in (s .pre .6, omega (arith, c .loop-test .taken, c .before .before .count .ensures)))
-    (λ c κs.
+    (λ c κs. c .before .before .before .pre .6)  -- count-requires
+    (λ c. let s = c .before .before .before .before in (s .pre .7, none-looked _ _ _ (s .pre .9), s .pre .10))  -- loop-holds
+    (λ c κs. let s = c .before .before .before .before .before .before in (s .pre .6, omega (arith, c .loop-test .taken, c .before .before .count .ensures)))  -- select-requires
+    (λ c κs.  -- holds-now-requires
     let s = c .before .before .before .before .before .before .before .before in
     let below : c .before .before .before .loop .k < length (places (flagsOf (s .args .nexts .now))) = omega (arith, c .before .before .loop-test .taken, c .before .before .before .before .count .ensures) in
     let low = listed-below (flagsOf (s .args .nexts .now)) (c .before .before .before .loop .k) (s .args .used) (s .pre .6 .tallied .binary) (s .pre .8) below _ (c .before .select .ensures .0) in
     (s .pre .0, low, s .pre .1, s .pre .2, s .pre .3, s .pre .4, s .pre .5, c .before .before .before .loop .inv .2))
-    (λ c κs. (c .before .before .before .before .before .select .ensures .1, c .before .before .before .before .before .before .before .loop .inv .0))
-    (λ c. search needs)
-    (λ c. omega (arith, c .before .before .before .before .before .before .before .loop-test .taken))
-    (λ c.
+    (λ c κs. (c .before .before .before .before .before .select .ensures .1, c .before .before .before .before .before .before .before .loop .inv .0))  -- put-requires
+    (λ c. search needs)  -- add-k
+    (λ c. omega (arith, c .before .before .before .before .before .before .before .loop-test .taken))  -- loop-less
+    (λ c.  -- loop-again
     let s = c .before .before .before .before .before .before .before .before .before .before .before .before .before in
     let l = c .before .before .before .before .before .before .before .before .loop in
     let i = c .before .before .before .before .before .before .select in
     let below : l .k < length (places (flagsOf (s .args .nexts .now))) = omega (arith, c .before .before .before .before .before .before .before .loop-test .taken, c .before .before .before .before .before .before .before .before .before .count .ensures) in
     let inside : i .result < length (flagsOf (l .held)) = omega (arith, i .ensures .1, l .inv .0 .tallied .size) in
     (c .put .ensures .1, one-looked _ _ _ _ (l .inv .1) (s .pre .6 .tallied .binary) below _ (i .ensures .0) inside _ (c .before .before .before .before .holds-now .ensures .0) _ (c .put .ensures .0), c .before .before .before .before .holds-now .ensures .1))
-    (λ c. c .before .loop .inv .2 .size ∙ sym (c .before .before .before .before .before .before .pre .10 .size))
-    (λ c.
+    (λ c. c .before .loop .inv .2 .size ∙ sym (c .before .before .before .before .before .before .pre .10 .size))  -- same-length
+    (λ c.  -- returns
     let s = c .before .before .before .before .before .before in
     let a = s .args in
     let l = c .before .loop in

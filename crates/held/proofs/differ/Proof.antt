@@ -7,5 +7,5 @@ use Rattle.held.proofs.differ.Tie as tie
 
 pub differ-spec : {M : Type 1} → statement M
 differ-spec = tie.close (tie.spec
-    (λ c κs. search needs)
-    (λ c. ap not (c .same .ensures)))
+    (λ c κs. search needs)  -- same-requires
+    (λ c. ap not (c .same .ensures)))  -- returns

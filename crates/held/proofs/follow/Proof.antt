@@ -9,9 +9,9 @@ use Rattle.held.proofs.follow.Tie as tie
 
 pub follow-spec : {M : Type 1} → statement M
 follow-spec = tie.close (tie.spec
-    (λ c κs. let s = c .before .before .before .before in (s .pre .1, s .pre .2, s .pre .3, s .pre .8 .countedNexts, s .pre .8 .clear))
-    (λ c κs. let s = c .before .before .before .before .before .before .before in (s .pre .2, s .pre .3, c .before .before .list-new .ensures .0, s .pre .8 .countedHeld))
-    (λ c κs.
+    (λ c κs. let s = c .before .before .before .before in (s .pre .1, s .pre .2, s .pre .3, s .pre .8 .countedNexts, s .pre .8 .clear))  -- list-new-requires
+    (λ c κs. let s = c .before .before .before .before .before .before .before in (s .pre .2, s .pre .3, c .before .before .list-new .ensures .0, s .pre .8 .countedHeld))  -- drop-spent-requires
+    (λ c κs.  -- decide-requires
     let s = c .before .before .before .before .before .before .before .before .before .before .before in
     let a = s .args in
     let h = s .pre .8 in
@@ -24,8 +24,8 @@ follow-spec = tie.close (tie.spec
     let clear = clear-dropped g (a .ledger .now) (a .used) (a .n) nexts held _ (new .1) (a .place) _ _ (drop .2) (new .1 .clear) in
     let under = under-dropped g (a .ledger .now) (a .used) (a .n) nexts held _ (new .1) (a .place) _ _ (drop .2) (under-new g (a .ledger .now) (a .used) (a .n) nexts held _ (new .1) (h .clear) (h .under)) in
     (s .pre .0, s .pre .2, s .pre .3, s .pre .4, s .pre .5, s .pre .6, drop .0, drop .1, clear, under, marked-more (a .tables .now) (a .ledger .now) (a .bound) (a .used) (a .n) (a .marks .now) (s .pre .1) (h .marked), listed-all g (flagsOf (a .flags .now)) (flagsOf (c .before .before .before .drop-spent .last .1 .1 .1 .0)) (a .ledger .now) (a .n) (s .pre .7) right))
-    (λ c. c .before .before .decide .ensures .1 .1 .size ∙ sym (c .before .before .before .before .before .before .before .before .before .before .before .before .before .before .pre .8 .marked .size))
-    (λ c.
+    (λ c. c .before .before .decide .ensures .1 .1 .size ∙ sym (c .before .before .before .before .before .before .before .before .before .before .before .before .before .before .pre .8 .marked .size))  -- same-length
+    (λ c.  -- returns
     let s = c .before .before .before .before .before .before .before .before .before .before .before .before .before .before in
     let a = s .args in
     let h = s .pre .8 in

@@ -20,17 +20,17 @@ pub list-new-spec : {M : Type 1} → statement M
 list-new-spec = tie.close (tie.spec
     Inv-loop
     μ-loop
-    (λ c. let s = c .before .before in (s .pre .3, none-listed _ _ _ _ _ (s .pre .0) (s .pre .4)))
-    (λ c κs. omega (arith, c .loop-test .taken, c .before .before .before .before .pre .1))
-    (λ c κs. (omega (arith, c .before .before .loop-test .taken, c .before .before .before .before .before .before .pre .2), c .before .before .before .loop .inv .0))
-    (λ c. search needs)
-    (λ c. omega (arith, c .before .before .before .loop-test .taken))
-    (λ c.
+    (λ c. let s = c .before .before in (s .pre .3, none-listed _ _ _ _ _ (s .pre .0) (s .pre .4)))  -- loop-holds
+    (λ c κs. omega (arith, c .loop-test .taken, c .before .before .before .before .pre .1))  -- at-next-requires
+    (λ c κs. (omega (arith, c .before .before .loop-test .taken, c .before .before .before .before .before .before .pre .2), c .before .before .before .loop .inv .0))  -- put-requires
+    (λ c. search needs)  -- add-i
+    (λ c. omega (arith, c .before .before .before .loop-test .taken))  -- loop-less
+    (λ c.  -- loop-again
     let s = c .before .before .before .before .before .before .before in
     let l = c .before .before .before .before .loop in
     let low = c .before .before .before .loop-test .taken in
     let inside : l .i < length (flagsOf (l .nexts)) = omega (arith, low, s .pre .2, l .inv .0 .tallied .size) in
     (c .put .ensures .1, one-listed _ _ _ _ _ _ _ (l .inv .1) low inside _ (c .before .before .at-next .ensures) _ (c .put .ensures .0)))
-    (λ c.
+    (λ c.  -- returns
     let l = c .before .loop in
     (l .inv .0, all-listed _ _ _ _ _ _ _ (l .inv .1) (omega (arith, c .loop-test .left)))))

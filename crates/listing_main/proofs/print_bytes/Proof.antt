@@ -18,15 +18,15 @@ print-bytes-spec =
     (tie.spec
     Inv-loop
     μ-loop
-    (λ c. omega arith)
-    (λ c. omega arith)
-    (λ c. omega (arith, c .shared-slice-known2 .given (c .before .before .loop .i)))
-    (λ c κs. search needs)
-    (λ c. omega arith)
-    (λ c. search needs)
-    (λ c κs. search needs)
-    (λ c. omega arith)
-    (λ c. omega arith)
-    (λ c. omega arith)
-    (λ c. omega arith)
-    (λ c. search needs))
+    (λ c. omega arith)  -- loop-holds
+    (λ c. omega arith)  -- shared-slice-read-print-hex
+    (λ c. omega (arith, c .shared-slice-known2 .given (c .before .before .loop .i)))  -- cast-print-hex
+    (λ c κs. search needs)  -- print-hex-requires
+    (λ c. omega arith)  -- add-i
+    (λ c. search needs)  -- slice-aggregate-write-all
+    (λ c κs. search needs)  -- write-all-requires
+    (λ c. omega arith)  -- loop-less
+    (λ c. omega arith)  -- loop-again
+    (λ c. omega arith)  -- loop-less-2
+    (λ c. omega arith)  -- loop-again-2
+    (λ c. search needs))  -- returns

@@ -20,17 +20,17 @@ pub clear-spec : {M : Type 1} → statement M
 clear-spec = tie.close (tie.spec
     Inv-loop
     μ-loop
-    (λ c. search needs)
-    (λ c. omega arith)
-    (λ c. omega arith)
-    (λ c. omega arith)
-    (λ c.
+    (λ c. search needs)  -- loop-holds
+    (λ c. omega arith)  -- slice-write-cells
+    (λ c. omega arith)  -- add-i
+    (λ c. omega arith)  -- loop-less
+    (λ c.  -- loop-again
     let l = c .before .loop in
     let d = c .before .before .args .cells .now in
     let h : l .i < length d = omega arith in
     (omega arith, length-set (l .cells) (l .i) 0 ∙ l .inv .1, ap (λ m. set m (l .i) 0) (l .inv .2) ∙ fill-more (l .i) 0 d h))
-    (λ c. omega arith)
-    (λ c.
+    (λ c. omega arith)  -- same-length
+    (λ c.  -- returns
     let l = c .before .loop in
     let d = c .before .before .args .cells .now in
     let e : l .i ≡ length d = omega arith in

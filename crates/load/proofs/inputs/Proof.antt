@@ -90,24 +90,24 @@ pub inputs-spec : {M : Type 1} → statement M
 inputs-spec = tie.close (tie.spec
     Inv-loop
     μ-loop
-    (λ c.
+    (λ c.  -- loop-holds
     let s = c .before .before in
     let a = s .args in
     taken-none (a .tables .now) (a .ledger .now) (a .inputs .now) (a .links .now) (a .flags .now) (s .pre .0))
-    (λ c κs. omega (arith, c .loop-test .taken))
-    (λ c κs. omega (arith, c .before .before .loop-test .taken, c .before .before .before .before .before .before .pre .1, c .before .before .before .loop .inv .size))
-    (λ c κs. let p = c .before .before .before .before .before in (matching-known (matching p), fitting p .low))
-    (λ c. search needs)
-    (λ c. search needs)
-    (λ c. absurd (not-taken c))
-    (λ c. absurd (not-taken c))
-    (λ c κs.
+    (λ c κs. omega (arith, c .loop-test .taken))  -- token-at-requires
+    (λ c κs. omega (arith, c .before .before .loop-test .taken, c .before .before .before .before .before .before .pre .1, c .before .before .before .loop .inv .size))  -- put-token-requires
+    (λ c κs. let p = c .before .before .before .before .before in (matching-known (matching p), fitting p .low))  -- seek-requires
+    (λ c. search needs)  -- enum-known-slot
+    (λ c. search needs)  -- enum-told
+    (λ c. absurd (not-taken c))  -- same-length
+    (λ c. absurd (not-taken c))  -- returns
+    (λ c κs.  -- enter-requires
     let p = c .before .before .before .before .before .before .before .before .before .before .before .before in
     let o = rw (c .before .before .before .before .slot .given .1) at (c .before .before .before .before .before .before .seek .ensures) in
     (matching p, omega (arith, room p, size p), omega (arith, left p, start p .pre .1, start p .pre .2), standing p, fitting p .cell, o))
-    (λ c. omega (arith, c .before .before .before .before .before .before .before .before .before .before .before .before .before .before .before .before .loop-test .taken))
-    (λ c. omega (arith, c .before .before .before .before .before .before .before .before .before .before .before .before .before .before .before .before .loop-test .taken))
-    (λ c.
+    (λ c. omega (arith, c .before .before .before .before .before .before .before .before .before .before .before .before .before .before .before .before .loop-test .taken))  -- add-i
+    (λ c. omega (arith, c .before .before .before .before .before .before .before .before .before .before .before .before .before .before .before .before .loop-test .taken))  -- loop-less
+    (λ c.  -- loop-again
     let p = c .before .before .before .before .before .before .before .before .before .before .before .before .before in
     let s = start p in
     let a = s .args in
@@ -118,8 +118,8 @@ inputs-spec = tie.close (tie.spec
     (written p) (w .0 ∙ ap (λ (u : Token). putRow tokenWidth (l .ledger) (l .i) (encode u)) (t .ensures)) (size p)
     (rw add-one (written-more (l .ledger) (l .i) (t .result) (w .1) (room p) (written p) (w .0) ∙ ap (λ (u : Token). tokens (l .i) (l .ledger) ++ u ∷ []) (t .ensures)))
     (c .enter .last .1 .0) (c .enter .last .1 .1 .0) (c .enter .ensures))
-    (λ c. omega (arith, c .before .loop .inv .size))
-    (λ c.
+    (λ c. omega (arith, c .before .loop .inv .size))  -- same-length-2
+    (λ c.  -- returns-2
     let a = c .before .before .before .before .args in
     let l = c .before .loop in
     taken-all (a .tables .now) (a .ledger .now) (a .inputs .now) (l .ledger) (l .i) (l .links) (l .flags) (l .inv) (omega (arith, c .loop-test .left))))

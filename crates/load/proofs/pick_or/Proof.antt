@@ -20,13 +20,13 @@ from l at = rw (getD-drop at l 0 0, getD-drop at l 1 0, add-zero at)
 
 pub pick-or-spec : {M : Type 1} → statement M
 pick-or-spec = tie.close (tie.spec
-    (λ c. search needs)
-    (λ c κs. search needs)
-    (λ c.
+    (λ c. search needs)  -- mul-u16-at
+    (λ c κs. search needs)  -- u16-at-requires
+    (λ c.  -- returns
     let a = c .before .before .before .args in
     let l = a .picks .now in
     c .u16-at .ensures ∙ sym (from l (a .k * pickWidth)) ∙ sym (getD-rows pickWidth (λ b. number16 b 0) (length l / pickWidth) (a .k) l (a .other) (omega arith)))
-    (λ c.
+    (λ c.  -- returns-2
     let a = c .before .before .args in
     let l = a .picks .now in
     let h : length (allRows pickWidth (λ b. number16 b 0) l) ≤ a .k = rw (length-rows pickWidth (λ b. number16 b 0) (length l / pickWidth) l) (omega arith) in

@@ -12,11 +12,11 @@ use Rattle.number.proofs.signed.Tie as tie
 pub signed-spec : {M : Type 1} → statement M
 unfolding signedOf
 signed-spec = tie.close (tie.spec
-    (λ c. search needs)
-    (λ c. search needs)
-    (λ c. search needs)
-    (λ c. search needs)
-    (λ c.
+    (λ c. search needs)  -- cast-result
+    (λ c. search needs)  -- sub-result
+    (λ c. search needs)  -- cast-result-2
+    (λ c. search needs)  -- returns
+    (λ c.  -- returns-2
     let n = c .before .args .bits in
     let e : 4294967295 - (4294967295 - n) ≡ n = omega (arith, c .before .fits .bits) in
     ap (toZ w32) e))

@@ -11,21 +11,21 @@ use Rattle.printing.proofs.print_left.Tie as tie
 
 pub print-left-spec : {M : Type 1} → statement M
 print-left-spec = tie.close (tie.spec
-    (λ c. search needs)
-    (λ c. search needs)
-    (λ c. search needs)
-    (λ c. search needs)
-    (λ c. search needs)
-    (λ c. search needs)
-    (λ c. search needs)
-    (λ c κs. search needs)
-    (λ c. search needs)
-    (λ c. search needs)
-    (λ c. search needs)
-    (λ c κs. search needs)
-    (λ c. search needs)
-    (λ c. search needs)
-    (λ c.
+    (λ c. search needs)  -- mul-used
+    (λ c. search needs)  -- sub-list
+    (λ c. search needs)  -- part-list-start
+    (λ c. search needs)  -- part-list-end
+    (λ c. search needs)  -- sub-list-2
+    (λ c. search needs)  -- part-list-start-2
+    (λ c. search needs)  -- part-list-end-2
+    (λ c κs. search needs)  -- list-requires
+    (λ c. search needs)  -- sub-print
+    (λ c. search needs)  -- part-print-start
+    (λ c. search needs)  -- part-print-end
+    (λ c κs. search needs)  -- print-requires
+    (λ c. search needs)  -- same-length
+    (λ c. search needs)  -- same-length-2
+    (λ c.  -- returns
     let p = c .before .before .print .ensures in
     let l = c .before .before .before .before .before .before .before .before .list .ensures in
     let s = c .before .before .before .before .before .before .before .before .before .before .before .before .before .before .before .before in

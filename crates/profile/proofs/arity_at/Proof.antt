@@ -6,7 +6,7 @@ use Rattle.profile.proofs.arity_at.Tie as tie
 
 pub arity-at-spec : {M : Type 1} → statement M
 arity-at-spec = tie.close (tie.spec
-    (λ c κs. search needs)
-    (λ c κs. search needs)
-    (λ c κs. search needs)
-    (λ c. (c .wide .ensures .0 ∙ rw (← c .before .before .before .before .token-at .ensures) (c .before .arity .ensures), c .wide .ensures .1)))
+    (λ c κs. search needs)  -- token-at-requires
+    (λ c κs. search needs)  -- arity-requires
+    (λ c κs. search needs)  -- wide-requires
+    (λ c. (c .wide .ensures .0 ∙ rw (← c .before .before .before .before .token-at .ensures) (c .before .arity .ensures), c .wide .ensures .1)))  -- returns

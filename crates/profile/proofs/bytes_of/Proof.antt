@@ -8,8 +8,8 @@ use Rattle.profile.proofs.bytes_of.Tie as tie
 pub bytes-of-spec : {M : Type 1} → statement M
 unfolding encode
 bytes-of-spec = tie.close (tie.spec
-    (λ c. search needs)
-    (λ c. search needs)
-    (λ c. search needs)
-    (λ c. search needs)
-    (λ c. refl))
+    (λ c. search needs)  -- cast-t4
+    (λ c. search needs)  -- cast-t7
+    (λ c. search needs)  -- cast-t9
+    (λ c. search needs)  -- cast-t12
+    (λ c. refl))  -- returns

@@ -14,6 +14,6 @@ taken c = rw (one-fits (c .args .k) (c .pre .0)) (word-lowered (c .args .word) (
 
 pub lowered-spec : {M : Type 1} → statement M
 lowered-spec = tie.close (tie.spec
-    (λ c. search needs)
-    (λ c. taken c .0)
-    (λ c. taken c .1))
+    (λ c. search needs)  -- shl-result
+    (λ c. taken c .0)  -- sub-result
+    (λ c. taken c .1))  -- returns

@@ -7,5 +7,5 @@ use Rattle.profile.proofs.lowest.Tie as tie
 
 pub lowest-spec : {M : Type 1} → statement M
 lowest-spec = tie.close (tie.spec
-    (λ c. record { fits = omega (arith, trailing-le 64 (c .args .word)) })
-    (λ c. word-lowest (c .args .word)))
+    (λ c. record { fits = omega (arith, trailing-le 64 (c .args .word)) })  -- cast-result
+    (λ c. word-lowest (c .args .word)))  -- returns

@@ -20,19 +20,19 @@ unfolding picksOf
 operands-at-spec = tie.close (tie.spec
     Inv-loop
     μ-loop
-    (λ c. (refl, omega arith, omega arith))
-    (λ c κs. search needs)
-    (λ c κs.
+    (λ c. (refl, omega arith, omega arith))  -- loop-holds
+    (λ c κs. search needs)  -- pick-at-requires
+    (λ c κs.  -- arity-at-requires
     let s = c .before .before .before .before .before in
     omega (arith, c .pick-at .ensures .0, s .pre .1 (c .before .before .loop .k) (c .before .loop-test .taken)))
-    (λ c. omega (arith, c .before .before .before .loop .inv .1, c .before .before .before .loop .inv .2, c .before .before .before .before .before .before .pre .0, c .arity-at .ensures .1))
-    (λ c. omega (arith, c .before .before .before .loop .inv .2, c .before .before .loop-test .taken, c .before .before .before .before .before .before .pre .0))
-    (λ c. omega (arith, c .before .before .loop-test .taken))
-    (λ c.
+    (λ c. omega (arith, c .before .before .before .loop .inv .1, c .before .before .before .loop .inv .2, c .before .before .before .before .before .before .pre .0, c .arity-at .ensures .1))  -- add-sum
+    (λ c. omega (arith, c .before .before .before .loop .inv .2, c .before .before .loop-test .taken, c .before .before .before .before .before .before .pre .0))  -- add-k
+    (λ c. omega (arith, c .before .before .loop-test .taken))  -- loop-less
+    (λ c.  -- loop-again
     let l = c .before .before .before .loop in
     let a = c .before .before .before .before .before .before .args in
     (up-to-next (a .tables .now) (a .ledger .now) (picksOf (a .places .now)) (l .k) _ _ _ (l .inv .0) (c .arity-at .ensures .0) (c .before .pick-at .ensures .0), omega (arith, l .inv .1, c .arity-at .ensures .1), omega (arith, c .before .before .loop-test .taken)))
-    (λ c.
+    (λ c.  -- returns
     let l = c .before .loop in
     let a = c .before .before .before .before .args in
     up-to-end (a .tables .now) (a .ledger .now) (picksOf (a .places .now)) (l .k) (a .count) _ (l .inv .0) (omega (arith, l .inv .2, c .loop-test .left))))

@@ -13,19 +13,19 @@ unfolding profiled profileUnlessFailed profileAnswer profileAfter answer ledgerA
 profile-spec =
     tie.close
     (tie.spec
-    (λ c κs. search needs)
-    (λ c. search needs)
-    (λ c κs. search needs)
-    (λ c. search needs)
-    (λ c κs. sym (c .before .before .before .before .before .check .ensures) ∙ c .before .before .before .enum-told .given .1)
-    (λ c.
+    (λ c κs. search needs)  -- check-requires
+    (λ c. search needs)  -- enum-known-checked
+    (λ c κs. search needs)  -- answered-requires
+    (λ c. search needs)  -- enum-told
+    (λ c κs. sym (c .before .before .before .before .before .check .ensures) ∙ c .before .before .before .enum-told .given .1)  -- accepted-requires
+    (λ c.  -- returns
     let e = sym (c .before .before .before .before .check .ensures) ∙ c .before .before .checked .given .1 in
     let r = c .answered .ensures in
     rw e (record { answered = r; numbers = ap (λ (p : Profiled). valuesOf (p .answer)) r; ledgerLeft = refl; cellsLeft = refl; profileLeft = refl }))
-    (λ c. search needs)
-    (λ c. search needs)
-    (λ c. search needs)
-    (λ c.
+    (λ c. search needs)  -- same-length
+    (λ c. search needs)  -- same-length-2
+    (λ c. search needs)  -- same-length-3
+    (λ c.  -- returns-2
     let e = sym (c .before .before .before .before .before .before .before .before .before .before .before .before .check .ensures) ∙ c .before .before .before .before .before .before .before .before .before .before .enum-told .given .1 in
     let l = c .before .before .before .before .before .before .accepted .ensures in
     rw e (record { answered = λ i. record { answer = l .ended .answered i; records = l .counted i }; numbers = ap valuesOf (l .ended .answered); ledgerLeft = l .ended .ledgerLeft; cellsLeft = l .ended .cellsLeft; profileLeft = l .profileLeft })))

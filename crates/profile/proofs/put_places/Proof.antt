@@ -53,43 +53,43 @@ pub put-places-spec : {M : Type 1} → statement M
 put-places-spec = tie.close (tie.spec
     Inv-loop
     μ-loop
-    (λ c κs. (c .pre .0, omega (arith, c .pre .2, c .pre .3)))
-    (λ c. omega (arith, c .enabled-at .ensures .1))
-    (λ c. omega (arith, c .enabled-at .ensures .1))
-    (λ c.
+    (λ c κs. (c .pre .0, omega (arith, c .pre .2, c .pre .3)))  -- enabled-at-requires
+    (λ c. omega (arith, c .enabled-at .ensures .1))  -- mul-rest
+    (λ c. omega (arith, c .enabled-at .ensures .1))  -- element-copy-out-rest
+    (λ c.  -- loop-holds
     let s = c .before .before in
     let f = flagsOf (s .args .flags .now) in
     let some : 0 < ones f = omega (arith, all s, s .pre .2, s .pre .3) in
     let first : c .before .enabled-at .result ≡ place 0 f = omega (arith, c .before .enabled-at .ensures .0, place-places 0 0 f (s .pre .0 .tallied .binary) some) in
     (left-start (s .pre .0) (c .before .enabled-at .result) some first, copied-none (places f) (s .args .out .now), s .pre .1, omega arith))
-    (λ c κs. search needs)
-    (λ c. omega (arith, c .before .before .before .loop .inv .0 .word))
-    (λ c. omega (arith, c .before .before .before .loop .inv .0 .word, c .if1 .taken))
-    (λ c. omega arith)
-    (λ c. omega (arith, room (c .before)))
-    (λ c. omega (arith, room (c .before)))
-    (λ c. omega (arith, c .before .before .before .loop .inv .0 .word, c .if1 .taken))
-    (λ c. omega (arith, room (c .before)))
-    (λ c. omega (arith, room (c .before)))
-    (λ c. omega (arith, room (c .before)))
-    (λ c κs. (c .if1 .taken, one (c .before) (c .if1 .taken) .0))
-    (λ c. omega (arith, room (c .before .before)))
-    (λ c. omega (arith, c .before .before .before .loop-test .taken))
-    (λ c.
+    (λ c κs. search needs)  -- lowest-requires
+    (λ c. omega (arith, c .before .before .before .loop .inv .0 .word))  -- mul-place
+    (λ c. omega (arith, c .before .before .before .loop .inv .0 .word, c .if1 .taken))  -- add-place
+    (λ c. omega arith)  -- cast-out
+    (λ c. omega (arith, room (c .before)))  -- mul-out
+    (λ c. omega (arith, room (c .before)))  -- element-write-out
+    (λ c. omega (arith, c .before .before .before .loop .inv .0 .word, c .if1 .taken))  -- cast-out-2
+    (λ c. omega (arith, room (c .before)))  -- mul-out-2
+    (λ c. omega (arith, room (c .before)))  -- add-out
+    (λ c. omega (arith, room (c .before)))  -- element-write-out-2
+    (λ c κs. (c .if1 .taken, one (c .before) (c .if1 .taken) .0))  -- lowered-requires
+    (λ c. omega (arith, room (c .before .before)))  -- add-k
+    (λ c. omega (arith, c .before .before .before .loop-test .taken))  -- loop-less
+    (λ c.  -- loop-again
     let n = c .before .before in
     let l = n .before .before .loop in
     let o = one n (c .before .if1 .taken) in
     let fits : 2 * l .k + 1 < length (l .out) = omega (arith, l .inv .2, room n) in
     (o .2 (c .lowered .result) (c .lowered .ensures), copied-next (l .k) _ (places (flagsOf (start n .args .flags .now))) (l .out) fits (o .1) (l .inv .1), simp length-set (l .inv .2), omega (arith, n .before .loop-test .taken)))
-    (λ c. omega (arith, c .before .before .before .loop .inv .0 .word))
-    (λ c. omega (arith, c .before .before .before .loop .inv .0 .word))
-    (λ c. omega (arith, c .before .before .before .loop .inv .0 .word))
-    (λ c. omega (arith, c .before .before .before .before .loop .inv .0 .word))
-    (λ c.
+    (λ c. omega (arith, c .before .before .before .loop .inv .0 .word))  -- add-b
+    (λ c. omega (arith, c .before .before .before .loop .inv .0 .word))  -- mul-rest-2
+    (λ c. omega (arith, c .before .before .before .loop .inv .0 .word))  -- element-copy-out-rest-2
+    (λ c. omega (arith, c .before .before .before .before .loop .inv .0 .word))  -- loop-less-2
+    (λ c.  -- loop-again-2
     let n = c .before .before in
     let l = n .before .before .loop in
     (next n (omega (arith, c .before .if1 .left)) .1, l .inv .1, l .inv .2, l .inv .3))
-    (λ c.
+    (λ c.  -- returns
     let l = c .before .loop in
     let s = c .before .before .before .before in
     record {

@@ -39,40 +39,40 @@ pub step-spec : {M : Type 1} → statement M
 step-spec =
     tie.close
     (tie.spec
-    (λ c κs. let s = c .before .before .before .before .before in (matching-counted (s .pre .1 .matching), s .pre .3))
-    (λ c κs. matching-room (c .before .before .before .before .before .before .before .before .pre .1 .matching))
-    (λ c. search needs)
-    (λ c.
+    (λ c κs. let s = c .before .before .before .before .before in (matching-counted (s .pre .1 .matching), s .pre .3))  -- enabled-places-requires
+    (λ c κs. matching-room (c .before .before .before .before .before .before .before .before .pre .1 .matching))  -- ending-requires
+    (λ c. search needs)  -- same-length
+    (λ c.  -- returns
     let n = c .before .before .before in
     let s = n .before .before .before .before .before .before in
     (step-none _ (s .pre .0) (s .pre .1) _ (n .enabled-places .ensures .counted) (c .before .before .if1 .taken) _ (c .ending .ensures), n .enabled-places .ensures .size))
-    (λ c κs.
+    (λ c κs.  -- operands-at-requires
     let n = c .before .before .before .before in
     let s = n .before .before .before .before .before .before in
     (few n, place-below _ (s .pre .0) (s .pre .1) (n .enabled-places .ensures)))
-    (λ c. search needs)
-    (λ c. search needs)
-    (λ c κs. let s = c .before .before .before .before .before .before .before .before .before .before .before .before .before .before .before .before .before .before .before .before .before in (s .pre .0, s .pre .1, tt))
-    (λ c. search needs)
-    (λ c. c .before .before .before .before .before .before .before .turns .ensures .0 .grown)
-    (λ c.
+    (λ c. search needs)  -- slice-aggregate-turns
+    (λ c. search needs)  -- slice-aggregate-turns-2
+    (λ c κs. let s = c .before .before .before .before .before .before .before .before .before .before .before .before .before .before .before .before .before .before .before .before .before in (s .pre .0, s .pre .1, tt))  -- turns-requires
+    (λ c. search needs)  -- enum-known-outcome
+    (λ c. c .before .before .before .before .before .before .before .turns .ensures .0 .grown)  -- sub-t49
+    (λ c.  -- add-t50
     let s = c .before .before .before .before .before .before .before .before .before .before .before .before .before .before .before .before .before .before .before .before .before .before .before .before .before .before .before .before .before in
     omega (arith, unspent-below (s .pre .1) (s .pre .2), matching-few (s .pre .1 .matching), matching-few (c .before .before .before .before .before .before .before .turns .ensures .0 .running .matching)))
-    (λ c.
+    (λ c.  -- sub-t51
     let p = c .before .before .before .before .before .before .before in
     let n = c .before .before .before .before .before .before .before .before .before .before .before .before .before .before .before .before .before .before .before .before .before .before .before in
     let s = n .before .before .before .before .before .before in
     omega (arith, c .before .before .before .before .before .before .before .before .before .before .before .before .before .before .before .before .before .before .operands-at .ensures, unspent-now _ (s .pre .0) (s .pre .1) (n .enabled-places .ensures) (p .turns .ensures .0) (c .before .before .before .before .before .before .before .before .before .before .before .before .before .before .before .before .before .before .before .before .before .before .if1 .left) (unrefused (p .turns .result .outcome) (c .match .keys2)) (s .pre .2)))
-    (λ c. search needs)
-    (λ c. search needs)
-    (λ c.
+    (λ c. search needs)  -- same-length-2
+    (λ c. search needs)  -- same-length-3
+    (λ c.  -- returns-2
     let p = c .before .before .before .before .before .before .before .before .before in
     let n = c .before .before .before .before .before .before .before .before .before .before .before .before .before .before .before .before .before .before .before .before .before .before .before .before .before in
     let s = n .before .before .before .before .before .before in
     (step-cut _ (s .pre .0) (s .pre .1) (n .enabled-places .ensures) (p .turns .ensures .0) (c .before .before .before .before .before .before .before .before .before .before .before .before .before .before .before .before .before .before .before .before .before .before .before .before .if1 .left) _ _ (c .before .outcome .given .1), n .enabled-places .ensures .size))
-    (λ c. search needs)
-    (λ c. search needs)
-    (λ c.
+    (λ c. search needs)  -- same-length-4
+    (λ c. search needs)  -- same-length-5
+    (λ c.  -- returns-3
     let p = c .before .before .before .before .before .before .before in
     let n = c .before .before .before .before .before .before .before .before .before .before .before .before .before .before .before .before .before .before .before .before .before .before .before in
     let s = n .before .before .before .before .before .before in

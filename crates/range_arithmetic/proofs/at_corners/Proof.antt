@@ -10,18 +10,18 @@ use Rattle.range_arithmetic.proofs.at_corners.Tie as tie
 
 pub at-corners-spec : {M : Type 1} → statement M
 at-corners-spec = tie.close (tie.spec
-    (λ c κs. search needs)
-    (λ c κs. search needs)
-    (λ c κs. search needs)
-    (λ c κs. search needs)
-    (λ c κs. search needs)
-    (λ c κs. search needs)
-    (λ c κs. search needs)
-    (λ c κs. search needs)
-    (λ c κs. search needs)
-    (λ c κs. search needs)
-    (λ c κs. search needs)
-    (λ c.
+    (λ c κs. search needs)  -- outcome-requires
+    (λ c κs. search needs)  -- outcome-requires-2
+    (λ c κs. search needs)  -- outcome-requires-3
+    (λ c κs. search needs)  -- outcome-requires-4
+    (λ c κs. search needs)  -- smaller-requires
+    (λ c κs. search needs)  -- smaller-requires-2
+    (λ c κs. search needs)  -- smaller-requires-3
+    (λ c κs. search needs)  -- larger-requires
+    (λ c κs. search needs)  -- larger-requires-2
+    (λ c κs. search needs)  -- larger-requires-3
+    (λ c κs. search needs)  -- narrowed-requires
+    (λ c.  -- returns
     let s = c .before .before .before .before .before .before .before .before .before .before .before .before .before .before .before .before .before .before .before in
     let ll : toZ w64 (ofZ w64 (c .before .before .before .before .before .before .before .before .before .before .before .before .before .before .before .before .outcome .result)) ≡ outcome (s .args .op) (s .args .a .low) (s .args .b .low) =
     let f : SFits w32 (s .args .a .low) = record { sfits = c .before .before .before .before .before .before .before .before .before .before .before .before .before .before .before .before .before .before .struct-told .given .0 .1 } in

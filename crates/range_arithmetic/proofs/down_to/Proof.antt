@@ -12,16 +12,16 @@ use Rattle.range_arithmetic.proofs.down_to.Tie as tie
 
 pub down-to-spec : {M : Type 1} → statement M
 down-to-spec = tie.close (tie.spec
-    (λ c.
+    (λ c.  -- sub-result
     let s = c .before in
     let (n, e) = s .pre in
     rw (toZ-ofZ (s .fits .m), e, minus-from n) (negated-fits n (subst (SFits w64) e (s .fits .m))))
-    (λ c.
+    (λ c.  -- returns
     let s = c .before in
     let (n, e) = s .pre in
     let t : ltZ (s .args .low) (pos 0) ≡ true = rw (toZ-ofZ (s .fits .low)) at (c .if1 .taken) in
     rw (toZ-ofZ (s .fits .m), e, minus-from n, t) (toZ-ofZ (negated-fits n (subst (SFits w64) e (s .fits .m)))))
-    (λ c.
+    (λ c.  -- returns-2
     let s = c .before in
     let t : ltZ (s .args .low) (pos 0) ≡ false = rw (toZ-ofZ (s .fits .low)) at (c .if1 .left) in
     rw t))

@@ -11,12 +11,12 @@ use Rattle.range_arithmetic.proofs.equalities.Tie as tie
 pub equalities-spec : {M : Type 1} → statement M
 unfolding equalities
 equalities-spec = tie.close (tie.spec
-    (λ c κs. search needs)
-    (λ c κs. search needs)
-    (λ c κs. search needs)
-    (λ c κs. search needs)
-    (λ c κs. search needs)
-    (λ c.
+    (λ c κs. search needs)  -- surely-equal-requires
+    (λ c κs. search needs)  -- truth-requires
+    (λ c κs. search needs)  -- maybe-equal-requires
+    (λ c κs. search needs)  -- truth-requires-2
+    (λ c κs. search needs)  -- narrowed-requires
+    (λ c.  -- returns
     let low : SFits w64 (c .before .before .before .truth .result) = record { sfits = c .before .before .before .truth .ok } in
     let high : SFits w64 (c .before .truth2 .result) = record { sfits = c .before .truth2 .ok } in
     c .narrowed .ensures

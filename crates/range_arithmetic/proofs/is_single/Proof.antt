@@ -7,6 +7,6 @@ use Rattle.range_arithmetic.proofs.is_single.Tie as tie
 
 pub is-single-spec : {M : Type 1} → statement M
 is-single-spec = tie.close (tie.spec
-    (λ c.
+    (λ c.  -- returns
     let s = c .before .before in
     equal-bits (s .args .r .low) (s .args .r .high) (record { sfits = c .struct-told .given .0 .1 }) (record { sfits = c .struct-told .given .1 .0 .1 })))

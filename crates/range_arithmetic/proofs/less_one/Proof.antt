@@ -11,7 +11,7 @@ use Rattle.range_arithmetic.proofs.less_one.Tie as tie
 
 pub less-one-spec : {M : Type 1} → statement M
 less-one-spec = tie.close (tie.spec
-    (λ c. let e : 0 ≡ c .before .args .m - 1 = omega (arith, c .if1 .taken) in ap pos e)
-    (λ c. search needs)
-    (λ c. search needs)
-    (λ c. toZ-pos w64 (omega (arith, c .before .fits .m))))
+    (λ c. let e : 0 ≡ c .before .args .m - 1 = omega (arith, c .if1 .taken) in ap pos e)  -- returns
+    (λ c. search needs)  -- sub-result
+    (λ c. search needs)  -- cast-result
+    (λ c. toZ-pos w64 (omega (arith, c .before .fits .m))))  -- returns-2

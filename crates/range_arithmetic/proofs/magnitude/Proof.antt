@@ -19,19 +19,19 @@ negative (negsuc n) e = omega arith
 
 pub magnitude-spec : {M : Type 1} → statement M
 magnitude-spec = tie.close (tie.spec
-    (λ c.
+    (λ c.  -- cast-result
     let u = at-pos _ (c .before .fits .x) (rw (toZ-ofZ (c .before .fits .x)) at (c .if1 .taken)) in
     rw (toZ-ofZ (c .before .fits .x)) (u .up, u .fits))
-    (λ c. search needs)
-    (λ c.
+    (λ c. search needs)  -- returns
+    (λ c.  -- cast-result-2
     let f = c .before .fits .x in
     let e = at-neg _ f (rw (toZ-ofZ f) at (c .if1 .left)) in
     rw e (tt, record { fits = omega (arith, f .sfits) }))
-    (λ c.
+    (λ c.  -- add-result
     let f = c .before .fits .x in
     let e = at-neg _ f (rw (toZ-ofZ f) at (c .if1 .left)) in
     rw e (omega (arith, f .sfits)))
-    (λ c.
+    (λ c.  -- returns-2
     let f = c .before .fits .x in
     let t = rw (toZ-ofZ f) at (c .if1 .left) in
     rw (at-neg (c .before .args .x) f t) (negative (c .before .args .x) t)))

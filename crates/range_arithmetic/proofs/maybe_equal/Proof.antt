@@ -10,7 +10,7 @@ use Rattle.range_arithmetic.proofs.maybe_equal.Tie as tie
 
 pub maybe-equal-spec : {M : Type 1} → statement M
 maybe-equal-spec = tie.close (tie.spec
-    (λ c.
+    (λ c.  -- returns
     let a = c .before .before .before .before .before .before .before .before .before .args .a in
     let b = c .before .before .before .before .before .before .before .before .before .args .b in
     let al : SFits w32 (a .low) = record { sfits = c .before .before .before .before .before .before .before .struct-told .given .0 .1 } in
@@ -19,7 +19,7 @@ maybe-equal-spec = tie.close (tie.spec
     let ah : SFits w32 (a .high) = record { sfits = c .struct-told4 .given .1 .0 .1 } in
     let t : leZ (a .low) (b .high) ≡ true = rw (toZ-ofZ al, toZ-ofZ bh) at (c .before .before .before .before .if1 .taken) in
     rw (toZ-ofZ bl, toZ-ofZ ah, t))
-    (λ c.
+    (λ c.  -- returns-2
     let a = c .before .before .before .before .before .args .a in
     let b = c .before .before .before .before .before .args .b in
     let al : SFits w32 (a .low) = record { sfits = c .before .before .before .struct-told .given .0 .1 } in

@@ -12,10 +12,10 @@ use Rattle.range_arithmetic.proofs.most_remainder.Tie as tie
 
 pub most-remainder-spec : {M : Type 1} → statement M
 most-remainder-spec = tie.close (tie.spec
-    (λ c κs. search needs)
-    (λ c κs. search needs)
-    (λ c κs. search needs)
-    (λ c.
+    (λ c κs. search needs)  -- magnitude-requires
+    (λ c κs. search needs)  -- magnitude-requires-2
+    (λ c κs. search needs)  -- less-one-requires
+    (λ c.  -- returns
     let b = c .before .before .before .before .before .before .args .b in
     let low : SFits w32 (b .low) = record { sfits = c .before .before .before .before .before .struct-told .given .0 .1 } in
     let high : SFits w32 (b .high) = record { sfits = c .before .before .before .struct-told2 .given .1 .0 .1 } in
@@ -24,8 +24,8 @@ most-remainder-spec = tie.close (tie.spec
     let w : SFits w64 (c .less-one .result) = record { sfits = c .less-one .ok } in
     let e : c .before .before .magnitude2 .result - 1 ≡ max (natAbs (b .low)) (natAbs (b .high)) - 1 = omega (arith, l, h, c .before .if1 .taken) in
     rw (toZ-ofZ w) (c .less-one .ensures ∙ ap pos e))
-    (λ c κs. search needs)
-    (λ c.
+    (λ c κs. search needs)  -- less-one-requires-2
+    (λ c.  -- returns-2
     let b = c .before .before .before .before .before .before .args .b in
     let low : SFits w32 (b .low) = record { sfits = c .before .before .before .before .before .struct-told .given .0 .1 } in
     let high : SFits w32 (b .high) = record { sfits = c .before .before .before .struct-told2 .given .1 .0 .1 } in

@@ -10,19 +10,19 @@ use Rattle.range_arithmetic.proofs.narrowed.Tie as tie
 
 pub narrowed-spec : {M : Type 1} → statement M
 narrowed-spec = tie.close (tie.spec
-    (λ c κs. search needs)
-    (λ c. search needs)
-    (λ c. search needs)
-    (λ c.
+    (λ c κs. search needs)  -- narrowed-requires
+    (λ c. search needs)  -- enum-known-of-low
+    (λ c. search needs)  -- enum-told
+    (λ c.  -- returns
     let s = c .before .before .before in
     low-out (s .args .low) (s .args .high) (rw (toZ-ofZ (s .fits .low)) at (sym (c .before .before .narrowed .ensures) ∙ c .enum-told .given .1)))
-    (λ c κs. search needs)
-    (λ c. search needs)
-    (λ c. search needs)
-    (λ c.
+    (λ c κs. search needs)  -- narrowed-requires-2
+    (λ c. search needs)  -- enum-known-of-high
+    (λ c. search needs)  -- enum-told-2
+    (λ c.  -- returns-2
     let s = c .before .before .before .before .before .before .before in
     high-out (s .args .low) (s .args .high) (rw (toZ-ofZ (s .fits .high)) at (sym (c .before .before .narrowed2 .ensures) ∙ c .enum-told2 .given .1)))
-    (λ c.
+    (λ c.  -- returns-3
     let s = c .before .before .before .before .before .before .before .before in
     let l = c .before .before .before .before .before in
     let h = c .before in

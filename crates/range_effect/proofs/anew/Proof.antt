@@ -15,14 +15,14 @@ pub anew-spec : {M : Type 1} → statement M
 anew-spec =
     tie.close
     (tie.spec
-    (λ c. search needs)
-    (λ c. search needs)
-    (λ c κs. search needs)
-    (λ c. search needs)
-    (λ c. search needs)
-    (λ c. rw (c .enum-told .given .1) (record { operated = refl; held = sym (append-nil _); size = refl }))
-    (λ c. search needs)
-    (λ c.
+    (λ c. search needs)  -- enum-told
+    (λ c. search needs)  -- enum-known-made
+    (λ c κs. search needs)  -- add-requires
+    (λ c. search needs)  -- cast-t11
+    (λ c. search needs)  -- add-t14
+    (λ c. rw (c .enum-told .given .1) (record { operated = refl; held = sym (append-nil _); size = refl }))  -- returns
+    (λ c. search needs)  -- same-length
+    (λ c.  -- returns-2
     let a = c .before .before in
     let s = a .before .before .before .before .before .before in
     rw (a .before .before .before .made .given .1)

@@ -46,59 +46,59 @@ unfolding askOf
 operate-spec =
     tie.close
     (tie.spec
-    (λ c κs. search needs)
-    (λ c κs. search needs)
-    (λ c. search needs)
-    (λ c κs. search needs)
-    (λ c. search needs)
-    (λ c κs. search needs)
-    (λ c κs. search needs)
-    (λ c. search needs)
-    (λ c κs. search needs)
-    (λ c κs. search needs)
-    (λ c. search needs)
-    (λ c κs. search needs)
-    (λ c κs. search needs)
-    (λ c κs. search needs)
-    (λ c. search needs)
-    (λ c κs. search needs)
-    (λ c κs. search needs)
-    (λ c κs. search needs)
-    (λ c. search needs)
-    (λ c κs. search needs)
-    (λ c κs. search needs)
-    (λ c κs. search needs)
-    (λ c κs. search needs)
-    (λ c. search needs)
-    (λ c.
+    (λ c κs. search needs)  -- meaning-requires
+    (λ c κs. search needs)  -- meaning-requires-2
+    (λ c. search needs)  -- enum-told
+    (λ c κs. search needs)  -- anew-requires
+    (λ c. search needs)  -- enum-known-o
+    (λ c κs. search needs)  -- range-requires
+    (λ c κs. search needs)  -- anew-requires-2
+    (λ c. search needs)  -- enum-known-o-2
+    (λ c κs. search needs)  -- range-requires-2
+    (λ c κs. search needs)  -- anew-requires-3
+    (λ c. search needs)  -- enum-told-2
+    (λ c κs. search needs)  -- undecided-requires
+    (λ c κs. search needs)  -- operate-requires
+    (λ c κs. search needs)  -- only-if-requires
+    (λ c. search needs)  -- enum-told-3
+    (λ c κs. search needs)  -- is-single-requires
+    (λ c κs. search needs)  -- operate-requires-2
+    (λ c κs. search needs)  -- only-if-requires-2
+    (λ c. search needs)  -- enum-told-4
+    (λ c κs. search needs)  -- is-single-requires-2
+    (λ c κs. search needs)  -- operate-requires-3
+    (λ c κs. search needs)  -- only-if-requires-3
+    (λ c κs. search needs)  -- operate-requires-4
+    (λ c. search needs)  -- same-length
+    (λ c.  -- returns
     let n = c .before .before in
     let e = n .before .before in
     let s = e .before .before .before .before .before .before .before .before in
     rw (e .enum-told .given .1) (rw (toZ-ofZ (s .fits .k)) at (n .anew .ensures)))
-    (λ c. search needs)
-    (λ c.
+    (λ c. search needs)  -- same-length-2
+    (λ c.  -- returns-2
     let n = c .before .before in
     let e = n .before .before .before .before in
     let y = e .before .before in
     let x = y .before .before in
     let s = x .before .before .before .before in
     rw (e .o .given .1) (rw (n .before .range .ensures, x .meaning .ensures, toZ-ofZ (s .fits .a), y .meaning2 .ensures, toZ-ofZ (s .fits .b)) at (n .anew2 .ensures)))
-    (λ c. search needs)
-    (λ c.
+    (λ c. search needs)  -- same-length-3
+    (λ c.  -- returns-3
     let n = c .before .before in
     let e = n .before .before .before .before in
     let x = e .before .before .before .before in
     let s = x .before .before .before .before in
     rw (e .o2 .given .1) (rw (n .before .range2 .ensures, x .meaning .ensures, toZ-ofZ (s .fits .a), toZ-ofZ (s .fits .k)) at (n .anew3 .ensures)))
-    (λ c. search needs)
-    (λ c.
+    (λ c. search needs)  -- same-length-4
+    (λ c.  -- returns-4
     let d = c .before .before in
     let e = d .before in
     let y = e .before .before in
     let s = y .before .before .before .before .before .before in
     rw (c .only-if .ensures, c .before .operate .ensures, toZ-ofZ (s .fits .k), toZ-ofZ (s .fits .a), toZ-ofZ (s .fits .b), d .undecided .ensures, y .meaning2 .ensures, toZ-ofZ (s .fits .b), e .enum-told2 .given .1) (asks-as-is _ _ _))
-    (λ c. search needs)
-    (λ c.
+    (λ c. search needs)  -- same-length-5
+    (λ c.  -- returns-5
     let f = c .before .before in
     let i = f .before in
     let e = i .before in
@@ -106,8 +106,8 @@ operate-spec =
     let s = x .before .before .before .before in
     let low : SFits w32 (x .meaning .result .low) = record { sfits = f .struct-told .given .0 .1 } in
     rw (c .only-if2 .ensures, c .before .operate2 .ensures, toZ-ofZ (s .fits .k), toZ-ofZ low, toZ-ofZ (s .fits .b), i .is-single .ensures, x .meaning .ensures, toZ-ofZ (s .fits .a), e .enum-told3 .given .1) (asks-as-is _ _ _))
-    (λ c. search needs)
-    (λ c.
+    (λ c. search needs)  -- same-length-6
+    (λ c.  -- returns-6
     let f = c .before .before in
     let i = f .before in
     let e = i .before in
@@ -115,8 +115,8 @@ operate-spec =
     let s = x .before .before .before .before in
     let low : SFits w32 (x .meaning .result .low) = record { sfits = f .struct-told2 .given .0 .1 } in
     rw (c .only-if3 .ensures, c .before .operate3 .ensures, toZ-ofZ (s .fits .k), toZ-ofZ low, toZ-ofZ (s .fits .b), i .is-single2 .ensures, x .meaning .ensures, toZ-ofZ (s .fits .a), e .enum-told4 .given .1) (asks-as-is _ _ _))
-    (λ c. search needs)
-    (λ c.
+    (λ c. search needs)  -- same-length-7
+    (λ c.  -- returns-7
     let m = c .before in
     let s = m .before .before .before .before .before .before .before in
     rw (c .operate4 .ensures, toZ-ofZ (s .fits .k), toZ-ofZ (s .fits .a), toZ-ofZ (s .fits .b), plain (s .args .o) _ (s .args .k) (s .args .cells) _ (s .args .a) (s .args .b) (m .match .keys7)) (asks-as-is _ _ _)))

@@ -9,7 +9,7 @@ unfolding isUndecided
 undecided-spec =
     tie.close
     (tie.spec
-    (λ c κs. search needs)
-    (λ c κs. search needs)
-    (λ c. rw (c .is-single .ensures, ← c .before .before .may-be-zero .ensures, c .before .if1 .taken))
-    (λ c. rw (← c .before .may-be-zero .ensures, c .if1 .left)))
+    (λ c κs. search needs)  -- may-be-zero-requires
+    (λ c κs. search needs)  -- is-single-requires
+    (λ c. rw (c .is-single .ensures, ← c .before .before .may-be-zero .ensures, c .before .if1 .taken))  -- returns
+    (λ c. rw (← c .before .may-be-zero .ensures, c .if1 .left)))  -- returns-2

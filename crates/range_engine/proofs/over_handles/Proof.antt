@@ -9,16 +9,16 @@ use Rattle.range_engine.proofs.over_handles.Tie as tie
 
 pub over-handles-spec : {M : Type 1} → statement M
 over-handles-spec = tie.close (tie.spec
-    (λ c κs. (c .before .before .before .before .before .before .before .before .before .before .before .before .pre .0, refl, refl))
-    (λ c. omega (arith, matching-few (c .before .before .before .before .before .before .before .before .before .before .begin .ensures .running .matching)))
-    (λ c κs.
+    (λ c κs. (c .before .before .before .before .before .before .before .before .before .before .before .before .pre .0, refl, refl))  -- begin-requires
+    (λ c. omega (arith, matching-few (c .before .before .before .before .before .before .before .before .before .before .begin .ensures .running .matching)))  -- add-t30
+    (λ c κs.  -- go-on-requires
     let s = c .before .before .before .before .before .before .before .before .before .before .before .before .before .before .before .before .before .before .before .before .before .before .before in
     let b = c .before .before .before .before .before .before .before .before .before .before .begin .ensures in
     (b .prepared, b .running, record { pairs = s .pre .2; few = omega arith }, s .pre .1))
-    (λ c. search needs)
-    (λ c. search needs)
-    (λ c. search needs)
-    (λ c.
+    (λ c. search needs)  -- same-length
+    (λ c. search needs)  -- same-length-2
+    (λ c. search needs)  -- same-length-3
+    (λ c.  -- returns
     let a = c .before .before .before .before .before .before .before .before .before .before .before .before .before .before .before .before .before .before .before .before .before .before .before .before .before .before .before .before .before .before .args in
     let b = c .before .before .before .before .before .before .before .before .before .before .before .before .before .before .before .before .before .begin .ensures in
     let g = c .before .before .before .before .before .before .go-on in

@@ -10,13 +10,13 @@ use Rattle.range_engine.proofs.proceed.Tie as tie
 
 pub proceed-spec : {M : Type 1} → statement M
 proceed-spec = tie.close (tie.spec
-    (λ c κs. search needs)
-    (λ c. search needs)
-    (λ c κs. let s = c .before .before .before .before .before .before .before .before .before .before .before .before .before .before in let o = c .before .before .before .before .before .before .before .before .order-of in (s .pre .0, s .pre .1, plain-bounding (o .result) (o .ensures .1) _ _ _ _ _ _ _ _, s .pre .2))
-    (λ c. search needs)
-    (λ c. search needs)
-    (λ c. search needs)
-    (λ c.
+    (λ c κs. search needs)  -- order-of-requires
+    (λ c. search needs)  -- slice-aggregate-turns
+    (λ c κs. let s = c .before .before .before .before .before .before .before .before .before .before .before .before .before .before in let o = c .before .before .before .before .before .before .before .before .order-of in (s .pre .0, s .pre .1, plain-bounding (o .result) (o .ensures .1) _ _ _ _ _ _ _ _, s .pre .2))  -- turns-requires
+    (λ c. search needs)  -- same-length
+    (λ c. search needs)  -- same-length-2
+    (λ c. search needs)  -- same-length-3
+    (λ c.  -- returns
     let s = c .before .before .before .before .before .before .before .before .before .before .before .before .before .before .before .before .before .before .before .before .before .before in
     let a = s .args in
     let o = c .before .before .before .before .before .before .before .before .before .before .before .before .before .before .before .before .order-of in

@@ -10,20 +10,20 @@ use Rattle.range_engine.proofs.proceed_bounded.Tie as tie
 
 pub proceed-bounded-spec : {M : Type 1} → statement M
 proceed-bounded-spec = tie.close (tie.spec
-    (λ c. search needs)
-    (λ c κs. let s = c .before .before .before .before .before .before .before .before .before .before in started-on (s .args .graph .now) (s .pre .0) (s .pre .1) (s .args .bound) (s .pre .3) (s .pre .4))
-    (λ c. search needs)
-    (λ c κs. let s = c .before .before .before .before .before .before .before .before .before .before .before .before .before .before .before .before .before .before .before .before in (s .pre .0, s .pre .1, c .before .before .before .before .before .before .before .before .before .follow .ensures, s .pre .2))
-    (λ c κs.
+    (λ c. search needs)  -- slice-aggregate-follow
+    (λ c κs. let s = c .before .before .before .before .before .before .before .before .before .before in started-on (s .args .graph .now) (s .pre .0) (s .pre .1) (s .args .bound) (s .pre .3) (s .pre .4))  -- follow-requires
+    (λ c. search needs)  -- slice-aggregate-turns
+    (λ c κs. let s = c .before .before .before .before .before .before .before .before .before .before .before .before .before .before .before .before .before .before .before .before in (s .pre .0, s .pre .1, c .before .before .before .before .before .before .before .before .before .follow .ensures, s .pre .2))  -- turns-requires
+    (λ c κs.  -- settle-requires
     let s = c .before .before .before .before .before .before .before .before .before .before .before .before .before .before .before .before .before .before .before .before .before .before .before .before .before .before .before .before .before .before .before .before in
     let t = c .before .before .before .before .before .before .before .before .before .before .before .turns in
     let now = t .ensures .0 .proceeded .running in
     let beside = beside-of (s .args .graph .now) (s .pre .0) now (Free (s .args .bound)) _ _ _ (t .ensures .1) in
     (matching-counted (now .matching), beside .0, beside .1, matching-room (now .matching)))
-    (λ c. search needs)
-    (λ c. search needs)
-    (λ c. search needs)
-    (λ c.
+    (λ c. search needs)  -- same-length
+    (λ c. search needs)  -- same-length-2
+    (λ c. search needs)  -- same-length-3
+    (λ c.  -- returns
     let s = c .before .before .before .before .before .before .before .before .before .before .before .before .before .before .before .before .before .before .before .before .before .before .before .before .before .before .before .before .before .before .before .before .before in
     let a = s .args in
     let t = c .before .before .before .before .before .before .before .before .before .before .before .before .turns in

@@ -39,8 +39,8 @@ pub turns-spec : {M : Type 1} → statement M
 turns-spec = tie.close (tie.spec
     Inv-loop
     μ-loop
-    (λ c. let s = c .before .before .before .before .before .before in (begun (s .args .graph .now) _ _ _ _ _ _ _ _ _ refl (s .pre .1) (s .pre .3), s .pre .2, refl))
-    (λ c κs.
+    (λ c. let s = c .before .before .before .before .before .before in (begun (s .args .graph .now) _ _ _ _ _ _ _ _ _ refl (s .pre .1) (s .pre .3), s .pre .2, refl))  -- loop-holds
+    (λ c κs.  -- take-turn-requires
     let l = c .before .before .before .before .before .before .before in
     let s = start l in
     let o = s .args .order in
@@ -51,15 +51,15 @@ turns-spec = tie.close (tie.spec
       back-of (s .args .graph .now) (s .pre .0) (i .0 .under .running) o (l .loop .nexts) (l .loop .held) (l .loop .marks) (i .1),
       room-for-one (s .args .graph .now) _ _ _ _ _ _ _ _ _ (i .0),
     ))
-    (λ c. search needs)
-    (λ c κs.
+    (λ c. search needs)  -- enum-known-turned
+    (λ c κs.  -- follow-requires
     let y = c .before .before .before .before .before .before .before .before .before .before .before .before .before .before in
     let l = looped y in
     let s = start l in
     follows (s .args .graph .now) _ _ _ _ _ _ _ _ _ (l .loop .inv .0) (s .pre .0) (rw (c .before .before .before .before .before .before .turned .given .1) at (y .take-turn .ensures .turned)) (l .loop .nexts) (l .loop .held) (l .loop .marks) (l .loop .inv .1))
-    (λ c. omega (arith, budget-fits (start (looped (c .before .before .before .before .before .before .before .before .before .before .before .before .before .before .before .before .before))), c .before .before .before .before .before .before .before .before .before .before .before .before .before .before .before .before .before .before .before .before .before .before .before .before .loop-test .taken))
-    (λ c. omega (arith, c .before .before .before .before .before .before .before .before .before .before .before .before .before .before .before .before .before .before .before .before .before .before .before .before .loop-test .taken))
-    (λ c.
+    (λ c. omega (arith, budget-fits (start (looped (c .before .before .before .before .before .before .before .before .before .before .before .before .before .before .before .before .before))), c .before .before .before .before .before .before .before .before .before .before .before .before .before .before .before .before .before .before .before .before .before .before .before .before .loop-test .taken))  -- add-firings
+    (λ c. omega (arith, c .before .before .before .before .before .before .before .before .before .before .before .before .before .before .before .before .before .before .before .before .before .before .before .before .loop-test .taken))  -- loop-less
+    (λ c.  -- loop-again
     let y = c .before .before .before .before .before .before .before .before .before .before .before .before .before .before .before .before .before in
     let l = looped y in
     let s = start l in
@@ -68,13 +68,13 @@ turns-spec = tie.close (tie.spec
       c .before .before .follow .ensures,
       c .before .marks .given ∙ l .loop .inv .2,
     ))
-    (λ c. search needs)
-    (λ c κs. search needs)
-    (λ c. search needs)
-    (λ c. c .before .before .before .before .before .before .before .before .before .before .before .before .before .before .before .before .before .before .loop .inv .2)
-    (λ c. search needs)
-    (λ c. search needs)
-    (λ c.
+    (λ c. search needs)  -- enum-known-turned-2
+    (λ c κs. search needs)  -- answered-requires
+    (λ c. search needs)  -- same-length
+    (λ c. c .before .before .before .before .before .before .before .before .before .before .before .before .before .before .before .before .before .before .loop .inv .2)  -- same-length-2
+    (λ c. search needs)  -- same-length-3
+    (λ c. search needs)  -- same-length-4
+    (λ c.  -- returns
     let y = c .before .before .before .before .before .before .before .before .before .before in
     let l = looped y in
     let s = start l in
@@ -83,13 +83,13 @@ turns-spec = tie.close (tie.spec
       rw (c .answered .ensures) (halted (s .args .graph .now) _ _ _ _ _ _ _ _ _ (l .loop .inv .0) (s .pre .0) _ _ (e .held) (e .size) (c .before .before .before .before .before .before .before .before .before .before .before .before .before .before .before .before .before .loop-test .taken) a),
       rw (c .answered .ensures) (halted-on (s .args .graph .now) (s .pre .0) (l .loop .inv .0 .under .running) (s .args .order) (l .loop .nexts) (l .loop .held) (l .loop .marks) (a .running) (a .sameLedger) (l .loop .inv .1)),
     ))
-    (λ c κs. let m = c .before .before .before .loop .inv .0 .under .running .matching in (matching-counted m, matching-places m, matching-room m))
-    (λ c κs. search needs)
-    (λ c. search needs)
-    (λ c. c .before .before .before .before .before .loop .inv .2)
-    (λ c. search needs)
-    (λ c. search needs)
-    (λ c.
+    (λ c κs. let m = c .before .before .before .loop .inv .0 .under .running .matching in (matching-counted m, matching-places m, matching-room m))  -- rest-requires
+    (λ c κs. search needs)  -- answered-requires-2
+    (λ c. search needs)  -- same-length-5
+    (λ c. c .before .before .before .before .before .loop .inv .2)  -- same-length-6
+    (λ c. search needs)  -- same-length-7
+    (λ c. search needs)  -- same-length-8
+    (λ c.  -- returns-2
     let l = c .before .before .before .before .before in
     let s = start l in
     let i = l .loop .inv in

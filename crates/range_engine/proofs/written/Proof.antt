@@ -7,21 +7,21 @@ use Rattle.range_engine.proofs.written.Tie as tie
 
 pub written-spec : {M : Type 1} → statement M
 written-spec = tie.close (tie.spec
-    (λ c κs. let s = c .before .before .before .before .before .before .before .before .before .before .before .before in (s .pre .0, s .pre .1, s .pre .2))
-    (λ c κs.
+    (λ c κs. let s = c .before .before .before .before .before .before .before .before .before .before .before .before in (s .pre .0, s .pre .1, s .pre .2))  -- over-handles-requires
+    (λ c κs.  -- put-tokens-requires
     let s = c .before .before .before .before .before .before .before .before .before .before .before .before .before .before .before .before .before .before .before .before .before .before .before in
     let f = c .before .before .before .before .before .before .before .before .before .before .over-handles .ensures .1 in
     (omega (arith, f .few, f .tableSize, s .pre .2), f .room, omega (arith, f .room, f .size, s .pre .3 .tokens)))
-    (λ c κs.
+    (λ c κs.  -- put-cells-requires
     let s = c .before .before .before .before .before .before .before .before .before .before .before .before .before .before .before .before .before .before .before .before .before .before .before .before .before .before .before .before .before in
     let f = c .before .before .before .before .before .before .before .before .before .before .before .before .before .before .before .before .over-handles .ensures .1 in
     (omega (arith, f .few, f .tableSize, s .pre .2), omega arith, omega (arith, f .cellSize, s .pre .3 .cellCount)))
-    (λ c. search needs)
-    (λ c. search needs)
-    (λ c. search needs)
-    (λ c. search needs)
-    (λ c. search needs)
-    (λ c.
+    (λ c. search needs)  -- same-length
+    (λ c. search needs)  -- same-length-2
+    (λ c. search needs)  -- same-length-3
+    (λ c. search needs)  -- same-length-4
+    (λ c. search needs)  -- same-length-5
+    (λ c.  -- returns
     let s = c .before .before .before .before .before .before .before .before .before .before .before .before .before .before .before .before .before .before .before .before .before .before .before .before .before .before .before .before .before .before .before .before in
     let a = s .args in
     let o = c .before .before .before .before .before .before .before .before .before .before .before .before .before .before .before .before .before .before .before .over-handles in

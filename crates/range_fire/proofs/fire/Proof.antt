@@ -95,24 +95,24 @@ pub fire-spec : {M : Type 1} → statement M
 fire-spec =
     tie.close
     (tie.spec
-    (λ c κs.
+    (λ c κs.  -- token-at-requires
     let s = c .before .before .before .before .before in
     room _ (s .pre .0) (s .pre .1) (s .args .place) (s .pre .2))
-    (λ c κs. search needs)
-    (λ c κs.
+    (λ c κs. search needs)  -- arity-requires
+    (λ c κs.  -- operands-of-requires
     let a = c .before .before in
     let t = a .before .before .before in
     let s = start t in
     (matching-known (s .pre .1 .matching), earliest-here (s .pre .0) (s .pre .1) (s .args .place) (s .pre .2) (s .pre .3) (t .token-at .result) (a .arity .result) (t .token-at .ensures) (a .arity .ensures)))
-    (λ c. search needs)
-    (λ c κs. in-graph (read (c .before .before .before)))
-    (λ c κs. search needs)
-    (λ c κs. let s = start (read (operands (c .before .before))) in omega (arith, s .pre .4))
-    (λ c κs. let s = start (read (operands (fetched (c .before .before .before)))) in s .pre .4)
-    (λ c. search needs)
-    (λ c. search needs)
-    (λ c. search needs)
-    (λ c.
+    (λ c. search needs)  -- cast-instruction-at
+    (λ c κs. in-graph (read (c .before .before .before)))  -- instruction-at-requires
+    (λ c κs. search needs)  -- decode-requires
+    (λ c κs. let s = start (read (operands (c .before .before))) in omega (arith, s .pre .4))  -- meaning-requires
+    (λ c κs. let s = start (read (operands (fetched (c .before .before .before)))) in s .pre .4)  -- operate-requires
+    (λ c. search needs)  -- enum-known-operated
+    (λ c. search needs)  -- same-length
+    (λ c. search needs)  -- same-length-2
+    (λ c.  -- returns
     let e = c .before .before .before .before .before in
     let y = meant e in
     let f = fetched y in
@@ -121,18 +121,18 @@ fire-spec =
     let s = start t in
     let asks = rw (toZ-ofZ (constant-fits e), toZ-ofZ (left-fits f), toZ-ofZ (right-fits f)) at (e .operate .ensures) in
     refused-first _ (s .pre .0) (s .pre .1) (s .args .place) (s .pre .2) (t .token-at .result) (t .token-at .ensures) _ _ _ _ (found m) _ _ (f .instruction-at .ensures) (y .before .before .decode .ensures) _ _ _ _ asks (c .before .operated .given .1))
-    (λ c. search needs)
-    (λ c κs.
+    (λ c. search needs)  -- enum-known-operated-2
+    (λ c κs.  -- new-tags-requires
     let e = c .before .before .before .before .before .before in
     let y = meant e in
     let f = fetched y in
     let t = read (operands f) in
     let s = start t in
     rw (y .before .before .decode .ensures, f .instruction-at .ensures) (ready _ _ (in-graph t) _ (s .pre .0 .passed) (s .pre .0 .returnsRight)))
-    (λ c. search needs)
-    (λ c. search needs)
-    (λ c. search needs)
-    (λ c.
+    (λ c. search needs)  -- enum-known-made
+    (λ c. search needs)  -- same-length-3
+    (λ c. search needs)  -- same-length-4
+    (λ c.  -- returns-2
     let n = c .before .before .before in
     let e = operated n in
     let y = meant e in
@@ -142,8 +142,8 @@ fire-spec =
     let s = start t in
     let asks = rw (toZ-ofZ (constant-fits e), toZ-ofZ (left-fits f), toZ-ofZ (right-fits f)) at (e .operate .ensures) in
     refused-second _ (s .pre .0) (s .pre .1) (s .args .place) (s .pre .2) (t .token-at .result) (t .token-at .ensures) _ _ _ _ (found m) _ _ (f .instruction-at .ensures) (y .before .before .decode .ensures) _ _ _ _ asks (n .before .before .before .operated2 .given .1) (made n) (c .before .made .given .1))
-    (λ c. search needs)
-    (λ c κs.
+    (λ c. search needs)  -- enum-known-made-2
+    (λ c κs.  -- commit-requires
     let o = c .before .before .before .before .before in
     let n = o .before .before in
     let e = operated n in
@@ -156,10 +156,10 @@ fire-spec =
       lent-here _ (s .pre .0) (s .pre .1) (s .args .place) (s .pre .2) (s .pre .3) _ _ _ _ (found m),
       fits-commit _ (s .pre .0) (s .pre .1) (s .args .place) (s .pre .2) (t .token-at .result) (t .token-at .ensures) _ _ _ _ (found m) _ _ (f .instruction-at .ensures) (y .before .before .decode .ensures) _ _ _ _ asks (n .before .before .before .operated2 .given .1) (made n) (o .made2 .given .1),
     ))
-    (λ c. search needs)
-    (λ c. search needs)
-    (λ c. search needs)
-    (λ c.
+    (λ c. search needs)  -- same-length-5
+    (λ c. search needs)  -- same-length-6
+    (λ c. search needs)  -- same-length-7
+    (λ c.  -- returns-3
     let q = c .before .before .before .before in
     let o = q .before .before .before .before .before .before in
     let n = o .before .before in

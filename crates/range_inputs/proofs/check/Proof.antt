@@ -17,26 +17,26 @@ unfolding checkRangeInputs
 check-spec =
     tie.close
     (tie.spec
-    (λ c κs. search needs)
-    (λ c. search needs)
-    (λ c. search needs)
-    (λ c.
+    (λ c κs. search needs)  -- fields-requires
+    (λ c. search needs)  -- enum-told
+    (λ c. search needs)  -- enum-told-2
+    (λ c.  -- returns
     let f = c .before .before in
     let s = f .before .before .before .before in
     let inputs = now (s .args .inputs) in
     rw (same-good-rows inputs (handlesOf inputs) (fields-each inputs) (graphOf (now (s .args .graph))), ← s .pre, ← f .fields .ensures) (stopped _ _ _ _ (c .enum-told2 .given .1)))
-    (λ c κs. search needs)
-    (λ c. search needs)
-    (λ c. search needs)
-    (λ c.
+    (λ c κs. search needs)  -- ranges-requires
+    (λ c. search needs)  -- enum-told-3
+    (λ c. search needs)  -- enum-told-4
+    (λ c.  -- returns-2
     let r = c .before .before in
     let e = r .before in
     let f = e .before .before in
     let s = f .before .before .before .before in
     let inputs = now (s .args .inputs) in
     rw (same-good-rows inputs (handlesOf inputs) (fields-each inputs) (graphOf (now (s .args .graph))), ← s .pre, ← f .fields .ensures, e .enum-told .given .1, ← r .ranges .ensures) (stopped _ _ _ _ (c .enum-told4 .given .1)))
-    (λ c κs. search needs)
-    (λ c.
+    (λ c κs. search needs)  -- check-requires
+    (λ c.  -- returns-3
     let t = c .before in
     let r = t .before .before in
     let f = r .before .before .before in

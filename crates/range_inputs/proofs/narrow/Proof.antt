@@ -36,26 +36,26 @@ narrow-spec =
     (tie.spec
     Inv-loop
     μ-loop
-    (λ c κs. omega (arith, c .before .before .before .before .pre .pairs))
-    (λ c. (omega arith, refl, refl, c .before .before .add .ensures .held, refl))
-    (λ c κs. omega arith)
-    (λ c. omega (arith, c .before .before .before .before .before .before .before .before .before .before .pre .few))
-    (λ c. record { fits = omega (arith, c .before .before .before .before .before .before .before .before .before .before .pre .few) })
-    (λ c κs. rw (c .row-at .ensures, length-drop) (omega arith))
-    (λ c. search needs)
-    (λ c κs.
+    (λ c κs. omega (arith, c .before .before .before .before .pre .pairs))  -- add-requires
+    (λ c. (omega arith, refl, refl, c .before .before .add .ensures .held, refl))  -- loop-holds
+    (λ c κs. omega arith)  -- row-at-requires
+    (λ c. omega (arith, c .before .before .before .before .before .before .before .before .before .before .pre .few))  -- add-narrowed
+    (λ c. record { fits = omega (arith, c .before .before .before .before .before .before .before .before .before .before .pre .few) })  -- cast-narrowed
+    (λ c κs. rw (c .row-at .ensures, length-drop) (omega arith))  -- narrowed-requires
+    (λ c. search needs)  -- slice-aggregate-put-row
+    (λ c κs.  -- put-row-requires
     let l = c .before .before .before .before .before in
     let s = l .before .before .before .before .before .before .before .before in
     (omega (arith, l .loop .inv .2, s .pre .records), rw (c .before .before .narrowed .ensures) (length-row _ _)))
-    (λ c. record { fits = omega (arith, c .before .before .before .before .before .before .before .before .before .before .before .before .before .before .before .before .before .pre .few) })
-    (λ c κs. rw (c .before .before .before .before .before .before .before .row-at .ensures, length-drop) (omega arith))
-    (λ c κs.
+    (λ c. record { fits = omega (arith, c .before .before .before .before .before .before .before .before .before .before .before .before .before .before .before .before .before .pre .few) })  -- add-add
+    (λ c κs. rw (c .before .before .before .before .before .before .before .row-at .ensures, length-drop) (omega arith))  -- range-in-requires
+    (λ c κs.  -- add-requires-2
     let l = c .before .before .before .before .before .before .before .before .before .before in
     let s = l .before .before .before .before .before .before .before .before in
     omega (arith, l .loop .inv .4, l .before .before .before .add .ensures .size, s .pre .pairs))
-    (λ c. record { fits = omega (arith, c .before .before .before .before .before .before .before .before .before .before .before .before .before .before .before .before .before .before .before .before .before .pre .few) })
-    (λ c. omega arith)
-    (λ c.
+    (λ c. record { fits = omega (arith, c .before .before .before .before .before .before .before .before .before .before .before .before .before .before .before .before .before .before .before .before .before .pre .few) })  -- add-i
+    (λ c. omega arith)  -- loop-less
+    (λ c.  -- loop-again
     let p = c .before .before .before .before .before .before .before in
     let w = p .before .before .before in
     let l = w .before .before .before in
@@ -72,9 +72,9 @@ narrow-spec =
       a .add2 .ensures .held ∙ rw (l .loop .inv .3, range, add-one i, rows-next rangeTokenWidth rangeIn i inputs),
       a .add2 .ensures .size ∙ l .loop .inv .4,
     ))
-    (λ c. c .before .loop .inv .2)
-    (λ c. c .before .loop .inv .4 ∙ c .before .before .before .before .add .ensures .size)
-    (λ c.
+    (λ c. c .before .loop .inv .2)  -- same-length
+    (λ c. c .before .loop .inv .4 ∙ c .before .before .before .before .add .ensures .size)  -- same-length-2
+    (λ c.  -- returns
     let l = c .before in
     let s = l .before .before .before .before .before .before .before .before in
     let inputs = s .args .inputs .now in

@@ -29,11 +29,11 @@ ranges-spec =
     (tie.spec
     Inv-loop
     μ-loop
-    (λ c. (omega arith, refl))
-    (λ c κs. omega arith)
-    (λ c κs. rw (c .row-at .ensures, length-drop) (omega arith))
-    (λ c κs. search needs)
-    (λ c.
+    (λ c. (omega arith, refl))  -- loop-holds
+    (λ c κs. omega arith)  -- row-at-requires
+    (λ c κs. rw (c .row-at .ensures, length-drop) (omega arith))  -- range-in-requires
+    (λ c κs. search needs)  -- is-proper-requires
+    (λ c.  -- returns
     let p = c .before in
     let l = p .before .before .before .before .loop in
     let s = p .before .before .before .before .before .before .args .inputs .now in
@@ -41,9 +41,9 @@ ranges-spec =
     let e = getD-rows rangeTokenWidth rangeIn (length s / rangeTokenWidth) (l .i) s x (omega arith) ∙ sym (p .before .range-in .ensures ∙ ap rangeIn (p .before .before .row-at .ensures)) in
     sym (l .inv .1 ∙ turn (λ k r. demand (isProperRange r) Undecided k) (allRows rangeTokenWidth rangeIn s) (l .i) x (omega (arith, length-rows rangeTokenWidth rangeIn (length s / rangeTokenWidth) s)) e
     (ap (λ (b : Bool). demand b Undecided (l .i)) (sym (p .is-proper .ensures) ∙ not-true (p .is-proper .result) (c .if1 .taken)))))
-    (λ c. omega arith)
-    (λ c. omega arith)
-    (λ c.
+    (λ c. omega arith)  -- add-i
+    (λ c. omega arith)  -- loop-less
+    (λ c.  -- loop-again
     let p = c .before in
     let l = p .before .before .before .before .loop in
     let s = p .before .before .before .before .before .before .args .inputs .now in
@@ -53,6 +53,6 @@ ranges-spec =
       l .inv .1 ∙ turn (λ k r. demand (isProperRange r) Undecided k) (allRows rangeTokenWidth rangeIn s) (l .i) x (omega (arith, length-rows rangeTokenWidth rangeIn (length s / rangeTokenWidth) s)) e
           (ap (λ (b : Bool). demand b Undecided (l .i)) (sym (p .is-proper .ensures) ∙ not-false (p .is-proper .result) (c .if1 .left))),
     ))
-    (λ c.
+    (λ c.  -- returns-2
     let s = c .before .before .before .args .inputs .now in
     sym (c .before .loop .inv .1 ∙ turn-end (λ k r. demand (isProperRange r) Undecided k) (allRows rangeTokenWidth rangeIn s) (c .before .loop .i) (omega (arith, length-rows rangeTokenWidth rangeIn (length s / rangeTokenWidth) s)))))

@@ -13,17 +13,17 @@ unfolding encodeRangeCell
 cell-bytes-spec =
     tie.close
     (tie.spec
-    (λ c. search needs)
-    (λ c κs. search needs)
-    (λ c. search needs)
-    (λ c κs. search needs)
-    (λ c. search needs)
-    (λ c κs. search needs)
-    (λ c κs. search needs)
-    (λ c κs. search needs)
-    (λ c. c .cell-row .ensures ∙ rw (c .before .enum-told .given .1))
-    (λ c. c .cell-row2 .ensures ∙ rw (c .before .enum-told2 .given .1))
-    (λ c.
+    (λ c. search needs)  -- enum-told
+    (λ c κs. search needs)  -- cell-row-requires
+    (λ c. search needs)  -- enum-told-2
+    (λ c κs. search needs)  -- cell-row-requires-2
+    (λ c. search needs)  -- enum-known-cell
+    (λ c κs. search needs)  -- meaning-requires
+    (λ c κs. search needs)  -- bits-requires
+    (λ c κs. search needs)  -- cell-row-requires-3
+    (λ c. c .cell-row .ensures ∙ rw (c .before .enum-told .given .1))  -- returns
+    (λ c. c .cell-row2 .ensures ∙ rw (c .before .enum-told2 .given .1))  -- returns-2
+    (λ c.  -- returns-3
     let b = c .before in
     let m = b .before .before .before in
     let k = m .before .before in

@@ -7,17 +7,17 @@ use Rattle.range_output.proofs.cell_row.Tie as tie
 
 pub cell-row-spec : {M : Type 1} → statement M
 cell-row-spec = tie.close (tie.spec
-    (λ c κs. search needs)
-    (λ c. search needs)
-    (λ c. search needs)
-    (λ c. search needs)
-    (λ c. search needs)
-    (λ c. search needs)
-    (λ c. search needs)
-    (λ c. search needs)
-    (λ c. search needs)
-    (λ c. search needs)
-    (λ c. search needs)
-    (λ c. search needs)
-    (λ c. search needs)
-    (λ c. rw (c .encode .ensures .0) (cell-elements (c .before .args .cell) (bytes32 (c .before .args .high)))))
+    (λ c κs. search needs)  -- encode-requires
+    (λ c. search needs)  -- array-read-t7
+    (λ c. search needs)  -- array-read-t10
+    (λ c. search needs)  -- array-read-t13
+    (λ c. search needs)  -- array-read-t16
+    (λ c. search needs)  -- array-read-t19
+    (λ c. search needs)  -- array-read-t22
+    (λ c. search needs)  -- array-read-t25
+    (λ c. search needs)  -- array-read-t28
+    (λ c. search needs)  -- cast-t30
+    (λ c. search needs)  -- cast-t33
+    (λ c. search needs)  -- cast-t36
+    (λ c. search needs)  -- cast-t40
+    (λ c. rw (c .encode .ensures .0) (cell-elements (c .before .args .cell) (bytes32 (c .before .args .high)))))  -- returns

@@ -29,14 +29,14 @@ put-tokens-spec =
     (tie.spec
     Inv-loop
     μ-loop
-    (λ c. (omega arith, refl, refl))
-    (λ c κs. omega (arith, c .before .before .before .before .before .pre .1))
-    (λ c κs. search needs)
-    (λ c. search needs)
-    (λ c κs. (omega (arith, c .before .before .before .before .before .loop .inv .2, c .before .before .before .before .before .before .before .before .before .pre .2), rw (c .before .before .token-bytes .ensures) (length-token _)))
-    (λ c. omega arith)
-    (λ c. omega arith)
-    (λ c.
+    (λ c. (omega arith, refl, refl))  -- loop-holds
+    (λ c κs. omega (arith, c .before .before .before .before .before .pre .1))  -- token-at-requires
+    (λ c κs. search needs)  -- token-bytes-requires
+    (λ c. search needs)  -- slice-aggregate-put-row
+    (λ c κs. (omega (arith, c .before .before .before .before .before .loop .inv .2, c .before .before .before .before .before .before .before .before .before .pre .2), rw (c .before .before .token-bytes .ensures) (length-token _)))  -- put-row-requires
+    (λ c. omega arith)  -- add-i
+    (λ c. omega arith)  -- loop-less
+    (λ c.  -- loop-again
     let p = c .before .before in
     let b = p .before .before .before in
     let l = b .before .before .before in
@@ -52,8 +52,8 @@ put-tokens-spec =
     ∙ rw (l .loop .inv .1, b .token-bytes .ensures, b .before .token-at .ensures)
     (ap (λ a. putRow rangeTokenWidth (upTo rangeTokenWidth encodeRange length-token (tokensMeant t rows) out i) i (encodeRange a)) (sym same) ∙ write-next rangeTokenWidth encodeRange length-token (tokensMeant t rows) out _ i (omega arith)) in
     (omega arith, held, ap length held ∙ length-up-to rangeTokenWidth encodeRange length-token (tokensMeant t rows) out (i + 1) (omega arith) (omega (arith, s .pre .2))))
-    (λ c. c .before .loop .inv .2)
-    (λ c.
+    (λ c. c .before .loop .inv .2)  -- same-length
+    (λ c.  -- returns
     let l = c .before in
     let s = l .before .before .before .before in
     let t = tableOf (s .args .count) (s .args .table .now) in

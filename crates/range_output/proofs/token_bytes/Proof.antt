@@ -26,6 +26,6 @@ pub token-bytes-spec : {M : Type 1} → statement M
 token-bytes-spec =
     tie.close
     (tie.spec
-    (λ c κs. search needs)
-    (λ c κs. search needs)
-    (λ c. c .token-row .ensures ∙ rw (c .before .before .ends-of .ensures) (in-ends _ (c .before .before .before .before .args .t) _ refl)))
+    (λ c κs. search needs)  -- ends-of-requires
+    (λ c κs. search needs)  -- token-row-requires
+    (λ c. c .token-row .ensures ∙ rw (c .before .before .ends-of .ensures) (in-ends _ (c .before .before .before .before .args .t) _ refl)))  -- returns

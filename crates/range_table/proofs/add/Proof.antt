@@ -9,11 +9,11 @@ pub add-spec : {M : Type 1} → statement M
 add-spec =
     tie.close
     (tie.spec
-    (λ c κs. search needs)
-    (λ c. search needs)
-    (λ c κs. search needs)
-    (λ c. search needs)
-    (λ c.
+    (λ c κs. search needs)  -- encode-requires
+    (λ c. search needs)  -- slice-aggregate-put-row
+    (λ c κs. search needs)  -- put-row-requires
+    (λ c. search needs)  -- same-length
+    (λ c.  -- returns
     let p = c .before .before in
     let e = p .before .before .before .encode in
     let s = p .before .before .before .before .before in

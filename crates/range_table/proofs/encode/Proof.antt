@@ -13,10 +13,10 @@ unfolding pairBytes
 encode-spec =
     tie.close
     (tie.spec
-    (λ c κs. search needs)
-    (λ c κs. search needs)
-    (λ c κs. search needs)
-    (λ c.
+    (λ c κs. search needs)  -- bits-requires
+    (λ c κs. search needs)  -- bits-requires-2
+    (λ c κs. search needs)  -- bytes-of-requires
+    (λ c.  -- returns
     let s = c .before .before .before .before .before in
     let l : SFits w32 (s .args .r .low) = record { sfits = c .before .before .before .before .struct-told .given .0 .1 } in
     let h : SFits w32 (s .args .r .high) = record { sfits = c .before .before .struct-told2 .given .1 .0 .1 } in

@@ -17,11 +17,11 @@ pub meaning-spec : {M : Type 1} → statement M
 meaning-spec =
     tie.close
     (tie.spec
-    (λ c κs. search needs)
-    (λ c. search needs)
-    (λ c κs. omega arith)
-    (λ c κs. rw (c .row-at .ensures, length-drop) (omega arith))
-    (λ c.
+    (λ c κs. search needs)  -- magnitude-requires
+    (λ c. search needs)  -- cast-n
+    (λ c κs. omega arith)  -- row-at-requires
+    (λ c κs. rw (c .row-at .ensures, length-drop) (omega arith))  -- decode-requires
+    (λ c.  -- returns
     let m = c .before .before .before in
     let s = m .before .before in
     let number = m .magnitude .ensures ∙ ap natAbs (toZ-ofZ (s .fits .handle)) in
@@ -30,7 +30,7 @@ meaning-spec =
     ∙ ap pairIn (c .before .row-at .ensures)
     ∙ sym (getD-rows pairWidth pairIn (s .args .count) (m .magnitude .result) (now (s .args .table)) (single (pos 0)) within)
     ∙ ap (λ (n : ℕ). getD (tableOf (s .args .count) (now (s .args .table))) n (single (pos 0))) number)
-    (λ c.
+    (λ c.  -- returns-2
     let m = c .before in
     let s = m .before .before in
     let number = m .magnitude .ensures ∙ ap natAbs (toZ-ofZ (s .fits .handle)) in

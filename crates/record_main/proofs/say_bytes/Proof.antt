@@ -17,10 +17,10 @@ say-bytes-spec =
     (tie.spec
     Inv-loop
     μ-loop
-    (λ c. omega arith)
-    (λ c. omega arith)
-    (λ c κs. tt)
-    (λ c. omega arith)
-    (λ c. omega arith)
-    (λ c. omega arith)
-    (λ c. tt))
+    (λ c. omega arith)  -- loop-holds
+    (λ c. omega arith)  -- shared-slice-read-say-byte
+    (λ c κs. tt)  -- say-byte-requires
+    (λ c. omega arith)  -- add-i
+    (λ c. omega arith)  -- loop-less
+    (λ c. omega arith)  -- loop-again
+    (λ c. tt))  -- returns

@@ -17,11 +17,11 @@ show-operands-spec =
     (tie.spec
     Inv-loop
     μ-loop
-    (λ c. omega arith)
-    (λ c κs. tt)
-    (λ c. omega arith)
-    (λ c. omega arith)
-    (λ c. omega arith)
-    (λ c. search needs)
-    (λ c κs. tt)
-    (λ c. tt))
+    (λ c. omega arith)  -- loop-holds
+    (λ c κs. tt)  -- show-operand-count-requires
+    (λ c. omega arith)  -- add-code
+    (λ c. omega arith)  -- loop-less
+    (λ c. omega arith)  -- loop-again
+    (λ c. search needs)  -- slice-aggregate-say
+    (λ c κs. tt)  -- say-requires
+    (λ c. tt))  -- returns

@@ -10,16 +10,16 @@ use Rattle.replay.proofs.accepted.Tie as tie
 
 pub accepted-spec : {M : Type 1} → statement M
 accepted-spec = tie.close (tie.spec
-    (λ c κs.
+    (λ c κs.  -- begin-requires
     let s = c .before .before .before .before .before .before .before .before .before .before .before in
     let a = s .args in
     (accepted-by (a .graph .now) (a .arrays .now) (a .inputs .now) [] (length (a .ledger .now)) (length (a .cells .now)) (s .pre), refl, refl))
-    (λ c. search needs)
-    (λ c κs. search needs)
-    (λ c κs. let b = c .before .before .before .before .before .before .before .before .before .before .before in (b .begin .ensures .prepared, b .begin .ensures .running, tt))
-    (λ c. search needs)
-    (λ c. search needs)
-    (λ c.
+    (λ c. search needs)  -- slice-aggregate-proceed
+    (λ c κs. search needs)  -- records-in-requires
+    (λ c κs. let b = c .before .before .before .before .before .before .before .before .before .before .before in (b .begin .ensures .prepared, b .begin .ensures .running, tt))  -- proceed-requires
+    (λ c. search needs)  -- same-length
+    (λ c. search needs)  -- same-length-2
+    (λ c.  -- returns
     let p = c .before .before .before .before .before in
     let n = p .before in
     let b = n .before .before .before .before .before .before .before .before .before .before .before in

@@ -25,12 +25,12 @@ bytes c h = rw (c .before .row-at .ensures) at (c .token-allowed .ensures .1 h)
 pub arrives-spec : {M : Type 1} → statement M
 unfolding arrivesAt
 arrives-spec = tie.close (tie.spec
-    (λ c κs. omega (arith, c .before .before .pre .0))
-    (λ c κs. (rw (c .row-at .ensures, length-drop) (omega (arith, c .before .before .before .pre .0)), c .before .before .before .pre .3))
-    (λ c. (rw (allowed (c .before), not-true (c .before .token-allowed .result) (c .if1 .taken)), λ h. falseTrue h))
-    (λ c κs. search needs)
-    (λ c κs. search needs)
-    (λ c.
+    (λ c κs. omega (arith, c .before .before .pre .0))  -- row-at-requires
+    (λ c κs. (rw (c .row-at .ensures, length-drop) (omega (arith, c .before .before .before .pre .0)), c .before .before .before .pre .3))  -- token-allowed-requires
+    (λ c. (rw (allowed (c .before), not-true (c .before .token-allowed .result) (c .if1 .taken)), λ h. falseTrue h))  -- returns
+    (λ c κs. search needs)  -- token-at-requires
+    (λ c κs. search needs)  -- path-made-requires
+    (λ c.  -- returns-2
     let t = c .before .before .before in
     let i = t .before in
     let s = i .before .before .before .before .before in (
@@ -43,8 +43,8 @@ arrives-spec = tie.close (tie.spec
       ),
       λ h. falseTrue h,
     ))
-    (λ c κs. search needs)
-    (λ c.
+    (λ c κs. search needs)  -- content-allowed-requires
+    (λ c.  -- returns-3
     let p = c .before .before in
     let t = p .before .before .before in
     let i = t .before in
@@ -60,9 +60,9 @@ arrives-spec = tie.close (tie.spec
       ),
       λ h. falseTrue h,
     ))
-    (λ c κs. let s = c .before .before .before .before .before .before .before .before .before .before .before in s .pre .1)
-    (λ c κs. search needs)
-    (λ c.
+    (λ c κs. let s = c .before .before .before .before .before .before .before .before .before .before .before in s .pre .1)  -- find-requires
+    (λ c κs. search needs)  -- is-nothing-requires
+    (λ c.  -- returns-4
     let f = c .before in
     let k = f .before in
     let p = k .before .before in

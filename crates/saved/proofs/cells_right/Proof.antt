@@ -37,18 +37,18 @@ pub cells-right-spec : {M : Type 1} → statement M
 cells-right-spec = tie.close (tie.spec
     Inv-loop
     μ-loop
-    (λ c. (omega arith, λ tables flags ledger used m. refl, λ d h. absurd (omega arith)))
-    (λ c κs. (omega (arith, c .loop-test .taken), omega (arith, c .loop-test .taken, c .before .before .before .pre)))
-    (λ c.
+    (λ c. (omega arith, λ tables flags ledger used m. refl, λ d h. absurd (omega arith)))  -- loop-holds
+    (λ c κs. (omega (arith, c .loop-test .taken), omega (arith, c .loop-test .taken, c .before .before .before .pre)))  -- cell-right-requires
+    (λ c.  -- returns
     let a = c .before .before .before .before .before .args in
     let l = c .before .before .before .loop in (
       λ tables flags ledger used m. all-fails (cellRight (tokens used ledger) (a .cells .now)) (length (a .cells .now) / cellWidth) (l .c) (omega (arith, c .before .before .loop-test .taken))
           (sym (c .before .cell-right .ensures .0 tables flags ledger used m) ∙ not-true (c .before .cell-right .result) (c .if1 .taken)),
       λ h. falseTrue h,
     ))
-    (λ c. omega (arith, c .before .before .loop-test .taken))
-    (λ c. omega (arith, c .before .before .loop-test .taken))
-    (λ c.
+    (λ c. omega (arith, c .before .before .loop-test .taken))  -- add-c
+    (λ c. omega (arith, c .before .before .loop-test .taken))  -- loop-less
+    (λ c.  -- loop-again
     let a = c .before .before .before .before .before .args in
     let l = c .before .before .before .loop in
     let yes = not-false (c .before .cell-right .result) (c .if1 .left) in (
@@ -56,7 +56,7 @@ cells-right-spec = tie.close (tie.spec
       λ tables flags ledger used m. all-more (cellRight (tokens used ledger) (a .cells .now)) (l .c) (sym (c .before .cell-right .ensures .0 tables flags ledger used m) ∙ yes) (l .inv .1 tables flags ledger used m),
       one-more (CellBytes (a .cells .now)) (l .c) (l .inv .2) (c .before .cell-right .ensures .1 yes),
     ))
-    (λ c.
+    (λ c.  -- returns-2
     let a = c .before .before .before .args in
     let l = c .before .loop in
     let e : l .c ≡ length (a .cells .now) / cellWidth = omega (arith, c .loop-test .left, l .inv .0) in (

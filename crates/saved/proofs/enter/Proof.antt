@@ -70,44 +70,44 @@ unfolding entersAll
 enter-spec = tie.close (tie.spec
     Inv-loop
     μ-loop
-    (λ c. let a = c .before .before .args in
+    (λ c. let a = c .before .before .args in  -- loop-holds
     (omega arith, c .before .before .pre .0, refl, counts-none (firstSpent (a .ledger .now)), counts-none (spentOfTwo (a .tables .now) (a .ledger .now)), counts-none (closesAt (a .tables .now) (a .ledger .now))))
-    (λ c κs.
+    (λ c κs.  -- arrives-requires
     let l = c .before .before .loop in
     let s = c .before .before .before .before .before in
     (omega (arith, c .before .loop-test .taken, s .pre .1), matching-known (l .inv .1), s .pre .4, s .pre .5))
-    (λ c.
+    (λ c.  -- returns
     let l = c .before .before .before .before .loop in
     let a = c .before .before .before .before .before .before .before .args in
     let test = arrivesAt (graphOf (a .graph .now)) (a .tables .now) (a .ledger .now) (a .count) in
     (rw (← all-fails test (a .used) (l .i) (c .before .before .before .loop-test .taken) (sym (c .before .arrives .ensures .0) ∙ not-true (c .before .arrives .result) (c .if1 .taken))), λ h. falseTrue h))
-    (λ c κs. let s = c .before .before .before .before .before .before .before in omega (arith, c .before .before .before .loop-test .taken, s .pre .1))
-    (λ c κs. search needs)
-    (λ c κs. search needs)
-    (λ c.
+    (λ c κs. let s = c .before .before .before .before .before .before .before in omega (arith, c .before .before .before .loop-test .taken, s .pre .1))  -- token-at-requires
+    (λ c κs. search needs)  -- first-spent-requires
+    (λ c κs. search needs)  -- one-if-requires
+    (λ c.  -- add-fired
     let t = c .before .before in
     let l = t .before .before .before .before .before .loop in
     let s = start t in
     omega (arith, l .inv .3 .few, c .one-if .ensures .1, l .inv .0, s .pre .1, s .pre .2))
-    (λ c κs. search needs)
-    (λ c κs. search needs)
-    (λ c.
+    (λ c κs. search needs)  -- spent-of-two-requires
+    (λ c κs. search needs)  -- one-if-requires-2
+    (λ c.  -- add-of-two
     let t = c .before .before .before .before in
     let l = t .before .before .before .before .before .loop in
     let s = start t in
     omega (arith, l .inv .4 .few, c .one-if2 .ensures .1, l .inv .0, s .pre .1, s .pre .2))
-    (λ c κs. let t = c .before .before .before .before .before in (t .token-at .ensures, standing t .low, matching-known (t .before .before .before .before .before .loop .inv .1)))
-    (λ c κs. search needs)
-    (λ c.
+    (λ c κs. let t = c .before .before .before .before .before in (t .token-at .ensures, standing t .low, matching-known (t .before .before .before .before .before .loop .inv .1)))  -- closes-requires
+    (λ c κs. search needs)  -- one-if-requires-3
+    (λ c.  -- add-closed
     let t = c .before .before .before .before .before .before .before in
     let l = t .before .before .before .before .before .loop in
     let s = start t in
     omega (arith, l .inv .5 .few, c .one-if3 .ensures .1, l .inv .0, s .pre .1, s .pre .2))
-    (λ c κs. let t = c .before .before .before .before .before .before .before .before .before in (matching-known (t .before .before .before .before .before .loop .inv .1), standing t .low))
-    (λ c. search needs)
-    (λ c. search needs)
-    (λ c. absurd (not-taken c))
-    (λ c κs.
+    (λ c κs. let t = c .before .before .before .before .before .before .before .before .before in (matching-known (t .before .before .before .before .before .loop .inv .1), standing t .low))  -- seek-requires
+    (λ c. search needs)  -- enum-known-slot
+    (λ c. search needs)  -- enum-told
+    (λ c. absurd (not-taken c))  -- returns-2
+    (λ c κs.  -- enter-requires
     let t = c .before .before .before .before .before .before .before .before .before .before .before .before .before .before .before in
     let l = t .before .before .before .before .before .loop in
     let s = start t in
@@ -115,13 +115,13 @@ enter-spec = tie.close (tie.spec
     let h = t .before .before .before .before .loop-test .taken in
     let p = arrives-parts (graphOf (a .graph .now)) (a .tables .now) (a .ledger .now) (a .count) (l .i) (s .pre .3) (yes t) in
     (l .inv .1, omega (arith, h, s .pre .1), omega (arith, h, s .pre .1, s .pre .2), standing t, rw (t .token-at .ensures) (p .1), rw (c .before .before .before .slot .given .1) at (c .before .before .before .before .before .seek .ensures)))
-    (λ c.
+    (λ c.  -- add-i
     let t = c .before .before .before .before .before .before .before .before .before .before .before .before .before .before .before .before in
     omega (arith, t .before .before .before .before .loop-test .taken, (start t) .pre .1, (start t) .pre .2))
-    (λ c.
+    (λ c.  -- loop-less
     let t = c .before .before .before .before .before .before .before .before .before .before .before .before .before .before .before .before in
     omega (arith, t .before .before .before .before .loop-test .taken, (start t) .pre .1, (start t) .pre .2))
-    (λ c.
+    (λ c.  -- loop-again
     let k = c .before .before .before .before .before .before .before .before .before in
     let x = k .before in
     let k2 = x .before .before in
@@ -140,13 +140,13 @@ enter-spec = tie.close (tie.spec
       counts-more (spentOfTwo (a .tables .now) m) (l .i) (l .of-two) (k2 .one-if2 .result) (l .inv .4) (k2 .one-if2 .ensures .0 ∙ ap (λ (b : Bool). cond b 1 0) (x2 .spent-of-two .ensures m (l .i) e)),
       counts-more (closesAt (a .tables .now) m) (l .i) (l .closed) (k .one-if3 .result) (l .inv .5) (k .one-if3 .ensures .0 ∙ ap (λ (b : Bool). cond b 1 0) (x .closes .ensures)),
     ))
-    (λ c.
+    (λ c.  -- mul-same
     let l = c .before .loop in
     let s = c .before .before .before .before in
     omega (arith, l .inv .5 .few, l .inv .0, s .pre .1, s .pre .2))
-    (λ c κs. search needs)
-    (λ c κs. search needs)
-    (λ c.
+    (λ c κs. search needs)  -- same-requires
+    (λ c κs. search needs)  -- same-requires-2
+    (λ c.  -- returns-3
     let q = c .before .before in
     let l = q .before .before .loop in
     let a = q .before .before .before .before .before .args in
@@ -154,7 +154,7 @@ enter-spec = tie.close (tie.spec
     let e : l .i ≡ a .used = omega (arith, q .before .loop-test .left, l .inv .0) in
     told (entersAll (graphOf (a .graph .now)) (a .tables .now) m (a .count) (a .firings) (a .used)) (λ h. rw e at (l .inv .1))
     (rw (← e, l .inv .2, ← l .inv .5 .number, ← l .inv .4 .number, ← l .inv .3 .number, ← q .same .ensures, c .before .if2 .taken) (c .same2 .ensures)))
-    (λ c.
+    (λ c.  -- returns-4
     let q = c .before in
     let l = q .before .before .loop in
     let a = q .before .before .before .before .before .args in

@@ -25,12 +25,12 @@ pub find-sites-spec : {M : Type 1} → statement M
 find-sites-spec = tie.close (tie.spec
     Inv-loop
     μ-loop
-    (λ c. (omega arith, refl, no-sites))
-    (λ c κs. omega (arith, c .before .loop-test .taken))
-    (λ c κs. search needs)
-    (λ c. omega (arith, c .before .before .before .loop-test .taken))
-    (λ c. omega (arith, c .before .before .before .loop-test .taken))
-    (λ c.
+    (λ c. (omega arith, refl, no-sites))  -- loop-holds
+    (λ c κs. omega (arith, c .before .loop-test .taken))  -- instruction-at-requires
+    (λ c κs. search needs)  -- note-requires
+    (λ c. omega (arith, c .before .before .before .loop-test .taken))  -- add-i
+    (λ c. omega (arith, c .before .before .before .loop-test .taken))  -- loop-less
+    (λ c.  -- loop-again
     let l = c .before .before .before .before .loop in
     let g = c .before .before .before .before .before .before .before .args .graph .now in
     let r = c .before .instruction-at .result in
@@ -40,7 +40,7 @@ find-sites-spec = tie.close (tie.spec
       rw (c .note .ensures) (length-at-site (l .sites) r _ ∙ l .inv .1),
       rw (take-next (graphOf g) (l .i) r (omega (arith, length-graph g)) e, c .note .ensures) (one-site (take (l .i) (graphOf g)) (l .sites) r _ (omega (arith, l .inv .1)) (l .inv .2)),
     ))
-    (λ c.
+    (λ c.  -- returns
     let l = c .before .loop in
     let g = c .before .before .before .before .args .graph .now in
     rw (take-all (l .i) (graphOf g) (omega (arith, c .loop-test .left, length-graph g))) at (l .inv .2)))

@@ -7,12 +7,12 @@ use Rattle.saved.proofs.port_allowed.Tie as tie
 
 pub port-allowed-spec : {M : Type 1} → statement M
 port-allowed-spec = tie.close (tie.spec
-    (λ c κs. search needs)
-    (λ c κs. search needs)
-    (λ c κs. c .before .counts .ensures)
-    (λ c. rw (c .before .operands-at .ensures))
-    (λ c κs. search needs)
-    (λ c.
+    (λ c κs. search needs)  -- arity-requires
+    (λ c κs. search needs)  -- counts-requires
+    (λ c κs. c .before .counts .ensures)  -- operands-at-requires
+    (λ c. rw (c .before .operands-at .ensures))  -- returns
+    (λ c κs. search needs)  -- wide16-requires
+    (λ c.  -- returns-2
     let a = c .before .before in
     let s = a .before .before .before .before in
     let x = s .args in

@@ -11,12 +11,12 @@ inside c = rw (c .before .f .given .1) at (c .before .before .before .before .pr
 
 pub spent-found-spec : {M : Type 1} → statement M
 spent-found-spec = tie.close (tie.spec
-    (λ c. search needs)
-    (λ c κs. omega (arith, inside c, c .before .before .before .before .pre .1))
-    (λ c κs. search needs)
-    (λ c. search needs)
-    (λ c.
+    (λ c. search needs)  -- enum-known-f
+    (λ c κs. omega (arith, inside c, c .before .before .before .before .pre .1))  -- token-at-requires
+    (λ c κs. search needs)  -- is-spent-requires
+    (λ c. search needs)  -- enum-told
+    (λ c.  -- returns
     let t = c .before in
     let d = t .before .before in
     rw (d .f .given .1, ← t .token-at .ensures) (c .is-spent .ensures))
-    (λ c. search needs))
+    (λ c. search needs))  -- returns-2

@@ -24,15 +24,15 @@ room c = omega (arith, c .before .before .before .before .before .before .if1 .l
 
 pub take-spec : {M : Type 1} → statement M
 take-spec = tie.close (tie.spec
-    (λ c.
+    (λ c.  -- returns
     let s = c .before .before .before .before in
     let a = s .args in
     (too-many (a .graph .now) (a .ledger .now) (a .cells .now) (a .tables .now) (a .firings) (a .used) (s .pre .0 .aritiesRight) (c .if1 .taken), λ h. falseTrue h))
-    (λ c κs. search needs)
-    (λ c κs.
+    (λ c κs. search needs)  -- find-sites-requires
+    (λ c κs.  -- enter-requires
     let s = c .before .before .before .before .before .before .before .before .before in
     (rw (s .pre .4, s .pre .5) (matching-start (s .args .tables .now) (s .args .ledger .now)), omega (arith, c .before .before .before .before .before .if1 .left), s .pre .1, s .pre .3, c .before .before .before .find-sites .ensures, s .pre .0 .aritiesRight))
-    (λ c.
+    (λ c.  -- returns-2
     let e = c .before in
     let s = start e in
     let a = s .args in (
@@ -41,8 +41,8 @@ take-spec = tie.close (tie.spec
           ∙ enters (graphOf (a .graph .now)) (a .tables .now) (a .ledger .now) (length (a .cells .now) / cellWidth) (a .firings) (a .used) (s .pre .3) (record { arrive = p .arrive; partnered = p .partnered; counted = p .counted }))),
       λ h. falseTrue h,
     ))
-    (λ c κs. c .before .before .before .before .before .before .before .before .before .before .before .before .pre .3)
-    (λ c.
+    (λ c κs. c .before .before .before .before .before .before .before .before .before .before .before .before .pre .3)  -- cells-right-requires
+    (λ c.  -- returns-3
     let e = c .before .before .before in
     let s = start e in
     let a = s .args in

@@ -23,15 +23,15 @@ own c e =
 pub token-allowed-spec : {M : Type 1} → statement M
 unfolding tokenAllowed
 token-allowed-spec = tie.close (tie.spec
-    (λ c κs. c .before .before .pre .0)
-    (λ c κs. c .before .before .before .pre .1)
-    (λ c κs. c .before .before .before .before .before .pre .0)
-    (λ c.
+    (λ c κs. c .before .before .pre .0)  -- decode-requires
+    (λ c κs. c .before .before .before .pre .1)  -- port-allowed-requires
+    (λ c κs. c .before .before .before .before .before .pre .0)  -- state-allowed-requires
+    (λ c.  -- returns
     let p = c .before .before in
     let d = p .before in
     let a = d .before .before .before .args in
     told (tokenAllowed (graphOf (a .graph .now)) (a .s .now)) (own d) (rw (← d .decode .ensures, ← p .port-allowed .ensures, c .before .if1 .taken) (c .state-allowed .ensures)))
-    (λ c.
+    (λ c.  -- returns-2
     let p = c .before in
     let d = p .before in
     let a = d .before .before .before .args in

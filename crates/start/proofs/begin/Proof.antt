@@ -12,20 +12,20 @@ use Rattle.start.proofs.begin.Tie as tie
 
 pub begin-spec : {M : Type 1} → statement M
 begin-spec = tie.close (tie.spec
-    (λ c κs. let k = c .before .before .before .before .before .before .pre .0 in (k .graphPassed, k .fewArrays))
-    (λ c κs. search needs)
-    (λ c κs.
+    (λ c κs. let k = c .before .before .before .before .before .before .pre .0 in (k .graphPassed, k .fewArrays))  -- make-requires
+    (λ c κs. search needs)  -- clear-requires
+    (λ c κs.  -- inputs-requires
     let s = c .before .before .before .before .before .before .before .before .before .before .before .before .before .before .before in
     let a = s .args in
     let k = s .pre .0 in
     let passed = k .inputsPassed in
     (rw (s .pre .1, s .pre .2) (matching-start _ _), inputs-fit (a .graph .now) (a .inputs .now) (length (a .ledger .now) / tokenWidth) 0 passed, k .few, inputs-proper (a .graph .now) (a .inputs .now) (length (a .ledger .now) / tokenWidth) 0 passed _ (c .before .before .before .before .before .before .before .before .make .ensures .arities), inputs-alone (a .graph .now) (a .inputs .now) (length (a .ledger .now) / tokenWidth) 0 passed))
-    (λ c. search needs)
-    (λ c.
+    (λ c. search needs)  -- same-length
+    (λ c.  -- same-length-2
     let k = c .before .before .before .before .before .before .before .before .before in
     let s = k .before .before .before .before .before .before .before .before .before in
     omega (arith, ap length (k .clear .ensures), length-replicate {A = ℕ} (length (s .args .cells .now)) 0))
-    (λ c.
+    (λ c.  -- returns
     let i = c .before .before in
     let k = i .before .before .before .before .before .before .before in
     let m = k .before .before in

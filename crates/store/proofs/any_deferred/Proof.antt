@@ -7,7 +7,7 @@ use Rattle.store.proofs.any_deferred.Tie as tie
 
 pub any-deferred-spec : {M : Type 1} → statement M
 any-deferred-spec = tie.close (tie.spec
-    (λ c. omega (arith, c .pre))
-    (λ c. omega (arith, c .pre))
-    (λ c. omega (arith, c .pre))
-    (λ c tables flags ledger used m. any-on (c .before .args .cell) (c .before .args .links .now) _ (matching-deferred m) (c .before .pre)))
+    (λ c. omega (arith, c .pre))  -- add-result
+    (λ c. omega (arith, c .pre))  -- mul-result
+    (λ c. omega (arith, c .pre))  -- element-copy-out-result
+    (λ c tables flags ledger used m. any-on (c .before .args .cell) (c .before .args .links .now) _ (matching-deferred m) (c .before .pre)))  -- returns

@@ -7,9 +7,9 @@ use Rattle.store.proofs.arrive.Tie as tie
 
 pub arrive-spec : {M : Type 1} → statement M
 arrive-spec = tie.close (tie.spec
-    (λ c κs. let p = c .before .before .before .before .pre in (matching-stored (p .0), p .1, p .2, p .3, p .4, p .5))
-    (λ c. search needs)
-    (λ c.
+    (λ c κs. let p = c .before .before .before .before .pre in (matching-stored (p .0), p .1, p .2, p .3, p .4, p .5))  -- append-requires
+    (λ c. search needs)  -- same-length
+    (λ c.  -- returns
     let s = c .before .before .before .before .before .before .before in
     let a = s .args in
     let p = c .before .before .append in

@@ -6,8 +6,8 @@ use Rattle.store.proofs.enter.Tie as tie
 
 pub enter-spec : {M : Type 1} → statement M
 enter-spec = tie.close (tie.spec
-    (λ c κs. let p = c .before .before .before .pre in (matching-stored (p .0), p .1, p .2, p .3, p .4, p .5))
-    (λ c.
+    (λ c κs. let p = c .before .before .before .pre in (matching-stored (p .0), p .1, p .2, p .3, p .4, p .5))  -- enter-requires
+    (λ c.  -- returns
     let s = c .before .before .before .before in
     let a = s .args in
     let p = c .enter in

@@ -7,9 +7,9 @@ use Rattle.store.proofs.spend_operands.Tie as tie
 
 pub spend-operands-spec : {M : Type 1} → statement M
 spend-operands-spec = tie.close (tie.spec
-    (λ c κs. search needs)
-    (λ c. search needs)
-    (λ c.
+    (λ c κs. search needs)  -- spend-operands-requires
+    (λ c. search needs)  -- same-length
+    (λ c.  -- returns
     let a = c .before .before .before .before .before .before .args in
     let p = c .before .before .spend-operands in (
       p .ensures .0,

@@ -55,33 +55,33 @@ pub wake-spec : {M : Type 1} → statement M
 wake-spec = tie.close (tie.spec
     Inv-loop
     μ-loop
-    (λ c. search needs)
-    (λ c. search needs)
-    (λ c. omega (arith, c .before .pre .1))
-    (λ c κs. search needs)
-    (λ c.
+    (λ c. search needs)  -- add-head
+    (λ c. search needs)  -- mul-wide
+    (λ c. omega (arith, c .before .pre .1))  -- element-copy-out-wide
+    (λ c κs. search needs)  -- wide-requires
+    (λ c.  -- loop-holds
     let s = c .before .before .before in
     let a = s .args in
     rw (c .wide .ensures)
     (waking-start (a .cell) (toZ w32 (ofZ w32 (a .v))) (a .tables .now) (a .links .now) (a .flags .now) (a .ledger .now) (a .used) (s .pre .0) (s .pre .1)))
-    (λ c. search needs)
-    (λ c κs. omega (arith, low (c .before .before), c .before .loop-test .taken, c .before .before .loop .inv .store .known .room))
-    (λ c κs. search needs)
-    (λ c κs.
+    (λ c. search needs)  -- sub-i
+    (λ c κs. omega (arith, low (c .before .before), c .before .loop-test .taken, c .before .before .loop .inv .store .known .room))  -- token-at-requires
+    (λ c κs. search needs)  -- woken-requires
+    (λ c κs.  -- change-requires
     let l = c .before .before .before .before .before .before .before .loop in
     let e = c .before .before .before .woken .ensures in
     let t = c .before .before .before .before .token-at .ensures in
     (l .inv .store, omega (arith, low (c .before .before .before .before .before .before .before), c .before .before .before .before .before .before .loop-test .taken), rw (e, t), rw (e, t), rw e (λ h. refl)))
-    (λ c. search needs)
-    (λ c. search needs)
-    (λ c. omega (arith, c .before .before .before .before .before .before .before .before .before .before .loop .inv .walk .on .small, c .before .before .before .before .before .before .before .before .before .loop-test .taken))
-    (λ c κs. search needs)
-    (λ c. rw (c .wide2 .ensures) (stepped (c .before .before .before .before) .0))
-    (λ c. rw (c .wide2 .ensures) (stepped (c .before .before .before .before) .1))
-    (λ c. search needs)
-    (λ c. omega (arith, c .before .before .before .before .before .pre .1))
-    (λ c. omega (arith, c .before .loop .inv .size))
-    (λ c.
+    (λ c. search needs)  -- add-wide
+    (λ c. search needs)  -- mul-wide-2
+    (λ c. omega (arith, c .before .before .before .before .before .before .before .before .before .before .loop .inv .walk .on .small, c .before .before .before .before .before .before .before .before .before .loop-test .taken))  -- element-copy-out-wide-2
+    (λ c κs. search needs)  -- wide-requires-2
+    (λ c. rw (c .wide2 .ensures) (stepped (c .before .before .before .before) .0))  -- loop-less
+    (λ c. rw (c .wide2 .ensures) (stepped (c .before .before .before .before) .1))  -- loop-again
+    (λ c. search needs)  -- mul-links
+    (λ c. omega (arith, c .before .before .before .before .before .pre .1))  -- element-write-links
+    (λ c. omega (arith, c .before .loop .inv .size))  -- same-length
+    (λ c.  -- returns
     let s = c .before .before .before .before .before in
     let a = s .args in
     let l = c .before .loop in

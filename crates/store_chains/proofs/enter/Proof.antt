@@ -45,18 +45,18 @@ low c = rw (c .before .before .content .given .1) at (c .before .before .before 
 
 pub enter-spec : {M : Type 1} → statement M
 enter-spec = tie.close (tie.spec
-    (λ c. search needs)
-    (λ c κs. let s = c .before in let b = in-heads s in (omega (arith, b), omega (arith, s .pre .0), s .pre .0))
-    (λ c. search needs)
-    (λ c. search needs)
-    (λ c. search needs)
-    (λ c. search needs)
-    (λ c. search needs)
-    (λ c. search needs)
-    (λ c κs. let u = c .before .before .before .before .before .before .pre .0 in (omega (arith, low c), omega (arith, u), u))
-    (λ c. let f = c .before .before in (indexed f, off f (ap keyOf (c .enum-told .given .1))))
-    (λ c. let f = c .before .before in (indexed f, off f (ap keyOf (c .enum-told2 .given .1))))
-    (λ c.
+    (λ c. search needs)  -- add-link
+    (λ c κs. let s = c .before in let b = in-heads s in (omega (arith, b), omega (arith, s .pre .0), s .pre .0))  -- link-requires
+    (λ c. search needs)  -- enum-told
+    (λ c. search needs)  -- enum-told-2
+    (λ c. search needs)  -- enum-known-content
+    (λ c. search needs)  -- cast-link
+    (λ c. search needs)  -- add-link-2
+    (λ c. search needs)  -- add-link-3
+    (λ c κs. let u = c .before .before .before .before .before .before .pre .0 in (omega (arith, low c), omega (arith, u), u))  -- link-requires-2
+    (λ c. let f = c .before .before in (indexed f, off f (ap keyOf (c .enum-told .given .1))))  -- returns
+    (λ c. let f = c .before .before in (indexed f, off f (ap keyOf (c .enum-told2 .given .1))))  -- returns-2
+    (λ c.  -- returns-3
     let f = c .before .before .before .before .before in
     let s = f .before .before in
     let a = s .args in

@@ -31,31 +31,31 @@ pub find-spec : {M : Type 1} → statement M
 find-spec = tie.close (tie.spec
     Inv-loop
     μ-loop
-    (λ c κs. search needs)
-    (λ c. search needs)
-    (λ c. search needs)
-    (λ c κs. search needs)
-    (λ c.
+    (λ c κs. search needs)  -- bucket-requires
+    (λ c. search needs)  -- mul-wide
+    (λ c. search needs)  -- element-copy-out-wide
+    (λ c κs. search needs)  -- wide-requires
+    (λ c.  -- loop-holds
     let s = c .before .before .before .before in
     let a = s .args in
     rw (c .wide .ensures, c .before .before .bucket .ensures .0) (walk-start (a .ledger .now) (a .used) (a .tag) (a .port) (a .links .now) (s .pre .1)))
-    (λ c. search needs)
-    (λ c κs. omega (arith, c .before .loop .inv .low))
-    (λ c κs. search needs)
-    (λ c.
+    (λ c. search needs)  -- sub-i
+    (λ c κs. omega (arith, c .before .loop .inv .low))  -- token-at-requires
+    (λ c κs. search needs)  -- stands-at-requires
+    (λ c.  -- returns
     let l = c .before .before .before .before .loop in
     let s = c .before .before .before .before .before .before .before .before .before in
     let a = s .args in
     let h : l .at - 1 < a .used = omega (arith, l .inv .low, c .before .before .before .loop-test .taken) in
     let there = rw (c .before .before .token-at .ensures) at (sym (c .before .stands-at .ensures) ∙ c .if1 .taken) in
     (sym (walk-met (a .ledger .now) (a .used) (a .tag) (a .port) (s .pre .2) (l .at - 1) h there), h))
-    (λ c. omega (arith, c .before .before .before .before .loop .inv .on .small))
-    (λ c. search needs)
-    (λ c. omega (arith, c .before .before .before .before .loop .inv .on .small))
-    (λ c κs. search needs)
-    (λ c. stepped c .0)
-    (λ c. stepped c .1)
-    (λ c.
+    (λ c. omega (arith, c .before .before .before .before .loop .inv .on .small))  -- add-wide
+    (λ c. search needs)  -- mul-wide-2
+    (λ c. omega (arith, c .before .before .before .before .loop .inv .on .small))  -- element-copy-out-wide-2
+    (λ c κs. search needs)  -- wide-requires-2
+    (λ c. stepped c .0)  -- loop-less
+    (λ c. stepped c .1)  -- loop-again
+    (λ c.  -- returns-2
     let s = c .before .before .before .before .before .before in
     let a = s .args in
     let z : c .before .loop .at ≡ 0 = c .loop-test .left in

@@ -6,6 +6,6 @@ use Rattle.store_chains.proofs.found_of.Tie as tie
 
 pub found-of-spec : {M : Type 1} → statement M
 found-of-spec = tie.close (tie.spec
-    (λ c. search needs)
-    (λ c. search needs)
-    (λ c. found-some (c .before .args .best) (c .if1 .left)))
+    (λ c. search needs)  -- sub-t4
+    (λ c. search needs)  -- returns
+    (λ c. found-some (c .before .args .best) (c .if1 .left)))  -- returns-2

@@ -5,5 +5,5 @@ use Rattle.store_chains.proofs.has_tag.Tie as tie
 
 pub has-tag-spec : {M : Type 1} → statement M
 has-tag-spec = tie.close (tie.spec
-    (λ c κs. search needs)
-    (λ c. c .same .ensures))
+    (λ c κs. search needs)  -- same-requires
+    (λ c. c .same .ensures))  -- returns

@@ -20,7 +20,7 @@ upper n h = omega arith
 pub mixed-spec : {M : Type 1} → statement M
 unfolding mix
 mixed-spec = tie.close (tie.spec
-    (λ c. search needs)
-    (λ c. search needs)
-    (λ c. search needs)
-    (λ c. (refl, small _ _ (lower (c .args .calls)) (upper (c .args .calls) (omega arith)))))
+    (λ c. search needs)  -- mul-result
+    (λ c. search needs)  -- mul-result-2
+    (λ c. search needs)  -- add-result
+    (λ c. (refl, small _ _ (lower (c .args .calls)) (upper (c .args .calls) (omega arith)))))  -- returns

@@ -20,19 +20,19 @@ pub seek-spec : {M : Type 1} → statement M
 seek-spec = tie.close (tie.spec
     Inv-loop
     μ-loop
-    (λ c κs. search needs)
-    (λ c. search needs)
-    (λ c. search needs)
-    (λ c κs. search needs)
-    (λ c.
+    (λ c κs. search needs)  -- bucket-requires
+    (λ c. search needs)  -- mul-wide
+    (λ c. search needs)  -- element-copy-out-wide
+    (λ c κs. search needs)  -- wide-requires
+    (λ c.  -- loop-holds
     let s = c .before .before .before .before in
     let a = s .args in
     rw (c .wide .ensures, c .before .before .bucket .ensures .0)
     (walk-start (a .ledger .now) (a .used) (a .tag) (a .port) (a .links .now) (s .pre .1), walk-start (a .ledger .now) (a .used) (a .tag) (1 - a .port) (a .links .now) (s .pre .1)))
-    (λ c. search needs)
-    (λ c κs. omega (arith, c .before .loop .inv .0 .low))
-    (λ c κs. search needs)
-    (λ c.
+    (λ c. search needs)  -- sub-i
+    (λ c κs. omega (arith, c .before .loop .inv .0 .low))  -- token-at-requires
+    (λ c κs. search needs)  -- has-tag-requires
+    (λ c.  -- returns
     let l = c .before .before .before .before .before .before .loop in
     let s = c .before .before .before .before .before .before .before .before .before .before .before in
     let a = s .args in
@@ -40,17 +40,17 @@ seek-spec = tie.close (tie.spec
     let same = c .before .before in
     let t = same .before .before .token-at .ensures in
     seek-taken (a .ledger .now) (a .used) (a .tag) (a .port) (l .at - 1) h (rw t at (sym (same .before .has-tag .ensures) ∙ same .if1 .taken)) (rw t at (c .if2 .taken)))
-    (λ c. omega (arith, c .before .before .before .before .loop .inv .0 .on .small))
-    (λ c. search needs)
-    (λ c. omega (arith, c .before .before .before .before .loop .inv .0 .on .small))
-    (λ c κs. search needs)
-    (λ c.
+    (λ c. omega (arith, c .before .before .before .before .loop .inv .0 .on .small))  -- add-wide
+    (λ c. search needs)  -- mul-wide-2
+    (λ c. omega (arith, c .before .before .before .before .loop .inv .0 .on .small))  -- element-copy-out-wide-2
+    (λ c κs. search needs)  -- wide-requires-2
+    (λ c.  -- loop-less
     let b = c .before .before in
     let l = b .before .before .before .before .loop in
     let s = b .before .before .before .before .before .before .before .before .before in
     let a = s .args in
     rw (c .wide2 .ensures) (walk-step (a .ledger .now) (a .used) (a .tag) (a .port) (a .links .now) (s .pre .1) (l .at) 0 (b .before .before .before .loop-test .taken) (l .inv .0) .0))
-    (λ c.
+    (λ c.  -- loop-again
     let b = c .before .before in
     let l = b .before .before .before .before .loop in
     let s = b .before .before .before .before .before .before .before .before .before in
@@ -68,8 +68,8 @@ seek-spec = tie.close (tie.spec
     (rw t at (sym has ∙ w .0 .left)) in
     rw (w .1) (r .1, r .2))
     (b .if1 .came)))
-    (λ c κs. search needs)
-    (λ c.
+    (λ c κs. search needs)  -- found-of-requires
+    (λ c.  -- returns-2
     let l = c .before .before .loop in
     let s = c .before .before .before .before .before .before .before in
     let a = s .args in

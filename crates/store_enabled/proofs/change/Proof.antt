@@ -39,14 +39,14 @@ entered c =
 
 pub change-spec : {M : Type 1} → statement M
 change-spec = tie.close (tie.spec
-    (λ c κs. let s = c .before .before .before in omega (arith, s .pre .0 .known .room, s .pre .1))
-    (λ c κs. search needs)
-    (λ c κs.
+    (λ c κs. let s = c .before .before .before in omega (arith, s .pre .0 .known .room, s .pre .1))  -- put-token-requires
+    (λ c κs. search needs)  -- arity-requires
+    (λ c κs.  -- settle-changed-requires
     let s = c .before .before .before .before .before .before .before .before .before .before in
     let e = entered (c .before .before .before .before .before .before) in
     (s .pre .0 .counted, e .known, s .pre .1, low s, e .own))
-    (λ c. search needs)
-    (λ c.
+    (λ c. search needs)  -- same-length
+    (λ c.  -- returns
     let s = c .before .before .before .before .before .before .before .before .before .before .before in
     let a = s .args in
     let e = entered (c .before .before .before .before .before .before .before) in

@@ -6,5 +6,5 @@ use Rattle.store_enabled.proofs.earlier.Tie as tie
 
 pub earlier-spec : {M : Type 1} → statement M
 earlier-spec = tie.close (tie.spec
-    (λ c. sym (lower-first _ _ (c .if1 .taken)))
-    (λ c. sym (lower-second _ _ (c .if1 .left))))
+    (λ c. sym (lower-first _ _ (c .if1 .taken)))  -- returns
+    (λ c. sym (lower-second _ _ (c .if1 .left))))  -- returns-2

@@ -38,18 +38,18 @@ whole c =
 
 pub enabled-by-tag-spec : {M : Type 1} → statement M
 enabled-by-tag-spec = tie.close (tie.spec
-    (λ c κs. let s = c .before in (s .pre .room, s .pre .index, s .pre .single))
-    (λ c κs. let s = c .before .before in (s .pre .room, s .pre .index, s .pre .single))
-    (λ c κs. search needs)
-    (λ c κs.
+    (λ c κs. let s = c .before in (s .pre .room, s .pre .index, s .pre .single))  -- find-requires
+    (λ c κs. let s = c .before .before in (s .pre .room, s .pre .index, s .pre .single))  -- find-requires-2
+    (λ c κs. search needs)  -- arity-requires
+    (λ c κs.  -- ready-requires
     let g = c .before .before in
     let f = g .before in
     let s = f .before .before in
     (within-more (f .find .result) _ _ (s .pre .room) (f .find .ensures .1), within-more (g .find2 .result) _ _ (s .pre .room) (g .find2 .ensures .1)))
-    (λ c κs. search needs)
-    (λ c κs. search needs)
-    (λ c κs. search needs)
-    (λ c.
+    (λ c κs. search needs)  -- place-or-requires
+    (λ c κs. search needs)  -- place-or-requires-2
+    (λ c κs. search needs)  -- earlier-requires
+    (λ c.  -- returns
     let p = c .before .before in
     let r = p .before .before in
     let g = r .before .before .before in
@@ -61,6 +61,6 @@ enabled-by-tag-spec = tie.close (tie.spec
     c .earlier .ensures ∙ rw (p .place-or .ensures, c .before .place-or2 .ensures, f .find .ensures .0, g .find2 .ensures .0) (sym (first-place (a .tag) (a .used) (a .ledger .now) (s .pre .ports))) in
     let low = found-first (r .before .arity .result) (a .used) (tokenAt (a .ledger .now)) (f .find .result) (liveFound (tokenAt (a .ledger .now)) (g .find2 .result)) (f .find .ensures .1) (sym (r .ready .ensures) ∙ p .before .if1 .taken) in
     (rw on (ap At place), rw (c .earlier .ensures, p .place-or .ensures) (lower-below _ _ (a .used) low)))
-    (λ c.
+    (λ c.  -- returns-2
     let off = sym (whole (c .before)) ∙ c .if1 .left in
     (rw off, tt)))

@@ -70,12 +70,12 @@ whole c =
 
 pub enter-spec : {M : Type 1} → statement M
 enter-spec = tie.close (tie.spec
-    (λ c κs. let s = c .before .before .before in (s .pre .2, s .pre .4, s .pre .5 .bucket))
-    (λ c. search needs)
-    (λ c κs. search needs)
-    (λ c κs. last-partner (last (c .before .before .before .before)))
-    (λ c κs. search needs)
-    (λ c κs.
+    (λ c κs. let s = c .before .before .before in (s .pre .2, s .pre .4, s .pre .5 .bucket))  -- enter-requires
+    (λ c. search needs)  -- enum-told
+    (λ c κs. search needs)  -- arity-requires
+    (λ c κs. last-partner (last (c .before .before .before .before)))  -- completes-requires
+    (λ c κs. search needs)  -- place-or-requires
+    (λ c κs.  -- raise-requires
     let r = c .before .before .before in
     let n = r .before .before .before .before .before in
     let s = n .before .before .before .before in
@@ -85,17 +85,17 @@ enter-spec = tie.close (tie.spec
     let below = port-below (arityOf (a .tables .now) (a .t .tag)) (a .t .port) ts (a .t .tag) (s .pre .3 .low) (s .pre .3 .alone) on in
     let down = flag-before (a .tables .now) (a .ledger .now) (a .used) (a .t) (flagsOf (a .flags .now)) (s .pre .0 .right) (s .pre .5 .free) (s .pre .3 .low) below in
     (rw (c .place-or .ensures) (last-flag (last n)), s .pre .0 .counted, rw (c .place-or .ensures, ← last-place (last n), entered n .more) down))
-    (λ c.
+    (λ c.  -- returns
     let r = c .before .before .before .before in
     let n = r .before .before .before .before .before in
     let e = entered n in
     let on = sym (whole r) ∙ c .before .before .before .if1 .taken in
     (e .more, (e .stored (c .raise .last .0) (c .raise .ensures .0 ∙ rw (c .before .place-or .ensures, last-place (last n), on)) (c .raise .ensures .1), waiting n)))
-    (λ c.
+    (λ c.  -- returns-2
     let r = c .before in
     let n = r .before .before .before .before .before in
     (entered n .more, (stays n (sym (whole r) ∙ c .if1 .left), waiting n)))
-    (λ c.
+    (λ c.  -- returns-3
     let n = c .before in
     let s = n .before .before .before .before in
     let a = s .args in

@@ -15,12 +15,12 @@ inside c = rw (c .before .f .given .1) at (c .before .before .before .pre)
 
 pub live-spec : {M : Type 1} → statement M
 live-spec = tie.close (tie.spec
-    (λ c. search needs)
-    (λ c. omega (arith, inside c))
-    (λ c. omega (arith, inside c))
-    (λ c. omega (arith, inside (c .before)))
-    (λ c. search needs)
-    (λ c.
+    (λ c. search needs)  -- enum-known-f
+    (λ c. omega (arith, inside c))  -- mul-result
+    (λ c. omega (arith, inside c))  -- add-result
+    (λ c. omega (arith, inside (c .before)))  -- shared-slice-read-result
+    (λ c. search needs)  -- enum-told
+    (λ c.  -- returns
     let d = c .before .before in
     rw (d .f .given .1) (sym (live-state (d .before .before .args .ledger .now) (d .f .given .0 .0))))
-    (λ c. search needs))
+    (λ c. search needs))  -- returns-2

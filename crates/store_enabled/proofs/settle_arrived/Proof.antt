@@ -22,23 +22,23 @@ whole c =
 
 pub settle-arrived-spec : {M : Type 1} → statement M
 settle-arrived-spec = tie.close (tie.spec
-    (λ c.
+    (λ c.  -- returns
     let s = c .before .before in
     let a = s .args in
     (rw (le-ltb (a .port) (a .operands) (c .if1 .taken)), s .pre .0))
-    (λ c κs. last-partner (c .before .before .pre .1))
-    (λ c κs. search needs)
-    (λ c κs.
+    (λ c κs. last-partner (c .before .before .pre .1))  -- completes-requires
+    (λ c κs. search needs)  -- place-or-requires
+    (λ c κs.  -- raise-requires
     let r = c .before .before .before in
     let s = r .before .before .before in
     (rw (c .place-or .ensures) (last-flag (s .pre .1)), s .pre .0, rw (c .place-or .ensures, ← last-place (s .pre .1)) (s .pre .3 (waited r))))
-    (λ c.
+    (λ c.  -- returns-2
     let r = c .before .before .before .before in
     let s = r .before .before .before in
     let a = s .args in
     let on = sym (whole r) ∙ c .before .before .before .if2 .taken in
     (c .raise .ensures .0 ∙ rw (c .before .place-or .ensures, last-place (s .pre .1), on, lt-ltb (a .port) (a .operands) (waited r)), c .raise .ensures .1))
-    (λ c.
+    (λ c.  -- returns-3
     let r = c .before in
     let s = r .before .before .before in
     let a = s .args in

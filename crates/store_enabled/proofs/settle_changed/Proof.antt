@@ -39,31 +39,31 @@ low c =
 
 pub settle-changed-spec : {M : Type 1} → statement M
 settle-changed-spec = tie.close (tie.spec
-    (λ c. omega (arith, c .before .pre .3))
-    (λ c κs. let s = c .before in (s .pre .1 .room, s .pre .1 .index, s .pre .1 .single))
-    (λ c κs.
+    (λ c. omega (arith, c .before .pre .3))  -- sub-find
+    (λ c κs. let s = c .before in (s .pre .1 .room, s .pre .1 .index, s .pre .1 .single))  -- find-requires
+    (λ c κs.  -- ready-with-requires
     let s = c .before .before in
     (omega (arith, s .pre .1 .room, s .pre .2), within-more (c .find .result) _ _ (s .pre .1 .room) (c .find .ensures .1)))
-    (λ c κs. search needs)
-    (λ c κs. search needs)
-    (λ c κs.
+    (λ c κs. search needs)  -- place-or-requires
+    (λ c κs. search needs)  -- earlier-requires
+    (λ c κs.  -- is-raised-requires
     (low (c .before), c .before .before .before .before .before .before .before .pre .0))
-    (λ c κs.
+    (λ c κs.  -- raise-requires
     let g = c .before .before .before in
     let s = g .before .before .before .before .before .before .before in
     let r = c .before .before .is-raised in
     (low (g .before), s .pre .0, not-raised (flagsOf (s .args .flags .now)) (g .before .earlier .result) (s .pre .0 .tallied .binary (g .before .earlier .result)) (sym (r .ensures) ∙ not-true (r .result) (c .before .if2 .taken))))
-    (λ c.
+    (λ c.  -- returns
     let g = c .before .before .before .before in
     let on = sym (whole (g .before .before .before .before)) ∙ g .before .before .before .if1 .taken in
     (c .raise .ensures .0 ∙ rw (g .before .earlier .ensures, g .before .before .place-or .ensures, here (g .before .before .before .before .before), on), c .raise .ensures .1))
-    (λ c.
+    (λ c.  -- returns-2
     let g = c .before .before in
     let s = g .before .before .before .before .before .before .before in
     let r = c .before .is-raised in
     let on = sym (whole (g .before .before .before .before)) ∙ g .before .before .before .if1 .taken in
     let stays = raised-again (flagsOf (s .args .flags .now)) (g .before .earlier .result) (sym (r .ensures) ∙ not-false (r .result) (c .if2 .left)) in
     (stays ∙ rw (g .before .earlier .ensures, g .before .before .place-or .ensures, here (g .before .before .before .before .before), on), s .pre .0))
-    (λ c.
+    (λ c.  -- returns-3
     let off = sym (whole (c .before)) ∙ c .if1 .left in
     (rw off, c .before .before .before .before .pre .0)))

@@ -12,18 +12,18 @@ use Rattle.record.specs.Widths.{tokenWidth, stateOffset}
 
 pub spend-operands-spec : {M : Type 1} → statement M
 spend-operands-spec = tie.close (tie.spec
-    (λ c. search needs)
-    (λ c. search needs)
-    (λ c. search needs)
-    (λ c. search needs)
-    (λ c. search needs)
-    (λ c. let a = c .before .args in omega (arith, length-set (a .ledger .now) (a .first * tokenWidth + stateOffset) 1, c .before .pre .5))
-    (λ c κs. search needs)
-    (λ c κs.
+    (λ c. search needs)  -- mul-ledger
+    (λ c. search needs)  -- add-ledger
+    (λ c. search needs)  -- slice-write-ledger
+    (λ c. search needs)  -- mul-ledger-2
+    (λ c. search needs)  -- add-ledger-2
+    (λ c. let a = c .before .args in omega (arith, length-set (a .ledger .now) (a .first * tokenWidth + stateOffset) 1, c .before .pre .5))  -- slice-write-ledger-2
+    (λ c κs. search needs)  -- earlier-requires
+    (λ c κs.  -- lower-requires
     let s = c .before .before .before in
     (rw (c .earlier .ensures) (lower-below (s .args .first) (s .args .second) 2048 (s .pre .2)), s .pre .0, rw (c .earlier .ensures) (s .pre .1)))
-    (λ c. search needs)
-    (λ c.
+    (λ c. search needs)  -- same-length
+    (λ c.  -- returns
     let s = c .before .before .before .before in
     let a = s .args in
     (refl, λ tables links used w o. both-spent tables links (a .flags .now) (a .ledger .now) used (a .first) (a .second) w o (c .lower .last .0) (c .lower .ensures .0 ∙ rw (c .before .earlier .ensures)) (c .lower .ensures .1))))

@@ -9,7 +9,7 @@ use Rattle.store_enabled.proofs.waited_for.Tie as tie
 pub waited-for-spec : {M : Type 1} → statement M
 unfolding waitedFor
 waited-for-spec = tie.close (tie.spec
-    (λ c. rw (ne-eqb _ _ (c .if1 .taken)))
-    (λ c κs. search needs)
-    (λ c. rw (eq-eqb _ _ (c .before .before .before .if1 .left), sym (c .before .is-root .ensures) ∙ c .if2 .taken))
-    (λ c. rw (eq-eqb _ _ (c .before .before .before .if1 .left), sym (c .before .is-root .ensures) ∙ c .if2 .left)))
+    (λ c. rw (ne-eqb _ _ (c .if1 .taken)))  -- returns
+    (λ c κs. search needs)  -- is-root-requires
+    (λ c. rw (eq-eqb _ _ (c .before .before .before .if1 .left), sym (c .before .is-root .ensures) ∙ c .if2 .taken))  -- returns-2
+    (λ c. rw (eq-eqb _ _ (c .before .before .before .if1 .left), sym (c .before .is-root .ensures) ∙ c .if2 .left)))  -- returns-3

@@ -9,14 +9,14 @@ use Rattle.store_flags.proofs.count_but.Tie as tie
 
 pub count-but-spec : {M : Type 1} → statement M
 count-but-spec = tie.close (tie.spec
-    (λ c κs. search needs)
-    (λ c κs. search needs)
-    (λ c.
+    (λ c κs. search needs)  -- count-requires
+    (λ c κs. search needs)  -- count-requires-2
+    (λ c.  -- sub-result
     let s = c .before .before in
     let f = flagsOf (s .args .flags .now) in
     let h = flagsOf (s .args .held .now) in
     omega (arith, c .count2 .ensures, c .before .count .ensures, rest-ones (s .pre .0) (s .pre .1) (s .pre .2), ones-places 0 f (s .pre .0 .tallied .binary), ones-places 0 h (s .pre .1 .tallied .binary)))
-    (λ c.
+    (λ c.  -- returns
     let s = c .before .before in
     let f = flagsOf (s .args .flags .now) in
     let h = flagsOf (s .args .held .now) in

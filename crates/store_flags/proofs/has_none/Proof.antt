@@ -5,4 +5,5 @@ use Rattle.store_flags.proofs.has_none.Statement.{statement}
 use Rattle.store_flags.proofs.has_none.Tie as tie
 
 pub has-none-spec : {M : Type 1} → statement M
-has-none-spec = tie.close (tie.spec (λ c. word-empty (c .args .word) (c .fits .word .fits)))
+has-none-spec = tie.close (tie.spec
+    (λ c. word-empty (c .args .word) (c .fits .word .fits)))  -- returns

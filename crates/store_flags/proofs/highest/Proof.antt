@@ -6,6 +6,6 @@ use Rattle.store_flags.proofs.highest.Tie as tie
 
 pub highest-spec : {M : Type 1} → statement M
 highest-spec = tie.close (tie.spec
-    (λ c. record { fits = omega (arith, word-highest (c .args .word) (c .pre) (c .fits .word .fits)) })
-    (λ c. omega (arith, word-highest (c .args .word) (c .pre) (c .fits .word .fits)))
-    (λ c. omega (arith, word-highest (c .args .word) (c .pre) (c .fits .word .fits))))
+    (λ c. record { fits = omega (arith, word-highest (c .args .word) (c .pre) (c .fits .word .fits)) })  -- cast-result
+    (λ c. omega (arith, word-highest (c .args .word) (c .pre) (c .fits .word .fits)))  -- sub-result
+    (λ c. omega (arith, word-highest (c .args .word) (c .pre) (c .fits .word .fits))))  -- returns

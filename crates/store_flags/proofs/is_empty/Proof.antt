@@ -11,8 +11,8 @@ use Rattle.store_flags.proofs.is_empty.Tie as tie
 
 pub is-empty-spec : {M : Type 1} → statement M
 is-empty-spec = tie.close (tie.spec
-    (λ c. search needs)
-    (λ c κs. search needs)
-    (λ c.
+    (λ c. search needs)  -- element-copy-out-has-none
+    (λ c κs. search needs)  -- has-none-requires
+    (λ c.  -- returns
     let s = c .before .before in
     c .has-none .ensures ∙ words-empty (s .pre .summed) ∙ ap (λ (x : ℕ). eqb x 0) (sym (ones-places 0 (flagsOf (s .args .flags .now)) (s .pre .tallied .binary)))))

@@ -10,35 +10,35 @@ use Rattle.store_flags.proofs.lower.Tie as tie
 
 pub lower-spec : {M : Type 1} → statement M
 lower-spec = tie.close (tie.spec
-    (λ c. search needs)
-    (λ c. search needs)
-    (λ c. search needs)
-    (λ c. search needs)
-    (λ c. search needs)
-    (λ c. search needs)
-    (λ c. search needs)
-    (λ c. search needs)
-    (λ c. search needs)
-    (λ c κs.
+    (λ c. search needs)  -- add-in-word
+    (λ c. search needs)  -- mul-in-word
+    (λ c. search needs)  -- element-copy-out-in-word
+    (λ c. search needs)  -- add-in-group
+    (λ c. search needs)  -- mul-in-group
+    (λ c. search needs)  -- element-copy-out-in-group
+    (λ c. search needs)  -- element-copy-out-marks
+    (λ c. search needs)  -- mul-lowered
+    (λ c. search needs)  -- element-copy-out-lowered
+    (λ c κs.  -- lowered-requires
     let s = c .before .before .before .before in
     (omega arith, words-flag (s .pre .1 .summed) (s .args .i) (s .pre .0) ∙ s .pre .2))
-    (λ c. search needs)
-    (λ c. search needs)
-    (λ c κs.
+    (λ c. search needs)  -- mul-flags
+    (λ c. search needs)  -- element-write-flags
+    (λ c κs.  -- unmark-requires
     let s = c .before .before .before .before .before in
     let i = s .args .i in
     let on = words-flag (s .pre .1 .summed) i (s .pre .0) ∙ s .pre .2 in
     (omega arith, mark-at (s .pre .1 .summed) (i / 64) (omega (arith, s .pre .0)) ∙ any-some (getD (s .args .flags .now) (i / 64) 0) (i % 64) on))
-    (λ c. search needs)
-    (λ c. let s = c .before .before .before .before .before .before in omega (arith, s .pre .2, word-bounds (s .pre .1) (s .args .i) (s .pre .0)))
-    (λ c. search needs)
-    (λ c. search needs)
-    (λ c. search needs)
-    (λ c. let s = c .before .before .before .before .before .before in omega (arith, s .pre .2, group-bounds (s .pre .1) (s .args .i) (s .pre .0)))
-    (λ c. search needs)
-    (λ c. search needs)
-    (λ c. search needs)
-    (λ c.
+    (λ c. search needs)  -- element-write-flags-2
+    (λ c. let s = c .before .before .before .before .before .before in omega (arith, s .pre .2, word-bounds (s .pre .1) (s .args .i) (s .pre .0)))  -- sub-flags
+    (λ c. search needs)  -- add-flags
+    (λ c. search needs)  -- mul-flags-2
+    (λ c. search needs)  -- element-write-flags-3
+    (λ c. let s = c .before .before .before .before .before .before in omega (arith, s .pre .2, group-bounds (s .pre .1) (s .args .i) (s .pre .0)))  -- sub-flags-2
+    (λ c. search needs)  -- add-flags-2
+    (λ c. search needs)  -- mul-flags-3
+    (λ c. search needs)  -- element-write-flags-4
+    (λ c.  -- returns
     let s = c .before .before .before .before .before .before in
     let i = s .args .i in
     let w = c .before .lowered in

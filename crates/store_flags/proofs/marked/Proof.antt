@@ -6,5 +6,5 @@ use Rattle.store_flags.proofs.marked.Tie as tie
 
 pub marked-spec : {M : Type 1} → statement M
 marked-spec = tie.close (tie.spec
-    (λ c. search needs)
-    (λ c. rw (one-fits (c .args .k) (c .pre)) (word-marked (c .args .word) (c .args .k) (c .pre))))
+    (λ c. search needs)  -- shl-result
+    (λ c. rw (one-fits (c .args .k) (c .pre)) (word-marked (c .args .word) (c .args .k) (c .pre))))  -- returns

@@ -11,31 +11,31 @@ use Rattle.store_flags.proofs.raise.Tie as tie
 
 pub raise-spec : {M : Type 1} → statement M
 raise-spec = tie.close (tie.spec
-    (λ c. search needs)
-    (λ c. search needs)
-    (λ c. search needs)
-    (λ c. search needs)
-    (λ c. search needs)
-    (λ c. search needs)
-    (λ c. search needs)
-    (λ c. search needs)
-    (λ c. search needs)
-    (λ c κs.
+    (λ c. search needs)  -- mul-word
+    (λ c. search needs)  -- element-copy-out-word
+    (λ c. search needs)  -- add-in-word
+    (λ c. search needs)  -- mul-in-word
+    (λ c. search needs)  -- element-copy-out-in-word
+    (λ c. search needs)  -- add-in-group
+    (λ c. search needs)  -- mul-in-group
+    (λ c. search needs)  -- element-copy-out-in-group
+    (λ c. search needs)  -- element-copy-out-marks
+    (λ c κs.  -- raised-requires
     let s = c .before .before .before .before in
     (omega arith, words-flag (s .pre .1 .summed) (s .args .i) (s .pre .0) ∙ s .pre .2))
-    (λ c. search needs)
-    (λ c. search needs)
-    (λ c κs. omega (arith, c .before .before .before .before .before .pre .0))
-    (λ c. search needs)
-    (λ c. let s = c .before .before .before .before .before .before in record { fits = omega (arith, word-bounds (s .pre .1) (s .args .i) (s .pre .0)) })
-    (λ c. search needs)
-    (λ c. search needs)
-    (λ c. search needs)
-    (λ c. let s = c .before .before .before .before .before .before in record { fits = omega (arith, group-bounds (s .pre .1) (s .args .i) (s .pre .0)) })
-    (λ c. search needs)
-    (λ c. search needs)
-    (λ c. search needs)
-    (λ c.
+    (λ c. search needs)  -- mul-flags
+    (λ c. search needs)  -- element-write-flags
+    (λ c κs. omega (arith, c .before .before .before .before .before .pre .0))  -- marked-requires
+    (λ c. search needs)  -- element-write-flags-2
+    (λ c. let s = c .before .before .before .before .before .before in record { fits = omega (arith, word-bounds (s .pre .1) (s .args .i) (s .pre .0)) })  -- add-flags
+    (λ c. search needs)  -- add-flags-2
+    (λ c. search needs)  -- mul-flags-2
+    (λ c. search needs)  -- element-write-flags-3
+    (λ c. let s = c .before .before .before .before .before .before in record { fits = omega (arith, group-bounds (s .pre .1) (s .args .i) (s .pre .0)) })  -- add-flags-3
+    (λ c. search needs)  -- add-flags-4
+    (λ c. search needs)  -- mul-flags-3
+    (λ c. search needs)  -- element-write-flags-4
+    (λ c.  -- returns
     let s = c .before .before .before .before .before .before in
     let i = s .args .i in
     let f = s .args .flags .now in

@@ -14,6 +14,6 @@ put c = rw (one-fits (c .args .k) (c .pre .0)) (word-raised (c .args .word) (c .
 
 pub raised-spec : {M : Type 1} → statement M
 raised-spec = tie.close (tie.spec
-    (λ c. search needs)
-    (λ c. record { fits = put c .0 })
-    (λ c. put c .1))
+    (λ c. search needs)  -- shl-result
+    (λ c. record { fits = put c .0 })  -- add-result
+    (λ c. put c .1))  -- returns

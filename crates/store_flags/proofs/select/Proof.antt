@@ -21,15 +21,15 @@ module _ {ws : List ℕ} (c : Counted ws) (k : ℕ) (h : k < length (places (fla
 
 pub select-spec : {M : Type 1} → statement M
 select-spec = tie.close (tie.spec
-    (λ c κs.
+    (λ c κs.  -- first-requires
     let s = c .before in
     (s .pre .0 .summed, omega (arith, among (s .pre .0) (s .args .k) (s .pre .1))))
-    (λ c κs.
+    (λ c κs.  -- select-group-requires
     let s = c .before in
     (s .pre .0, among (s .pre .0) (s .args .k) (s .pre .1)))
-    (λ c.
+    (λ c.  -- returns
     let s = c .before .before in
     selected (s .pre .0) (s .args .k) (s .pre .1) (c .first .result) (c .first .ensures ∙ ap (λ (m : ℕ). place m (flagsOf (s .args .flags .now))) (sym (c .before .if1 .taken))))
-    (λ c.
+    (λ c.  -- returns-2
     let s = c .before .before in
     selected (s .pre .0) (s .args .k) (s .pre .1) (c .select-group .result) (c .select-group .ensures)))

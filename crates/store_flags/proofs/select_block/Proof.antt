@@ -31,33 +31,33 @@ pub select-block-spec : {M : Type 1} → statement M
 select-block-spec = tie.close (tie.spec
     Inv-loop
     μ-loop
-    (λ c. (c .pre .1, refl))
-    (λ c. search needs)
-    (λ c. search needs)
-    (λ c. search needs)
-    (λ c. search needs)
-    (λ c. search needs)
-    (λ c. search needs)
-    (λ c κs. let s = c .before .before .before .before .before in (word-count (s .pre .0) (c .before .before .before .before .loop .b) (omega arith), c .before .if1 .taken))
-    (λ c.
+    (λ c. (c .pre .1, refl))  -- loop-holds
+    (λ c. search needs)  -- add-n
+    (λ c. search needs)  -- mul-n
+    (λ c. search needs)  -- element-copy-out-n
+    (λ c. search needs)  -- mul-result
+    (λ c. search needs)  -- mul-select-in
+    (λ c. search needs)  -- element-copy-out-select-in
+    (λ c κs. let s = c .before .before .before .before .before in (word-count (s .pre .0) (c .before .before .before .before .loop .b) (omega arith), c .before .if1 .taken))  -- select-in-requires
+    (λ c.  -- add-result
     let s = c .before .before .before .before .before .before in
     let l = c .before .before .before .before .before .loop in
     let w = getD (s .args .flags .now) (l .b) 0 in
     record { fits = omega (arith, c .select-in .ensures, word-size w, place-lt (l .left) (inWord w) (on c)) })
-    (λ c.
+    (λ c.  -- returns
     let s = c .before .before .before .before .before .before in
     let l = c .before .before .before .before .before .loop in
     ap (λ (x : ℕ). l .b * 64 + x) (c .select-in .ensures ∙ sym (words-place (s .pre .0 .summed) (l .b) (l .left) (omega arith) (on c))) ∙ sym (l .inv .1))
-    (λ c. search needs)
-    (λ c. search needs)
-    (λ c.
+    (λ c. search needs)  -- add-b
+    (λ c. search needs)  -- loop-less
+    (λ c.  -- loop-again
     let s = c .before .before .before .before in
     let l = c .before .before .before .loop in
     let f = flagsOf (s .args .flags .now) in
     let n = block-count (s .pre .0) (l .b) (omega arith) in
     let p = block-passed 64 f (l .b) (l .left) (getD (s .args .flags .now) (33 + l .b) 0) (omega (arith, words-size (s .pre .0 .summed))) n (c .if1 .left) (l .inv .0) in
     (p .0, l .inv .1 ∙ p .1))
-    (λ c.
+    (λ c.  -- returns-2
     let s = c .before .before in
     let l = c .before .loop in
     absurd (none-left (flagsOf (s .args .flags .now)) (l .b * 64) (l .left) (omega (arith, words-size (s .pre .0 .summed))) (l .inv .0))))

@@ -28,30 +28,30 @@ pub select-block-but-spec : {M : Type 1} → statement M
 select-block-but-spec = tie.close (tie.spec
     Inv-loop
     μ-loop
-    (λ c. (c .pre .3, refl))
-    (λ c κs. let s = c .before .before in (s .pre .0, s .pre .1, s .pre .2, c .loop-test .taken))
-    (λ c. search needs)
-    (λ c κs. let s = c .before .before .before .before in (s .pre .0, s .pre .1, s .pre .2, c .before .before .loop-test .taken))
-    (λ c κs. (c .before .before .in-word-but .ensures ∙ ap ones (sym (c .word-but .ensures)), c .before .if1 .taken))
-    (λ c.
+    (λ c. (c .pre .3, refl))  -- loop-holds
+    (λ c κs. let s = c .before .before in (s .pre .0, s .pre .1, s .pre .2, c .loop-test .taken))  -- in-word-but-requires
+    (λ c. search needs)  -- mul-result
+    (λ c κs. let s = c .before .before .before .before in (s .pre .0, s .pre .1, s .pre .2, c .before .before .loop-test .taken))  -- word-but-requires
+    (λ c κs. (c .before .before .in-word-but .ensures ∙ ap ones (sym (c .word-but .ensures)), c .before .if1 .taken))  -- select-in-requires
+    (λ c.  -- add-result
     let l = c .before .before .before .before .before .loop in
     let w = c .before .word-but .result in
     record { fits = omega (arith, c .select-in .ensures, word-size w, c .before .before .before .in-word-but .ensures, ap ones (c .before .word-but .ensures), place-lt (l .left) (inWord w) (omega (arith, c .before .before .before .in-word-but .ensures, ap ones (c .before .word-but .ensures), c .before .before .if1 .taken))) })
-    (λ c.
+    (λ c.  -- returns
     let s = c .before .before .before .before .before .before in
     let l = c .before .before .before .before .before .loop in
     let f = minus (flagsOf (s .args .flags .now)) (flagsOf (s .args .held .now)) in
     let among : l .left < ones (take 64 (drop (l .b * 64) f)) = omega (arith, c .before .before .before .in-word-but .ensures, c .before .before .if1 .taken) in
     ap (λ (x : ℕ). l .b * 64 + x) (c .select-in .ensures ∙ sym (in-part (l .left) (drop (l .b * 64) f) (c .before .word-but .result) (c .before .word-but .ensures) among)) ∙ sym (l .inv .1))
-    (λ c. search needs)
-    (λ c. search needs)
-    (λ c.
+    (λ c. search needs)  -- add-b
+    (λ c. search needs)  -- loop-less
+    (λ c.  -- loop-again
     let s = c .before .before .before .before in
     let l = c .before .before .before .loop in
     let f = minus (flagsOf (s .args .flags .now)) (flagsOf (s .args .held .now)) in
     let p = block-passed 64 f (l .b) (l .left) (c .before .in-word-but .result) (omega (arith, rest-size (s .pre .0) (s .pre .1) (s .pre .2))) (c .before .in-word-but .ensures) (c .if1 .left) (l .inv .0) in
     (p .0, l .inv .1 ∙ p .1))
-    (λ c.
+    (λ c.  -- returns-2
     let s = c .before .before in
     let l = c .before .loop in
     absurd (none-left (minus (flagsOf (s .args .flags .now)) (flagsOf (s .args .held .now))) (l .b * 64) (l .left) (omega (arith, rest-size (s .pre .0) (s .pre .1) (s .pre .2))) (l .inv .0))))

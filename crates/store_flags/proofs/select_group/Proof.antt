@@ -22,32 +22,32 @@ pub select-group-spec : {M : Type 1} → statement M
 select-group-spec = tie.close (tie.spec
     Inv-loop
     μ-loop
-    (λ c. (c .pre .1, omega arith))
-    (λ c. search needs)
-    (λ c. search needs)
-    (λ c. search needs)
-    (λ c. search needs)
-    (λ c κs.
+    (λ c. (c .pre .1, omega arith))  -- loop-holds
+    (λ c. search needs)  -- add-n
+    (λ c. search needs)  -- mul-n
+    (λ c. search needs)  -- element-copy-out-n
+    (λ c. search needs)  -- mul-select-block
+    (λ c κs.  -- select-block-requires
     let s = c .before .before .before .before in
     let l = c .before .before .before .loop in
     let e : l .g * 8 * 64 ≡ l .g * 512 = omega arith in
     (s .pre .0, rw e (l .inv .0)))
-    (λ c.
+    (λ c.  -- returns
     let s = c .before .before .before .before .before in
     let l = c .before .before .before .before .loop in
     let f = flagsOf (s .args .flags .now) in
     let m : l .g * 8 * 64 ≡ l .g * 512 = omega arith in
     c .select-block .ensures ∙ ap (λ (q : ℕ). q + place (l .left) (drop q f)) m ∙ sym (l .inv .1))
-    (λ c. search needs)
-    (λ c. search needs)
-    (λ c.
+    (λ c. search needs)  -- add-g
+    (λ c. search needs)  -- loop-less
+    (λ c.  -- loop-again
     let s = c .before .before .before .before in
     let l = c .before .before .before .loop in
     let f = flagsOf (s .args .flags .now) in
     let n = group-count (s .pre .0) (l .g) (omega arith) in
     let p = block-passed 512 f (l .g) (l .left) (getD (s .args .flags .now) (65 + l .g) 0) (omega (arith, words-size (s .pre .0 .summed))) n (c .if1 .left) (l .inv .0) in
     (p .0, l .inv .1 ∙ p .1))
-    (λ c.
+    (λ c.  -- returns-2
     let s = c .before .before in
     let l = c .before .loop in
     absurd (none-left (flagsOf (s .args .flags .now)) (l .g * 512) (l .left) (omega (arith, words-size (s .pre .0 .summed))) (l .inv .0))))

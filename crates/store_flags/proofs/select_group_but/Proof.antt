@@ -22,29 +22,29 @@ pub select-group-but-spec : {M : Type 1} → statement M
 select-group-but-spec = tie.close (tie.spec
     Inv-loop
     μ-loop
-    (λ c. (c .pre .3, omega arith))
-    (λ c κs. let s = c .before .before in (s .pre .0, s .pre .1, s .pre .2, c .loop-test .taken))
-    (λ c. search needs)
-    (λ c κs.
+    (λ c. (c .pre .3, omega arith))  -- loop-holds
+    (λ c κs. let s = c .before .before in (s .pre .0, s .pre .1, s .pre .2, c .loop-test .taken))  -- in-group-but-requires
+    (λ c. search needs)  -- mul-select-block-but
+    (λ c κs.  -- select-block-but-requires
     let s = c .before .before .before .before in
     let l = c .before .before .before .loop in
     let e : l .g * 8 * 64 ≡ l .g * 512 = omega arith in
     (s .pre .0, s .pre .1, s .pre .2, rw e (l .inv .0)))
-    (λ c.
+    (λ c.  -- returns
     let s = c .before .before .before .before .before in
     let l = c .before .before .before .before .loop in
     let f = minus (flagsOf (s .args .flags .now)) (flagsOf (s .args .held .now)) in
     let m : l .g * 8 * 64 ≡ l .g * 512 = omega arith in
     c .select-block-but .ensures ∙ ap (λ (q : ℕ). q + place (l .left) (drop q f)) m ∙ sym (l .inv .1))
-    (λ c. search needs)
-    (λ c. search needs)
-    (λ c.
+    (λ c. search needs)  -- add-g
+    (λ c. search needs)  -- loop-less
+    (λ c.  -- loop-again
     let s = c .before .before .before .before in
     let l = c .before .before .before .loop in
     let f = minus (flagsOf (s .args .flags .now)) (flagsOf (s .args .held .now)) in
     let p = block-passed 512 f (l .g) (l .left) (c .before .in-group-but .result) (omega (arith, rest-size (s .pre .0) (s .pre .1) (s .pre .2))) (c .before .in-group-but .ensures) (c .if1 .left) (l .inv .0) in
     (p .0, l .inv .1 ∙ p .1))
-    (λ c.
+    (λ c.  -- returns-2
     let s = c .before .before in
     let l = c .before .loop in
     absurd (none-left (minus (flagsOf (s .args .flags .now)) (flagsOf (s .args .held .now))) (l .g * 512) (l .left) (omega (arith, rest-size (s .pre .0) (s .pre .1) (s .pre .2))) (l .inv .0))))

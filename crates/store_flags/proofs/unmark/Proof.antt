@@ -11,11 +11,11 @@ use Rattle.store_flags.proofs.unmark.Tie as tie
 
 pub unmark-spec : {M : Type 1} → statement M
 unmark-spec = tie.close (tie.spec
-    (λ c κs. search needs)
-    (λ c.
+    (λ c κs. search needs)  -- lowered-requires
+    (λ c.  -- returns
     let a = c .before .before .args in
     c .lowered .ensures ∙ ap (λ (x : ℕ). set (inWord (a .marks)) (a .b) x) (sym (ap any (c .before .if1 .taken) ∙ any-none)))
-    (λ c.
+    (λ c.  -- returns-2
     let s = c .before in
     let a = s .args in
     let one = s .pre .1 ∙ sym (any-positive (a .after) (c .if1 .left) (s .fits .after .fits)) in

@@ -7,9 +7,9 @@ use Rattle.store_flags.proofs.word_but.Tie as tie
 
 pub word-but-spec : {M : Type 1} → statement M
 word-but-spec = tie.close (tie.spec
-    (λ c. search needs)
-    (λ c. search needs)
-    (λ c. search needs)
-    (λ c. search needs)
-    (λ c κs. let s = c .before .before in rest-under (s .pre .0) (s .pre .1) (s .pre .2) (s .args .b) (s .pre .3))
-    (λ c. let s = c .before .before .before in c .without .ensures ∙ sym (rest-word (s .pre .0) (s .pre .1) (s .pre .2) (s .args .b) (s .pre .3))))
+    (λ c. search needs)  -- mul-without
+    (λ c. search needs)  -- element-copy-out-without
+    (λ c. search needs)  -- mul-without-2
+    (λ c. search needs)  -- element-copy-out-without-2
+    (λ c κs. let s = c .before .before in rest-under (s .pre .0) (s .pre .1) (s .pre .2) (s .args .b) (s .pre .3))  -- without-requires
+    (λ c. let s = c .before .before .before in c .without .ensures ∙ sym (rest-word (s .pre .0) (s .pre .1) (s .pre .2) (s .args .b) (s .pre .3))))  -- returns

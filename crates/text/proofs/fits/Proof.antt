@@ -39,9 +39,9 @@ fits-spec =
     (tie.spec
     Inv-loop
     μ-loop
-    (λ c κs. search needs)
-    (λ c κs. search needs)
-    (λ c.
+    (λ c κs. search needs)  -- most-first-requires
+    (λ c κs. search needs)  -- longest-fits-requires
+    (λ c.  -- returns
     let s = c .before .before .before .before .before in
     let a = s .args in
     let bl : Bytes (a .listing .now) = λ i. (c .before .before .before .before .shared-slice-known .given i) .fits in
@@ -49,10 +49,10 @@ fits-spec =
     let m = c .before .before .most-first in
     let t = leb-true (m .result + mostBytes (a .listing .now) (a .cells .now)) (a .room) (sym (c .before .longest-fits .ensures) ∙ c .if1 .taken) in
     sym (le-leb (whole s) (a .room) (omega (arith, t, m .ensures .0, bytes-within (a .answer) (a .listing .now) (a .cells .now) bl bc (s .good .1 .1 .0 .0)))))
-    (λ c κs. search needs)
-    (λ c. (omega arith, refl, omega arith))
-    (λ c. sym (c .before .before .loop .inv .1))
-    (λ c κs.
+    (λ c κs. search needs)  -- count-requires
+    (λ c. (omega arith, refl, omega arith))  -- loop-holds
+    (λ c. sym (c .before .before .loop .inv .1))  -- slice-aggregate-put-line
+    (λ c κs.  -- put-line-requires
     let s = c .before .before .before .before .before .before .before .before .before in
     let a = s .args in
     let l = c .before .before .loop in
@@ -62,21 +62,21 @@ fits-spec =
     let lt : l .j < 1 + (length (a .listing .now) / tokenWidth + length (a .cells .now) / cellWidth) = omega (arith, c .before .before .before .count .ensures) in
     let f = line-short (a .answer) (a .listing .now) (a .cells .now) (omega (arith, m .0, m .1)) bl bc (s .good .1 .1 .0 .0) (l .j) lt in
     (lt, record { room = omega (arith, f, l .inv .1) }))
-    (λ c.
+    (λ c.  -- returns-2
     let s = c .before .before .before .before .before .before .before .before .before .before .before .before in
     let l = c .before .before .before .before .before .loop in
     let k = c .before .before .put-line .ensures in
     let lt : l .j < length (text s) = omega (arith, text-lines s, c .before .before .before .before .before .before .count .ensures) in
     sym (lt-leb (whole s) (s .args .room) (omega (arith, made-within (text s) (l .j + 1), made-longer (text s) (l .j) lt, k .place, l .inv .2))))
-    (λ c. search needs)
-    (λ c. search needs)
-    (λ c.
+    (λ c. search needs)  -- add-j
+    (λ c. search needs)  -- loop-less
+    (λ c.  -- loop-again
     let s = c .before .before .before .before .before .before .before .before .before .before .before .before in
     let l = c .before .before .before .before .before .loop in
     let k = c .before .before .put-line .ensures in
     let lt : l .j < length (text s) = omega (arith, text-lines s, c .before .before .before .before .before .before .count .ensures) in
     (omega arith, k .kept ∙ l .inv .1, omega (arith, made-longer (text s) (l .j) lt, k .place, l .inv .2)))
-    (λ c.
+    (λ c.  -- returns-3
     let s = c .before .before .before .before .before .before .before .before in
     let l = c .before .loop in
     let all = made-all (text s) (l .j) (omega (arith, text-lines s, c .before .before .count .ensures)) in

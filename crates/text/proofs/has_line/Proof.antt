@@ -14,10 +14,10 @@ pub has-line-spec : {M : Type 1} → statement M
 has-line-spec =
     tie.close
     (tie.spec
-    (λ c κs. search needs)
-    (λ c. search needs)
-    (λ c. search needs)
-    (λ c. search needs)
-    (λ c. λ e. sym (c .before .before .cell-at .ensures) ∙ c .enum-told .given .1)
-    (λ c. λ e. never e)
-    (λ c. λ e. never e))
+    (λ c κs. search needs)  -- cell-at-requires
+    (λ c. search needs)  -- enum-told
+    (λ c. search needs)  -- enum-told-2
+    (λ c. search needs)  -- enum-told-3
+    (λ c. λ e. sym (c .before .before .cell-at .ensures) ∙ c .enum-told .given .1)  -- returns
+    (λ c. λ e. never e)  -- returns-2
+    (λ c. λ e. never e))  -- returns-3

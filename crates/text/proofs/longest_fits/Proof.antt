@@ -26,11 +26,11 @@ pub longest-fits-spec : {M : Type 1} → statement M
 longest-fits-spec =
     tie.close
     (tie.spec
-    (λ c. let a = c .before .args in sym (lt-leb (a .first + mostBytes (a .listing .now) (a .cells .now)) (a .room) (omega arith)))
-    (λ c. let a = c .before .before .args in sym (lt-leb (a .first + mostBytes (a .listing .now) (a .cells .now)) (a .room) (omega arith)))
-    (λ c. search needs)
-    (λ c. search needs)
-    (λ c.
+    (λ c. let a = c .before .args in sym (lt-leb (a .first + mostBytes (a .listing .now) (a .cells .now)) (a .room) (omega arith)))  -- returns
+    (λ c. let a = c .before .before .args in sym (lt-leb (a .first + mostBytes (a .listing .now) (a .cells .now)) (a .room) (omega arith)))  -- returns-2
+    (λ c. search needs)  -- mul-result
+    (λ c. search needs)  -- sub-result
+    (λ c.  -- returns-3
     let a = c .before .before .args in
     let m = length (a .cells .now) / cellWidth in
     let left = (a .room - a .first - length (a .listing .now) / tokenWidth * 75) / 46 in

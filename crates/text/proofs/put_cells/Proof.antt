@@ -24,30 +24,30 @@ put-cells-spec =
     (tie.spec
     Inv-loop
     μ-loop
-    (λ c. (omega arith, added-none (c .before .before .args .out .now) (c .before .before .args .from)))
-    (λ c κs. omega arith)
-    (λ c κs. omega arith)
-    (λ c κs.
+    (λ c. (omega arith, added-none (c .before .before .args .out .now) (c .before .before .args .from)))  -- loop-holds
+    (λ c κs. omega arith)  -- passed-over-requires
+    (λ c κs. omega arith)  -- cell-at-requires
+    (λ c κs.  -- put-cell-requires
     let s = c .before .before .before .before .before .before .before .before in
     let l = c .before .before .before .before .before .loop in
     let g = s .args .cells .now in
     let h : l .k < length g / cellWidth = omega arith in
     let lt : l .k < length (linesOfCells g) = omega (arith, count-cells g) in
     rw (c .cell-at .ensures, ← cell-at g (l .k) h) (line-room (linesOfCells g) (l .k) lt (l .inv .1) (s .pre)))
-    (λ c. omega arith)
-    (λ c. omega arith)
-    (λ c.
+    (λ c. omega arith)  -- add-k
+    (λ c. omega arith)  -- loop-less
+    (λ c.  -- loop-again
     let s = c .before .before .before .before .before .before .before .before .before .before .before in
     let l = c .before .before .before .before .before .before .before .before .loop in
     let g = s .args .cells .now in
     let h : l .k < length g / cellWidth = omega arith in
     let lt : l .k < length (linesOfCells g) = omega (arith, count-cells g) in
     (omega arith, line-made (linesOfCells g) (l .k) lt (l .inv .1) (rw (cell-at g (l .k) h, ← c .before .before .before .cell-at .ensures) (c .before .before .put-cell .ensures))))
-    (λ c. omega (arith, c .before .passed-over .ensures .0))
-    (λ c. omega (arith, c .before .passed-over .ensures .0, c .if1 .left))
-    (λ c.
+    (λ c. omega (arith, c .before .passed-over .ensures .0))  -- add-k-2
+    (λ c. omega (arith, c .before .passed-over .ensures .0, c .if1 .left))  -- loop-less-2
+    (λ c.  -- loop-again-2
     let l = c .before .before .before .loop in
     let p = c .before .passed-over in
     (p .ensures .0, rw (made-passed (c .before .before .before .before .before .before .args .cells .now) (l .k) (p .result) (p .ensures .0) (p .ensures .1)) (l .inv .1)))
-    (λ c. c .before .loop .inv .1 .kept)
-    (λ c. let l = c .before .loop in let g = c .before .before .before .before .args .cells .now in rw (made-all (linesOfCells g) (l .k) (omega (arith, count-cells g))) at (l .inv .1)))
+    (λ c. c .before .loop .inv .1 .kept)  -- same-length
+    (λ c. let l = c .before .loop in let g = c .before .before .before .before .args .cells .now in rw (made-all (linesOfCells g) (l .k) (omega (arith, count-cells g))) at (l .inv .1)))  -- returns

@@ -25,16 +25,16 @@ put-tokens-spec =
     (tie.spec
     Inv-loop
     μ-loop
-    (λ c κs. search needs)
-    (λ c. search needs)
-    (λ c κs. refl)
-    (λ c. let s = c .before .before .before .before .before .before in (omega arith, added-none (s .args .out .now) (s .args .from), c .before .make-path .ensures))
-    (λ c κs. omega arith)
-    (λ c κs. rw (c .row-at .ensures, length-drop) (omega arith))
-    (λ c. search needs)
-    (λ c κs. c .before .before .before .before .loop .inv .2)
-    (λ c. search needs)
-    (λ c κs.
+    (λ c κs. search needs)  -- small-requires
+    (λ c. search needs)  -- slice-aggregate-make-path
+    (λ c κs. refl)  -- make-path-requires
+    (λ c. let s = c .before .before .before .before .before .before in (omega arith, added-none (s .args .out .now) (s .args .from), c .before .make-path .ensures))  -- loop-holds
+    (λ c κs. omega arith)  -- row-at-requires
+    (λ c κs. rw (c .row-at .ensures, length-drop) (omega arith))  -- path-of-requires
+    (λ c. search needs)  -- slice-aggregate-keep-path
+    (λ c κs. c .before .before .before .before .loop .inv .2)  -- keep-path-requires
+    (λ c. search needs)  -- slice-aggregate-put-record
+    (λ c κs.  -- put-record-requires
     let s = c .before .before .before .before .before .before .before .before .before .before .before .before .before .before .before .before in
     let k = c .before .before .before .before .before .before .before .before .before .loop in
     let g = s .args .listing .now in
@@ -44,9 +44,9 @@ put-tokens-spec =
       (rw (r, length-drop) (omega arith), c .before .before .before .before .before .before .before .before .before .before .before .before .before .small .ensures, rw (c .before .before .before .before .before .before .path-of .ensures) at (c .before .before .before .before .keep-path .ensures)),
       rw r (rw (token-at g (k .i) h) at (line-room (tokenLines g) (k .i) lt (k .inv .1) (s .pre))),
     ))
-    (λ c. omega arith)
-    (λ c. omega arith)
-    (λ c.
+    (λ c. omega arith)  -- add-i
+    (λ c. omega arith)  -- loop-less
+    (λ c.  -- loop-again
     let s = c .before .before .before .before .before .before .before .before .before .before .before .before .before .before .before .before .before .before .before in
     let k = c .before .before .before .before .before .before .before .before .before .before .before .before .loop in
     let g = s .args .listing .now in
@@ -56,5 +56,5 @@ put-tokens-spec =
       line-made (tokenLines g) (k .i) lt (k .inv .1) (rw (token-at g (k .i) h) (rw (c .before .before .before .before .before .before .before .before .before .before .row-at .ensures) at (c .before .before .put-record .ensures))),
       c .before .before .before .before .before .before .before .keep-path .ensures,
     ))
-    (λ c. c .before .loop .inv .1 .kept)
-    (λ c. let k = c .before .loop in let g = c .before .before .before .before .before .before .before .before .args .listing .now in rw (made-all (tokenLines g) (k .i) (omega (arith, count-tokens g))) at (k .inv .1)))
+    (λ c. c .before .loop .inv .1 .kept)  -- same-length
+    (λ c. let k = c .before .loop in let g = c .before .before .before .before .before .before .before .before .args .listing .now in rw (made-all (tokenLines g) (k .i) (omega (arith, count-tokens g))) at (k .inv .1)))  -- returns

@@ -13,28 +13,28 @@ unfolding printed
 write-spec =
     tie.close
     (tie.spec
-    (λ c κs.
+    (λ c κs.  -- put-answer-requires
     let s = c .before .before .before .before in
     let a = answerLine (s .args .answer) in
     let ts = tokenLines (s .args .listing .now) in
     let cs = linesOfCells (s .args .cells .now) in
     room-first a (textOf (ts ++ cs)) (s .pre))
-    (λ c κs.
+    (λ c κs.  -- put-tokens-requires
     let s = c .before .before .before .before .before .before .before .before in
     let a = answerLine (s .args .answer) in
     let ts = tokenLines (s .args .listing .now) in
     let cs = linesOfCells (s .args .cells .now) in
     let r = rw (joined-append ts cs) at (room-rest (textOf (ts ++ cs)) (c .before .before .before .put-answer .ensures) (s .pre)) in
     room-first (textOf ts) (textOf cs) r)
-    (λ c κs.
+    (λ c κs.  -- put-cells-requires
     let s = c .before .before .before .before .before .before .before .before .before .before .before .before in
     let a = answerLine (s .args .answer) in
     let ts = tokenLines (s .args .listing .now) in
     let cs = linesOfCells (s .args .cells .now) in
     let r = rw (joined-append ts cs) at (room-rest (textOf (ts ++ cs)) (c .before .before .before .before .before .before .before .put-answer .ensures) (s .pre)) in
     room-rest (textOf cs) (c .before .before .before .put-tokens .ensures) r)
-    (λ c. search needs)
-    (λ c.
+    (λ c. search needs)  -- same-length
+    (λ c.  -- returns
     let s = c .before .before .before .before .before .before .before .before .before .before .before .before .before .before .before in
     let a = answerLine (s .args .answer) in
     let ts = tokenLines (s .args .listing .now) in

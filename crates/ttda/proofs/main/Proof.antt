@@ -21,14 +21,14 @@ named c = length-take-le 4000 (c .folder-in .last .0 ++ drop 4000 (c .before .be
 
 pub main-spec : {M : Type 1} → statement M
 main-spec = tie.close (tie.spec
-    (λ c κs. search needs)
-    (λ c. search needs)
-    (λ c. sym (length-take-le 4000 (c .before .buffer .result) (omega (arith, c .before .buffer .ensures))))
-    (λ c κs. search needs)
-    (λ c. search needs)
-    (λ c. omega (arith, whole (c .before .before)))
-    (λ c. sym (named (c .before .before .before)))
-    (λ c κs. search needs)
-    (λ c. sym (whole (c .before .before .before .before .before)))
-    (λ c κs. (whole (c .before .before .before .before .before), omega (arith, c .before .count .ensures .0, named (c .before .before .before .before .before))))
-    (λ c. search needs))
+    (λ c κs. search needs)  -- buffer-requires
+    (λ c. search needs)  -- array-borrow-prefix-path
+    (λ c. sym (length-take-le 4000 (c .before .buffer .result) (omega (arith, c .before .buffer .ensures))))  -- slice-aggregate-folder-in
+    (λ c κs. search needs)  -- folder-in-requires
+    (λ c. search needs)  -- returns
+    (λ c. omega (arith, whole (c .before .before)))  -- array-share-prefix-path
+    (λ c. sym (named (c .before .before .before)))  -- slice-aggregate-count
+    (λ c κs. search needs)  -- count-requires
+    (λ c. sym (whole (c .before .before .before .before .before)))  -- slice-aggregate-show-folder
+    (λ c κs. (whole (c .before .before .before .before .before), omega (arith, c .before .count .ensures .0, named (c .before .before .before .before .before))))  -- show-folder-requires
+    (λ c. search needs))  -- returns-2

@@ -14,19 +14,19 @@ slice-reshare-prefix-write-all c =
 
 pub show-spec : {M : Type 1} → statement M
 show-spec = tie.close (tie.spec
-    (λ c κs. search needs)
-    (λ c. search needs)
+    (λ c κs. search needs)  -- print-run-requires
+    (λ c. search needs)  -- enum-known-n
     slice-reshare-prefix-write-all
-    (λ c. sym (length-take-le _ _ (slice-reshare-prefix-write-all (c .before))))
-    (λ c κs. search needs)
-    (λ c. search needs)
-    (λ c κs. search needs)
-    (λ c. search needs)
-    (λ c. search needs)
-    (λ c κs. search needs)
-    (λ c. search needs)
-    (λ c. search needs)
-    (λ c. search needs)
-    (λ c. search needs)
-    (λ c. search needs)
-    (λ c. search needs))
+    (λ c. sym (length-take-le _ _ (slice-reshare-prefix-write-all (c .before))))  -- slice-aggregate-write-all
+    (λ c κs. search needs)  -- write-all-requires
+    (λ c. search needs)  -- slice-aggregate-fail
+    (λ c κs. search needs)  -- fail-requires
+    (λ c. search needs)  -- enum-told
+    (λ c. search needs)  -- slice-aggregate-fail-2
+    (λ c κs. search needs)  -- fail-requires-2
+    (λ c. search needs)  -- same-length
+    (λ c. search needs)  -- returns
+    (λ c. search needs)  -- same-length-2
+    (λ c. search needs)  -- returns-2
+    (λ c. search needs)  -- same-length-3
+    (λ c. search needs))  -- returns-3

@@ -18,5 +18,5 @@ past n = go (leb n 9) refl
 pub is-loop-free-spec : {M : Type 1} → statement M
 unfolding loopFree
 is-loop-free-spec = tie.close (tie.spec
-    (λ c. rw (lt-ltb _ _ (c .if1 .taken), lt-leb _ _ (c .if1 .taken)))
-    (λ c. rw (le-leb _ _ (c .before .if1 .left)) (past (c .before .before .before .args .r .code))))
+    (λ c. rw (lt-ltb _ _ (c .if1 .taken), lt-leb _ _ (c .if1 .taken)))  -- returns
+    (λ c. rw (le-leb _ _ (c .before .if1 .left)) (past (c .before .before .before .args .r .code))))  -- returns-2

@@ -30,23 +30,23 @@ pub loop-free-spec : {M : Type 1} → statement M
 loop-free-spec = tie.close (tie.spec
     Inv-loop
     μ-loop
-    (λ c. (omega arith, refl))
-    (λ c κs. omega arith)
-    (λ c κs. tt)
-    (λ c.
+    (λ c. (omega arith, refl))  -- loop-holds
+    (λ c κs. omega arith)  -- instruction-at-requires
+    (λ c κs. tt)  -- is-loop-free-requires
+    (λ c.  -- returns
     let l = c .before .before .before .before .loop in
     let s = c .before .before .before .before .before .before .args .graph .now in
     let x = c .before .before .instruction-at .result in
     let e = in-graph s (l .i) (omega arith) x ∙ sym (c .before .before .instruction-at .ensures) in
     sym (l .inv .1 ∙ turn free (graphOf s) (l .i) x (omega (arith, length-graph s)) e (ap (λ (b : Bool). demand b NotLoopFree (l .i)) (sym (c .before .is-loop-free .ensures) ∙ not-true _ (c .if1 .taken)))))
-    (λ c. omega arith)
-    (λ c. omega arith)
-    (λ c.
+    (λ c. omega arith)  -- add-i
+    (λ c. omega arith)  -- loop-less
+    (λ c.  -- loop-again
     let l = c .before .before .before .before .loop in
     let s = c .before .before .before .before .before .before .args .graph .now in
     let x = c .before .before .instruction-at .result in
     let e = in-graph s (l .i) (omega arith) x ∙ sym (c .before .before .instruction-at .ensures) in
     (omega arith, l .inv .1 ∙ turn free (graphOf s) (l .i) x (omega (arith, length-graph s)) e (ap (λ (b : Bool). demand b NotLoopFree (l .i)) (sym (c .before .is-loop-free .ensures) ∙ not-false _ (c .if1 .left)))))
-    (λ c.
+    (λ c.  -- returns-2
     let s = c .before .before .before .args .graph .now in
     sym (c .before .loop .inv .1 ∙ turn-end free (graphOf s) (c .before .loop .i) (omega (arith, length-graph s)))))

@@ -8,5 +8,5 @@ use Rattle.bounds.proofs.count.firings_of.Tie as tie
 pub firings-of-spec : {M : Type 1} → statement M
 unfolding firingsOf
 firings-of-spec = tie.close (tie.spec
-    (λ c. (rw (eq-eqb _ _ (c .if1 .taken)), omega arith))
-    (λ c. (rw (ne-eqb _ _ (c .if1 .left)), omega arith)))
+    (λ c. (rw (eq-eqb _ _ (c .if1 .taken)), omega arith))  -- returns
+    (λ c. (rw (ne-eqb _ _ (c .if1 .left)), omega arith)))  -- returns-2

@@ -24,7 +24,7 @@ fewer (suc (suc n)) d e h = absurd (omega arith)
 pub outputs-of-spec : {M : Type 1} → statement M
 unfolding outputsOf
 outputs-of-spec = tie.close (tie.spec
-    (λ c. (rw (eq-eqb _ _ (c .if1 .taken)), omega arith))
-    (λ c. (rw (ne-eqb _ _ (c .before .before .if1 .left)) (two _ _ _ (c .if2 .taken)), omega arith))
-    (λ c. search needs)
-    (λ c. (rw (ne-eqb _ _ (c .before .before .before .if1 .left)) (fewer _ _ _ (c .before .if2 .left)), omega arith)))
+    (λ c. (rw (eq-eqb _ _ (c .if1 .taken)), omega arith))  -- returns
+    (λ c. (rw (ne-eqb _ _ (c .before .before .if1 .left)) (two _ _ _ (c .if2 .taken)), omega arith))  -- returns-2
+    (λ c. search needs)  -- cast-result
+    (λ c. (rw (ne-eqb _ _ (c .before .before .before .if1 .left)) (fewer _ _ _ (c .before .if2 .left)), omega arith)))  -- returns-3

@@ -32,16 +32,16 @@ pub total-spec : {M : Type 1} → statement M
 total-spec = tie.close (tie.spec
     Inv-loop
     μ-loop
-    (λ c. (omega arith, refl, refl, omega arith, omega arith))
-    (λ c. omega arith)
-    (λ c κs. omega arith)
-    (λ c κs. tt)
-    (λ c. omega arith)
-    (λ c κs. tt)
-    (λ c. omega arith)
-    (λ c. omega arith)
-    (λ c. omega arith)
-    (λ c.
+    (λ c. (omega arith, refl, refl, omega arith, omega arith))  -- loop-holds
+    (λ c. omega arith)  -- element-copy-out-if1
+    (λ c κs. omega arith)  -- instruction-at-requires
+    (λ c κs. tt)  -- firings-of-requires
+    (λ c. omega arith)  -- add-firings
+    (λ c κs. tt)  -- outputs-of-requires
+    (λ c. omega arith)  -- add-outputs
+    (λ c. omega arith)  -- add-i
+    (λ c. omega arith)  -- loop-less
+    (λ c.  -- loop-again
     let l = c .before .before .before .loop in
     let a = c .before .before .before .before .before .args in
     let s = a .graph .now in
@@ -58,7 +58,7 @@ total-spec = tie.close (tie.spec
     let o = one-more (graphOf s) t outputsOf (l .i) 0 (rw (w .0 .left)) in
     (omega arith, omega (arith, f), omega (arith, o), omega arith, omega arith))
     (c .if1 .came))
-    (λ c.
+    (λ c.  -- returns
     let l = c .before .loop in
     let s = c .before .before .before .args .graph .now in
     let n : l .i ≡ length (graphOf s) = omega (arith, length-graph s) in

@@ -24,13 +24,13 @@ pub given-spec : {M : Type 1} → statement M
 given-spec = tie.close (tie.spec
     Inv-loop
     μ-loop
-    (λ c. (omega arith, no-ports))
-    (λ c κs. omega arith)
-    (λ c κs. rw (c .before .token-at .ensures) (c .before .before .before .before .before .pre (c .before .before .before .loop .i) (omega arith) .inside))
-    (λ c. omega arith)
-    (λ c. omega arith)
-    (λ c. omega arith)
-    (λ c.
+    (λ c. (omega arith, no-ports))  -- loop-holds
+    (λ c κs. omega arith)  -- token-at-requires
+    (λ c κs. rw (c .before .token-at .ensures) (c .before .before .before .before .before .pre (c .before .before .before .loop .i) (omega arith) .inside))  -- entry-requires
+    (λ c. omega arith)  -- array-write-sent
+    (λ c. omega arith)  -- add-i
+    (λ c. omega arith)  -- loop-less
+    (λ c.  -- loop-again
     let l = c .before .before .before .before .loop in
     let s = c .before .before .before .before .before .before .args .inputs .now in
     let t = c .before .before .token-at .result in
@@ -38,7 +38,7 @@ given-spec = tie.close (tie.spec
     let h : l .i < length s / tokenWidth = omega arith in
     let good : GoodToken t = rw told (c .before .before .before .before .before .before .pre (l .i) h) in
     (omega arith, rw (c .entry .ensures .0) (alike (mark (l .inv .1) (t .tag .instruction) (t .port) (good .inside)) (λ i p. rw (any-next (standsAt (rootOf i) p) (inputsOf s) (l .i) t (omega (arith, length-tokens s)) (in-tokens s (l .i) h t ∙ sym told), stands t good i p)))))
-    (λ c.
+    (λ c.  -- returns
     let l = c .before .loop in
     let s = c .before .before .before .args .inputs .now in
     rw (take-all (l .i) (inputsOf s) (omega (arith, length-tokens s))) at (l .inv .1)))

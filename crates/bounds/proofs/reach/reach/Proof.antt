@@ -26,15 +26,15 @@ pub reach-spec : {M : Type 1} → statement M
 reach-spec = tie.close (tie.spec
     Inv-loop
     μ-loop
-    (λ c. (λ ts k. (start ts (graphOf (c .before .args .graph .now)) k, first ts (graphOf (c .before .args .graph .now)) (replicate 256 false)), omega arith))
-    (λ c κs. c .before .before .before .before .before .pre)
-    (λ c ts k i.
+    (λ c. (λ ts k. (start ts (graphOf (c .before .args .graph .now)) k, first ts (graphOf (c .before .args .graph .now)) (replicate 256 false)), omega arith))  -- loop-holds
+    (λ c κs. c .before .before .before .before .before .pre)  -- round-requires
+    (λ c ts k i.  -- returns
     let l = c .before .before .before .before .before .loop in
     let g = graphOf (c .before .before .before .before .before .before .before .args .graph .now) in
     no-more ts g (c .before .round .ensures ts (l .inv .0 ts k .0)) (not-true _ (c .if1 .taken)) i)
-    (λ c. omega arith)
-    (λ c. omega arith)
-    (λ c. (
+    (λ c. omega arith)  -- add-rounds
+    (λ c. omega arith)  -- loop-less
+    (λ c. ( -- loop-again
       λ ts k.
           let l = c .before .before .before .before .before .loop in
           let g = graphOf (c .before .before .before .before .before .before .before .args .graph .now) in
@@ -42,7 +42,7 @@ reach-spec = tie.close (tie.spec
           (r .kept, again ts g r (l .rounds) (l .inv .0 ts k .1)),
       omega arith,
     ))
-    (λ c ts k i.
+    (λ c ts k i.  -- returns-2
     let l = c .before .loop in
     let s = c .before .before .before .args .graph .now in
     enough ts (graphOf s) (l .rounds) (l .inv .0 ts k .0) (omega (arith, length-graph s)) (l .inv .0 ts k .1) i))

@@ -34,23 +34,23 @@ two g i n e h k = omega (arith, two-operands (instructionAt g i .code))
 
 pub ready-spec : {M : Type 1} → statement M
 ready-spec = tie.close (tie.spec
-    (λ c. search needs)
-    (λ c. search needs)
-    (λ c.
+    (λ c. search needs)  -- mul-at
+    (λ c. search needs)  -- element-copy-out-if1
+    (λ c.  -- returns
     let a = c .before .before .before .args in
     let p = c .before .before .before .pre in
     lacking (operandsAt (graphOf (a .graph .now)) (a .i)) _ (p .2) (rw (add-zero (a .i * 2)) (not-true _ (c .if1 .taken))))
-    (λ c. search needs)
-    (λ c. search needs)
-    (λ c κs. search needs)
-    (λ c.
+    (λ c. search needs)  -- mul-operands
+    (λ c. search needs)  -- shared-slice-read-operands
+    (λ c κs. search needs)  -- operands-requires
+    (λ c.  -- returns-2
     let a = c .before .before .before .before .before .before .args in
     let p = c .before .before .before .before .before .before .pre in
     let n = operands-in (a .graph .now) (a .i) (p .0) ∙ sym (c .before .operands .ensures) ∙ c .if2 .taken in
     rw (n, add-zero (a .i * 2), not-false (getD (a .sent .now) (a .i * 2) false) (c .before .before .before .if1 .left)))
-    (λ c. search needs)
-    (λ c. search needs)
-    (λ c.
+    (λ c. search needs)  -- add-result
+    (λ c. search needs)  -- element-copy-out-result
+    (λ c.  -- returns-3
     let a = c .before .before .before .before .before .before .before .args in
     let p = c .before .before .before .before .before .before .before .pre in
     let e = operands-in (a .graph .now) (a .i) (p .0) ∙ sym (c .before .before .operands .ensures) in

@@ -28,18 +28,18 @@ pub round-spec : {M : Type 1} → statement M
 round-spec = tie.close (tie.spec
     Inv-loop
     μ-loop
-    (λ c. (omega arith, λ ts k. begin ts (graphOf (c .before .args .graph .now)) k))
-    (λ c κs. (c .before .before .before .before .before .pre, omega arith))
-    (λ c. omega arith)
-    (λ c. omega arith)
-    (λ c. (
+    (λ c. (omega arith, λ ts k. begin ts (graphOf (c .before .args .graph .now)) k))  -- loop-holds
+    (λ c κs. (c .before .before .before .before .before .pre, omega arith))  -- add-requires
+    (λ c. omega arith)  -- add-i
+    (λ c. omega arith)  -- loop-less
+    (λ c. ( -- loop-again
       omega arith,
       λ ts k.
           let l = c .before .before .before .before .before .loop in
           let r = c .before .add .ensures ts _ (l .added) (l .inv .1 ts k) in
           ⊎-elim (λ w. rw (w .1) (rw (w .0 .taken, or-right (l .added) true refl) at r)) (λ w. rw (w .1) (rw (w .0 .left, or-false (l .added)) at r)) (c .if1 .came),
     ))
-    (λ c ts k.
+    (λ c ts k.  -- returns
     let l = c .before .loop in
     let s = c .before .before .before .args .graph .now in
     let n : length (graphOf s) ≡ l .i = omega (arith, length-graph s) in

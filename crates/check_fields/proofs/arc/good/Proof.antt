@@ -7,5 +7,5 @@ use Rattle.check_fields.proofs.arc.good.Tie as tie
 pub good-spec : {M : Type 1} → statement M
 unfolding goodArc
 good-spec = tie.close (tie.spec
-    (λ c κs. search needs)
-    (λ c. rw (c .before .operands-at .ensures)))
+    (λ c κs. search needs)  -- operands-at-requires
+    (λ c. rw (c .before .operands-at .ensures)))  -- returns

@@ -5,4 +5,4 @@ use Rattle.check_fields.proofs.constant.is_zero.Tie as tie
 
 pub is-zero-spec : {M : Type 1} → statement M
 is-zero-spec = tie.close (tie.spec
-    (λ c. zero-bits (c .args .constant) (c .fits .constant)))
+    (λ c. zero-bits (c .args .constant) (c .fits .constant)))  -- returns

@@ -8,7 +8,7 @@ use Rattle.check_fields.proofs.fan_out.least.Tie as tie
 pub least-spec : {M : Type 1} → statement M
 unfolding leasts
 least-spec = tie.close (tie.spec
-    (λ c κs. search needs)
-    (λ c. least-among (c .before .before .args .code) 2 (4 ∷ 7 ∷ []) (rw (c .before .decode .ensures) at (c .match .keys1)) tt)
-    (λ c. least-among (c .before .before .args .code) 0 (1 ∷ 2 ∷ 8 ∷ 10 ∷ 13 ∷ []) (rw (c .before .decode .ensures) at (c .match .keys2)) tt)
-    (λ c. least-among (c .before .before .args .code) 1 (0 ∷ 3 ∷ 5 ∷ 6 ∷ 9 ∷ 11 ∷ 12 ∷ []) (rw (c .before .decode .ensures) at (c .match .keys3)) tt))
+    (λ c κs. search needs)  -- decode-requires
+    (λ c. least-among (c .before .before .args .code) 2 (4 ∷ 7 ∷ []) (rw (c .before .decode .ensures) at (c .match .keys1)) tt)  -- returns
+    (λ c. least-among (c .before .before .args .code) 0 (1 ∷ 2 ∷ 8 ∷ 10 ∷ 13 ∷ []) (rw (c .before .decode .ensures) at (c .match .keys2)) tt)  -- returns-2
+    (λ c. least-among (c .before .before .args .code) 1 (0 ∷ 3 ∷ 5 ∷ 6 ∷ 9 ∷ 11 ∷ 12 ∷ []) (rw (c .before .decode .ensures) at (c .match .keys3)) tt))  -- returns-3

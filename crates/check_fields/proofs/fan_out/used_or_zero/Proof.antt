@@ -8,6 +8,6 @@ use Rattle.check_fields.proofs.fan_out.used_or_zero.Tie as tie
 pub used-or-zero-spec : {M : Type 1} → statement M
 unfolding isZero
 used-or-zero-spec = tie.close (tie.spec
-    (λ c. search needs)
-    (λ c. rw (c .before .before .before .if1 .left, eq-eqb _ _ (c .before .if2 .taken)))
-    (λ c. rw (c .before .before .if1 .left, ne-eqb _ _ (c .if2 .left))))
+    (λ c. search needs)  -- returns
+    (λ c. rw (c .before .before .before .if1 .left, eq-eqb _ _ (c .before .if2 .taken)))  -- returns-2
+    (λ c. rw (c .before .before .if1 .left, ne-eqb _ _ (c .if2 .left))))  -- returns-3

@@ -7,7 +7,7 @@ use Rattle.check_fields.proofs.site.other.Tie as tie
 
 pub other-spec : {M : Type 1} → statement M
 other-spec = tie.close (tie.spec
-    (λ c. search needs)
-    (λ c κs. search needs)
-    (λ c. other-entry (c .before .before .args .entry) _ (c .before .if1 .taken) ∙ rw (c .wide .ensures))
-    (λ c. search needs))
+    (λ c. search needs)  -- sub-result
+    (λ c κs. search needs)  -- wide-requires
+    (λ c. other-entry (c .before .before .args .entry) _ (c .before .if1 .taken) ∙ rw (c .wide .ensures))  -- returns
+    (λ c. search needs))  -- returns-2

@@ -24,10 +24,10 @@ pub all-inside-spec : {M : Type 1} → statement M
 all-inside-spec = tie.close (tie.spec
     Inv-loop
     μ-loop
-    (λ c. (omega arith, refl))
-    (λ c κs. omega arith)
-    (λ c κs. search needs)
-    (λ c.
+    (λ c. (omega arith, refl))  -- loop-holds
+    (λ c κs. omega arith)  -- array-at-requires
+    (λ c κs. search needs)  -- inside-requires
+    (λ c.  -- returns
     let l = c .before .before .before .before .loop in
     let a = c .before .before .before .before .before .before .args in
     let s = a .arrays .now in
@@ -36,9 +36,9 @@ all-inside-spec = tie.close (tie.spec
     let e = getD-rows arrayWidth decode (length s / arrayWidth) (l .i) s x h ∙ sym (c .before .before .array-at .ensures) in
     let t = l .inv .1 ∙ all-turn (insideStore (a .cells)) (arraysOf s) (l .i) x (omega (arith, length-rows arrayWidth decode (length s / arrayWidth) s)) e in
     sym (t ∙ rw (← c .before .inside .ensures, not-true (c .before .inside .result) (c .if1 .taken))))
-    (λ c. omega arith)
-    (λ c. omega arith)
-    (λ c.
+    (λ c. omega arith)  -- add-i
+    (λ c. omega arith)  -- loop-less
+    (λ c.  -- loop-again
     let l = c .before .before .before .before .loop in
     let a = c .before .before .before .before .before .before .args in
     let s = a .arrays .now in
@@ -47,7 +47,7 @@ all-inside-spec = tie.close (tie.spec
     let e = getD-rows arrayWidth decode (length s / arrayWidth) (l .i) s x h ∙ sym (c .before .before .array-at .ensures) in
     let t = l .inv .1 ∙ all-turn (insideStore (a .cells)) (arraysOf s) (l .i) x (omega (arith, length-rows arrayWidth decode (length s / arrayWidth) s)) e in
     (omega arith, t ∙ rw (← c .before .inside .ensures, not-false (c .before .inside .result) (c .if1 .left))))
-    (λ c.
+    (λ c.  -- returns-2
     let a = c .before .before .before .args in
     let s = a .arrays .now in
     sym (c .before .loop .inv .1 ∙ all-end (insideStore (a .cells)) (arraysOf s) (c .before .loop .i) (omega (arith, length-rows arrayWidth decode (length s / arrayWidth) s)))))

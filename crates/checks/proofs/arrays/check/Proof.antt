@@ -26,9 +26,9 @@ few c =
 pub check-spec : {M : Type 1} → statement M
 unfolding checkArrays
 check-spec = tie.close (tie.spec
-    (λ c κs. search needs)
-    (λ c κs. omega (arith, few c))
-    (λ c.
+    (λ c κs. search needs)  -- good-requires
+    (λ c κs. omega (arith, few c))  -- names-requires
+    (λ c.  -- returns
     let s = c .before .before .before .before .before .args .arrays .now in
     rw (← c .before .before .good2 .ensures, c .before .if1 .taken, length-rows arrayWidth decode (length s / arrayWidth) s) (c .names .ensures))
-    (λ c. rw (← c .before .good2 .ensures, c .if1 .left)))
+    (λ c. rw (← c .before .good2 .ensures, c .if1 .left)))  -- returns-2

@@ -7,5 +7,5 @@ use Rattle.checks.proofs.arrays.ends_inside.Tie as tie
 pub ends-inside-spec : {M : Type 1} → statement M
 unfolding insideStore
 ends-inside-spec = tie.close (tie.spec
-    (λ c. search needs)
-    (λ c. search needs))
+    (λ c. search needs)  -- add-result
+    (λ c. search needs))  -- returns

@@ -27,10 +27,10 @@ pub names-spec : {M : Type 1} → statement M
 names-spec = tie.close (tie.spec
     Inv-loop
     μ-loop
-    (λ c. (omega arith, refl))
-    (λ c κs. omega arith)
-    (λ c κs. c .before .before .before .before .pre)
-    (λ c.
+    (λ c. (omega arith, refl))  -- loop-holds
+    (λ c κs. omega arith)  -- instruction-at-requires
+    (λ c κs. c .before .before .before .before .pre)  -- names-good-requires
+    (λ c.  -- returns
     let l = c .before .before .before .before .loop in
     let a = c .before .before .before .before .before .before .args in
     let g = a .graph .now in
@@ -39,9 +39,9 @@ names-spec = tie.close (tie.spec
     let e = in-graph g (l .i) h r ∙ sym (c .before .before .instruction-at .ensures) in
     let good = sym (c .before .names-good .ensures) ∙ not-true _ (c .if1 .taken) in
     sym (l .inv .1 ∙ turn (λ k r. demand (namesGood (a .n) r) BadArray k) (graphOf g) (l .i) r (omega (arith, length-graph g)) e (ap (λ (b : Bool). demand b BadArray (l .i)) good)))
-    (λ c. omega arith)
-    (λ c. omega arith)
-    (λ c.
+    (λ c. omega arith)  -- add-i
+    (λ c. omega arith)  -- loop-less
+    (λ c.  -- loop-again
     let l = c .before .before .before .before .loop in
     let a = c .before .before .before .before .before .before .args in
     let g = a .graph .now in
@@ -50,7 +50,7 @@ names-spec = tie.close (tie.spec
     let e = in-graph g (l .i) h r ∙ sym (c .before .before .instruction-at .ensures) in
     let good = sym (c .before .names-good .ensures) ∙ not-false _ (c .if1 .left) in
     (omega arith, l .inv .1 ∙ turn (λ k r. demand (namesGood (a .n) r) BadArray k) (graphOf g) (l .i) r (omega (arith, length-graph g)) e (ap (λ (b : Bool). demand b BadArray (l .i)) good)))
-    (λ c.
+    (λ c.  -- returns-2
     let a = c .before .before .before .args in
     let g = a .graph .now in
     sym (c .before .loop .inv .1 ∙ turn-end (λ k r. demand (namesGood (a .n) r) BadArray k) (graphOf g) (c .before .loop .i) (omega (arith, length-graph g)))))

@@ -13,10 +13,10 @@ use Rattle.checks.proofs.arrays.names_good.Tie as tie
 pub names-good-spec : {M : Type 1} → statement M
 unfolding namesGood
 names-good-spec = tie.close (tie.spec
-    (λ c κs. search needs)
-    (λ c κs. search needs)
-    (λ c. rw (← c .before .names-array .ensures, c .if1 .taken))
-    (λ c.
+    (λ c κs. search needs)  -- names-array-requires
+    (λ c κs. search needs)  -- small-requires
+    (λ c. rw (← c .before .names-array .ensures, c .if1 .taken))  -- returns
+    (λ c.  -- returns-2
     let s = c .before .before .before .before in
     let fits : SFits w32 (s .args .r .constant) = record { sfits = c .before .struct-told .given .1 .1 .1 .1 .0 .1 } in
     let small = rw (toZ-ofZ fits) at (c .small .ensures) in

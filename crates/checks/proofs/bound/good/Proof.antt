@@ -8,6 +8,6 @@ use Rattle.checks.proofs.bound.good.Tie as tie
 pub good-spec : {M : Type 1} → statement M
 unfolding goodBound
 good-spec = tie.close (tie.spec
-    (λ c. rw (eq-eqb _ _ (c .if1 .taken)))
-    (λ c. rw (ne-eqb _ _ (c .before .if1 .left), le-leb _ _ (c .if2 .taken)))
-    (λ c. rw (ne-eqb _ _ (c .before .if1 .left), lt-leb _ _ (c .if2 .left))))
+    (λ c. rw (eq-eqb _ _ (c .if1 .taken)))  -- returns
+    (λ c. rw (ne-eqb _ _ (c .before .if1 .left), le-leb _ _ (c .if2 .taken)))  -- returns-2
+    (λ c. rw (ne-eqb _ _ (c .before .if1 .left), lt-leb _ _ (c .if2 .left))))  -- returns-3

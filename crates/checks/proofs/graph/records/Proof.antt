@@ -29,13 +29,13 @@ pub records-spec : {M : Type 1} → statement M
 records-spec = tie.close (tie.spec
     Inv-loop
     μ-loop
-    (λ c κs. search needs)
-    (λ c. (omega arith, refl, no-sites, refl))
-    (λ c κs. omega arith)
-    (λ c κs. (c .before .before .before .before .before .counts .ensures, c .before .before .before .before .loop .inv .2))
-    (λ c. search needs)
-    (λ c. search needs)
-    (λ c.
+    (λ c κs. search needs)  -- counts-requires
+    (λ c. (omega arith, refl, no-sites, refl))  -- loop-holds
+    (λ c κs. omega arith)  -- instruction-at-requires
+    (λ c κs. (c .before .before .before .before .before .counts .ensures, c .before .before .before .before .loop .inv .2))  -- record-requires
+    (λ c. search needs)  -- enum-told
+    (λ c. search needs)  -- enum-told-2
+    (λ c.  -- returns
     let l = c .before .before .before .before .before .before .before .loop in
     let g = c .before .before .before .before .before .before .before .before .before .before .args .graph .now in
     let r = c .before .before .before .before .before .instruction-at .result in
@@ -43,10 +43,10 @@ records-spec = tie.close (tie.spec
     let e = in-graph g (l .i) h r ∙ sym (c .before .before .before .before .before .instruction-at .ensures) in
     let t = l .inv .1 ∙ turn (checkRecord (graphOf g)) (graphOf g) (l .i) r (omega (arith, length-graph g)) e (sym (c .before .before .«record» .ensures)) in
     stopped _ _ _ _ (c .enum-told2 .given .1) ∙ sym t)
-    (λ c κs. search needs)
-    (λ c. omega arith)
-    (λ c. omega arith)
-    (λ c.
+    (λ c κs. search needs)  -- note-requires
+    (λ c. omega arith)  -- add-i
+    (λ c. omega arith)  -- loop-less
+    (λ c.  -- loop-again
     let l = c .before .before .before .before .before .before .before .before .before .loop in
     let g = c .before .before .before .before .before .before .before .before .before .before .before .before .args .graph .now in
     let r = c .before .before .before .before .before .before .before .instruction-at .result in
@@ -61,6 +61,6 @@ records-spec = tie.close (tie.spec
       rw (take-next (graphOf g) (l .i) r (omega (arith, length-graph g)) e, c .note .ensures) n,
       rw (c .note .ensures) (length-at-site (l .sites) r _ ∙ l .inv .3),
     ))
-    (λ c.
+    (λ c.  -- returns-2
     let g = c .before .before .before .before .args .graph .now in
     sym (c .before .loop .inv .1 ∙ turn-end (checkRecord (graphOf g)) (graphOf g) (c .before .loop .i) (omega (arith, length-graph g)))))

@@ -48,22 +48,22 @@ pub all-named-spec : {M : Type 1} → statement M
 all-named-spec = tie.close (tie.spec
     Inv-loop
     μ-loop
-    (λ c. let l = some-terms (length (c .args .expression .now)) (c .pre .0) in (omega arith, refl))
-    (λ c. omega arith)
-    (λ c. let l = few-terms (length (c .before .before .args .expression .now)) (c .before .before .pre .0) in omega arith)
-    (λ c.
+    (λ c. let l = some-terms (length (c .args .expression .now)) (c .pre .0) in (omega arith, refl))  -- loop-holds
+    (λ c. omega arith)  -- add-loop
+    (λ c. let l = few-terms (length (c .before .before .args .expression .now)) (c .before .before .pre .0) in omega arith)  -- element-copy-out-if1
+    (λ c.  -- returns
     let a = c .before .before .before .before .args in
     let p = c .before .before .before .before .pre in
     let l = c .before .before .before .loop in
     sym (l .inv .1 ∙ in-turn (a .expression .now) (l .j) (omega arith) false (by-mark (a .expression .now) (a .named .now) (p .0) (p .1) (l .j) (omega arith) ∙ not-true _ (c .if1 .taken))))
-    (λ c. omega arith)
-    (λ c. omega arith)
-    (λ c.
+    (λ c. omega arith)  -- add-j
+    (λ c. omega arith)  -- loop-less
+    (λ c.  -- loop-again
     let a = c .before .before .before .before .args in
     let p = c .before .before .before .before .pre in
     let l = c .before .before .before .loop in
     (omega arith, l .inv .1 ∙ in-turn (a .expression .now) (l .j) (omega arith) true (by-mark (a .expression .now) (a .named .now) (p .0) (p .1) (l .j) (omega arith) ∙ not-false _ (c .if1 .left))))
-    (λ c.
+    (λ c.  -- returns-2
     let s = c .before .before .args .expression .now in
     let l = c .before .loop in
     let last = in-turn s (l .j) (l .inv .0) true (rw (eq-eqb (suc (l .j)) (length (expressionOf s)) (omega (arith, length-terms s, l .inv .0)))) in

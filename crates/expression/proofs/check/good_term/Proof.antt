@@ -12,18 +12,18 @@ use Rattle.expression.proofs.check.good_term.Tie as tie
 pub good-term-spec : {M : Type 1} → statement M
 unfolding goodTerm goodOperation
 good-term-spec = tie.close (tie.spec
-    (λ c. search needs)
-    (λ c. search needs)
-    (λ c earlier m. rw (ne-eqb _ 0 (c .if1 .taken)))
-    (λ c earlier m.
+    (λ c. search needs)  -- cast-left
+    (λ c. search needs)  -- cast-right
+    (λ c earlier m. rw (ne-eqb _ 0 (c .if1 .taken)))  -- returns
+    (λ c earlier m.  -- returns-2
     let a = c .before .before .before .before .before .before .before .args in
     rw (eq-eqb (a .t .zeros) 0 (c .before .before .before .if1 .left), eq-eqb (a .t .kind) 0 (c .before .if2 .taken), eq-eqb (a .t .left) 0 (c .if3 .taken)))
-    (λ c earlier m.
+    (λ c earlier m.  -- returns-3
     let a = c .before .before .before .before .before .before .before .args in
     rw (eq-eqb (a .t .zeros) 0 (c .before .before .before .if1 .left), eq-eqb (a .t .kind) 0 (c .before .if2 .taken), ne-eqb (a .t .left) 0 (c .if3 .left)))
-    (λ c. search needs)
-    (λ c. search needs)
-    (λ c earlier m.
+    (λ c. search needs)  -- element-copy-out-if9
+    (λ c. search needs)  -- element-copy-out-result
+    (λ c earlier m.  -- returns-4
     let a = c .before .before .before .before .before .before .before .before .before .before .before .before .before .before .before .before .args in
     rw (
       eq-eqb (a .t .zeros) 0 (c .before .before .before .before .before .before .before .before .before .before .before .before .if1 .left),
@@ -37,7 +37,7 @@ good-term-spec = tie.close (tie.spec
       not-true (getD (a .named .now) (a .t .left) false) (c .before .if9 .taken),
       ← m .says (a .t .right) (let l = c .before .before .before .before .if7 .taken in let h = c .before .before .before .before .before .before .before .before .before .before .before .before .before .before .before .before .pre in omega arith),
     ))
-    (λ c earlier m.
+    (λ c earlier m.  -- returns-5
     let a = c .before .before .before .before .before .before .before .before .before .before .before .before .before .before .before .args in
     rw (
       eq-eqb (a .t .zeros) 0 (c .before .before .before .before .before .before .before .before .before .before .before .if1 .left),
@@ -50,7 +50,7 @@ good-term-spec = tie.close (tie.spec
       ← m .says (a .t .left) (let l = c .before .before .before .before .if6 .taken in let h = c .before .before .before .before .before .before .before .before .before .before .before .before .before .before .before .pre in omega arith),
       not-false (getD (a .named .now) (a .t .left) false) (c .if9 .left),
     ))
-    (λ c earlier m.
+    (λ c earlier m.  -- returns-6
     let a = c .before .before .before .before .before .before .before .before .before .before .before .before .before .args in
     rw (
       eq-eqb (a .t .zeros) 0 (c .before .before .before .before .before .before .before .before .before .if1 .left),
@@ -61,7 +61,7 @@ good-term-spec = tie.close (tie.spec
       lt-ltb (a .t .right) (a .i) (c .before .if7 .taken),
       eq-eqb (a .t .left) (a .t .right) (c .if8 .left),
     ))
-    (λ c earlier m.
+    (λ c earlier m.  -- returns-7
     let a = c .before .before .before .before .before .before .before .before .before .before .before .before .args in
     rw (
       eq-eqb (a .t .zeros) 0 (c .before .before .before .before .before .before .before .before .if1 .left),
@@ -71,7 +71,7 @@ good-term-spec = tie.close (tie.spec
       lt-ltb (a .t .left) (a .i) (c .before .if6 .taken),
       le-ltb (a .t .right) (a .i) (c .if7 .left),
     ))
-    (λ c earlier m.
+    (λ c earlier m.  -- returns-8
     let a = c .before .before .before .before .before .before .before .before .before .before .before .args in
     rw (
       eq-eqb (a .t .zeros) 0 (c .before .before .before .before .before .before .before .if1 .left),
@@ -80,7 +80,7 @@ good-term-spec = tie.close (tie.spec
       le-leb (a .t .kind) 23 (c .before .if5 .taken),
       le-ltb (a .t .left) (a .i) (c .if6 .left),
     ))
-    (λ c earlier m.
+    (λ c earlier m.  -- returns-9
     let a = c .before .before .before .before .before .before .before .before .before .before .args in
     rw (
       eq-eqb (a .t .zeros) 0 (c .before .before .before .before .before .before .if1 .left),
@@ -88,7 +88,7 @@ good-term-spec = tie.close (tie.spec
       le-leb 16 (a .t .kind) (c .before .before .if4 .taken),
       lt-leb (a .t .kind) 23 (c .if5 .left),
     ))
-    (λ c earlier m.
+    (λ c earlier m.  -- returns-10
     let a = c .before .before .before .before .before .before .before .before .args in
     rw (
       eq-eqb (a .t .zeros) 0 (c .before .before .before .before .if1 .left),

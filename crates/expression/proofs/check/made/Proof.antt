@@ -16,20 +16,20 @@ use Rattle.expression.proofs.check.made.Tie as tie
 pub made-spec : {M : Type 1} → statement M
 unfolding checkMade
 made-spec = tie.close (tie.spec
-    (λ c κs. search needs)
-    (λ c. search needs)
-    (λ c. search needs)
-    (λ c. rw (← c .before .before .check .ensures) (stopped _ _ _ _ (c .enum-told2 .given .1)))
-    (λ c. search needs)
-    (λ c.
+    (λ c κs. search needs)  -- check-requires
+    (λ c. search needs)  -- enum-told
+    (λ c. search needs)  -- enum-told-2
+    (λ c. rw (← c .before .before .check .ensures) (stopped _ _ _ _ (c .enum-told2 .given .1)))  -- returns
+    (λ c. search needs)  -- add-if1
+    (λ c.  -- mul-if1
     let s = c .before .before .before .before .args .expression .now in
     let few = passed-terms s (sym (c .before .before .check .ensures) ∙ c .enum-told .given .1) .1 in
     omega arith)
-    (λ c.
+    (λ c.  -- returns-2
     let a = c .before .before .before .before .before .args in
     let s = a .expression .now in
     rw (← c .before .before .before .check .ensures, c .before .enum-told .given .1, lt-leb (graphWidth * suc (length (expressionOf s))) (a .room) (omega (arith, c .if1 .taken, length-terms s))))
-    (λ c.
+    (λ c.  -- returns-3
     let a = c .before .before .before .before .before .args in
     let s = a .expression .now in
     rw (← c .before .before .before .check .ensures, c .before .enum-told .given .1, le-leb (graphWidth * suc (length (expressionOf s))) (a .room) (omega (arith, c .if1 .left, length-terms s)))))

@@ -7,12 +7,12 @@ use Rattle.expression.proofs.check.mark.Tie as tie
 
 pub mark-spec : {M : Type 1} → statement M
 mark-spec = tie.close (tie.spec
-    (λ c ts m. let a = c .before .before .args in mark-variable ts (a .t) (a .named .now) m (eq-eqb (a .t .kind) 0 (c .if1 .taken)))
-    (λ c. search needs)
-    (λ c. search needs)
-    (λ c. let d = c .before .before in d .before .before .pre (rw (ne-eqb _ 0 (d .if1 .left))) .0)
-    (λ c. let d = c .before .before in d .before .before .pre (rw (ne-eqb _ 0 (d .if1 .left))) .1)
-    (λ c ts m.
+    (λ c ts m. let a = c .before .before .args in mark-variable ts (a .t) (a .named .now) m (eq-eqb (a .t .kind) 0 (c .if1 .taken)))  -- returns
+    (λ c. search needs)  -- cast-left
+    (λ c. search needs)  -- cast-right
+    (λ c. let d = c .before .before in d .before .before .pre (rw (ne-eqb _ 0 (d .if1 .left))) .0)  -- element-write-named
+    (λ c. let d = c .before .before in d .before .before .pre (rw (ne-eqb _ 0 (d .if1 .left))) .1)  -- element-write-named-2
+    (λ c ts m.  -- returns-2
     let d = c .before .before in
     let a = d .before .before .args in
     let v = ne-eqb (a .t .kind) 0 (d .if1 .left) in

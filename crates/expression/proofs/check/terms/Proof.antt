@@ -53,27 +53,27 @@ pub terms-spec : {M : Type 1} → statement M
 terms-spec = tie.close (tie.spec
     Inv-loop
     μ-loop
-    (λ c. let s = c .before .args .expression .now in (omega arith, refl, rw (nothing (expressionOf s)) (c .before .pre .1)))
-    (λ c κs. omega arith)
-    (λ c κs.
+    (λ c. let s = c .before .args .expression .now in (omega arith, refl, rw (nothing (expressionOf s)) (c .before .pre .1)))  -- loop-holds
+    (λ c κs. omega arith)  -- term-at-requires
+    (λ c κs.  -- good-term-requires
     let d = c .before .before .before .before .before in
     let few = few-terms (length (d .args .expression .now)) (d .pre .0) in
     omega arith)
-    (λ c.
+    (λ c.  -- returns
     let l = c .before .before .before .before .before .loop in
     let s = c .before .before .before .before .before .before .before .args .expression .now in
     let g = c .before .good-term .ensures (take (l .i) (expressionOf s)) (l .inv .2) in
     (sym (l .inv .1 ∙ in-turn s (l .i) (omega arith) _ (c .before .before .before .term-at .ensures) false (sym g ∙ not-true _ (c .if1 .taken))), not-passed (l .i)))
-    (λ c κs.
+    (λ c κs.  -- mark-requires
     let d = c .before .before .before .before .before .before .before .before in
     let l = c .before .before .before .before .before .before .loop in
     let s = d .args .expression .now in
     let few = few-terms (length s) (d .pre .0) in
     let g = c .before .before .good-term .ensures (take (l .i) (expressionOf s)) (l .inv .2) in
     names-inside (take (l .i) (expressionOf s)) (l .i) (c .before .before .before .before .term-at .result) (omega arith) (sym g ∙ not-false _ (c .before .if1 .left)))
-    (λ c. omega arith)
-    (λ c. omega arith)
-    (λ c.
+    (λ c. omega arith)  -- add-i
+    (λ c. omega arith)  -- loop-less
+    (λ c.  -- loop-again
     let s = c .before .before .before .before .before .before .before .before .before .args .expression .now in
     let l = c .before .before .before .before .before .before .before .loop in
     let x = c .before .before .before .before .before .term-at .result in
@@ -84,7 +84,7 @@ terms-spec = tie.close (tie.spec
       l .inv .1 ∙ in-turn s (l .i) low x told true (sym g ∙ not-false _ (c .before .before .if1 .left)),
       rw (take-next (expressionOf s) (l .i) x (omega (arith, length-terms s)) (in-terms s (l .i) low x ∙ sym told)) (c .mark .ensures (take (l .i) (expressionOf s)) (l .inv .2)),
     ))
-    (λ c.
+    (λ c.  -- returns-2
     let s = c .before .before .before .args .expression .now in
     let l = c .before .loop in (
       sym (l .inv .1 ∙ turn-end (good (expressionOf s)) (expressionOf s) (l .i) (omega (arith, length-terms s))),

@@ -58,45 +58,45 @@ named c v = names-before (start c .pre .1 .0) (start c .args .i) (start c .pre .
 
 pub +value-at-spec : {M : Type 1} → statement M
 +value-at-spec = close μ-value-at λ t. value-at-lts.spec (term-at-reads.Asked, term-at-reads.Learnt, variable-reads.Asked, variable-reads.Learnt, value-at-below t, value-at.Post, arithmetic-of-reads.Asked, arithmetic-of-reads.Learnt, combine-reads.Asked, combine-reads.Learnt) (value-at-at t) value-at.Post
-    (λ c κs. let s = c .before .before in let l = s .pre .1 .1 in omega (arith, length-terms (s .args .expression .now)))
-    (λ c. let l = few (start (c .before .before)) in omega arith)
-    (λ c. few (start (c .before .before)))
-    (λ c.
+    (λ c κs. let s = c .before .before in let l = s .pre .1 .1 in omega (arith, length-terms (s .args .expression .now)))  -- term-at-requires
+    (λ c. let l = few (start (c .before .before)) in omega arith)  -- mul-variable
+    (λ c. few (start (c .before .before)))  -- element-copy-out-variable
+    (λ c.  -- cast-variable
     let r = c .before .before .before in
     let s = start r in
     let n = number-at (s .pre .1 .0) (s .args .i) (s .pre .1 .1) (r .term-at .result) (r .term-at .ensures) in
     let h = passed-terms (s .args .expression .now) (s .pre .1 .0 .passed) .1 in
     omega (arith, length-terms (s .args .expression .now)))
-    (λ c κs.
+    (λ c κs.  -- variable-requires
     let r = c .before .before .before in
     let s = start r in
     let n = variable-at (s .pre .1 .0) (s .args .i) (s .pre .1 .1) (r .term-at .result) (r .term-at .ensures) (eq-eqb (r .term-at .result .kind) 0 (c .before .if1 .taken)) in
     let many = s .pre .1 .2 in
     omega arith)
-    (λ c.
+    (λ c.  -- returns
     let r = c .before .before .before .before in
     let s = start r in
     rw (toZ-ofZ {w = w32} (record { sfits = c .variable .ok })) (ap Value (c .variable .ensures)
     ∙ sym (value-variable (s .pre .1 .0) (s .args .i) (s .pre .1 .1) (r .term-at .result) (r .term-at .ensures) (s .args .values .now) (eq-eqb (r .term-at .result .kind) 0 (c .before .before .if1 .taken)))))
-    (λ c. search needs)
-    (λ c κs.
+    (λ c. search needs)  -- cast-value-at
+    (λ c κs.  -- value-at-requires
     let r = c .before .before .before in
     let s = start r in
     let before = named r (ne-eqb (r .term-at .result .kind) 0 (c .before .if1 .left)) .0 in
     let i = s .pre .0 in
     let low = s .pre .1 .1 in
     (omega arith, (s .pre .1 .0, omega arith, s .pre .1 .2)))
-    (λ c. search needs)
-    (λ c κs.
+    (λ c. search needs)  -- cast-value-at-2
+    (λ c κs.  -- value-at-requires-2
     let r = c .before .before .before .before .before in
     let s = start r in
     let before = named r (ne-eqb (r .term-at .result .kind) 0 (c .before .before .before .if1 .left)) .1 in
     let i = s .pre .0 in
     let low = s .pre .1 .1 in
     (omega arith, (s .pre .1 .0, omega arith, s .pre .1 .2)))
-    (λ c κs. tt)
-    (λ c κs. tt)
-    (λ c.
+    (λ c κs. tt)  -- arithmetic-of-requires
+    (λ c κs. tt)  -- combine-requires
+    (λ c.  -- returns-2
     let r = c .before .before .before .before .before .before .before .before in
     let s = start r in
     let v = ne-eqb (r .term-at .result .kind) 0 (c .before .before .before .before .before .before .if1 .left) in

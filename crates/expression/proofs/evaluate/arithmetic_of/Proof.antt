@@ -23,14 +23,14 @@ up m n l h = omega arith
 
 pub arithmetic-of-spec : {M : Type 1} → statement M
 arithmetic-of-spec = tie.close (tie.spec
-    (λ c. rw (c .match .keys1))
-    (λ c. rw (c .match .keys2))
-    (λ c. rw (c .match .keys3))
-    (λ c. rw (c .match .keys4))
-    (λ c. rw (c .match .keys5))
-    (λ c. rw (c .match .keys6))
-    (λ c. rw (c .match .keys7))
-    (λ c.
+    (λ c. rw (c .match .keys1))  -- returns
+    (λ c. rw (c .match .keys2))  -- returns-2
+    (λ c. rw (c .match .keys3))  -- returns-3
+    (λ c. rw (c .match .keys4))  -- returns-4
+    (λ c. rw (c .match .keys5))  -- returns-5
+    (λ c. rw (c .match .keys6))  -- returns-6
+    (λ c. rw (c .match .keys7))  -- returns-7
+    (λ c.  -- returns-8
     let n = c .before .args .kind in
     let r = c .match .rest in
     sym (other n (λ l. up 23 n (up 22 n (up 21 n (up 20 n (up 19 n (up 18 n (up 17 n l (r .0 .0 .0 .0 .0 .0 .1)) (r .0 .0 .0 .0 .0 .1)) (r .0 .0 .0 .0 .1)) (r .0 .0 .0 .1)) (r .0 .0 .1)) (r .0 .1)) (r .1)))))

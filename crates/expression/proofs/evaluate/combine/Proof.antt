@@ -17,14 +17,14 @@ right-out o OutOfRange = refl
 
 pub combine-spec : {M : Type 1} → statement M
 combine-spec = tie.close (tie.spec
-    (λ c. search needs)
-    (λ c. search needs)
-    (λ c. rw (c .enum-told .given .1))
-    (λ c. search needs)
-    (λ c. search needs)
-    (λ c. rw (c .enum-told2 .given .1) (right-out (c .before .before .before .before .before .args .op) (c .before .before .before .before .before .args .left)))
-    (λ c. search needs)
-    (λ c.
+    (λ c. search needs)  -- enum-known-left
+    (λ c. search needs)  -- enum-told
+    (λ c. rw (c .enum-told .given .1))  -- returns
+    (λ c. search needs)  -- enum-known-right
+    (λ c. search needs)  -- enum-told-2
+    (λ c. rw (c .enum-told2 .given .1) (right-out (c .before .before .before .before .before .args .op) (c .before .before .before .before .before .args .left)))  -- returns-2
+    (λ c. search needs)  -- compute-requires
+    (λ c.  -- returns-3
     let l = c .before .before .before .before in
     let r = c .before in
     let left : SFits w32 (l .before .left .given .0 .0) = record { sfits = l .known-told .given .0 .1 } in

@@ -16,10 +16,10 @@ use Rattle.expression.proofs.evaluate.variable.Tie as tie
 
 pub variable-spec : {M : Type 1} → statement M
 variable-spec = tie.close (tie.spec
-    (λ c κs. search needs)
-    (λ c κs. rw (c .row-at .ensures, length-drop) (omega arith))
-    (λ c κs. search needs)
-    (λ c.
+    (λ c κs. search needs)  -- row-at-requires
+    (λ c κs. rw (c .row-at .ensures, length-drop) (omega arith))  -- u32-at-requires
+    (λ c κs. search needs)  -- signed-requires
+    (λ c.  -- returns
     let a = c .before .before .before .before .args in
     let at = getD-rows valueWidth (λ b. signedOf (number32 b 0)) (length (a .values .now) / valueWidth) (a .k) (a .values .now) (pos 0) (c .before .before .before .before .pre) in
     rw (toZ-ofZ {w = w32} (record { sfits = c .signed .ok })) (c .signed .ensures ∙ ap signedOf (c .before .u32-at .ensures ∙ ap (λ (l : List ℕ). number32 l 0) (c .before .before .row-at .ensures)) ∙ sym at)))

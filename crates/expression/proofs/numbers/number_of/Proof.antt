@@ -7,7 +7,7 @@ use Rattle.expression.proofs.numbers.number_of.Tie as tie
 
 pub number-of-spec : {M : Type 1} → statement M
 number-of-spec = tie.close (tie.spec
-    (λ c. search needs)
-    (λ c. search needs)
-    (λ c. (rw (eq-eqb (c .before .before .args .t .kind) 0 (c .if1 .taken)), omega arith))
-    (λ c. (rw (ne-eqb (c .before .before .args .t .kind) 0 (c .if1 .left)), omega arith)))
+    (λ c. search needs)  -- sub-result
+    (λ c. search needs)  -- add-result
+    (λ c. (rw (eq-eqb (c .before .before .args .t .kind) 0 (c .if1 .taken)), omega arith))  -- returns
+    (λ c. (rw (ne-eqb (c .before .before .args .t .kind) 0 (c .if1 .left)), omega arith)))  -- returns-2

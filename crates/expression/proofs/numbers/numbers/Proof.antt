@@ -27,34 +27,34 @@ pub numbers-spec : {M : Type 1} → statement M
 numbers-spec = tie.close (tie.spec
     Inv-loop
     μ-loop
-    (λ c κs. search needs)
-    (λ c. let s = c .before .before .args .expression .now in (omega arith, none-yet (expressionOf s), omega arith, upto-none (expressionOf s)))
-    (λ c κs. omega arith)
-    (λ c κs.
+    (λ c κs. search needs)  -- variables-requires
+    (λ c. let s = c .before .before .args .expression .now in (omega arith, none-yet (expressionOf s), omega arith, upto-none (expressionOf s)))  -- loop-holds
+    (λ c κs. omega arith)  -- term-at-requires
+    (λ c κs.  -- number-of-requires
     let d = c .before .before .before .before .before in
     let few = passed-terms (d .args .expression .now) (d .pre) .1 in
     let n = c .before .before .before .variables .ensures .1 in
     let l = c .before .before .loop .inv .2 in
     (omega arith, omega arith))
-    (λ c.
+    (λ c.  -- cast-numbers
     let d = c .before .before .before .before .before .before in
     let few = passed-terms (d .args .expression .now) (d .pre) .1 in
     let n = c .before .before .before .before .variables .ensures .1 in
     let most = c .number-of .ensures .1 in
     omega arith)
-    (λ c.
+    (λ c.  -- mul-numbers
     let d = c .before .before .before .before .before .before in
     let few = passed-terms (d .args .expression .now) (d .pre) .1 in
     omega arith)
-    (λ c.
+    (λ c.  -- array-write-numbers
     let d = c .before .before .before .before .before .before in
     let few = passed-terms (d .args .expression .now) (d .pre) .1 in
     omega arith)
-    (λ c κs. tt)
-    (λ c. let few = c .variable-of .ensures .1 in let l = c .before .before .before .before .loop .inv .2 in omega arith)
-    (λ c. omega arith)
-    (λ c. omega arith)
-    (λ c.
+    (λ c κs. tt)  -- variable-of-requires
+    (λ c. let few = c .variable-of .ensures .1 in let l = c .before .before .before .before .loop .inv .2 in omega arith)  -- add-before
+    (λ c. omega arith)  -- add-i
+    (λ c. omega arith)  -- loop-less
+    (λ c.  -- loop-again
     let d = c .before .before .before .before .before .before .before in
     let s = d .args .expression .now in
     let ts = expressionOf s in
@@ -74,7 +74,7 @@ numbers-spec = tie.close (tie.spec
       omega arith,
       upto-next (l .inv .3) (omega arith) (c .before .number-of .result) (c .before .number-of .ensures .0 ∙ rw (before, c .before .before .before .before .before .variables .ensures .0) (sym number)),
     ))
-    (λ c.
+    (λ c.  -- returns
     let d = c .before .before .before .before in
     let s = d .args .expression .now in
     let l = c .before .loop in

@@ -22,13 +22,13 @@ pub variables-spec : {M : Type 1} → statement M
 variables-spec = tie.close (tie.spec
     Inv-loop
     μ-loop
-    (λ c. (omega arith, none-yet (expressionOf (c .before .args .expression .now)), omega arith))
-    (λ c κs. omega arith)
-    (λ c κs. tt)
-    (λ c. let few = c .variable-of .ensures .1 in let l = c .before .before .before .loop .inv .2 in omega arith)
-    (λ c. omega arith)
-    (λ c. omega arith)
-    (λ c.
+    (λ c. (omega arith, none-yet (expressionOf (c .before .args .expression .now)), omega arith))  -- loop-holds
+    (λ c κs. omega arith)  -- term-at-requires
+    (λ c κs. tt)  -- variable-of-requires
+    (λ c. let few = c .variable-of .ensures .1 in let l = c .before .before .before .loop .inv .2 in omega arith)  -- add-n
+    (λ c. omega arith)  -- add-i
+    (λ c. omega arith)  -- loop-less
+    (λ c.  -- loop-again
     let s = c .before .before .before .before .before .args .expression .now in
     let l = c .before .before .before .loop in
     let x = c .before .term-at .result in
@@ -41,7 +41,7 @@ variables-spec = tie.close (tie.spec
     let n = l .inv .1 in
     let most = l .inv .2 in
     (omega arith, omega arith, omega arith))
-    (λ c.
+    (λ c.  -- returns
     let s = c .before .before .before .args .expression .now in
     let l = c .before .loop in
     (l .inv .1 ∙ rw (take-all (l .i) (expressionOf s) (omega (arith, length-terms s))), let most = l .inv .2 in omega (arith, l .inv .0))))

@@ -76,30 +76,30 @@ own-there c g rest size is =
 
 pub +put-spec : {M : Type 1} → statement M
 +put-spec = close μ-put λ t. put-lts.spec (term-at-reads.Asked, term-at-reads.Learnt, code-of-reads.Asked, code-of-reads.Learnt, instruction-of-reads.Asked, instruction-of-reads.Learnt, put-instruction-reads.Asked, put-instruction-reads.Learnt, put-below t, put.Post) (put-at t) put.Post
-    (λ c κs. let s = c .before .before in let l = s .pre .1 .1 in omega (arith, length-terms (s .args .expression .now)))
-    (λ c. let l = few (c .before .before .before) in omega arith)
-    (λ c. few (c .before .before .before))
-    (λ c κs. tt)
-    (λ c κs. tt)
-    (λ c.
+    (λ c κs. let s = c .before .before in let l = s .pre .1 .1 in omega (arith, length-terms (s .args .expression .now)))  -- term-at-requires
+    (λ c. let l = few (c .before .before .before) in omega arith)  -- mul-number
+    (λ c. few (c .before .before .before))  -- element-copy-out-number
+    (λ c κs. tt)  -- code-of-requires
+    (λ c κs. tt)  -- instruction-of-requires
+    (λ c.  -- cast-put-instruction
     let s = c .before .before .before .before .before .before .before in
     let l = few s in
     let n = number-at (s .pre .1 .0) (s .args .i) (s .pre .1 .1) (c .before .before .before .before .term-at .result) (c .before .before .before .before .term-at .ensures) in
     let h = passed-terms (s .args .expression .now) (s .pre .1 .0 .passed) .1 in
     omega (arith, length-terms (s .args .expression .now)))
-    (λ c κs.
+    (λ c κs.  -- put-instruction-requires
     let s = c .before .before .before .before .before .before .before in
     let n = number-at (s .pre .1 .0) (s .args .i) (s .pre .1 .1) (c .before .before .before .before .term-at .result) (c .before .before .before .before .term-at .ensures) in
     let room = s .pre .1 .2 in
     omega arith)
-    (λ c. c .before .before .before .before .put-instruction .kept .0)
-    (λ c g rest size is.
+    (λ c. c .before .before .before .before .put-instruction .kept .0)  -- same-length
+    (λ c g rest size is.  -- returns
     let o = c .before .before .before .before in
     let s = start o in
     let e = own-there o g rest size is in
     puts-variable (s .pre .1 .0) (s .args .i) (s .pre .1 .1) (term o) (o .before .before .before .before .before .term-at .ensures) (s .args .to) g size rest (s .args .graph .now) _ is (eq-eqb _ 0 (c .if1 .taken)) e)
-    (λ c. search needs)
-    (λ c κs.
+    (λ c. search needs)  -- cast-put
+    (λ c κs.  -- put-requires
     let o = c .before .before .before .before .before .before in
     let s = start o in
     let before = named o (ne-eqb (term o .kind) 0 (c .before .before .if1 .left)) .0 in
@@ -108,8 +108,8 @@ pub +put-spec : {M : Type 1} → statement M
     let room = s .pre .1 .2 in
     let same = o .put-instruction .kept .0 in
     (omega arith, (s .pre .1 .0, omega arith, omega arith)))
-    (λ c. search needs)
-    (λ c κs.
+    (λ c. search needs)  -- cast-put-2
+    (λ c κs.  -- put-requires-2
     let l = c .before .before .before .before in
     let o = own l in
     let s = start o in
@@ -120,10 +120,10 @@ pub +put-spec : {M : Type 1} → statement M
     let same = o .put-instruction .kept .0 in
     let same2 = l .put .kept .1 .1 .1 .1 .0 in
     (omega arith, (s .pre .1 .0, omega arith, omega arith)))
-    (λ c.
+    (λ c.  -- same-length-2
     let l = c .before .before .before .before .before .before .before in
     c .before .before .put2 .kept .1 .1 .1 .1 .0 ∙ l .put .kept .1 .1 .1 .1 .0 ∙ own l .put-instruction .kept .0)
-    (λ c g rest size is.
+    (λ c g rest size is.  -- returns-2
     let l = c .before .before .before .before .before .before .before in
     let o = own l in
     let s = start o in

@@ -6,5 +6,5 @@ use Rattle.expression.proofs.put.code_of.Tie as tie
 
 pub code-of-spec : {M : Type 1} → statement M
 code-of-spec = tie.close (tie.spec
-    (λ c. rw (eq-eqb (c .before .before .args .t .kind) 0 (c .if1 .taken)))
-    (λ c. rw (ne-eqb (c .before .before .args .t .kind) 0 (c .if1 .left))))
+    (λ c. rw (eq-eqb (c .before .before .args .t .kind) 0 (c .if1 .taken)))  -- returns
+    (λ c. rw (ne-eqb (c .before .before .args .t .kind) 0 (c .if1 .left))))  -- returns-2

@@ -12,32 +12,32 @@ use Rattle.expression.proofs.put.write.Tie as tie
 
 pub write-spec : {M : Type 1} → statement M
 write-spec = tie.close (tie.spec
-    (λ c κs. let d = c .before .before in passed-made (d .args .expression .now) (length (d .args .graph .now)) (d .pre) .0)
-    (λ c κs. tt)
-    (λ c κs.
+    (λ c κs. let d = c .before .before in passed-made (d .args .expression .now) (length (d .args .graph .now)) (d .pre) .0)  -- numbers-requires
+    (λ c κs. tt)  -- instruction-of-requires
+    (λ c κs.  -- put-instruction-requires
     let d = c .before .before .before .before .before in
     let s = d .args .expression .now in
     let room = passed-made s (length (d .args .graph .now)) (d .pre) .1 in
     omega (arith, length-terms s))
-    (λ c.
+    (λ c.  -- cast-t13
     let d = c .before .before .before .before .before .before .before .before in
     let s = d .args .expression .now in
     let few = passed-terms s (passed-made s (length (d .args .graph .now)) (d .pre) .0) .1 in
     omega arith)
-    (λ c.
+    (λ c.  -- sub-put
     let d = c .before .before .before .before .before .before .before .before .before in
     let s = d .args .expression .now in
     let some = passed-terms s (passed-made s (length (d .args .graph .now)) (d .pre) .0) .0 in
     omega arith)
-    (λ c κs.
+    (λ c κs.  -- put-requires
     let d = c .before .before .before .before .before .before .before .before .before .before in
     let s = d .args .expression .now in
     let (ok, room) = passed-made s (length (d .args .graph .now)) (d .pre) in
     let some = passed-terms s ok .0 in
     let same = c .before .before .before .before .put-instruction .kept .0 in
     (c .before .before .before .before .before .before .before .numbers .ensures, omega (arith, length-terms s), omega arith))
-    (λ c. c .before .before .put .kept .1 .1 .1 .1 .0 ∙ c .before .before .before .before .before .before .before .put-instruction .kept .0)
-    (λ c.
+    (λ c. c .before .before .put .kept .1 .1 .1 .1 .0 ∙ c .before .before .before .before .before .before .before .put-instruction .kept .0)  -- same-length
+    (λ c.  -- returns
     let d = c .before .before .before .before .before .before .before .before .before .before .before .before .before in
     let s = d .args .expression .now in
     let g = d .args .graph .now in

@@ -29,22 +29,22 @@ number c = let s = c .before .before .before in rw (seen c) (by-array (arraysIn 
 
 pub cell-by-spec : {M : Type 1} → statement M
 cell-by-spec = tie.close (tie.spec
-    (λ c.
+    (λ c.  -- returns
     let s = c .before .before in
     below-cells (s .args .cells) (by-negative (arraysIn (s .args .tables .now)) (s .args .a) (s .args .k) (rw (toZ-ofZ (s .fits .k)) at (c .if1 .taken))))
-    (λ c κs. search needs)
-    (λ c.
+    (λ c κs. search needs)  -- cell-of-requires
+    (λ c.  -- returns-2
     let s = c .before .before .before .before in
     let z = by-zero (arraysIn (s .args .tables .now)) (s .args .a) (s .args .k) (rw (toZ-ofZ (s .fits .k)) at (c .before .before .if1 .left)) (rw (toZ-ofZ (s .fits .k)) at (c .before .if2 .taken)) in
     rw (toZ-ofZ (s .fits .a)) at (c .cell-of .ensures) ∙ sym (ap (namedOf (s .args .cells)) z))
-    (λ c.
+    (λ c.  -- cast-array-of
     let s = c .before .before .before in
     let k = from-one (s .args .k) (above c) in
     (rw (toZ-ofZ (s .fits .k), k .0) tt, rw (seen c) (record { fits = omega (arith, size-fits (s .args .k) (s .fits .k) (k .0)) })))
-    (λ c. let k = from-one (c .before .before .before .args .k) (above c) .1 in let e = seen c in omega arith)
-    (λ c κs. search needs)
-    (λ c κs. search needs)
-    (λ c.
+    (λ c. let k = from-one (c .before .before .before .args .k) (above c) .1 in let e = seen c in omega arith)  -- sub-array-of
+    (λ c κs. search needs)  -- array-of-requires
+    (λ c κs. search needs)  -- cell-in-requires
+    (λ c.  -- returns-3
     let s = c .before .before .before .before .before in
     let e = number (c .before .before) ∙ ap (λ x. numberIn x (s .args .a)) (sym (c .before .array-of .ensures)) in
     rw (toZ-ofZ (s .fits .a)) at (c .cell-in .ensures) ∙ sym (ap (namedOf (s .args .cells)) e)))

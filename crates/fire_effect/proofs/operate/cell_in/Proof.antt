@@ -31,13 +31,13 @@ number c =
 
 pub cell-in-spec : {M : Type 1} → statement M
 cell-in-spec = tie.close (tie.spec
-    (λ c. let s = c .before in below-cells (s .args .cells) (below-one (record { first = s .args .first; length = s .args .length }) (s .args .index) (rw (toZ-ofZ (s .fits .index)) at (c .if1 .taken))))
-    (λ c. (rw (toZ-ofZ (c .before .fits .index), size c .0) tt, rw (seen c) (record { fits = omega (arith, size-fits (c .before .args .index) (c .before .fits .index) (size c .0)) })))
-    (λ c.
+    (λ c. let s = c .before in below-cells (s .args .cells) (below-one (record { first = s .args .first; length = s .args .length }) (s .args .index) (rw (toZ-ofZ (s .fits .index)) at (c .if1 .taken))))  -- returns
+    (λ c. (rw (toZ-ofZ (c .before .fits .index), size c .0) tt, rw (seen c) (record { fits = omega (arith, size-fits (c .before .args .index) (c .before .fits .index) (size c .0)) })))  -- cast-i
+    (λ c.  -- returns-2
     let s = c .before .before in
     below-cells (s .args .cells) (past-length (array (c .before)) (s .args .index) (size (c .before) .0) (size (c .before) .1) (rw (seen (c .before)) at (c .if2 .taken))))
-    (λ c. search needs)
-    (λ c. let k = size (c .before) .1 in let e = seen (c .before) in omega arith)
-    (λ c. search needs)
-    (λ c. in-cells (c .before .before .before .args .cells) (number (c .before)) (c .if3 .taken))
-    (λ c. past-cells (c .before .before .before .args .cells) (number (c .before)) (c .if3 .left)))
+    (λ c. search needs)  -- add-c
+    (λ c. let k = size (c .before) .1 in let e = seen (c .before) in omega arith)  -- sub-c
+    (λ c. search needs)  -- cast-t11
+    (λ c. in-cells (c .before .before .before .args .cells) (number (c .before)) (c .if3 .taken))  -- returns-3
+    (λ c. past-cells (c .before .before .before .args .cells) (number (c .before)) (c .if3 .left)))  -- returns-4

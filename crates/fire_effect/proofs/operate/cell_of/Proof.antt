@@ -21,12 +21,12 @@ seen c = ap natAbs (toZ-ofZ (c .before .fits .a) ∙ size c)
 
 pub cell-of-spec : {M : Type 1} → statement M
 cell-of-spec = tie.close (tie.spec
-    (λ c. below-cells (c .before .args .cells) (negative (c .before .args .a) (rw (toZ-ofZ (c .before .fits .a)) at (c .if1 .taken))))
-    (λ c. (rw (toZ-ofZ (c .before .fits .a), size c) tt, rw (seen c) (record { fits = omega (arith, c .before .fits .a .sfits) })))
-    (λ c. rw (seen c) (record { fits = omega (arith, c .before .fits .a .sfits) }))
-    (λ c.
+    (λ c. below-cells (c .before .args .cells) (negative (c .before .args .a) (rw (toZ-ofZ (c .before .fits .a)) at (c .if1 .taken))))  -- returns
+    (λ c. (rw (toZ-ofZ (c .before .fits .a), size c) tt, rw (seen c) (record { fits = omega (arith, c .before .fits .a .sfits) })))  -- cast-c
+    (λ c. rw (seen c) (record { fits = omega (arith, c .before .fits .a .sfits) }))  -- cast-if2
+    (λ c.  -- returns-2
     let s = c .before .before in
     rw (seen (c .before)) (in-cells (s .args .cells) (size (c .before)) (rw (seen (c .before)) at (c .if2 .taken))))
-    (λ c.
+    (λ c.  -- returns-3
     let s = c .before .before in
     past-cells (s .args .cells) (size (c .before)) (rw (seen (c .before)) at (c .if2 .left))))

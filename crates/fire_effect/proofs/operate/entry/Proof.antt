@@ -7,7 +7,7 @@ use Rattle.fire_effect.proofs.operate.entry.Tie as tie
 
 pub entry-spec : {M : Type 1} → statement M
 entry-spec = tie.close (tie.spec
-    (λ c. search needs)
-    (λ c. search needs)
-    (λ c. search needs)
-    (λ c. sym (List·getD-eq-default (c .before .args .tables .now) 0 (c .if1 .left))))
+    (λ c. search needs)  -- mul-result
+    (λ c. search needs)  -- shared-slice-read-result
+    (λ c. search needs)  -- returns
+    (λ c. sym (List·getD-eq-default (c .before .args .tables .now) 0 (c .if1 .left))))  -- returns-2

@@ -41,24 +41,24 @@ moves Operations.Unknown table k cells a b h = refl
 pub operate-spec : {M : Type 1} → statement M
 unfolding operatedOf
 operate-spec = tie.close (tie.spec
-    (λ c. search needs)
-    (λ c. search needs)
-    (λ c κs. search needs)
-    (λ c. search needs)
-    (λ c κs. search needs)
-    (λ c. search needs)
-    (λ c κs. search needs)
-    (λ c κs. search needs)
-    (λ c. search needs)
-    (λ c κs. search needs)
-    (λ c κs. search needs)
-    (λ c. rw (c .enum-told .given .1, toZ-ofZ (c .before .before .before .fits .k)))
-    (λ c. let s = c .before .before .before .before in rw (c .before .enum-told2 .given .1) (rw (toZ-ofZ (s .fits .k), toZ-ofZ (s .fits .a)) at (c .fetch .ensures)))
-    (λ c. let s = c .before .before .before .before in rw (c .before .enum-told3 .given .1) (rw (toZ-ofZ (s .fits .k), toZ-ofZ (s .fits .a), toZ-ofZ (s .fits .b)) at (c .store .ensures)))
-    (λ c.
+    (λ c. search needs)  -- enum-told
+    (λ c. search needs)  -- enum-told-2
+    (λ c κs. search needs)  -- fetch-requires
+    (λ c. search needs)  -- enum-told-3
+    (λ c κs. search needs)  -- store-requires
+    (λ c. search needs)  -- enum-known-o
+    (λ c κs. search needs)  -- compute-requires
+    (λ c κs. search needs)  -- computed-requires
+    (λ c. search needs)  -- enum-known-o-2
+    (λ c κs. search needs)  -- compute-requires-2
+    (λ c κs. search needs)  -- computed-requires-2
+    (λ c. rw (c .enum-told .given .1, toZ-ofZ (c .before .before .before .fits .k)))  -- returns
+    (λ c. let s = c .before .before .before .before in rw (c .before .enum-told2 .given .1) (rw (toZ-ofZ (s .fits .k), toZ-ofZ (s .fits .a)) at (c .fetch .ensures)))  -- returns-2
+    (λ c. let s = c .before .before .before .before in rw (c .before .enum-told3 .given .1) (rw (toZ-ofZ (s .fits .k), toZ-ofZ (s .fits .a), toZ-ofZ (s .fits .b)) at (c .store .ensures)))  -- returns-3
+    (λ c.  -- returns-4
     let s = c .before .before .before .before .before .before in
     rw (c .before .before .before .o .given .1) (rw (c .before .compute .ensures, toZ-ofZ (s .fits .a), toZ-ofZ (s .fits .b)) at (c .computed .ensures)))
-    (λ c.
+    (λ c.  -- returns-5
     let s = c .before .before .before .before .before .before in
     rw (c .before .before .before .o2 .given .1) (rw (c .before .compute2 .ensures, toZ-ofZ (s .fits .a), toZ-ofZ (s .fits .k)) at (c .computed2 .ensures)))
-    (λ c. let s = c .before .before in rw (toZ-ofZ (s .fits .a)) (moves (s .args .o) _ _ _ _ _ (c .match .keys6))))
+    (λ c. let s = c .before .before in rw (toZ-ofZ (s .fits .a)) (moves (s .args .o) _ _ _ _ _ (c .match .keys6))))  -- returns-6

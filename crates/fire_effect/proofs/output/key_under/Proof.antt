@@ -5,5 +5,5 @@ use Rattle.fire_effect.proofs.output.key_under.Tie as tie
 
 pub key-under-spec : {M : Type 1} → statement M
 key-under-spec = tie.close (tie.spec
-    (λ c κs. search needs)
-    (λ c. rw (c .to .ensures)))
+    (λ c κs. search needs)  -- to-requires
+    (λ c. rw (c .to .ensures)))  -- returns

@@ -7,5 +7,5 @@ use Rattle.fire_effect.proofs.tags.byte.Tie as tie
 
 pub byte-spec : {M : Type 1} → statement M
 byte-spec = tie.close (tie.spec
-    (λ c. rw (toZ-ofZ (c .fits .constant)) (byte-fits _ (c .pre)))
-    (λ c. search needs))
+    (λ c. rw (toZ-ofZ (c .fits .constant)) (byte-fits _ (c .pre)))  -- cast-result
+    (λ c. search needs))  -- returns

@@ -20,10 +20,10 @@ gave c =
 pub enter-spec : {M : Type 1} → statement M
 unfolding sendEntered
 enter-spec = tie.close (tie.spec
-    (λ c κs. search needs)
-    (λ c κs. search needs)
-    (λ c. search needs)
-    (λ c. search needs)
-    (λ c. rw (sym (gave (c .before .before)) ∙ c .enum-told .given .1) (refused _))
-    (λ c κs. search needs)
-    (λ c. rw (sym (gave (c .before .before .before .before)) ∙ c .before .before .inner .given .1) (c .to-one .ensures)))
+    (λ c κs. search needs)  -- byte-requires
+    (λ c κs. search needs)  -- enter-requires
+    (λ c. search needs)  -- enum-known-inner
+    (λ c. search needs)  -- enum-told
+    (λ c. rw (sym (gave (c .before .before)) ∙ c .enum-told .given .1) (refused _))  -- returns
+    (λ c κs. search needs)  -- to-one-requires
+    (λ c. rw (sym (gave (c .before .before .before .before)) ∙ c .before .before .inner .given .1) (c .to-one .ensures)))  -- returns-2

@@ -14,17 +14,17 @@ use Rattle.fire_effect.proofs.tags.leave.Tie as tie
 pub leave-spec : {M : Type 1} → statement M
 unfolding sendLeft
 leave-spec = tie.close (tie.spec
-    (λ c κs. search needs)
-    (λ c κs. search needs)
-    (λ c. search needs)
-    (λ c. search needs)
-    (λ c κs. search needs)
-    (λ c. rw (sym (c .before .before .before .leave .ensures) ∙ c .before .enum-told .given .1) (c .to-none .ensures))
-    (λ c. search needs)
-    (λ c. search needs)
-    (λ c. search needs)
-    (λ c κs. search needs)
-    (λ c.
+    (λ c κs. search needs)  -- byte-requires
+    (λ c κs. search needs)  -- leave-requires
+    (λ c. search needs)  -- enum-known-site
+    (λ c. search needs)  -- enum-told
+    (λ c κs. search needs)  -- to-none-requires
+    (λ c. rw (sym (c .before .before .before .leave .ensures) ∙ c .before .enum-told .given .1) (c .to-none .ensures))  -- returns
+    (λ c. search needs)  -- cast-back
+    (λ c. search needs)  -- mul-back
+    (λ c. search needs)  -- element-copy-out-back
+    (λ c κs. search needs)  -- returned-requires
+    (λ c.  -- returns-2
     let s = c .before .before .before .before .before .before .before .before .before in
     let site = c .before .before .before .site .given .0 .0 in
     let fits : SFits w32 (s .args .r .constant) = record { sfits = c .before .before .before .before .before .before .before .struct-told .given .1 .1 .1 .1 .0 .1 } in

@@ -46,26 +46,26 @@ to-each Operations.Unknown g τ r b h v = absurd (miss rest 13 tt h)
 pub new-tags-spec : {M : Type 1} → statement M
 unfolding newTagsOf
 new-tags-spec = tie.close (tie.spec
-    (λ c. search needs)
-    (λ c κs. search needs)
-    (λ c. search needs)
-    (λ c κs. search needs)
-    (λ c. search needs)
-    (λ c κs. search needs)
-    (λ c. search needs)
-    (λ c κs. search needs)
-    (λ c. search needs)
-    (λ c κs. c .before .before .before .pre .ofEnter (c .enum-told5 .given .1))
-    (λ c. search needs)
-    (λ c κs. let p = c .before .before .before .pre in (p .records, (p .returns, p .ofLeave (c .enum-told6 .given .1))))
-    (λ c. search needs)
-    (λ c κs. search needs)
-    (λ c κs. search needs)
-    (λ c. rw (c .before .enum-told .given .1) (c .to-none .ensures))
-    (λ c. rw (c .before .enum-told2 .given .1) (c .to-none2 .ensures))
-    (λ c. let s = c .before .before .before .before in rw (c .before .enum-told3 .given .1) (rw (toZ-ofZ (s .fits .b)) at (c .switch .ensures)))
-    (λ c. rw (c .before .enum-told4 .given .1) (c .next .ensures))
-    (λ c. rw (c .before .enum-told5 .given .1) (c .enter .ensures))
-    (λ c. rw (c .before .enum-told6 .given .1) (c .leave .ensures))
-    (λ c. rw (c .before .enum-told7 .given .1) (c .to-none3 .ensures))
-    (λ c. let a = c .before .before .before .args in made-as (to-each (a .o) (graphOf (now (a .graph))) (a .tag) (a .r) (a .b) (c .before .match .keys8)) (c .to-all .ensures)))
+    (λ c. search needs)  -- enum-told
+    (λ c κs. search needs)  -- to-none-requires
+    (λ c. search needs)  -- enum-told-2
+    (λ c κs. search needs)  -- to-none-requires-2
+    (λ c. search needs)  -- enum-told-3
+    (λ c κs. search needs)  -- switch-requires
+    (λ c. search needs)  -- enum-told-4
+    (λ c κs. search needs)  -- next-requires
+    (λ c. search needs)  -- enum-told-5
+    (λ c κs. c .before .before .before .pre .ofEnter (c .enum-told5 .given .1))  -- enter-requires
+    (λ c. search needs)  -- enum-told-6
+    (λ c κs. let p = c .before .before .before .pre in (p .records, (p .returns, p .ofLeave (c .enum-told6 .given .1))))  -- leave-requires
+    (λ c. search needs)  -- enum-told-7
+    (λ c κs. search needs)  -- to-none-requires-3
+    (λ c κs. search needs)  -- to-all-requires
+    (λ c. rw (c .before .enum-told .given .1) (c .to-none .ensures))  -- returns
+    (λ c. rw (c .before .enum-told2 .given .1) (c .to-none2 .ensures))  -- returns-2
+    (λ c. let s = c .before .before .before .before in rw (c .before .enum-told3 .given .1) (rw (toZ-ofZ (s .fits .b)) at (c .switch .ensures)))  -- returns-3
+    (λ c. rw (c .before .enum-told4 .given .1) (c .next .ensures))  -- returns-4
+    (λ c. rw (c .before .enum-told5 .given .1) (c .enter .ensures))  -- returns-5
+    (λ c. rw (c .before .enum-told6 .given .1) (c .leave .ensures))  -- returns-6
+    (λ c. rw (c .before .enum-told7 .given .1) (c .to-none3 .ensures))  -- returns-7
+    (λ c. let a = c .before .before .before .args in made-as (to-each (a .o) (graphOf (now (a .graph))) (a .tag) (a .r) (a .b) (c .before .match .keys8)) (c .to-all .ensures)))  -- returns-8

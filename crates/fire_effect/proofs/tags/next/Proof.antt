@@ -9,9 +9,9 @@ use Rattle.fire_effect.proofs.tags.next.Tie as tie
 pub next-spec : {M : Type 1} → statement M
 unfolding sendNext
 next-spec = tie.close (tie.spec
-    (λ c κs. search needs)
-    (λ c. search needs)
-    (λ c. search needs)
-    (λ c. rw (sym (c .before .before .next .ensures) ∙ c .enum-told .given .1) (refused _))
-    (λ c κs. search needs)
-    (λ c. rw (sym (c .before .before .before .before .next .ensures) ∙ c .before .before .later .given .1) (c .to-all .ensures)))
+    (λ c κs. search needs)  -- next-requires
+    (λ c. search needs)  -- enum-known-later
+    (λ c. search needs)  -- enum-told
+    (λ c. rw (sym (c .before .before .next .ensures) ∙ c .enum-told .given .1) (refused _))  -- returns
+    (λ c κs. search needs)  -- to-all-requires
+    (λ c. rw (sym (c .before .before .before .before .next .ensures) ∙ c .before .before .later .given .1) (c .to-all .ensures)))  -- returns-2

@@ -5,4 +5,6 @@ use Rattle.fire_effect.proofs.tags.to_all.Statement.{statement}
 use Rattle.fire_effect.proofs.tags.to_all.Tie as tie
 
 pub to-all-spec : {M : Type 1} → statement M
-to-all-spec = tie.close (tie.spec (λ c κs. search needs) (λ c. made (c .under .ensures)))
+to-all-spec = tie.close (tie.spec
+    (λ c κs. search needs)  -- under-requires
+    (λ c. made (c .under .ensures)))  -- returns

@@ -9,13 +9,13 @@ use Rattle.range_arithmetic.proofs.outcomes.remainder.Tie as tie
 
 pub remainder-spec : {M : Type 1} → statement M
 remainder-spec = tie.close (tie.spec
-    (λ c. rw (toZ-ofZ (c .before .fits .x)) (sfits-widen tt (c .before .fits .x)))
-    (λ c.
+    (λ c. rw (toZ-ofZ (c .before .fits .x)) (sfits-widen tt (c .before .fits .x)))  -- cast-result
+    (λ c.  -- returns
     let zero : c .before .args .y ≡ pos 0 = same-bits (c .before .fits .y) (sfits-lit tt) (c .if1 .taken) in
     rw (zero, widened (c .before .fits .x)) (sym (remainder-by-zero (c .before .args .x))))
-    (λ c. rw (toZ-ofZ (c .before .fits .x)) (sfits-widen tt (c .before .fits .x)))
-    (λ c. rw (toZ-ofZ (c .before .fits .y)) (sfits-widen tt (c .before .fits .y)))
-    (λ c.
+    (λ c. rw (toZ-ofZ (c .before .fits .x)) (sfits-widen tt (c .before .fits .x)))  -- cast-result-2
+    (λ c. rw (toZ-ofZ (c .before .fits .y)) (sfits-widen tt (c .before .fits .y)))  -- cast-result-3
+    (λ c.  -- rem-result
     let s = c .before in
     (nonzero (s .args .x) (s .args .y) (s .fits .x) (s .fits .y) (c .if1 .left), rw (widened (s .fits .x), widened (s .fits .y)) (quotient-wide (s .args .x) (s .args .y) (s .fits .x) (s .fits .y))))
-    (λ c. let s = c .before in rw (widened (s .fits .x), widened (s .fits .y)) (toZ-ofZ (remainder-fits (s .args .x) (s .args .y) (sfits-widen tt (s .fits .x))))))
+    (λ c. let s = c .before in rw (widened (s .fits .x), widened (s .fits .y)) (toZ-ofZ (remainder-fits (s .args .x) (s .args .y) (sfits-widen tt (s .fits .x))))))  -- returns-2

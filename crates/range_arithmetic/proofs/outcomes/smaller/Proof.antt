@@ -8,11 +8,11 @@ use Rattle.range_arithmetic.proofs.outcomes.smaller.Tie as tie
 
 pub smaller-spec : {M : Type 1} → statement M
 smaller-spec = tie.close (tie.spec
-    (λ c.
+    (λ c.  -- returns
     let s = c .before in
     let t : leZ (s .args .x) (s .args .y) ≡ true = rw (toZ-ofZ (s .fits .x), toZ-ofZ (s .fits .y)) at (c .if1 .taken) in
     rw (toZ-ofZ (s .fits .x), t))
-    (λ c.
+    (λ c.  -- returns-2
     let s = c .before in
     let t : leZ (s .args .x) (s .args .y) ≡ false = rw (toZ-ofZ (s .fits .x), toZ-ofZ (s .fits .y)) at (c .if1 .left) in
     rw (toZ-ofZ (s .fits .y), t)))

@@ -7,6 +7,6 @@ use Rattle.record.proofs.array.decode.Tie as tie
 pub decode-spec : {M : Type 1} → statement M
 unfolding decode
 decode-spec = tie.close (tie.spec
-    (λ c κs. search needs)
-    (λ c κs. search needs)
-    (λ c. rw (c .u16-at2 .ensures, c .before .u16-at .ensures)))
+    (λ c κs. search needs)  -- u16-at-requires
+    (λ c κs. search needs)  -- u16-at-requires-2
+    (λ c. rw (c .u16-at2 .ensures, c .before .u16-at .ensures)))  -- returns

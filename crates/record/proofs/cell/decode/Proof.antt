@@ -8,7 +8,7 @@ use Rattle.record.proofs.cell.decode.Tie as tie
 pub decode-spec : {M : Type 1} → statement M
 unfolding decode
 decode-spec = tie.close (tie.spec
-    (λ c κs. search needs)
-    (λ c. search needs)
-    (λ c κs. search needs)
-    (λ c. c .cell-of .ensures ∙ rw (c .before .before .u32-at .ensures)))
+    (λ c κs. search needs)  -- u32-at-requires
+    (λ c. search needs)  -- shared-slice-read-cell-of
+    (λ c κs. search needs)  -- cell-of-requires
+    (λ c. c .cell-of .ensures ∙ rw (c .before .before .u32-at .ensures)))  -- returns

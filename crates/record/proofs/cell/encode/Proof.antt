@@ -11,16 +11,16 @@ use Rattle.record.proofs.cell.encode.Tie as tie
 pub encode-spec : {M : Type 1} → statement M
 unfolding encode
 encode-spec = tie.close (tie.spec
-    (λ c. search needs)
-    (λ c κs. search needs)
-    (λ c. search needs)
-    (λ c κs. search needs)
-    (λ c. search needs)
-    (λ c κs. search needs)
-    (λ c κs. search needs)
-    (λ c. (c .bytes-of .ensures ∙ sym (ap encode (c .before .enum-told .given .1)), rw (c .before .enum-told .given .1) tt))
-    (λ c. (c .bytes-of2 .ensures ∙ sym (ap encode (c .before .enum-told2 .given .1)), rw (c .before .enum-told2 .given .1) tt))
-    (λ c.
+    (λ c. search needs)  -- enum-told
+    (λ c κs. search needs)  -- bytes-of-requires
+    (λ c. search needs)  -- enum-told-2
+    (λ c κs. search needs)  -- bytes-of-requires-2
+    (λ c. search needs)  -- enum-known-cell
+    (λ c κs. search needs)  -- bits-requires
+    (λ c κs. search needs)  -- bytes-of-requires-3
+    (λ c. (c .bytes-of .ensures ∙ sym (ap encode (c .before .enum-told .given .1)), rw (c .before .enum-told .given .1) tt))  -- returns
+    (λ c. (c .bytes-of2 .ensures ∙ sym (ap encode (c .before .enum-told2 .given .1)), rw (c .before .enum-told2 .given .1) tt))  -- returns-2
+    (λ c.  -- returns-3
     let g = c .before .before .before .cell .given in
     let f : SFits w32 (g .0 .0) = record { sfits = c .before .before .known-told .given .0 .1 } in
     (c .bytes-of3 .ensures ∙ rw (c .before .bits .ensures, toZ-ofZ f) (sym (ap encode (g .1))), rw (g .1) f)))

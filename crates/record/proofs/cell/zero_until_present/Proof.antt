@@ -8,7 +8,7 @@ use Rattle.record.proofs.cell.zero_until_present.Tie as tie
 pub zero-until-present-spec : {M : Type 1} → statement M
 unfolding Cells.zeroUntilPresent
 zero-until-present-spec = tie.close (tie.spec
-    (λ c. search needs)
-    (λ c κs. search needs)
-    (λ c. rw (c .if1 .taken))
-    (λ c. rw (ne-eqb _ 2 (c .before .if1 .left), c .u32-at .ensures)))
+    (λ c. search needs)  -- shared-slice-read-if1
+    (λ c κs. search needs)  -- u32-at-requires
+    (λ c. rw (c .if1 .taken))  -- returns
+    (λ c. rw (ne-eqb _ 2 (c .before .if1 .left), c .u32-at .ensures)))  -- returns-2

@@ -11,16 +11,16 @@ unfolding decode
 decode-spec =
     tie.close
     (tie.spec
-    (λ c κs. search needs)
-    (λ c. search needs)
-    (λ c κs. search needs)
-    (λ c. search needs)
-    (λ c. search needs)
-    (λ c. search needs)
-    (λ c κs. search needs)
-    (λ c κs. search needs)
-    (λ c κs. search needs)
-    (λ c.
+    (λ c κs. search needs)  -- u16-at-requires
+    (λ c. search needs)  -- shared-slice-read-t6
+    (λ c κs. search needs)  -- u16-at-requires-2
+    (λ c. search needs)  -- shared-slice-read-t6-2
+    (λ c. search needs)  -- shared-slice-read-t6-3
+    (λ c. search needs)  -- shared-slice-read-t10
+    (λ c κs. search needs)  -- u32-at-requires
+    (λ c κs. search needs)  -- signed-requires
+    (λ c κs. search needs)  -- u32-at-requires-2
+    (λ c.  -- returns
     let d = c .before in
     let e = d .before .before .before .before .before in
     rw (

@@ -13,9 +13,9 @@ unfolding encode
 encode-spec =
     tie.close
     (tie.spec
-    (λ c κs. search needs)
-    (λ c κs. search needs)
-    (λ c.
+    (λ c κs. search needs)  -- bits-requires
+    (λ c κs. search needs)  -- bytes-of-requires
+    (λ c.  -- returns
     let known = c .before .before .struct-told .given in
     let fits : SFits w32 (c .before .before .before .before .before .args .r .constant) = record { sfits = known .1 .1 .1 .1 .0 .1 } in
     let second = known .1 .1 .1 .0 in

@@ -17,19 +17,19 @@ use Rattle.record.proofs.log.name_at.Tie as tie
 pub name-at-spec : {M : Type 1} → statement M
 unfolding nameOf
 name-at-spec = tie.close (tie.spec
-    (λ c. search needs)
-    (λ c. search needs)
-    (λ c.
+    (λ c. search needs)  -- mul-at
+    (λ c. search needs)  -- sub-if1
+    (λ c.  -- returns
     let a = c .before .before .args in
     rw (lt-leb logWidth (length (drop (a .i * logWidth) (a .log .now))) (rw length-drop (omega arith))))
-    (λ c. search needs)
-    (λ c. search needs)
-    (λ c.
+    (λ c. search needs)  -- add-if2
+    (λ c. search needs)  -- shared-slice-read-if2
+    (λ c.  -- returns-2
     let a = c .before .before .before .before .args in
     rw (le-leb logWidth (length (drop (a .i * logWidth) (a .log .now))) (rw length-drop (omega arith)), getD-drop (a .i * logWidth) (a .log .now) 17 0, ne-eqb _ _ (c .if2 .taken)))
-    (λ c κs. search needs)
-    (λ c κs. rw (c .row-at .ensures, length-drop) (omega arith))
-    (λ c.
+    (λ c κs. search needs)  -- row-at-requires
+    (λ c κs. rw (c .row-at .ensures, length-drop) (omega arith))  -- decode-requires
+    (λ c.  -- returns-3
     let a = c .before .before .before .before .before .before .args in
     rw (
       le-leb logWidth (length (drop (a .i * logWidth) (a .log .now))) (rw length-drop (omega arith)),

@@ -9,12 +9,12 @@ use Rattle.record.proofs.log.put_tag.Tie as tie
 pub put-tag-spec : {M : Type 1} → statement M
 unfolding Tokens.encode encode
 put-tag-spec = tie.close (tie.spec
-    (λ c κs. search needs)
-    (λ c. search needs)
-    (λ c. search needs)
-    (λ c. search needs)
-    (λ c κs. search needs)
-    (λ c. search needs)
-    (λ c.
+    (λ c κs. search needs)  -- encode-requires
+    (λ c. search needs)  -- sub-put-row
+    (λ c. search needs)  -- part-put-row-start
+    (λ c. search needs)  -- part-put-row-end
+    (λ c κs. search needs)  -- put-row-requires
+    (λ c. search needs)  -- same-length
+    (λ c.  -- returns
     let p = c .before .before in
     p .put-row .ensures ∙ rw (p .before .before .before .before .encode .ensures .0)))

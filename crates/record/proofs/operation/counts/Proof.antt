@@ -5,4 +5,5 @@ use Rattle.record.proofs.operation.counts.Tie as tie
 
 pub counts-spec : {M : Type 1} → statement M
 unfolding counts
-counts-spec = tie.close (tie.spec (λ c. counted))
+counts-spec = tie.close (tie.spec
+    (λ c. counted))  -- returns

@@ -10,8 +10,8 @@ use Rattle.record.proofs.token.content_of.Tie as tie
 pub content-of-spec : {M : Type 1} → statement M
 unfolding contentOf
 content-of-spec = tie.close (tie.spec
-    (λ c κs. search needs)
-    (λ c κs. search needs)
-    (λ c. rw (toZ-ofZ {w = w32} (record { sfits = c .signed .ok }), c .signed .ensures, c .before .match .keys1))
-    (λ c. rw (toZ-ofZ {w = w32} (record { sfits = c .signed2 .ok }), c .signed2 .ensures, c .before .match .keys2))
-    (λ c. rw (ne-eqb _ _ (c .match .rest .0 .1), ne-eqb _ _ (c .match .rest .1))))
+    (λ c κs. search needs)  -- signed-requires
+    (λ c κs. search needs)  -- signed-requires-2
+    (λ c. rw (toZ-ofZ {w = w32} (record { sfits = c .signed .ok }), c .signed .ensures, c .before .match .keys1))  -- returns
+    (λ c. rw (toZ-ofZ {w = w32} (record { sfits = c .signed2 .ok }), c .signed2 .ensures, c .before .match .keys2))  -- returns-2
+    (λ c. rw (ne-eqb _ _ (c .match .rest .0 .1), ne-eqb _ _ (c .match .rest .1))))  -- returns-3

@@ -7,12 +7,12 @@ use Rattle.record.proofs.token.decode.Tie as tie
 pub decode-spec : {M : Type 1} → statement M
 unfolding decode
 decode-spec = tie.close (tie.spec
-    (λ c κs. search needs)
-    (λ c. search needs)
-    (λ c κs. search needs)
-    (λ c. search needs)
-    (λ c κs. search needs)
-    (λ c.
+    (λ c κs. search needs)  -- decode-requires
+    (λ c. search needs)  -- shared-slice-read-t4
+    (λ c κs. search needs)  -- u32-at-requires
+    (λ c. search needs)  -- shared-slice-read-content-of
+    (λ c κs. search needs)  -- content-of-requires
+    (λ c.  -- returns
     rw (
       c .content-of .ensures,
       c .before .before .u32-at .ensures,

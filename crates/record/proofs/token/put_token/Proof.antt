@@ -8,11 +8,11 @@ pub put-token-spec : {M : Type 1} → statement M
 put-token-spec =
     tie.close
     (tie.spec
-    (λ c κs. search needs)
-    (λ c. search needs)
-    (λ c κs. search needs)
-    (λ c. search needs)
-    (λ c.
+    (λ c κs. search needs)  -- encode-requires
+    (λ c. search needs)  -- slice-aggregate-put-row
+    (λ c κs. search needs)  -- put-row-requires
+    (λ c. search needs)  -- same-length
+    (λ c.  -- returns
     let d = c .before .before in
     let e = d .before .before .before .encode in
     (d .put-row .ensures ∙ rw (e .ensures .0), e .ensures .1)))

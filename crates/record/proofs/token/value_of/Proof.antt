@@ -12,17 +12,17 @@ use Rattle.record.proofs.token.value_of.Tie as tie
 
 pub value-of-spec : {M : Type 1} → statement M
 value-of-spec = tie.close (tie.spec
-    (λ c. search needs)
-    (λ c κs. search needs)
-    (λ c. search needs)
-    (λ c κs. search needs)
-    (λ c. search needs)
-    (λ c.
+    (λ c. search needs)  -- enum-known-content
+    (λ c κs. search needs)  -- bits-requires
+    (λ c. search needs)  -- enum-known-content-2
+    (λ c κs. search needs)  -- bits-requires-2
+    (λ c. search needs)  -- enum-known-content-3
+    (λ c.  -- returns
     let g = c .before .before .content .given in
     let f : SFits w32 (g .0 .0) = record { sfits = c .before .known-told .given .0 .1 } in
     (c .bits .ensures ∙ ap bitsOf (toZ-ofZ f) ∙ sym (ap valueOf (g .1)), rw (g .1) f))
-    (λ c.
+    (λ c.  -- returns-2
     let g = c .before .before .content2 .given in
     let f : SFits w32 (g .0 .0) = record { sfits = c .before .known-told2 .given .0 .1 } in
     (c .bits2 .ensures ∙ ap bitsOf (toZ-ofZ f) ∙ sym (ap valueOf (g .1)), rw (g .1) f))
-    (λ c. (search needs, rw (c .before .content3 .given .1) (omega arith))))
+    (λ c. (search needs, rw (c .before .content3 .given .1) (omega arith))))  -- returns-3

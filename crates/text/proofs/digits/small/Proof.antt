@@ -8,4 +8,4 @@ pub small-spec : {M : Type 1} → statement M
 small-spec =
     tie.close
     (tie.spec
-    (λ c. tabled _ tt refl))
+    (λ c. tabled _ tt refl))  -- returns

@@ -8,7 +8,7 @@ pub keep-path-spec : {M : Type 1} → statement M
 keep-path-spec =
     tie.close
     (tie.spec
-    (λ c. path-kept (c .before .before .before .before .before .before .before .pre) (c .before .before .before .if1 .taken) (c .if2 .taken))
-    (λ c κs. c .before .before .before .before .before .pre .size)
-    (λ c. search needs)
-    (λ c. c .before .before .make-path .ensures))
+    (λ c. path-kept (c .before .before .before .before .before .before .before .pre) (c .before .before .before .if1 .taken) (c .if2 .taken))  -- returns
+    (λ c κs. c .before .before .before .before .before .pre .size)  -- make-path-requires
+    (λ c. search needs)  -- same-length
+    (λ c. c .before .before .make-path .ensures))  -- returns-2

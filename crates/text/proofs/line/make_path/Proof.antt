@@ -15,12 +15,12 @@ pub make-path-spec : {M : Type 1} → statement M
 make-path-spec =
     tie.close
     (tie.spec
-    (λ c κs.
+    (λ c κs.  -- put-path-requires
     let s = c .before .before in
     let f : PathFits (s .args .path) = record { low = search needs; high = search needs } in
     record { room = omega (arith, path-short (s .args .path) f, length-append (decimal (pathNumber (s .args .path))) (32 ∷ []), s .pre) })
-    (λ c. search needs)
-    (λ c.
+    (λ c. search needs)  -- same-length
+    (λ c.  -- returns
     let s = c .before .before .before .before .before in
     let a = c .before .before .put-path .ensures in
     let f : PathFits (s .args .path) = record { low = search needs; high = search needs } in

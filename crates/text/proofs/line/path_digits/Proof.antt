@@ -24,26 +24,26 @@ path-digits-spec =
     (tie.spec
     Inv-loop
     μ-loop
-    (λ c. omega arith)
-    (λ c κs. search needs)
-    (λ c.
+    (λ c. omega arith)  -- loop-holds
+    (λ c κs. search needs)  -- by-ten-requires
+    (λ c.  -- add-k
     let l = c .before .before .before .before .loop in
     let s = c .before .before .before .before .before in
     let f : PathFits (s .args .path) = record { low = search needs; high = search needs } in
     record { fits = omega (arith, path-short (s .args .path) f, l .inv) })
-    (λ c. omega (arith, c .before .by-ten .ensures .2, c .before .before .if1 .taken))
-    (λ c.
+    (λ c. omega (arith, c .before .by-ten .ensures .2, c .before .before .if1 .taken))  -- loop-less
+    (λ c.  -- loop-again
     let l = c .before .before .before .before .loop in
     let q = ap pathNumber (c .before .by-ten .ensures .0) ∙ number-words _ in
     rw q (omega (arith, more-digits (l .rest) (c .before .before .if1 .taken), l .inv)))
-    (λ c κs. search needs)
-    (λ c.
+    (λ c κs. search needs)  -- digits-requires
+    (λ c.  -- add-result
     let l = c .before .before .before .loop in
     let s = c .before .before .before .before in
     let f : PathFits (s .args .path) = record { low = search needs; high = search needs } in
     let e = lower-only (l .rest) (c .before .if1 .left) in
     record { fits = omega (arith, path-short (s .args .path) f, l .inv, c .digits .ensures, ap (λ n. length (decimal n)) e) })
-    (λ c.
+    (λ c.  -- returns
     let l = c .before .before .before .loop in
     let e = lower-only (l .rest) (c .before .if1 .left) in
     omega (arith, l .inv, c .digits .ensures, ap (λ n. length (decimal n)) e)))

@@ -7,6 +7,6 @@ pub path-of-spec : {M : Type 1} → statement M
 path-of-spec =
     tie.close
     (tie.spec
-    (λ c κs. search needs)
-    (λ c κs. search needs)
-    (λ c. rw (c .before .u64-at .ensures, c .u64-at2 .ensures)))
+    (λ c κs. search needs)  -- u64-at-requires
+    (λ c κs. search needs)  -- u64-at-requires-2
+    (λ c. rw (c .before .u64-at .ensures, c .u64-at2 .ensures)))  -- returns

@@ -25,26 +25,26 @@ unfolding answerLine
 put-answer-spec =
     tie.close
     (tie.spec
-    (λ c κs.
+    (λ c κs.  -- put-outcome-requires
     let a = c .before .before .args .answer in
     room-first (spaced (outcomeFields (a .outcome))) (line (firings a)) (rw (← outcome-first (a .outcome) (decimal (a .firings)) (tokens a)) at (c .before .before .pre)))
-    (λ c κs.
+    (λ c κs.  -- put-number-requires
     let a = c .before .before .before .before .before .before .args .answer in
     let p = room-rest (line (firings a)) (c .before .before .before .put-outcome .ensures) (rw (← outcome-first (a .outcome) (decimal (a .firings)) (tokens a)) at (c .before .before .before .before .before .before .pre)) in
     field-room (decimal (a .tokens)) (place a) (decimal (a .firings)) p)
-    (λ c κs.
+    (λ c κs.  -- put-number-requires-2
     let a = c .before .before .before .before .before .before .before .before .before .before .args .answer in
     let p = room-rest (line (firings a)) (c .before .before .before .before .before .before .before .put-outcome .ensures) (rw (← outcome-first (a .outcome) (decimal (a .firings)) (tokens a)) at (c .before .before .before .before .before .before .before .before .before .before .pre)) in
     let q = rest-room (decimal (a .tokens)) (place a) (decimal (a .firings)) (c .before .before .before .put-number .ensures) p in
     field-room (decimal (placeIn (a .outcome))) [] (decimal (a .tokens)) q)
-    (λ c κs. search needs)
-    (λ c κs.
+    (λ c κs. search needs)  -- place-in-requires
+    (λ c κs.  -- put-number-requires-3
     let a = c .before .before .before .before .before .before .before .before .before .before .before .before .before .before .before .args .answer in
     let p = room-rest (line (firings a)) (c .before .before .before .before .before .before .before .before .before .before .before .before .put-outcome .ensures) (rw (← outcome-first (a .outcome) (decimal (a .firings)) (tokens a)) at (c .before .before .before .before .before .before .before .before .before .before .before .before .before .before .before .pre)) in
     let q = rest-room (decimal (a .tokens)) (place a) (decimal (a .firings)) (c .before .before .before .before .before .before .before .before .put-number .ensures) p in
     rw (c .place-in .ensures) (rest-room (decimal (placeIn (a .outcome))) [] (decimal (a .tokens)) (c .before .before .before .before .put-number2 .ensures) q))
-    (λ c. search needs)
-    (λ c.
+    (λ c. search needs)  -- same-length
+    (λ c.  -- returns
     let a = c .before .before .before .before .before .before .before .before .before .before .before .before .before .before .before .before .before .before .args .answer in
     let n = rw (c .before .before .before .place-in .ensures) at (c .before .before .put-number3 .ensures) in
     let t = with-rest (decimal (placeIn (a .outcome))) [] (decimal (a .tokens)) (c .before .before .before .before .before .before .before .put-number2 .ensures) n in

@@ -8,7 +8,7 @@ pub put-byte-spec : {M : Type 1} → statement M
 put-byte-spec =
     tie.close
     (tie.spec
-    (λ c. search needs)
-    (λ c. search needs)
-    (λ c. search needs)
-    (λ c. added-byte (c .args .out .now) (c .args .at) (c .args .b) (c .pre)))
+    (λ c. search needs)  -- slice-write-out
+    (λ c. search needs)  -- add-result
+    (λ c. search needs)  -- same-length
+    (λ c. added-byte (c .args .out .now) (c .args .at) (c .args .b) (c .pre)))  -- returns

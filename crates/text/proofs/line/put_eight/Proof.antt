@@ -13,16 +13,16 @@ pub put-eight-spec : {M : Type 1} → statement M
 put-eight-spec =
     tie.close
     (tie.spec
-    (λ c κs. omega arith)
-    (λ c κs. rw (c .row-at .ensures, length-drop) (omega arith))
-    (λ c. search needs)
-    (λ c. search needs)
-    (λ c. search needs)
-    (λ c κs.
+    (λ c κs. omega arith)  -- row-at-requires
+    (λ c κs. rw (c .row-at .ensures, length-drop) (omega arith))  -- eight-of-requires
+    (λ c. search needs)  -- mul-write-at
+    (λ c. search needs)  -- add-write-at
+    (λ c. search needs)  -- slice-aggregate-write-at
+    (λ c κs.  -- write-at-requires
     let s = c .before .before .before .before .before .before in
     let k = s .args .j * 8 in
     let t = s .args .text .now in
     let e : length (c .before .before .eight-of .result) ≡ 8 = ap length (c .before .before .eight-of .ensures ∙ ap (take 8) (c .before .before .before .row-at .ensures)) ∙ length-take-le 8 (drop k t) (omega (arith, length-drop k t)) in
     omega (arith, e, s .pre .1))
-    (λ c. search needs)
-    (λ c. let s = c .before .before .before .before .before .before .before .before .before in c .before .before .write-at .ensures ∙ ap (written (s .args .out .now) (s .args .at + s .args .j * 8)) (c .before .before .before .before .before .eight-of .ensures ∙ ap (take 8) (c .before .before .before .before .before .before .row-at .ensures))))
+    (λ c. search needs)  -- same-length
+    (λ c. let s = c .before .before .before .before .before .before .before .before .before in c .before .before .write-at .ensures ∙ ap (written (s .args .out .now) (s .args .at + s .args .j * 8)) (c .before .before .before .before .before .eight-of .ensures ∙ ap (take 8) (c .before .before .before .before .before .before .row-at .ensures))))  -- returns

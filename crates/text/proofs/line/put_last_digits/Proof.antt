@@ -17,20 +17,20 @@ put-last-digits-spec =
     (tie.spec
     Inv-loop
     μ-loop
-    (λ c. putting-first (c .args .out .now) (c .args .at) (c .args .k) (c .args .n))
-    (λ c. omega arith)
-    (λ c. omega arith)
-    (λ c. omega arith)
-    (λ c. omega (arith, c .before .before .pre, c .before .loop .inv .few, c .before .loop .inv .kept))
-    (λ c. omega (arith, c .before .before .pre, c .before .loop .inv .few, c .before .loop .inv .kept))
-    (λ c. omega arith)
-    (λ c.
+    (λ c. putting-first (c .args .out .now) (c .args .at) (c .args .k) (c .args .n))  -- loop-holds
+    (λ c. omega arith)  -- sub-left
+    (λ c. omega arith)  -- cast-out
+    (λ c. omega arith)  -- add-out
+    (λ c. omega (arith, c .before .before .pre, c .before .loop .inv .few, c .before .loop .inv .kept))  -- add-out-2
+    (λ c. omega (arith, c .before .before .pre, c .before .loop .inv .few, c .before .loop .inv .kept))  -- slice-write-out
+    (λ c. omega arith)  -- loop-less
+    (λ c.  -- loop-again
     let s = c .before .before in
     let l = c .before .loop in
     putting-next (s .args .out .now) (s .args .at) (s .args .k) (s .args .n) (l .out) (l .rest) (l .left) (s .pre) (omega arith) (l .inv))
-    (λ c. search needs)
-    (λ c. c .before .loop .inv .kept)
-    (λ c.
+    (λ c. search needs)  -- add-result
+    (λ c. c .before .loop .inv .kept)  -- same-length
+    (λ c.  -- returns
     let s = c .before .before in
     let l = c .before .loop in
     putting-last (s .args .out .now) (s .args .at) (s .args .k) (s .args .n) (l .out) (l .rest) (l .left) (s .pre) (omega arith) (l .inv)))

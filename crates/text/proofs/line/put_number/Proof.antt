@@ -11,7 +11,7 @@ pub put-number-spec : {M : Type 1} → statement M
 put-number-spec =
     tie.close
     (tie.spec
-    (λ c κs. let s = c .before .before in room-first (decimal (s .args .n)) (s .args .end ∷ []) (s .pre))
-    (λ c κs. let s = c .before .before .before .before .before .before in omega (arith, room-rest (s .args .end ∷ []) (c .before .before .before .put-decimal .ensures) (s .pre) .room))
-    (λ c. search needs)
-    (λ c. both (c .before .before .before .before .before .before .put-decimal .ensures) (c .before .before .put-byte .ensures)))
+    (λ c κs. let s = c .before .before in room-first (decimal (s .args .n)) (s .args .end ∷ []) (s .pre))  -- put-decimal-requires
+    (λ c κs. let s = c .before .before .before .before .before .before in omega (arith, room-rest (s .args .end ∷ []) (c .before .before .before .put-decimal .ensures) (s .pre) .room))  -- put-byte-requires
+    (λ c. search needs)  -- same-length
+    (λ c. both (c .before .before .before .before .before .before .put-decimal .ensures) (c .before .before .put-byte .ensures)))  -- returns

@@ -17,23 +17,23 @@ pub put-path-spec : {M : Type 1} → statement M
 put-path-spec =
     tie.close
     (tie.spec
-    (λ c κs. let s = c .before .before .before .before in rw (← lower-only (s .args .path) (c .before .if1 .taken)) (s .pre))
-    (λ c. search needs)
-    (λ c.
+    (λ c κs. let s = c .before .before .before .before in rw (← lower-only (s .args .path) (c .before .if1 .taken)) (s .pre))  -- put-number-requires
+    (λ c. search needs)  -- same-length
+    (λ c.  -- returns
     let d = c .before .before .before .before in
     rw (lower-only (d .before .before .before .args .path) (d .if1 .taken)) (c .before .before .put-number .ensures))
-    (λ c κs. search needs)
-    (λ c κs.
+    (λ c κs. search needs)  -- path-digits-requires
+    (λ c κs.  -- put-path-digits-requires
     let s = c .before .before .before .before .before in
     omega (arith, c .path-digits .ensures, room-first (decimal (pathNumber (s .args .path))) (s .args .end ∷ []) (s .pre) .room))
-    (λ c κs.
+    (λ c κs.  -- put-byte-requires
     let d = c .before .before .before in
     let s = d .before .before .before .before .before .before in
     let n = pathNumber (s .args .path) in
     let put = rw (d .before .path-digits .ensures, all-digits n) at (d .put-path-digits .ensures) in
     omega (arith, room-rest (s .args .end ∷ []) put (s .pre) .room))
-    (λ c. search needs)
-    (λ c.
+    (λ c. search needs)  -- same-length-2
+    (λ c.  -- returns-2
     let d = c .before .before .before .before .before .before in
     let n = pathNumber (d .before .before .before .before .before .before .args .path) in
     let put = rw (d .before .path-digits .ensures, all-digits n) at (d .put-path-digits .ensures) in

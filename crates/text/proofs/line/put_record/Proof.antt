@@ -10,7 +10,7 @@ unfolding decode
 put-record-spec =
     tie.close
     (tie.spec
-    (λ c κs. let s = c .before .before .before .before in (s .pre .0 .2 .size, s .pre .0 .2 .fits, path-room (decode (s .args .s .now)) (s .pre .0 .2) (s .pre .1), path-some (decode (s .args .s .now)) (s .pre .0 .2)))
-    (λ c κs. let s = c .before .before .before .before .before .before .before .before in (s .pre .0 .0, s .pre .0 .1, after-path (decode (s .args .s .now)) (s .pre .0 .2) (s .pre .1) (c .before .before .before .put-eights .ensures)))
-    (λ c. search needs)
-    (λ c. let s = c .before .before .before .before .before .before .before .before .before .before .before in whole-line (decode (s .args .s .now)) (s .pre .0 .2) (c .before .before .before .before .before .before .put-eights .ensures) (c .before .before .put-rest .ensures)))
+    (λ c κs. let s = c .before .before .before .before in (s .pre .0 .2 .size, s .pre .0 .2 .fits, path-room (decode (s .args .s .now)) (s .pre .0 .2) (s .pre .1), path-some (decode (s .args .s .now)) (s .pre .0 .2)))  -- put-eights-requires
+    (λ c κs. let s = c .before .before .before .before .before .before .before .before in (s .pre .0 .0, s .pre .0 .1, after-path (decode (s .args .s .now)) (s .pre .0 .2) (s .pre .1) (c .before .before .before .put-eights .ensures)))  -- put-rest-requires
+    (λ c. search needs)  -- same-length
+    (λ c. let s = c .before .before .before .before .before .before .before .before .before .before .before in whole-line (decode (s .args .s .now)) (s .pre .0 .2) (c .before .before .before .before .before .before .put-eights .ensures) (c .before .before .put-rest .ensures)))  -- returns

@@ -31,27 +31,27 @@ unfolding decode
 put-rest-spec =
     tie.close
     (tie.spec
-    (λ c κs. search needs)
-    (λ c. search needs)
-    (λ c. omega (arith, c .shared-slice-known2 .given 16))
-    (λ c κs.
+    (λ c κs. search needs)  -- u32-at-requires
+    (λ c. search needs)  -- shared-slice-read-put-small
+    (λ c. omega (arith, c .shared-slice-known2 .given 16))  -- cast-put-small
+    (λ c κs.  -- put-small-requires
     let s = c .before .before .before .before .before in
     let l = s .args .s .now in
     let t = decode l in
     let v = signedDecimal (valueIn (t .content)) in
     (omega (arith, c .shared-slice-known2 .given 16), s .pre .1, field-room (decimal (t .tag .instruction)) (port t) (decimal (t .tag .iteration)) (s .pre .2)))
-    (λ c κs. search needs)
-    (λ c. search needs)
-    (λ c κs.
+    (λ c κs. search needs)  -- u16-at-requires
+    (λ c. search needs)  -- cast-put-field
+    (λ c κs.  -- put-field-requires
     let s = c .before .before .before .before .before .before .before .before .before .before in
     let l = s .args .s .now in
     let t = decode l in
     let v = signedDecimal (valueIn (t .content)) in
     let r1 = rest-room (decimal (t .tag .instruction)) (port t) (decimal (t .tag .iteration)) (c .before .before .before .before .put-small .ensures) (s .pre .2) in
     (s .pre .1, rw (c .u16-at .ensures) (field-room (decimal (t .port)) (value t) (decimal (t .tag .instruction)) r1)))
-    (λ c. search needs)
-    (λ c. omega (arith, c .shared-slice-known3 .given 17))
-    (λ c κs.
+    (λ c. search needs)  -- shared-slice-read-put-small-2
+    (λ c. omega (arith, c .shared-slice-known3 .given 17))  -- cast-put-small-2
+    (λ c κs.  -- put-small-requires-2
     let s = c .before .before .before .before .before .before .before .before .before .before .before .before .before .before .before in
     let l = s .args .s .now in
     let t = decode l in
@@ -60,7 +60,7 @@ put-rest-spec =
     let pf = rw (c .before .before .before .before .before .u16-at .ensures) at (c .before .before .before .before .put-field .ensures) in
     let r2 = rest-room (decimal (t .port)) (value t) (decimal (t .tag .instruction)) pf r1 in
     (omega (arith, c .shared-slice-known3 .given 17), s .pre .1, field-room v (word t) (decimal (t .port)) r2))
-    (λ c κs.
+    (λ c κs.  -- put-bits-requires
     let s = c .before .before .before .before .before .before .before .before .before .before .before .before .before .before .before .before .before .before .before in
     let l = s .args .s .now in
     let t = decode l in
@@ -71,8 +71,8 @@ put-rest-spec =
     let r2 = rest-room (decimal (t .port)) (value t) (decimal (t .tag .instruction)) pf r1 in
     let r3 = rest-room v (word t) (decimal (t .port)) (c .before .before .before .put-small2 .ensures) r2 in
     (s .pre .1, rw (u, ← value-of (number32 l 20) (byteAt l 24)) (field-room (stateWord (t .content)) [] v r3)))
-    (λ c. search needs)
-    (λ c κs.
+    (λ c. search needs)  -- shared-slice-read-put-state-of
+    (λ c κs.  -- put-state-of-requires
     let s = c .before .before .before .before .before .before .before .before .before .before .before .before .before .before .before .before .before .before .before .before .before .before .before .before in
     let l = s .args .s .now in
     let t = decode l in
@@ -84,8 +84,8 @@ put-rest-spec =
     let r3 = rest-room v (word t) (decimal (t .port)) (c .before .before .before .before .before .before .before .before .put-small2 .ensures) r2 in
     let pb = rw (u, ← value-of (number32 l 20) (byteAt l 24)) at (c .before .before .before .before .put-bits .ensures) in
     rw u (rest-room (stateWord (t .content)) [] v pb r3))
-    (λ c. search needs)
-    (λ c.
+    (λ c. search needs)  -- same-length
+    (λ c.  -- returns
     let s = c .before .before .before .before .before .before .before .before .before .before .before .before .before .before .before .before .before .before .before .before .before .before .before .before .before .before .before in
     let l = s .args .s .now in
     let t = decode l in

@@ -16,35 +16,35 @@ pub put-signed-spec : {M : Type 1} → statement M
 put-signed-spec =
     tie.close
     (tie.spec
-    (λ c κs. search needs)
-    (λ c. search needs)
-    (λ c κs.
+    (λ c κs. search needs)  -- bits-requires
+    (λ c. search needs)  -- cast-put-number
+    (λ c κs.  -- put-number-requires
     let s = c .before .before .before .before in
     let b = c .before .before .bits in
     let e : b .result ≡ bitsOf (s .args .value) = rw (toZ-ofZ (s .fits .value)) at (b .ensures) in
     rw (signed-up (s .args .value) (b .result) (s .fits .value) e (c .before .if1 .taken)) at (s .pre))
-    (λ c κs.
+    (λ c κs.  -- put-byte-requires
     let s = c .before .before .before .before in
     let b = c .before .before .bits in
     let e : b .result ≡ bitsOf (s .args .value) = rw (toZ-ofZ (s .fits .value)) at (b .ensures) in
     let p = rw (signed-down (s .args .value) (b .result) (s .fits .value) e (c .before .if1 .left)) at (s .pre) in
     omega (arith, p .room))
-    (λ c. search needs)
-    (λ c. search needs)
-    (λ c κs.
+    (λ c. search needs)  -- cast-put-number-2
+    (λ c. search needs)  -- sub-put-number
+    (λ c κs.  -- put-number-requires-2
     let s = c .before .before .before .before .before .before .before .before in
     let b = c .before .before .before .before .before .before .bits in
     let e : b .result ≡ bitsOf (s .args .value) = rw (toZ-ofZ (s .fits .value)) at (b .ensures) in
     let p = rw (signed-down (s .args .value) (b .result) (s .fits .value) e (c .before .before .before .before .before .if1 .left)) at (s .pre) in
     room-rest (decimal (4294967296 - b .result) ++ s .args .end ∷ []) (c .before .before .before .put-byte .ensures) p)
-    (λ c. search needs)
-    (λ c.
+    (λ c. search needs)  -- same-length
+    (λ c.  -- returns
     let s = c .before .before .before .before .before .before .before in
     let b = c .before .before .before .before .before .bits in
     let e : b .result ≡ bitsOf (s .args .value) = rw (toZ-ofZ (s .fits .value)) at (b .ensures) in
     rw (signed-up (s .args .value) (b .result) (s .fits .value) e (c .before .before .before .before .if1 .taken)) (c .before .before .put-number .ensures))
-    (λ c. search needs)
-    (λ c.
+    (λ c. search needs)  -- same-length-2
+    (λ c.  -- returns-2
     let s = c .before .before .before .before .before .before .before .before .before .before .before in
     let b = c .before .before .before .before .before .before .before .before .before .bits in
     let e : b .result ≡ bitsOf (s .args .value) = rw (toZ-ofZ (s .fits .value)) at (b .ensures) in

@@ -12,26 +12,26 @@ pub put-stated-spec : {M : Type 1} → statement M
 put-stated-spec =
     tie.close
     (tie.spec
-    (λ c. search needs)
-    (λ c κs.
+    (λ c. search needs)  -- slice-aggregate-put-word
+    (λ c κs.  -- put-word-requires
     let a = c .before .before .before .before .args in
     field-room (decimal (a .k)) (a .word .now ∷ signedDecimal (a .value) ∷ []) (bytes "cell") (c .before .before .before .before .pre))
-    (λ c κs.
+    (λ c κs.  -- put-number-requires
     let a = c .before .before .before .before .before .before .before .before .args in
     let p = rest-room (decimal (a .k)) (a .word .now ∷ signedDecimal (a .value) ∷ []) (bytes "cell") (c .before .before .before .put-word .ensures) (c .before .before .before .before .before .before .before .before .pre) in
     field-room (a .word .now) (signedDecimal (a .value) ∷ []) (decimal (a .k)) p)
-    (λ c κs.
+    (λ c κs.  -- put-word-requires-2
     let a = c .before .before .before .before .before .before .before .before .before .before .before .before .args in
     let p = rest-room (decimal (a .k)) (a .word .now ∷ signedDecimal (a .value) ∷ []) (bytes "cell") (c .before .before .before .before .before .before .before .put-word .ensures) (c .before .before .before .before .before .before .before .before .before .before .before .before .pre) in
     let q = rest-room (a .word .now) (signedDecimal (a .value) ∷ []) (decimal (a .k)) (c .before .before .before .put-number .ensures) p in
     field-room (signedDecimal (a .value)) [] (a .word .now) q)
-    (λ c κs.
+    (λ c κs.  -- put-signed-requires
     let a = c .before .before .before .before .before .before .before .before .before .before .before .before .before .before .before .before .args in
     let p = rest-room (decimal (a .k)) (a .word .now ∷ signedDecimal (a .value) ∷ []) (bytes "cell") (c .before .before .before .before .before .before .before .before .before .before .before .put-word .ensures) (c .before .before .before .before .before .before .before .before .before .before .before .before .before .before .before .before .pre) in
     let q = rest-room (a .word .now) (signedDecimal (a .value) ∷ []) (decimal (a .k)) (c .before .before .before .before .before .before .before .put-number .ensures) p in
     rw (toZ-ofZ (c .before .before .before .before .before .before .before .before .before .before .before .before .before .before .before .before .fits .value)) (rest-room (signedDecimal (a .value)) [] (a .word .now) (c .before .before .before .put-word2 .ensures) q))
-    (λ c. search needs)
-    (λ c.
+    (λ c. search needs)  -- same-length
+    (λ c.  -- returns
     let a = c .before .before .before .before .before .before .before .before .before .before .before .before .before .before .before .before .before .before .before .args in
     let v = rw (toZ-ofZ (c .before .before .before .before .before .before .before .before .before .before .before .before .before .before .before .before .before .before .before .fits .value)) at (c .before .before .put-signed .ensures) in
     let w = with-rest (signedDecimal (a .value)) [] (a .word .now) (c .before .before .before .before .before .before .put-word2 .ensures) v in

@@ -33,19 +33,19 @@ unfolding tokenLine
 put-token-spec =
     tie.close
     (tie.spec
-    (λ c κs.
+    (λ c κs.  -- put-path-requires
     let s = c .before .before .before .before in
     let t = s .args .t in
     field-room (decimal (t .tag .iteration)) (instruction t) (decimal (pathNumber (t .tag .path))) (s .pre))
-    (λ c. search needs)
-    (λ c κs.
+    (λ c. search needs)  -- cast-put-number
+    (λ c κs.  -- put-number-requires
     let ca = c .before .before .before .before in
     let s = ca .before .before .before .before .before in
     let t = s .args .t in
     let r1 = rest-room (decimal (t .tag .iteration)) (instruction t) (decimal (pathNumber (t .tag .path))) (ca .put-path .ensures) (s .pre) in
     field-room (decimal (t .tag .instruction)) (port t) (decimal (t .tag .iteration)) r1)
-    (λ c. search needs)
-    (λ c κs.
+    (λ c. search needs)  -- cast-put-number-2
+    (λ c κs.  -- put-number-requires-2
     let cb = c .before .before .before .before in
     let ca = cb .before .before .before .before .before in
     let s = ca .before .before .before .before .before in
@@ -53,8 +53,8 @@ put-token-spec =
     let r1 = rest-room (decimal (t .tag .iteration)) (instruction t) (decimal (pathNumber (t .tag .path))) (ca .put-path .ensures) (s .pre) in
     let r2 = rest-room (decimal (t .tag .instruction)) (port t) (decimal (t .tag .iteration)) (cb .put-number .ensures) r1 in
     field-room (decimal (t .port)) (value t) (decimal (t .tag .instruction)) r2)
-    (λ c. search needs)
-    (λ c κs.
+    (λ c. search needs)  -- cast-put-number-3
+    (λ c κs.  -- put-number-requires-3
     let cd = c .before .before .before .before in
     let cb = cd .before .before .before .before .before in
     let ca = cb .before .before .before .before .before in
@@ -64,8 +64,8 @@ put-token-spec =
     let r2 = rest-room (decimal (t .tag .instruction)) (port t) (decimal (t .tag .iteration)) (cb .put-number .ensures) r1 in
     let r3 = rest-room (decimal (t .port)) (value t) (decimal (t .tag .instruction)) (cd .put-number2 .ensures) r2 in
     field-room (signedDecimal (valueIn (t .content))) (word t) (decimal (t .port)) r3)
-    (λ c κs. search needs)
-    (λ c κs.
+    (λ c κs. search needs)  -- value-in-requires
+    (λ c κs.  -- put-signed-requires
     let ce = c .before .before .before .before in
     let cd = ce .before .before .before .before .before in
     let cb = cd .before .before .before .before .before in
@@ -79,7 +79,7 @@ put-token-spec =
     let z = c .value-in in
     let f : SFits w32 (z .result) = record { sfits = z .ok } in
     rw (toZ-ofZ f, z .ensures) (field-room (stateWord (t .content)) ([]) (signedDecimal (valueIn (t .content))) r4))
-    (λ c κs.
+    (λ c κs.  -- put-state-requires
     let ce = c .before .before .before .before .before .before .before .before in
     let cd = ce .before .before .before .before .before in
     let cb = cd .before .before .before .before .before in
@@ -94,8 +94,8 @@ put-token-spec =
     let f : SFits w32 (z .result) = record { sfits = z .ok } in
     let v = rw (toZ-ofZ f, z .ensures) at (c .before .before .before .put-signed .ensures) in
     rest-room (stateWord (t .content)) ([]) (signedDecimal (valueIn (t .content))) (v) r4)
-    (λ c. search needs)
-    (λ c.
+    (λ c. search needs)  -- same-length
+    (λ c.  -- returns
     let ce = c .before .before .before .before .before .before .before .before .before .before .before in
     let cd = ce .before .before .before .before .before in
     let cb = cd .before .before .before .before .before in

@@ -12,14 +12,14 @@ pub put-word-spec : {M : Type 1} → statement M
 put-word-spec =
     tie.close
     (tie.spec
-    (λ c κs. let s = c .before .before .before in omega (arith, length-append (s .args .word .now) (s .args .end ∷ []), s .pre .room))
-    (λ c. search needs)
-    (λ c κs.
+    (λ c κs. let s = c .before .before .before in omega (arith, length-append (s .args .word .now) (s .args .end ∷ []), s .pre .room))  -- write-at-requires
+    (λ c. search needs)  -- add-put-byte
+    (λ c κs.  -- put-byte-requires
     let s = c .before .before .before .before .before .before .before in
     let e : length (c .before .before .before .write-at .last .0) ≡ length (s .args .out .now) = c .before .before .before .write-at .kept .0 in
     omega (arith, length-append (s .args .word .now) (s .args .end ∷ []), s .pre .room))
-    (λ c. search needs)
-    (λ c.
+    (λ c. search needs)  -- same-length
+    (λ c.  -- returns
     let s = c .before .before .before .before .before .before .before .before .before .before in
     let a = s .args in
     let w = added-written (a .out .now) (a .at) (a .word .now) (omega (arith, length-append (a .word .now) (a .end ∷ []), s .pre .room)) in

@@ -7,4 +7,6 @@ use Rattle.record.proofs.tag.Path.folded.Tie as tie
 
 pub folded-spec : {M : Type 1} → statement M
 unfolding foldedPath
-folded-spec = tie.close (tie.spec (λ c. search needs) (λ c. refl))
+folded-spec = tie.close (tie.spec
+    (λ c. search needs)  -- add-result
+    (λ c. refl))  -- returns

@@ -9,12 +9,12 @@ use Rattle.record.proofs.tag.Tag.leave.Tie as tie
 pub leave-spec : {M : Type 1} → statement M
 unfolding leaveOf
 leave-spec = tie.close (tie.spec
-    (λ c κs. search needs)
-    (λ c. search needs)
-    (λ c. search needs)
-    (λ c. record { fits = lowered-fits (c .before .before .before .args .self .path) (search needs) })
-    (λ c. search needs)
-    (λ c. rw (sym (c .before .is-root .ensures) ∙ c .if1 .taken))
-    (λ c.
+    (λ c κs. search needs)  -- is-root-requires
+    (λ c. search needs)  -- cast-t9
+    (λ c. search needs)  -- mul-t12
+    (λ c. record { fits = lowered-fits (c .before .before .before .args .self .path) (search needs) })  -- add-t13
+    (λ c. search needs)  -- cast-t17
+    (λ c. rw (sym (c .before .is-root .ensures) ∙ c .if1 .taken))  -- returns
+    (λ c.  -- returns-2
     let path = c .before .before .before .args .self .path in
     rw (sym (c .before .is-root .ensures) ∙ c .if1 .left, left-words path (search needs), left-site path, left-iteration path)))

@@ -8,6 +8,6 @@ use Rattle.record.proofs.tag.Tag.next.Tie as tie
 pub next-spec : {M : Type 1} → statement M
 unfolding nextOf
 next-spec = tie.close (tie.spec
-    (λ c. search needs)
-    (λ c. rw (lt-ltb _ _ (c .if1 .taken)))
-    (λ c. rw (le-ltb _ _ (c .if1 .left))))
+    (λ c. search needs)  -- add-t6
+    (λ c. rw (lt-ltb _ _ (c .if1 .taken)))  -- returns
+    (λ c. rw (le-ltb _ _ (c .if1 .left))))  -- returns-2
