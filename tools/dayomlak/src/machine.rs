@@ -68,6 +68,17 @@ impl End {
         (&self.ledger, &self.cells)
     }
 
+    /// The same as plain records: of a run of ranges those of the low ends, which have the same tags, ports and states.
+    fn low_ends(&self) -> (Vec<u8>, Vec<u8>) {
+        match self.ranged {
+            true => (
+                records::low_ends(&self.ledger, TOKEN),
+                records::low_ends(&self.cells, CELL),
+            ),
+            false => (self.ledger.clone(), self.cells.clone()),
+        }
+    }
+
     /// The tokens in order of arrival.
     pub fn tokens(&self) -> Vec<Token> {
         match self.ranged {
@@ -340,9 +351,9 @@ impl<'p> Machine<'p> {
     /// state.
     pub fn held(&self, end: &End) -> Option<(usize, usize)> {
         let (graph, _, _) = self.lent();
-        let (ledger, cells) = end.bytes();
+        let (ledger, cells) = end.low_ends();
         let (_, firings, tokens, _) = ttda::Answer(end.answer.packed).parts();
-        let found = ttda::held(graph, self.bound, firings, tokens, ledger, cells);
+        let found = ttda::held(graph, self.bound, firings, tokens, &ledger, &cells);
         (found.word() == ttda::Word::Completed).then(|| (found.held(), found.enabled()))
     }
 

@@ -133,6 +133,15 @@ pub fn cells(records: &[u8]) -> Vec<Cell> {
     records.chunks_exact(CELL).map(Cell::of).collect()
 }
 
+/// The plain records of the low ends, of this width each, of records of ranges.
+pub fn low_ends(bytes: &[u8], width: usize) -> Vec<u8> {
+    let records = bytes.chunks_exact(width + 4);
+    records
+        .flat_map(|record| &record[..width])
+        .copied()
+        .collect()
+}
+
 /// The tokens of a run of ranges.
 pub fn range_tokens(ledger: &[u8]) -> Vec<Token> {
     ledger.chunks_exact(RANGE_TOKEN).map(Token::of).collect()
