@@ -4,6 +4,8 @@ use checks::graph;
 use checks::stores;
 use rules::answer::Checked;
 use rules::answer::Refusal;
+use store_enabled::Tables;
+use store_flags::Flags;
 ghost use Prim.Native.Nat.{ℕ, _<_};
 ghost use mathlib.Core.Path.{_≡_};
 ghost use mathlib.Core.List.{List};
@@ -39,8 +41,8 @@ fn check_lent(graph: &[u8], bound: usize, ledger: usize, cells: usize) -> Checke
 // The number of enabled activities that a bound does not hold back.
 fn count_free(
     graph: &[u8],
-    tables: &[u16; 641],
-    flags: &[u64; 69],
+    tables: &Tables,
+    flags: &Flags,
     ledger: &[u8],
     used: usize,
     bound: usize,
@@ -48,8 +50,8 @@ fn count_free(
     requires { ⌜ Ready (now graph) (now tables) (now flags) (now ledger) used × (0 < bound) × (bound < 65536) ⌝ }
     ensures { λ r. ⌜ ((table : List NamedArray) (capacity count : ℕ) (cs : List Cell) → r ≡ length (freeOf (machineOf (graphOf (now (graph .entry))) table capacity count) (heldIn (graphOf (now (graph .entry))) bound) (stateHeld (tokens used (now (ledger .entry))) cs))) ⌝ }
 {
-    let mut nexts = [0u64; 69];
-    let mut held = [0u64; 69];
+    let mut nexts = [0u64; store_flags::LENGTH];
+    let mut held = [0u64; store_flags::LENGTH];
     let mut marks = [0u16; 4096];
     // No activity fired: all records are new, and the place is none.
     held::follow(
@@ -81,9 +83,9 @@ fn count_taken(
     ensures { λ r. ⌜ r ≡ counted (now (graph .entry)) bound firings used (now (ledger .entry)) (now (cells .entry)) ⌝ }
 {
     let none = [0u8; 0];
-    let mut tables = [0u16; 641];
-    let mut links = [0u16; 9216];
-    let mut flags = [0u64; 69];
+    let mut tables = [0u16; store_enabled::TABLES_LENGTH];
+    let mut links = [0u16; store_chains::LENGTH];
+    let mut flags = [0u64; store_flags::LENGTH];
     graph_tables::make(graph, &none, &mut tables);
     if !saved::take(
         graph,

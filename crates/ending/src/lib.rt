@@ -3,6 +3,8 @@ use record::token;
 use record::token::Content;
 use record::token::Token;
 use rules::answer::Outcome;
+use store_enabled::Tables;
+use store_flags::Flags;
 ghost use mathlib.Core.Path.{_≡_};
 ghost use Prim.Native.Nat.{_/_, _≤_, _<_};
 ghost use lib.ListN.{length};
@@ -13,7 +15,7 @@ ghost use Rattle.store_enabled.specs.Enabled.{enabledPlaces};
 ghost use Rattle.ending.specs.Endings.{properBy, EndsAs, RestsAs};
 
 // Whether a completed run may leave this token: a spent one, or a live result, which waits for no operand.
-fn proper(tables: &[u16; 641], t: Token) -> bool
+fn proper(tables: &Tables, t: Token) -> bool
     ensures { λ r. ⌜ r ≡ properBy (now (tables .entry)) t ⌝ }
 {
     let tag = t.tag;
@@ -26,7 +28,7 @@ fn proper(tables: &[u16; 641], t: Token) -> bool
 }
 
 // The same of record i of a ledger. Most tokens at a run's end are spent: of these the state alone is read.
-pub fn proper_at(tables: &[u16; 641], ledger: &[u8], i: usize) -> bool
+pub fn proper_at(tables: &Tables, ledger: &[u8], i: usize) -> bool
     requires { ⌜ i < length (now ledger) / tokenWidth ⌝ }
     ensures { λ r. ⌜ r ≡ properBy (now (tables .entry)) (tokenAt (now (ledger .entry)) i) ⌝ }
 {
@@ -37,7 +39,7 @@ pub fn proper_at(tables: &[u16; 641], ledger: &[u8], i: usize) -> bool
 }
 
 // 02, R-2: with nothing enabled, a run is completed only if every live token is a result and none is deferred.
-pub fn ending(tables: &[u16; 641], ledger: &[u8], used: usize) -> Outcome
+pub fn ending(tables: &Tables, ledger: &[u8], used: usize) -> Outcome
     requires { ⌜ used ≤ length (now ledger) / tokenWidth ⌝ }
     ensures { λ r. ⌜ EndsAs r (now (tables .entry)) (tokens used (now (ledger .entry))) ⌝ }
 {
@@ -53,7 +55,7 @@ pub fn ending(tables: &[u16; 641], ledger: &[u8], used: usize) -> Outcome
 }
 
 // How a run ends whose budget is spent: completed and hung are tried first.
-pub fn rest(tables: &[u16; 641], flags: &[u64; 69], ledger: &[u8], used: usize) -> Outcome
+pub fn rest(tables: &Tables, flags: &Flags, ledger: &[u8], used: usize) -> Outcome
     requires { ⌜ Counted (now flags) × (places (flagsOf (now flags)) ≡ enabledPlaces (now tables) (tokens used (now ledger))) × (used ≤ length (now ledger) / tokenWidth) ⌝ }
     ensures { λ r. ⌜ RestsAs r (now (tables .entry)) (tokens used (now (ledger .entry))) ⌝ }
 {

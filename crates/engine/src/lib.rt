@@ -15,6 +15,9 @@ use rules::answer::Checked;
 use rules::answer::Outcome;
 use rules::answer::Refusal;
 use store_chains::Found;
+use store_chains::Links;
+use store_enabled::Tables;
+use store_flags::Flags;
 ghost use Prim.Native.Nat.{ℕ, _/_, _%_, _≤_, _<_};
 ghost use mathlib.Core.Path.{_≡_};
 ghost use mathlib.Core.List.{List, []};
@@ -72,7 +75,7 @@ fn number_of(pick: usize, e: usize) -> usize
 }
 
 // The first of the enabled activities.
-fn oldest(tables: &[u16; 641], flags: &[u64; 69], ledger: &[u8], used: usize) -> Choice
+fn oldest(tables: &Tables, flags: &Flags, ledger: &[u8], used: usize) -> Choice
     requires { ⌜ Flagged (now tables) (now flags) (now ledger) used ⌝ }
     ensures { λ r. ⌜ ((flags held : List ℕ) → ChosenAs r Oldest [] 0 (now (tables .entry)) flags held (now (ledger .entry)) used) ⌝ }
 {
@@ -85,8 +88,8 @@ fn oldest(tables: &[u16; 641], flags: &[u64; 69], ledger: &[u8], used: usize) ->
 
 // The one that the pick of this turn takes.
 fn by_pick(
-    tables: &[u16; 641],
-    flags: &[u64; 69],
+    tables: &Tables,
+    flags: &Flags,
     ledger: &[u8],
     used: usize,
     picks: &[u8],
@@ -116,9 +119,9 @@ fn name_at(log: &[u8], i: usize) -> Named
 // The place of the activity of a tag, if it is enabled. A log of a run without picks names the first each time, so that one is tried
 // before any search.
 fn place_named(
-    tables: &[u16; 641],
-    links: &[u16; 9216],
-    flags: &[u64; 69],
+    tables: &Tables,
+    links: &Links,
+    flags: &Flags,
     ledger: &[u8],
     used: usize,
     tag: Tag,
@@ -139,9 +142,9 @@ fn place_named(
 
 // The one that the record of this turn names, if it is enabled.
 fn by_record(
-    tables: &[u16; 641],
-    links: &[u16; 9216],
-    flags: &[u64; 69],
+    tables: &Tables,
+    links: &Links,
+    flags: &Flags,
     ledger: &[u8],
     used: usize,
     log: &[u8],
@@ -162,8 +165,8 @@ fn by_record(
 
 // The one at the place of this turn, if it is enabled.
 fn by_place(
-    tables: &[u16; 641],
-    flags: &[u64; 69],
+    tables: &Tables,
+    flags: &Flags,
     ledger: &[u8],
     used: usize,
     places: &[u8],
@@ -182,7 +185,7 @@ fn by_place(
 }
 
 // The place of number k of the activities that are not held back. Where none is, they are all that are enabled.
-fn free_at(flags: &[u64; 69], held: &[u64; 69], k: usize) -> usize
+fn free_at(flags: &Flags, held: &Flags, k: usize) -> usize
     requires { ⌜ Counted (now flags) × Counted (now held) × Under (flagsOf (now held)) (flagsOf (now flags)) × (k < length (places (minus (flagsOf (now flags)) (flagsOf (now held))))) ⌝ }
     ensures { λ r. ⌜ r ≡ getD (places (minus (flagsOf (now (flags .entry))) (flagsOf (now (held .entry))))) k 0 ⌝ }
 {
@@ -195,9 +198,9 @@ fn free_at(flags: &[u64; 69], held: &[u64; 69], k: usize) -> usize
 
 // 02, R-9: the one that the pick of this turn takes of those that are not held back.
 fn by_free(
-    tables: &[u16; 641],
-    flags: &[u64; 69],
-    held: &[u64; 69],
+    tables: &Tables,
+    flags: &Flags,
+    held: &Flags,
     ledger: &[u8],
     used: usize,
     picks: &[u8],
@@ -219,10 +222,10 @@ pub fn choose(
     order: Order,
     source: &[u8],
     firings: usize,
-    tables: &[u16; 641],
-    links: &[u16; 9216],
-    flags: &[u64; 69],
-    held: &[u64; 69],
+    tables: &Tables,
+    links: &Links,
+    flags: &Flags,
+    held: &Flags,
     ledger: &[u8],
     used: usize,
 ) -> Choice
@@ -241,13 +244,13 @@ pub fn choose(
 // The activity that is chosen fires. No other function fires one.
 fn take_turn(
     graph: &[u8],
-    tables: &[u16; 641],
+    tables: &Tables,
     order: Order,
     source: &[u8],
     firings: usize,
-    links: &mut [u16; 9216],
-    flags: &mut [u64; 69],
-    held: &[u64; 69],
+    links: &mut Links,
+    flags: &mut Flags,
+    held: &Flags,
     ledger: &mut [u8],
     cells: &mut [u8],
     used: usize,
@@ -298,14 +301,14 @@ pub struct Going {
 pub fn follow(
     order: Order,
     graph: &[u8],
-    tables: &[u16; 641],
-    flags: &[u64; 69],
+    tables: &Tables,
+    flags: &Flags,
     ledger: &[u8],
     used: usize,
     n: usize,
     place: usize,
-    nexts: &mut [u64; 69],
-    held: &mut [u64; 69],
+    nexts: &mut Flags,
+    held: &mut Flags,
     marks: &mut [u16],
 )
     requires { ⌜ FiredOn order (graphOf (now graph)) (now tables) (now flags) (now ledger) used n (now nexts) (now held) (now marks) ⌝ }
@@ -336,13 +339,13 @@ pub fn follow(
 // order that holds nothing back does not look at them.
 pub fn turns(
     graph: &[u8],
-    tables: &[u16; 641],
+    tables: &Tables,
     order: Order,
     source: &[u8],
-    links: &mut [u16; 9216],
-    flags: &mut [u64; 69],
-    nexts: &mut [u64; 69],
-    held: &mut [u64; 69],
+    links: &mut Links,
+    flags: &mut Flags,
+    nexts: &mut Flags,
+    held: &mut Flags,
     marks: &mut [u16],
     ledger: &mut [u8],
     cells: &mut [u8],
@@ -401,11 +404,11 @@ pub fn turns(
 // The same where nothing is held back: runs and replays.
 pub fn proceed(
     graph: &[u8],
-    tables: &[u16; 641],
+    tables: &Tables,
     order: Order,
     source: &[u8],
-    links: &mut [u16; 9216],
-    flags: &mut [u64; 69],
+    links: &mut Links,
+    flags: &mut Flags,
     ledger: &mut [u8],
     cells: &mut [u8],
     log: &mut [u8],
@@ -415,8 +418,8 @@ pub fn proceed(
     ensures { λ r. ⌜ Proceeded (endOf order (now (source .entry)) (graphOf (now (graph .entry))) (now (tables .entry)) (now (ledger .entry)) (now (cells .entry)) (going .used) (going .budget)) r (graphOf (now (graph .entry))) (now (tables .entry)) (now (links .exit)) (now (flags .exit)) (now (ledger .exit)) (now (cells .exit)) (going .used) (now (ledger .entry)) (now (cells .entry)) ⌝ }
     ensures { λ _. ⌜ now (log .exit) ≡ recorded (firedBy order (now (source .entry)) (graphOf (now (graph .entry))) (now (tables .entry)) (now (ledger .entry)) (now (cells .entry)) (going .used) (going .budget)) (now (log .entry)) ⌝ }
 {
-    let mut nexts = [0u64; 69];
-    let mut held = [0u64; 69];
+    let mut nexts = [0u64; store_flags::LENGTH];
+    let mut held = [0u64; store_flags::LENGTH];
     let mut marks = [0u16; 0];
     turns(
         graph,
@@ -447,13 +450,7 @@ pub fn order_of(picks: &[u8]) -> Order
 }
 
 // "If only held ones remain, the answer is hung, at a used-up budget too.": what a run with a bound answered, where it ended.
-pub fn settle(
-    tables: &[u16; 641],
-    flags: &[u64; 69],
-    held: &[u64; 69],
-    ledger: &[u8],
-    own: Answer,
-) -> Answer
+pub fn settle(tables: &Tables, flags: &Flags, held: &Flags, ledger: &[u8], own: Answer) -> Answer
     requires { ⌜ Counted (now flags) × Counted (now held) × Under (flagsOf (now held)) (flagsOf (now flags)) × (own .tokens ≤ length (now ledger) / tokenWidth) ⌝ }
     ensures { λ r. ⌜ Settled (now (tables .entry)) (now (flags .entry)) (now (held .entry)) (now (ledger .entry)) own r ⌝ }
 {
@@ -467,11 +464,11 @@ pub fn settle(
 // 02, R-9: a run with a bound goes on from a state under picks.
 fn proceed_bounded(
     graph: &[u8],
-    tables: &[u16; 641],
+    tables: &Tables,
     picks: &[u8],
     bound: usize,
-    links: &mut [u16; 9216],
-    flags: &mut [u64; 69],
+    links: &mut Links,
+    flags: &mut Flags,
     ledger: &mut [u8],
     cells: &mut [u8],
     log: &mut [u8],
@@ -481,8 +478,8 @@ fn proceed_bounded(
     ensures { λ r. ⌜ EndedAt (endBounded bound (now (picks .entry)) (graphOf (now (graph .entry))) (now (tables .entry)) (now (ledger .entry)) (now (cells .entry)) (going .used) (going .budget)) r (now (ledger .entry)) (now (cells .entry)) (now (ledger .exit)) (now (cells .exit)) ⌝ }
     ensures { λ _. ⌜ now (log .exit) ≡ recorded (firedBounded bound (now (picks .entry)) (graphOf (now (graph .entry))) (now (tables .entry)) (now (ledger .entry)) (now (cells .entry)) (going .used) (going .budget)) (now (log .entry)) ⌝ }
 {
-    let mut nexts = [0u64; 69];
-    let mut held = [0u64; 69];
+    let mut nexts = [0u64; store_flags::LENGTH];
+    let mut held = [0u64; store_flags::LENGTH];
     let mut marks = [0u16; 4096];
     let order = Order::Free(bound);
     // Not by `follow`: a second caller would cost each turn of every run a call.
@@ -520,11 +517,11 @@ fn proceed_bounded(
 // A run goes on from a state under picks, with a bound or, where it is 0, without one.
 fn go_on(
     graph: &[u8],
-    tables: &[u16; 641],
+    tables: &Tables,
     picks: &[u8],
     bound: usize,
-    links: &mut [u16; 9216],
-    flags: &mut [u64; 69],
+    links: &mut Links,
+    flags: &mut Flags,
     ledger: &mut [u8],
     cells: &mut [u8],
     log: &mut [u8],
@@ -580,9 +577,9 @@ fn accepted(
     ensures { λ r. ⌜ EndedAt (endFromInputs bound (now (picks .entry)) budget (now (graph .entry)) (now (arrays .entry)) (now (inputs .entry)) (now (ledger .entry)) (now (cells .entry))) r (now (ledger .entry)) (now (cells .entry)) (now (ledger .exit)) (now (cells .exit)) ⌝ }
     ensures { λ _. ⌜ now (log .exit) ≡ recorded (firedFromInputs bound (now (picks .entry)) budget (now (graph .entry)) (now (arrays .entry)) (now (inputs .entry)) (now (ledger .entry)) (now (cells .entry))) (now (log .entry)) ⌝ }
 {
-    let mut tables = [0u16; 641];
-    let mut links = [0u16; 9216];
-    let mut flags = [0u64; 69];
+    let mut tables = [0u16; store_enabled::TABLES_LENGTH];
+    let mut links = [0u16; store_chains::LENGTH];
+    let mut flags = [0u64; store_flags::LENGTH];
     let used = start::begin(
         graph,
         arrays,
@@ -645,9 +642,9 @@ fn resume(
     requires { ⌜ Lent (now graph) (now arrays) (length (now ledger)) (length (now cells)) × (budget < 65536) × (firings < 65536) × (bound < 65536) ⌝ }
     ensures { λ r. ⌜ Ran (resumed (now (graph .entry)) (now (arrays .entry)) (now (picks .entry)) budget bound (now (ledger .entry)) (now (cells .entry)) firings used) r (now (ledger .entry)) (now (ledger .exit)) (now (cells .entry)) (now (cells .exit)) ⌝ }
 {
-    let mut tables = [0u16; 641];
-    let mut links = [0u16; 9216];
-    let mut flags = [0u64; 69];
+    let mut tables = [0u16; store_enabled::TABLES_LENGTH];
+    let mut links = [0u16; store_chains::LENGTH];
+    let mut flags = [0u64; store_flags::LENGTH];
     graph_tables::make(graph, arrays, &mut tables);
     if !saved::take(
         graph,

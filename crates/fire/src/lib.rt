@@ -22,6 +22,9 @@ use record::cell;
 use record::instruction;
 use record::operation;
 use record::token;
+use store_chains::Links;
+use store_enabled::Tables;
+use store_flags::Flags;
 ghost use Prim.Native.Nat.{_<_};
 ghost use mathlib.Core.Path.{_≡_};
 ghost use mathlib.Core.Bool.{true};
@@ -33,9 +36,9 @@ ghost use Rattle.fire.specs.Running.{Prepared, Running, askedIn, Stepped
 // The enabled activity whose place this is fires, or is refused with ledger and cells as they were.
 pub fn fire(
     graph: &[u8],
-    tables: &[u16; 641],
-    links: &mut [u16; 9216],
-    flags: &mut [u64; 69],
+    tables: &Tables,
+    links: &mut Links,
+    flags: &mut Flags,
     ledger: &mut [u8],
     cells: &mut [u8],
     used: usize,

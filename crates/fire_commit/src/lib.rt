@@ -4,6 +4,9 @@ use fire_effect::output::Outputs;
 use fire_operands::Admitted;
 use fire_outputs::Places;
 use rules::answer::Refusal;
+use store_chains::Links;
+use store_enabled::Tables;
+use store_flags::Flags;
 ghost use Prim.Native.Nat.{_/_};
 ghost use lib.ListN.{length};
 ghost use Rattle.record.specs.TokensAndTags.{tokens};
@@ -20,9 +23,9 @@ pub enum Fired {
 // An action on ledger and cells, and its outputs. What refuses them is asked before anything is written:
 // 11, then 8 and 9. A refusal leaves both as they were.
 pub fn commit(
-    tables: &[u16; 641],
-    links: &mut [u16; 9216],
-    flags: &mut [u64; 69],
+    tables: &Tables,
+    links: &mut Links,
+    flags: &mut Flags,
     ledger: &mut [u8],
     cells: &mut [u8],
     used: usize,

@@ -10,6 +10,7 @@ use record::tag::Left;
 use record::tag::Next;
 use record::tag::Tag;
 use rules::answer::Refusal;
+use store_enabled::Tables;
 ghost use Prim.Native.Nat.{_/_, _≤_};
 ghost use mathlib.Core.Path.{_≡_};
 ghost use mathlib.Core.Bool.{true};
@@ -114,7 +115,7 @@ fn returned(graph: &[u8], back: u16, k: u8, caller: Tag) -> NewTags
 }
 
 // LEAVE. At path 0 it never fires.
-fn leave(graph: &[u8], tables: &[u16; 641], tag: Tag, r: Instruction) -> NewTags
+fn leave(graph: &[u8], tables: &Tables, tag: Tag, r: Instruction) -> NewTags
     requires { ⌜ length (now graph) / graphWidth ≤ 256 ⌝ }
     requires { ⌜ Returns (graphOf (now graph)) (now tables) ⌝ }
     requires { ⌜ within 0 255 (r .constant) ≡ true ⌝ }
@@ -133,7 +134,7 @@ fn leave(graph: &[u8], tables: &[u16; 641], tag: Tag, r: Instruction) -> NewTags
 // a LEAVE constant is at most a byte, and an instruction of the graph fits 16 bits.
 pub fn new_tags(
     graph: &[u8],
-    tables: &[u16; 641],
+    tables: &Tables,
     o: Operation,
     tag: Tag,
     r: Instruction,

@@ -6,6 +6,7 @@ use record::token;
 use record::token::Content;
 use rules::answer::Refusal;
 use store_chains::Found;
+use store_chains::Links;
 use store_chains::Slot;
 use store_chains::Sought;
 ghost use mathlib.Core.Path.{_≡_};
@@ -53,7 +54,7 @@ fn place_or(f: Found, other: usize) -> usize
 // All operands of a tag, which are live. The token at the tag's place is one of them: the other alone is searched for,
 // where there is one.
 pub fn operands_of(
-    links: &[u16; 9216],
+    links: &Links,
     ledger: &[u8],
     used: usize,
     tag: Tag,
@@ -121,7 +122,7 @@ fn beside(first: Key, second: Key, slot: Slot, used: usize) -> Slot
 }
 
 // Whether the outputs of a firing can go into the ledger, and where: refusal 8, then 9.
-pub fn admit(links: &[u16; 9216], ledger: &[u8], used: usize, outputs: Outputs) -> Admitted
+pub fn admit(links: &Links, ledger: &[u8], used: usize, outputs: Outputs) -> Admitted
     requires { ⌜ Known (now links) (now ledger) used × (used ≤ 2048) × (outputs .count ≤ 2) × LowPorts outputs ⌝ }
     ensures { λ r. ⌜ AdmittedAs r (admittedOf (length (now (ledger .entry)) / tokenWidth) (tokens used (now (ledger .entry))) outputs) (tokens used (now (ledger .entry))) outputs ⌝ }
 {

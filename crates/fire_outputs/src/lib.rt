@@ -7,7 +7,10 @@ use record::cell;
 use record::cell::Cell;
 use record::token::Content;
 use record::token::Token;
+use store_chains::Links;
 use store_chains::Slot;
+use store_enabled::Tables;
+use store_flags::Flags;
 ghost use mathlib.Core.Path.{_≡_};
 ghost use mathlib.Core.List.{[], _∷_, _++_};
 ghost use Prim.Native.Nat.{_+_, _/_, _≤_, _<_};
@@ -28,9 +31,9 @@ pub struct Places {
 
 // An output goes in as record `used`, in its slot.
 fn append_one(
-    tables: &[u16; 641],
-    links: &mut [u16; 9216],
-    flags: &mut [u64; 69],
+    tables: &Tables,
+    links: &mut Links,
+    flags: &mut Flags,
     ledger: &mut [u8],
     used: usize,
     key: Key,
@@ -59,9 +62,9 @@ fn append_one(
 
 // The outputs go into the ledger, destination 1 first: how many tokens it then has. One place writes them, so that it is no call.
 fn append_outputs(
-    tables: &[u16; 641],
-    links: &mut [u16; 9216],
-    flags: &mut [u64; 69],
+    tables: &Tables,
+    links: &mut Links,
+    flags: &mut Flags,
     ledger: &mut [u8],
     used: usize,
     outputs: Outputs,
@@ -119,9 +122,9 @@ fn change_cells(cells: &mut [u8], action: Action) -> Content
 
 // A write wakes the tokens that are deferred on its cell.
 fn wake(
-    tables: &[u16; 641],
-    links: &mut [u16; 9216],
-    flags: &mut [u64; 69],
+    tables: &Tables,
+    links: &mut Links,
+    flags: &mut Flags,
     ledger: &mut [u8],
     used: usize,
     action: Action,
@@ -138,9 +141,9 @@ fn wake(
 
 // A firing that nothing refuses: how many tokens the ledger then has.
 pub fn carry_out(
-    tables: &[u16; 641],
-    links: &mut [u16; 9216],
-    flags: &mut [u64; 69],
+    tables: &Tables,
+    links: &mut Links,
+    flags: &mut Flags,
     ledger: &mut [u8],
     cells: &mut [u8],
     used: usize,

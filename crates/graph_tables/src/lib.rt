@@ -5,6 +5,7 @@ use record::array;
 use record::instruction;
 use record::instruction::Instruction;
 use record::operation;
+use store_enabled::Tables;
 ghost use mathlib.Core.Path.{_≡_};
 ghost use Prim.Native.Nat.{ℕ, _+_, _/_, _≤_, _<_};
 ghost use lib.ListN.{length, getD};
@@ -37,7 +38,7 @@ fn entry_at(counts: &[u8; 256], graph: &[u8], i: usize) -> u16
 }
 
 // The entries for operand counts, behind all else.
-fn arities(graph: &[u8], out: &mut [u16; 641])
+fn arities(graph: &[u8], out: &mut Tables)
     requires { ⌜ (checkGraph (now graph) ≡ Passed) × (length (now out) ≡ 641) ⌝ }
     ensures { λ _. ⌜ Arities (graphOf (now (graph .entry))) (now (out .exit)) × (length (now (out .exit)) ≡ 641) ⌝ }
     ensures { λ _. ⌜ (Returns (graphOf (now (graph .entry))) (now (out .entry)) → Returns (graphOf (now (graph .entry))) (now (out .exit))) ⌝ }
@@ -51,7 +52,7 @@ fn arities(graph: &[u8], out: &mut [u16; 641])
 }
 
 // Puts the return of an ENTER into the table.
-fn note(out: &mut [u16; 641], r: Instruction)
+fn note(out: &mut Tables, r: Instruction)
     ensures { λ _. ⌜ now (out .exit) ≡ atSite (now (out .entry)) r (r .second .instruction) ⌝ }
 {
     let back = r.second;
@@ -65,10 +66,10 @@ fn note(out: &mut [u16; 641], r: Instruction)
 }
 
 // The returns, from the last record to the first, since the first ENTER of a site counts.
-fn returns(graph: &[u8], out: &mut [u16; 641])
+fn returns(graph: &[u8], out: &mut Tables)
     ensures { λ _. ⌜ Returns (graphOf (now (graph .entry))) (now (out .exit)) × (length (now (out .exit)) ≡ 641) ⌝ }
 {
-    *out = [0u16; 641];
+    *out = [0u16; store_enabled::TABLES_LENGTH];
     let mut i = graph.len() / instruction::WIDTH;
     while 0 < i {
         i -= 1;
@@ -77,7 +78,7 @@ fn returns(graph: &[u8], out: &mut [u16; 641])
 }
 
 // The named arrays, behind the returns: their number, then the first cell and the length of each.
-fn name(arrays: &[u8], out: &mut [u16; 641])
+fn name(arrays: &[u8], out: &mut Tables)
     requires { ⌜ (length (now arrays) / arrayWidth ≤ mostArrays) × (length (now out) ≡ 641) ⌝ }
     ensures { λ _. ⌜ arraysIn (now (out .exit)) ≡ arraysOf (now (arrays .entry)) ⌝ }
     ensures { λ _. ⌜ ((k : ℕ) → k < 256 → getD (now (out .exit)) k 0 ≡ getD (now (out .entry)) k 0) ⌝ }
@@ -95,7 +96,7 @@ fn name(arrays: &[u8], out: &mut [u16; 641])
 }
 
 // All of them, of a graph that passed its check and a table that is not too long.
-pub fn make(graph: &[u8], arrays: &[u8], out: &mut [u16; 641])
+pub fn make(graph: &[u8], arrays: &[u8], out: &mut Tables)
     requires { ⌜ (checkGraph (now graph) ≡ Passed) × (length (now arrays) / arrayWidth ≤ mostArrays) ⌝ }
     ensures { λ _. ⌜ TablesOf (now (graph .entry)) (now (arrays .entry)) (now (out .exit)) ⌝ }
 {

@@ -7,6 +7,8 @@ use record::tag::Left;
 use record::tag::Path;
 use record::tag::Tag;
 use record::token;
+use store_enabled::Tables;
+use store_flags::Flags;
 ghost use Prim.Native.Nat.{_+_, _/_, _≤_, _<_};
 ghost use mathlib.Core.Path.{_≡_};
 ghost use mathlib.Core.Bool.{false, not};
@@ -82,7 +84,7 @@ fn is_next(graph: &[u8], i: u16) -> bool
 }
 
 // Flag i is raised or lowered, whichever it was.
-fn put(held: &mut [u64; 69], i: usize, on: bool)
+fn put(held: &mut Flags, i: usize, on: bool)
     requires { ⌜ (i < 2048) × Counted (now held) ⌝ }
     ensures { λ _. ⌜ flagsOf (now (held .exit)) ≡ set (flagsOf (now (held .entry))) i (bit on) ⌝ }
     ensures { λ _. ⌜ Counted (now (held .exit)) ⌝ }
@@ -118,13 +120,7 @@ fn later(at: usize, skip: u16) -> usize
 }
 
 // The first record from `from` on that a completed run does not leave, or `used`.
-fn next_pending(
-    tables: &[u16; 641],
-    ledger: &[u8],
-    used: usize,
-    marks: &[u16],
-    from: usize,
-) -> usize
+fn next_pending(tables: &Tables, ledger: &[u8], used: usize, marks: &[u16], from: usize) -> usize
     requires { ⌜ (used ≤ length (now ledger) / tokenWidth) × (used ≤ 2048) × (length (now marks) ≡ 4096) × (from ≤ used) × Skips (now tables) (now ledger) used (now marks) ⌝ }
     ensures { λ r. ⌜ PendingFrom (now (tables .entry)) (now (ledger .entry)) used from r ⌝ }
 {
@@ -149,7 +145,7 @@ fn old_at(ledger: &[u8], i: usize, path: Path, bound: usize, m: usize) -> bool
 
 // The first record from `from` on that holds back what would make iteration m of a path, or `used`.
 fn first_holder(
-    tables: &[u16; 641],
+    tables: &Tables,
     ledger: &[u8],
     used: usize,
     marks: &mut [u16],
@@ -182,8 +178,8 @@ fn first_holder(
 // Whether the activity at the place of record i is enabled and held back.
 fn holds_now(
     graph: &[u8],
-    tables: &[u16; 641],
-    flags: &[u64; 69],
+    tables: &Tables,
+    flags: &Flags,
     ledger: &[u8],
     used: usize,
     bound: usize,
@@ -213,13 +209,13 @@ fn holds_now(
 // The activities of the records at NEXT are looked at, each in turn.
 fn decide(
     graph: &[u8],
-    tables: &[u16; 641],
-    flags: &[u64; 69],
+    tables: &Tables,
+    flags: &Flags,
     ledger: &[u8],
     used: usize,
     bound: usize,
-    nexts: &[u64; 69],
-    held: &mut [u64; 69],
+    nexts: &Flags,
+    held: &mut Flags,
     marks: &mut [u16],
 )
     requires { ⌜ Arities (graphOf (now graph)) (now tables) × (used ≤ length (now ledger) / tokenWidth) × (used ≤ 2048) × (0 < bound) × (bound < 65536) × Counted (now flags) × Counted (now nexts) × Counted (now held) × ClearFrom used (flagsOf (now nexts)) × Under (flagsOf (now held)) (flagsOf (now nexts)) × Marked (now tables) (now ledger) bound used (now marks) × Listed (graphOf (now graph)) (flagsOf (now flags)) (flagsOf (now nexts)) (now ledger) used ⌝ }
@@ -246,7 +242,7 @@ fn at_next(graph: &[u8], ledger: &[u8], i: usize) -> bool
 }
 
 // The records that came since, from `used` on: those at NEXT are listed.
-fn list_new(graph: &[u8], ledger: &[u8], used: usize, n: usize, nexts: &mut [u64; 69])
+fn list_new(graph: &[u8], ledger: &[u8], used: usize, n: usize, nexts: &mut Flags)
     requires { ⌜ (used ≤ n) × (n ≤ length (now ledger) / tokenWidth) × (n ≤ 2048) × Counted (now nexts) × ClearFrom used (flagsOf (now nexts)) ⌝ }
     ensures { λ _. ⌜ Counted (now (nexts .exit)) × NewListed (graphOf (now (graph .entry))) (now (ledger .entry)) used n (flagsOf (now (nexts .entry))) (flagsOf (now (nexts .exit))) ⌝ }
 {
@@ -259,7 +255,7 @@ fn list_new(graph: &[u8], ledger: &[u8], used: usize, n: usize, nexts: &mut [u64
 }
 
 // A record below n that is spent is listed no more.
-fn drop_spent(ledger: &[u8], n: usize, place: usize, nexts: &mut [u64; 69], held: &mut [u64; 69])
+fn drop_spent(ledger: &[u8], n: usize, place: usize, nexts: &mut Flags, held: &mut Flags)
     requires { ⌜ (n ≤ length (now ledger) / tokenWidth) × (n ≤ 2048) × Counted (now nexts) × Counted (now held) ⌝ }
     ensures { λ _. ⌜ Counted (now (nexts .exit)) × Counted (now (held .exit)) × Dropped (now (ledger .entry)) place (flagsOf (now (nexts .entry))) (flagsOf (now (held .entry))) (flagsOf (now (nexts .exit))) (flagsOf (now (held .exit))) ⌝ }
 {
@@ -277,15 +273,15 @@ fn drop_spent(ledger: &[u8], n: usize, place: usize, nexts: &mut [u64; 69], held
 // again. Before the first firing all n are new, and the place is none.
 pub fn follow(
     graph: &[u8],
-    tables: &[u16; 641],
-    flags: &[u64; 69],
+    tables: &Tables,
+    flags: &Flags,
     ledger: &[u8],
     used: usize,
     n: usize,
     place: usize,
     bound: usize,
-    nexts: &mut [u64; 69],
-    held: &mut [u64; 69],
+    nexts: &mut Flags,
+    held: &mut Flags,
     marks: &mut [u16],
 )
     requires { ⌜ Arities (graphOf (now graph)) (now tables) × (used ≤ n) × (n ≤ length (now ledger) / tokenWidth) × (n ≤ 2048) × (0 < bound) × (bound < 65536) × Counted (now flags) × FlagsUnspent (flagsOf (now flags)) (now ledger) n × Carried (graphOf (now graph)) (now tables) (now ledger) bound used (now nexts) (now held) (now marks) ⌝ }

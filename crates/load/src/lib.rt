@@ -2,7 +2,10 @@
 // input tokens are written to the ledger.
 use record::pick;
 use record::token;
+use store_chains::Links;
 use store_chains::Sought;
+use store_enabled::Tables;
+use store_flags::Flags;
 ghost use mathlib.Core.Path.{_≡_};
 ghost use Prim.Native.Nat.{_/_, _≤_, _<_};
 ghost use lib.ListN.{length, getD, replicate};
@@ -52,9 +55,9 @@ pub fn pick_at(picks: &[u8], k: usize) -> usize
 // The input tokens arrive in their order in an empty ledger. The answer is how many they are. They are written here and then entered,
 // so that `store::arrive` is called in one place.
 pub fn inputs(
-    tables: &[u16; 641],
-    links: &mut [u16; 9216],
-    flags: &mut [u64; 69],
+    tables: &Tables,
+    links: &mut Links,
+    flags: &mut Flags,
     ledger: &mut [u8],
     inputs: &[u8],
 ) -> usize

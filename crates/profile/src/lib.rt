@@ -12,6 +12,9 @@ use rules::answer::Checked;
 use rules::answer::Outcome;
 use rules::answer::Profiled;
 use rules::answer::Refusal;
+use store_chains::Links;
+use store_enabled::Tables;
+use store_flags::Flags;
 ghost use Prim.Native.Nat.{ℕ, _/_, _<_, _≤_};
 ghost use mathlib.Core.Path.{_≡_};
 ghost use lib.ListN.{length, getD, set};
@@ -110,7 +113,7 @@ fn wide(x: u16) -> usize
 }
 
 // How many operands the activity waits for whose place this is.
-fn arity_at(tables: &[u16; 641], ledger: &[u8], place: usize) -> usize
+fn arity_at(tables: &Tables, ledger: &[u8], place: usize) -> usize
     requires { ⌜ place < length (now ledger) / tokenWidth ⌝ }
     ensures { λ r. ⌜ (r ≡ arityOf (now (tables .entry)) (tokenAt (now (ledger .entry)) place .tag)) × (r < 65536) ⌝ }
 {
@@ -120,7 +123,7 @@ fn arity_at(tables: &[u16; 641], ledger: &[u8], place: usize) -> usize
 }
 
 // How a profile ends that has no record left: 18, unless nothing is enabled.
-fn no_record(tables: &[u16; 641], flags: &[u64; 69], ledger: &[u8], used: usize) -> Outcome
+fn no_record(tables: &Tables, flags: &Flags, ledger: &[u8], used: usize) -> Outcome
     requires { ⌜ Counted (now flags) × (places (flagsOf (now flags)) ≡ enabledPlaces (now tables) (tokens used (now ledger))) × (used ≤ length (now ledger) / tokenWidth) ⌝ }
     ensures { λ r. ⌜ LastAs r (now (tables .entry)) (tokens used (now (ledger .entry))) ⌝ }
 {
@@ -148,7 +151,7 @@ fn lowered(word: u64, k: usize) -> u64
 
 // Writes the places of so many enabled activities, which are all, in order and 2 bytes each. From the word of the first on, the flags
 // of a word are taken away in turn.
-fn put_places(flags: &[u64; 69], count: usize, out: &mut [u8; 4096])
+fn put_places(flags: &Flags, count: usize, out: &mut [u8; 4096])
     requires { ⌜ Counted (now flags) × (length (now out) ≡ 4096) × (count ≡ length (places (flagsOf (now flags)))) × (0 < count) ⌝ }
     ensures { λ _. ⌜ PlacesIn count (now (flags .entry)) (now (out .exit)) ⌝ }
 {
@@ -171,7 +174,7 @@ fn put_places(flags: &[u64; 69], count: usize, out: &mut [u8; 4096])
 }
 
 // Writes the places of the enabled activities, in order and 2 bytes each, and answers how many there are.
-fn enabled_places(flags: &[u64; 69], out: &mut [u8; 4096]) -> usize
+fn enabled_places(flags: &Flags, out: &mut [u8; 4096]) -> usize
     requires { ⌜ Counted (now flags) × (length (now out) ≡ 4096) ⌝ }
     ensures { λ r. ⌜ PlacesIn r (now (flags .entry)) (now (out .exit)) ⌝ }
 {
@@ -183,7 +186,7 @@ fn enabled_places(flags: &[u64; 69], out: &mut [u8; 4096]) -> usize
 }
 
 // How many operands the activities at the first places have together.
-fn operands_at(tables: &[u16; 641], ledger: &[u8], places: &[u8], count: usize) -> usize
+fn operands_at(tables: &Tables, ledger: &[u8], places: &[u8], count: usize) -> usize
     requires { ⌜ (count ≤ 2048) × ((k : ℕ) → k < count → getD (picksOf (now places)) k 0 < length (now ledger) / tokenWidth) ⌝ }
     ensures { λ r. ⌜ r ≡ operandsUpTo (now (tables .entry)) (now (ledger .entry)) (picksOf (now (places .entry))) count ⌝ }
 {
@@ -201,14 +204,14 @@ fn operands_at(tables: &[u16; 641], ledger: &[u8], places: &[u8], count: usize) 
 // arrays for that are lent, so that they are not cleared for each step.
 fn step(
     graph: &[u8],
-    tables: &[u16; 641],
-    links: &mut [u16; 9216],
-    flags: &mut [u64; 69],
+    tables: &Tables,
+    links: &mut Links,
+    flags: &mut Flags,
     ledger: &mut [u8],
     cells: &mut [u8],
     turns: &mut [u8; 4096],
-    nexts: &mut [u64; 69],
-    held: &mut [u64; 69],
+    nexts: &mut Flags,
+    held: &mut Flags,
     start: usize,
     live: usize,
 ) -> StepEnd
@@ -266,9 +269,9 @@ fn answered(outcome: Outcome, firings: usize, tokens: usize, records: usize) -> 
 // A profile goes on from a state of `start` tokens, all live.
 fn proceed(
     graph: &[u8],
-    tables: &[u16; 641],
-    links: &mut [u16; 9216],
-    flags: &mut [u64; 69],
+    tables: &Tables,
+    links: &mut Links,
+    flags: &mut Flags,
     ledger: &mut [u8],
     cells: &mut [u8],
     profile: &mut [u8],
@@ -279,8 +282,8 @@ fn proceed(
 {
     let room = profile.len() / WIDTH;
     let mut turns = [0u8; 4096];
-    let mut nexts = [0u64; 69];
-    let mut held = [0u64; 69];
+    let mut nexts = [0u64; store_flags::LENGTH];
+    let mut held = [0u64; store_flags::LENGTH];
     let mut used = start;
     let mut unspent = start;
     let mut firings = 0;
@@ -329,9 +332,9 @@ fn accepted(
     requires { ⌜ checkProfile (now graph) (now arrays) (now inputs) (length (now ledger)) (length (now cells)) (length (now profile)) ≡ Passed ⌝ }
     ensures { λ r. ⌜ ProfiledTo (Machine·profile (machineLent (now (graph .entry)) (now (arrays .entry)) (now (ledger .entry)) (now (cells .entry))) ProfileFull (length (now (profile .entry)) / stepWidth) 0 (firstState (now (inputs .entry)) (length (now (cells .entry)) / cellWidth))) r (now (ledger .entry)) (now (cells .entry)) (now (profile .entry)) (now (ledger .exit)) (now (cells .exit)) (now (profile .exit)) ⌝ }
 {
-    let mut tables = [0u16; 641];
-    let mut links = [0u16; 9216];
-    let mut flags = [0u64; 69];
+    let mut tables = [0u16; store_enabled::TABLES_LENGTH];
+    let mut links = [0u16; store_chains::LENGTH];
+    let mut flags = [0u64; store_flags::LENGTH];
     let used = start::begin(
         graph,
         arrays,

@@ -15,6 +15,9 @@ use rules::answer::Answer;
 use rules::answer::Checked;
 use rules::answer::Outcome;
 use rules::answer::Refusal;
+use store_chains::Links;
+use store_enabled::Tables;
+use store_flags::Flags;
 ghost use Prim.Native.Nat.{_*_, _/_, _+_, _≤_, _<_};
 ghost use mathlib.Core.Path.{_≡_};
 ghost use mathlib.Core.Bool.{_&&_};
@@ -58,15 +61,15 @@ pub struct Ran {
 // The activity that is chosen fires over handles.
 fn take_turn(
     graph: &[u8],
-    tables: &[u16; 641],
+    tables: &Tables,
     order: Order,
     picks: &[u8],
     firings: usize,
     table: &mut [u8],
     count: usize,
-    links: &mut [u16; 9216],
-    flags: &mut [u64; 69],
-    held: &[u64; 69],
+    links: &mut Links,
+    flags: &mut Flags,
+    held: &Flags,
     ledger: &mut [u8],
     cells: &mut [u8],
     used: usize,
@@ -120,14 +123,14 @@ fn take_turn(
 // The loop of the engine over handles.
 fn turns(
     graph: &[u8],
-    tables: &[u16; 641],
+    tables: &Tables,
     order: Order,
     picks: &[u8],
     table: &mut [u8],
-    links: &mut [u16; 9216],
-    flags: &mut [u64; 69],
-    nexts: &mut [u64; 69],
-    held: &mut [u64; 69],
+    links: &mut Links,
+    flags: &mut Flags,
+    nexts: &mut Flags,
+    held: &mut Flags,
     marks: &mut [u16],
     ledger: &mut [u8],
     cells: &mut [u8],
@@ -195,11 +198,11 @@ fn turns(
 // Without a bound.
 fn proceed(
     graph: &[u8],
-    tables: &[u16; 641],
+    tables: &Tables,
     picks: &[u8],
     table: &mut [u8],
-    links: &mut [u16; 9216],
-    flags: &mut [u64; 69],
+    links: &mut Links,
+    flags: &mut Flags,
     ledger: &mut [u8],
     cells: &mut [u8],
     going: Going,
@@ -208,8 +211,8 @@ fn proceed(
     ensures { λ r. ⌜ Tells 0 (now (picks .entry)) (going .budget) (graphOf (now (graph .entry))) (arraysIn (now (tables .entry))) (length (now (ledger .entry)) / tokenWidth) (length (now (cells .entry)) / cellWidth) (tableOf (going .count) (now (table .entry))) (stateIn (now (ledger .entry)) (now (cells .entry)) (going .used)) r (now (ledger .exit)) (now (cells .exit)) (now (table .exit)) ⌝ }
     ensures { λ r. ⌜ Fits r (now (ledger .exit)) (now (cells .exit)) (now (table .exit)) (now (ledger .entry)) (now (cells .entry)) (now (table .entry)) ⌝ }
 {
-    let mut nexts = [0u64; 69];
-    let mut held = [0u64; 69];
+    let mut nexts = [0u64; store_flags::LENGTH];
+    let mut held = [0u64; store_flags::LENGTH];
     let mut marks = [0u16; 0];
     let order = engine::order_of(picks);
     turns(
@@ -232,12 +235,12 @@ fn proceed(
 // 02, R-9: with one.
 fn proceed_bounded(
     graph: &[u8],
-    tables: &[u16; 641],
+    tables: &Tables,
     picks: &[u8],
     bound: usize,
     table: &mut [u8],
-    links: &mut [u16; 9216],
-    flags: &mut [u64; 69],
+    links: &mut Links,
+    flags: &mut Flags,
     ledger: &mut [u8],
     cells: &mut [u8],
     going: Going,
@@ -246,8 +249,8 @@ fn proceed_bounded(
     ensures { λ r. ⌜ Tells bound (now (picks .entry)) (going .budget) (graphOf (now (graph .entry))) (arraysIn (now (tables .entry))) (length (now (ledger .entry)) / tokenWidth) (length (now (cells .entry)) / cellWidth) (tableOf (going .count) (now (table .entry))) (stateIn (now (ledger .entry)) (now (cells .entry)) (going .used)) r (now (ledger .exit)) (now (cells .exit)) (now (table .exit)) ⌝ }
     ensures { λ r. ⌜ Fits r (now (ledger .exit)) (now (cells .exit)) (now (table .exit)) (now (ledger .entry)) (now (cells .entry)) (now (table .entry)) ⌝ }
 {
-    let mut nexts = [0u64; 69];
-    let mut held = [0u64; 69];
+    let mut nexts = [0u64; store_flags::LENGTH];
+    let mut held = [0u64; store_flags::LENGTH];
     let mut marks = [0u16; 4096];
     let order = Order::Free(bound);
     engine::follow(
@@ -288,12 +291,12 @@ fn proceed_bounded(
 // A run goes on from a state under picks, with a bound or, where it is 0, without one.
 fn go_on(
     graph: &[u8],
-    tables: &[u16; 641],
+    tables: &Tables,
     picks: &[u8],
     bound: usize,
     table: &mut [u8],
-    links: &mut [u16; 9216],
-    flags: &mut [u64; 69],
+    links: &mut Links,
+    flags: &mut Flags,
     ledger: &mut [u8],
     cells: &mut [u8],
     going: Going,
@@ -345,9 +348,9 @@ fn over_handles(
     ensures { λ r. ⌜ Tells bound (now (picks .entry)) budget (graphOf (now (graph .entry))) (arraysOf (now (arrays .entry))) (length (now (ledger .entry)) / tokenWidth) (length (now (cells .entry)) / cellWidth) (tableOf (length (now (handles .entry)) / tokenWidth + 1) (now (table .entry))) (firstState (now (handles .entry)) (length (now (cells .entry)) / cellWidth)) r (now (ledger .exit)) (now (cells .exit)) (now (table .exit)) ⌝ }
     ensures { λ r. ⌜ Fits r (now (ledger .exit)) (now (cells .exit)) (now (table .exit)) (now (ledger .entry)) (now (cells .entry)) (now (table .entry)) ⌝ }
 {
-    let mut tables = [0u16; 641];
-    let mut links = [0u16; 9216];
-    let mut flags = [0u64; 69];
+    let mut tables = [0u16; store_enabled::TABLES_LENGTH];
+    let mut links = [0u16; store_chains::LENGTH];
+    let mut flags = [0u64; store_flags::LENGTH];
     let used = start::begin(
         graph,
         arrays,

@@ -9,6 +9,9 @@ use record::cell;
 use record::instruction;
 use record::operation;
 use record::token;
+use store_chains::Links;
+use store_enabled::Tables;
+use store_flags::Flags;
 ghost use Prim.Native.Nat.{_<_};
 ghost use mathlib.Core.Path.{_≡_};
 ghost use mathlib.Core.Bool.{true};
@@ -28,11 +31,11 @@ pub struct Tried {
 // The enabled activity whose place this is fires, or is refused with ledger and cells as they were.
 pub fn fire(
     graph: &[u8],
-    tables: &[u16; 641],
+    tables: &Tables,
     table: &mut [u8],
     count: usize,
-    links: &mut [u16; 9216],
-    flags: &mut [u64; 69],
+    links: &mut Links,
+    flags: &mut Flags,
     ledger: &mut [u8],
     cells: &mut [u8],
     used: usize,

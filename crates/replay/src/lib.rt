@@ -43,9 +43,9 @@ fn accepted(
     requires { ⌜ check (now graph) (now arrays) (now inputs) [] (length (now ledger)) (length (now cells)) ≡ Passed ⌝ }
     ensures { λ r. ⌜ EndedAt (Machine·replay (machineLent (now (graph .entry)) (now (arrays .entry)) (now (ledger .entry)) (now (cells .entry))) NotEnabled (namesIn (now (log .entry))) 0 (firstState (now (inputs .entry)) (length (now (cells .entry)) / cellWidth))) r (now (ledger .entry)) (now (cells .entry)) (now (ledger .exit)) (now (cells .exit)) ⌝ }
 {
-    let mut tables = [0u16; 641];
-    let mut links = [0u16; 9216];
-    let mut flags = [0u64; 69];
+    let mut tables = [0u16; store_enabled::TABLES_LENGTH];
+    let mut links = [0u16; store_chains::LENGTH];
+    let mut flags = [0u64; store_flags::LENGTH];
     let used = start::begin(
         graph,
         arrays,

@@ -12,7 +12,10 @@ use record::token;
 use record::token::Content;
 use record::token::Token;
 use store_chains::Found;
+use store_chains::Links;
 use store_chains::Sought;
+use store_enabled::Tables;
+use store_flags::Flags;
 ghost use Prim.Native.Nat.{ℕ, _*_, _/_, _%_, _≤_, _<_};
 ghost use mathlib.Core.Path.{_≡_};
 ghost use mathlib.Core.Bool.{true, cond};
@@ -90,7 +93,7 @@ fn wide32(x: u32) -> usize
 }
 
 // Whether a spent token was an operand, and a deferred one names a cell of the store.
-fn content_allowed(tables: &[u16; 641], count: usize, t: Token) -> bool
+fn content_allowed(tables: &Tables, count: usize, t: Token) -> bool
     ensures { λ r. ⌜ r ≡ contentAllowed (now (tables .entry)) count t ⌝ }
 {
     let tag = t.tag;
@@ -103,7 +106,7 @@ fn content_allowed(tables: &[u16; 641], count: usize, t: Token) -> bool
 }
 
 // Whether the port of a token is one of its instruction's. Where operands are waited for, the tables have their number.
-fn port_allowed(graph: &[u8], tables: &[u16; 641], t: Token) -> bool
+fn port_allowed(graph: &[u8], tables: &Tables, t: Token) -> bool
     requires { ⌜ Arities (graphOf (now graph)) (now tables) ⌝ }
     ensures { λ r. ⌜ r ≡ ltb (t .port) (operandsAt (graphOf (now (graph .entry))) (t .tag .instruction)) ⌝ }
 {
@@ -117,7 +120,7 @@ fn port_allowed(graph: &[u8], tables: &[u16; 641], t: Token) -> bool
 }
 
 // Whether fields and state of the record that s starts with are allowed; then its bytes are those of its token.
-fn token_allowed(graph: &[u8], tables: &[u16; 641], s: &[u8]) -> bool
+fn token_allowed(graph: &[u8], tables: &Tables, s: &[u8]) -> bool
     requires { ⌜ (tokenWidth ≤ length (now s)) × Arities (graphOf (now graph)) (now tables) ⌝ }
     ensures { λ r. ⌜ r ≡ tokenAllowed (graphOf (now (graph .entry))) (now (s .entry)) ⌝ }
     ensures { λ r. ⌜ (r ≡ true → (encode (decode (now (s .entry))) ≡ take tokenWidth (now (s .entry))) × TokenFits (decode (now (s .entry)))) ⌝ }
@@ -137,9 +140,9 @@ fn is_nothing(f: Found) -> bool
 // Whether record i can arrive in the matching store of those before it.
 fn arrives(
     graph: &[u8],
-    tables: &[u16; 641],
+    tables: &Tables,
     sites: &[u32; 256],
-    links: &[u16; 9216],
+    links: &Links,
     ledger: &[u8],
     count: usize,
     i: usize,
@@ -187,7 +190,7 @@ fn spent_found(ledger: &[u8], used: usize, f: Found) -> bool
 }
 
 // Whether t is a spent operand of a tag that waits for two.
-fn spent_of_two(tables: &[u16; 641], t: Token) -> bool
+fn spent_of_two(tables: &Tables, t: Token) -> bool
     ensures { λ r. ⌜ ((ledger : List ℕ) (i : ℕ) → t ≡ tokenAt ledger i → r ≡ spentOfTwo (now (tables .entry)) ledger i) ⌝ }
 {
     let tag = t.tag;
@@ -196,7 +199,7 @@ fn spent_of_two(tables: &[u16; 641], t: Token) -> bool
 }
 
 // Whether record i, which is t, is such an operand and the other one came before it, spent too.
-fn closes(tables: &[u16; 641], links: &[u16; 9216], ledger: &[u8], i: usize, t: Token) -> bool
+fn closes(tables: &Tables, links: &Links, ledger: &[u8], i: usize, t: Token) -> bool
     requires { ⌜ (t ≡ tokenAt (now ledger) i) × (t .port < 2) × Known (now links) (now ledger) i ⌝ }
     ensures { λ r. ⌜ r ≡ closesAt (now (tables .entry)) (now (ledger .entry)) i ⌝ }
 {
@@ -231,10 +234,10 @@ fn same(a: usize, b: usize) -> bool
 // that are spent, of two, close a pair.
 fn enter(
     graph: &[u8],
-    tables: &[u16; 641],
+    tables: &Tables,
     sites: &[u32; 256],
-    links: &mut [u16; 9216],
-    flags: &mut [u64; 69],
+    links: &mut Links,
+    flags: &mut Flags,
     ledger: &[u8],
     count: usize,
     firings: usize,
@@ -287,7 +290,7 @@ fn cell_allowed(s: &[u8]) -> bool
 }
 
 // Whether cell c is right: it is waiting exactly where a token is deferred on it.
-fn cell_right(links: &[u16; 9216], cells: &[u8], c: usize) -> bool
+fn cell_right(links: &Links, cells: &[u8], c: usize) -> bool
     requires { ⌜ (c < length (now cells) / cellWidth) × (c < 1024) ⌝ }
     ensures { λ r. ⌜ ((tables flags ledger : List ℕ) (used : ℕ) → Matching tables (now (links .entry)) flags ledger used → r ≡ cellRight (tokens used ledger) (now (cells .entry)) c) ⌝ }
     ensures { λ r. ⌜ (r ≡ true → CellBytes (now (cells .entry)) c) ⌝ }
@@ -304,7 +307,7 @@ fn cell_right(links: &[u16; 9216], cells: &[u8], c: usize) -> bool
 }
 
 // The pass over the cells.
-fn cells_right(links: &[u16; 9216], cells: &[u8]) -> bool
+fn cells_right(links: &Links, cells: &[u8]) -> bool
     requires { ⌜ length (now cells) / cellWidth ≤ 1024 ⌝ }
     ensures { λ r. ⌜ ((tables flags ledger : List ℕ) (used : ℕ) → Matching tables (now (links .entry)) flags ledger used → r ≡ allUpTo (cellRight (tokens used ledger) (now (cells .entry))) (length (now (cells .entry)) / cellWidth)) ⌝ }
     ensures { λ r. ⌜ (r ≡ true → (c : ℕ) → c < length (now (cells .entry)) / cellWidth → CellBytes (now (cells .entry)) c) ⌝ }
@@ -322,9 +325,9 @@ fn cells_right(links: &[u16; 9216], cells: &[u8]) -> bool
 // Whether a saved state is taken. If it is, the arrays, which are lent empty, are its matching store, and a run can go on from there.
 pub fn take(
     graph: &[u8],
-    tables: &[u16; 641],
-    links: &mut [u16; 9216],
-    flags: &mut [u64; 69],
+    tables: &Tables,
+    links: &mut Links,
+    flags: &mut Flags,
     ledger: &[u8],
     cells: &[u8],
     firings: usize,

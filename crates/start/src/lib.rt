@@ -1,5 +1,8 @@
 // The start of a run, a profile or a replay that passed its checks: the tables of graph and named arrays are made, all cells are set
 // absent, and the inputs go into the ledger.
+use store_chains::Links;
+use store_enabled::Tables;
+use store_flags::Flags;
 ghost use mathlib.Core.Path.{_≡_};
 ghost use lib.ListN.{length, replicate};
 ghost use Rattle.start.specs.Begun.{Accepted, Begun};
@@ -9,9 +12,9 @@ pub fn begin(
     graph: &[u8],
     arrays: &[u8],
     inputs: &[u8],
-    tables: &mut [u16; 641],
-    links: &mut [u16; 9216],
-    flags: &mut [u64; 69],
+    tables: &mut Tables,
+    links: &mut Links,
+    flags: &mut Flags,
     ledger: &mut [u8],
     cells: &mut [u8],
 ) -> usize

@@ -6,8 +6,11 @@ use record::token;
 use record::token::Content;
 use record::token::Token;
 use store_chains::Found;
+use store_chains::Links;
 use store_chains::Slot;
 use store_chains::Sought;
+use store_enabled::Tables;
+use store_flags::Flags;
 ghost use mathlib.Core.Path.{_≡_};
 ghost use mathlib.Core.List.{List, [], _∷_, _++_, map};
 ghost use Prim.Native.Nat.{ℕ, _+_, _*_, _/_, _<_};
@@ -24,7 +27,7 @@ ghost use Rattle.store_enabled.specs.Store.{Known, lower, enabledAt, Standing, 
 ghost use Rattle.store.specs.Matching.{Matching};
 
 // The token that stands at a port of a tag.
-pub fn find(links: &[u16; 9216], ledger: &[u8], used: usize, tag: Tag, port: u8) -> Found
+pub fn find(links: &Links, ledger: &[u8], used: usize, tag: Tag, port: u8) -> Found
     requires { ⌜ Known (now links) (now ledger) used ⌝ }
     ensures { λ r. ⌜ (r ≡ firstFrom (standsAt tag port) 0 (tokens used (now (ledger .entry)))) × Within r used ⌝ }
 {
@@ -32,7 +35,7 @@ pub fn find(links: &[u16; 9216], ledger: &[u8], used: usize, tag: Tag, port: u8)
 }
 
 // Where a token may arrive at a port of a tag, or that one stands there.
-pub fn seek(links: &[u16; 9216], ledger: &[u8], used: usize, tag: Tag, port: u8) -> Sought
+pub fn seek(links: &Links, ledger: &[u8], used: usize, tag: Tag, port: u8) -> Sought
     requires { ⌜ Known (now links) (now ledger) used × (port < 2) ⌝ }
     ensures { λ r. ⌜ SoughtAt r (tokens used (now (ledger .entry))) tag port ⌝ }
 {
@@ -40,7 +43,7 @@ pub fn seek(links: &[u16; 9216], ledger: &[u8], used: usize, tag: Tag, port: u8)
 }
 
 // How many activities are enabled.
-pub fn enabled_count(flags: &[u64; 69]) -> usize
+pub fn enabled_count(flags: &Flags) -> usize
     requires { ⌜ Counted (now flags) ⌝ }
     ensures { λ r. ⌜ r ≡ length (places (flagsOf (now (flags .entry)))) ⌝ }
 {
@@ -48,7 +51,7 @@ pub fn enabled_count(flags: &[u64; 69]) -> usize
 }
 
 // The place of enabled activity number k, counted from 0.
-pub fn enabled_at(flags: &[u64; 69], k: usize) -> usize
+pub fn enabled_at(flags: &Flags, k: usize) -> usize
     requires { ⌜ Counted (now flags) × (k < length (places (flagsOf (now flags)))) ⌝ }
     ensures { λ r. ⌜ (r ≡ getD (places (flagsOf (now (flags .entry)))) k 0) × (r < 2048) ⌝ }
 {
@@ -56,13 +59,7 @@ pub fn enabled_at(flags: &[u64; 69], k: usize) -> usize
 }
 
 // The place of the activity of a tag, if it is enabled.
-pub fn enabled_by_tag(
-    tables: &[u16; 641],
-    links: &[u16; 9216],
-    ledger: &[u8],
-    used: usize,
-    tag: Tag,
-) -> Found
+pub fn enabled_by_tag(tables: &Tables, links: &Links, ledger: &[u8], used: usize, tag: Tag) -> Found
     requires { ⌜ Known (now links) (now ledger) used ⌝ }
     ensures { λ r. ⌜ (r ≡ enabledAt (now (tables .entry)) (tokens used (now (ledger .entry))) tag) × Within r used ⌝ }
 {
@@ -71,9 +68,9 @@ pub fn enabled_by_tag(
 
 // A token arrives in its slot: it becomes record `used`.
 pub fn arrive(
-    tables: &[u16; 641],
-    links: &mut [u16; 9216],
-    flags: &mut [u64; 69],
+    tables: &Tables,
+    links: &mut Links,
+    flags: &mut Flags,
     ledger: &mut [u8],
     used: usize,
     t: Token,
@@ -89,9 +86,9 @@ pub fn arrive(
 
 // The token that stands in record `used` already arrives, and nothing is written.
 pub fn enter(
-    tables: &[u16; 641],
-    links: &mut [u16; 9216],
-    flags: &mut [u64; 69],
+    tables: &Tables,
+    links: &mut Links,
+    flags: &mut Flags,
     ledger: &[u8],
     used: usize,
     t: Token,
@@ -105,7 +102,7 @@ pub fn enter(
 
 // The operands of an enabled activity are spent; where one is waited for, both places are its place. They were live, so
 // the chains of deferred tokens stay right.
-pub fn spend_operands(flags: &mut [u64; 69], ledger: &mut [u8], first: usize, second: usize)
+pub fn spend_operands(flags: &mut Flags, ledger: &mut [u8], first: usize, second: usize)
     requires { ⌜ Counted (now flags) × (getD (flagsOf (now flags)) (lower first second) 0 ≡ 1) × (first < 2048) × (second < 2048) × (first < length (now ledger) / tokenWidth) × (second < length (now ledger) / tokenWidth) ⌝ }
     ensures { λ _. ⌜ now (ledger .exit) ≡ statesSpent (now (ledger .entry)) first second ⌝ }
     ensures { λ _. ⌜ ((tables links : List ℕ) (used : ℕ) → Matching tables links (now (flags .entry)) (now (ledger .entry)) used → Operands (now (ledger .entry)) used first second
@@ -128,9 +125,9 @@ fn woken(t: Token, v: i32) -> Token
 
 // Every token that is deferred on a cell becomes live, with the cell's value. The cost is that of the tokens woken.
 pub fn wake(
-    tables: &[u16; 641],
-    links: &mut [u16; 9216],
-    flags: &mut [u64; 69],
+    tables: &Tables,
+    links: &mut Links,
+    flags: &mut Flags,
     ledger: &mut [u8],
     used: usize,
     cell: u32,
@@ -154,7 +151,7 @@ pub fn wake(
 }
 
 // Whether a token is deferred on a cell.
-pub fn any_deferred(links: &[u16; 9216], cell: usize) -> bool
+pub fn any_deferred(links: &Links, cell: usize) -> bool
     requires { ⌜ cell < 1024 ⌝ }
     ensures { λ r. ⌜ ((tables flags ledger : List ℕ) (used : ℕ) → Matching tables (now (links .entry)) flags ledger used → r ≡ Deferred.anyOn cell (tokens used ledger)) ⌝ }
 {

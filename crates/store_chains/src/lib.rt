@@ -16,6 +16,11 @@ ghost use Rattle.store_chains.specs.Chains.{mix, bucketOf, Indexed};
 ghost use Rattle.store_chains.specs.Slots.{SoughtAt};
 ghost use Rattle.store_chains.specs.Deferred.{LowCell, Waiting};
 
+// All chains of a ledger.
+pub const LENGTH: usize = 9216;
+
+pub type Links = [u16; LENGTH];
+
 // Heads by tag from 0 on, and for each place the link to the one before it.
 const NEXT: usize = 4096;
 
@@ -83,7 +88,7 @@ fn found_of(best: usize) -> Found
 }
 
 // The used record that stands at a port of a tag. No two do, so the walk along the tag's chain ends with the first that it meets.
-pub fn find(links: &[u16; 9216], ledger: &[u8], used: usize, tag: Tag, port: u8) -> Found
+pub fn find(links: &Links, ledger: &[u8], used: usize, tag: Tag, port: u8) -> Found
     requires { ⌜ (used ≤ length (now ledger) / tokenWidth) × Indexed (now links) (tokens used (now ledger)) × Single (tokens used (now ledger)) ⌝ }
     ensures { λ r. ⌜ (r ≡ firstFrom (standsAt tag port) 0 (tokens used (now (ledger .entry)))) × Within r used ⌝ }
 {
@@ -101,7 +106,7 @@ pub fn find(links: &[u16; 9216], ledger: &[u8], used: usize, tag: Tag, port: u8)
 
 // Where a token may arrive at a port of a tag, or that one stands there. One walk along the tag's chain finds both: a record of the
 // tag that is not on the port is on the other. A chain goes from the last record to the first, so it is walked to its end.
-pub fn seek(links: &[u16; 9216], ledger: &[u8], used: usize, tag: Tag, port: u8) -> Sought
+pub fn seek(links: &Links, ledger: &[u8], used: usize, tag: Tag, port: u8) -> Sought
     requires { ⌜ (used ≤ length (now ledger) / tokenWidth) × Indexed (now links) (tokens used (now ledger)) × (port < 2) × All (λ (t : Token). t .port < 2) (tokens used (now ledger)) ⌝ }
     ensures { λ r. ⌜ SoughtAt r (tokens used (now (ledger .entry))) tag port ⌝ }
 {
@@ -126,7 +131,7 @@ pub fn seek(links: &[u16; 9216], ledger: &[u8], used: usize, tag: Tag, port: u8)
 }
 
 // Puts place `used` at the head of a chain: its link is at `link`, the head at `head`.
-fn link(links: &mut [u16; 9216], head: usize, link: usize, used: usize)
+fn link(links: &mut Links, head: usize, link: usize, used: usize)
     requires { ⌜ (head < 9216) × (link < 9216) × (used < 2048) ⌝ }
     ensures { λ _. ⌜ now (links .exit) ≡ set (set (now (links .entry)) link (getD (now (links .entry)) head 0)) head (used + 1) ⌝ }
 {
@@ -137,7 +142,7 @@ fn link(links: &mut [u16; 9216], head: usize, link: usize, used: usize)
 
 // Enters a token that stands at place `used`, after those before it: in the chain of its tag, which is given, and, if it is
 // deferred, in that of its cell.
-pub fn enter(links: &mut [u16; 9216], used: usize, t: Token, bucket: usize)
+pub fn enter(links: &mut Links, used: usize, t: Token, bucket: usize)
     requires { ⌜ (used < 2048) × LowCell (t .content) × (bucket ≡ bucketOf (t .tag)) ⌝ }
     ensures { λ _. ⌜ ((ts : List Token) → length ts ≡ used → Indexed (now (links .entry)) ts → Indexed (now (links .exit)) (ts ++ t ∷ [])) ⌝ }
     ensures { λ _. ⌜ ((ts : List Token) → length ts ≡ used → Waiting (now (links .entry)) ts → Waiting (now (links .exit)) (ts ++ t ∷ [])) ⌝ }

@@ -5,7 +5,9 @@ use record::token;
 use record::token::Content;
 use record::token::Token;
 use store_chains::Found;
+use store_chains::Links;
 use store_chains::Slot;
+use store_flags::Flags;
 ghost use mathlib.Core.Path.{_≡_};
 ghost use mathlib.Core.Bool.{true, _&&_};
 ghost use mathlib.Core.List.{List, [], _∷_, _++_};
@@ -22,6 +24,11 @@ ghost use Rattle.store_chains.specs.Deferred.{LowCell, Waiting};
 ghost use Rattle.store_chains.specs.declared.Found.the-variants.{At};
 ghost use Rattle.store_enabled.specs.Enabled.{isLive, allLive, waitedFor, arityOf, placeOf};
 ghost use Rattle.store_enabled.specs.Store.{Known, Stored, raisedIf, placeOr, lower, liveFound, enabledAt, readyOf, readyWith, Last, Standing, Operands, statesSpent, tokensSpent};
+
+// The tables of a graph: returns by site, the named arrays, and the entries of the instructions.
+pub const TABLES_LENGTH: usize = 641;
+
+pub type Tables = [u16; TABLES_LENGTH];
 
 fn place_or(f: Found, other: usize) -> usize
     ensures { λ r. ⌜ r ≡ placeOr f other ⌝ }
@@ -81,8 +88,8 @@ fn earlier(a: usize, b: usize) -> usize
 // Raises the flag of the activity of the token at `own`, if its operands are all live. No other token stands on that one's
 // port, so that of the operands only the other is searched for.
 fn settle_changed(
-    flags: &mut [u64; 69],
-    links: &[u16; 9216],
+    flags: &mut Flags,
+    links: &Links,
     ledger: &[u8],
     used: usize,
     own: usize,
@@ -120,7 +127,7 @@ fn completes(ledger: &[u8], other: Found, operands: u16) -> bool
 // Raises the flag of the activity of the token that arrived last, which is live, if that completes it. Its partner is given, and is
 // earlier; where the token is an operand, the flag was not raised before.
 fn settle_arrived(
-    flags: &mut [u64; 69],
+    flags: &mut Flags,
     ledger: &[u8],
     own: usize,
     tag: Tag,
@@ -168,13 +175,7 @@ pub fn arity(tables: &[u16], tag: Tag) -> u16
 }
 
 // The place of the activity of a tag, if it is enabled: its operands are found by their ports.
-pub fn enabled_by_tag(
-    tables: &[u16; 641],
-    links: &[u16; 9216],
-    ledger: &[u8],
-    used: usize,
-    tag: Tag,
-) -> Found
+pub fn enabled_by_tag(tables: &Tables, links: &Links, ledger: &[u8], used: usize, tag: Tag) -> Found
     requires { ⌜ Known (now links) (now ledger) used ⌝ }
     ensures { λ r. ⌜ (r ≡ enabledAt (now (tables .entry)) (tokens used (now (ledger .entry))) tag) × Within r used ⌝ }
 {
@@ -189,9 +190,9 @@ pub fn enabled_by_tag(
 
 // Adds t after the used records, in its slot. A flag that was raised stays.
 pub fn append(
-    tables: &[u16; 641],
-    links: &mut [u16; 9216],
-    flags: &mut [u64; 69],
+    tables: &Tables,
+    links: &mut Links,
+    flags: &mut Flags,
     ledger: &mut [u8],
     used: usize,
     t: Token,
@@ -216,9 +217,9 @@ pub fn append(
 
 // Enters the token t that stands in record `used` already, in its slot. One that is not live enables nothing. `settle_arrived` is not called: a second caller would cost each arrival of a run a call.
 pub fn enter(
-    tables: &[u16; 641],
-    links: &mut [u16; 9216],
-    flags: &mut [u64; 69],
+    tables: &Tables,
+    links: &mut Links,
+    flags: &mut Flags,
     ledger: &[u8],
     used: usize,
     t: Token,
@@ -242,9 +243,9 @@ pub fn enter(
 
 // Puts t, of the same tag and port, in the place of token i. What was live stays so, and so does a flag that was raised.
 pub fn change(
-    tables: &[u16; 641],
-    links: &[u16; 9216],
-    flags: &mut [u64; 69],
+    tables: &Tables,
+    links: &Links,
+    flags: &mut Flags,
     ledger: &mut [u8],
     used: usize,
     i: usize,
@@ -263,7 +264,7 @@ pub fn change(
 
 // Spends the operands of an enabled activity; where one is waited for, both places are its place. The activity is
 // enabled no more, and its flag stands at the place of its earlier operand, so nothing has to be searched for.
-pub fn spend_operands(flags: &mut [u64; 69], ledger: &mut [u8], first: usize, second: usize)
+pub fn spend_operands(flags: &mut Flags, ledger: &mut [u8], first: usize, second: usize)
     requires { ⌜ Counted (now flags) × (getD (flagsOf (now flags)) (lower first second) 0 ≡ 1) × (first < 2048) × (second < 2048) × (first < length (now ledger) / tokenWidth) × (second < length (now ledger) / tokenWidth) ⌝ }
     ensures { λ _. ⌜ now (ledger .exit) ≡ statesSpent (now (ledger .entry)) first second ⌝ }
     ensures { λ _. ⌜ ((tables links : List ℕ) (used : ℕ) → Stored tables links (now (flags .entry)) (now (ledger .entry)) used → Operands (now (ledger .entry)) used first second

@@ -8,6 +8,11 @@ ghost use lib.Dec.{eqb};
 ghost use lib.ListN.{length, getD, set, take, drop};
 ghost use Rattle.store_flags.specs.Flags.{ones, place, places, minus, Under, inWord, flagsOf, any, Summed, Counted};
 
+// The words of the flags, with what is known of them behind.
+pub const LENGTH: usize = 69;
+
+pub type Flags = [u64; LENGTH];
+
 // Where the word stands that says which words have any, and where the counts of the first word and of the first group do.
 const ANY: usize = 32;
 
@@ -93,7 +98,7 @@ fn select_in(word: u64, on: usize, k: usize) -> usize
 // ---- all words
 
 // Raises flag i, which is lowered, and its word's mark.
-pub fn raise(flags: &mut [u64; 69], i: usize)
+pub fn raise(flags: &mut Flags, i: usize)
     requires { ⌜ (i < 2048) × Counted (now flags) × (getD (flagsOf (now flags)) i 0 ≡ 0) ⌝ }
     ensures { λ _. ⌜ flagsOf (now (flags .exit)) ≡ set (flagsOf (now (flags .entry))) i 1 ⌝ }
     ensures { λ _. ⌜ Counted (now (flags .exit)) ⌝ }
@@ -110,7 +115,7 @@ pub fn raise(flags: &mut [u64; 69], i: usize)
 }
 
 // Lowers flag i, which is raised. If it was the last one of its word, the word's mark goes too.
-pub fn lower(flags: &mut [u64; 69], i: usize)
+pub fn lower(flags: &mut Flags, i: usize)
     requires { ⌜ (i < 2048) × Counted (now flags) × (getD (flagsOf (now flags)) i 0 ≡ 1) ⌝ }
     ensures { λ _. ⌜ flagsOf (now (flags .exit)) ≡ set (flagsOf (now (flags .entry))) i 0 ⌝ }
     ensures { λ _. ⌜ Counted (now (flags .exit)) ⌝ }
@@ -126,7 +131,7 @@ pub fn lower(flags: &mut [u64; 69], i: usize)
     flags[GROUPS + i / 512] = in_group - 1;
 }
 
-pub fn is_raised(flags: &[u64; 69], i: usize) -> bool
+pub fn is_raised(flags: &Flags, i: usize) -> bool
     requires { ⌜ (i < 2048) × Counted (now flags) ⌝ }
     ensures { λ r. ⌜ r ≡ eqb (getD (flagsOf (now (flags .entry))) i 0) 1 ⌝ }
 {
@@ -134,7 +139,7 @@ pub fn is_raised(flags: &[u64; 69], i: usize) -> bool
 }
 
 // The number of ones.
-pub fn count(flags: &[u64; 69]) -> usize
+pub fn count(flags: &Flags) -> usize
     requires { ⌜ Counted (now flags) ⌝ }
     ensures { λ r. ⌜ r ≡ length (places (flagsOf (now (flags .entry)))) ⌝ }
 {
@@ -142,7 +147,7 @@ pub fn count(flags: &[u64; 69]) -> usize
 }
 
 // Whether there is none.
-pub fn is_empty(flags: &[u64; 69]) -> bool
+pub fn is_empty(flags: &Flags) -> bool
     requires { ⌜ Counted (now flags) ⌝ }
     ensures { λ r. ⌜ r ≡ eqb (length (places (flagsOf (now (flags .entry))))) 0 ⌝ }
 {
@@ -150,7 +155,7 @@ pub fn is_empty(flags: &[u64; 69]) -> bool
 }
 
 // The place of the first one, where there is one.
-fn first(flags: &[u64; 69]) -> usize
+fn first(flags: &Flags) -> usize
     requires { ⌜ Summed (now flags) × (0 < ones (flagsOf (now flags))) ⌝ }
     ensures { λ r. ⌜ r ≡ place 0 (flagsOf (now (flags .entry))) ⌝ }
 {
@@ -159,7 +164,7 @@ fn first(flags: &[u64; 69]) -> usize
 }
 
 // The place of one number k of those from a word on: the words before the one that has it are passed by their counts.
-fn select_block(flags: &[u64; 69], from: usize, k: usize) -> usize
+fn select_block(flags: &Flags, from: usize, k: usize) -> usize
     requires { ⌜ Counted (now flags) × (k < ones (drop (from * 64) (flagsOf (now flags)))) ⌝ }
     ensures { λ r. ⌜ r ≡ from * 64 + place k (drop (from * 64) (flagsOf (now (flags .entry)))) ⌝ }
 {
@@ -177,7 +182,7 @@ fn select_block(flags: &[u64; 69], from: usize, k: usize) -> usize
 }
 
 // The place of one number k: its group is found by the groups' counts, and its word from there on.
-fn select_group(flags: &[u64; 69], k: usize) -> usize
+fn select_group(flags: &Flags, k: usize) -> usize
     requires { ⌜ Counted (now flags) × (k < ones (flagsOf (now flags))) ⌝ }
     ensures { λ r. ⌜ r ≡ place k (flagsOf (now (flags .entry))) ⌝ }
 {
@@ -195,7 +200,7 @@ fn select_group(flags: &[u64; 69], k: usize) -> usize
 }
 
 // The place of one number k.
-pub fn select(flags: &[u64; 69], k: usize) -> usize
+pub fn select(flags: &Flags, k: usize) -> usize
     requires { ⌜ Counted (now flags) × (k < length (places (flagsOf (now flags)))) ⌝ }
     ensures { λ r. ⌜ (r ≡ getD (places (flagsOf (now (flags .entry)))) k 0) × (r < 2048) ⌝ }
 {
@@ -209,7 +214,7 @@ pub fn select(flags: &[u64; 69], k: usize) -> usize
 // ---- flags but for those of another set, each of which is set here too: of the enabled activities those that are not held back
 
 // The number of ones.
-pub fn count_but(flags: &[u64; 69], held: &[u64; 69]) -> usize
+pub fn count_but(flags: &Flags, held: &Flags) -> usize
     requires { ⌜ Counted (now flags) × Counted (now held) × Under (flagsOf (now held)) (flagsOf (now flags)) ⌝ }
     ensures { λ r. ⌜ r ≡ length (places (minus (flagsOf (now (flags .entry))) (flagsOf (now (held .entry))))) ⌝ }
 {
@@ -225,7 +230,7 @@ fn without(word: u64, held: u64) -> u64
 }
 
 // The flags of word b.
-fn word_but(flags: &[u64; 69], held: &[u64; 69], b: usize) -> u64
+fn word_but(flags: &Flags, held: &Flags, b: usize) -> u64
     requires { ⌜ Counted (now flags) × Counted (now held) × Under (flagsOf (now held)) (flagsOf (now flags)) × (b < 32) ⌝ }
     ensures { λ r. ⌜ inWord r ≡ take 64 (drop (b * 64) (minus (flagsOf (now (flags .entry))) (flagsOf (now (held .entry))))) ⌝ }
 {
@@ -233,14 +238,14 @@ fn word_but(flags: &[u64; 69], held: &[u64; 69], b: usize) -> u64
 }
 
 // How many ones word b has, and group g.
-fn in_word_but(flags: &[u64; 69], held: &[u64; 69], b: usize) -> usize
+fn in_word_but(flags: &Flags, held: &Flags, b: usize) -> usize
     requires { ⌜ Counted (now flags) × Counted (now held) × Under (flagsOf (now held)) (flagsOf (now flags)) × (b < 32) ⌝ }
     ensures { λ r. ⌜ r ≡ ones (take 64 (drop (b * 64) (minus (flagsOf (now (flags .entry))) (flagsOf (now (held .entry)))))) ⌝ }
 {
     (flags[COUNTS + b] - held[COUNTS + b]) as usize
 }
 
-fn in_group_but(flags: &[u64; 69], held: &[u64; 69], g: usize) -> usize
+fn in_group_but(flags: &Flags, held: &Flags, g: usize) -> usize
     requires { ⌜ Counted (now flags) × Counted (now held) × Under (flagsOf (now held)) (flagsOf (now flags)) × (g < 4) ⌝ }
     ensures { λ r. ⌜ r ≡ ones (take 512 (drop (g * 512) (minus (flagsOf (now (flags .entry))) (flagsOf (now (held .entry)))))) ⌝ }
 {
@@ -248,7 +253,7 @@ fn in_group_but(flags: &[u64; 69], held: &[u64; 69], g: usize) -> usize
 }
 
 // The place of one number k of those from a word on.
-fn select_block_but(flags: &[u64; 69], held: &[u64; 69], from: usize, k: usize) -> usize
+fn select_block_but(flags: &Flags, held: &Flags, from: usize, k: usize) -> usize
     requires { ⌜ Counted (now flags) × Counted (now held) × Under (flagsOf (now held)) (flagsOf (now flags)) × (k < ones (drop (from * 64) (minus (flagsOf (now flags)) (flagsOf (now held))))) ⌝ }
     ensures { λ r. ⌜ r ≡ from * 64 + place k (drop (from * 64) (minus (flagsOf (now (flags .entry))) (flagsOf (now (held .entry))))) ⌝ }
 {
@@ -266,7 +271,7 @@ fn select_block_but(flags: &[u64; 69], held: &[u64; 69], from: usize, k: usize) 
 }
 
 // The place of one number k, where there is one.
-fn select_group_but(flags: &[u64; 69], held: &[u64; 69], k: usize) -> usize
+fn select_group_but(flags: &Flags, held: &Flags, k: usize) -> usize
     requires { ⌜ Counted (now flags) × Counted (now held) × Under (flagsOf (now held)) (flagsOf (now flags)) × (k < ones (minus (flagsOf (now flags)) (flagsOf (now held)))) ⌝ }
     ensures { λ r. ⌜ r ≡ place k (minus (flagsOf (now (flags .entry))) (flagsOf (now (held .entry)))) ⌝ }
 {
@@ -284,7 +289,7 @@ fn select_group_but(flags: &[u64; 69], held: &[u64; 69], k: usize) -> usize
 }
 
 // The place of one number k.
-pub fn select_but(flags: &[u64; 69], held: &[u64; 69], k: usize) -> usize
+pub fn select_but(flags: &Flags, held: &Flags, k: usize) -> usize
     requires { ⌜ Counted (now flags) × Counted (now held) × Under (flagsOf (now held)) (flagsOf (now flags)) × (k < length (places (minus (flagsOf (now flags)) (flagsOf (now held))))) ⌝ }
     ensures { λ r. ⌜ (r ≡ getD (places (minus (flagsOf (now (flags .entry))) (flagsOf (now (held .entry))))) k 0) × (r < 2048) ⌝ }
 {
