@@ -6,7 +6,7 @@ use mathlib.Core.List.{List, [], _∷_}
 use lib.Dec.{eqb}
 use lib.ListN.{getD}
 use Rattle.number.specs.Number.{bitsOf}
-use Rattle.rules.specs.Answer.{Values, numberOf}
+use Rattle.rules.specs.Answer.{Values, numberOf, valuesOf}
 use Rattle.rules.specs.declared.answer.Refusal.{Refusal}
 use Rattle.rules.specs.declared.answer.Refusal.the-variants.{GraphLength, UnknownOperation, FanOut, BadArc, BadSite, BadInput, BadStore, LedgerFull, SecondToken, NoSuchCell, SecondWrite, OutOfRange, Iteration, TooDeep, NoReturn, ProfileFull, NotLoopFree, NotEnabled, BadBound, BadArray, Undecided, DamagedState, BadExpression, GraphTooLong}
 use Rattle.rules.specs.declared.answer.Outcome.{Outcome}
@@ -37,6 +37,12 @@ use Rattle.abi.specs.declared.Unpacked.the-variants.{Answered, NoAnswer}
 
 abbrev pub packed : Values → ℕ
 packed v = v .word + v .firings % 65536 * 65536 + v .tokens % 65536 * 4294967296 + v .place % 65536 * 281474976710656
+
+-- `ttda_run` does what `engine::run` promises, and answers its answer's number; likewise `ttda_carry_on`, `ttda_run_logged`, `ttda_replay`, `ttda_profile`, `ttda_run_ranges`
+pub record AsNumber (r : ℕ) (Promised : Answer → Type 0) : Type 0 where
+  pub answer : Answer
+  pub number : r ≡ packed (valuesOf answer)
+  pub promised : Promised answer
 
 -- what becomes of an expression of 02, R-14: word 0 and the number of records in the place of the firings, or the refusal's number with its place
 abbrev pub madeNumber : Made → Values

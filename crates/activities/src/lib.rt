@@ -48,7 +48,9 @@ fn count_free(
     bound: usize,
 ) -> usize
     requires { ⌜ Ready (now graph) (now tables) (now flags) (now ledger) used × (0 < bound) × (bound < 65536) ⌝ }
-    ensures { λ r. ⌜ ((table : List NamedArray) (capacity count : ℕ) (cs : List Cell) → r ≡ length (freeOf (machineOf (graphOf (now (graph .entry))) table capacity count) (heldIn (graphOf (now (graph .entry))) bound) (stateHeld (tokens used (now (ledger .entry))) cs))) ⌝ }
+    ensures { λ r. ⌜ ((table : List NamedArray) (capacity count : ℕ) (cs : List Cell) → r ≡ length
+        (freeOf (machineOf (graphOf (now (graph .entry))) table capacity count) (heldIn (graphOf (now (graph .entry))) bound)
+        (stateHeld (tokens used (now (ledger .entry))) cs))) ⌝ }
 {
     let mut nexts = [0u64; store_flags::LENGTH];
     let mut held = [0u64; store_flags::LENGTH];

@@ -3,7 +3,7 @@ use Prim.Native.Nat.{ℕ, zero, suc, _+_, _*_, _/_, _≤_, _<_}
 use native.Mathlib.Omega.{arith}
 use native.Mathlib.Decide.{ℕ-discrete}
 use mathlib.Core.Path.{_≡_, refl, sym, _∙_}
-use mathlib.Core.Bool.{Bool, true, false, _&&_, _||_}
+use mathlib.Core.Bool.{Bool, true, false, _&&_, _||_, or-false, and-comm, or-assoc}
 use mathlib.Core.List.{List, [], _∷_}
 use lib.ListN.{length, getD, set, drop, replicate, length-set, length-replicate, getD-replicate}
 use lib.Seq.{getD-set-same, getD-set-other}
@@ -24,22 +24,10 @@ use Rattle.rules.specs.declared.answer.Checked.the-variants.{Passed}
 use Rattle.rules.specs.Check.{demand, any, all, inTurn, goodArc, goodInput, operandsAt, instructionAt, checkGraph}
 use Rattle.rules.proofs.Lists.{or-right}
 use Rattle.rules.proofs.PassedGraph.{two-operands}
-use Rattle.check_fields.proofs.Turns.{or-false, and-true-left, and-true-right, demanded, each-passed}
+use Rattle.check_fields.proofs.Turns.{and-true-left, and-true-right, demanded, each-passed}
 use Rattle.buffer.proofs.Tables.{length-rows, getD-rows}
 use Rattle.checks.proofs.Passed.{good-arc, passed-at, passed-length, passed-input}
 use Rattle.bounds.specs.Reach.{Inside, GoodToken, entryOf, Ports, marked}
-
--- ---- tests
-
-pub or-assoc : (a b c : Bool) → (a || b) || c ≡ a || (b || c)
-or-assoc true b c = refl
-or-assoc false b c = refl
-
-and-swap : (a b : Bool) → a && b ≡ b && a
-and-swap true true = refl
-and-swap true false = refl
-and-swap false true = refl
-and-swap false false = refl
 
 -- ---- marked ports
 
@@ -117,4 +105,4 @@ module _ (graph : List ℕ) (passed : checkGraph graph ≡ Passed) where
 
 pub stands : (t : Token) → GoodToken t → (i p : ℕ) → standsAt (rootOf i) p t ≡ eqb (t .tag .instruction) i && eqb (t .port) p
 unfolding standsAt sameTag
-stands t good i p = rw (good .root, path-same rootPath rootPath refl) (and-swap (eqb (t .port) p) (eqb (t .tag .instruction) i))
+stands t good i p = rw (good .root, path-same rootPath rootPath refl) (and-comm (eqb (t .port) p) (eqb (t .tag .instruction) i))

@@ -5,7 +5,7 @@ use native.Mathlib.Omega.{arith}
 use native.Mathlib.Decide.{ℕ-discrete}
 use native.Mathlib.Numerals.{add-one}
 use mathlib.Core.Path.{_≡_, refl, sym, _∙_}
-use mathlib.Core.Bool.{Bool, true, false, _&&_, _||_}
+use mathlib.Core.Bool.{Bool, true, false, _&&_, _||_, or-false, or-assoc}
 use mathlib.Core.List.{List}
 use lib.ListN.{length, getD, set, replicate, length-set, length-replicate}
 use lib.Seq.{getD-set-same, getD-set-other}
@@ -19,9 +19,8 @@ use Rattle.rules.specs.Needs.{anyBelow, allBelow, sendsTo, portReached, allReac
 use Rattle.rules.proofs.PassedGraph.{two-operands}
 use Rattle.rules.proofs.Below.{sum-same}
 use Rattle.rules.proofs.Rounds.{Within, all-more, after, round, inside, reached-least}
-use Rattle.check_fields.proofs.Turns.{or-false}
 use Rattle.bounds.specs.Reach.{entryOf, Ports, marked, given, flag, sumOver, ReachedSoFar, Round}
-use Rattle.bounds.proofs.Ports.{InsideAll, alike, mark-all, or-assoc}
+use Rattle.bounds.proofs.Ports.{InsideAll, alike, mark-all}
 
 -- ---- tests
 

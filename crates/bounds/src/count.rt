@@ -37,7 +37,9 @@ fn outputs_of(r: Instruction) -> usize
 
 pub fn total(graph: &[u8], reached: &[bool; 256]) -> Totals
     requires { ⌜ length (now graph) / graphWidth ≤ 256 ⌝ }
-    ensures { λ t. ⌜ (t .firings ≡ sumOver (length (graphOf (now (graph .entry)))) (graphOf (now (graph .entry))) (now (reached .entry)) firingsOf) × (t .outputs ≡ sumOver (length (graphOf (now (graph .entry)))) (graphOf (now (graph .entry))) (now (reached .entry)) outputsOf) × (t .outputs ≤ 512) ⌝ }
+    ensures { λ t. ⌜ (t .firings ≡ sumOver (length (graphOf (now (graph .entry)))) (graphOf (now (graph .entry))) (now (reached .entry)) firingsOf)
+        × (t .outputs ≡ sumOver (length (graphOf (now (graph .entry)))) (graphOf (now (graph .entry))) (now (reached .entry)) outputsOf)
+        × (t .outputs ≤ 512) ⌝ }
 {
     let mut firings = 0;
     let mut outputs = 0;

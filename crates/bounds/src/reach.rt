@@ -82,7 +82,9 @@ fn ready(graph: &[u8], sent: &[bool; 512], i: usize) -> bool
 // Adds instruction i where it is ready, and marks the ports that it sends to; whether it was added.
 fn add(graph: &[u8], sent: &mut [bool; 512], reached: &mut [bool; 256], i: usize) -> bool
     requires { ⌜ (checkGraph (now graph) ≡ Passed) × (i < length (now graph) / graphWidth) ⌝ }
-    ensures { λ r. ⌜ ((ts : List Token) (before : List Bool) (added : Bool) → Round ts (graphOf (now (graph .entry))) i before (now (sent .entry)) (now (reached .entry)) added → Round ts (graphOf (now (graph .entry))) (i + 1) before (now (sent .exit)) (now (reached .exit)) (added || r)) ⌝ }
+    ensures { λ r. ⌜ ((ts : List Token) (before : List Bool) (added : Bool)
+        → Round ts (graphOf (now (graph .entry))) i before (now (sent .entry)) (now (reached .entry)) added
+        → Round ts (graphOf (now (graph .entry))) (i + 1) before (now (sent .exit)) (now (reached .exit)) (added || r)) ⌝ }
 {
     if reached[i] {
         return false;
@@ -98,7 +100,9 @@ fn add(graph: &[u8], sent: &mut [bool; 512], reached: &mut [bool; 256], i: usize
 // Adds each instruction that is ready; whether any was added.
 fn round(graph: &[u8], sent: &mut [bool; 512], reached: &mut [bool; 256]) -> bool
     requires { ⌜ checkGraph (now graph) ≡ Passed ⌝ }
-    ensures { λ added. ⌜ ((ts : List Token) → ReachedSoFar ts (graphOf (now (graph .entry))) (now (sent .entry)) (now (reached .entry)) → Round ts (graphOf (now (graph .entry))) (length (graphOf (now (graph .entry)))) (now (reached .entry)) (now (sent .exit)) (now (reached .exit)) added) ⌝ }
+    ensures { λ added. ⌜ ((ts : List Token)
+        → ReachedSoFar ts (graphOf (now (graph .entry))) (now (sent .entry)) (now (reached .entry))
+        → Round ts (graphOf (now (graph .entry))) (length (graphOf (now (graph .entry)))) (now (reached .entry)) (now (sent .exit)) (now (reached .exit)) added) ⌝ }
 {
     let mut added = false;
     let mut i = 0;

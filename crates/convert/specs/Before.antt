@@ -25,7 +25,7 @@ use Rattle.rules.specs.declared.answer.Refusal.the-variants as Refusals
 use Rattle.rules.specs.declared.answer.Outcome.the-variants.{Refused}
 use Rattle.rules.specs.declared.answer.Answer.{Answer}
 use Rattle.rules.specs.declared.answer.Checked.{Checked}
-use Rattle.rules.specs.Check.{demand, _andThen_, inTurn, instructionAt, operandsAt, checkGraph, checkArrays, mostCells, secondInput}
+use Rattle.rules.specs.Check.{demand, _andThen_, inTurn, instructionAt, operandsAt, mostCells, secondInput, checkWith}
 use Rattle.rules.specs.InstructionSet.{EffectHere, effectIn, arityIn, machineOf}
 use Rattle.rules.specs.Run.{tokenHeld, tokenRecord, picksOf, Result, refusedAtOnce, ranTo, unlessFailed, result, answer, ledgerAfter}
 use Rattle.rules.specs.Log.{LogResult, logUnlessFailed, logged, logAfter}
@@ -75,10 +75,9 @@ checkInputsBefore g capacity inputs =
 
 unfoldable pub checkBefore : (graph arrays inputs picks : List ℕ) → (ledger cells : ℕ) → Checked
 checkBefore graph arrays inputs picks ledger cells =
-    checkGraph graph
-    andThen checkStoresBefore (length inputs) (length picks) ledger cells
-    andThen checkArrays (graphOf graph) (cells / cellWidth) arrays
-    andThen checkInputsBefore (graphOf graph) (ledger / oldWidth) inputs
+    checkWith graph arrays (cells / cellWidth)
+    (checkStoresBefore (length inputs) (length picks) ledger cells)
+    (checkInputsBefore (graphOf graph) (ledger / oldWidth) inputs)
 
 -- ---- the machine: "Four levels at most." 14: "ENTER at four levels". ENTER has code 8, and a path of four levels or more is at least 65,536 to the third
 
@@ -117,10 +116,9 @@ checkLogStoresBefore inputs picks ledger cells budget lent =
 
 unfoldable pub checkLoggedBefore : (graph arrays inputs picks : List ℕ) → (budget ledger cells lent : ℕ) → Checked
 checkLoggedBefore graph arrays inputs picks budget ledger cells lent =
-    checkGraph graph
-    andThen checkLogStoresBefore (length inputs) (length picks) ledger cells budget lent
-    andThen checkArrays (graphOf graph) (cells / cellWidth) arrays
-    andThen checkInputsBefore (graphOf graph) (ledger / oldWidth) inputs
+    checkWith graph arrays (cells / cellWidth)
+    (checkLogStoresBefore (length inputs) (length picks) ledger cells budget lent)
+    (checkInputsBefore (graphOf graph) (ledger / oldWidth) inputs)
 
 unfoldable pub loggedBefore : (graph arrays inputs picks : List ℕ) → (budget ledger cells lent : ℕ) → LogResult
 loggedBefore graph arrays inputs picks budget ledger cells lent =

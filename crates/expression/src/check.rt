@@ -6,15 +6,13 @@ use record::term::Term;
 use rules::answer::Checked;
 use rules::answer::Refusal;
 ghost use mathlib.Core.Path.{_≡_};
-ghost use mathlib.Core.Bool.{true, _||_};
+ghost use mathlib.Core.Bool.{true};
 ghost use mathlib.Core.List.{List, [], _∷_, _++_};
-ghost use Prim.Native.Nat.{suc, _≤_, _<_};
-ghost use lib.ListN.{length, take};
-ghost use lib.Dec.{eqb};
+ghost use Prim.Native.Nat.{_≤_};
+ghost use lib.ListN.{length};
 ghost use Rattle.record.specs.ExpressionRecords.{expressionOf};
 ghost use Rattle.rules.specs.declared.answer.Checked.the-variants.{Passed};
-ghost use Rattle.rules.specs.Check.{demand, any, inTurn};
-ghost use Rattle.rules.specs.Expression.{mostTerms, isExpressionLength, names, goodTerm, checkExpression, checkMade, checkValues};
+ghost use Rattle.rules.specs.Expression.{mostTerms, isExpressionLength, goodTerm, checkExpression, checkMade, checkValues, checkGoodTerms, checkNamed};
 ghost use Rattle.expression.specs.Tables.{Marked, NamesInside};
 
 // The most records of an expression.
@@ -61,7 +59,7 @@ fn mark(named: &mut [bool; MOST], t: Term)
 // The first record with a bad field or naming one already named; the table then has what all name.
 fn terms(expression: &[u8], named: &mut [bool; MOST]) -> Checked
     requires { ⌜ (isExpressionLength (length (now expression)) ≡ true) × Marked [] (now named) ⌝ }
-    ensures { λ c. ⌜ c ≡ inTurn (λ i t. demand (goodTerm (take i (expressionOf (now (expression .entry)))) i t) Refusal.BadExpression i) 0 (expressionOf (now (expression .entry))) ⌝ }
+    ensures { λ c. ⌜ c ≡ checkGoodTerms (expressionOf (now (expression .entry))) ⌝ }
     ensures { λ c. ⌜ (c ≡ Passed → Marked (expressionOf (now (expression .entry))) (now (named .exit))) ⌝ }
 {
     let mut i = 0;
@@ -79,7 +77,7 @@ fn terms(expression: &[u8], named: &mut [bool; MOST]) -> Checked
 // The first record never named, of all but the last.
 fn all_named(expression: &[u8], named: &[bool; MOST]) -> Checked
     requires { ⌜ (isExpressionLength (length (now expression)) ≡ true) × Marked (expressionOf (now expression)) (now named) ⌝ }
-    ensures { λ c. ⌜ c ≡ inTurn (λ j t. demand (eqb (suc j) (length (expressionOf (now (expression .entry)))) || any (names j) (expressionOf (now (expression .entry)))) Refusal.BadExpression j) 0 (expressionOf (now (expression .entry))) ⌝ }
+    ensures { λ c. ⌜ c ≡ checkNamed (expressionOf (now (expression .entry))) ⌝ }
 {
     let mut j = 0;
     while j + 1 < expression.len() / term::WIDTH {

@@ -52,7 +52,8 @@ fn variable(values: &[u8], k: usize) -> i32
 
 // The value of record i.
 fn value_at(expression: &[u8], numbers: &[u16; MOST], values: &[u8], i: usize) -> Computed
-    requires { ⌜ Numbered (now expression) (now numbers) × (i < length (expressionOf (now expression))) × (length (now values) / valueWidth ≡ count isVariable (expressionOf (now expression))) ⌝ }
+    requires { ⌜ Numbered (now expression) (now numbers) × (i < length (expressionOf (now expression)))
+        × (length (now values) / valueWidth ≡ count isVariable (expressionOf (now expression))) ⌝ }
     ensures { λ r. ⌜ r ≡ valueAt (expressionOf (now (expression .entry))) (variablesOf (now (values .entry))) i ⌝ }
 {
     let t = term::term_at(expression, i);

@@ -46,8 +46,11 @@ fn code_of(t: Term) -> u8
 
 // Puts the instruction of record i, which sends to `to`, those of the records that it names, and so on.
 fn put(expression: &[u8], numbers: &[u16; MOST], i: usize, to: Destination, graph: &mut [u8])
-    requires { ⌜ Numbered (now expression) (now numbers) × (i < length (expressionOf (now expression))) × (graphWidth * suc (length (expressionOf (now expression))) ≤ length (now graph)) ⌝ }
-    ensures { λ _. ⌜ ((g : List Instruction) (rest : List ℕ) → length g ≡ suc (length (expressionOf (now (expression .entry)))) → now (graph .entry) ≡ joined Graph.encode g ++ rest → now (graph .exit) ≡ joined Graph.encode (putAt (expressionOf (now (expression .entry))) i to g) ++ rest) ⌝ }
+    requires { ⌜ Numbered (now expression) (now numbers) × (i < length (expressionOf (now expression)))
+        × (graphWidth * suc (length (expressionOf (now expression))) ≤ length (now graph)) ⌝ }
+    ensures { λ _. ⌜ ((g : List Instruction) (rest : List ℕ)
+        → length g ≡ suc (length (expressionOf (now (expression .entry)))) → now (graph .entry) ≡ joined Graph.encode g ++ rest
+        → now (graph .exit) ≡ joined Graph.encode (putAt (expressionOf (now (expression .entry))) i to g) ++ rest) ⌝ }
 {
     let t = term::term_at(expression, i);
     let number = numbers[i];

@@ -7,23 +7,10 @@ use Prim.Native.Nat.{ℕ, _≤_, _<_}
 use lib.ListN.{length}
 use Rattle.machine.specs.Machine.{Machine, Outcome, completed, hung, budgetSpent, refused, StateOf, EndOf, Choice, runBy}
 use Rattle.machine.specs.Orders.{Good, LawfulChoice, Quiescent, BudgetSpent}
+use Rattle.machine.specs.Agreement.{machineWith}
 
--- all else is equal
 abbrev pub withCapacity : Machine → ℕ → Machine
-withCapacity M n = record {
-  Tag = M .Tag;
-  Value = M .Value;
-  Refusal = M .Refusal;
-  same = M .same;
-  arity = M .arity;
-  effect = M .effect;
-  signal = M .signal;
-  ledgerFull = M .ledgerFull;
-  secondToken = M .secondToken;
-  secondWrite = M .secondWrite;
-  capacity = n;
-  cellCount = M .cellCount;
-}
+withCapacity M n = machineWith M (M .arity) (M .effect) n
 
 abbrev pub RefusedBy : {R : Type 0} → R → Outcome R → Type 0
 RefusedBy r completed = ⊥

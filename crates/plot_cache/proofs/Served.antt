@@ -32,7 +32,7 @@ use Rattle.rules.specs.Profile.{stepWidth, ProfileResult, profiled, profileAnsw
 use Rattle.rules.specs.Fits.{CellCount}
 use Rattle.rules.specs.Parts.{leftBy}
 use Rattle.rules.specs.Bounded.{goodBound, andBound, checkBounded, bounded, BoundedOn}
-use Rattle.rules.proofs.Passed.{andThen-passed}
+use Rattle.rules.proofs.Passed.{andThen-passed, both}
 use Rattle.rules.proofs.Accepted.{whole-bytes, Whole, stores-whole, Begun, accepted, by-check}
 use Rattle.rules.proofs.Budgets.{quiescent-begun}
 use Rattle.rules.proofs.Bounded.{bounded-fits, bounded-small}
@@ -49,7 +49,8 @@ use Rattle.listing.proofs.BoundedOrders.{bounded-as-orders, zero-is-none}
 use Rattle.plot_cache.specs.declared.Limits.{Limits}
 use Rattle.plot_cache.specs.declared.Ended.{Ended}
 use Rattle.plot_cache.specs.Serves.{Request, sameBytes, sameMachine, sameOrder, rests, anyOrder, serves, RanAs, ProfiledAs, ShownAlike, PlottedAlike, KeptOf, Served, Decided}
-use Rattle.plot_cache.proofs.SameLists.{both, same-list}
+use Rattle.plot_cache.proofs.SameLists.{same-list}
+use Rattle.rules.proofs.Lists.{either}
 
 -- ---- what a result shows
 
@@ -115,10 +116,6 @@ module _ (graph arrays inputs : List ℕ) (graphBytes : Bytes graph) (inputBytes
   }
 
 -- ---- two runs
-
-or-cases : (a b : Bool) → a || b ≡ true → (a ≡ true) ⊎ (b ≡ true)
-or-cases true b e = inl refl
-or-cases false b e = inr e
 
 -- nothing is left enabled: it is completed or hung, and if it hung, nothing is held
 resting : (o : Outcome) (held : ℕ) → rests o held ≡ true → Quiescent o × (Hung o → held ≡ 0)
@@ -264,7 +261,7 @@ served k e a h graphBytes inputBytes =
     let (p, q) = both (sameMachine (k .graph) (a .graph) (k .arrays) (a .arrays) (k .inputs) (a .inputs) (k .limits) (a .limits)) _ h in
     let same = machines-alike k a p in
     record {
-      runs = λ l m x y kept told asked. by-either same l m x y kept told asked (or-cases (sameOrder (k .picks) (a .picks) (k .limits) (a .limits)) _ q);
+      runs = λ l m x y kept told asked. by-either same l m x y kept told asked (either (sameOrder (k .picks) (a .picks) (k .limits) (a .limits)) _ q);
       profiles = λ l m x y kept asked room. by-profile k a e graphBytes inputBytes same l m x y kept asked room;
     }
   where

@@ -40,7 +40,9 @@ fn same_machine(
     inputs: &[u8],
     asked: Limits,
 ) -> bool
-    ensures { λ r. ⌜ r ≡ sameMachine (now («kept_graph» .entry)) (now (graph .entry)) (now («kept_arrays» .entry)) (now (arrays .entry)) (now («kept_inputs» .entry)) (now (inputs .entry)) kept asked ⌝ }
+    ensures { λ r. ⌜ r ≡
+        sameMachine (now («kept_graph» .entry)) (now (graph .entry)) (now («kept_arrays» .entry)) (now (arrays .entry))
+        (now («kept_inputs» .entry)) (now (inputs .entry)) kept asked ⌝ }
 {
     same(kept_graph, graph)
         && (same(kept_arrays, arrays)
@@ -92,7 +94,10 @@ pub fn serves(
     picks: &[u8],
     asked: Limits,
 ) -> bool
-    ensures { λ r. ⌜ Decided (request (now («kept_graph» .entry)) (now («kept_arrays» .entry)) (now («kept_inputs» .entry)) (now («kept_picks» .entry)) kept) end (request (now (graph .entry)) (now (arrays .entry)) (now (inputs .entry)) (now (picks .entry)) asked) r ⌝ }
+    ensures { λ r. ⌜
+        Decided
+        (request (now («kept_graph» .entry)) (now («kept_arrays» .entry)) (now («kept_inputs» .entry)) (now («kept_picks» .entry)) kept) end
+        (request (now (graph .entry)) (now (arrays .entry)) (now (inputs .entry)) (now (picks .entry)) asked) r ⌝ }
 {
     same_machine(
         kept_graph,

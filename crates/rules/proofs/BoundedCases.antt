@@ -2,7 +2,7 @@
 use mathlib.Core.Path.{_≡_, refl}
 use mathlib.Core.List.{map}
 use Rattle.rules.specs.Computed.{rules}
-use Rattle.rules.specs.Cases.{written, seenIn}
+use Rattle.rules.specs.CaseRows.{written, seenIn}
 use Rattle.rules.specs.SavedCases.{states}
 use Rattle.rules.specs.BoundedCases.{seen, expected, cases}
 

@@ -44,6 +44,7 @@ use Rattle.rules.proofs.Lawful.{lawful}
 use Rattle.rules.proofs.Effects.{later, both-sides, Asked, of-operation}
 use Rattle.rules.proofs.Callers.{enters}
 use Rattle.rules.proofs.Held.{not-same, one-holds}
+use Rattle.rules.proofs.Lists.{either, or-right}
 
 -- ---- where a tag stands
 
@@ -232,17 +233,9 @@ module _ (graph : List ℕ) (passed : checkGraph graph ≡ Passed) (table : List
 
 -- ---- which tokens hold back
 
-or-cases : (b c : Bool) → (b || c) ≡ true → (b ≡ true) ⊎ (c ≡ true)
-or-cases true c e = inl refl
-or-cases false c e = inr e
-
-or-right : (b c : Bool) → c ≡ true → (b || c) ≡ true
-or-right true c e = refl
-or-right false c e = e
-
 any-append : {A : Type 0} (f : A → Bool) (l m : List A) → any f (l ++ m) ≡ true → (any f l ≡ true) ⊎ (any f m ≡ true)
 any-append f [] m e = inr e
-any-append f (x ∷ l) m e = go (or-cases (f x) (any f (l ++ m)) e) (λ h. any-append f l m h)
+any-append f (x ∷ l) m e = go (either (f x) (any f (l ++ m)) e) (λ h. any-append f l m h)
   where
     later-one : (any f l ≡ true) ⊎ (any f m ≡ true) → (any f (x ∷ l) ≡ true) ⊎ (any f m ≡ true)
     later-one (inl h) = inl (or-right (f x) (any f l) h)
@@ -284,7 +277,7 @@ counts-by-weights g table capacity cells p j (t ∷ ts) =
 -- one that holds back is counted
 any-counted : (g : List Instruction) (k : ℕ) (p : Path) (m : ℕ) (ts : List (Token Tag ℤ)) → any (holdsBack g k p m) ts ≡ true → (j : ℕ) × (j + k ≤ m) × (0 < pendingAt g p j ts)
 any-counted g k p m [] e = falseTrue e
-any-counted g k p m (t ∷ ts) e = go (or-cases (holdsBack g k p m t) (any (holdsBack g k p m) ts) e) (λ h. any-counted g k p m ts h)
+any-counted g k p m (t ∷ ts) e = go (either (holdsBack g k p m t) (any (holdsBack g k p m) ts) e) (λ h. any-counted g k p m ts h)
   where
     go : (holdsBack g k p m t ≡ true) ⊎ (any (holdsBack g k p m) ts ≡ true) → (any (holdsBack g k p m) ts ≡ true → (j : ℕ) × (j + k ≤ m) × (0 < pendingAt g p j ts))
         → (j : ℕ) × (j + k ≤ m) × (0 < pendingAt g p j (t ∷ ts))
@@ -338,7 +331,7 @@ module _ (graph : List ℕ) (passed : checkGraph graph ≡ Passed) (table : List
 
   olds : (ts : List (Token Tag ℤ)) → any H (map (changed (change M τ (f .delta))) ts) ≡ true → any H ts ≡ true
   olds [] e = e
-  olds (t ∷ ts) e = go (or-cases (H (changed (change M τ (f .delta)) t)) _ e) (λ h. olds ts h)
+  olds (t ∷ ts) e = go (either (H (changed (change M τ (f .delta)) t)) _ e) (λ h. olds ts h)
     where
       go : (H (changed (change M τ (f .delta)) t) ≡ true) ⊎ (any H (map (changed (change M τ (f .delta))) ts) ≡ true) → (any H (map (changed (change M τ (f .delta))) ts) ≡ true → any H ts ≡ true) → (H t || any H ts) ≡ true
       go (inl h) rest = rw (older t h)
@@ -378,7 +371,7 @@ module _ (graph : List ℕ) (passed : checkGraph graph ≡ Passed) (table : List
 
   news : (ks : List (Key Tag)) → Each (P graph passed table capacity cells τ word low) ks → any H (map (output (f .after .sent)) ks) ≡ true → Back ks
   news [] each e = falseTrue e
-  news (key ∷ ks) each e = go (or-cases (H (output (f .after .sent) key)) _ e) (λ h. news ks (each .1) h)
+  news (key ∷ ks) each e = go (either (H (output (f .after .sent) key)) _ e) (λ h. news ks (each .1) h)
     where
       here : (j : ℕ) → j + k ≤ m → SentFrom τ key p j (instructionAt (graphOf graph) (τ .instruction) .code ≡ 8) → Back (key ∷ ks)
       here j l (stood i h n) = inl (i, h, omega arith)

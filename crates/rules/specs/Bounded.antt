@@ -17,7 +17,7 @@ use Rattle.machine.specs.Bounded.{runBounded, logBounded}
 use Rattle.rules.specs.declared.answer.Refusal.the-variants.{BadBound, DamagedState}
 use Rattle.rules.specs.declared.answer.Checked.{Checked}
 use Rattle.rules.specs.declared.answer.Answer.{Answer}
-use Rattle.rules.specs.Check.{demand, _andThen_, checkGraph, checkStores, checkArrays, checkInputs}
+use Rattle.rules.specs.Check.{demand, _andThen_, checkStores, checkInputs, checkWith}
 use Rattle.rules.specs.InstructionSet.{machineOf}
 use Rattle.rules.specs.Run.{firstState, picksOf, Result, refusedAtOnce, ranTo, unlessFailed, result, answer, Ran}
 use Rattle.rules.specs.Log.{logSuffices, checkLogStores, LogResult, logUnlessFailed, logged, LogRan}
@@ -42,10 +42,9 @@ andBound stores k = stores andThen demand (goodBound k) BadBound 0
 -- R-10: 22 "after 21 and before inputs"
 unfoldable pub checkBounded : (graph arrays inputs picks : List ℕ) → (bound ledger cells : ℕ) → Checked
 checkBounded graph arrays inputs picks k ledger cells =
-    checkGraph graph
-    andThen andBound (checkStores (length inputs) (length picks) ledger cells) k
-    andThen checkArrays (graphOf graph) (cells / cellWidth) arrays
-    andThen checkInputs (graphOf graph) (capacityOf ledger) inputs
+    checkWith graph arrays (cells / cellWidth)
+    (andBound (checkStores (length inputs) (length picks) ledger cells) k)
+    (checkInputs (graphOf graph) (capacityOf ledger) inputs)
 
 -- "Picks count without held activities. If only held ones remain, the answer is hung, at a used-up budget too."
 unfoldable pub bounded : (graph arrays inputs picks : List ℕ) → (budget bound ledger cells : ℕ) → Result
@@ -63,10 +62,9 @@ BoundedOn graph arrays inputs budget k l x =
 
 unfoldable pub checkBoundLogged : (graph arrays inputs picks : List ℕ) → (budget bound ledger cells lent : ℕ) → Checked
 checkBoundLogged graph arrays inputs picks budget k ledger cells lent =
-    checkGraph graph
-    andThen andBound (checkLogStores (length inputs) (length picks) ledger cells budget lent) k
-    andThen checkArrays (graphOf graph) (cells / cellWidth) arrays
-    andThen checkInputs (graphOf graph) (capacityOf ledger) inputs
+    checkWith graph arrays (cells / cellWidth)
+    (andBound (checkLogStores (length inputs) (length picks) ledger cells budget lent) k)
+    (checkInputs (graphOf graph) (capacityOf ledger) inputs)
 
 unfoldable pub boundLogged : (graph arrays inputs picks : List ℕ) → (budget bound ledger cells lent : ℕ) → LogResult
 boundLogged graph arrays inputs picks budget k ledger cells lent =
@@ -83,10 +81,9 @@ BoundLoggedOn graph arrays inputs k l x = LogRan (boundLogged graph arrays input
 
 unfoldable pub checkBoundSaved : (graph arrays picks ledger cells : List ℕ) → (bound firings tokens : ℕ) → Checked
 checkBoundSaved graph arrays picks ledger cells k firings n =
-    checkGraph graph
-    andThen andBound (checkStores 0 (length picks) (length ledger) (length cells)) k
-    andThen checkArrays (graphOf graph) (length cells / cellWidth) arrays
-    andThen demand (taken graph ledger cells firings n) DamagedState 0
+    checkWith graph arrays (length cells / cellWidth)
+    (andBound (checkStores 0 (length picks) (length ledger) (length cells)) k)
+    (demand (taken graph ledger cells firings n) DamagedState 0)
 
 unfoldable pub boundCarried : (graph arrays picks : List ℕ) → (budget bound : ℕ) → (ledger cells : List ℕ) → (firings tokens : ℕ) → Result
 boundCarried graph arrays picks budget k ledger cells firings n =

@@ -17,7 +17,7 @@ use Rattle.rules.specs.Run.{answer}
 use Rattle.rules.specs.Log.{logAfter}
 use Rattle.rules.specs.Held.{heldIn}
 use Rattle.rules.specs.Bounded.{bounded, boundLogged, boundCarried}
-use Rattle.rules.specs.Cases.{to0, to1, to2, token, root, input, values, completed, spentWord, hung, Seen, ran, again, wrote, seenIn}
+use Rattle.rules.specs.CaseRows.{to0, to1, to2, token, root, input, values, completed, spentWord, hung, Seen, ran, again, wrote, seenIn}
 use Rattle.rules.specs.SavedCases.{ledgerFrom}
 
 -- ---- a case

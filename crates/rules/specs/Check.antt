@@ -152,9 +152,13 @@ checkInputs g capacity inputs =
 
 -- ---- all of it; ledger and cells by their lengths in bytes
 
+-- the order of the checks: the graph, what is lent, the named arrays for this number of cells, and last the inputs or a saved state. A run, one with a log or a bound, a
+-- replay, a profile, a range run and a run from a saved state differ in what is lent and in what is last
+abbrev pub checkWith : (graph arrays : List ℕ) → (cells : ℕ) → (lent last : Checked) → Checked
+checkWith graph arrays cells lent last = checkGraph graph andThen lent andThen checkArrays (graphOf graph) cells arrays andThen last
+
 unfoldable pub check : (graph arrays inputs picks : List ℕ) → (ledger cells : ℕ) → Checked
 check graph arrays inputs picks ledger cells =
-    checkGraph graph
-    andThen checkStores (length inputs) (length picks) ledger cells
-    andThen checkArrays (graphOf graph) (cells / cellWidth) arrays
-    andThen checkInputs (graphOf graph) (capacityOf ledger) inputs
+    checkWith graph arrays (cells / cellWidth)
+    (checkStores (length inputs) (length picks) ledger cells)
+    (checkInputs (graphOf graph) (capacityOf ledger) inputs)

@@ -86,10 +86,16 @@ goodTerm earlier i t = eqb (t .zeros) 0 && cond (isVariable t) (eqb (t .left) 0 
 -- ---- "Refused: 25, bad expression, with place 0 for a wrong length, else at the first record with a bad field or naming one already named, else at the first
 -- never named; then 26, graph too long for the lent output."
 
+-- "at the first record with a bad field or naming one already named"
+abbrev pub checkGoodTerms : List Term → Checked
+checkGoodTerms ts = inTurn (λ i t. demand (goodTerm (take i ts) i t) Refusals.BadExpression i) 0 ts
+
+-- "at the first never named"; the last is named by none
+abbrev pub checkNamed : List Term → Checked
+checkNamed ts = inTurn (λ j t. demand (eqb (suc j) (length ts) || any (names j) ts) Refusals.BadExpression j) 0 ts
+
 unfoldable pub checkTerms : List Term → Checked
-checkTerms ts =
-    inTurn (λ i t. demand (goodTerm (take i ts) i t) Refusals.BadExpression i) 0 ts
-    andThen inTurn (λ j t. demand (eqb (suc j) (length ts) || any (names j) ts) Refusals.BadExpression j) 0 ts
+checkTerms ts = checkGoodTerms ts andThen checkNamed ts
 
 unfoldable pub checkExpression : (expression : List ℕ) → Checked
 checkExpression expression = demand (isExpressionLength (length expression)) Refusals.BadExpression 0 andThen checkTerms (expressionOf expression)

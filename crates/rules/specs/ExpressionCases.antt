@@ -14,7 +14,7 @@ use Rattle.rules.specs.Run.{result, answer}
 use Rattle.record.specs.ExpressionRecords.{expressionOf}
 use Rattle.record.specs.Widths.{tokenWidth}
 use Rattle.rules.specs.Expression.{valueOf, checkMade, madeOf, graphFor, graphBytes, inputBytes, outputOf}
-use Rattle.rules.specs.Cases.{to0, to1, values}
+use Rattle.rules.specs.CaseRows.{to0, to1, values}
 
 -- ---- how the rows are written
 

@@ -26,7 +26,7 @@ use Rattle.rules.specs.declared.answer.Answer.{Answer}
 use Rattle.rules.specs.declared.answer.Checked.{Checked}
 use Rattle.rules.specs.declared.answer.Checked.the-variants.{Passed, Failed}
 use Rattle.rules.specs.Answer.{valuesOf}
-use Rattle.rules.specs.Check.{demand, _andThen_, checkGraph, checkStores, checkArrays, checkInputs, check}
+use Rattle.rules.specs.Check.{demand, _andThen_, checkStores, checkInputs, check, checkWith}
 use Rattle.rules.specs.InstructionSet.{machineOf}
 use Rattle.rules.specs.Run.{firstState, picksOf, Result, refusedAtOnce, ranTo, unlessFailed, result, answer, ledgerAfter, cellsAfter}
 use Rattle.rules.specs.Orders.{Quiescent}
@@ -49,10 +49,9 @@ checkLogStores inputs picks ledger cells budget lent =
 
 unfoldable pub checkLogged : (graph arrays inputs picks : List ℕ) → (budget ledger cells lent : ℕ) → Checked
 checkLogged graph arrays inputs picks budget ledger cells lent =
-    checkGraph graph
-    andThen checkLogStores (length inputs) (length picks) ledger cells budget lent
-    andThen checkArrays (graphOf graph) (cells / cellWidth) arrays
-    andThen checkInputs (graphOf graph) (capacityOf ledger) inputs
+    checkWith graph arrays (cells / cellWidth)
+    (checkLogStores (length inputs) (length picks) ledger cells budget lent)
+    (checkInputs (graphOf graph) (capacityOf ledger) inputs)
 
 -- a run's result, and the tags of its firings in turn
 pub record LogResult : Type 0 where

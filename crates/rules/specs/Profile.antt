@@ -21,7 +21,7 @@ use Rattle.rules.specs.declared.answer.Profiled.{Profiled}
 use Rattle.rules.specs.declared.answer.Checked.{Checked}
 use Rattle.rules.specs.declared.answer.Checked.the-variants.{Passed, Failed}
 use Rattle.rules.specs.Answer.{valuesOf}
-use Rattle.rules.specs.Check.{demand, _andThen_, checkGraph, checkStores, checkArrays, checkInputs}
+use Rattle.rules.specs.Check.{demand, _andThen_, checkStores, checkInputs, checkWith}
 use Rattle.rules.specs.InstructionSet.{machineOf}
 use Rattle.rules.specs.Run.{firstState, Result, refusedAtOnce, ranTo, result, answer, ledgerAfter, cellsAfter}
 use Rattle.rules.specs.Orders.{Quiescent, Refused, Alike, Allowed}
@@ -38,10 +38,9 @@ checkProfileStores inputs ledger cells profile = checkStores inputs 0 ledger cel
 
 unfoldable pub checkProfile : (graph arrays inputs : List ℕ) → (ledger cells profile : ℕ) → Checked
 checkProfile graph arrays inputs ledger cells profile =
-    checkGraph graph
-    andThen checkProfileStores (length inputs) ledger cells profile
-    andThen checkArrays (graphOf graph) (cells / cellWidth) arrays
-    andThen checkInputs (graphOf graph) (capacityOf ledger) inputs
+    checkWith graph arrays (cells / cellWidth)
+    (checkProfileStores (length inputs) ledger cells profile)
+    (checkInputs (graphOf graph) (capacityOf ledger) inputs)
 
 -- a result as a run has it, and the records of the whole steps
 pub record ProfileResult : Type 0 where

@@ -10,7 +10,7 @@ use Rattle.arithmetic.specs.declared.Range.{Range}
 use Rattle.machine.specs.Machine.{Content, live, spent, deferred, Token, Cell, absent, waiting, present}
 use Rattle.rules.specs.Answer.{Values, valuesOf}
 use Rattle.rules.specs.RangeRun.{encodeRange, encodeRangeCell, RangeResult, refusedAtOnce, ranTo, rangeResult, rangeAnswer}
-use Rattle.rules.specs.Cases.{to0, to1, to2, key, values, completed, hung}
+use Rattle.rules.specs.CaseRows.{to0, to1, to2, key, values, completed, hung}
 
 abbrev between : ℤ → ℤ → Range
 between l h = record { low = l; high = h }

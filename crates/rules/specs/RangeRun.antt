@@ -32,7 +32,7 @@ use Rattle.rules.specs.declared.answer.Answer.{Answer}
 use Rattle.rules.specs.declared.answer.Checked.{Checked}
 use Rattle.rules.specs.declared.answer.Checked.the-variants.{Passed, Failed}
 use Rattle.rules.specs.Answer.{valuesOf}
-use Rattle.rules.specs.Check.{demand, _andThen_, inTurn, checkGraph, checkArrays, goodInput, secondInput, mostCells}
+use Rattle.rules.specs.Check.{demand, _andThen_, inTurn, goodInput, secondInput, mostCells, checkWith}
 use Rattle.rules.specs.Run.{picksOf, outcomeOf}
 use Rattle.rules.specs.Held.{heldIn}
 use Rattle.rules.specs.Bounded.{andBound}
@@ -101,10 +101,9 @@ checkRangeInputs g capacity inputs =
 -- 21 and 22 stand where they do for a run with a bound and a table
 unfoldable pub checkRanges : (graph arrays inputs picks : List ℕ) → (bound ledger cells : ℕ) → Checked
 checkRanges graph arrays inputs picks k ledger cells =
-    checkGraph graph
-    andThen andBound (checkRangeStores (length inputs) (length picks) ledger cells) k
-    andThen checkArrays (graphOf graph) (cells / rangeCellWidth) arrays
-    andThen checkRangeInputs (graphOf graph) (rangeCapacityOf ledger) inputs
+    checkWith graph arrays (cells / rangeCellWidth)
+    (andBound (checkRangeStores (length inputs) (length picks) ledger cells) k)
+    (checkRangeInputs (graphOf graph) (rangeCapacityOf ledger) inputs)
 
 -- ---- a run
 

@@ -27,7 +27,7 @@ use Rattle.rules.specs.declared.answer.Refusal.the-variants.{DamagedStat
 use Rattle.rules.specs.declared.answer.Checked.{Checked}
 use Rattle.rules.specs.declared.answer.Checked.the-variants.{Passed}
 use Rattle.rules.specs.declared.answer.Answer.{Answer}
-use Rattle.rules.specs.Check.{demand, _andThen_, all, any, operandsAt, entersSite, checkGraph, checkStores, checkArrays}
+use Rattle.rules.specs.Check.{demand, all, any, operandsAt, entersSite, checkGraph, checkStores, checkWith}
 use Rattle.rules.specs.InstructionSet.{machineOf}
 use Rattle.rules.specs.Callers.{PathIn}
 use Rattle.rules.specs.Run.{tokenHeld, cellHeld, picksOf, Result, ranTo, unlessFailed, Ran}
@@ -92,10 +92,9 @@ TakenExactly = (graph ledger cells : List ℕ) (firings n : ℕ) → checkGraph 
 -- "Refused: 24, damaged state, after 7 and in the place of 6, with place 0."; no inputs are lent. R-10: 22 "before inputs"
 unfoldable pub checkSaved : (graph arrays picks ledger cells : List ℕ) → (firings tokens : ℕ) → Checked
 checkSaved graph arrays picks ledger cells firings n =
-    checkGraph graph
-    andThen checkStores 0 (length picks) (length ledger) (length cells)
-    andThen checkArrays (graphOf graph) (length cells / cellWidth) arrays
-    andThen demand (taken graph ledger cells firings n) DamagedState 0
+    checkWith graph arrays (length cells / cellWidth)
+    (checkStores 0 (length picks) (length ledger) (length cells))
+    (demand (taken graph ledger cells firings n) DamagedState 0)
 
 -- "Each part's budget counts its own firings", and the answer counts those before too
 unfoldable pub carried : (graph arrays picks : List ℕ) → (budget : ℕ) → (ledger cells : List ℕ) → (firings tokens : ℕ) → Result

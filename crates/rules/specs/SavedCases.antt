@@ -14,7 +14,8 @@ use Rattle.rules.specs.Answer.{Values}
 use Rattle.rules.specs.Run.{tokenRecord, cellRecord}
 use Rattle.machine.specs.Saved.{isSaved}
 use Rattle.rules.specs.Saved.{stateSaved, tokenAllowed, cellAllowed, taken, checkSaved, carried}
-use Rattle.rules.specs.Cases.{array, to0, to1, to2, token, root, values, completed, spentWord, hung, binary, Numbered, cell, Seen, ran, seenIn}
+use Rattle.rules.specs.CaseRows.{to0, to1, to2, token, root, values, completed, spentWord, hung, binary, Numbered, cell, Seen, ran, seenIn}
+use Rattle.rules.specs.RequestCases.{array}
 
 -- ---- how the rows are written
 
@@ -63,8 +64,8 @@ entered = root 4 0 (spent (pos 5)) ∷ token called 0 5 0 (live (pos 5)) ∷ []
 abbrev pub state : List (Token Tag ℤ)
 state = added ++ fetched ++ entered
 
-abbrev pub cells : List ℕ
-cells = cellsFrom (absent ∷ waiting ∷ [])
+abbrev pub twoCells : List ℕ
+twoCells = cellsFrom (absent ∷ waiting ∷ [])
 
 -- bytes behind the state's records, which are not looked at: a record in no allowed state
 abbrev pub behind : List ℕ
@@ -73,17 +74,17 @@ behind = bytes32 4294967295 ++ bytes32 4294967295 ++ bytes32 4294967295 ++ bytes
 -- it goes on: the call returns, and the fetch waits for ever
 abbrev pub good : List Case
 good =
-    carrying graph [] 2048 3 7 (ledgerFrom state ++ behind) cells (values hung 4 8 0)
+    carrying graph [] 2048 3 7 (ledgerFrom state ++ behind) twoCells (values hung 4 8 0)
     (added ++ fetched ++ root 4 0 (spent (pos 5)) ∷ token called 0 5 0 (spent (pos 5)) ∷ root 6 0 (live (pos 5)) ∷ [])
     (cell 1 waiting ∷ [])
     -- the budget is that of the part
-    ∷ carrying graph [] 0 3 7 (ledgerFrom state ++ behind) cells (values spentWord 3 7 0) state (cell 1 waiting ∷ [])
+    ∷ carrying graph [] 0 3 7 (ledgerFrom state ++ behind) twoCells (values spentWord 3 7 0) state (cell 1 waiting ∷ [])
     -- what completed completes again
     ∷ carrying (binary 16) [] 2048 1 3 (ledgerFrom added) [] (values completed 1 3 0) added []
     -- so does an empty state
     ∷ carrying graph [] 2048 0 0 [] [] (values completed 0 0 0) [] []
     -- states that no run left: the order is no condition, nor that somebody sent a token, nor that a FETCH sends to where one is deferred
-    ∷ carrying graph [] 0 3 7 (ledgerFrom (entered ++ added ++ fetched)) cells (values spentWord 3 7 0) (entered ++ added ++ fetched) (cell 1 waiting ∷ [])
+    ∷ carrying graph [] 0 3 7 (ledgerFrom (entered ++ added ++ fetched)) twoCells (values spentWord 3 7 0) (entered ++ added ++ fetched) (cell 1 waiting ∷ [])
     ∷ carrying graph [] 2048 0 1 (ledgerFrom (root 6 0 (live (pos 1)) ∷ [])) [] (values completed 0 1 0) (root 6 0 (live (pos 1)) ∷ []) []
     ∷ carrying graph [] 2048 0 1 (ledgerFrom (root 6 0 (deferred 0) ∷ [])) (cellsFrom (waiting ∷ [])) (values hung 0 1 0) (root 6 0 (deferred 0) ∷ []) (cell 0 waiting ∷ [])
     -- two levels, and a present cell with a value
@@ -136,8 +137,8 @@ bad =
     -- "tokens within the capacity"
     ∷ damaged 0 1 [] []
     -- "the firings as many as the tags with spent operands"
-    ∷ damaged 2 7 (ledgerFrom state) cells
-    ∷ damaged 4 7 (ledgerFrom state) cells
+    ∷ damaged 2 7 (ledgerFrom state) twoCells
+    ∷ damaged 4 7 (ledgerFrom state) twoCells
     ∷ []
 
 -- ---- "after 7 and in the place of 6"

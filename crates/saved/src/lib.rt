@@ -243,7 +243,9 @@ fn enter(
     firings: usize,
     used: usize,
 ) -> bool
-    requires { ⌜ Matching (now tables) (now links) (now flags) (now ledger) 0 × (used ≤ length (now ledger) / tokenWidth) × (length (now ledger) / tokenWidth ≤ 2048) × (count ≤ 1024) × Entered (graphOf (now graph)) (now sites) × Arities (graphOf (now graph)) (now tables) ⌝ }
+    requires { ⌜ Matching (now tables) (now links) (now flags) (now ledger) 0
+        × (used ≤ length (now ledger) / tokenWidth) × (length (now ledger) / tokenWidth ≤ 2048) × (count ≤ 1024)
+        × Entered (graphOf (now graph)) (now sites) × Arities (graphOf (now graph)) (now tables) ⌝ }
     ensures { λ r. ⌜ r ≡ entersAll (graphOf (now (graph .entry))) (now (tables .entry)) (now (ledger .entry)) count firings used ⌝ }
     ensures { λ r. ⌜ (r ≡ true → Matching (now (tables .entry)) (now (links .exit)) (now (flags .exit)) (now (ledger .entry)) used) ⌝ }
 {
@@ -309,7 +311,8 @@ fn cell_right(links: &Links, cells: &[u8], c: usize) -> bool
 // The pass over the cells.
 fn cells_right(links: &Links, cells: &[u8]) -> bool
     requires { ⌜ length (now cells) / cellWidth ≤ 1024 ⌝ }
-    ensures { λ r. ⌜ ((tables flags ledger : List ℕ) (used : ℕ) → Matching tables (now (links .entry)) flags ledger used → r ≡ allUpTo (cellRight (tokens used ledger) (now (cells .entry))) (length (now (cells .entry)) / cellWidth)) ⌝ }
+    ensures { λ r. ⌜ ((tables flags ledger : List ℕ) (used : ℕ) → Matching tables (now (links .entry)) flags ledger used
+        → r ≡ allUpTo (cellRight (tokens used ledger) (now (cells .entry))) (length (now (cells .entry)) / cellWidth)) ⌝ }
     ensures { λ r. ⌜ (r ≡ true → (c : ℕ) → c < length (now (cells .entry)) / cellWidth → CellBytes (now (cells .entry)) c) ⌝ }
 {
     let mut c = 0;
@@ -333,7 +336,9 @@ pub fn take(
     firings: usize,
     used: usize,
 ) -> bool
-    requires { ⌜ Prepared (now graph) (now tables) × (length (now ledger) / tokenWidth ≤ 2048) × (length (now cells) % cellWidth ≡ 0) × (length (now cells) / cellWidth ≤ 1024) × (now links ≡ replicate 9216 0) × (now flags ≡ replicate 69 0) ⌝ }
+    requires { ⌜ Prepared (now graph) (now tables)
+        × (length (now ledger) / tokenWidth ≤ 2048) × (length (now cells) % cellWidth ≡ 0) × (length (now cells) / cellWidth ≤ 1024)
+        × (now links ≡ replicate 9216 0) × (now flags ≡ replicate 69 0) ⌝ }
     ensures { λ r. ⌜ r ≡ taken (now (graph .entry)) (now (ledger .entry)) (now (cells .entry)) firings used ⌝ }
     ensures { λ r. ⌜ (r ≡ true → Running (graphOf (now (graph .entry))) (now (tables .entry)) (now (links .exit)) (now (flags .exit)) (now (ledger .entry)) (now (cells .entry)) used) ⌝ }
 {

@@ -211,7 +211,8 @@ fn write(answer: Answer, listing: &[u8], cells: &[u8], out: &mut [u8]) -> usize
 // Prints an answer, the tokens of a listing and the cells that are not absent to the start of `out`.
 // `out` stays untouched unless the whole text fits.
 pub fn print(answer: Answer, listing: &[u8], cells: &[u8], out: &mut [u8]) -> Printed
-    ensures { λ r. ⌜ (r ≡ printedOf (printed answer (now (listing .entry)) (now (cells .entry))) (now (out .entry))) × (now (out .exit) ≡ outAfter (printed answer (now (listing .entry)) (now (cells .entry))) (now (out .entry))) ⌝ }
+    ensures { λ r. ⌜ r ≡ printedOf (printed answer (now (listing .entry)) (now (cells .entry))) (now (out .entry)) ⌝ }
+    ensures { λ _. ⌜ now (out .exit) ≡ outAfter (printed answer (now (listing .entry)) (now (cells .entry))) (now (out .entry)) ⌝ }
 {
     if fits(answer, listing, cells, out.len()) {
         Printed::Done(write(answer, listing, cells, out))

@@ -1,9 +1,5 @@
 -- `abi::ttda_profile` meets its contract: the profile as a number, from profile's promise. Assumes nothing.
 use borrow.Author.Needs.{needs}
-use mathlib.Core.Path.{ap, _∙_}
-use Rattle.rules.specs.declared.answer.Profiled.{Profiled}
-use Rattle.rules.specs.Answer.{valuesOf}
-use Rattle.abi.specs.Numbers.{packed}
 use Rattle.abi.proofs.ttda_profile.Statement.{statement}
 use Rattle.abi.proofs.ttda_profile.Tie as tie
 
@@ -15,7 +11,5 @@ ttda-profile-spec = tie.close (tie.spec
     (λ c. search needs)  -- same-length-2
     (λ c. search needs)  -- same-length-3
     (λ c.  -- returns
-    let ran = c .before .before .before .before .before .before .before .before .profile .ensures in (
-      c .number-of .ensures ∙ ap (λ (a : Profiled). packed (valuesOf (a .answer))) (ran .answered),
-      (ap (λ (a : Profiled). a .records) (ran .answered), (ran .ledgerLeft, (ran .cellsLeft, ran .profileLeft))),
-    )))
+    let ran = c .before .before .before .before .before .before .before .before .profile in
+    record { answer = ran .result .answer; number = c .number-of .ensures; promised = ran .ensures }))

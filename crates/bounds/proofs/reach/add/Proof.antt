@@ -2,7 +2,7 @@
 use Prim.Native.Nat.{ℕ, _/_, _≤_, _<_}
 use native.Mathlib.Omega.{arith}
 use mathlib.Core.Path.{_≡_, refl, sym, _∙_}
-use mathlib.Core.Bool.{true}
+use mathlib.Core.Bool.{true, or-false}
 use mathlib.Core.List.{List}
 use lib.ListN.{length}
 use borrow.Author.Tests.{leb-true, not-true, not-false}
@@ -12,7 +12,6 @@ use Rattle.machine.proofs.View.{falseTrue}
 use Rattle.rules.specs.declared.answer.Checked.the-variants.{Passed}
 use Rattle.rules.specs.Check.{operandsAt, checkGraph}
 use Rattle.rules.proofs.Lists.{or-right}
-use Rattle.check_fields.proofs.Turns.{or-false}
 use Rattle.check_fields.proofs.Graphs.{length-graph, at-graph}
 use Rattle.checks.proofs.Passed.{passed-length, passed-at}
 use Rattle.bounds.proofs.Ports.{destinations-inside}

@@ -2,7 +2,7 @@
 use Prim.Native.Nat.{ℕ, zero, suc, _*_, _≤_}
 use native.Mathlib.Omega.{arith}
 use native.Mathlib.Nat.{add-zero}
-use mathlib.Core.Bool.{Bool, true, false, _&&_}
+use mathlib.Core.Bool.{Bool, true, false, _&&_, and-true, and-false}
 use mathlib.Core.List.{List}
 use mathlib.Core.Path.{_≡_, refl, sym, _∙_}
 use lib.ListN.{getD}
@@ -13,14 +13,9 @@ use Rattle.record.specs.GraphRecords.{graphOf}
 use Rattle.rules.specs.Check.{instructionAt, operandsAt}
 use Rattle.rules.specs.Needs.{allBelow}
 use Rattle.rules.proofs.PassedGraph.{two-operands}
-use Rattle.check_fields.proofs.Turns.{and-true}
 use Rattle.check_fields.proofs.Graphs.{operands-in}
 use Rattle.bounds.proofs.reach.ready.Statement.{statement}
 use Rattle.bounds.proofs.reach.ready.Tie as tie
-
-and-false : (a : Bool) → a && false ≡ false
-and-false true = refl
-and-false false = refl
 
 -- port 0 is not there
 lacking : (n : ℕ) (f : ℕ → Bool) → 1 ≤ n → f 0 ≡ false → false ≡ allBelow n f
