@@ -4,8 +4,8 @@
 mod answers;
 mod functions;
 mod limits;
-pub mod widths;
 
 pub use answers::{Answer, Copied, Held, NotPrinted, Printed, Served, Value, Word};
 pub use functions::*;
+pub use layout::{self, widths};
 pub use limits::Limits;

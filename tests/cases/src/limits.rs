@@ -172,7 +172,7 @@ fn full() -> Vec<Case> {
         inputs.extend((12..12 + outs).map(|number| token(number, 0, -1)));
         lend(&graph, &inputs).capacity(capacity).from(capacity - 6)
     };
-    let alike = lend(&[op(SINK, &[])], &[]).input_bytes(2048 * TOKEN_RECORD);
+    let alike = lend(&[op(SINK, &[])], &[]).input_bytes(MOST_RECORDS * TOKEN_RECORD);
     vec![
         case(
             "2048 tokens, capacity 2048",
@@ -343,9 +343,9 @@ fn beforehand() -> Vec<Case> {
         token(0, 0, 4),
         token(0, 1, 5),
     ];
-    let spent = likely.map(|record| byte(record, 16, 1));
-    let deferred = likely.map(|record| byte(record, 16, 2));
-    let waiting = [0, 0, 0, 0, 1, 0, 0, 0];
+    let spent = likely.map(|record| byte(record, token::STATE, token::SPENT));
+    let deferred = likely.map(|record| byte(record, token::STATE, token::DEFERRED));
+    let waiting = cell(0, cell::WAITING);
     let held = [present(9), waiting];
     let graph = [op(FETCH, &[(2, 0)]), op(STORE, &[]), op(OUT, &[])];
     let read = || lend(&graph, &[token(0, 0, 0)]);
@@ -420,7 +420,7 @@ fn beforehand() -> Vec<Case> {
             "beforehand: zeros",
             sum()
                 .ledger_of(&[[0; TOKEN_RECORD]; 5])
-                .cells_of(&[[0; 8]; 2]),
+                .cells_of(&[cell(0, cell::ABSENT); 2]),
             "completed 1 3 0",
         ),
     ]

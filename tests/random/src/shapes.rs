@@ -1,6 +1,8 @@
 //! What the runs are made of: generated graphs, changed ones, long loops and
 //! graphs of arbitrary arcs.
 
+use layout::widths::MOST_INSTRUCTIONS;
+
 use crate::arrays;
 use crate::generate::{Generator, Size};
 use crate::loops;
@@ -20,7 +22,7 @@ pub struct Subject {
 pub fn subject(prng: &mut Prng) -> Subject {
     loop {
         let (kind, mut draft, cells) = draft(prng);
-        if draft.instructions.len() <= 256 {
+        if draft.instructions.len() <= MOST_INSTRUCTIONS {
             if prng.one_in(25) {
                 draft.fill();
             }

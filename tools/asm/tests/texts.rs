@@ -1,6 +1,8 @@
 //! Texts, their files, and where everything stands.
 
 use asm::{assemble, disassemble, read, read_order};
+use layout::fields::instruction;
+use layout::widths;
 
 const SUM: &str = "# the sum of 01
 sum: ADD -> out.0
@@ -51,7 +53,7 @@ fn every_form_of_an_instruction() {
         "line 10: `m` has no port 0, its operand count is 0"
     );
     let files = assemble(&FORMS.replace("i: STORE -> m.0", "i: STORE")).unwrap();
-    let record = |number: usize| &files.graph[16 * number..16 * number + 16];
+    let record = |number: usize| layout::record(&files.graph, number);
     assert_eq!(record(0), [1, 2, 0, 1, 1, 0, 2, 0, 0, 0, 0, 0, 0, 0, 0, 0]);
     assert_eq!(
         record(1),
@@ -167,7 +169,11 @@ fn arrays_and_their_elements() {
     assert_eq!(program.files.arrays, table);
     let names: Vec<&str> = program.instructions.iter().map(|i| &i.name[..]).collect();
     assert_eq!(names, ["f", "s", "g", "out", "b[2]", "low[1]"]);
-    let constants = program.files.graph.chunks_exact(16).map(|record| record[8]);
+    let constants = program
+        .files
+        .graph
+        .chunks_exact(widths::INSTRUCTION)
+        .map(|record| record[instruction::CONSTANT.start]);
     assert_eq!(constants.collect::<Vec<u8>>(), [2, 4, 0, 0, 2, 5]);
     assert_eq!(
         &text[program.arrays[1].place.span.clone()],

@@ -3,6 +3,8 @@
 mod common;
 
 use common::{dayomlak, expect, typed, Folder};
+use ttda::layout::fields::logged;
+use ttda::widths::LOGGED;
 
 /// Faults are shown all at once, and nothing is printed.
 #[test]
@@ -209,8 +211,8 @@ fn a_log_that_cannot_be_replayed() {
     let text = "a: ADD 1 -> b\nb: OUT\ninput a = 1\n";
     let folder = Folder::new();
     let file = folder.write("sum.ttda", text);
-    let mut damaged = [0; 20];
-    damaged[17] = 1;
+    let mut damaged = [0; LOGGED];
+    damaged[logged::ZERO] = 1;
     let cases = [
         (
             vec![0; 40],

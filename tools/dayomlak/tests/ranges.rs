@@ -6,6 +6,7 @@ mod common;
 use std::fs;
 
 use common::{command, dayomlak, done, expect, typed, Done, Folder, ROOT};
+use ttda::widths::LOGGED;
 
 const MARGIN: &str = "examples/measurement/measurement.ranges";
 const NOMINAL: &str = "examples/measurement/measurement.ttda";
@@ -358,7 +359,7 @@ fn faults_of_a_text() {
 fn other_commands() {
     let folder = Folder::new();
     let file = folder.write("x.ttda", EITHER);
-    folder.write("x.log", [0; 20]);
+    folder.write("x.log", [0; LOGGED]);
     let (log, out) = (folder.path("x.log"), folder.path("out"));
     let calls: [&[&str]; 17] = [
         &["run", &file],

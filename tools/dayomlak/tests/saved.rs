@@ -6,6 +6,8 @@ use std::fs;
 
 use common::{command, dayomlak, done, expect, Done, Folder};
 use plotter::Fingerprint;
+use ttda::layout::fields::{cell, token};
+use ttda::widths::{CELL, TOKEN};
 
 const VECTOR_SUM: &str = "examples/vector_sum/vector_sum.ttda";
 const RECURSION: &str = "examples/recursion/recursion.ttda";
@@ -344,12 +346,12 @@ impl Edited {
 
     /// A byte of a token's record.
     fn token(&mut self, place: usize, at: usize) -> &mut u8 {
-        &mut self.parts[3][28 * place + at]
+        &mut self.parts[3][TOKEN * place + at]
     }
 
     /// A byte of a cell's record.
     fn cell(&mut self, number: usize, at: usize) -> &mut u8 {
-        &mut self.parts[4][8 * number + at]
+        &mut self.parts[4][CELL * number + at]
     }
 }
 
@@ -365,34 +367,34 @@ type Change = fn(&mut Edited);
 
 /// The tokens: 0 main, 1 other (a result), 2 n, 3 plus.0 (waits), 4 read, 5 plus.1 (deferred on cell 3).
 const CHANGES: [(&str, &str, Change); 17] = [
-    ("fields and states are allowed", "token 3, `main[0]/#99[0].0`, is at instruction 99, which is not there", |e| *e.token(3, 18) = 99),
-    ("fields and states are allowed", "token 1, `other[0]`, is at port 1, which the instruction does not have", |e| *e.token(1, 17) = 1),
-    ("fields and states are allowed", "token 1, `other[0]`, has the state 7, and states are 0 to 2", |e| *e.token(1, 24) = 7),
-    ("fields and states are allowed", "token 1, `other[0]`, has last bytes that are not zero", |e| *e.token(1, 27) = 1),
-    ("fields and states are allowed", "cell 6 has the state 3, and states are 0 to 2", |e| *e.cell(6, 4) = 3),
-    ("fields and states are allowed", "cell 6 has last bytes that are not zero", |e| *e.cell(6, 5) = 1),
+    ("fields and states are allowed", "token 3, `main[0]/#99[0].0`, is at instruction 99, which is not there", |e| *e.token(3, token::INSTRUCTION.start) = 99),
+    ("fields and states are allowed", "token 1, `other[0]`, is at port 1, which the instruction does not have", |e| *e.token(1, token::PORT) = 1),
+    ("fields and states are allowed", "token 1, `other[0]`, has the state 7, and states are 0 to 2", |e| *e.token(1, token::STATE) = 7),
+    ("fields and states are allowed", "token 1, `other[0]`, has last bytes that are not zero", |e| *e.token(1, token::ZEROS.end - 1) = 1),
+    ("fields and states are allowed", "cell 6 has the state 3, and states are 0 to 2", |e| *e.cell(6, cell::STATE) = 3),
+    ("fields and states are allowed", "cell 6 has last bytes that are not zero", |e| *e.cell(6, cell::ZEROS.start) = 1),
     ("a tag and port is there once", "token 6, `other[0]`, is where token 1 is", |e| {
-        let other = e.parts[3][28..56].to_vec();
+        let other = e.parts[3][TOKEN..2 * TOKEN].to_vec();
         e.parts[3].extend(other);
         e.set("tokens", "7");
     }),
     ("a path is made of sites that have an ENTER, its levels unbroken", "token 3, `site 9[0]/plus[0].0`, has a path through site 9, which has no ENTER", |e| *e.token(3, 1) = 9),
     ("a path is made of sites that have an ENTER, its levels unbroken", "token 3, `main[0]/site 0[0]/main[0]/plus[0].0`, has a path with a level that names no site", |e| *e.token(3, 5) = 1),
     ("a tag's operands are all present and spent, or none is spent", "token 3, `main[0]/plus[0].0`, is spent, and the token at port 1 is deferred", |e| {
-        *e.token(3, 24) = 1;
+        *e.token(3, token::STATE) = token::SPENT;
         e.set("firings", "4");
     }),
     ("a result is never spent", "token 1, `other[0]`, is spent", |e| {
-        *e.token(1, 24) = 1;
+        *e.token(1, token::STATE) = token::SPENT;
         e.set("firings", "4");
     }),
     ("a deferred token names a cell", "token 5, `main[0]/plus[0].1`, is deferred on cell 10, and there are 10 cells", |e| {
-        *e.token(5, 20) = 10;
-        *e.cell(3, 4) = 0;
+        *e.token(5, token::VALUE.start) = 10;
+        *e.cell(3, cell::STATE) = cell::ABSENT;
     }),
-    ("a cell waits exactly where a token is deferred on it", "token 5, `main[0]/plus[0].1`, is deferred on cell 3, which is absent", |e| *e.cell(3, 4) = 0),
-    ("a cell waits exactly where a token is deferred on it", "cell 5 waits, and no token is deferred on it", |e| *e.cell(5, 4) = 1),
-    ("a cell's value is 0 until it is present", "cell 4 is not present and has the value 7", |e| *e.cell(4, 0) = 7),
+    ("a cell waits exactly where a token is deferred on it", "token 5, `main[0]/plus[0].1`, is deferred on cell 3, which is absent", |e| *e.cell(3, cell::STATE) = cell::ABSENT),
+    ("a cell waits exactly where a token is deferred on it", "cell 5 waits, and no token is deferred on it", |e| *e.cell(5, cell::STATE) = cell::WAITING),
+    ("a cell's value is 0 until it is present", "cell 4 is not present and has the value 7", |e| *e.cell(4, cell::VALUE.start) = 7),
     ("the tokens are within the capacity", "there are 6, and the capacity is 5", |e| e.set("capacity", "5")),
     ("there are as many firings as tags with spent operands", "there are 4 firings and 3 such tags", |e| e.set("firings", "4")),
 ];
@@ -461,7 +463,7 @@ fn the_conditions_alone_decide() {
     let mut edited = Edited::deferred(&folder);
     // The result is another one, and the ledger is in another order.
     *edited.token(1, 20) = 77;
-    let first = edited.parts[3].drain(..28).collect::<Vec<u8>>();
+    let first = edited.parts[3].drain(..TOKEN).collect::<Vec<u8>>();
     edited.parts[3].extend(first);
     let file = folder.write("other", edited.bytes());
     let done = dayomlak(&["carry-on", &file]);

@@ -1,9 +1,10 @@
 //! Random texts: each gives an expression with its graph and value, or an error with its place, and none a panic.
 
-use asm::{assemble, GRAPH_RECORD};
+use asm::assemble;
 
 use super::{parse, typed, Expression, Fault, Kind, Operator, MOST_PARTS};
 use crate::records::{tokens, TOKEN};
+use ttda::widths::{INSTRUCTION, WHOLE_BUDGET};
 use ttda::{Answer, Word};
 
 const TEXTS: usize = 10_000;
@@ -206,7 +207,7 @@ fn check_expression(expression: &Expression) {
         Kind::Operation(..) => 0,
     };
     let values: Vec<i32> = expression.variables().map(value).collect();
-    let mut graph = vec![0; GRAPH_RECORD * (last + 2)];
+    let mut graph = vec![0; INSTRUCTION * (last + 2)];
     let made = ttda::expression(&expression.records(), &mut graph);
     assert_eq!(made, Answer::of(0, last as u16 + 2, 0, 0), "{expression:?}");
     let files = assemble(&typed::text(expression, &values)).unwrap();
@@ -228,7 +229,16 @@ fn check_expression(expression: &Expression) {
 /// What OUT receives in a run.
 fn out(graph: &[u8], inputs: &[u8], instruction: u16) -> Option<i32> {
     let mut ledger = vec![0; TOKEN * 300];
-    let answer = ttda::run(graph, &[], inputs, &[], 2048, 0, &mut ledger, &mut []);
+    let answer = ttda::run(
+        graph,
+        &[],
+        inputs,
+        &[],
+        WHOLE_BUDGET,
+        0,
+        &mut ledger,
+        &mut [],
+    );
     assert!(matches!(answer.word(), Word::Completed | Word::Refused(12)));
     let tokens = tokens(&ledger[..TOKEN * answer.tokens()]);
     let out = tokens
