@@ -4,9 +4,7 @@ use std::ops::Range;
 
 pub use ttda::layout::fields::{cell, token};
 use ttda::layout::{path, signed, unsigned};
-pub use ttda::widths::{
-    CELL, LOGGED, MOST_CELLS, MOST_RECORDS, RANGE_CELL, RANGE_TOKEN, TOKEN,
-};
+pub use ttda::widths::{CELL, LOGGED, MOST_CELLS, MOST_RECORDS, RANGE_CELL, RANGE_TOKEN, TOKEN};
 
 use crate::value::Value;
 
