@@ -44,8 +44,8 @@ fn picks_with_a_byte_too_many_have_no_completed_plot() {
     assert_eq!(dayomlak(&["run", &files]).status, 1);
     let (second, picture) = plot(&folder, &files);
     assert_eq!(second.status, 1);
-    assert!(second.out.contains("refused by 7, bad store"), "{second:?}");
-    assert!(second.out.contains("the picks have 1 byte"), "{second:?}");
+    second.says("refused by 7, bad store");
+    second.says("the picks have 1 byte");
     let words = "in the order of its picks; the picks have 1 byte, no";
     assert!(picture.contains("UTC: refused by 7, bad store") && picture.contains(words));
     assert!(!picture.contains("UTC: completed") && !picture.contains("[0] = 41\n"));
@@ -60,8 +60,8 @@ fn picks_that_are_too_many_have_no_completed_plot() {
     folder.write("sum.ttda", SUM.to_string() + &picks(2049));
     let (second, picture) = plot(&folder, &file);
     assert_eq!(second.status, 1);
-    assert!(second.out.contains("refused by 7, bad store"), "{second:?}");
-    assert!(second.out.contains("there are 2049 picks"), "{second:?}");
+    second.says("refused by 7, bad store");
+    second.says("there are 2049 picks");
     assert!(!picture.contains("UTC: completed"));
 }
 
@@ -110,7 +110,7 @@ fn a_log_of_an_edited_graph_is_refused() {
     for edited in [SUM.replace("= 40", "= 50"), SUM.replace("ADD 1", "ADD 2")] {
         folder.write("L.ttda", &edited);
         let refused = dayomlak(&["replay", &file, &log]);
-        assert_eq!((&refused.out[..], refused.status), ("", 2));
+        refused.fails(2);
         let named = fingerprints(&refused.err);
         assert!(named.len() == 2 && named[0] != named[1], "{refused:?}");
         let anyway = dayomlak(&["replay", &file, &log, "--anyway"]);
@@ -124,14 +124,8 @@ fn a_log_of_an_edited_graph_is_refused() {
     folder.write("L.ttda", SUM.replace("input read = 3", "input out = 3"));
     let anyway = dayomlak(&["replay", &file, &log, "--anyway"]);
     assert_eq!(anyway.status, 1);
-    assert!(
-        anyway.out.contains("refused by 20, not enabled"),
-        "{anyway:?}"
-    );
-    assert!(
-        anyway.out.contains("fired by the log of another run\n"),
-        "{anyway:?}"
-    );
+    anyway.says("refused by 20, not enabled");
+    anyway.says("fired by the log of another run\n");
     // Names and comments are no part of a graph.
     folder.write("L.ttda", SUM.replace("plus", "sum") + "# a sum\n");
     assert_eq!(dayomlak(&["replay", &file, &log]).status, 0);
@@ -152,9 +146,9 @@ fn a_log_of_other_buffers_is_refused() {
     let made = dayomlak(&[&["log", &file, "-o", &log], &sizes[..]].concat());
     assert_eq!(made.status, 0);
     let refused = dayomlak(&["replay", &file, &log]);
-    assert_eq!((&refused.out[..], refused.status), ("", 2));
+    refused.fails(2);
     let words = "lend what it was made with: --capacity 20 --cells 4\n";
-    assert!(refused.err.contains(words), "{refused:?}");
+    refused.complains(words);
     for other in [
         ["--capacity", "21", "--cells", "4"],
         ["--capacity", "20", "--cells", "5"],
@@ -199,13 +193,13 @@ fn what_is_no_log() {
     let whole = fs::read(&log).unwrap();
     let cut = folder.write("cut.log", &whole[..whole.len() - 1]);
     let refused = dayomlak(&["replay", &file, &cut]);
-    assert_eq!((&refused.out[..], refused.status), ("", 2));
+    refused.fails(2);
     assert!(refused
         .err
         .contains("its head says 3 firings of 20 bytes, and it has 59 bytes"));
     let refused = dayomlak(&["run", &log]);
-    assert_eq!((&refused.out[..], refused.status), ("", 2));
-    assert!(refused.err.contains("L.log is a log\n"), "{refused:?}");
+    refused.fails(2);
+    refused.complains("L.log is a log\n");
     let file = folder.write("twice.ttda", "a: OUT\ninput a = 1\ninput a = 2\n");
     let none = folder.path("none.log");
     let made = dayomlak(&["log", &file, "-o", &none]);

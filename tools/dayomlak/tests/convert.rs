@@ -68,7 +68,7 @@ fn a_folder() {
     let done = dayomlak(&["run", &old]);
     assert_eq!(done.status, 1);
     let advice = "look at the inputs: they are 2 token records of 20 bytes, with paths of four levels: `dayomlak convert` widens them";
-    assert!(done.out.contains(advice), "{done:?}");
+    done.says(advice);
     let words = "old/graph: copied to new/graph\n\
         old/inputs: 2 token records of 20 bytes, by its length\n\
         new/inputs: 2 token records of 28 bytes\n\
@@ -208,7 +208,7 @@ fn a_log() {
     let log = folder.write("log", [0; OLD_LOGGED]);
     let done = dayomlak(&["replay", &graph, &log]);
     let advice = "look at the log's records: they are 1 log record of 12 bytes, with paths of four levels: `dayomlak convert` widens them";
-    assert!(done.out.contains(advice), "{done:?}");
+    done.says(advice);
     let done = dayomlak(&["convert", &log, &new]);
     let words = "log: 1 log record of 12 bytes, by its length\nlog.new: 1 log record of 20 bytes\n";
     expect(&folder, &done, 0, words);
@@ -307,7 +307,7 @@ fn files_and_folders_that_do_not_fit() {
         &folder.path("old"),
         "--force",
     ]);
-    assert_eq!((done.status, &done.out[..]), (3, ""));
+    done.fails(3);
     assert_eq!(read(&folder, "old/graph"), add_and_out());
     assert_eq!(convert(&folder, "file", &["--as", "frob"]).status, 2);
 }

@@ -4,12 +4,11 @@ mod common;
 
 use std::fs;
 
-use common::{command, dayomlak, done, expect, Done, Folder};
+use common::{command, dayomlak, done, expect, Done, Folder, VECTOR_SUM};
 use plotter::Fingerprint;
 use ttda::layout::fields::{cell, token};
 use ttda::widths::{CELL, TOKEN};
 
-const VECTOR_SUM: &str = "examples/vector_sum/vector_sum.ttda";
 const RECURSION: &str = "examples/recursion/recursion.ttda";
 
 /// A read that is deferred in a call, its partner, and a result. Three firings, and then it hangs.
@@ -98,10 +97,7 @@ fn as_many_parts_as_firings() {
                 folder.path(&(part + 1).to_string()),
             );
             let (done, _) = saved(&["carry-on", &from, "--budget", "1"], &to);
-            assert!(
-                done.out.contains(&format!(": {} firing", part + 1)),
-                "{done:?}"
-            );
+            done.says(&format!(": {} firing", part + 1));
         }
         let last = fs::read(folder.path(&firings(file, "typed").to_string())).unwrap();
         assert!(last == whole, "{file}");
@@ -417,10 +413,7 @@ fn each_condition_is_explained() {
             assert_eq!((&done.err[..], done.status), ("", 1), "{done:?}");
             let title = "error: refused by 24, damaged state, before the first firing\n";
             assert!(done.out.starts_with(title), "{done:?}");
-            assert!(
-                done.out.contains(&format!("= {rule}: {words}\n")),
-                "{done:?}"
-            );
+            done.says(&format!("= {rule}: {words}\n"));
             let named = CHANGES
                 .iter()
                 .filter(|c| done.out.contains(&format!("= {}: ", c.0)));
@@ -581,7 +574,7 @@ fn files_that_do_not_fit() {
         let file = folder.write("unfit", edited.bytes());
         for name in ["carry-on", "show", "trace"] {
             let done = dayomlak(&[name, &file]);
-            assert_eq!((&done.out[..], done.status), ("", 2), "{done:?}");
+            done.fails(2);
             assert_eq!(done.err, format!("error: {file}: {words}\n"));
         }
     }
@@ -638,11 +631,8 @@ fn commands_that_take_none() {
         assert_eq!((&done.out[..], &done.err, done.status), ("", &text, 2));
     }
     let done = dayomlak(&["replay", VECTOR_SUM, &part]);
-    assert_eq!((&done.out[..], done.status), ("", 2), "{done:?}");
-    assert!(
-        done.err.contains("is a saved state, and no log\n"),
-        "{done:?}"
-    );
+    done.fails(2);
+    done.complains("is a saved state, and no log\n");
     let done = dayomlak(&["convert", &part, &other]);
     assert!(
         done.status == 2 && done.err.contains("a saved state: its records are new ones"),
@@ -658,7 +648,7 @@ fn where_a_state_is_saved() {
     let (_, bytes) = saved(&["run", VECTOR_SUM, "--budget", "30"], &part);
     // Not over what is read.
     let done = dayomlak(&["carry-on", &part, "--save", &part]);
-    assert_eq!((&done.out[..], done.status), ("", 2));
+    done.fails(2);
     assert!(
         done.err
             .contains("is the saved state itself, which would be overwritten\n  name another file"),
@@ -686,7 +676,7 @@ fn where_a_state_is_saved() {
         );
     }
     let done = dayomlak(&["run", VECTOR_SUM, "--save", "no/such/folder/x"]);
-    assert_eq!((&done.out[..], done.status), ("", 3));
+    done.fails(3);
     // From standard input.
     let mut piped = command(&folder, &["carry-on", "-"]);
     let done = done_from(&mut piped, &part);
@@ -734,7 +724,7 @@ fn sizes_are_saved() {
     );
     for name in ["--capacity", "--cells"] {
         let done = dayomlak(&["trace", &part, name, "100"]);
-        assert_eq!((&done.out[..], done.status), ("", 2));
+        done.fails(2);
         assert!(
             done.err
                 .contains("which has a capacity and cells of its own\n  leave out"),
@@ -817,7 +807,7 @@ fn the_page_of_a_damaged_state() {
         "\"firings\":[],\"refused\":null,\"enabled\":[],\"held\":[],\"tokens\":[],\"cells\":[]"
     ));
     let done = dayomlak(&["report", &file, "-o", &file]);
-    assert_eq!((&done.out[..], done.status), ("", 2));
+    done.fails(2);
     assert!(
         done.err
             .contains("is the saved state itself, which would be overwritten"),

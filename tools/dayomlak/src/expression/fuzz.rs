@@ -3,6 +3,7 @@
 use asm::assemble;
 
 use super::{parse, typed, Expression, Fault, Kind, Operator, MOST_PARTS};
+use crate::random::Random;
 use crate::records::{tokens, TOKEN};
 use ttda::widths::{INSTRUCTION, WHOLE_BUDGET};
 use ttda::{Answer, Word};
@@ -19,27 +20,6 @@ const OPERATORS: [Operator; 8] = [
     Operator::LessOrEqual,
     Operator::Equal,
 ];
-
-/// splitmix64
-struct Random(u64);
-
-impl Random {
-    fn word(&mut self) -> u64 {
-        self.0 = self.0.wrapping_add(0x9e37_79b9_7f4a_7c15);
-        let mut z = self.0;
-        z = (z ^ (z >> 30)).wrapping_mul(0xbf58_476d_1ce4_e5b9);
-        z = (z ^ (z >> 27)).wrapping_mul(0x94d0_49bb_1331_11eb);
-        z ^ (z >> 31)
-    }
-
-    fn below(&mut self, end: usize) -> usize {
-        (self.word() % end as u64) as usize
-    }
-
-    fn one_of<T: Copy>(&mut self, items: &[T]) -> T {
-        items[self.below(items.len())]
-    }
-}
 
 /// An expression that is known before it is written.
 #[derive(Debug, PartialEq, Eq)]
@@ -249,7 +229,7 @@ fn out(graph: &[u8], inputs: &[u8], instruction: u16) -> Option<i32> {
 
 #[test]
 fn every_text_gives_a_graph_or_an_error() {
-    let mut random = Random(1);
+    let mut random = Random::new(1);
     let (mut graphs, mut faults) = (0, 0);
     for number in 0..TEXTS {
         let operations = random.below(if number % 100 == 0 { 60 } else { 9 });
