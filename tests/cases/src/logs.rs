@@ -121,7 +121,7 @@ fn logged_lengths() -> Vec<LoggedCase> {
         logged(
             "budget 65535, a log of 2048 records",
             sum().budget(65535),
-            2048,
+            MOST_RECORDS,
             "completed 1 3 0",
             &[root(0)],
         ),

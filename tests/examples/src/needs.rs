@@ -63,7 +63,7 @@ impl Needs {
             }
             Needs::Profile(profile) => {
                 let answer = second::print(&profile.answer, &[], &[]);
-                let steps: String = profile.records.chunks_exact(4).map(step).collect();
+                let steps: String = profile.records.chunks_exact(STEP).map(step).collect();
                 String::from_utf8_lossy(&answer).into_owned() + &steps
             }
         }

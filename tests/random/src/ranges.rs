@@ -167,7 +167,7 @@ fn chosen(inputs: &[u8], values: &[i32]) -> Vec<u8> {
             [
                 &record[token::KEY],
                 &value.to_le_bytes(),
-                &record[24..TOKEN],
+                &record[token::STATE..TOKEN],
             ]
             .concat()
         })

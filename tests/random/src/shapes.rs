@@ -263,10 +263,6 @@ fn change_constant(instruction: &mut Instruction, names: usize, prng: &mut Prng)
 
 /// Well-formed instructions with arcs to anywhere and inputs at any ports.
 fn arbitrary(prng: &mut Prng) -> Drafted {
-    const CODES: [u8; 27] = [
-        1, 2, 3, 4, 5, 6, 7, 8, 9, 10, 11, 16, 17, 18, 19, 20, 21, 22, 23, 32, 33, 34, 35, 36, 37,
-        38, 39,
-    ];
     let mut draft = Draft::default();
     let names = prng.below(2) * prng.below(4);
     for _ in 0..names {

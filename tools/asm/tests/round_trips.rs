@@ -3,7 +3,7 @@
 use asm::{assemble, disassemble, Files};
 use layout::fields::instruction;
 use layout::widths::{self, ARRAY, PICK, TOKEN};
-use layout::{array, CONST, ENTER, LEAVE, OUT, SINK, STORE, SWITCH};
+use layout::{array, CODES, CONST, ENTER, LEAVE, OUT, SINK, STORE, SWITCH};
 
 /// A small generator of random numbers (splitmix64).
 struct Prng(u64);
@@ -34,10 +34,6 @@ fn round_trip(files: &Files) -> String {
 /// A record that is often well-formed: a known code, its fan-out, arcs into the
 /// graph and a small constant where one is used.
 fn record(prng: &mut Prng, count: usize) -> [u8; widths::INSTRUCTION] {
-    const CODES: [u8; 27] = [
-        1, 2, 3, 4, 5, 6, 7, 8, 9, 10, 11, 16, 17, 18, 19, 20, 21, 22, 23, 32, 33, 34, 35, 36, 37,
-        38, 39,
-    ];
     let code = CODES[prng.below(CODES.len())];
     let fan_out = match code {
         SINK | OUT | LEAVE => 0,
@@ -51,7 +47,7 @@ fn record(prng: &mut Prng, count: usize) -> [u8; widths::INSTRUCTION] {
         let absent = usize::from(prng.below(20) == 0);
         layout::add_arc(&mut record, prng.below(count + absent) as u16, port);
     }
-    if matches!(code, CONST | ENTER..=STORE | 32..=39) {
+    if matches!(code, CONST | ENTER..=STORE | 32..) {
         let constant = match code {
             ENTER..=STORE => prng.below(4) as i32,
             _ => prng.word() as i32,

@@ -15,16 +15,13 @@ picks 0 258
 #[test]
 fn a_text_gives_the_records() {
     let files = assemble(SUM).unwrap();
-    let mut graph = vec![16, 1, 0, 0, 1, 0, 0, 0];
-    graph.extend([0; 8]);
-    graph.push(3);
-    graph.extend([0; 15]);
-    assert_eq!(files.graph, graph);
-    let mut inputs = vec![0; 56];
-    inputs[20] = 7;
-    inputs[45] = 1;
-    inputs[48..52].copy_from_slice(&(-9i32).to_le_bytes());
-    assert_eq!(files.inputs, inputs);
+    let graph = [
+        [16, 1, 0, 0, 1, 0, 0, 0, 0, 0, 0, 0, 0, 0, 0, 0],
+        [3, 0, 0, 0, 0, 0, 0, 0, 0, 0, 0, 0, 0, 0, 0, 0],
+    ];
+    assert_eq!(files.graph, graph.concat());
+    let inputs = [layout::input(0, 0, 7), layout::input(0, 1, -9)];
+    assert_eq!(files.inputs, inputs.concat());
     assert_eq!(files.picks, [0, 0, 2, 1]);
 }
 
@@ -68,7 +65,7 @@ fn every_form_of_an_instruction() {
         record(10),
         [9, 0, 0, 0, 0, 0, 0, 0, 255, 0, 0, 0, 0, 0, 0, 0]
     );
-    assert_eq!(record(12)[15], 255);
+    assert_eq!(record(12)[instruction::ZEROS.end - 1], 255);
 }
 
 #[test]

@@ -6,6 +6,7 @@ mod common;
 use std::fs;
 
 use common::{dayomlak, done, kept_command, Done, Folder};
+use ttda::widths::{LOGGED, MOST_RECORDS};
 
 /// A read that is deferred oldest first, and a cell that is loaded.
 const SUM: &str =
@@ -55,7 +56,7 @@ fn picks_with_a_byte_too_many_have_no_completed_plot() {
 #[test]
 fn picks_that_are_too_many_have_no_completed_plot() {
     let folder = Folder::new();
-    let file = folder.write("sum.ttda", SUM.to_string() + &picks(2048));
+    let file = folder.write("sum.ttda", SUM.to_string() + &picks(MOST_RECORDS));
     assert!(plot(&folder, &file).0.out.starts_with("completed"));
     folder.write("sum.ttda", SUM.to_string() + &picks(2049));
     let (second, picture) = plot(&folder, &file);
@@ -169,7 +170,7 @@ fn bare_records_name_no_run() {
     dayomlak(&["log", &file, "-o", &log]);
     dayomlak(&["log", &file, "-o", &bare, "--records"]);
     let (log, records) = (fs::read(log).unwrap(), fs::read(&bare).unwrap());
-    assert_eq!(records.len(), 3 * 20);
+    assert_eq!(records.len(), 3 * LOGGED);
     assert!(log.starts_with(b"dayomlak log 1\n") && log.ends_with(&records));
     let replayed = dayomlak(&["replay", &file, &bare]);
     assert_eq!(replayed.status, 0);

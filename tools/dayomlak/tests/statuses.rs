@@ -6,6 +6,7 @@ use std::fs;
 use std::process::Stdio;
 
 use common::{command, dayomlak, done, typed, Folder};
+use ttda::widths::LOGGED;
 
 const COMMANDS: [&str; 20] = [
     "run",
@@ -225,5 +226,5 @@ fn no_file_is_left_half_written() {
         .map(|entry| entry.unwrap().file_name())
         .collect();
     assert_eq!(names, ["log"]);
-    assert!(fs::metadata(&log).unwrap().len() > 20 * 17);
+    assert!(fs::metadata(&log).unwrap().len() > 17 * LOGGED as u64);
 }

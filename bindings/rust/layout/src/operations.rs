@@ -21,3 +21,34 @@ pub const LE: u8 = 22;
 pub const EQ: u8 = 23;
 /// Added to the code of an arithmetic operation: the constant on the right.
 pub const WITH_CONSTANT: u8 = 16;
+
+/// Every code.
+pub const CODES: [u8; 27] = [
+    COPY,
+    SINK,
+    OUT,
+    CONST,
+    SWITCH,
+    GATE,
+    NEXT,
+    ENTER,
+    LEAVE,
+    FETCH,
+    STORE,
+    ADD,
+    SUB,
+    MUL,
+    DIV,
+    REM,
+    LT,
+    LE,
+    EQ,
+    ADD + WITH_CONSTANT,
+    SUB + WITH_CONSTANT,
+    MUL + WITH_CONSTANT,
+    DIV + WITH_CONSTANT,
+    REM + WITH_CONSTANT,
+    LT + WITH_CONSTANT,
+    LE + WITH_CONSTANT,
+    EQ + WITH_CONSTANT,
+];
