@@ -205,7 +205,8 @@ fn first_free(tables: &Tables, flags: &Flags, held: &Flags, ledger: &[u8], used:
     if place < 2048 {
         Choice::At(place)
     } else {
-        Choice::Ended(ending::ending(tables, ledger, used))
+        let outcome = ending::ending(tables, ledger, used);
+        Choice::Ended(outcome)
     }
 }
 
