@@ -196,6 +196,20 @@ fn free_at(flags: &Flags, held: &Flags, k: usize) -> usize
     }
 }
 
+// The first of those that are not held back: without picks each is 0.
+fn first_free(tables: &Tables, flags: &Flags, held: &Flags, ledger: &[u8], used: usize) -> Choice
+    requires { ⌜ Flagged (now tables) (now flags) (now ledger) used × Counted (now held) × Under (flagsOf (now held)) (flagsOf (now flags)) ⌝ }
+    ensures { λ r. ⌜ ((bound f : ℕ) → ChosenAs r (Free bound) [] f (now (tables .entry)) (now (flags .entry)) (now (held .entry)) (now (ledger .entry)) used) ⌝ }
+{
+    let place = store_flags::first_but(flags, held);
+    if place < 2048 {
+        Choice::At(place)
+    } else {
+        let outcome = ending::ending(tables, ledger, used);
+        Choice::Ended(outcome)
+    }
+}
+
 // 02, R-9: the one that the pick of this turn takes of those that are not held back.
 fn by_free(
     tables: &Tables,
@@ -209,6 +223,9 @@ fn by_free(
     requires { ⌜ Flagged (now tables) (now flags) (now ledger) used × Counted (now held) × Under (flagsOf (now held)) (flagsOf (now flags)) ⌝ }
     ensures { λ r. ⌜ ((bound : ℕ) → ChosenAs r (Free bound) (now (picks .entry)) firings (now (tables .entry)) (now (flags .entry)) (now (held .entry)) (now (ledger .entry)) used) ⌝ }
 {
+    if picks.len() == 0 {
+        return first_free(tables, flags, held, ledger, used);
+    }
     let e = store_flags::count_but(flags, held);
     if e == 0 {
         return Choice::Ended(ending::ending(tables, ledger, used));
@@ -315,19 +332,34 @@ pub fn follow(
     ensures { λ _. ⌜ Bounding order (graphOf (now (graph .entry))) (now (tables .entry)) (now (flags .entry)) (now (ledger .entry)) n (now (nexts .exit)) (now (held .exit)) (now (marks .exit)) ⌝ }
 {
     match order {
-        Order::Free(bound) => held::follow(
-            graph,
-            tables,
-            flags,
-            ledger,
-            used,
-            n,
-            place,
-            bound,
-            nexts,
-            held,
-            marks,
-        ),
+        Order::Free(bound) => {
+            if !held::calm(
+                graph,
+                tables,
+                flags,
+                ledger,
+                used,
+                n,
+                bound,
+                nexts,
+                held,
+                marks,
+            ) {
+                held::follow(
+                    graph,
+                    tables,
+                    flags,
+                    ledger,
+                    used,
+                    n,
+                    place,
+                    bound,
+                    nexts,
+                    held,
+                    marks,
+                );
+            }
+        }
         Order::Oldest => {}
         Order::Picks => {}
         Order::Log => {}

@@ -20,6 +20,7 @@ use Rattle.machine.specs.Machine.{Token, onOption}
 use Rattle.rules.specs.Check.{any}
 use Rattle.rules.specs.Run.{tokenHeld}
 use Rattle.rules.specs.Held.{standsIn, isPending, holdsBack}
+use Rattle.store_chains.proofs.Index.{and-right}
 use Rattle.abstraction.specs.States.{noToken}
 use Rattle.abstraction.specs.Tables.{Arities}
 use Rattle.ending.specs.Endings.{properBy}
@@ -39,6 +40,13 @@ module _ (tables : List ℕ) (k : ℕ) (p : Path) (m : ℕ) (t : Record.Token) w
   pub pending-by : properBy tables t ≡ false → holdsBy tables k p m t ≡ onOption (standsIn p (t .tag)) false (λ j. leb (j + k) m)
   unfolding holdsBy
   pending-by e = rw e
+
+  pub holds-old : holdsBy tables k p m t ≡ true → onOption (standsIn p (t .tag)) false (λ j. leb (j + k) m) ≡ true
+  unfolding holdsBy
+  holds-old e = and-right (not (properBy tables t)) _ e
+
+  pub still-holds : properBy tables t ≡ false → onOption (standsIn p (t .tag)) false (λ j. leb (j + k) m) ≡ true → holdsBy tables k p m t ≡ true
+  still-holds e f = pending-by e ∙ f
 
 -- ---- the first that is not proper
 
@@ -173,6 +181,9 @@ module _ (f : Token Tag ℤ → Bool) where
 module _ (g : List Instruction) (tables ledger : List ℕ) (right : Arities g tables) (used : ℕ) (path : Path) (k m : ℕ) where
   there : (j : ℕ) → j < used → holdsBack g k path m (tokenHeld (getD (tokens used ledger) j noToken)) ≡ holdsBy tables k path m (tokenAt ledger j)
   there j h = as-rules tables k path m (getD (tokens used ledger) j noToken) g right ∙ ap (holdsBy tables k path m) (getD-rows tokenWidth decode used j ledger noToken h)
+
+  pub any-by-one : (r : ℕ) → r < used → holdsBy tables k path m (tokenAt ledger r) ≡ true → any (holdsBack g k path m) (map tokenHeld (tokens used ledger)) ≡ true
+  any-by-one r low one = any-one (holdsBack g k path m) (tokens used ledger) r (omega (arith, length-rows tokenWidth decode used ledger)) (there r low ∙ one)
 
   pub any-by-first : (r : ℕ) → r ≤ used → ((j : ℕ) → j < r → holdsBy tables k path m (tokenAt ledger j) ≡ false) → (r < used → holdsBy tables k path m (tokenAt ledger r) ≡ true)
       → any (holdsBack g k path m) (map tokenHeld (tokens used ledger)) ≡ ltb r used

@@ -2,7 +2,7 @@
 -- Flags of 0 or 1 in a list: how many are 1 and at which places they stand. And how they are kept, in 69 words: 64 in a word,
 -- then a word that says which words have any, then the counts by blocks of 64 and by groups of 512.
 -- Assumes nothing.
-use Prim.Native.Nat.{ℕ, zero, suc, _+_, _-_, _/_, _%_, _≤_}
+use Prim.Native.Nat.{ℕ, zero, suc, _+_, _-_, _/_, _%_, _≤_, _<_}
 use mathlib.Core.Path.{_≡_}
 use mathlib.Core.Bool.{cond}
 use mathlib.Core.List.{List, [], _∷_, _++_, map}
@@ -42,6 +42,11 @@ minus (x ∷ l) (y ∷ m) = (x - y) ∷ minus l m
 -- of which every one is a one here too
 abbrev pub Under : List ℕ → List ℕ → Type 0
 Under m l = (i : ℕ) → getD m i 0 ≤ getD l i 0
+
+-- where the first of them stands, or 2,048 if there is none
+pub record FirstIn (l : List ℕ) (r : ℕ) : Type 0 where
+  pub found : r < 2048 → (0 < length (places l)) × (r ≡ getD (places l) 0 0)
+  pub none : 2048 ≤ r → length (places l) ≡ 0
 
 -- 2,048 flags, each 0 or 1, with their counts by blocks and, behind those, by groups of eight blocks
 pub record Tallied (flags counts : List ℕ) : Type 0 where

@@ -6,7 +6,7 @@ ghost use mathlib.Core.Path.{_≡_};
 ghost use Prim.Native.Nat.{_+_, _-_, _*_, _≤_, _<_};
 ghost use lib.Dec.{eqb};
 ghost use lib.ListN.{length, getD, set, take, drop};
-ghost use Rattle.store_flags.specs.Flags.{ones, place, places, minus, Under, inWord, flagsOf, any, Summed, Counted};
+ghost use Rattle.store_flags.specs.Flags.{ones, place, places, minus, Under, FirstIn, inWord, flagsOf, any, Summed, Counted};
 
 // The words of the flags, with what is known of them behind.
 pub const LENGTH: usize = 69;
@@ -294,4 +294,23 @@ pub fn select_but(flags: &Flags, held: &Flags, k: usize) -> usize
     ensures { λ r. ⌜ (r ≡ getD (places (minus (flagsOf (now (flags .entry))) (flagsOf (now (held .entry))))) k 0) × (r < 2048) ⌝ }
 {
     select_group_but(flags, held, k)
+}
+
+// The place of the first one, or 2,048 where there is none. The words from the first that has any are looked at in turn.
+pub fn first_but(flags: &Flags, held: &Flags) -> usize
+    requires { ⌜ Counted (now flags) × Counted (now held) × Under (flagsOf (now held)) (flagsOf (now flags)) ⌝ }
+    ensures { λ r. ⌜ FirstIn (minus (flagsOf (now (flags .entry))) (flagsOf (now (held .entry)))) r ⌝ }
+{
+    if is_empty(flags) {
+        return 2048;
+    }
+    let mut b = lowest(flags[ANY]);
+    while b < 32 {
+        let word = word_but(flags, held, b);
+        if !has_none(word) {
+            return b * 64 + lowest(word);
+        }
+        b += 1;
+    }
+    2048
 }
