@@ -7,6 +7,7 @@ use fire_commit::Fired;
 use record::cell;
 use record::log;
 use record::log::Named;
+use record::pick;
 use record::tag::Tag;
 use record::token;
 use rules::answer;
@@ -102,7 +103,7 @@ fn by_pick(
     if e == 0 {
         return Choice::Ended(ending::ending(tables, ledger, used));
     }
-    let number = number_of(load::pick_at(picks, firings), e);
+    let number = number_of(pick::pick_at(picks, firings), e);
     Choice::At(store::enabled_at(flags, number))
 }
 
@@ -175,7 +176,7 @@ fn by_place(
     requires { ⌜ Flagged (now tables) (now flags) (now ledger) used ⌝ }
     ensures { λ r. ⌜ ((flags held : List ℕ) → ChosenAs r Places (now (places .entry)) firings (now (tables .entry)) flags held (now (ledger .entry)) used) ⌝ }
 {
-    let place = load::pick_at(places, firings);
+    let place = pick::pick_at(places, firings);
     if place < used {
         if store_flags::is_raised(flags, place) {
             return Choice::At(place);
@@ -230,7 +231,7 @@ fn by_free(
     if e == 0 {
         return Choice::Ended(ending::ending(tables, ledger, used));
     }
-    let number = number_of(load::pick_at(picks, firings), e);
+    let number = number_of(pick::pick_at(picks, firings), e);
     Choice::At(free_at(flags, held, number))
 }
 

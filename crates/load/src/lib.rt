@@ -1,6 +1,4 @@
-// What an accepted run does before its first firing, and how it reads its picks: the cells are cleared, and the
-// input tokens are written to the ledger.
-use record::pick;
+// What an accepted run does before its first firing: the cells are cleared, and the input tokens are written to the ledger.
 use record::token;
 use store_chains::Links;
 use store_chains::Sought;
@@ -8,11 +6,10 @@ use store_enabled::Tables;
 use store_flags::Flags;
 ghost use mathlib.Core.Path.{_≡_};
 ghost use Prim.Native.Nat.{_/_, _≤_, _<_};
-ghost use lib.ListN.{length, getD, replicate};
-ghost use Rattle.number.specs.Number.{number16};
+ghost use lib.ListN.{length, replicate};
 ghost use Rattle.buffer.specs.Rows.{allRows, All};
 ghost use Rattle.record.specs.TokensAndTags.{decode};
-ghost use Rattle.record.specs.Widths.{tokenWidth, pickWidth};
+ghost use Rattle.record.specs.Widths.{tokenWidth};
 ghost use Rattle.store.specs.Matching.{Matching};
 ghost use Rattle.load.specs.Loaded.{Proper, Alone, Loaded};
 
@@ -25,31 +22,6 @@ pub fn clear(cells: &mut [u8])
         cells[i] = 0;
         i += 1;
     }
-}
-
-// 01, "Firing": a pick is an unsigned 16-bit number.
-fn wide(x: u16) -> usize
-    ensures { λ r. ⌜ (r ≡ x) × (r < 65536) ⌝ }
-{
-    x as usize
-}
-
-// Pick number k, counted from 0, or another number once the picks have run out.
-fn pick_or(picks: &[u8], k: usize, other: u16) -> u16
-    ensures { λ r. ⌜ r ≡ getD (allRows pickWidth (λ b. number16 b 0) (now (picks .entry))) k other ⌝ }
-{
-    if k < picks.len() / pick::WIDTH {
-        number::u16_at(picks, k * pick::WIDTH)
-    } else {
-        other
-    }
-}
-
-// 01, "Firing": once picks run out, the first enabled activity is taken, which is pick 0.
-pub fn pick_at(picks: &[u8], k: usize) -> usize
-    ensures { λ r. ⌜ (r ≡ getD (allRows pickWidth (λ b. number16 b 0) (now (picks .entry))) k 0) × (r < 65536) ⌝ }
-{
-    wide(pick_or(picks, k, 0))
 }
 
 // The input tokens arrive in their order in an empty ledger. The answer is how many they are. They are written here and then entered,

@@ -1,6 +1,7 @@
 // The cache of the profile plotter: whether what is kept of one run, its answer, listing, cells and profile, serves for a run
 // that is asked for.
 use record::pick;
+use record::token;
 use rules::answer::Answer;
 use rules::answer::Outcome;
 ghost use mathlib.Core.Path.{_≡_};
@@ -77,7 +78,7 @@ fn any_order(end: Ended, picks: usize, asked: Limits) -> bool
     let outcome = answer.outcome;
     rests(outcome, end.held)
         && (asked.bound == 0
-            && (buffer::whole(pick::WIDTH, 2048, picks) && answer.firings <= asked.budget))
+            && (buffer::whole(pick::WIDTH, token::MOST, picks) && answer.firings <= asked.budget))
 }
 
 // Whether what is kept of a run that ended so serves for the run that is asked for.

@@ -6,6 +6,7 @@ use checks::stores;
 use engine::Going;
 use engine::Order;
 use record::cell;
+use record::pick;
 use record::token;
 use rules::answer::Answer;
 use rules::answer::Checked;
@@ -193,7 +194,7 @@ fn operands_at(tables: &Tables, ledger: &[u8], places: &[u8], count: usize) -> u
     let mut sum = 0;
     let mut k = 0;
     while k < count {
-        sum += arity_at(tables, ledger, load::pick_at(places, k));
+        sum += arity_at(tables, ledger, pick::pick_at(places, k));
         k += 1;
     }
     sum

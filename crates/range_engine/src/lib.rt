@@ -516,10 +516,10 @@ fn with_inputs(
 fn all_whole(inputs: usize, picks: usize, ledger: usize, cells: usize) -> bool
     ensures { λ r. ⌜ r ≡ (Rows.whole rangeTokenWidth 2048 inputs && (Rows.whole pickWidth 2048 picks && (Rows.whole rangeTokenWidth 2048 ledger && Rows.whole rangeCellWidth 1024 cells))) ⌝ }
 {
-    buffer::whole(range_output::TOKEN_WIDTH, 2048, inputs)
-        && (buffer::whole(pick::WIDTH, 2048, picks)
-            && (buffer::whole(range_output::TOKEN_WIDTH, 2048, ledger)
-                && buffer::whole(range_output::CELL_WIDTH, 1024, cells)))
+    buffer::whole(range_output::TOKEN_WIDTH, token::MOST, inputs)
+        && (buffer::whole(pick::WIDTH, token::MOST, picks)
+            && (buffer::whole(range_output::TOKEN_WIDTH, token::MOST, ledger)
+                && buffer::whole(range_output::CELL_WIDTH, cell::MOST, cells)))
 }
 
 // Refusal 7, by the lengths in bytes.

@@ -9,6 +9,8 @@ ghost use Rattle.record.specs.Widths.{cellWidth};
 // The bytes of a cell record.
 pub const WIDTH: usize = 8;
 
+pub const MOST: usize = 1024;
+
 // 01, "Firing": a cell is absent, waiting or present.
 pub enum Cell {
     Absent,

@@ -13,6 +13,9 @@ ghost use Rattle.record.specs.Widths.{tokenWidth};
 // The bytes of a token record, and where its port, its instruction and its state stand.
 pub const WIDTH: usize = 28;
 
+// The most that a ledger has (01, "Tokens and tags"), and the most picks of a run.
+pub const MOST: usize = 2048;
+
 pub const PORT: usize = 17;
 
 pub const INSTRUCTION: usize = 18;

@@ -1,4 +1,4 @@
--- `load::pick_or` meets its contract. Assumes nothing.
+-- `record::pick::pick_or` meets its contract. Assumes nothing.
 use Prim.Native.Nat.{ℕ, _*_, _/_, _≤_}
 use mathlib.Core.Path.{_≡_, sym, _∙_}
 use mathlib.Core.List.{List}
@@ -10,9 +10,9 @@ use lib.Seq.{getD-drop}
 use Rattle.number.specs.Number.{number16}
 use Rattle.buffer.specs.Rows.{allRows}
 use Rattle.buffer.proofs.Tables.{length-rows, getD-rows}
 use Rattle.record.specs.Widths.{pickWidth}
-use Rattle.load.proofs.pick_or.Statement.{statement}
-use Rattle.load.proofs.pick_or.Tie as tie
+use Rattle.record.proofs.pick.pick_or.Statement.{statement}
+use Rattle.record.proofs.pick.pick_or.Tie as tie
 
 -- a number of the bytes from a place on
 from : (l : List ℕ) (at : ℕ) → number16 (drop at l) 0 ≡ number16 l at
