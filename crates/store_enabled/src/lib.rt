@@ -23,7 +23,7 @@ ghost use Rattle.store_chains.specs.Slots.{Open};
 ghost use Rattle.store_chains.specs.Deferred.{LowCell, Waiting};
 ghost use Rattle.store_chains.specs.declared.Found.the-variants.{At};
 ghost use Rattle.store_enabled.specs.Enabled.{isLive, allLive, waitedFor, arityOf, placeOf};
-ghost use Rattle.store_enabled.specs.Store.{Known, Stored, raisedIf, placeOr, lower, liveFound, enabledAt, readyOf, readyWith, Last, Standing, Operands, statesSpent, tokensSpent};
+ghost use Rattle.store_enabled.specs.Store.{Known, Stored, raisedIf, placeOr, lower, liveFound, enabledAt, readyOf, readyWith, Last, Standing, Spendable, statesSpent, tokensSpent};
 
 // The tables of a graph: returns by site, the named arrays, and the entries of the instructions.
 pub const TABLES_LENGTH: usize = 641;
@@ -284,15 +284,15 @@ pub fn change(
     settle_changed(flags, links, ledger, used, i, tag, t.port, operands);
 }
 
-// Spends the operands of an enabled activity; where one is waited for, both places are its place. The activity is
-// enabled no more, and its flag stands at the place of its earlier operand, so nothing has to be searched for.
-pub fn spend_operands(flags: &mut Flags, ledger: &mut [u8], first: usize, second: usize)
-    requires { ⌜ Counted (now flags) × (getD (flagsOf (now flags)) (lower first second) 0 ≡ 1) × (first < 2048) × (second < 2048) × (first < length (now ledger) / tokenWidth) × (second < length (now ledger) / tokenWidth) ⌝ }
-    ensures { λ _. ⌜ now (ledger .exit) ≡ statesSpent (now (ledger .entry)) first second ⌝ }
-    ensures { λ _. ⌜ ((tables links : List ℕ) (used : ℕ) → Stored tables links (now (flags .entry)) (now (ledger .entry)) used → Operands (now (ledger .entry)) used first second
-        → (tokens used (now (ledger .exit)) ≡ tokensSpent used (now (ledger .entry)) first second) × Stored tables links (now (flags .exit)) (now (ledger .exit)) used) ⌝ }
+// Spends the operands of an enabled activity, which stand at its place and at another; where one is waited for, both are its place. The
+// activity is enabled no more, and its flag stands at its place, so nothing has to be searched for.
+pub fn spend_operands(flags: &mut Flags, ledger: &mut [u8], place: usize, other: usize)
+    requires { ⌜ Counted (now flags) × (getD (flagsOf (now flags)) place 0 ≡ 1) × (place < 2048) × (place < length (now ledger) / tokenWidth) × (other < length (now ledger) / tokenWidth) ⌝ }
+    ensures { λ _. ⌜ now (ledger .exit) ≡ statesSpent (now (ledger .entry)) place other ⌝ }
+    ensures { λ _. ⌜ ((tables links : List ℕ) (used : ℕ) → Stored tables links (now (flags .entry)) (now (ledger .entry)) used → Spendable (now (ledger .entry)) used place other
+        → (tokens used (now (ledger .exit)) ≡ tokensSpent used (now (ledger .entry)) place other) × Stored tables links (now (flags .exit)) (now (ledger .exit)) used) ⌝ }
 {
-    ledger[first * token::WIDTH + token::STATE] = 1;
-    ledger[second * token::WIDTH + token::STATE] = 1;
-    store_flags::lower(flags, earlier(first, second));
+    ledger[place * token::WIDTH + token::STATE] = 1;
+    ledger[other * token::WIDTH + token::STATE] = 1;
+    store_flags::lower(flags, place);
 }
