@@ -1,10 +1,12 @@
 -- How a run ends that fires no more: what the tables say of the tokens is what the machine says of its state. Assumes nothing.
-use Prim.Native.Nat.{ℕ, zero, suc, _+_, _*_, _<_, _≤_}
+use Prim.Native.Nat.{ℕ, zero, suc, _+_, _-_, _*_, _<_, _≤_}
 use mathlib.Core.Path.{_≡_, refl, ap, _∙_}
 use mathlib.Core.Bool.{Bool, true, false, _&&_}
 use mathlib.Core.List.{List, [], _∷_, map}
 use native.Mathlib.Omega.{arith}
+use borrow.Author.Tests.{eqb-true, leb-true}
 use lib.ListN.{length, getD, drop}
+use lib.Dec.{leb}
 use lib.Seq.{drop-cons, getD-drop}
 use Rattle.number.specs.Number.{byteAt, number32}
 use Rattle.record.specs.declared.array.NamedArray.{NamedArray}
@@ -21,11 +23,12 @@ use Rattle.rules.specs.declared.answer.Outcome as AnswerOutcome
 use Rattle.rules.specs.declared.answer.Outcome.the-variants as Outcomes
 use Rattle.rules.specs.InstructionSet.{machineOf}
 use Rattle.rules.specs.Run.{contentHeld, tokenHeld}
+use Rattle.store_chains.proofs.Index.{and-left, and-right}
 use Rattle.store_enabled.specs.Enabled.{arityOf, enabledPlaces}
 use Rattle.abstraction.specs.States.{noToken, stateHeld, OnPorts}
 use Rattle.abstraction.specs.Tables.{Arities}
 use Rattle.abstraction.proofs.Enabled.{held-enabled}
-use Rattle.ending.specs.Endings.{properBy, EndsAs, RestsAs}
+use Rattle.ending.specs.Endings.{properBy, stateSpent, fourSpent, EndsAs, RestsAs}
 
 -- ---- completed or hung
 
@@ -79,6 +82,29 @@ module _ (tables ledger : List ℕ) (used i j : ℕ) (next : suc j ≡ i) (withi
 
   pub stop-here : properBy tables (tokenAt ledger j) ≡ false → allBy tables (tokens used ledger) ≡ false
   stop-here e = one-of-all tables j (tokens used ledger) (from-here ∙ ap (λ (b : Bool). b && allBy tables (drop i (tokens used ledger))) e)
+
+  pub spent-on : allBy tables (drop i (tokens used ledger)) ≡ true → stateSpent ledger j ≡ true → allBy tables (drop j (tokens used ledger)) ≡ true
+  spent-on later e = pass-on later (proper-spent tables ledger j (eqb-true _ _ e))
+
+pub four-before : (ledger : List ℕ) (i : ℕ) → fourSpent ledger i ≡ true → 4 ≤ i
+four-before ledger i e =
+    leb-true 4 i (and-left (leb 4 i) (stateSpent ledger (i - 1) && (stateSpent ledger (i - 2) && (stateSpent ledger (i - 3) && stateSpent ledger (i - 4)))) e)
+
+-- four spent records are passed at once
+module _ (tables ledger : List ℕ) (used i : ℕ) (h : i ≤ used) (e : fourSpent ledger i ≡ true) where
+  abbrev s : ℕ → Bool
+  s k = stateSpent ledger (i - k)
+
+  pub pass-four : allBy tables (drop i (tokens used ledger)) ≡ true → allBy tables (drop (i - 4) (tokens used ledger)) ≡ true
+  pass-four later =
+      let four = four-before ledger i e in
+      let e1 = and-right (leb 4 i) (s 1 && (s 2 && (s 3 && s 4))) e in
+      let e2 = and-right (s 1) (s 2 && (s 3 && s 4)) e1 in
+      let e3 = and-right (s 2) (s 3 && s 4) e2 in
+      let a = spent-on tables ledger used i (i - 1) (omega arith) h later (and-left (s 1) (s 2 && (s 3 && s 4)) e1) in
+      let b = spent-on tables ledger used (i - 1) (i - 2) (omega arith) (omega arith) a (and-left (s 2) (s 3 && s 4) e2) in
+      let d = spent-on tables ledger used (i - 2) (i - 3) (omega arith) (omega arith) b (and-left (s 3) (s 4) e3) in
+      spent-on tables ledger used (i - 3) (i - 4) (omega arith) (omega arith) d (and-right (s 3) (s 4) e3)
 
 -- ---- no budget left
 

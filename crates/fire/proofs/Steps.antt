@@ -8,6 +8,7 @@ use mathlib.Core.List.{List, [], _∷_, _++_, map}
 use native.Mathlib.Omega.{arith}
 use lib.ListN.{length, getD, length-append, length-map, length-set}
 use lib.Dec.{eqb}
+use borrow.Author.Tests.{eqb-true}
 use lib.IntN.{ℤ}
 use Rattle.record.specs.declared.array.NamedArray.{NamedArray}
 use Rattle.record.specs.declared.tag.Tag.{Tag}
@@ -40,12 +41,14 @@ use Rattle.fire_effect.specs.Effects.{keyHeld, keysHeld, keysOf, actionHeld, Ar
 use Rattle.fire_effect.proofs.Arrives.{arrives-port, arrives-inside}
 use Rattle.fire_effect.proofs.Does.{records}
 use Rattle.abstraction.proofs.Arities.{arity-small}
-use Rattle.store_enabled.specs.Enabled.{arityOf, leads}
+use Rattle.store_chains.proofs.Index.{and-left}
+use Rattle.store_enabled.specs.Enabled.{arityOf, isEnabled, placeOf, leads}
 use Rattle.abstraction.specs.Tables.{arraysIn}
 use Rattle.abstraction.specs.States.{noToken, stateHeld}
-use Rattle.fire_operands.specs.Operands.{Matched, Both, matchedAt, LowPortsBy, Verdict, Yes, No, admittedOf}
+use Rattle.fire_operands.specs.Operands.{Matched, Both, byPort, bothAt, matchedAt, LowPortsBy, Verdict, Yes, No, admittedOf}
 use Rattle.fire_operands.proofs.AsMachine.{valuesOf, Places, matched-places, held-operands}
-use Rattle.fire_outputs.specs.Outputs.{spendOne, spentAt, outputsBy, outputsOf, cellsIn, OnCells, contentBy, wokenBy, writesAgain, Kept, CellsKept, Fireable}
+use Rattle.fire_outputs.specs.Outputs.{spendOne, spentAt, outputsBy, outputsOf, cellsIn, OnCells, contentBy, cellsBy, wokenBy, writesAgain, Kept, CellsKept, Fireable}
+use Rattle.fire_outputs.proofs.Laws.{spent-by-port}
 use Rattle.fire_commit.specs.declared.Fired.{Fired}
 use Rattle.fire_commit.specs.declared.Fired.the-variants as Fires
 use Rattle.fire_commit.specs.Commit.{Committed, done, refused, ifAdmitted, committedOf, CommittedTo, Fitting}
@@ -260,6 +263,22 @@ module _ (graph : List ℕ) (passed : checkGraph graph ≡ Passed) {tables links
             go (Fires.Refused q) (done us ds) f a l = absurd l
             go (Fires.Refused q) (refused p) f a l = stopped q (f ∙ ap notFired (sym (l .0))) (l .1) (l .2) (l .3)
 
+-- ---- operands by ports
+
+sum-by-port : (port p q : ℕ) → p + q ≡ byPort port p q + byPort port q p
+sum-by-port port p q = go (eqb port 0)
+  where
+    go : (b : Bool) → p + q ≡ cond b p q + cond b q p
+    go true = refl
+    go false = omega arith
+
+pub committed-by-port : (port p q capacity : ℕ) (ts : List Record.Token) (cs : List RecordCell.Cell) (x : Action) (o : Outputs)
+    → committedOf capacity ts cs p q x o ≡ committedOf capacity ts cs (byPort port p q) (byPort port q p) x o
+unfolding committedOf
+committed-by-port port p q capacity ts cs x o =
+    ap (λ (us : List Record.Token). cond (writesAgain x cs) (refused SecondWrite) (ifAdmitted (admittedOf capacity ts o) (done (wokenBy x us ++ outputsOf (contentBy x cs) o) (cellsBy x cs))))
+    (spent-by-port port p q ts)
+
 -- ---- what the code finds
 
 at-place : (P : Record.Token → Type 0) (d : Record.Token) (ts : List Record.Token) (i : ℕ) → i < length ts → All P ts → P (getD ts i d)
@@ -291,16 +310,28 @@ module _ (graph : List ℕ) {tables links flags ledger cells : List ℕ} {used :
       ∙ ap (λ (u : Record.Token). matchedAt (arityIn (graphOf graph) (u .tag)) (tokens used ledger) (u .tag)) e)
 
   -- what commit is lent
-  pub lent-here : leads tables (tokens used ledger) place (tokenAt ledger place) ≡ true → (i j : ℕ) (v w : ℤ) → matchedAt (arityIn (graphOf graph) (tokenAt ledger place .tag)) (tokens used ledger) (tokenAt ledger place .tag) ≡ Both i j v w
-      → Fireable tables links flags ledger cells used i j
-  lent-here on i j v w e =
+  pub lent-here : leads tables (tokens used ledger) place (tokenAt ledger place) ≡ true → (other : ℕ) (v w : ℤ)
+      → matchedAt (arityIn (graphOf graph) (tokenAt ledger place .tag)) (tokens used ledger) (tokenAt ledger place .tag) ≡ bothAt (tokenAt ledger place .port) place other v w
+      → Fireable tables links flags ledger cells used place other
+  lent-here on other v w e =
       let τ = tokenAt ledger place .tag in
+      let port = tokenAt ledger place .port in
       let p = matched-places (tokens used ledger) τ (arityIn (graphOf graph) τ) (arity-small (graphOf graph) τ) e in
+      let first : placeOf (tokens used ledger) τ ≡ place =
+      eqb-true (placeOf (tokens used ledger) τ) place (and-left (eqb (placeOf (tokens used ledger) τ) place) (isEnabled tables (tokens used ledger) τ) on) in
       record {
         matching = now .matching;
         few = now .few;
-        activity = operands-here (graphOf graph) ledger used (matching-ports (now .matching)) (now .arrived) τ p;
-        raised = rw (← place-here (graphOf graph) ledger used (matching-ports (now .matching)) (now .arrived) τ p) (matching-raised (now .matching) place within on);
+        activity = record {
+          first = byPort port place other;
+          second = byPort port other place;
+          operands = operands-here (graphOf graph) ledger used (matching-ports (now .matching)) (now .arrived) τ p;
+          order = record {
+            lead = sym first ∙ place-here (graphOf graph) ledger used (matching-ports (now .matching)) (now .arrived) τ p;
+            rest = sum-by-port port place other;
+          };
+        };
+        raised = rw first at (matching-raised (now .matching) place within on);
         store = now .store;
       }
 
@@ -316,10 +347,16 @@ module _ (graph : List ℕ) {tables links flags ledger cells : List ℕ} {used :
   asks-refusal σ h = record { step = ap (commit M₁ s₁ σ) h; running = now; sameLedger = refl; sameCells = refl }
 
   -- the operands that matching found, and the token that the code read at the place
-  module _ (t : Record.Token) (same : t ≡ tokenAt ledger place) (i j : ℕ) (v w : ℤ)
-      (matched : matchedAt (arityIn (graphOf graph) (tokenAt ledger place .tag)) (tokens used ledger) (tokenAt ledger place .tag) ≡ Both i j v w) where
+  module _ (t : Record.Token) (same : t ≡ tokenAt ledger place) (other : ℕ) (v w : ℤ)
+      (matched : matchedAt (arityIn (graphOf graph) (tokenAt ledger place .tag)) (tokens used ledger) (tokenAt ledger place .tag) ≡ bothAt (tokenAt ledger place .port) place other v w) where
     abbrev τ : Tag
     τ = tokenAt ledger place .tag
+
+    abbrev i : ℕ
+    i = byPort (tokenAt ledger place .port) place other
+
+    abbrev j : ℕ
+    j = byPort (tokenAt ledger place .port) other place
 
     abbrev its : Effect Refusal Tag ℤ
     its = askedIn (graphOf graph) tables ledger cells used (tokenAt ledger place .tag)
@@ -334,7 +371,7 @@ module _ (graph : List ℕ) {tables links flags ledger cells : List ℕ} {used :
     -- from matching to output
     pub stepped-here : (x : Action) (o : Outputs) → Effected (graphOf graph) (arraysIn tables) (length cells / cellWidth) (t .tag) v w x o
         → (links′ flags′ ledger′ cells′ : List ℕ) (r : Fired)
-        → CommittedTo r (committedOf (length ledger / tokenWidth) (tokens used ledger) (cellsIn cells) i j x o) tables links′ flags′ ledger′ cells′ used ledger cells
+        → CommittedTo r (committedOf (length ledger / tokenWidth) (tokens used ledger) (cellsIn cells) place other x o) tables links′ flags′ ledger′ cells′ used ledger cells
         → Stepped r (graphOf graph) τ its tables links′ flags′ ledger′ cells′ used ledger cells
     stepped-here x o effected links′ flags′ ledger′ cells′ r left =
         let does = subst (λ (u : Record.Token). Effected (graphOf graph) (arraysIn tables) (length cells / cellWidth) (u .tag) v w x o) same effected in
@@ -346,4 +383,5 @@ module _ (graph : List ℕ) {tables links flags ledger cells : List ℕ} {used :
           arrives = does .arrives;
           cellsBelow = subst (CellsBelow (length cells / cellWidth)) asks (does .cellsBelow);
           readsForSome = subst ReadsForSome (sym found) (lawful graph (ready .passed) (arraysIn tables) (length ledger / tokenWidth) (length cells / cellWidth) .readsForSome τ v w);
-        }) links′ flags′ ledger′ cells′ r left
+        }) links′ flags′ ledger′ cells′ r
+        (subst (λ (y : Committed). CommittedTo r y tables links′ flags′ ledger′ cells′ used ledger cells) (committed-by-port (tokenAt ledger place .port) place other (length ledger / tokenWidth) (tokens used ledger) (cellsIn cells) x o) left)

@@ -22,7 +22,7 @@ use Rattle.fire_effect.proofs.Does.{both-used, records}
 
 module _ {g : List Instruction} {i : ℕ} {r : Instruction} (good : Good g i r) where
   two : 2 ≤ rowOf (r .code) .leastFanOut → destinations r ≡ r .first ∷ r .second ∷ []
-  two h = both-used (r .fanout) _ _ (λ z. omega (arith, least-fan-out good)) (λ z. omega (arith, least-fan-out good))
+  two h = both-used (r .fanout) _ _ (omega (arith, least-fan-out good))
 
   pub switch-two : operationOf (r .code) ≡ Switch → destinations r ≡ r .first ∷ r .second ∷ []
   switch-two e = two (leb-true _ _ (said-of good e))

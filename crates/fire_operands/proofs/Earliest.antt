@@ -5,7 +5,8 @@ use mathlib.Core.Bool.{Bool, true, false, cond}
 use mathlib.Core.List.{List, [], _∷_}
 use native.Mathlib.Omega.{arith}
 use lib.ListN.{length, getD}
-use borrow.Author.Tests.{ne-eqb}
+use lib.Dec.{eqb}
+use borrow.Author.Tests.{eq-eqb, ne-eqb}
 use Rattle.buffer.proofs.Tables.{length-rows, getD-rows}
 use Rattle.record.specs.declared.tag.Tag.{Tag}
 use Rattle.record.specs.declared.token.Token.{Token}
@@ -23,7 +24,7 @@ use Rattle.store_enabled.specs.Store.{Known, placeOr, liveFound}
 use Rattle.store_enabled.proofs.Places.{stands-tag, stands-other, live-found}
 use Rattle.store_enabled.proofs.Store.{all-at}
 use Rattle.abstraction.specs.States.{noToken}
-use Rattle.fire_operands.specs.Operands.{Held, Both, operandOf, operandFound, operandAt, one, two, valueIn, Earliest, matchedAt}
+use Rattle.fire_operands.specs.Operands.{Held, operandOf, operandFound, operandAt, one, two, bothAt, valueIn, Earliest, matchedAt}
 
 first-on-port : (tag : Tag) (d : Token) (ts : List Token) (i : ℕ) → i < length ts → placeOf ts tag ≡ i → firstFrom (standsAt tag (getD ts i d .port)) 0 ts ≡ At i
 first-on-port tag d [] i h p = absurd (omega arith)
@@ -71,6 +72,10 @@ found-operand n l tag port d (At i) e h =
     (within, rw (← e, getD-rows tokenWidth decode n i l noToken within) (live-value i (tokenAt l i .content) live))
 found-operand n l tag port d Nothing e h = let z : _≡_ {A = ℕ} 0 1 = ap (λ b. cond b 1 0) (ap (liveFound (tokenAt l)) e ∙ live-found tag port n l ∙ h) in absurd (omega arith)
 
+same-place : (b : Bool) (i : ℕ) → cond b i i ≡ i
+same-place true i = refl
+same-place false i = refl
+
 module _ {arity used place : ℕ} {links ledger : List ℕ} {tag : Tag} (k : Known links ledger used) (e : Earliest arity (tokens used ledger) tag place) where
   abbrev ts : List Token
   ts = tokens used ledger
@@ -92,12 +97,12 @@ module _ {arity used place : ℕ} {links ledger : List ℕ} {tag : Tag} (k : Kno
     own-operand h = found-operand used ledger tag (t .port) place (At place) own-found h .1 ∙ ap (λ (u : Token). Held place (valueIn (u .content))) (sym same)
 
     -- one is waited for
-    pub alone : (arity ≡ 2 → ⊥) → Both place place (valueIn (t .content)) (valueIn (t .content)) ≡ matchedAt arity ts tag
+    pub alone : (arity ≡ 2 → ⊥) → bothAt (t .port) place place (valueIn (t .content)) (valueIn (t .content)) ≡ matchedAt arity ts tag
     unfolding matchedAt one
     alone not-two =
         let n = one-or-two arity ts tag (e .enabled) not-two in
         let z : t .port ≡ 0 = omega (arith, n .0, rw there at (e .waited (omega (arith, n .0)))) in
-        rw (n .0, rw z at (own-operand (rw z (n .1))))
+        rw (same-place (eqb (t .port) 0) place, n .0, rw z at (own-operand (rw z (n .1))))
 
     -- two are: what was found of the other
     module _ (two-out : arity ≡ 2) (f : Found) (found : f ≡ firstFrom (standsAt tag (1 - t .port)) 0 ts) where
@@ -113,15 +118,15 @@ module _ {arity used place : ℕ} {links ledger : List ℕ} {tag : Tag} (k : Kno
       other-within = omega (arith, other .0, k .room)
 
       -- the token stands on port 0, or on port 1
-      pub as-first : t .port ≡ 0 → Both place (placeOr f place) (valueIn (t .content)) (valueIn (tokenAt ledger (placeOr f place) .content)) ≡ matchedAt arity ts tag
+      pub as-first : t .port ≡ 0 → bothAt (t .port) place (placeOr f place) (valueIn (t .content)) (valueIn (tokenAt ledger (placeOr f place) .content)) ≡ matchedAt arity ts tag
       unfolding matchedAt two
       as-first z =
           let own = own-operand (live-on (t .port) port-low) in
-          rw (two-out, rw z at own, rw z at (other .1))
+          rw (eq-eqb (t .port) 0 z, two-out, rw z at own, rw z at (other .1))
 
-      pub as-second : (t .port ≡ 0 → ⊥) → Both (placeOr f place) place (valueIn (tokenAt ledger (placeOr f place) .content)) (valueIn (t .content)) ≡ matchedAt arity ts tag
+      pub as-second : (t .port ≡ 0 → ⊥) → bothAt (t .port) place (placeOr f place) (valueIn (tokenAt ledger (placeOr f place) .content)) (valueIn (t .content)) ≡ matchedAt arity ts tag
       unfolding matchedAt two
       as-second not-first =
           let z : t .port ≡ 1 = omega (arith, port-low) in
           let own = own-operand (live-on (t .port) port-low) in
-          rw (two-out, rw z at own, rw z at (other .1))
+          rw (ne-eqb (t .port) 0 not-first, two-out, rw z at own, rw z at (other .1))

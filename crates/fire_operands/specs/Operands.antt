@@ -66,6 +66,14 @@ matchedAt n ts tag =
     cond (eqb n 0) Missing
     (cond (eqb n 1) (one (operandAt ts tag 0)) (two (operandAt ts tag 0) (operandAt ts tag 1)))
 
+-- of the place of a token on a port and that of its partner, the one on port 0; of the partner's and its own, the one on port 1
+abbrev pub byPort : (port own other : ℕ) → ℕ
+byPort port own other = cond (eqb port 0) own other
+
+-- the operands of an activity with a token on a port at its place, whose partner is at another
+abbrev pub bothAt : (port place other : ℕ) → (left right : ℤ) → Matched
+bothAt port place other v w = Both (byPort port place other) (byPort port other place) v w
+
 -- the bits of a content as a value: that of a live token
 abbrev pub valueIn : Content → ℤ
 valueIn (Live v) = v

@@ -10,7 +10,7 @@ use native.Mathlib.Nat.{add-zero}
 use native.Mathlib.Numerals.{add-one}
 use lib.IntN.{ℤ}
 use lib.ListN.{length, getD, set, take, drop, length-append, length-drop, length-map, length-set}
-use lib.Seq.{length-take-le, drop-drop, drop-at, drop-set-lt, getD-set-other, set-getD, set-set}
+use lib.Seq.{length-take-le, drop-drop, drop-at, drop-set-lt, getD-set-other, set-getD, set-set, set-comm}
 use lib.Dec.{eqb}
 use borrow.Author.Tests.{eq-eqb, ne-eqb}
 use denote.Enum.Declared.{tagOf}
@@ -35,7 +35,8 @@ use Rattle.store_chains.specs.Search.{firstFrom}
 use Rattle.store_chains.specs.Slots.{Open}
 use Rattle.store_chains.specs.Deferred.{LowCell, woken}
 use Rattle.store_chains.proofs.Search.{first-set, first-map, first-kept, first-added, first-none-added}
-use Rattle.store_enabled.specs.Store.{Operands, statesSpent, tokensSpent}
+use Rattle.store_enabled.specs.Store.{Spendable, statesSpent, tokensSpent}
+use Rattle.store_enabled.proofs.Spending.{spendable-within}
 use Rattle.store.specs.Matching.{spentToken, Matching}
 use Rattle.store.proofs.Laws.{matching-room}
 use Rattle.fire_effect.specs.declared.output.Key.{Key}
@@ -43,7 +44,7 @@ use Rattle.fire_effect.specs.declared.output.Outputs.{Outputs}
 use Rattle.fire_effect.specs.declared.operate.Action.{Action}
 use Rattle.fire_effect.specs.declared.operate.Action.the-variants.{Send, Read, Write}
 use Rattle.abstraction.specs.States.{noToken}
-use Rattle.fire_operands.specs.Operands.{LowPortsBy, OpenKeysBy}
+use Rattle.fire_operands.specs.Operands.{byPort, LowPortsBy, OpenKeysBy}
 use Rattle.fire_outputs.specs.Outputs.{spendOne, spentAt, tokenOut, outputsBy, outputsOf, LowPorts, OpenKeys, cellsIn, CellStore, cellFetched, cellsFetched, contentFetched, isPresent, OnCells, contentBy, wokenBy, writesAgain, Kept, CellsKept}
 
 -- ---- one record of a table is replaced
@@ -116,6 +117,31 @@ spent-both n i j l h k = go (ℕ-discrete i j)
     go (yes e) = rw (spent-one i j ts e, token-held n i l h, ← e) (set-set ts i u u)
     go (no apart) = rw (spent-two i j ts apart, token-held n i l h, getD-set-other ts i j u noToken (λ e. apart (sym e)), token-held n j l k)
 
+-- it does not matter which is spent first
+spent-either : (i j : ℕ) (ts : List Token) → spentAt i j ts ≡ spentAt j i ts
+unfolding spendOne
+spent-either i j ts = go (ℕ-discrete i j)
+  where
+    sp : ℕ → Token
+    sp k = spentToken (getD ts k noToken)
+
+    go : Dec (i ≡ j) → spentAt i j ts ≡ spentAt j i ts
+    go (yes e) = rw e
+    go (no apart) =
+        spent-two i j ts apart
+        ∙ ap (λ (t : Token). set (set ts i (sp i)) j (spentToken t)) (getD-set-other ts i j (sp i) noToken (λ e. apart (sym e)))
+        ∙ set-comm ts i j (sp i) (sp j) apart
+        ∙ sym (ap (λ (t : Token). set (set ts j (sp j)) i (spentToken t)) (getD-set-other ts j i (sp j) noToken apart))
+        ∙ sym (spent-two j i ts (λ e. apart (sym e)))
+
+-- the operands by ports
+pub spent-by-port : (port p q : ℕ) (ts : List Token) → spentAt p q ts ≡ spentAt (byPort port p q) (byPort port q p) ts
+spent-by-port port p q ts = go (eqb port 0)
+  where
+    go : (b : Bool) → spentAt p q ts ≡ spentAt (cond b p q) (cond b q p) ts
+    go true = refl
+    go false = spent-either p q ts
+
 -- ---- what a step leaves
 
 module _ {tables links flags l : List ℕ} {used : ℕ} (m : Matching tables links flags l used) where
@@ -126,16 +152,17 @@ module _ {tables links flags l : List ℕ} {used : ℕ} (m : Matching tables lin
   kept-same = record { matching = m; held = refl; size = refl; rest = refl }
 
   -- the operands are spent
-  pub kept-spent : {i j : ℕ} → Operands l used i j → {flags′ l′ : List ℕ} → l′ ≡ statesSpent l i j → tokens used l′ ≡ tokensSpent used l i j
+  pub kept-spent : {i j : ℕ} → Spendable l used i j → {flags′ l′ : List ℕ} → l′ ≡ statesSpent l i j → tokens used l′ ≡ tokensSpent used l i j
       → Matching tables links flags′ l′ used
       → Kept tables links flags′ l′ used (spentAt i j (tokens used l)) l
   kept-spent {i} {j} o put e n =
       let m = set l (i * tokenWidth + stateOffset) 1 in
+      let inside = spendable-within o in
       record {
         matching = n;
-        held = e ∙ spent-both used i j l (o .firstWithin) (o .secondWithin);
+        held = e ∙ spent-both used i j l (inside .0) (inside .1);
         size = rw put (length-set m (j * tokenWidth + stateOffset) 1 ∙ length-set l (i * tokenWidth + stateOffset) 1);
-        rest = rw put (drop-set-lt (used * tokenWidth) m (j * tokenWidth + stateOffset) 1 (omega (arith, o .secondWithin)) ∙ drop-set-lt (used * tokenWidth) l (i * tokenWidth + stateOffset) 1 (omega (arith, o .firstWithin)));
+        rest = rw put (drop-set-lt (used * tokenWidth) m (j * tokenWidth + stateOffset) 1 (omega (arith, inside)) ∙ drop-set-lt (used * tokenWidth) l (i * tokenWidth + stateOffset) 1 (omega (arith, inside)));
       }
 
   -- a token arrives

@@ -18,7 +18,7 @@ use Rattle.record.specs.Cells as Cells
 use Rattle.record.specs.Widths.{tokenWidth, cellWidth}
 use Rattle.store_flags.specs.Flags.{flagsOf}
 use Rattle.store_chains.specs.Deferred.{woken}
-use Rattle.store_enabled.specs.Store.{Operands, lower}
+use Rattle.store_enabled.specs.Store.{Spendable}
 use Rattle.store.specs.Matching.{spentToken, Matching}
 use Rattle.fire_effect.specs.declared.operate.Action.{Action}
 use Rattle.fire_effect.specs.declared.operate.Action.the-variants.{Send, Read, Write}
@@ -123,11 +123,11 @@ pub record CellsKept (cells′ : List ℕ) (cs : List Cell) (cells : List ℕ) :
   pub held : cellsIn cells′ ≡ cs
   pub size : length cells′ ≡ length cells
 
--- what a firing is lent, with the places of its operands
-pub record Fireable (tables links flags ledger cells : List ℕ) (used i j : ℕ) : Type 0 where
+-- what a firing is lent, with the place of the activity and that of its other operand
+pub record Fireable (tables links flags ledger cells : List ℕ) (used place other : ℕ) : Type 0 where
   pub matching : Matching tables links flags ledger used
   pub few : length ledger / tokenWidth ≤ 2048
-  pub activity : Operands ledger used i j
+  pub activity : Spendable ledger used place other
   -- it is enabled
-  pub raised : getD (flagsOf flags) (lower i j) 0 ≡ 1
+  pub raised : getD (flagsOf flags) place 0 ≡ 1
   pub store : CellStore cells

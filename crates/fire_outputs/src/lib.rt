@@ -23,10 +23,10 @@ ghost use Rattle.store_chains.specs.Deferred.{LowCell};
 ghost use Rattle.store.specs.Matching.{Matching};
 ghost use Rattle.fire_outputs.specs.Outputs.{Kept, CellStore, CellsKept, spentAt, tokenOut, outputsOf, LowPorts, OpenKeys, cellsIn, cellsFetched, contentFetched, OnCells, contentBy, cellsBy, wokenBy, writesAgain, Fireable};
 
-// The places of an activity's operands in the ledger; where it has one operand, that place twice.
+// Where the operands of an activity stand in the ledger: at its place and at another; where it has one operand, that place twice.
 pub struct Places {
-    pub first: usize,
-    pub second: usize,
+    pub place: usize,
+    pub other: usize,
 }
 
 // An output goes in as record `used`, in its slot.
@@ -153,12 +153,12 @@ pub fn carry_out(
     first: Slot,
     second: Slot,
 ) -> usize
-    requires { ⌜ Fireable (now tables) (now links) (now flags) (now ledger) (now cells) used (operands .first) (operands .second) × (used + outputs .count ≤ length (now ledger) / tokenWidth) × (outputs .count ≤ 2) × LowPorts outputs × OnCells (length (now cells) / cellWidth) action × OpenKeys (tokens used (now ledger)) outputs first second ⌝ }
+    requires { ⌜ Fireable (now tables) (now links) (now flags) (now ledger) (now cells) used (operands .place) (operands .other) × (used + outputs .count ≤ length (now ledger) / tokenWidth) × (outputs .count ≤ 2) × LowPorts outputs × OnCells (length (now cells) / cellWidth) action × OpenKeys (tokens used (now ledger)) outputs first second ⌝ }
     ensures { λ r. ⌜ (r ≡ used + outputs .count) × Kept (now (tables .entry)) (now (links .exit)) (now (flags .exit)) (now (ledger .exit)) (used + outputs .count)
-        (wokenBy action (spentAt (operands .first) (operands .second) (tokens used (now (ledger .entry)))) ++ outputsOf (contentBy action (cellsIn (now (cells .entry)))) outputs) (now (ledger .entry))
+        (wokenBy action (spentAt (operands .place) (operands .other) (tokens used (now (ledger .entry)))) ++ outputsOf (contentBy action (cellsIn (now (cells .entry)))) outputs) (now (ledger .entry))
         × CellsKept (now (cells .exit)) (cellsBy action (cellsIn (now (cells .entry)))) (now (cells .entry)) ⌝ }
 {
-    store::spend_operands(flags, ledger, operands.first, operands.second);
+    store::spend_operands(flags, ledger, operands.place, operands.other);
     let content = change_cells(cells, action);
     wake(tables, links, flags, ledger, used, action);
     append_outputs(

@@ -52,8 +52,8 @@ pub fn fire(
     let left = matched.left;
     let right = matched.right;
     let operands = Places {
-        first: matched.first,
-        second: matched.second,
+        place,
+        other: matched.other,
     };
     // Instruction fetch.
     let r = instruction::instruction_at(graph, tag.instruction as usize);

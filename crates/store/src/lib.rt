@@ -23,7 +23,7 @@ ghost use Rattle.store_flags.specs.Flags.{places, flagsOf, Counted};
 ghost use Rattle.store_chains.specs.Search.{firstFrom, Within};
 ghost use Rattle.store_chains.specs.Slots.{Open, SoughtAt};
 ghost use Rattle.store_chains.specs.Deferred as Deferred;
-ghost use Rattle.store_enabled.specs.Store.{Known, lower, enabledAt, Standing, Operands, statesSpent, tokensSpent};
+ghost use Rattle.store_enabled.specs.Store.{Known, enabledAt, Standing, Spendable, statesSpent, tokensSpent};
 ghost use Rattle.store.specs.Matching.{Matching};
 
 // The token that stands at a port of a tag.
@@ -100,15 +100,15 @@ pub fn enter(
     store_enabled::enter(tables, links, flags, ledger, used, t, slot);
 }
 
-// The operands of an enabled activity are spent; where one is waited for, both places are its place. They were live, so
-// the chains of deferred tokens stay right.
-pub fn spend_operands(flags: &mut Flags, ledger: &mut [u8], first: usize, second: usize)
-    requires { ⌜ Counted (now flags) × (getD (flagsOf (now flags)) (lower first second) 0 ≡ 1) × (first < 2048) × (second < 2048) × (first < length (now ledger) / tokenWidth) × (second < length (now ledger) / tokenWidth) ⌝ }
-    ensures { λ _. ⌜ now (ledger .exit) ≡ statesSpent (now (ledger .entry)) first second ⌝ }
-    ensures { λ _. ⌜ ((tables links : List ℕ) (used : ℕ) → Matching tables links (now (flags .entry)) (now (ledger .entry)) used → Operands (now (ledger .entry)) used first second
-        → (tokens used (now (ledger .exit)) ≡ tokensSpent used (now (ledger .entry)) first second) × Matching tables links (now (flags .exit)) (now (ledger .exit)) used) ⌝ }
+// The operands of an enabled activity, at its place and at another, are spent; where one is waited for, both are its place. They were
+// live, so the chains of deferred tokens stay right.
+pub fn spend_operands(flags: &mut Flags, ledger: &mut [u8], place: usize, other: usize)
+    requires { ⌜ Counted (now flags) × (getD (flagsOf (now flags)) place 0 ≡ 1) × (place < 2048) × (place < length (now ledger) / tokenWidth) × (other < length (now ledger) / tokenWidth) ⌝ }
+    ensures { λ _. ⌜ now (ledger .exit) ≡ statesSpent (now (ledger .entry)) place other ⌝ }
+    ensures { λ _. ⌜ ((tables links : List ℕ) (used : ℕ) → Matching tables links (now (flags .entry)) (now (ledger .entry)) used → Spendable (now (ledger .entry)) used place other
+        → (tokens used (now (ledger .exit)) ≡ tokensSpent used (now (ledger .entry)) place other) × Matching tables links (now (flags .exit)) (now (ledger .exit)) used) ⌝ }
 {
-    store_enabled::spend_operands(flags, ledger, first, second);
+    store_enabled::spend_operands(flags, ledger, place, other);
 }
 
 // A deferred token with the value that it waited for.

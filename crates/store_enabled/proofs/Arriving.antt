@@ -6,12 +6,12 @@ use mathlib.Core.Bool.{Bool, true, false, _&&_, cond}
 use mathlib.Core.List.{List, [], _∷_, _++_}
 use native.Mathlib.Omega.{arith}
 use native.Mathlib.Decide.{decLe}
-use lib.Dec.{eqb}
+use lib.Dec.{eqb, ltb}
 use lib.ListN.{length, getD, set, length-map}
 use lib.Seq.{set-getD}
 use mathlib.Core.Logic.{_⊎_, inl, inr}
 use denote.Enum.Declared.{tagOf as variantOf}
-use borrow.Author.Tests.{eqb-true, eqb-false, ne-eqb}
+use borrow.Author.Tests.{eqb-true, eqb-false, ne-eqb, ltb-true, lt-ltb, le-ltb}
 use Rattle.buffer.specs.Rows.{All}
 use Rattle.record.specs.TokensAndTags.{tokens, tokenAt, standsAt}
 use Rattle.record.specs.Widths.{tokenWidth}
@@ -201,6 +201,19 @@ pub raised-operand : (a b : Bool) (flags : List ℕ) (p : ℕ) → (a ≡ false 
 raised-operand false b flags p past w = past refl
 raised-operand true b flags p past w = raised-only b flags p w
 
+-- ---- one operand, and none
+
+pub first-port : (p : ℕ) → eqb p 0 ≡ ltb p 1 && true
+first-port p = go (eqb p 0) refl
+  where
+    go : (b : Bool) → eqb p 0 ≡ b → b ≡ ltb p 1 && true
+    go true e = rw (lt-ltb p 1 (omega (arith, eqb-true p 0 e)))
+    go false e = rw (le-ltb p 1 (omega (arith, eqb-false p 0 e)))
+
+pub no-operand : (b : Bool) → false ≡ b && false
+no-operand true = refl
+no-operand false = refl
+
 -- ---- the lower of two places, where one may be missing
 
 lower-le : (a b : ℕ) → a ≤ b → lower a b ≡ a
@@ -323,6 +336,15 @@ module _ {m : List ℕ} {own : ℕ} {tag : Tag} {port : ℕ} {other : Found} (w 
       go false e false f true true = refl
       go false e false f true false = refl
       go false e false f false x = refl
+
+  -- of a token that may be no operand
+  pub last-operand : (k : ℕ) → isLive (tokenAt m own .content) ≡ true
+      → (ltb port k && readyOf k true (liveFound (tokenAt m) other)) ≡ (ltb port k && allLive k (tokens (own + 1) m) tag)
+  last-operand k on = go (ltb port k) refl
+    where
+      go : (b : Bool) → ltb port k ≡ b → (b && readyOf k true (liveFound (tokenAt m) other)) ≡ (b && allLive k (tokens (own + 1) m) tag)
+      go true e = last-completes k (λ one. omega (arith, ltb-true port k e)) on
+      go false e = refl
 
   pub last-waits : (k : ℕ) → (k ≡ 1 → port ≡ 0) → isLive (tokenAt m own .content) ≡ false → allLive k (tokens (own + 1) m) tag ≡ false
   last-waits k alone off = own-waits tag port own (own + 1) m (omega arith) (w .low) (w .first) other (w .partner) k alone off

@@ -1,13 +1,13 @@
 -- Laws of operands that are spent: a live token is spent by its state byte alone, and once the token at port 0 of a tag is spent the tag's activity is
 -- not enabled, so that the flag at its place goes. Assumes nothing.
-use Prim.Native.Nat.{ℕ, _+_, _*_, _<_}
-use mathlib.Core.Path.{_≡_, refl, sym, ap, _∙_}
+use Prim.Native.Nat.{ℕ, suc, _+_, _*_, _≤_, _<_}
+use mathlib.Core.Path.{_≡_, refl, sym, ap, subst, _∙_}
 use mathlib.Core.Bool.{true, false}
 use mathlib.Core.List.{List}
 use native.Mathlib.Omega.{arith}
-use native.Mathlib.Decide.{ℕ-discrete}
+use native.Mathlib.Decide.{ℕ-discrete, decLe}
 use lib.ListN.{length, getD, set, drop, length-set}
-use lib.Seq.{getD-drop, getD-set-same, getD-set-other, set-set}
+use lib.Seq.{getD-drop, getD-set-same, getD-set-other, set-set, set-comm}
 use borrow.Author.Tests.{eqb-true}
 use Rattle.number.specs.Number.{byteAt, number32, signedOf}
 use Rattle.buffer.specs.Rows.{putRow}
@@ -23,8 +23,8 @@ use Rattle.store_chains.specs.declared.Found.the-variants.{At}
 use Rattle.store_chains.specs.Search.{firstFrom}
 use Rattle.store_chains.proofs.Search.{first-set}
 use Rattle.store_enabled.specs.Enabled.{isLive, liveAt, contentSpent, spentToken, arityOf, placeOf}
-use Rattle.store_enabled.specs.Store.{Stored, lower, Operands, statesSpent, tokensSpent}
-use Rattle.store_enabled.proofs.Places.{live-state, live-off}
+use Rattle.store_enabled.specs.Store.{Stored, lower, Operands, InOrder, Spendable, statesSpent, tokensSpent}
+use Rattle.store_enabled.proofs.Places.{live-state, live-off, lower-first, lower-second}
 use Rattle.store_enabled.proofs.Bytes.{spent-byte}
 use Rattle.store_enabled.proofs.Right.{all-off, place-kept}
 use Rattle.store_enabled.proofs.Store.{all-at, Moved, changed}
@@ -149,3 +149,49 @@ module _ (tables links flags l : List ℕ) (used i j : ℕ) (w : Stored tables l
       go : Dec (j ≡ i) → (tokens used (statesSpent l i j) ≡ tokensSpent used l i j) × Stored tables links flags′ (statesSpent l i j) used
       go (yes e) = rw (e, set-set l (i * tokenWidth + stateOffset) 1 1, set-set ts i u u) once
       go (no apart) = twice apart
+
+-- ---- the earlier place first
+
+-- what holds of two places in either order holds of them in the order of place
+pub either : {p q i j : ℕ} → InOrder p q i j → (P : ℕ → ℕ → Type 0) → P i j → P j i → P p q
+either {p} {q} {i} {j} o P a b = go (decLe (suc i) j)
+  where
+    go : Dec (suc i ≤ j) → P p q
+    go (yes h) =
+        let e : p ≡ i = o .lead ∙ lower-first i j h in
+        let f : q ≡ j = omega (arith, o .rest) in
+        rw (e, f) a
+    go (no n) =
+        let e : p ≡ j = o .lead ∙ lower-second i j (omega arith) in
+        let f : q ≡ i = omega (arith, o .rest) in
+        rw (e, f) b
+
+pub spendable-within : {l : List ℕ} {used p q : ℕ} → Spendable l used p q → (p < used) × (q < used)
+spendable-within {l} {used} s = either (s .order) (λ a b. (a < used) × (b < used)) (s .operands .firstWithin, s .operands .secondWithin) (s .operands .secondWithin, s .operands .firstWithin)
+
+-- two entries are put, whichever first
+set-either : {A : Type 0} (l : List A) (f : ℕ → A) (i j : ℕ) → set (set l j (f j)) i (f i) ≡ set (set l i (f i)) j (f j)
+set-either l f i j = go (ℕ-discrete j i)
+  where
+    go : Dec (j ≡ i) → set (set l j (f j)) i (f i) ≡ set (set l i (f i)) j (f j)
+    go (yes e) = rw e
+    go (no apart) = set-comm l j i (f j) (f i) apart
+
+states-either : (l : List ℕ) (i j : ℕ) → statesSpent l j i ≡ statesSpent l i j
+states-either l i j = go (ℕ-discrete j i)
+  where
+    go : Dec (j ≡ i) → statesSpent l j i ≡ statesSpent l i j
+    go (yes e) = rw e
+    go (no apart) = set-comm l (j * tokenWidth + stateOffset) (i * tokenWidth + stateOffset) 1 1 (λ e. apart (omega arith))
+
+module _ (tables links flags l : List ℕ) (used p q : ℕ) (w : Stored tables links flags l used) (s : Spendable l used p q) where
+  pub in-order-spent : (flags′ : List ℕ) → flagsOf flags′ ≡ set (flagsOf flags) p 0 → Counted flags′
+      → (tokens used (statesSpent l p q) ≡ tokensSpent used l p q) × Stored tables links flags′ (statesSpent l p q) used
+  in-order-spent flags′ put c =
+      let i = s .first in
+      let j = s .second in
+      let b = both-spent tables links flags l used i j w (s .operands) flags′ (put ∙ ap (λ (n : ℕ). set (flagsOf flags) n 0) (s .order .lead)) c in
+      let states : statesSpent l p q ≡ statesSpent l i j = either (s .order) (λ a b. statesSpent l a b ≡ statesSpent l i j) refl (states-either l i j) in
+      let spents : tokensSpent used l p q ≡ tokensSpent used l i j =
+      either (s .order) (λ a b. tokensSpent used l a b ≡ tokensSpent used l i j) refl (set-either (tokens used l) (λ (k : ℕ). spentToken (tokenAt l k)) i j) in
+      subst (λ (m : List ℕ). (tokens used m ≡ tokensSpent used l p q) × Stored tables links flags′ m used) (sym states) (b .0 ∙ sym spents, b .1)

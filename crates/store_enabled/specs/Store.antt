@@ -102,6 +102,18 @@ pub record Operands (ledger : List ℕ) (used first second : ℕ) : Type 0 where
   pub found : firstFrom (standsAt (tokenAt ledger first .tag) 0) 0 (tokens used ledger) ≡ At first
   pub place : placeOf (tokens used ledger) (tokenAt ledger first .tag) ≡ lower first second
 
+-- of two places the earlier comes first
+pub record InOrder (place other first second : ℕ) : Type 0 where
+  pub lead : place ≡ lower first second
+  pub rest : place + other ≡ first + second
+
+-- the operands stand at an activity's place and at another, whichever of them is on port 0
+pub record Spendable (ledger : List ℕ) (used place other : ℕ) : Type 0 where
+  pub first : ℕ
+  pub second : ℕ
+  pub operands : Operands ledger used first second
+  pub order : InOrder place other first second
+
 -- the bytes and the tokens of a ledger, where the tokens at two places are spent: a live one is spent by its state byte
 abbrev pub statesSpent : List ℕ → (first second : ℕ) → List ℕ
 statesSpent l i j = set (set l (i * tokenWidth + stateOffset) 1) (j * tokenWidth + stateOffset) 1

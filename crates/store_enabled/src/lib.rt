@@ -23,7 +23,7 @@ ghost use Rattle.store_chains.specs.Slots.{Open};
 ghost use Rattle.store_chains.specs.Deferred.{LowCell, Waiting};
 ghost use Rattle.store_chains.specs.declared.Found.the-variants.{At};
 ghost use Rattle.store_enabled.specs.Enabled.{isLive, allLive, waitedFor, arityOf, placeOf};
-ghost use Rattle.store_enabled.specs.Store.{Known, Stored, raisedIf, placeOr, lower, liveFound, enabledAt, readyOf, readyWith, Last, Standing, Operands, statesSpent, tokensSpent};
+ghost use Rattle.store_enabled.specs.Store.{Known, Stored, raisedIf, placeOr, lower, liveFound, enabledAt, readyOf, readyWith, Last, Standing, Spendable, statesSpent, tokensSpent};
 
 // The tables of a graph: returns by site, the named arrays, and the entries of the instructions.
 pub const TABLES_LENGTH: usize = 641;
@@ -124,6 +124,31 @@ fn completes(ledger: &[u8], other: Found, operands: u16) -> bool
     false
 }
 
+// LEAVE's entry in the tables of a graph; any other entry is an operand count.
+pub const LEAVE_ENTRY: u16 = 3;
+
+// Whether a live token on a port of a tag is an operand and completes its activity, by the entry of its instruction. The path is looked
+// at for LEAVE alone, and no number is made of it.
+fn completes_by(ledger: &[u8], other: Found, entry: u16, tag: Tag, port: u8) -> bool
+    requires { ⌜ Within other (length (now ledger) / tokenWidth) × (port < 2) ⌝ }
+    ensures { λ r. ⌜ r ≡ ltb port (waitedFor entry tag) && readyOf (waitedFor entry tag) true (liveFound (tokenAt (now (ledger .entry))) other) ⌝ }
+{
+    if entry == 1 {
+        return port == 0;
+    }
+    if entry == 2 {
+        return live(ledger, other);
+    }
+    if entry == LEAVE_ENTRY {
+        let path = tag.path;
+        if path.is_root() {
+            return false;
+        }
+        return port == 0;
+    }
+    false
+}
+
 // Raises the flag of the activity of the token that arrived last, which is live, if that completes it. Its partner is given, and is
 // earlier; where the token is an operand, the flag was not raised before.
 fn settle_arrived(
@@ -133,22 +158,16 @@ fn settle_arrived(
     tag: Tag,
     port: u8,
     other: Found,
-    operands: u16,
+    entry: u16,
 )
-    requires { ⌜ Counted (now flags) × Last (now ledger) own tag port other × (isLive (tokenAt (now ledger) own .content) ≡ true) × (port < operands → getD (flagsOf (now flags)) (placeOf (tokens (own + 1) (now ledger)) tag) 0 ≡ 0) ⌝ }
-    ensures { λ _. ⌜ flagsOf (now (flags .exit)) ≡ raisedIf (ltb port operands && allLive operands (tokens (own + 1) (now (ledger .entry))) tag) (flagsOf (now (flags .entry))) (placeOf (tokens (own + 1) (now (ledger .entry))) tag) ⌝ }
+    requires { ⌜ Counted (now flags) × Last (now ledger) own tag port other × (isLive (tokenAt (now ledger) own .content) ≡ true) × (port < waitedFor entry tag → getD (flagsOf (now flags)) (placeOf (tokens (own + 1) (now ledger)) tag) 0 ≡ 0) ⌝ }
+    ensures { λ _. ⌜ flagsOf (now (flags .exit)) ≡ raisedIf (ltb port (waitedFor entry tag) && allLive (waitedFor entry tag) (tokens (own + 1) (now (ledger .entry))) tag) (flagsOf (now (flags .entry))) (placeOf (tokens (own + 1) (now (ledger .entry))) tag) ⌝ }
     ensures { λ _. ⌜ Counted (now (flags .exit)) ⌝ }
 {
-    if operands <= port as u16 {
-        return;
-    }
-    if completes(ledger, other, operands) {
+    if completes_by(ledger, other, entry, tag, port) {
         store_flags::raise(flags, place_or(other, own));
     }
 }
-
-// LEAVE's entry in the tables of a graph; any other entry is an operand count.
-pub const LEAVE_ENTRY: u16 = 3;
 
 // How many operands the activity of a tag waits for, by the entry of its instruction. R-5: a token at a LEAVE under path 0 is
 // a result.
@@ -162,16 +181,19 @@ fn waited_for(entry: u16, tag: Tag) -> u16
     if path.is_root() { 0 } else { 1 }
 }
 
-// The same by the tables of a run, whose last part has the entries.
+// The entry of an instruction in the tables of a run, whose last part has them: an absent one waits for none.
+fn entry_of(tables: &[u16], instruction: u16) -> u16
+    ensures { λ r. ⌜ r ≡ getD (now (tables .entry)) (instruction + 385) 0 ⌝ }
+{
+    let i = (instruction as usize) + 385;
+    if i < tables.len() { tables[i] } else { 0 }
+}
+
+// How many operands the activity of a tag waits for, by those tables.
 pub fn arity(tables: &[u16], tag: Tag) -> u16
     ensures { λ r. ⌜ r ≡ arityOf (now (tables .entry)) tag ⌝ }
 {
-    let i = (tag.instruction as usize) + 385;
-    if i < tables.len() {
-        waited_for(tables[i], tag)
-    } else {
-        0
-    }
+    waited_for(entry_of(tables, tag.instruction), tag)
 }
 
 // The place of the activity of a tag, if it is enabled: its operands are found by their ports.
@@ -207,11 +229,11 @@ pub fn append(
     let tag = t.tag;
     token::put_token(ledger, used, t);
     store_chains::enter(links, used, t, slot.bucket);
-    let operands = arity(tables, tag);
+    let entry = entry_of(tables, tag.instruction);
     let other = slot.partner;
     let content = t.content;
     if let Content::Live(_) = content {
-        settle_arrived(flags, ledger, used, tag, t.port, other, operands);
+        settle_arrived(flags, ledger, used, tag, t.port, other, entry);
     }
 }
 
@@ -262,15 +284,15 @@ pub fn change(
     settle_changed(flags, links, ledger, used, i, tag, t.port, operands);
 }
 
-// Spends the operands of an enabled activity; where one is waited for, both places are its place. The activity is
-// enabled no more, and its flag stands at the place of its earlier operand, so nothing has to be searched for.
-pub fn spend_operands(flags: &mut Flags, ledger: &mut [u8], first: usize, second: usize)
-    requires { ⌜ Counted (now flags) × (getD (flagsOf (now flags)) (lower first second) 0 ≡ 1) × (first < 2048) × (second < 2048) × (first < length (now ledger) / tokenWidth) × (second < length (now ledger) / tokenWidth) ⌝ }
-    ensures { λ _. ⌜ now (ledger .exit) ≡ statesSpent (now (ledger .entry)) first second ⌝ }
-    ensures { λ _. ⌜ ((tables links : List ℕ) (used : ℕ) → Stored tables links (now (flags .entry)) (now (ledger .entry)) used → Operands (now (ledger .entry)) used first second
-        → (tokens used (now (ledger .exit)) ≡ tokensSpent used (now (ledger .entry)) first second) × Stored tables links (now (flags .exit)) (now (ledger .exit)) used) ⌝ }
+// Spends the operands of an enabled activity, which stand at its place and at another; where one is waited for, both are its place. The
+// activity is enabled no more, and its flag stands at its place, so nothing has to be searched for.
+pub fn spend_operands(flags: &mut Flags, ledger: &mut [u8], place: usize, other: usize)
+    requires { ⌜ Counted (now flags) × (getD (flagsOf (now flags)) place 0 ≡ 1) × (place < 2048) × (place < length (now ledger) / tokenWidth) × (other < length (now ledger) / tokenWidth) ⌝ }
+    ensures { λ _. ⌜ now (ledger .exit) ≡ statesSpent (now (ledger .entry)) place other ⌝ }
+    ensures { λ _. ⌜ ((tables links : List ℕ) (used : ℕ) → Stored tables links (now (flags .entry)) (now (ledger .entry)) used → Spendable (now (ledger .entry)) used place other
+        → (tokens used (now (ledger .exit)) ≡ tokensSpent used (now (ledger .entry)) place other) × Stored tables links (now (flags .exit)) (now (ledger .exit)) used) ⌝ }
 {
-    ledger[first * token::WIDTH + token::STATE] = 1;
-    ledger[second * token::WIDTH + token::STATE] = 1;
-    store_flags::lower(flags, earlier(first, second));
+    ledger[place * token::WIDTH + token::STATE] = 1;
+    ledger[other * token::WIDTH + token::STATE] = 1;
+    store_flags::lower(flags, place);
 }

@@ -256,6 +256,21 @@ module _ {ws : List ℕ} (s : Summed ws) (j a : ℕ) (h : 33 ≤ j) where
     last = rw (getD-set-other ws j 32 a 0 (λ e. omega arith), take-set-le 32 ws j a (omega arith)) (s .last);
   }
 
+-- what is read in turn, once what stands before it is written
+pub marks-kept : (ws : List ℕ) (i w′ : ℕ) → i < 2048 → getD (set ws (i / 64) w′) 32 0 ≡ getD ws 32 0
+marks-kept ws i w′ h = getD-set-other ws (i / 64) 32 w′ 0 (λ e. omega arith)
+
+pub in-word-kept : (ws : List ℕ) (i w′ s′ : ℕ) → i < 2048 → getD (set (set ws (i / 64) w′) 32 s′) (33 + i / 64) 0 ≡ getD ws (33 + i / 64) 0
+in-word-kept ws i w′ s′ h =
+    getD-set-other (set ws (i / 64) w′) 32 (33 + i / 64) s′ 0 (λ e. omega arith) ∙ getD-set-other ws (i / 64) (33 + i / 64) w′ 0 (λ e. omega arith)
+
+pub in-group-kept : (ws : List ℕ) (i w′ s′ x : ℕ) → i < 2048
+    → getD (set (set (set ws (i / 64) w′) 32 s′) (33 + i / 64) x) (65 + i / 512) 0 ≡ getD ws (65 + i / 512) 0
+in-group-kept ws i w′ s′ x h =
+    getD-set-other (set (set ws (i / 64) w′) 32 s′) (33 + i / 64) (65 + i / 512) x 0 (λ e. omega arith)
+    ∙ getD-set-other (set ws (i / 64) w′) 32 (65 + i / 512) s′ 0 (λ e. omega arith)
+    ∙ getD-set-other ws (i / 64) (65 + i / 512) w′ 0 (λ e. omega arith)
+
 -- a flag is changed, with the mark of its word and the counts, which are then x and y
 module _ {ws : List ℕ} (c : Counted ws) (i v w′ s′ x y : ℕ) (h : i < 2048) (small : v ≤ 1)
     (put : inWord w′ ≡ set (inWord (getD ws (i / 64) 0)) (i % 64) v) (mark : inWord s′ ≡ set (inWord (getD ws 32 0)) (i / 64) (any w′))

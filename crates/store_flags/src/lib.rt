@@ -105,12 +105,12 @@ pub fn raise(flags: &mut Flags, i: usize)
 {
     let b = i / 64;
     let word = flags[b];
-    let in_word = flags[COUNTS + b];
-    let in_group = flags[GROUPS + i / 512];
-    let marks = flags[ANY];
     flags[b] = raised(word, i % 64);
+    let marks = flags[ANY];
     flags[ANY] = marked(marks, b);
+    let in_word = flags[COUNTS + b];
     flags[COUNTS + b] = in_word + 1;
+    let in_group = flags[GROUPS + i / 512];
     flags[GROUPS + i / 512] = in_group + 1;
 }
 
@@ -121,13 +121,13 @@ pub fn lower(flags: &mut Flags, i: usize)
     ensures { λ _. ⌜ Counted (now (flags .exit)) ⌝ }
 {
     let b = i / 64;
-    let in_word = flags[COUNTS + b];
-    let in_group = flags[GROUPS + i / 512];
-    let marks = flags[ANY];
     let word = lowered(flags[b], i % 64);
     flags[b] = word;
+    let marks = flags[ANY];
     flags[ANY] = unmark(marks, b, word);
+    let in_word = flags[COUNTS + b];
     flags[COUNTS + b] = in_word - 1;
+    let in_group = flags[GROUPS + i / 512];
     flags[GROUPS + i / 512] = in_group - 1;
 }
 

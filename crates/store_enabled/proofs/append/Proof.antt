@@ -92,14 +92,14 @@ pub append-spec : {M : Type 1} → statement M
 append-spec = tie.close (tie.spec
     (λ c κs. search needs)  -- put-token-requires
     (λ c κs. let s = c .before .before .before .before .before .before .before in (s .pre .2, s .pre .4, s .pre .5 .bucket))  -- enter-requires
-    (λ c κs. search needs)  -- arity-requires
+    (λ c κs. search needs)  -- entry-of-requires
     (λ c. search needs)  -- enum-told
     (λ c κs.  -- settle-arrived-requires
     let n = c .before .before .before .before .before .before in
     let s = start n in
     let a = s .args in
     let live = ap (λ (x : Token). isLive (x .content)) (there n) ∙ ap isLive (c .before .before .enum-told .given .1) in
-    (s .pre .0 .counted, last n, live, λ h. rw (entered n .more) (flag-before (a .tables .now) (a .ledger .now) (a .used) (a .t) (flagsOf (a .flags .now)) (s .pre .0 .right) (s .pre .5 .free) (s .pre .3) (rw (c .before .before .before .before .arity .ensures) at h))))
+    (s .pre .0 .counted, last n, live, λ h. rw (entered n .more) (flag-before (a .tables .now) (a .ledger .now) (a .used) (a .t) (flagsOf (a .flags .now)) (s .pre .0 .right) (s .pre .5 .free) (s .pre .3) (rw (c .before .before .before .before .entry-of .ensures) at h))))
     (λ c. search needs)  -- same-length
     (λ c.  -- returns
     let n = c .before .before .before .before .before .before .before in
@@ -110,7 +110,7 @@ append-spec = tie.close (tie.spec
     let us = ts ++ a .t ∷ [] in
     let k = arityOf (a .tables .now) (a .t .tag) in
     let once = raised-operand (ltb (a .t .port) k) (isEnabled (a .tables .now) us (a .t .tag)) (flagsOf (a .flags .now)) (placeOf us (a .t .tag)) (λ h. past n (ltb-false (a .t .port) k h)) (waits n) in
-    let flags = c .settle-arrived .ensures .0 ∙ rw (c .before .before .before .before .before .arity .ensures, e .more) once in
+    let flags = c .settle-arrived .ensures .0 ∙ rw (c .before .before .before .before .before .entry-of .ensures, e .more) once in
     (n .before .before .before .before .put-token .ensures .0, (e .more, (e .stored (c .settle-arrived .last .0) flags (c .settle-arrived .ensures .1), λ w. rw (e .more) (n .enter .ensures .1 ts (length-rows tokenWidth decode (a .used) (a .ledger .now)) w)))))
     (λ c. search needs)  -- same-length-2
     (λ c.  -- returns-2
