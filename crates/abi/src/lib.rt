@@ -1,4 +1,4 @@
-// What Rust and C link: the run, with and without a log, the replay, the profile, the bounds, the activities that a bound holds back,
+// What Rust and C link: the run, with and without a log, the replay, the bounds, the activities that a bound holds back,
 // expressions, the listing and the printed lines over numbers and byte slices, with the promises of the crates behind them.
 use activities::Tally;
 use convert::Converted;
@@ -24,7 +24,6 @@ ghost use Rattle.rules.specs.Run.{ledgerAfter, cellsAfter};
 ghost use Rattle.rules.specs.Run.{answer as Run·answer};
 ghost use Rattle.rules.specs.Bounded.{bounded, boundLogged, boundCarried};
 ghost use Rattle.rules.specs.Log.{logAfter, replayed};
-ghost use Rattle.rules.specs.Profile.{profiled, profileAnswer, profileAfter};
 ghost use Rattle.activities.specs.Counts.{counts};
 ghost use Rattle.plot_cache.specs.Serves.{request};
 ghost use Rattle.convert.specs.Convert.{tokenRest, logRest, numberOf as Convert·numberOf, answer as Convert·answer, outAfter as Convert·outAfter};
@@ -243,29 +242,6 @@ pub extern "C" fn ttda_replay(
     ensures { λ _. ⌜ now (cells .exit) ≡ cellsAfter (replayed (now (graph .entry)) (now (arrays .entry)) (now (inputs .entry)) (now (log .entry)) (length (now (ledger .entry))) (length (now (cells .entry)))) (now (cells .entry)) ⌝ }
 {
     number_of(replay::replay(graph, arrays, inputs, log, ledger, cells))
-}
-
-// The number of records goes to `records`.
-#[no_mangle]
-pub extern "C" fn ttda_profile(
-    graph: &[u8],
-    arrays: &[u8],
-    inputs: &[u8],
-    ledger: &mut [u8],
-    cells: &mut [u8],
-    profile: &mut [u8],
-    records: &mut u64,
-) -> u64
-    ensures { λ r. ⌜ r ≡ packed (valuesOf (profileAnswer (profiled (now (graph .entry)) (now (arrays .entry)) (now (inputs .entry)) (length (now (ledger .entry))) (length (now (cells .entry))) (length (now (profile .entry)))) .answer)) ⌝ }
-    ensures { λ _. ⌜ now (records .exit) ≡ profileAnswer (profiled (now (graph .entry)) (now (arrays .entry)) (now (inputs .entry)) (length (now (ledger .entry))) (length (now (cells .entry))) (length (now (profile .entry)))) .records ⌝ }
-    ensures { λ _. ⌜ now (ledger .exit) ≡ ledgerAfter (profiled (now (graph .entry)) (now (arrays .entry)) (now (inputs .entry)) (length (now (ledger .entry))) (length (now (cells .entry))) (length (now (profile .entry))) .result) (now (ledger .entry)) ⌝ }
-    ensures { λ _. ⌜ now (cells .exit) ≡ cellsAfter (profiled (now (graph .entry)) (now (arrays .entry)) (now (inputs .entry)) (length (now (ledger .entry))) (length (now (cells .entry))) (length (now (profile .entry))) .result) (now (cells .entry)) ⌝ }
-    ensures { λ _. ⌜ now (profile .exit) ≡ profileAfter (profiled (now (graph .entry)) (now (arrays .entry)) (now (inputs .entry)) (length (now (ledger .entry))) (length (now (cells .entry))) (length (now (profile .entry)))) (now (profile .entry)) ⌝ }
-{
-    let profiled = profile::profile(graph, arrays, inputs, ledger, cells, profile);
-    *records = profiled.records as u64;
-    let answer = profiled.answer;
-    number_of(answer)
 }
 
 #[no_mangle]

@@ -1,11 +1,11 @@
--- `abi::ttda_profile` meets its contract: the profile as a number, from profile's promise. Assumes nothing.
+-- `abi_profile::ttda_profile` meets its contract: the profile as a number, from profile's promise. Assumes nothing.
 use borrow.Author.Needs.{needs}
 use mathlib.Core.Path.{ap, _∙_}
 use Rattle.rules.specs.declared.answer.Profiled.{Profiled}
 use Rattle.rules.specs.Answer.{valuesOf}
 use Rattle.abi.specs.Numbers.{packed}
-use Rattle.abi.proofs.ttda_profile.Statement.{statement}
-use Rattle.abi.proofs.ttda_profile.Tie as tie
+use Rattle.abi_profile.proofs.ttda_profile.Statement.{statement}
+use Rattle.abi_profile.proofs.ttda_profile.Tie as tie
 
 pub ttda-profile-spec : {M : Type 1} → statement M
 ttda-profile-spec = tie.close (tie.spec
