@@ -216,20 +216,20 @@ fn in_turn(
 {
     let mut used = start;
     let mut spent = 0;
-    let mut k = 0;
-    while k < count {
-        let place = wide(places[k]);
+    let mut firings = 0;
+    while firings < count {
+        let place = wide(places[firings]);
         spent += operands_at(tables, ledger, place);
         let fired = fire::fire(graph, tables, links, flags, ledger, cells, used, place);
         match fired {
             Fired::Done(n) => {
                 used = n;
-                k += 1;
+                firings += 1;
             }
             Fired::Refused(r) => {
                 return Progress {
                     outcome: Outcome::Refused(r, place),
-                    firings: k,
+                    firings,
                     tokens: used,
                     spent,
                 }
@@ -238,7 +238,7 @@ fn in_turn(
     }
     Progress {
         outcome: Outcome::Spent,
-        firings: k,
+        firings,
         tokens: used,
         spent,
     }

@@ -12,12 +12,10 @@ follow-spec = tie.close (tie.spec
     (λ c. search needs)  -- enum-told
     (λ c. search needs)  -- enum-told-2
     (λ c. search needs)  -- enum-told-3
-    (λ c. search needs)  -- enum-told-4
     (λ c. search needs)  -- same-length
     (λ c.  -- returns
     let f = rw (c .before .before .before .before .before .before .before .order .given .1) at (c .before .before .before .before .before .before .before .before .before .before .before .before .pre) in
     rw (c .before .before .before .before .before .before .before .order .given .1) (record { bound = f .bound; kept = c .before .before .follow .ensures }))
     (λ c. rw (c .enum-told .given .1) tt)  -- returns-2
     (λ c. rw (c .enum-told2 .given .1) tt)  -- returns-3
-    (λ c. rw (c .enum-told3 .given .1) tt)  -- returns-4
-    (λ c. rw (c .enum-told4 .given .1) tt))  -- returns-5
+    (λ c. rw (c .enum-told3 .given .1) tt))  -- returns-4

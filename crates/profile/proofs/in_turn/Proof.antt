@@ -43,7 +43,7 @@ in-turn-spec = tie.close (tie.spec
     let n = here (c .before .before .before .before .before .before) in
     (s .pre .0, c .before .before .before .before .before .before .before .before .before .loop .inv .under .running, n .standing .below, n .standing .leading))
     (λ c. search needs)  -- enum-known-fired
-    (λ c. omega (arith, few (c .before .before .before .before .before .before .before .before .before .before .before .before .before .before .before .before .before .before .before .before .before), c .before .before .before .before .before .before .before .before .before .before .before .before .before .before .before .before .loop-test .taken))  -- add-k
+    (λ c. omega (arith, few (c .before .before .before .before .before .before .before .before .before .before .before .before .before .before .before .before .before .before .before .before .before), c .before .before .before .before .before .before .before .before .before .before .before .before .before .before .before .before .loop-test .taken))  -- add-firings
     (λ c. omega (arith, c .before .before .before .before .before .before .before .before .before .before .before .before .before .before .before .before .loop-test .taken))  -- loop-less
     (λ c.  -- loop-again
     let s = c .before .before .before .before .before .before .before .before .before .before .before .before .before .before .before .before .before .before .before .before .before in
