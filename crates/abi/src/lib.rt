@@ -1,4 +1,4 @@
-// What Rust and C link: the run, with and without a log, the replay, the profile, the bounds, the activities that a bound holds back,
+// What Rust and C link: the run, with and without a log, the replay, the bounds, the activities that a bound holds back,
 // expressions, the listing and the printed lines over numbers and byte slices, with the promises of the crates behind them.
 use activities::Tally;
 use convert::Converted;
@@ -20,7 +20,7 @@ ghost use Rattle.rules.specs.Needs.{needs};
 ghost use Rattle.record.specs.ExpressionRecords.{expressionOf};
 ghost use Rattle.rules.specs.Expression.{graphFor, checkMade, madeOf, outputOf, evaluated};
 ghost use Prim.Native.Nat.{suc};
-ghost use Rattle.rules.specs.Runs.{lentToRun, leftByRun, lentToLogged, leftByLogged, ReplayedOn, lentToProfile, leftByProfile, ProfiledOn};
+ghost use Rattle.rules.specs.Runs.{lentToRun, leftByRun, lentToLogged, leftByLogged, ReplayedOn};
 ghost use Rattle.rules.specs.Bounded.{BoundedOn, BoundLoggedOn, BoundCarriedOn};
 ghost use Rattle.activities.specs.Counts.{counts};
 ghost use Rattle.plot_cache.specs.Serves.{request};
@@ -241,28 +241,6 @@ pub extern "C" fn ttda_replay(
         (now (ledger .entry)) (now (cells .entry)) a (now (ledger .exit)) (now (cells .exit))) ⌝ }
 {
     number_of(replay::replay(graph, arrays, inputs, log, ledger, cells))
-}
-
-// The number of records goes to `records`.
-#[no_mangle]
-pub extern "C" fn ttda_profile(
-    graph: &[u8],
-    arrays: &[u8],
-    inputs: &[u8],
-    ledger: &mut [u8],
-    cells: &mut [u8],
-    profile: &mut [u8],
-    records: &mut u64,
-) -> u64
-    ensures { λ r. ⌜ AsNumber r (λ a.
-        ProfiledOn (now (graph .entry)) (now (arrays .entry)) (now (inputs .entry))
-        (lentToProfile (now (ledger .entry)) (now (cells .entry)) (now (profile .entry)))
-        (leftByProfile (record { answer = a; records = now (records .exit) }) (now (ledger .exit)) (now (cells .exit)) (now (profile .exit)))) ⌝ }
-{
-    let profiled = profile::profile(graph, arrays, inputs, ledger, cells, profile);
-    *records = profiled.records as u64;
-    let answer = profiled.answer;
-    number_of(answer)
 }
 
 #[no_mangle]

@@ -46,7 +46,7 @@ use Rattle.held.proofs.Following.{carried-later, carried-none}
 use Rattle.held.proofs.Free.{held-under, free-places}
 use Rattle.held.proofs.Fired.{went-later, flags-unspent}
 use Rattle.engine.specs.declared.Order.{Order}
-use Rattle.engine.specs.declared.Order.the-variants.{Oldest, Picks, Log, Places, Free}
+use Rattle.engine.specs.declared.Order.the-variants.{Oldest, Picks, Log, Free}
 use Rattle.engine.specs.Turns.{Plain, Beside, HeldBack, Bounding, FiredOn, Takes, Ends, Proceeded, Settled, restsThere, asItWas}
 use Rattle.engine.proofs.Choosing.{getD-map, taken-there}
 
@@ -148,7 +148,6 @@ pub plain-bounding : (order : Order) → Plain order → (g : List Instruction) 
 plain-bounding Oldest p g tables flags ledger used nexts held marks = tt
 plain-bounding Picks p g tables flags ledger used nexts held marks = tt
 plain-bounding Log p g tables flags ledger used nexts held marks = tt
-plain-bounding Places p g tables flags ledger used nexts held marks = tt
 plain-bounding (Free k) p g tables flags ledger used nexts held marks = absurd p
 
 module _ (graph : List ℕ) {tables links flags ledger cells : List ℕ} {used : ℕ} (ready : Prepared graph tables) (now : Running (graphOf graph) tables links flags ledger cells used) where
@@ -159,14 +158,12 @@ module _ (graph : List ℕ) {tables links flags ledger cells : List ℕ} {used :
   back-of Oldest nexts held marks b = tt
   back-of Picks nexts held marks b = tt
   back-of Log nexts held marks b = tt
-  back-of Places nexts held marks b = tt
   back-of (Free k) nexts held marks b = b .kept .decided
 
   pub beside-of : (order : Order) (nexts held marks : List ℕ) → Bounding order g tables flags ledger used nexts held marks → Beside order flags held
   beside-of Oldest nexts held marks b = tt
   beside-of Picks nexts held marks b = tt
   beside-of Log nexts held marks b = tt
-  beside-of Places nexts held marks b = tt
   beside-of (Free k) nexts held marks b =
       let d = b .kept .decided in
       (d .counted, held-under g [] 0 0 k tables links flags held ledger used [] (ready .aritiesRight) (on-ports g (tokens used ledger) (now .arrived)) (now .matching) d)
@@ -181,7 +178,6 @@ module _ (graph : List ℕ) {tables links flags ledger cells : List ℕ} {used :
     fired-on Oldest nexts held marks b = tt
     fired-on Picks nexts held marks b = tt
     fired-on Log nexts held marks b = tt
-    fired-on Places nexts held marks b = tt
     fired-on (Free k) nexts held marks b = record {
       arities = ready .aritiesRight;
       grown = w .grown;
@@ -213,7 +209,6 @@ module _ (graph : List ℕ) {tables links flags ledger cells : List ℕ} {used :
   halted-on Oldest nexts held marks r e b = tt
   halted-on Picks nexts held marks r e b = tt
   halted-on Log nexts held marks r e b = tt
-  halted-on Places nexts held marks r e b = tt
   halted-on (Free k) nexts held marks {links′} {flags′} r e b =
       let m : Matching tables links′ flags′ ledger used = subst (λ (l : List ℕ). Matching tables links′ flags′ l used) e (r .matching) in
       let d = b .kept .decided in

@@ -1,5 +1,5 @@
 -- The choice of a turn: the activity at the place that the code finds is the one that the chooser takes, and it is enabled; where the code finds none, the chooser
--- ends the run. By picks, by the names of a log, by places. Assumes nothing.
+-- ends the run. By picks, and by the names of a log. Assumes nothing.
 use Prim.Native.Nat.{ℕ, zero, suc, _+_, _-_, _*_, _/_, _%_, _≤_, _<_}
 use mathlib.Core.Path.{_≡_, refl, sym, ap, subst, _∙_}
 use mathlib.Core.Bool.{Bool, true, false, _&&_, cond}
@@ -10,7 +10,7 @@ use native.Mathlib.Decide.{decLe}
 use native.Mathlib.Nat.{mod-lt}
 use lib.Dec.{eqb, leb}
 use lib.ListN.{length, getD, drop, length-map, length-drop}
-use borrow.Author.Tests.{eq-eqb, ne-eqb, eqb-true, eqb-false, leb-true}
+use borrow.Author.Tests.{eq-eqb, eqb-true, leb-true}
 use Rattle.buffer.proofs.Tables.{length-rows, getD-rows}
 use Rattle.record.specs.declared.array.NamedArray.{NamedArray}
 use Rattle.record.specs.declared.tag.Tag.{Tag}
@@ -21,7 +21,7 @@ use Rattle.record.specs.TokensAndTags.{tokens, tokenAt, tagIn, portIn}
 use Rattle.record.specs.TokensAndTags as Tokens
 use Rattle.record.specs.Logs.{nameOf}
 use Rattle.record.specs.Widths.{tokenWidth, logWidth}
-use Rattle.store_flags.specs.Flags.{places, placesFrom, flagsOf}
+use Rattle.store_flags.specs.Flags.{places, flagsOf}
 use Rattle.store_chains.specs.declared.Found.{Found}
 use Rattle.store_chains.specs.declared.Found.the-variants.{At, Nothing}
 use Rattle.store_chains.proofs.Index.{and-left, and-right}
@@ -33,7 +33,7 @@ use Rattle.store.proofs.Laws.{matching-counted, matching-places, matching-enabl
 use Rattle.machine.specs.Machine.{Machine, StateOf, Activity, onList, look, ending, enabled, pickOf, byPicks}
 use Rattle.machine.specs.Machine as Machines
 use Rattle.machine.specs.Replay.{withTag, named}
-use Rattle.machine.specs.Choosers.{Chosen, takes, ends, byPick, orRefused, atPlace, byName, byPlace}
+use Rattle.machine.specs.Choosers.{Chosen, takes, ends, byPick, orRefused, byName}
 use Rattle.machine.proofs.Replay.{foundByTag}
 use Rattle.rules.specs.declared.answer.Refusal.{Refusal}
 use Rattle.rules.specs.declared.answer.Refusal.the-variants.{NotEnabled}
@@ -61,14 +61,6 @@ past : {A : Type 0} (l : List A) (k : ℕ) (d : A) → length l ≤ k → getD l
 past [] k d h = refl
 past (x ∷ l) zero d h = absurd (omega arith)
 past (x ∷ l) (suc k) d h = past l k d (omega arith)
-
--- a flag that is set has a place, which stands among the places
-among-places : (i k : ℕ) (l : List ℕ) → 0 < getD l k 0 → (j : ℕ) × (j < length (placesFrom i l)) × (i + k ≡ getD (placesFrom i l) j 0)
-among-places i k [] h = absurd (omega arith)
-among-places i zero (zero ∷ l) h = absurd (omega arith)
-among-places i zero (suc x ∷ l) h = (0, omega arith, omega arith)
-among-places i (suc k) (zero ∷ l) h = let (j, lt, e) = among-places (suc i) k l h in (j, lt, omega arith)
-among-places i (suc k) (suc x ∷ l) h = let (j, lt, e) = among-places (suc i) k l h in (suc j, omega arith, omega arith)
 
 -- ---- the names of a log
 
@@ -127,24 +119,6 @@ module _ {tables links flags ledger : List ℕ} {used : ℕ} (m : Matching table
       → place ≡ getD (enabledPlaces tables (tokens used ledger)) (getD picks f 0 % length (enabledPlaces tables (tokens used ledger))) 0
   pick-number picks f e pick number place all taken numbered at =
       at ∙ (λ i. getD (matching-places m i) ((numbered ∙ λ j. taken j % (all ∙ ap length (matching-places m)) j) i) 0)
-
-  -- a flag is 0 or 1
-  pub is-raised : (place : ℕ) (r : Bool) → r ≡ eqb (getD (flagsOf flags) place 0) 1 → r ≡ true → 0 < getD (flagsOf flags) place 0
-  is-raised place r e h = omega (arith, eqb-true (getD (flagsOf flags) place 0) 1 (sym e ∙ h))
-
-  pub is-lowered : (place : ℕ) (r : Bool) → r ≡ eqb (getD (flagsOf flags) place 0) 1 → r ≡ false → getD (flagsOf flags) place 0 ≡ 0
-  is-lowered place r e h = omega (arith, eqb-false (getD (flagsOf flags) place 0) 1 (sym e ∙ h), matching-counted m .tallied .binary place)
-
-  -- no token past the used ones is enabled
-  pub past-none : (place : ℕ) → used ≤ place → getD (flagsOf flags) place 0 ≡ 0
-  past-none place h = go (getD (flagsOf flags) place 0) refl
-    where
-      go : (x : ℕ) → getD (flagsOf flags) place 0 ≡ x → x ≡ 0
-      go zero e = refl
-      go (suc x) e =
-          let (j, lt, at) = among-places 0 place (flagsOf flags) (omega arith) in
-          let all = matching-places m in
-          absurd (omega (arith, matching-enabled-below m j (subst (λ (l : List ℕ). j < length l) all lt), at, ap (λ (l : List ℕ). getD l j 0) all))
 
   -- the first enabled activity, and that it is the one of its tag
   module _ (some : ¬ (length (places (flagsOf flags)) ≡ 0)) (place : ℕ) (first : place ≡ getD (places (flagsOf flags)) 0 0) where
@@ -271,47 +245,3 @@ module _ (tables ledger : List ℕ) (used : ℕ) (g : List Instruction) (right :
             below = within;
             enabledThere = rw (that, eq-eqb _ _ first) on;
           }
-
-  -- ---- by places
-
-  before : (p i : ℕ) (l : List ℕ) → p < i → atPlace M p (map activity (placesFrom i l)) ≡ none
-  before p i [] h = refl
-  before p i (zero ∷ l) h = before p (suc i) l (omega arith)
-  before p i (suc x ∷ l) h = rw (ne-eqb i p (λ e. omega arith)) (before p (suc i) l (omega arith))
-
-  raised-at : (i k : ℕ) (l : List ℕ) → 0 < getD l k 0 → atPlace M (i + k) (map activity (placesFrom i l)) ≡ some (activity (i + k))
-  raised-at i k [] h = absurd (omega arith)
-  raised-at i zero (zero ∷ l) h = absurd (omega arith)
-  raised-at i zero (suc x ∷ l) h = let e : i ≡ i + 0 = omega arith in rw (eq-eqb i (i + 0) e) (ap (λ (p : ℕ). some (activity p)) e)
-  raised-at i (suc k) (zero ∷ l) h = let e : suc i + k ≡ i + suc k = omega arith in subst (λ (p : ℕ). atPlace M p (map activity (placesFrom (suc i) l)) ≡ some (activity p)) e (raised-at (suc i) k l h)
-  raised-at i (suc k) (suc x ∷ l) h =
-      let e : suc i + k ≡ i + suc k = omega arith in
-      rw (ne-eqb i (i + suc k) (λ q. omega arith)) (subst (λ (p : ℕ). atPlace M p (map activity (placesFrom (suc i) l)) ≡ some (activity p)) e (raised-at (suc i) k l h))
-
-  lowered-at : (i k : ℕ) (l : List ℕ) → getD l k 0 ≡ 0 → atPlace M (i + k) (map activity (placesFrom i l)) ≡ none
-  lowered-at i k [] h = refl
-  lowered-at i zero (zero ∷ l) h = before (i + 0) (suc i) l (omega arith)
-  lowered-at i zero (suc x ∷ l) h = absurd (omega arith)
-  lowered-at i (suc k) (zero ∷ l) h = let e : suc i + k ≡ i + suc k = omega arith in subst (λ (p : ℕ). atPlace M p (map activity (placesFrom (suc i) l)) ≡ none) e (lowered-at (suc i) k l h)
-  lowered-at i (suc k) (suc x ∷ l) h =
-      let e : suc i + k ≡ i + suc k = omega arith in
-      rw (ne-eqb i (i + suc k) (λ q. omega arith)) (subst (λ (p : ℕ). atPlace M p (map activity (placesFrom (suc i) l)) ≡ none) e (lowered-at (suc i) k l h))
-
-  module _ {links flags : List ℕ} (m : Matching tables links flags ledger used) (from : List ℕ) (f place : ℕ) (is : place ≡ getD from f 0) where
-    looked-up : byPlace M NotEnabled from f s ≡ orRefused M NotEnabled f (atPlace M place (map activity (places (flagsOf flags))))
-    looked-up = λ i. orRefused M NotEnabled f (atPlace M (sym is i) ((enabled-here ∙ ap (map activity) (sym (matching-places m))) i))
-
-    pub place-there : 0 < getD (flagsOf flags) place 0 → Takes place (byPlace M NotEnabled from f s) tables ledger used
-    place-there h =
-        let same : 0 + place ≡ place = omega arith in
-        let (j, lt, e) = among-places 0 place (flagsOf flags) h in
-        let all : places (flagsOf flags) ≡ enabledPlaces tables ts = matching-places m in
-        let there : atPlace M place (map activity (places (flagsOf flags))) ≡ some (activity place) =
-        subst (λ (p : ℕ). atPlace M p (map activity (places (flagsOf flags))) ≡ some (activity p)) same (raised-at 0 place (flagsOf flags) h) in
-        taken-there m _ place j (subst (λ (l : List ℕ). j < length l) all lt) (sym same ∙ e ∙ ap (λ (l : List ℕ). getD l j 0) all) (looked-up ∙ ap (orRefused M NotEnabled f) there)
-
-    pub place-none : getD (flagsOf flags) place 0 ≡ 0 → Ends (Outcomes.Refused NotEnabled f) (byPlace M NotEnabled from f s)
-    place-none h =
-        let same : 0 + place ≡ place = omega arith in
-        let nowhere : atPlace M place (map activity (places (flagsOf flags))) ≡ none = subst (λ (p : ℕ). atPlace M p (map activity (places (flagsOf flags))) ≡ none) same (lowered-at 0 place (flagsOf flags) h) in
-        record { outcome = Machines.refused NotEnabled f; told = refl; ended = looked-up ∙ ap (orRefused M NotEnabled f) nowhere }

@@ -18,7 +18,7 @@ use Rattle.record.specs.Widths.{tokenWidth, cellWidth, logWidth}
 use Rattle.buffer.specs.Rows.{putRow, writtenOver}
 use Rattle.machine.specs.Machine.{Machine, StateOf, EffectOf, Effect, Activity, Outcome, refused, notFired, End, byPicks, commit, end}
 use Rattle.machine.specs.Bounded.{byFree, runBounded, logBounded}
-use Rattle.machine.specs.Choosers.{Chosen, takes, ends, Chooser, runFrom, logFrom, byPick, byName, byPlace}
+use Rattle.machine.specs.Choosers.{Chosen, takes, ends, Chooser, runFrom, logFrom, byPick, byName}
 use Rattle.rules.specs.declared.answer.Refusal.{Refusal}
 use Rattle.rules.specs.declared.answer.Refusal.the-variants.{NotEnabled}
 use Rattle.rules.specs.declared.answer.Outcome as AnswerOutcome
@@ -50,7 +50,6 @@ abbrev pub chooserOf : Order → (source : List ℕ) → (g : List Instruction) 
 chooserOf Orders.Oldest source g table capacity count = byPick (machineOf g table capacity count) (byPicks (machineOf g table capacity count)) []
 chooserOf Orders.Picks source g table capacity count = byPick (machineOf g table capacity count) (byPicks (machineOf g table capacity count)) (picksOf source)
 chooserOf Orders.Log source g table capacity count = byName (machineOf g table capacity count) NotEnabled (namesIn source)
-chooserOf Orders.Places source g table capacity count = byPlace (machineOf g table capacity count) NotEnabled (picksOf source)
 chooserOf (Orders.Free k) source g table capacity count = byFree (machineOf g table capacity count) (heldIn g k) (byPicks (machineOf g table capacity count)) (picksOf source)
 
 abbrev pub chooserFor : Order → (source : List ℕ) → (g : List Instruction) (tables ledger cells : List ℕ) → Chooser (machineFor g tables ledger cells)
@@ -66,7 +65,6 @@ abbrev pub Plain : Order → Type 0
 Plain Orders.Oldest = Unit {0}
 Plain Orders.Picks = Unit {0}
 Plain Orders.Log = Unit {0}
-Plain Orders.Places = Unit {0}
 Plain (Orders.Free k) = ⊥
 
 -- ---- what is held back, if the order looks at it
@@ -76,14 +74,12 @@ abbrev pub Beside : Order → (flags held : List ℕ) → Type 0
 Beside Orders.Oldest flags held = Unit {0}
 Beside Orders.Picks flags held = Unit {0}
 Beside Orders.Log flags held = Unit {0}
-Beside Orders.Places flags held = Unit {0}
 Beside (Orders.Free k) flags held = Counted held × Under (flagsOf held) (flagsOf flags)
 
 abbrev pub HeldBack : Order → List Instruction → (flags held ledger : List ℕ) → (used : ℕ) → Type 0
 HeldBack Orders.Oldest g flags held ledger used = Unit {0}
 HeldBack Orders.Picks g flags held ledger used = Unit {0}
 HeldBack Orders.Log g flags held ledger used = Unit {0}
-HeldBack Orders.Places g flags held ledger used = Unit {0}
 HeldBack (Orders.Free k) g flags held ledger used = Decided g k flags held ledger used
 
 -- what is kept of it between firings
@@ -95,7 +91,6 @@ abbrev pub Bounding : Order → List Instruction → (tables flags ledger : List
 Bounding Orders.Oldest g tables flags ledger used nexts held marks = Unit {0}
 Bounding Orders.Picks g tables flags ledger used nexts held marks = Unit {0}
 Bounding Orders.Log g tables flags ledger used nexts held marks = Unit {0}
-Bounding Orders.Places g tables flags ledger used nexts held marks = Unit {0}
 Bounding (Orders.Free k) g tables flags ledger used nexts held marks = Holding g k tables flags ledger used nexts held marks
 
 -- and right after one, which left n tokens where there were `used`
@@ -112,7 +107,6 @@ abbrev pub FiredOn : Order → List Instruction → (tables flags ledger : List 
 FiredOn Orders.Oldest g tables flags ledger used n nexts held marks = Unit {0}
 FiredOn Orders.Picks g tables flags ledger used n nexts held marks = Unit {0}
 FiredOn Orders.Log g tables flags ledger used n nexts held marks = Unit {0}
-FiredOn Orders.Places g tables flags ledger used n nexts held marks = Unit {0}
 FiredOn (Orders.Free k) g tables flags ledger used n nexts held marks = Followed g k tables flags ledger used n nexts held marks
 
 -- ---- a choice

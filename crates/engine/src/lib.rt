@@ -43,15 +43,14 @@ ghost use Rattle.start.specs.Ended.{EndedAt};
 ghost use Rattle.engine.specs.Promise.{lentToRun, leftByRun, BoundedOn, lentToLogged, leftByLogged, BoundLoggedOn};
 ghost use Rattle.engine.specs.Resumed.{lentChecked, Lent, resumed};
 ghost use Rattle.engine.specs.Turns.{chooserFor, ByPicks, Plain, Flagged, Beside, HeldBack, ChosenAs, Turned, endOf, firedBy, noted, recorded, Proceeded, Bounding, FiredOn, Settled, endBounded, firedBounded, endFromInputs, firedFromInputs};
-ghost use Rattle.engine.specs.declared.Order.the-variants.{Oldest, Picks, Log, Places, Free};
+ghost use Rattle.engine.specs.declared.Order.the-variants.{Oldest, Picks, Log, Free};
 
-// How the activity of a turn is chosen: the first of all, by picks, by the records of a log, by places, 2 bytes each as picks, or by
-// picks among those that a bound does not hold back.
+// How the activity of a turn is chosen: the first of all, by picks, by the records of a log, or by picks among those that a
+// bound does not hold back.
 pub enum Order {
     Oldest,
     Picks,
     Log,
-    Places,
     Free(usize),
 }
 
@@ -164,27 +163,6 @@ fn by_record(
     Choice::At(place)
 }
 
-// The one at the place of this turn, if it is enabled.
-fn by_place(
-    tables: &Tables,
-    flags: &Flags,
-    ledger: &[u8],
-    used: usize,
-    places: &[u8],
-    firings: usize,
-) -> Choice
-    requires { ⌜ Flagged (now tables) (now flags) (now ledger) used ⌝ }
-    ensures { λ r. ⌜ ((flags held : List ℕ) → ChosenAs r Places (now (places .entry)) firings (now (tables .entry)) flags held (now (ledger .entry)) used) ⌝ }
-{
-    let place = pick::pick_at(places, firings);
-    if place < used {
-        if store_flags::is_raised(flags, place) {
-            return Choice::At(place);
-        }
-    }
-    Choice::Ended(Outcome::Refused(Refusal::NotEnabled, firings))
-}
-
 // The place of number k of the activities that are not held back. Where none is, they are all that are enabled.
 fn free_at(flags: &Flags, held: &Flags, k: usize) -> usize
     requires { ⌜ Counted (now flags) × Counted (now held) × Under (flagsOf (now held)) (flagsOf (now flags)) × (k < length (places (minus (flagsOf (now flags)) (flagsOf (now held))))) ⌝ }
@@ -254,7 +232,6 @@ pub fn choose(
         Order::Oldest => oldest(tables, flags, ledger, used),
         Order::Picks => by_pick(tables, flags, ledger, used, source, firings),
         Order::Log => by_record(tables, links, flags, ledger, used, source, firings),
-        Order::Places => by_place(tables, flags, ledger, used, source, firings),
         Order::Free(_) => by_free(tables, flags, held, ledger, used, source, firings),
     }
 }
@@ -364,13 +341,12 @@ pub fn follow(
         Order::Oldest => {}
         Order::Picks => {}
         Order::Log => {}
-        Order::Places => {}
     }
 }
 
 // A run goes on from a state, and notes each firing. Whoever chooses, this is the loop. The arrays of what is held back are lent; an
 // order that holds nothing back does not look at them.
-pub fn turns(
+fn turns(
     graph: &[u8],
     tables: &Tables,
     order: Order,

@@ -16,7 +16,6 @@ follow-spec = tie.close (tie.spec
     (λ c. search needs)  -- enum-told
     (λ c. search needs)  -- enum-told-2
     (λ c. search needs)  -- enum-told-3
-    (λ c. search needs)  -- enum-told-4
     (λ c. search needs)  -- same-length
     (λ c.  -- returns
     let o = c .before .before .before .before .before .before .before .before .before .before .before .before in
@@ -29,5 +28,4 @@ follow-spec = tie.close (tie.spec
     rw (o .order .given .1) (record { bound = f .bound; kept = c .before .calm .ensures (not-false _ (c .if1 .left)) }))
     (λ c. rw (c .enum-told .given .1) tt)  -- returns-3
     (λ c. rw (c .enum-told2 .given .1) tt)  -- returns-4
-    (λ c. rw (c .enum-told3 .given .1) tt)  -- returns-5
-    (λ c. rw (c .enum-told4 .given .1) tt))  -- returns-6
+    (λ c. rw (c .enum-told3 .given .1) tt))  -- returns-5
