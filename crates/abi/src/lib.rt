@@ -24,10 +24,10 @@ ghost use Rattle.rules.specs.Runs.{lentToRun, leftByRun, lentToLogged, leftByLo
 ghost use Rattle.rules.specs.Bounded.{BoundedOn, BoundLoggedOn, BoundCarriedOn};
 ghost use Rattle.activities.specs.Counts.{counts};
 ghost use Rattle.plot_cache.specs.Serves.{request};
-ghost use Rattle.convert.specs.Convert.{tokenRest, logRest, numberOf as Convert·numberOf, answer as Convert·answer, outAfter as Convert·outAfter};
-ghost use Rattle.listing.specs.Listing.{outAfter};
-ghost use Rattle.listing.specs.Listing.{answer as Listing·answer};
-ghost use Rattle.abi.specs.Numbers.{packed, AsNumber, madeNumber, valueNumber, refusalOf, unplaced, outcomeOf, unpacked, tallyNumber, limitsIn, ServesNumber, printAnswer, printAfter};
+ghost use Rattle.convert.specs.Convert.{tokenRest, logRest, convertedNumber as Convert·numberOf, convertAnswer as Convert·answer, convertedOut as Convert·outAfter};
+ghost use Rattle.listing.specs.Listing.{listedOut};
+ghost use Rattle.listing.specs.Listing.{listAnswer as Listing·answer};
+ghost use Rattle.abi.specs.Numbers.{packed, AsNumber, madeNumber, valueNumber, refusalOf, unplaced, outcomeNumbered, unpacked, tallyNumber, limitsIn, ServesNumber, printAnswer, printAfter};
 
 // What a word says of a refusal.
 enum Numbered {
@@ -115,7 +115,7 @@ fn unplaced(outcome: Outcome, place: usize) -> Named
 
 // The outcome with a word and a place.
 fn outcome_of(word: u64, place: usize) -> Named
-    ensures { λ r. ⌜ r ≡ outcomeOf word place ⌝ }
+    ensures { λ r. ⌜ r ≡ outcomeNumbered word place ⌝ }
 {
     match word {
         0 => unplaced(Outcome::Completed, place),
@@ -298,7 +298,7 @@ pub extern "C" fn ttda_expression_value(expression: &[u8], values: &[u8]) -> u64
 
 #[no_mangle]
 pub extern "C" fn ttda_list(ledger: &[u8], out: &mut [u8]) -> u64
-    ensures { λ r. ⌜ (r ≡ Listing·answer (now (ledger .entry)) (now (out .entry))) × (now (out .exit) ≡ outAfter (now (ledger .entry)) (now (out .entry))) ⌝ }
+    ensures { λ r. ⌜ (r ≡ Listing·answer (now (ledger .entry)) (now (out .entry))) × (now (out .exit) ≡ listedOut (now (ledger .entry)) (now (out .entry))) ⌝ }
 {
     let listed = listing::list(ledger, out);
     match listed {

@@ -16,7 +16,7 @@ use Rattle.record.specs.declared.instruction.Instruction.{Instruction}
 use Rattle.record.specs.Paths.{pathNumber}
 use Rattle.record.specs.Arrays.{arraysOf}
 use Rattle.record.specs.GraphRecords.{graphOf}
-use Rattle.record.specs.TokensAndTags.{contentOf, valueOf, stateOf, mostTokens}
+use Rattle.record.specs.TokensAndTags.{contentOf, valueField, stateOf, mostTokens}
 use Rattle.record.specs.Widths.{tokenWidth, cellWidth, pickWidth, logWidth}
 use Rattle.machine.specs.Machine.{absent, refuse, State, Machine, byPicks, run}
 use Rattle.machine.specs.Sequences.{logOf}
@@ -45,7 +45,7 @@ decodeBefore l = record {
 
 unfoldable pub encodeBefore : Record.Token → List ℕ
 encodeBefore t =
-    bytes64 (t .tag .path .low) ++ t .tag .iteration ∷ t .port ∷ bytes16 (t .tag .instruction) ++ bytes32 (valueOf (t .content)) ++ stateOf (t .content) ∷ 0 ∷ 0 ∷ 0 ∷ []
+    bytes64 (t .tag .path .low) ++ t .tag .iteration ∷ t .port ∷ bytes16 (t .tag .instruction) ++ bytes32 (valueField (t .content)) ++ stateOf (t .content) ∷ 0 ∷ 0 ∷ 0 ∷ []
 
 unfoldable pub isInputBefore : List ℕ → Bool
 isInputBefore l = eqb (number64 l 0) 0 && (eqb (byteAt l 8) 0 && eqb (number32 l 16) 0)

@@ -5,7 +5,7 @@ ghost use mathlib.Core.Path.{_≡_};
 ghost use Prim.Native.Nat.{_+_, _*_, _/_, _≤_};
 ghost use lib.ListN.{length, drop};
 ghost use Rattle.buffer.specs.Rows.{putRow};
-ghost use Rattle.convert.specs.Convert.{tokenRest, logRest, widened, converted, accepted, ConvertedBy};
+ghost use Rattle.convert.specs.Convert.{tokenRest, logRest, widened, converted, convertAccepted, ConvertedBy};
 
 // The bytes of a path before R-8 and since then.
 const OLD_PATH: usize = 8;
@@ -55,7 +55,7 @@ fn put_records(rest: usize, old: &[u8], out: &mut [u8])
 // Whether an output of one length takes the old records of another.
 fn accepts(rest: usize, old: usize, out: usize) -> bool
     requires { ⌜ rest ≤ 12 ⌝ }
-    ensures { λ r. ⌜ r ≡ accepted rest old out ⌝ }
+    ensures { λ r. ⌜ r ≡ convertAccepted rest old out ⌝ }
 {
     let width = OLD_PATH + rest;
     buffer::whole(width, token::MOST, old) && out == old / width * (PATH + rest)

@@ -1,7 +1,7 @@
 -- How a run ends that fires no more: what the tables say of the tokens is what the machine says of its state. Assumes nothing.
 use Prim.Native.Nat.{ℕ, zero, suc, _+_, _-_, _*_, _<_, _≤_}
 use mathlib.Core.Path.{_≡_, refl, ap, _∙_}
-use mathlib.Core.Bool.{Bool, true, false, _&&_}
+use mathlib.Core.Bool.{Bool, true, false, _&&_, and-false}
 use mathlib.Core.List.{List, [], _∷_, map}
 use native.Mathlib.Omega.{arith}
 use borrow.Author.Tests.{eqb-true, leb-true}
@@ -14,7 +14,7 @@ use Rattle.record.specs.declared.tag.Tag.{Tag}
 use Rattle.record.specs.declared.token.Token.{Token}
 use Rattle.record.specs.declared.cell.Cell.{Cell}
 use Rattle.record.specs.declared.instruction.Instruction.{Instruction}
-use Rattle.record.specs.TokensAndTags.{tokens, tokenAt, contentOf, decode}
+use Rattle.record.specs.TokensAndTags.{tokens, tokenAt, contentOf, decodeToken}
 use Rattle.record.specs.Widths.{tokenWidth, stateOffset, valueOffset}
 use Rattle.buffer.proofs.Tables.{length-rows, getD-rows}
 use Rattle.machine.specs.Machine.{Machine, StateOf, Activity, budgetSpent, isProper, allProper, ending, enabled, Choice, runBy, end}
@@ -28,7 +28,7 @@ use Rattle.store_enabled.specs.Enabled.{arityOf, enabledPlaces}
 use Rattle.abstraction.specs.States.{noToken, stateHeld, OnPorts}
 use Rattle.abstraction.specs.Tables.{Arities}
 use Rattle.abstraction.proofs.Enabled.{held-enabled}
-use Rattle.ending.specs.Endings.{properBy, stateSpent, fourSpent, EndsAs, RestsAs}
+use Rattle.ending.specs.Endings.{properBy, stateSpent, fourSpent, EndsWith, RestsAs}
 
 -- ---- completed or hung
 
@@ -41,11 +41,11 @@ held-proper : (g : List Instruction) (tables : List ℕ) → Arities g tables �
 held-proper g tables right table capacity count [] = refl
 held-proper g tables right table capacity count (t ∷ ts) = rw (right (t .tag), held-proper g tables right table capacity count ts)
 
-pub ends-completed : (tables : List ℕ) (ts : List Token) → allBy tables ts ≡ true → EndsAs Outcomes.Completed tables ts
+pub ends-completed : (tables : List ℕ) (ts : List Token) → allBy tables ts ≡ true → EndsWith Outcomes.Completed tables ts
 unfolding ending
 ends-completed tables ts e g right table capacity count cs = rw (held-proper g tables right table capacity count ts, e)
 
-pub ends-hung : (tables : List ℕ) (ts : List Token) → allBy tables ts ≡ false → EndsAs Outcomes.Hung tables ts
+pub ends-hung : (tables : List ℕ) (ts : List Token) → allBy tables ts ≡ false → EndsWith Outcomes.Hung tables ts
 unfolding ending
 ends-hung tables ts e g right table capacity count cs = rw (held-proper g tables right table capacity count ts, e)
 
@@ -55,13 +55,9 @@ unfolding contentOf
 spent-content n bits state e = rw e
 
 pub proper-spent : (tables ledger : List ℕ) (i : ℕ) → getD ledger (i * tokenWidth + stateOffset) 0 ≡ 1 → properBy tables (tokenAt ledger i) ≡ true
-unfolding decode
+unfolding decodeToken
 proper-spent tables ledger i e =
     spent-content (arityOf tables (tokenAt ledger i .tag)) (number32 (drop (i * tokenWidth) ledger) valueOffset) (byteAt (drop (i * tokenWidth) ledger) stateOffset) (rw (getD-drop (i * tokenWidth) ledger stateOffset 0) e)
-
-and-false : (a : Bool) → (a && false) ≡ false
-and-false true = refl
-and-false false = refl
 
 one-of-all : (tables : List ℕ) (k : ℕ) (ts : List Token) → allBy tables (drop k ts) ≡ false → allBy tables ts ≡ false
 one-of-all tables zero ts e = e
@@ -72,8 +68,8 @@ one-of-all tables (suc k) (t ∷ ts) e = rw (one-of-all tables k ts e) (and-fals
 module _ (tables ledger : List ℕ) (used i j : ℕ) (next : suc j ≡ i) (within : i ≤ used) where
   from-here : allBy tables (drop j (tokens used ledger)) ≡ properBy tables (tokenAt ledger j) && allBy tables (drop i (tokens used ledger))
   from-here =
-      let inside : j < length (tokens used ledger) = omega (arith, length-rows tokenWidth decode used ledger) in
-      let here : getD (tokens used ledger) j noToken ≡ tokenAt ledger j = getD-rows tokenWidth decode used j ledger noToken (omega arith) in
+      let inside : j < length (tokens used ledger) = omega (arith, length-rows tokenWidth decodeToken used ledger) in
+      let here : getD (tokens used ledger) j noToken ≡ tokenAt ledger j = getD-rows tokenWidth decodeToken used j ledger noToken (omega arith) in
       ap (allBy tables) (drop-cons (tokens used ledger) j noToken inside)
       ∙ λ k. properBy tables (here k) && allBy tables (drop (next k) (tokens used ledger))
 
@@ -142,7 +138,7 @@ module _ (g : List Instruction) (table : List NamedArray) (capacity count : ℕ)
       go [] e h = absurd (h refl)
       go (p ∷ l) e h = runZero M choose picks f (stateHeld ts cs) (activity p) (map activity l) (enabled-here ∙ ap (map activity) e)
 
-pub rests-ended : (tables : List ℕ) (ts : List Token) → length (enabledPlaces tables ts) ≡ 0 → (o : AnswerOutcome.Outcome) → EndsAs o tables ts → RestsAs o tables ts
+pub rests-ended : (tables : List ℕ) (ts : List Token) → length (enabledPlaces tables ts) ≡ 0 → (o : AnswerOutcome.Outcome) → EndsWith o tables ts → RestsAs o tables ts
 rests-ended tables ts z o e g right ports table capacity count cs choose picks f = rw (ended g table capacity count tables ts cs right ports choose 0 picks f z) (e g right table capacity count cs)
 
 pub rests-spent : (tables : List ℕ) (ts : List Token) → (length (enabledPlaces tables ts) ≡ 0 → ⊥) → RestsAs Outcomes.Spent tables ts

@@ -31,8 +31,8 @@ abbrev pub fourSpent : (ledger : List ℕ) → (i : ℕ) → Bool
 fourSpent ledger i = leb 4 i && (stateSpent ledger (i - 1) && (stateSpent ledger (i - 2) && (stateSpent ledger (i - 3) && stateSpent ledger (i - 4))))
 
 -- the outcome where nothing is enabled
-abbrev pub EndsAs : Outcome → (tables : List ℕ) → List Token → Type 0
-EndsAs o tables ts = (g : List Instruction) → Arities g tables → (table : List NamedArray) (capacity count : ℕ) (cs : List Cell)
+abbrev pub EndsWith : Outcome → (tables : List ℕ) → List Token → Type 0
+EndsWith o tables ts = (g : List Instruction) → Arities g tables → (table : List NamedArray) (capacity count : ℕ) (cs : List Cell)
     → o ≡ outcomeOf (ending (machineOf g table capacity count) (stateHeld ts cs))
 
 -- the outcome of a run that has no budget left, whatever picks and firings came before

@@ -12,7 +12,7 @@ ghost use Rattle.record.specs.TokensAndTags.{tokens, tokenAt};
 ghost use Rattle.record.specs.Widths.{tokenWidth};
 ghost use Rattle.store_flags.specs.Flags.{Counted, places, flagsOf};
 ghost use Rattle.store_enabled.specs.Enabled.{enabledPlaces};
-ghost use Rattle.ending.specs.Endings.{properBy, stateSpent, fourSpent, EndsAs, RestsAs};
+ghost use Rattle.ending.specs.Endings.{properBy, stateSpent, fourSpent, EndsWith, RestsAs};
 
 // Whether a completed run may leave this token: a spent one, or a live result, which waits for no operand.
 fn proper(tables: &Tables, t: Token) -> bool
@@ -59,7 +59,7 @@ fn four_spent(ledger: &[u8], i: usize) -> bool
 // 02, R-2: with nothing enabled, a run is completed only if every live token is a result and none is deferred.
 pub fn ending(tables: &Tables, ledger: &[u8], used: usize) -> Outcome
     requires { ⌜ used ≤ length (now ledger) / tokenWidth ⌝ }
-    ensures { λ r. ⌜ EndsAs r (now (tables .entry)) (tokens used (now (ledger .entry))) ⌝ }
+    ensures { λ r. ⌜ EndsWith r (now (tables .entry)) (tokens used (now (ledger .entry))) ⌝ }
 {
     // From the newest record back: these are the likeliest to be in the processor's cache, and to wait.
     let mut i = used;

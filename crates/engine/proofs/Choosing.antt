@@ -25,14 +25,14 @@ use Rattle.store_flags.specs.Flags.{places, flagsOf}
 use Rattle.store_chains.specs.declared.Found.{Found}
 use Rattle.store_chains.specs.declared.Found.the-variants.{At, Nothing}
 use Rattle.store_chains.proofs.Index.{and-left, and-right}
-use Rattle.store_enabled.specs.Enabled.{allLive, isEnabled, tagSame, placeOf, leads, enabledPlaces}
+use Rattle.store_enabled.specs.Enabled.{operandsLive, isEnabled, tagSame, earliestOf, leadsIn, enabledPlaces}
 use Rattle.store_enabled.specs.Store.{enabledAt}
 use Rattle.store_enabled.proofs.Right.{tag-equal}
 use Rattle.store.specs.Matching.{Matching}
 use Rattle.store.proofs.Laws.{matching-counted, matching-places, matching-enabled-below, matching-leads}
 use Rattle.machine.specs.Machine.{Machine, StateOf, Activity, onList, look, ending, enabled, pickOf, byPicks}
 use Rattle.machine.specs.Machine as Machines
-use Rattle.machine.specs.Replay.{withTag, named}
+use Rattle.machine.specs.Replay.{withTag, namedIn}
 use Rattle.machine.specs.Choosers.{Chosen, takes, ends, byPick, orRefused, byName}
 use Rattle.machine.proofs.Replay.{foundByTag}
 use Rattle.rules.specs.declared.answer.Refusal.{Refusal}
@@ -47,8 +47,8 @@ use Rattle.abstraction.proofs.Arities.{arity-small}
 use Rattle.abstraction.proofs.Enabled.{held-enabled, held-below, held-place}
 use Rattle.fire.proofs.Place.{on-ports}
 use Rattle.fire.specs.Running.{Arrived}
-use Rattle.ending.specs.Endings.{EndsAs}
-use Rattle.engine.specs.Turns.{Takes, Ends}
+use Rattle.ending.specs.Endings.{EndsWith}
+use Rattle.engine.specs.Turns.{TakesPlace, Ends}
 
 -- ---- lists
 
@@ -89,17 +89,17 @@ unfolding namesIn
 name-past log i h = sym (past (namesIn log) i none (omega (arith, length-rows logWidth nameOf ((length log + (logWidth - 1)) / logWidth) log)))
 
 -- the earliest token of a tag has the tag
-place-tag : (tag : Tag) (d : Record.Token) (ts : List Record.Token) → placeOf ts tag < length ts → getD ts (placeOf ts tag) d .tag ≡ tag
+place-tag : (tag : Tag) (d : Record.Token) (ts : List Record.Token) → earliestOf ts tag < length ts → getD ts (earliestOf ts tag) d .tag ≡ tag
 place-tag tag d [] h = absurd (omega arith)
 place-tag tag d (t ∷ ts) h = go (tagSame tag (t .tag)) refl h (place-tag tag d ts)
   where
-    go : (b : Bool) → tagSame tag (t .tag) ≡ b → cond b 0 (suc (placeOf ts tag)) < suc (length ts) → (placeOf ts tag < length ts → getD ts (placeOf ts tag) d .tag ≡ tag)
-        → getD (t ∷ ts) (cond b 0 (suc (placeOf ts tag))) d .tag ≡ tag
+    go : (b : Bool) → tagSame tag (t .tag) ≡ b → cond b 0 (suc (earliestOf ts tag)) < suc (length ts) → (earliestOf ts tag < length ts → getD ts (earliestOf ts tag) d .tag ≡ tag)
+        → getD (t ∷ ts) (cond b 0 (suc (earliestOf ts tag))) d .tag ≡ tag
     go true e l ih = sym (tag-equal tag (t .tag) e)
     go false e l ih = ih (omega arith)
 
-live-some : (n : ℕ) (ts : List Record.Token) (tag : Tag) → allLive n ts tag ≡ true → 0 < n
-unfolding allLive
+live-some : (n : ℕ) (ts : List Record.Token) (tag : Tag) → operandsLive n ts tag ≡ true → 0 < n
+unfolding operandsLive
 live-some zero ts tag e = let z : _≡_ {A = ℕ} 0 1 = cc in absurd (omega arith)
 live-some (suc n) ts tag e = omega arith
 
@@ -134,9 +134,9 @@ module _ {tables links flags ledger : List ℕ} {used : ℕ} (m : Matching table
     pub first-named : (tag : Tag) → Tokens.sameTag (tokenAt ledger place .tag) tag ≡ true → At place ≡ enabledAt tables (tokens used ledger) tag
     first-named tag same =
         let own = tokenAt ledger place .tag in
-        let lead = subst (λ (p : ℕ). leads tables (tokens used ledger) p (tokenAt ledger p) ≡ true) (sym at-first) (matching-leads m 0 among) in
-        let there = eqb-true (placeOf (tokens used ledger) own) place (and-left _ _ lead) in
-        let on = and-right (eqb (placeOf (tokens used ledger) own) place) _ lead in
+        let lead = subst (λ (p : ℕ). leadsIn tables (tokens used ledger) p (tokenAt ledger p) ≡ true) (sym at-first) (matching-leads m 0 among) in
+        let there = eqb-true (earliestOf (tokens used ledger) own) place (and-left _ _ lead) in
+        let on = and-right (eqb (earliestOf (tokens used ledger) own) place) _ lead in
         rw (tag-equal tag own same, on) (ap At (sym there))
 
 -- ---- what the machine has enabled
@@ -159,22 +159,22 @@ module _ (tables ledger : List ℕ) (used : ℕ) (g : List Instruction) (right :
 
   -- an enabled activity by its place
   recorded-there : (place : ℕ) → place < used → activity place ≡ record { place = place; tag = tokenAt ledger place .tag }
-  recorded-there place h = ap (λ (t : Record.Token). record { place = place; tag = t .tag }) (getD-rows tokenWidth Tokens.decode used place ledger noToken h)
+  recorded-there place h = ap (λ (t : Record.Token). record { place = place; tag = t .tag }) (getD-rows tokenWidth Tokens.decodeToken used place ledger noToken h)
 
   pub taken-there : {links flags : List ℕ} → Matching tables links flags ledger used → (chosen : Chosen Refusal Tag) (place k : ℕ) → k < length (enabledPlaces tables ts) → place ≡ getD (enabledPlaces tables ts) k 0
-      → chosen ≡ takes (activity place) → Takes place chosen tables ledger used
+      → chosen ≡ takes (activity place) → TakesPlace place chosen tables ledger used
   taken-there m chosen place k h at e =
       let below : place < used = subst (λ (p : ℕ). p < used) (sym at) (matching-enabled-below m k h) in
       record {
         taken = e ∙ ap takes (recorded-there place below);
         below = below;
-        enabledThere = subst (λ (p : ℕ). leads tables ts p (tokenAt ledger p) ≡ true) (sym at) (matching-leads m k h);
+        enabledThere = subst (λ (p : ℕ). leadsIn tables ts p (tokenAt ledger p) ≡ true) (sym at) (matching-leads m k h);
       }
 
   -- ---- by picks
 
   module _ (picks : List ℕ) (f : ℕ) where
-    pub pick-none : length (enabledPlaces tables ts) ≡ 0 → (o : AnswerOutcome.Outcome) → EndsAs o tables ts → Ends o (byPick M (byPicks M) picks f s)
+    pub pick-none : length (enabledPlaces tables ts) ≡ 0 → (o : AnswerOutcome.Outcome) → EndsWith o tables ts → Ends o (byPick M (byPicks M) picks f s)
     pick-none z o said = record {
       outcome = ending M s;
       told = sym (said g right table capacity count cs);
@@ -193,7 +193,7 @@ module _ (tables ledger : List ℕ) (used : ℕ) (g : List Instruction) (right :
         ∙ getD-map activity (p ∷ l) (getD picks f 0 % length (p ∷ l)) 0 (activity p) (mod-lt (getD picks f 0) (omega arith))
 
     pub pick-there : {links flags : List ℕ} → Matching tables links flags ledger used → (place : ℕ) → (length (enabledPlaces tables ts) ≡ 0 → ⊥)
-        → place ≡ getD (enabledPlaces tables ts) (getD picks f 0 % length (enabledPlaces tables ts)) 0 → Takes place (byPick M (byPicks M) picks f s) tables ledger used
+        → place ≡ getD (enabledPlaces tables ts) (getD picks f 0 % length (enabledPlaces tables ts)) 0 → TakesPlace place (byPick M (byPicks M) picks f s) tables ledger used
     pick-there m place n at =
         let all = ap (λ (l : List (Activity Tag)). onList l (ends (ending M s)) (λ a more. takes (byPicks M s (getD picks f 0) a more))) enabled-here in
         taken-there m _ place (getD picks f 0 % length (enabledPlaces tables ts)) (mod-lt (getD picks f 0) (omega arith)) at (all ∙ go (enabledPlaces tables ts) n at)
@@ -207,22 +207,22 @@ module _ (tables ledger : List ℕ) (used : ℕ) (g : List Instruction) (right :
 
   -- all operands of a tag are live, in the machine's words and in those of the records
   all-live : (τ : Tag) → 0 < arityIn g τ → Machines.allLive M (look M s) τ ≡ isEnabled tables ts τ
-  all-live τ l = held-below g table capacity count (arityIn g τ) τ ts l (arity-small g τ) ∙ ap (λ (n : ℕ). allLive n ts τ) (sym (right τ))
+  all-live τ l = held-below g table capacity count (arityIn g τ) τ ts l (arity-small g τ) ∙ ap (λ (n : ℕ). operandsLive n ts τ) (sym (right τ))
 
   absent : (τ : Tag) → isEnabled tables ts τ ≡ false → withTag M τ (enabled M s) ≡ none
   absent τ e = foundByTag M s τ .absent (λ h. let z : _≡_ {A = Bool} false true = sym e ∙ sym (all-live τ (h .0)) ∙ h .1 in let y : _≡_ {A = ℕ} 0 1 = cc in omega arith)
 
-  present : (τ : Tag) → isEnabled tables ts τ ≡ true → withTag M τ (enabled M s) ≡ some (record { place = placeOf ts τ; tag = τ })
+  present : (τ : Tag) → isEnabled tables ts τ ≡ true → withTag M τ (enabled M s) ≡ some (record { place = earliestOf ts τ; tag = τ })
   present τ e =
       let l : 0 < arityIn g τ = subst (λ (n : ℕ). 0 < n) (right τ) (live-some _ ts τ e) in
       foundByTag M s τ .present l (all-live τ l ∙ e) ∙ ap (λ (n : ℕ). some (record { place = n; tag = τ })) (held-place g table capacity count τ ts l (on-ports g ts arrived))
 
   module _ (names : List (Option Tag)) (f : ℕ) where
-    not-named : named M (getD names f none) (enabled M s) ≡ none → Ends (Outcomes.Refused NotEnabled f) (byName M NotEnabled names f s)
+    not-named : namedIn M (getD names f none) (enabled M s) ≡ none → Ends (Outcomes.Refused NotEnabled f) (byName M NotEnabled names f s)
     not-named e = record { outcome = Machines.refused NotEnabled f; told = refl; ended = ap (orRefused M NotEnabled f) e }
 
-    by-name : (x : Option Tag) → getD names f none ≡ x → named M (getD names f none) (enabled M s) ≡ named M x (enabled M s)
-    by-name x e = ap (λ (n : Option Tag). named M n (enabled M s)) e
+    by-name : (x : Option Tag) → getD names f none ≡ x → namedIn M (getD names f none) (enabled M s) ≡ namedIn M x (enabled M s)
+    by-name x e = ap (λ (n : Option Tag). namedIn M n (enabled M s)) e
 
     -- it "lacks its zero byte or isn't whole"
     pub names-nothing : none ≡ getD names f none → Ends (Outcomes.Refused NotEnabled f) (byName M NotEnabled names f s)
@@ -231,14 +231,14 @@ module _ (tables ledger : List ℕ) (used : ℕ) (g : List Instruction) (right :
     module _ (τ : Tag) (is : some τ ≡ getD names f none) (found : Found) (searched : found ≡ enabledAt tables ts τ) where
       -- it "names no enabled activity"
       pub names-none : found ≡ Nothing → Ends (Outcomes.Refused NotEnabled f) (byName M NotEnabled names f s)
-      names-none e = not-named (by-name (some τ) (sym is) ∙ absent τ (when-nothing (isEnabled tables ts τ) (placeOf ts τ) (sym searched ∙ e)))
+      names-none e = not-named (by-name (some τ) (sym is) ∙ absent τ (when-nothing (isEnabled tables ts τ) (earliestOf ts τ) (sym searched ∙ e)))
 
-      pub names-there : (place : ℕ) → found ≡ At place → place < used → Takes place (byName M NotEnabled names f s) tables ledger used
+      pub names-there : (place : ℕ) → found ≡ At place → place < used → TakesPlace place (byName M NotEnabled names f s) tables ledger used
       names-there place at within =
-          let (on, first) = when-at (isEnabled tables ts τ) (placeOf ts τ) place (sym searched ∙ at) in
-          let size = length-rows tokenWidth Tokens.decode used ledger in
+          let (on, first) = when-at (isEnabled tables ts τ) (earliestOf ts τ) place (sym searched ∙ at) in
+          let size = length-rows tokenWidth Tokens.decodeToken used ledger in
           let that : tokenAt ledger place .tag ≡ τ =
-          ap (λ (t : Record.Token). t .tag) (sym (getD-rows tokenWidth Tokens.decode used place ledger noToken within))
+          ap (λ (t : Record.Token). t .tag) (sym (getD-rows tokenWidth Tokens.decodeToken used place ledger noToken within))
           ∙ subst (λ (n : ℕ). getD ts n noToken .tag ≡ τ) first (place-tag τ noToken ts (omega (arith, first, size))) in
           record {
             taken = ap (orRefused M NotEnabled f) (by-name (some τ) (sym is) ∙ present τ on) ∙ (λ i. takes (record { place = first i; tag = sym that i }));

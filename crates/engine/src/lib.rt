@@ -33,7 +33,7 @@ ghost use Rattle.rules.specs.Check.{checkGraph};
 ghost use Rattle.rules.specs.Run.{Ran};
 ghost use Rattle.rules.specs.Bounded.{BoundCarriedOn};
 ghost use Rattle.rules.specs.Log.{namesIn};
-ghost use Rattle.store_chains.specs.Search.{Within};
+ghost use Rattle.store_chains.specs.Search.{FoundWithin};
 ghost use Rattle.store_enabled.specs.Store.{enabledAt};
 ghost use Rattle.store.specs.Matching.{Matching};
 ghost use Rattle.fire.specs.Running.{stateIn, askedIn, Prepared, Running};
@@ -41,8 +41,8 @@ ghost use Rattle.store_flags.specs.Flags.{places, minus, Under, flagsOf, Counte
 ghost use Rattle.start.specs.Begun.{Accepted};
 ghost use Rattle.start.specs.Ended.{EndedAt};
 ghost use Rattle.engine.specs.Promise.{lentToRun, leftByRun, BoundedOn, lentToLogged, leftByLogged, BoundLoggedOn};
-ghost use Rattle.engine.specs.Resumed.{lentChecked, Lent, resumed};
-ghost use Rattle.engine.specs.Turns.{chooserFor, ByPicks, Plain, Flagged, Beside, HeldBack, ChosenAs, Turned, endOf, firedBy, noted, recorded, Proceeded, Bounding, FiredOn, Settled, endBounded, firedBounded, endFromInputs, firedFromInputs};
+ghost use Rattle.engine.specs.Resumed.{resumeLentChecked, LentToResume, resumed};
+ghost use Rattle.engine.specs.Turns.{chooserFor, ByPicks, Plain, Flagged, HeldBeside, HeldBack, ChosenAs, Turned, endOf, firedBy, logNoted, recorded, Proceeded, Bounding, FiredOn, Settled, endBounded, firedBounded, endFromInputs, firedFromInputs};
 ghost use Rattle.engine.specs.declared.Order.the-variants.{Oldest, Picks, Log, Free};
 
 // How the activity of a turn is chosen: the first of all, by picks, by the records of a log, or by picks among those that a
@@ -127,7 +127,7 @@ fn place_named(
     tag: Tag,
 ) -> Found
     requires { ⌜ Matching (now tables) (now links) (now flags) (now ledger) used ⌝ }
-    ensures { λ r. ⌜ (r ≡ enabledAt (now (tables .entry)) (tokens used (now (ledger .entry))) tag) × Within r used ⌝ }
+    ensures { λ r. ⌜ (r ≡ enabledAt (now (tables .entry)) (tokens used (now (ledger .entry))) tag) × FoundWithin r used ⌝ }
 {
     if !store_flags::is_empty(flags) {
         let first = store::enabled_at(flags, 0);
@@ -225,7 +225,7 @@ pub fn choose(
     ledger: &[u8],
     used: usize,
 ) -> Choice
-    requires { ⌜ Matching (now tables) (now links) (now flags) (now ledger) used × Beside order (now flags) (now held) ⌝ }
+    requires { ⌜ Matching (now tables) (now links) (now flags) (now ledger) used × HeldBeside order (now flags) (now held) ⌝ }
     ensures { λ r. ⌜ ChosenAs r order (now (source .entry)) firings (now (tables .entry)) (now (flags .entry)) (now (held .entry)) (now (ledger .entry)) used ⌝ }
 {
     match order {
@@ -250,8 +250,15 @@ fn take_turn(
     cells: &mut [u8],
     used: usize,
 ) -> Turn
-    requires { ⌜ Prepared (now graph) (now tables) × Running (graphOf (now graph)) (now tables) (now links) (now flags) (now ledger) (now cells) used × Beside order (now flags) (now held) × HeldBack order (graphOf (now graph)) (now flags) (now held) (now ledger) used ⌝ }
-    ensures { λ r. ⌜ Turned r (graphOf (now (graph .entry))) (chooserFor order (now (source .entry)) (graphOf (now (graph .entry))) (now (tables .entry)) (now (ledger .entry)) (now (cells .entry)) firings (stateIn (now (ledger .entry)) (now (cells .entry)) used)) (askedIn (graphOf (now (graph .entry))) (now (tables .entry)) (now (ledger .entry)) (now (cells .entry)) used) (now (tables .entry)) (now (links .exit)) (now (flags .exit)) (now (ledger .exit)) (now (cells .exit)) used (now (ledger .entry)) (now (cells .entry)) ⌝ }
+    requires { ⌜ Prepared (now graph) (now tables)
+        × Running (graphOf (now graph)) (now tables) (now links) (now flags) (now ledger) (now cells) used
+        × HeldBeside order (now flags) (now held)
+        × HeldBack order (graphOf (now graph)) (now flags) (now held) (now ledger) used ⌝ }
+    ensures { λ r. ⌜ Turned r (graphOf (now (graph .entry)))
+        (chooserFor order (now (source .entry)) (graphOf (now (graph .entry))) (now (tables .entry)) (now (ledger .entry)) (now (cells .entry))
+        firings (stateIn (now (ledger .entry)) (now (cells .entry)) used))
+        (askedIn (graphOf (now (graph .entry))) (now (tables .entry)) (now (ledger .entry)) (now (cells .entry)) used) (now (tables .entry))
+        (now (links .exit)) (now (flags .exit)) (now (ledger .exit)) (now (cells .exit)) used (now (ledger .entry)) (now (cells .entry)) ⌝ }
 {
     let chosen = choose(
         order,
@@ -278,7 +285,7 @@ fn take_turn(
 // Writes the record of firing i, of the activity at a place, if the log has room for it. A run without a log has one of no bytes.
 fn note(log: &mut [u8], i: usize, ledger: &[u8], place: usize)
     requires { ⌜ place < length (now ledger) / tokenWidth ⌝ }
-    ensures { λ _. ⌜ now (log .exit) ≡ noted (now (log .entry)) i (tokenAt (now (ledger .entry)) place .tag) ⌝ }
+    ensures { λ _. ⌜ now (log .exit) ≡ logNoted (now (log .entry)) i (tokenAt (now (ledger .entry)) place .tag) ⌝ }
 {
     if i < log.len() / log::WIDTH {
         let t = token::token_at(ledger, place);
@@ -361,10 +368,19 @@ fn turns(
     log: &mut [u8],
     going: Going,
 ) -> Answer
-    requires { ⌜ Prepared (now graph) (now tables) × Running (graphOf (now graph)) (now tables) (now links) (now flags) (now ledger) (now cells) (going .used) × Bounding order (graphOf (now graph)) (now tables) (now flags) (now ledger) (going .used) (now nexts) (now held) (now marks) ⌝ }
-    ensures { λ r. ⌜ Proceeded (endOf order (now (source .entry)) (graphOf (now (graph .entry))) (now (tables .entry)) (now (ledger .entry)) (now (cells .entry)) (going .used) (going .budget)) r (graphOf (now (graph .entry))) (now (tables .entry)) (now (links .exit)) (now (flags .exit)) (now (ledger .exit)) (now (cells .exit)) (going .used) (now (ledger .entry)) (now (cells .entry)) ⌝ }
-    ensures { λ _. ⌜ now (log .exit) ≡ recorded (firedBy order (now (source .entry)) (graphOf (now (graph .entry))) (now (tables .entry)) (now (ledger .entry)) (now (cells .entry)) (going .used) (going .budget)) (now (log .entry)) ⌝ }
-    ensures { λ r. ⌜ Bounding order (graphOf (now (graph .entry))) (now (tables .entry)) (now (flags .exit)) (now (ledger .exit)) (r .tokens) (now (nexts .exit)) (now (held .exit)) (now (marks .exit)) ⌝ }
+    requires { ⌜ Prepared (now graph) (now tables)
+        × Running (graphOf (now graph)) (now tables) (now links) (now flags) (now ledger) (now cells) (going .used)
+        × Bounding order (graphOf (now graph)) (now tables) (now flags) (now ledger) (going .used) (now nexts) (now held) (now marks) ⌝ }
+    ensures { λ r. ⌜ Proceeded
+        (endOf order (now (source .entry)) (graphOf (now (graph .entry))) (now (tables .entry)) (now (ledger .entry)) (now (cells .entry))
+        (going .used) (going .budget)) r (graphOf (now (graph .entry))) (now (tables .entry)) (now (links .exit)) (now (flags .exit))
+        (now (ledger .exit)) (now (cells .exit)) (going .used) (now (ledger .entry)) (now (cells .entry)) ⌝ }
+    ensures { λ _. ⌜ now (log .exit)
+        ≡ recorded
+        (firedBy order (now (source .entry)) (graphOf (now (graph .entry))) (now (tables .entry)) (now (ledger .entry)) (now (cells .entry))
+        (going .used) (going .budget)) (now (log .entry)) ⌝ }
+    ensures { λ r. ⌜ Bounding order (graphOf (now (graph .entry))) (now (tables .entry)) (now (flags .exit)) (now (ledger .exit)) (r .tokens) (now (nexts .exit))
+        (now (held .exit)) (now (marks .exit)) ⌝ }
 {
     let budget = going.budget;
     let mut used = going.used;
@@ -424,8 +440,14 @@ pub fn proceed(
     going: Going,
 ) -> Answer
     requires { ⌜ Prepared (now graph) (now tables) × Running (graphOf (now graph)) (now tables) (now links) (now flags) (now ledger) (now cells) (going .used) × Plain order ⌝ }
-    ensures { λ r. ⌜ Proceeded (endOf order (now (source .entry)) (graphOf (now (graph .entry))) (now (tables .entry)) (now (ledger .entry)) (now (cells .entry)) (going .used) (going .budget)) r (graphOf (now (graph .entry))) (now (tables .entry)) (now (links .exit)) (now (flags .exit)) (now (ledger .exit)) (now (cells .exit)) (going .used) (now (ledger .entry)) (now (cells .entry)) ⌝ }
-    ensures { λ _. ⌜ now (log .exit) ≡ recorded (firedBy order (now (source .entry)) (graphOf (now (graph .entry))) (now (tables .entry)) (now (ledger .entry)) (now (cells .entry)) (going .used) (going .budget)) (now (log .entry)) ⌝ }
+    ensures { λ r. ⌜ Proceeded
+        (endOf order (now (source .entry)) (graphOf (now (graph .entry))) (now (tables .entry)) (now (ledger .entry)) (now (cells .entry))
+        (going .used) (going .budget)) r (graphOf (now (graph .entry))) (now (tables .entry)) (now (links .exit)) (now (flags .exit))
+        (now (ledger .exit)) (now (cells .exit)) (going .used) (now (ledger .entry)) (now (cells .entry)) ⌝ }
+    ensures { λ _. ⌜ now (log .exit)
+        ≡ recorded
+        (firedBy order (now (source .entry)) (graphOf (now (graph .entry))) (now (tables .entry)) (now (ledger .entry)) (now (cells .entry))
+        (going .used) (going .budget)) (now (log .entry)) ⌝ }
 {
     let mut nexts = [0u64; store_flags::LENGTH];
     let mut held = [0u64; store_flags::LENGTH];
@@ -484,8 +506,13 @@ fn proceed_bounded(
     going: Going,
 ) -> Answer
     requires { ⌜ Prepared (now graph) (now tables) × Running (graphOf (now graph)) (now tables) (now links) (now flags) (now ledger) (now cells) (going .used) × (0 < bound) × (bound < 65536) ⌝ }
-    ensures { λ r. ⌜ EndedAt (endBounded bound (now (picks .entry)) (graphOf (now (graph .entry))) (now (tables .entry)) (now (ledger .entry)) (now (cells .entry)) (going .used) (going .budget)) r (now (ledger .entry)) (now (cells .entry)) (now (ledger .exit)) (now (cells .exit)) ⌝ }
-    ensures { λ _. ⌜ now (log .exit) ≡ recorded (firedBounded bound (now (picks .entry)) (graphOf (now (graph .entry))) (now (tables .entry)) (now (ledger .entry)) (now (cells .entry)) (going .used) (going .budget)) (now (log .entry)) ⌝ }
+    ensures { λ r. ⌜ EndedAt
+        (endBounded bound (now (picks .entry)) (graphOf (now (graph .entry))) (now (tables .entry)) (now (ledger .entry)) (now (cells .entry))
+        (going .used) (going .budget)) r (now (ledger .entry)) (now (cells .entry)) (now (ledger .exit)) (now (cells .exit)) ⌝ }
+    ensures { λ _. ⌜ now (log .exit)
+        ≡ recorded
+        (firedBounded bound (now (picks .entry)) (graphOf (now (graph .entry))) (now (tables .entry)) (now (ledger .entry)) (now (cells .entry))
+        (going .used) (going .budget)) (now (log .entry)) ⌝ }
 {
     let mut nexts = [0u64; store_flags::LENGTH];
     let mut held = [0u64; store_flags::LENGTH];
@@ -537,8 +564,13 @@ fn go_on(
     going: Going,
 ) -> Answer
     requires { ⌜ Prepared (now graph) (now tables) × Running (graphOf (now graph)) (now tables) (now links) (now flags) (now ledger) (now cells) (going .used) × (bound < 65536) ⌝ }
-    ensures { λ r. ⌜ EndedAt (endBounded bound (now (picks .entry)) (graphOf (now (graph .entry))) (now (tables .entry)) (now (ledger .entry)) (now (cells .entry)) (going .used) (going .budget)) r (now (ledger .entry)) (now (cells .entry)) (now (ledger .exit)) (now (cells .exit)) ⌝ }
-    ensures { λ _. ⌜ now (log .exit) ≡ recorded (firedBounded bound (now (picks .entry)) (graphOf (now (graph .entry))) (now (tables .entry)) (now (ledger .entry)) (now (cells .entry)) (going .used) (going .budget)) (now (log .entry)) ⌝ }
+    ensures { λ r. ⌜ EndedAt
+        (endBounded bound (now (picks .entry)) (graphOf (now (graph .entry))) (now (tables .entry)) (now (ledger .entry)) (now (cells .entry))
+        (going .used) (going .budget)) r (now (ledger .entry)) (now (cells .entry)) (now (ledger .exit)) (now (cells .exit)) ⌝ }
+    ensures { λ _. ⌜ now (log .exit)
+        ≡ recorded
+        (firedBounded bound (now (picks .entry)) (graphOf (now (graph .entry))) (now (tables .entry)) (now (ledger .entry)) (now (cells .entry))
+        (going .used) (going .budget)) (now (log .entry)) ⌝ }
 {
     if bound != 0 {
         return proceed_bounded(
@@ -583,8 +615,13 @@ fn accepted(
     log: &mut [u8],
 ) -> Answer
     requires { ⌜ Accepted (now graph) (now arrays) (now inputs) (length (now ledger)) (length (now cells)) × (bound < 65536) ⌝ }
-    ensures { λ r. ⌜ EndedAt (endFromInputs bound (now (picks .entry)) budget (now (graph .entry)) (now (arrays .entry)) (now (inputs .entry)) (now (ledger .entry)) (now (cells .entry))) r (now (ledger .entry)) (now (cells .entry)) (now (ledger .exit)) (now (cells .exit)) ⌝ }
-    ensures { λ _. ⌜ now (log .exit) ≡ recorded (firedFromInputs bound (now (picks .entry)) budget (now (graph .entry)) (now (arrays .entry)) (now (inputs .entry)) (now (ledger .entry)) (now (cells .entry))) (now (log .entry)) ⌝ }
+    ensures { λ r. ⌜ EndedAt
+        (endFromInputs bound (now (picks .entry)) budget (now (graph .entry)) (now (arrays .entry)) (now (inputs .entry)) (now (ledger .entry))
+        (now (cells .entry))) r (now (ledger .entry)) (now (cells .entry)) (now (ledger .exit)) (now (cells .exit)) ⌝ }
+    ensures { λ _. ⌜ now (log .exit)
+        ≡ recorded
+        (firedFromInputs bound (now (picks .entry)) budget (now (graph .entry)) (now (arrays .entry)) (now (inputs .entry)) (now (ledger .entry))
+        (now (cells .entry))) (now (log .entry)) ⌝ }
 {
     let mut tables = [0u16; store_enabled::TABLES_LENGTH];
     let mut links = [0u16; store_chains::LENGTH];
@@ -623,7 +660,7 @@ fn check_lent(
     ledger: usize,
     cells: usize,
 ) -> Checked
-    ensures { λ r. ⌜ r ≡ lentChecked (now (graph .entry)) (now (arrays .entry)) picks bound ledger cells ⌝ }
+    ensures { λ r. ⌜ r ≡ resumeLentChecked (now (graph .entry)) (now (arrays .entry)) picks bound ledger cells ⌝ }
 {
     let of_graph = graph::check(graph);
     let Checked::Passed = of_graph else {
@@ -648,8 +685,10 @@ fn resume(
     ledger: &mut [u8],
     cells: &mut [u8],
 ) -> Answer
-    requires { ⌜ Lent (now graph) (now arrays) (length (now ledger)) (length (now cells)) × (budget < 65536) × (firings < 65536) × (bound < 65536) ⌝ }
-    ensures { λ r. ⌜ Ran (resumed (now (graph .entry)) (now (arrays .entry)) (now (picks .entry)) budget bound (now (ledger .entry)) (now (cells .entry)) firings used) r (now (ledger .entry)) (now (ledger .exit)) (now (cells .entry)) (now (cells .exit)) ⌝ }
+    requires { ⌜ LentToResume (now graph) (now arrays) (length (now ledger)) (length (now cells)) × (budget < 65536) × (firings < 65536) × (bound < 65536) ⌝ }
+    ensures { λ r. ⌜ Ran
+        (resumed (now (graph .entry)) (now (arrays .entry)) (now (picks .entry)) budget bound (now (ledger .entry)) (now (cells .entry)) firings used)
+        r (now (ledger .entry)) (now (ledger .exit)) (now (cells .entry)) (now (cells .exit)) ⌝ }
 {
     let mut tables = [0u16; store_enabled::TABLES_LENGTH];
     let mut links = [0u16; store_chains::LENGTH];
@@ -702,7 +741,8 @@ pub fn run(
     ledger: &mut [u8],
     cells: &mut [u8],
 ) -> Answer
-    ensures { λ r. ⌜ BoundedOn (now (graph .entry)) (now (arrays .entry)) (now (inputs .entry)) budget bound (lentToRun (now (picks .entry)) (now (ledger .entry)) (now (cells .entry))) (leftByRun r (now (ledger .exit)) (now (cells .exit))) ⌝ }
+    ensures { λ r. ⌜ BoundedOn (now (graph .entry)) (now (arrays .entry)) (now (inputs .entry)) budget bound
+        (lentToRun (now (picks .entry)) (now (ledger .entry)) (now (cells .entry))) (leftByRun r (now (ledger .exit)) (now (cells .exit))) ⌝ }
 {
     let k = bound as usize;
     let checked = checks::check_bounded(graph, arrays, inputs, picks, k, ledger.len(), cells.len());
@@ -737,7 +777,9 @@ pub fn run_logged(
     cells: &mut [u8],
     log: &mut [u8],
 ) -> Answer
-    ensures { λ r. ⌜ BoundLoggedOn (now (graph .entry)) (now (arrays .entry)) (now (inputs .entry)) bound (lentToLogged (now (picks .entry)) budget (now (ledger .entry)) (now (cells .entry)) (now (log .entry))) (leftByLogged r (now (ledger .exit)) (now (cells .exit)) (now (log .exit))) ⌝ }
+    ensures { λ r. ⌜ BoundLoggedOn (now (graph .entry)) (now (arrays .entry)) (now (inputs .entry)) bound
+        (lentToLogged (now (picks .entry)) budget (now (ledger .entry)) (now (cells .entry)) (now (log .entry)))
+        (leftByLogged r (now (ledger .exit)) (now (cells .exit)) (now (log .exit))) ⌝ }
 {
     let firings = budget as usize;
     let k = bound as usize;
@@ -771,7 +813,8 @@ pub fn carry_on(
     ledger: &mut [u8],
     cells: &mut [u8],
 ) -> Answer
-    ensures { λ r. ⌜ BoundCarriedOn (now (graph .entry)) (now (arrays .entry)) (now (picks .entry)) budget bound firings tokens r (now (ledger .entry)) (now (ledger .exit)) (now (cells .entry)) (now (cells .exit)) ⌝ }
+    ensures { λ r. ⌜ BoundCarriedOn (now (graph .entry)) (now (arrays .entry)) (now (picks .entry)) budget bound firings tokens r (now (ledger .entry))
+        (now (ledger .exit)) (now (cells .entry)) (now (cells .exit)) ⌝ }
 {
     let k = bound as usize;
     let checked = check_lent(graph, arrays, picks.len(), k, ledger.len(), cells.len());

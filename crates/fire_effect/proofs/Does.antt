@@ -15,7 +15,7 @@ use mir.Val.{Fits, SFits}
 use Rattle.record.specs.declared.array.NamedArray.{NamedArray}
 use Rattle.record.specs.declared.tag.Tag.{Tag}
 use Rattle.record.specs.declared.instruction.Destination.{Destination}
-use Rattle.record.specs.GraphRecords.{decode, graphOf, inUse}
+use Rattle.record.specs.GraphRecords.{decodeInstruction, graphOf, inUse}
 use Rattle.buffer.proofs.Tables.{length-rows}
 use Rattle.record.specs.TokensAndTags.{toOf}
 use Rattle.record.specs.Widths.{graphWidth}
@@ -32,7 +32,7 @@ use Rattle.fire_effect.specs.declared.output.Outputs.{Outputs}
 use Rattle.fire_effect.specs.declared.tags.NewTags.{NewTags}
 use Rattle.fire_effect.specs.declared.tags.NewTags.the-variants as Tags
 use Rattle.fire_effect.specs.declared.operate.Named.the-variants.{Cell, NoSuchCell}
-use Rattle.fire_effect.specs.Effects.{keyHeld, keysHeld, keysOf, Sends, Makes, namedOf}
+use Rattle.fire_effect.specs.Effects.{keyHeld, keysHeld, outputKeys, Sends, Makes, namedOf}
 
 abbrev pub Clash : Type 0
 Clash = _≡_ {A = ℕ} 0 1
@@ -43,7 +43,7 @@ clash z = absurd (omega arith)
 -- ---- outputs
 
 -- the count is the number of keys
-pub length-keys : (o : Outputs) → o .count ≤ 2 → length (keysOf o) ≡ o .count
+pub length-keys : (o : Outputs) → o .count ≤ 2 → length (outputKeys o) ≡ o .count
 length-keys o h = go (o .count) h
   where
     go : (n : ℕ) → n ≤ 2 → length (keysHeld n (o .first) (o .second)) ≡ n
@@ -165,7 +165,7 @@ module _ (tables : List ℕ) (n : ℕ) where
 
 -- as many as the whole records of the bytes
 pub records : (l : List ℕ) → length (graphOf l) ≡ length l / graphWidth
-records l = length-rows graphWidth decode (length l / graphWidth) l
+records l = length-rows graphWidth decodeInstruction (length l / graphWidth) l
 
 module _ (l : List ℕ) (i k : ℕ) (τ : Tag) where
   pub to-site : i + k < length l / graphWidth → (v : ℤ) → sendReturned (graphOf l) i k τ v ≡ send v (record { tag = toOf τ (i + k); port = 0 } ∷ [])

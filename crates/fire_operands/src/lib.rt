@@ -12,10 +12,10 @@ use store_chains::Sought;
 ghost use mathlib.Core.Path.{_≡_};
 ghost use Prim.Native.Nat.{_/_, _≤_, _<_};
 ghost use lib.ListN.{length};
-ghost use Rattle.record.specs.TokensAndTags.{tokens, tokenAt};
+ghost use Rattle.record.specs.TokensAndTags.{tokens, tokenAt, valueIn};
 ghost use Rattle.record.specs.Widths.{tokenWidth};
 ghost use Rattle.store_enabled.specs.Store.{Known, placeOr};
-ghost use Rattle.fire_operands.specs.Operands.{bothAt, valueIn, Earliest, matchedAt, sameKeys, Beside, LowPorts, admittedOf, AdmittedAs};
+ghost use Rattle.fire_operands.specs.Operands.{bothAt, Earliest, matchedAt, sameKeys, SlotBeside, LowPorts, admittedOf, AdmittedAs};
 
 // The operands of an enabled activity: one stands at its place, the other here, and the values are by ports. Where one is waited for,
 // it stands for both.
@@ -104,7 +104,7 @@ fn same_keys(a: Key, b: Key) -> bool
 // The slot of the second of two outputs that differ, once the first stands in record `used`: where both have one tag, they are
 // partners.
 fn beside(first: Key, second: Key, slot: Slot, used: usize) -> Slot
-    ensures { λ r. ⌜ Beside first second slot used r ⌝ }
+    ensures { λ r. ⌜ SlotBeside first second slot used r ⌝ }
 {
     let t = first.tag;
     let u = second.tag;

@@ -20,8 +20,8 @@ use Rattle.store_flags.specs.Flags.{ones, place, places, placesFrom, Under, fla
 use Rattle.store_flags.specs.Marks.{bit}
 use Rattle.store_flags.proofs.Laws.{Binary, ones-places, place-places, place-one}
 use Rattle.abstraction.specs.Tables.{Arities}
-use Rattle.held.specs.Searching.{holdsBy, HolderFrom, Skipped, Marked}
-use Rattle.held.specs.Deciding.{heldBy, ClearFrom, heldAt, Decided, isNext, isLateNext, Listed, Standing, AllStanding, LookedAt}
+use Rattle.held.specs.Searching.{holdsBy, HolderFrom, Skipped, MarkedPast}
+use Rattle.held.specs.Deciding.{heldBy, ClearFrom, heldAt, HeldDecided, isNext, isLateNext, Listed, Standing, AllStanding, LookedAt}
 use Rattle.held.proofs.Searching.{holds-old, any-by-first}
 use Rattle.held.proofs.Laws.{and-false, other-free, early-free, next-held}
 
@@ -35,7 +35,7 @@ module _ (g : List Instruction) (tables ledger : List ℕ) (k used : ℕ) (flags
   other-free-at t same e =
       sym (and-false (eqb (getD flags i 0) 1) _ (ap (λ (u : Token). heldBy g k (map tokenHeld (tokens used ledger)) (u .tag)) (sym same) ∙ other-free g k (map tokenHeld (tokens used ledger)) (t .tag) e))
 
-  module _ (m : Marked tables ledger k used marks) (few : used ≤ 2048) (low : i < used) where
+  module _ (m : MarkedPast tables ledger k used marks) (few : used ≤ 2048) (low : i < used) where
     pub mark-low : getD marks i 0 ≤ used
     mark-low = go (ltb used (getD marks i 0)) refl
       where

@@ -12,7 +12,7 @@ use Rattle.record.specs.declared.tag.Path.{Path}
 use Rattle.record.specs.declared.tag.Tag.{Tag}
 use Rattle.record.specs.declared.token.Token.{Token}
 use Rattle.record.specs.declared.instruction.Instruction.{Instruction}
-use Rattle.record.specs.TokensAndTags.{tokenAt}
+use Rattle.record.specs.TokensAndTags.{tokenAt, isSpentRecord}
 use Rattle.machine.specs.Machine.{onOption}
 use Rattle.rules.specs.Check.{instructionAt}
 use Rattle.rules.specs.Held.{standsIn}
@@ -21,8 +21,8 @@ use Rattle.store_flags.specs.Marks.{bit}
 use Rattle.store_flags.proofs.Laws.{zero-at}
 use Rattle.store_flags.proofs.Words.{none-set, counted-none}
 use Rattle.ending.specs.Endings.{properBy}
-use Rattle.held.specs.Searching.{holdsBy, Marked}
-use Rattle.held.specs.Deciding.{ClearFrom, isSpent, isNext, isLateNext, Listed, NewListed, Dropped, spentThere, asBefore, FlagsUnspent, Standing, AllStanding, Later, Carried, Kept}
+use Rattle.held.specs.Searching.{holdsBy, MarkedPast}
+use Rattle.held.specs.Deciding.{ClearFrom, isNext, isLateNext, Listed, NewListed, Dropped, spentThere, asBefore, FlagsUnspent, Standing, AllStanding, Later, Carried, HeldKept}
 
 set-zero : (l : List ℕ) (i : ℕ) → getD (set l i 0) i 0 ≡ 0
 set-zero [] i = refl
@@ -31,7 +31,7 @@ set-zero (x ∷ l) (suc i) = set-zero l i
 
 -- ---- more records
 
-pub marked-more : (tables ledger : List ℕ) (k used n : ℕ) (marks : List ℕ) → used ≤ n → Marked tables ledger k used marks → Marked tables ledger k n marks
+pub marked-more : (tables ledger : List ℕ) (k used n : ℕ) (marks : List ℕ) → used ≤ n → MarkedPast tables ledger k used marks → MarkedPast tables ledger k n marks
 marked-more tables ledger k used n marks h m = record {
   size = m .size;
   past = λ i j l u. let p = m .past i j l u in (omega (arith, p .0), omega (arith, p .1), p .2);
@@ -52,12 +52,12 @@ module _ (g : List Instruction) (k : ℕ) (ledger : List ℕ) (used n : ℕ) (ne
       go false e = omega (arith, clear i (ltb-false i used e), under i)
 
   abbrev Right : (l : List ℕ) → (u : ℕ) → Type 0
-  Right l u = (i : ℕ) → i < u → getD l i 0 ≡ 0 → isLateNext g k (tokenAt ledger i) ≡ true → isSpent (tokenAt ledger i .content) ≡ true
+  Right l u = (i : ℕ) → i < u → getD l i 0 ≡ 0 → isLateNext g k (tokenAt ledger i) ≡ true → isSpentRecord (tokenAt ledger i .content) ≡ true
 
   pub listed-new : Right nexts used → Right nexts′ n
   listed-new old i low none next = go (ltb i used) refl
     where
-      go : (b : Bool) → ltb i used ≡ b → isSpent (tokenAt ledger i .content) ≡ true
+      go : (b : Bool) → ltb i used ≡ b → isSpentRecord (tokenAt ledger i .content) ≡ true
       go true e = let l = ltb-true i used e in old i l (sym (new .same i l) ∙ none) next
       go false e = let z : _≡_ {A = ℕ} 0 1 = sym none ∙ new .new i (ltb-false i used e) low ∙ ap bit next in absurd (omega arith)
 
@@ -85,7 +85,7 @@ module _ (g : List Instruction) (k : ℕ) (ledger : List ℕ) (used n : ℕ) (ne
     listed-dropped (asBefore e f) r i low none next = r i low (rw (← e) none) next
     listed-dropped (spentThere s e f) r i low none next = go (eqb i place) refl
       where
-        go : (b : Bool) → eqb i place ≡ b → isSpent (tokenAt ledger i .content) ≡ true
+        go : (b : Bool) → eqb i place ≡ b → isSpentRecord (tokenAt ledger i .content) ≡ true
         go true q = rw (eqb-true i place q) s
         go false q = r i low (sym (getD-set-other nexts′ place i 0 0 (eqb-false i place q)) ∙ ap (λ (l : List ℕ). getD l i 0) (sym e) ∙ none) next
 
@@ -99,7 +99,7 @@ module _ (g : List Instruction) (k : ℕ) (ledger : List ℕ) (used n : ℕ) (ne
 
 -- no enabled one is missing
 pub listed-all : (g : List Instruction) (k : ℕ) (flags nexts ledger : List ℕ) (n : ℕ) → FlagsUnspent flags ledger n
-    → ((i : ℕ) → i < n → getD nexts i 0 ≡ 0 → isLateNext g k (tokenAt ledger i) ≡ true → isSpent (tokenAt ledger i .content) ≡ true) → Listed g k flags nexts ledger n
+    → ((i : ℕ) → i < n → getD nexts i 0 ≡ 0 → isLateNext g k (tokenAt ledger i) ≡ true → isSpentRecord (tokenAt ledger i .content) ≡ true) → Listed g k flags nexts ledger n
 listed-all g k flags nexts ledger n unspent right i low none = go (eqb (getD flags i 0) 1) (isLateNext g k (tokenAt ledger i)) refl refl
   where
     go : (a b : Bool) → eqb (getD flags i 0) 1 ≡ a → isLateNext g k (tokenAt ledger i) ≡ b → (a && b) ≡ false

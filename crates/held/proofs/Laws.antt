@@ -13,7 +13,7 @@ use borrow.Author.Tests.{eqb-true, eqb-false, leb-false, ltb-true, ltb-false, le
 use Rattle.record.specs.declared.tag.Path.{Path}
 use Rattle.record.specs.declared.tag.Tag.{Tag}
 use Rattle.number.specs.Number.{byteAt, number32}
-use Rattle.record.specs.TokensAndTags.{tokenAt, contentOf, decode}
+use Rattle.record.specs.TokensAndTags.{tokenAt, contentOf, decodeToken, isSpentRecord}
 use Rattle.record.specs.Widths.{tokenWidth, stateOffset, valueOffset}
 use Rattle.record.specs.declared.instruction.Instruction.{Instruction}
 use Rattle.record.specs.declared.token.Token as Record
@@ -22,7 +22,7 @@ use Rattle.rules.specs.Check.{any, instructionAt}
 use Rattle.rules.specs.Held.{standsIn, isPending, holdsBack, heldIn}
 use Rattle.store_flags.specs.Flags.{flagsOf}
 use Rattle.store_flags.specs.Marks.{bit}
-use Rattle.held.specs.Deciding.{heldBy, ClearFrom, isSpent, isNext, isLateNext, NewListed}
+use Rattle.held.specs.Deciding.{heldBy, ClearFrom, isNext, isLateNext, NewListed}
 
 -- ---- one activity
 
@@ -75,16 +75,16 @@ lowered-again flags i small e =
 pub unraised-again : (flags : List ℕ) (i : ℕ) → getD flags i 0 ≡ 0 → flags ≡ set flags i 0
 unraised-again flags i z = sym (ap (λ (x : ℕ). set flags i x) (sym z) ∙ set-getD flags i 0)
 
-content-spent : (bits state : ℕ) → state ≡ 1 → isSpent (contentOf bits state) ≡ true
+content-spent : (bits state : ℕ) → state ≡ 1 → isSpentRecord (contentOf bits state) ≡ true
 unfolding contentOf
 content-spent bits state e = rw e
 
 -- the state byte of a spent token's record is 1
-pub spent-state : (ledger : List ℕ) (i : ℕ) → getD ledger (i * tokenWidth + stateOffset) 0 ≡ 1 → isSpent (tokenAt ledger i .content) ≡ true
-unfolding decode
+pub spent-state : (ledger : List ℕ) (i : ℕ) → getD ledger (i * tokenWidth + stateOffset) 0 ≡ 1 → isSpentRecord (tokenAt ledger i .content) ≡ true
+unfolding decodeToken
 spent-state ledger i e = go (number32 (drop (i * tokenWidth) ledger) valueOffset) (byteAt (drop (i * tokenWidth) ledger) stateOffset) (rw (getD-drop (i * tokenWidth) ledger stateOffset 0) e)
   where
-    go : (bits state : ℕ) → state ≡ 1 → isSpent (contentOf bits state) ≡ true
+    go : (bits state : ℕ) → state ≡ 1 → isSpentRecord (contentOf bits state) ≡ true
     go bits state h = content-spent bits state h
 
 -- ---- the records at NEXT

@@ -9,13 +9,13 @@ use lib.Dec.{eqb, ltb}
 use lib.ListN.{length, getD}
 use borrow.Author.Tests.{eqb-true, eqb-false, ltb-true, ltb-false, lt-ltb}
 use Rattle.record.specs.declared.instruction.Instruction.{Instruction}
-use Rattle.record.specs.TokensAndTags.{tokens, tokenAt}
+use Rattle.record.specs.TokensAndTags.{tokens, tokenAt, isSpentRecord}
 use Rattle.rules.specs.Run.{tokenHeld}
 use Rattle.store_flags.specs.Flags.{places, flagsOf}
 use Rattle.store_flags.specs.Marks.{bit}
 use Rattle.store_flags.proofs.Laws.{Binary}
 use Rattle.abstraction.specs.Tables.{Arities}
-use Rattle.held.specs.Deciding.{heldBy, heldAt, isSpent, isNext, isLateNext, FlagsUnspent, Standing, Carried, Kept, NoneNew, HeldStill, AllStill}
+use Rattle.held.specs.Deciding.{heldBy, heldAt, isNext, isLateNext, FlagsUnspent, Standing, Carried, HeldKept, NoneNew, HeldStill, AllStill}
 use Rattle.held.proofs.Searching.{still-holds, any-by-one}
 use Rattle.held.proofs.Laws.{next-held}
 use Rattle.held.proofs.Deciding.{among, listed-free}
@@ -65,10 +65,10 @@ module _ (tables flags ledger nexts held marks : List ℕ) where
 module _ (g : List Instruction) (tables flags ledger : List ℕ) (k used n : ℕ) (nexts held marks : List ℕ) (right : Arities g tables) (grown : used ≤ n) (pos : 0 < k)
     (unspent : FlagsUnspent (flagsOf flags) ledger n) (c : Carried g tables ledger k used nexts held marks)
     (new : NoneNew g k ledger used n) (still : AllStill tables (flagsOf flags) ledger (flagsOf nexts) (flagsOf held) marks) where
-  listed : (i : ℕ) → i < n → getD (flagsOf nexts) i 0 ≡ 0 → isLateNext g k (tokenAt ledger i) ≡ true → isSpent (tokenAt ledger i .content) ≡ true
+  listed : (i : ℕ) → i < n → getD (flagsOf nexts) i 0 ≡ 0 → isLateNext g k (tokenAt ledger i) ≡ true → isSpentRecord (tokenAt ledger i .content) ≡ true
   listed i low none next = go (ltb i used) refl
     where
-      go : (b : Bool) → ltb i used ≡ b → isSpent (tokenAt ledger i .content) ≡ true
+      go : (b : Bool) → ltb i used ≡ b → isSpentRecord (tokenAt ledger i .content) ≡ true
       go true e = c .listed i (ltb-true i used e) none next
       go false e = let z : _≡_ {A = ℕ} 0 1 = ap bit (sym (new i (ltb-false i used e) low) ∙ next) in absurd (omega arith)
 
@@ -101,7 +101,7 @@ module _ (g : List Instruction) (tables flags ledger : List ℕ) (k used n : ℕ
           let both : (ltb i n && heldAt g k (flagsOf flags) ledger n i) ≡ true = rw (lt-ltb i n (omega (arith, was .inside))) (held-still i was (here .1)) in
           here .0 ∙ sym (ap bit both)
 
-  pub calm-kept : Kept g tables flags ledger k n nexts held marks
+  pub calm-kept : HeldKept g tables flags ledger k n nexts held marks
   calm-kept = record {
     carried = record {
       countedNexts = c .countedNexts;

@@ -24,8 +24,8 @@ ghost use Rattle.rules.specs.Held.{standsIn};
 ghost use Rattle.store_flags.specs.Flags.{flagsOf, Under, Counted};
 ghost use Rattle.store_flags.specs.Marks.{bit};
 ghost use Rattle.abstraction.specs.Tables.{Arities};
-ghost use Rattle.held.specs.Searching.{laterOf, Skips, PendingFrom, HolderFrom, Skipped, Marked};
-ghost use Rattle.held.specs.Deciding.{isLateNext, heldAt, ClearFrom, Listed, NewListed, Dropped, FlagsUnspent, Decided, AllStanding, LookedAt, Carried, Kept, NoneNew, HeldStill, AllStill};
+ghost use Rattle.held.specs.Searching.{laterOf, Skips, PendingFrom, HolderFrom, Skipped, MarkedPast};
+ghost use Rattle.held.specs.Deciding.{isLateNext, heldAt, ClearFrom, Listed, NewListed, Dropped, FlagsUnspent, HeldDecided, AllStanding, LookedAt, Carried, HeldKept, NoneNew, HeldStill, AllStill};
 
 // The code of NEXT.
 const NEXT: u8 = 7;
@@ -186,9 +186,16 @@ fn holds_now(
     marks: &mut [u16],
     i: usize,
 ) -> bool
-    requires { ⌜ Arities (graphOf (now graph)) (now tables) × (i < used) × (used ≤ length (now ledger) / tokenWidth) × (used ≤ 2048) × (0 < bound) × (bound < 65536) × Counted (now flags) × Marked (now tables) (now ledger) bound used (now marks) ⌝ }
+    requires { ⌜ Arities (graphOf (now graph)) (now tables)
+        × (i < used)
+        × (used ≤ length (now ledger) / tokenWidth)
+        × (used ≤ 2048)
+        × (0 < bound)
+        × (bound < 65536)
+        × Counted (now flags)
+        × MarkedPast (now tables) (now ledger) bound used (now marks) ⌝ }
     ensures { λ r. ⌜ r ≡ heldAt (graphOf (now (graph .entry))) bound (flagsOf (now (flags .entry))) (now (ledger .entry)) used i ⌝ }
-    ensures { λ _. ⌜ Marked (now (tables .entry)) (now (ledger .entry)) bound used (now (marks .exit)) ⌝ }
+    ensures { λ _. ⌜ MarkedPast (now (tables .entry)) (now (ledger .entry)) bound used (now (marks .exit)) ⌝ }
     ensures { λ r. ⌜ LookedAt (graphOf (now (graph .entry))) (now (ledger .entry)) bound used i r (now (marks .entry)) (now (marks .exit)) ⌝ }
 {
     if !store_flags::is_raised(flags, i) {
@@ -219,9 +226,21 @@ fn decide(
     held: &mut Flags,
     marks: &mut [u16],
 )
-    requires { ⌜ Arities (graphOf (now graph)) (now tables) × (used ≤ length (now ledger) / tokenWidth) × (used ≤ 2048) × (0 < bound) × (bound < 65536) × Counted (now flags) × Counted (now nexts) × Counted (now held) × ClearFrom used (flagsOf (now nexts)) × Under (flagsOf (now held)) (flagsOf (now nexts)) × Marked (now tables) (now ledger) bound used (now marks) × Listed (graphOf (now graph)) bound (flagsOf (now flags)) (flagsOf (now nexts)) (now ledger) used × AllStanding (graphOf (now graph)) (now ledger) bound used (flagsOf (now held)) (now marks) ⌝ }
-    ensures { λ _. ⌜ Decided (graphOf (now (graph .entry))) bound (now (flags .entry)) (now (held .exit)) (now (ledger .entry)) used ⌝ }
-    ensures { λ _. ⌜ Under (flagsOf (now (held .exit))) (flagsOf (now (nexts .entry))) × Marked (now (tables .entry)) (now (ledger .entry)) bound used (now (marks .exit)) ⌝ }
+    requires { ⌜ Arities (graphOf (now graph)) (now tables)
+        × (used ≤ length (now ledger) / tokenWidth)
+        × (used ≤ 2048)
+        × (0 < bound)
+        × (bound < 65536)
+        × Counted (now flags)
+        × Counted (now nexts)
+        × Counted (now held)
+        × ClearFrom used (flagsOf (now nexts))
+        × Under (flagsOf (now held)) (flagsOf (now nexts))
+        × MarkedPast (now tables) (now ledger) bound used (now marks)
+        × Listed (graphOf (now graph)) bound (flagsOf (now flags)) (flagsOf (now nexts)) (now ledger) used
+        × AllStanding (graphOf (now graph)) (now ledger) bound used (flagsOf (now held)) (now marks) ⌝ }
+    ensures { λ _. ⌜ HeldDecided (graphOf (now (graph .entry))) bound (now (flags .entry)) (now (held .exit)) (now (ledger .entry)) used ⌝ }
+    ensures { λ _. ⌜ Under (flagsOf (now (held .exit))) (flagsOf (now (nexts .entry))) × MarkedPast (now (tables .entry)) (now (ledger .entry)) bound used (now (marks .exit)) ⌝ }
     ensures { λ _. ⌜ AllStanding (graphOf (now (graph .entry))) (now (ledger .entry)) bound used (flagsOf (now (held .exit))) (now (marks .exit)) ⌝ }
 {
     let n = store_flags::count(nexts);
@@ -274,7 +293,10 @@ fn list_new(graph: &[u8], ledger: &[u8], used: usize, n: usize, bound: usize, ne
 // A record below n that is spent is listed no more.
 fn drop_spent(ledger: &[u8], n: usize, place: usize, nexts: &mut Flags, held: &mut Flags)
     requires { ⌜ (n ≤ length (now ledger) / tokenWidth) × (n ≤ 2048) × Counted (now nexts) × Counted (now held) ⌝ }
-    ensures { λ _. ⌜ Counted (now (nexts .exit)) × Counted (now (held .exit)) × Dropped (now (ledger .entry)) place (flagsOf (now (nexts .entry))) (flagsOf (now (held .entry))) (flagsOf (now (nexts .exit))) (flagsOf (now (held .exit))) ⌝ }
+    ensures { λ _. ⌜ Counted (now (nexts .exit))
+        × Counted (now (held .exit))
+        × Dropped (now (ledger .entry)) place (flagsOf (now (nexts .entry))) (flagsOf (now (held .entry))) (flagsOf (now (nexts .exit)))
+        (flagsOf (now (held .exit))) ⌝ }
 {
     if n <= place {
         return;
@@ -324,8 +346,14 @@ fn all_still(
     held: &Flags,
     marks: &[u16],
 ) -> bool
-    requires { ⌜ Counted (now flags) × Counted (now nexts) × Counted (now held) × (length (now marks) ≡ 4096) × ((i : ℕ) → getD (flagsOf (now held)) i 0 ≡ 1 → getD (now marks) i 0 < length (now ledger) / tokenWidth) ⌝ }
-    ensures { λ r. ⌜ (r ≡ true → AllStill (now (tables .entry)) (flagsOf (now (flags .entry))) (now (ledger .entry)) (flagsOf (now (nexts .entry))) (flagsOf (now (held .entry))) (now (marks .entry))) ⌝ }
+    requires { ⌜ Counted (now flags)
+        × Counted (now nexts)
+        × Counted (now held)
+        × (length (now marks) ≡ 4096)
+        × ((i : ℕ) → getD (flagsOf (now held)) i 0 ≡ 1 → getD (now marks) i 0 < length (now ledger) / tokenWidth) ⌝ }
+    ensures { λ r. ⌜ (r ≡ true
+        → AllStill (now (tables .entry)) (flagsOf (now (flags .entry))) (now (ledger .entry)) (flagsOf (now (nexts .entry)))
+        (flagsOf (now (held .entry))) (now (marks .entry))) ⌝ }
 {
     let n = store_flags::count(nexts);
     let mut k = 0;
@@ -356,8 +384,18 @@ pub fn calm(
     held: &Flags,
     marks: &[u16],
 ) -> bool
-    requires { ⌜ Arities (graphOf (now graph)) (now tables) × (used ≤ n) × (n ≤ length (now ledger) / tokenWidth) × (n ≤ 2048) × (0 < bound) × (bound < 65536) × Counted (now flags) × FlagsUnspent (flagsOf (now flags)) (now ledger) n × Carried (graphOf (now graph)) (now tables) (now ledger) bound used (now nexts) (now held) (now marks) ⌝ }
-    ensures { λ r. ⌜ (r ≡ true → Kept (graphOf (now (graph .entry))) (now (tables .entry)) (now (flags .entry)) (now (ledger .entry)) bound n (now (nexts .entry)) (now (held .entry)) (now (marks .entry))) ⌝ }
+    requires { ⌜ Arities (graphOf (now graph)) (now tables)
+        × (used ≤ n)
+        × (n ≤ length (now ledger) / tokenWidth)
+        × (n ≤ 2048)
+        × (0 < bound)
+        × (bound < 65536)
+        × Counted (now flags)
+        × FlagsUnspent (flagsOf (now flags)) (now ledger) n
+        × Carried (graphOf (now graph)) (now tables) (now ledger) bound used (now nexts) (now held) (now marks) ⌝ }
+    ensures { λ r. ⌜ (r ≡ true
+        → HeldKept (graphOf (now (graph .entry))) (now (tables .entry)) (now (flags .entry)) (now (ledger .entry)) bound n (now (nexts .entry))
+        (now (held .entry)) (now (marks .entry))) ⌝ }
 {
     if !none_new(graph, ledger, used, n, bound) {
         return false;
@@ -385,8 +423,16 @@ pub fn follow(
     held: &mut Flags,
     marks: &mut [u16],
 )
-    requires { ⌜ Arities (graphOf (now graph)) (now tables) × (used ≤ n) × (n ≤ length (now ledger) / tokenWidth) × (n ≤ 2048) × (0 < bound) × (bound < 65536) × Counted (now flags) × FlagsUnspent (flagsOf (now flags)) (now ledger) n × Carried (graphOf (now graph)) (now tables) (now ledger) bound used (now nexts) (now held) (now marks) ⌝ }
-    ensures { λ _. ⌜ Kept (graphOf (now (graph .entry))) (now (tables .entry)) (now (flags .entry)) (now (ledger .entry)) bound n (now (nexts .exit)) (now (held .exit)) (now (marks .exit)) ⌝ }
+    requires { ⌜ Arities (graphOf (now graph)) (now tables)
+        × (used ≤ n)
+        × (n ≤ length (now ledger) / tokenWidth)
+        × (n ≤ 2048)
+        × (0 < bound)
+        × (bound < 65536)
+        × Counted (now flags)
+        × FlagsUnspent (flagsOf (now flags)) (now ledger) n
+        × Carried (graphOf (now graph)) (now tables) (now ledger) bound used (now nexts) (now held) (now marks) ⌝ }
+    ensures { λ _. ⌜ HeldKept (graphOf (now (graph .entry))) (now (tables .entry)) (now (flags .entry)) (now (ledger .entry)) bound n (now (nexts .exit)) (now (held .exit)) (now (marks .exit)) ⌝ }
 {
     list_new(graph, ledger, used, n, bound, nexts);
     drop_spent(ledger, n, place, nexts, held);

@@ -8,10 +8,10 @@ ghost use mathlib.Core.Path.{_≡_};
 ghost use Prim.Native.Nat.{_/_, _≤_, _<_};
 ghost use lib.ListN.{length, replicate};
 ghost use Rattle.buffer.specs.Rows.{allRows, All};
-ghost use Rattle.record.specs.TokensAndTags.{decode};
+ghost use Rattle.record.specs.TokensAndTags.{decodeToken};
 ghost use Rattle.record.specs.Widths.{tokenWidth};
 ghost use Rattle.store.specs.Matching.{Matching};
-ghost use Rattle.load.specs.Loaded.{Proper, Alone, Loaded};
+ghost use Rattle.load.specs.Loaded.{ProperArrival, Alone, Loaded};
 
 // 01, "Firing": an accepted run first sets all cells absent. The bytes of an absent cell are zeros.
 pub fn clear(cells: &mut [u8])
@@ -33,7 +33,11 @@ pub fn inputs(
     ledger: &mut [u8],
     inputs: &[u8],
 ) -> usize
-    requires { ⌜ Matching (now tables) (now links) (now flags) (now ledger) 0 × (length (now inputs) / tokenWidth ≤ length (now ledger) / tokenWidth) × (length (now ledger) / tokenWidth ≤ 2048) × All (Proper (now tables)) (allRows tokenWidth decode (now inputs)) × Alone (now inputs) ⌝ }
+    requires { ⌜ Matching (now tables) (now links) (now flags) (now ledger) 0
+        × (length (now inputs) / tokenWidth ≤ length (now ledger) / tokenWidth)
+        × (length (now ledger) / tokenWidth ≤ 2048)
+        × All (ProperArrival (now tables)) (allRows tokenWidth decodeToken (now inputs))
+        × Alone (now inputs) ⌝ }
     ensures { λ r. ⌜ Loaded (now (tables .entry)) (now (links .exit)) (now (flags .exit)) (now (ledger .entry)) (now (ledger .exit)) (now (inputs .entry)) r ⌝ }
 {
     let n = inputs.len() / token::WIDTH;

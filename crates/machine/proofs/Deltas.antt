@@ -8,7 +8,7 @@ use Prim.Native.Nat.{ℕ, zero, suc, _<_}
 use native.Mathlib.Decide.{ℕ-discrete}
 use native.Mathlib.Omega.{arith}
 use Rattle.machine.specs.Machine.{Key, Content, live, spent, deferred, Cell, absent, waiting, present}
-use Rattle.machine.specs.Machine.{when, onOption, liveValue, cellRead, contentRead, Operands, allBelow, twoValues}
+use Rattle.machine.specs.Machine.{when, onOption, liveValue, cellRead, contentRead, Operands, allThere, twoValues}
 
 -- ---- small tools
 
@@ -169,7 +169,7 @@ module _ {W : Type 0} where
   bothParts true x e = (refl, e)
   bothParts false x e = noneSome e
 
-  pub belowAt : (f : ℕ → Option W) (n q : ℕ) → allBelow f n ≡ true → q < n → (v : W) × (f q ≡ some v)
+  pub belowAt : (f : ℕ → Option W) (n q : ℕ) → allThere f n ≡ true → q < n → (v : W) × (f q ≡ some v)
   belowAt f zero q e h = absurd (omega arith)
   belowAt f (suc n) q e h = go (f n) refl e (λ r. belowAt f n q r)
     where
@@ -177,11 +177,11 @@ module _ {W : Type 0} where
       here v g rec (yes p) = (v, ap f p ∙ g)
       here v g rec (no ne) = rec (omega arith)
 
-      go : (x : Option W) → f n ≡ x → onOption x false (λ v. allBelow f n) ≡ true → (allBelow f n ≡ true → q < n → (u : W) × (f q ≡ some u)) → (u : W) × (f q ≡ some u)
+      go : (x : Option W) → f n ≡ x → onOption x false (λ v. allThere f n) ≡ true → (allThere f n ≡ true → q < n → (u : W) × (f q ≡ some u)) → (u : W) × (f q ≡ some u)
       go none g r rec = falseTrue r
       go (some v) g r rec = here v g (rec r) (ℕ-discrete q n)
 
-  pub belowAll : (f : ℕ → Option W) (n : ℕ) → ((q : ℕ) → q < n → (v : W) × (f q ≡ some v)) → allBelow f n ≡ true
+  pub belowAll : (f : ℕ → Option W) (n : ℕ) → ((q : ℕ) → q < n → (v : W) × (f q ≡ some v)) → allThere f n ≡ true
   belowAll f zero h = refl
   belowAll f (suc n) h = let (v, e) = h n (omega arith) in rw e (belowAll f n (λ q l. h q (omega arith)))
 

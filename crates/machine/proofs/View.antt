@@ -11,7 +11,7 @@ use lib.Dec.{ltb}
 use borrow.Author.Tests.{ltb-true, lt-ltb}
 use Rattle.machine.specs.Machine.{Key, Content, live, Cell, refuse, send, read, write, Machine}
 use Rattle.machine.specs.Machine.{when, liveValue, Operands, twoValues}
-use Rattle.machine.specs.Machine.{EffectOf, Contents, sameKey, at, operandOf, liveAt, allLive, operands, spendAt, among}
+use Rattle.machine.specs.Machine.{EffectOf, Contents, sameKey, at, isOperandOf, liveAt, allLive, operands, spendAt, among}
 use Rattle.machine.specs.Orders.{Live}
 use Rattle.machine.proofs.Swap.{Laws}
 use Rattle.machine.proofs.Deltas.{bothNone, Delta, cellSwap, notBefore, notAfter, later, settleSwap, belowAt, positive, twoThere}
@@ -90,7 +90,7 @@ module _ (M : Machine) where
 
   -- ---- operands of a tag
 
-  notBoth : (a b : M .Tag) (k : Key (M .Tag)) → ¬ (a ≡ b) → operandOf M a k ≡ true → operandOf M b k ≡ false
+  notBoth : (a b : M .Tag) (k : Key (M .Tag)) → ¬ (a ≡ b) → isOperandOf M a k ≡ true → isOperandOf M b k ≡ false
   notBoth a b k ne = go (M .same a (k .tag)) (M .same b (k .tag)) (ltb (k .port) (M .arity a)) (ltb (k .port) (M .arity b))
     where
       go : (d : Dec (a ≡ k .tag)) (e : Dec (b ≡ k .tag)) (m n : Bool) → when d m false ≡ true → when e n false ≡ false
@@ -98,24 +98,24 @@ module _ (M : Machine) where
       go (yes p) (no q) m n h = refl
       go (no p) e m n h = falseTrue h
 
-  pub operandKey : (a : M .Tag) (k : Key (M .Tag)) → operandOf M a k ≡ true → (a ≡ k .tag) × (k .port < M .arity a)
+  pub operandKey : (a : M .Tag) (k : Key (M .Tag)) → isOperandOf M a k ≡ true → (a ≡ k .tag) × (k .port < M .arity a)
   operandKey a k = go (M .same a (k .tag))
     where
       go : (d : Dec (a ≡ k .tag)) → when d (ltb (k .port) (M .arity a)) false ≡ true → (a ≡ k .tag) × (k .port < M .arity a)
       go (yes p) h = (p, ltb-true (k .port) (M .arity a) h)
       go (no n) h = falseTrue h
 
-  pub operandAt : (a : M .Tag) (q : ℕ) → q < M .arity a → operandOf M a (at M a q) ≡ true
+  pub operandAt : (a : M .Tag) (q : ℕ) → q < M .arity a → isOperandOf M a (at M a q) ≡ true
   operandAt a q h = when-yes (M .same a a) _ _ refl ∙ lt-ltb q (M .arity a) h
 
-  pub operandLive : (tok : Contents M) (a : M .Tag) (p : Operands (M .Value)) (k : Key (M .Tag)) → operands M tok a ≡ some p → operandOf M a k ≡ true → Live (tok k)
+  pub operandLive : (tok : Contents M) (a : M .Tag) (p : Operands (M .Value)) (k : Key (M .Tag)) → operands M tok a ≡ some p → isOperandOf M a k ≡ true → Live (tok k)
   operandLive tok a p k e h =
       let (t, l) = operandKey a k h in
       let (v, f) = belowAt (liveAt M tok a) (M .arity a) (k .port) (bothParts (allLive M tok a) _ e .0) l in
       (v, subst (λ j. tok j ≡ some (live v)) (keyPath t refl) (liveOf (tok (at M a (k .port))) v f))
 
   pub operandKept : (tok tok′ : Contents M) (a : M .Tag) (p : Operands (M .Value)) → operands M tok a ≡ some p
-      → ((k : Key (M .Tag)) (u : M .Value) → operandOf M a k ≡ true → tok k ≡ some (live u) → tok′ k ≡ some (live u)) → operands M tok′ a ≡ some p
+      → ((k : Key (M .Tag)) (u : M .Value) → isOperandOf M a k ≡ true → tok k ≡ some (live u) → tok′ k ≡ some (live u)) → operands M tok′ a ≡ some p
   operandKept tok tok′ a p e h = rw all′ (twoKept (M .arity a) (liveAt M tok a 0) (liveAt M tok a 1) (liveAt M tok′ a 0) (liveAt M tok′ a 1) (parts .1) (kept 0) (kept 1))
     where
       parts : (allLive M tok a ≡ true) × (twoValues (M .arity a) (liveAt M tok a 0) (liveAt M tok a 1) ≡ some p)
@@ -127,7 +127,7 @@ module _ (M : Machine) where
       all′ : allLive M tok′ a ≡ true
       all′ = belowAll (liveAt M tok′ a) (M .arity a) (λ q l. let (v, f) = belowAt (liveAt M tok a) (M .arity a) q (parts .0) l in (v, kept q l v f))
 
-  pub operandZero : (tok : Contents M) (a : M .Tag) (p : Operands (M .Value)) → operands M tok a ≡ some p → operandOf M a (at M a 0) ≡ true
+  pub operandZero : (tok : Contents M) (a : M .Tag) (p : Operands (M .Value)) → operands M tok a ≡ some p → isOperandOf M a (at M a 0) ≡ true
   operandZero tok a p e = operandAt a 0 (positive (M .arity a) _ _ (bothParts (allLive M tok a) _ e .1))
 
   -- all operands are live, and there is one at least
@@ -138,7 +138,7 @@ module _ (M : Machine) where
   operandsAll tok a p e = let (l, f) = bothParts (allLive M tok a) _ e in (positive (M .arity a) _ _ f, l)
 
   -- what a firing leaves of another's operands
-  keptBy : (a b : M .Tag) (d : DeltaOf) (s : View) (k : Key (M .Tag)) (u : M .Value) → ¬ (a ≡ b) → operandOf M b k ≡ true → s .tok k ≡ some (live u) → apply a d s .tok k ≡ some (live u)
+  keptBy : (a b : M .Tag) (d : DeltaOf) (s : View) (k : Key (M .Tag)) (u : M .Value) → ¬ (a ≡ b) → isOperandOf M b k ≡ true → s .tok k ≡ some (live u) → apply a d s .tok k ≡ some (live u)
   keptBy a b d s k u ne h e = rw (e, notBoth b a k (λ q. ne (sym q)) h)
 
   persists : {s x : View} {a b : M .Tag} → ¬ (a ≡ b) → Step s a x → Ready s b → Ready x b
@@ -151,7 +151,7 @@ module _ (M : Machine) where
   -- ---- the square: a fires, then b; b could have fired first
 
   module _ (s : View) (a b : M .Tag) (da db : DeltaOf) (ne : ¬ (a ≡ b))
-      (liveA : (k : Key (M .Tag)) → operandOf M a k ≡ true → Live (s .tok k)) (liveB : (k : Key (M .Tag)) → operandOf M b k ≡ true → Live (s .tok k))
+      (liveA : (k : Key (M .Tag)) → isOperandOf M a k ≡ true → Live (s .tok k)) (liveB : (k : Key (M .Tag)) → isOperandOf M b k ≡ true → Live (s .tok k))
       (pa : Allowed s da) (pb : Allowed (apply a da s) db) where
     cellsSwap : (c : ℕ) → cellAfter db (cellAfter da (s .cell)) c ≡ cellAfter da (cellAfter db (s .cell)) c
     cellsSwap c = cellSwap (da .writes c) (db .writes c) (da .reads c) (db .reads c) (s .cell c) (pb .unwritten c)
@@ -187,10 +187,10 @@ module _ (M : Machine) where
     allowedA : Allowed (apply b db s) da
     allowedA = record { room = let h : s .used + length (da .keys) + length (db .keys) ≤ M .capacity = pb .room in omega arith; fresh = freshA; unwritten = unwrittenA }
 
-    idle : (t : M .Tag) → ((k : Key (M .Tag)) → operandOf M t k ≡ true → Live (s .tok k)) → (k : Key (M .Tag)) → s .tok k ≡ none → operandOf M t k ≡ false
-    idle t l k e = go (operandOf M t k) refl
+    idle : (t : M .Tag) → ((k : Key (M .Tag)) → isOperandOf M t k ≡ true → Live (s .tok k)) → (k : Key (M .Tag)) → s .tok k ≡ none → isOperandOf M t k ≡ false
+    idle t l k e = go (isOperandOf M t k) refl
       where
-        go : (q : Bool) → operandOf M t k ≡ q → operandOf M t k ≡ false
+        go : (q : Bool) → isOperandOf M t k ≡ q → isOperandOf M t k ≡ false
         go true f = noneSome (sym e ∙ l k f .1)
         go false f = f
 
@@ -198,9 +198,9 @@ module _ (M : Machine) where
     sameLive k y e (u, f) = (u, cc)
 
     contentSwap : (k : Key (M .Tag)) (y : Content (M .Value)) → s .tok k ≡ some y → change b db k (change a da k y) ≡ change a da k (change b db k y)
-    contentSwap k y e = go (operandOf M a k) (operandOf M b k) refl refl
+    contentSwap k y e = go (isOperandOf M a k) (isOperandOf M b k) refl refl
       where
-        go : (p q : Bool) → operandOf M a k ≡ p → operandOf M b k ≡ q → change b db k (change a da k y) ≡ change a da k (change b db k y)
+        go : (p q : Bool) → isOperandOf M a k ≡ p → isOperandOf M b k ≡ q → change b db k (change a da k y) ≡ change a da k (change b db k y)
         go true true f g = falseTrue (sym (notBoth a b k ne f) ∙ g)
         go true false f g = let (u, h) = sameLive k y e (liveA k f) in rw (f, g, h)
         go false true f g = let (u, h) = sameLive k y e (liveB k g) in rw (f, g, h)
@@ -237,10 +237,10 @@ module _ (M : Machine) where
       mb : DeltaOf
       mb = moved .delta
 
-      liveA : (k : Key (M .Tag)) → operandOf M a k ≡ true → Live (s .tok k)
+      liveA : (k : Key (M .Tag)) → isOperandOf M a k ≡ true → Live (s .tok k)
       liveA k = operandLive (s .tok) a (sa .ops) k (sa .given)
 
-      liveB : (k : Key (M .Tag)) → operandOf M b k ≡ true → Live (s .tok k)
+      liveB : (k : Key (M .Tag)) → isOperandOf M b k ≡ true → Live (s .tok k)
       liveB k = operandLive (s .tok) b p k e
 
       kept : operands M (apply a da s .tok) b ≡ some p

@@ -7,8 +7,8 @@ ghost use mathlib.Core.Path.{_≡_};
 ghost use Prim.Native.Nat.{_≤_};
 ghost use lib.ListN.{length};
 ghost use Rattle.record.specs.TokensAndTags.{mostTokens, capacityOf};
-ghost use Rattle.text.specs.Text.{printedOf, outAfter};
-ghost use Rattle.printing.specs.PrintedRun.{textOf, PrintedRun};
+ghost use Rattle.text.specs.Text.{printedOf, printedOut};
+ghost use Rattle.printing.specs.PrintedRun.{textOfRun, PrintedRun};
 
 const BUDGET: u16 = token::MOST as u16;
 
@@ -22,8 +22,8 @@ fn print_left(
     out: &mut [u8],
 ) -> Printed
     requires { ⌜ (answer .tokens ≤ mostTokens) × (answer .tokens ≤ capacityOf (length (now ledger))) × (length (now sorted) ≡ length (now ledger)) ⌝ }
-    ensures { λ r. ⌜ r ≡ printedOf (textOf answer (now (ledger .entry)) (now (cells .entry))) (now (out .entry)) ⌝ }
-    ensures { λ _. ⌜ now (out .exit) ≡ outAfter (textOf answer (now (ledger .entry)) (now (cells .entry))) (now (out .entry)) ⌝ }
+    ensures { λ r. ⌜ r ≡ printedOf (textOfRun answer (now (ledger .entry)) (now (cells .entry))) (now (out .entry)) ⌝ }
+    ensures { λ _. ⌜ now (out .exit) ≡ printedOut (textOfRun answer (now (ledger .entry)) (now (cells .entry))) (now (out .entry)) ⌝ }
 {
     let used = answer.tokens * token::WIDTH;
     listing::list(&ledger[0..used], &mut sorted[0..used]);

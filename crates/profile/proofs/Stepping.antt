@@ -21,7 +21,7 @@ use Rattle.record.specs.Widths.{tokenWidth, cellWidth}
 use Rattle.buffer.proofs.Tables.{length-rows, getD-rows}
 use Rattle.machine.specs.Machine.{Machine, State, Ledger, Activity, live, spent, deferred, Content, refused, FiredOf, ending, enabled, fire, fired, notFired, end}
 use Rattle.machine.specs.Orders.{Lawful, Good}
-use Rattle.machine.specs.Steps.{Profile, isUnspent, unspentIn, endsHere, afterStep, tried, inTurn, profile}
+use Rattle.machine.specs.Steps.{Profile, isUnspent, unspentIn, endsHere, afterStep, tried, firesInTurn, profile}
 use Rattle.machine.specs.Sequences.{Fires}
 use Rattle.machine.specs.Choosers.{placesOf}
 use Rattle.machine.proofs.Sequences.{joined}
@@ -36,19 +36,19 @@ use Rattle.rules.proofs.Lawful.{lawful}
 use Rattle.store_flags.specs.Flags.{places, flagsOf}
 use Rattle.store_chains.proofs.Index.{and-right}
 use Rattle.store.proofs.Laws.{matching-places, matching-enabled-below, matching-leads, matching-room}
-use Rattle.store_enabled.specs.Enabled.{arityOf, allLive, placeOf, leads, enabledPlaces}
+use Rattle.store_enabled.specs.Enabled.{arityOf, operandsLive, earliestOf, leadsIn, enabledPlaces}
 use Rattle.abstraction.specs.States.{noToken, stateHeld, OnPorts}
 use Rattle.abstraction.specs.Tables.{Arities, arraysIn}
 use Rattle.abstraction.proofs.Arities.{arity-small}
 use Rattle.abstraction.proofs.Enabled.{held-enabled}
-use Rattle.ending.specs.Endings.{EndsAs}
+use Rattle.ending.specs.Endings.{EndsWith}
 use Rattle.fire_outputs.specs.Outputs.{cellsIn}
-use Rattle.fire.specs.Running.{machineFor, stateIn, askedIn, Running, Prepared}
+use Rattle.fire.specs.Running.{machineOver, stateIn, askedIn, Running, Prepared}
 use Rattle.fire.specs.Running as Firing
 use Rattle.fire.proofs.Effects.{fires-asked}
 use Rattle.fire.proofs.Place.{on-ports}
 use Rattle.engine.proofs.Looping.{Underway, none-fired, as-lent, went-on}
-use Rattle.profile.specs.Steps.{OneOrTwo, PlacesIn, unspentAt, Went, Stepped, Halted, AllFired, LastAs}
+use Rattle.profile.specs.Steps.{OneOrTwo, PlacesIn, unspentAt, WentBy, SteppedWhole, ProfileHalted, AllFired, LastAs}
 
 -- ---- live and deferred tokens
 
@@ -62,10 +62,10 @@ unspent-few M [] = omega arith
 unspent-few M (t ∷ ts) = omega (arith, unspent-few M ts, one-at-most (t .content))
 
 pub held-size : (used : ℕ) (ledger : List ℕ) → length (map tokenHeld (tokens used ledger)) ≡ used
-held-size used ledger = length-map (tokens used ledger) tokenHeld ∙ length-rows tokenWidth Tokens.decode used ledger
+held-size used ledger = length-map (tokens used ledger) tokenHeld ∙ length-rows tokenWidth Tokens.decodeToken used ledger
 
 pub unspent-below : {g : List Instruction} {tables links flags ledger cells : List ℕ} {used live : ℕ} → Running g tables links flags ledger cells used → live ≡ unspentAt g tables ledger cells used → live ≤ used
-unspent-below {g} {tables} {ledger = ledger} {cells = cells} {used = used} now e = omega (arith, unspent-few (machineFor g tables ledger cells) (stateIn ledger cells used .tokens), held-size used ledger)
+unspent-below {g} {tables} {ledger = ledger} {cells = cells} {used = used} now e = omega (arith, unspent-few (machineOver g tables ledger cells) (stateIn ledger cells used .tokens), held-size used ledger)
 
 -- ---- what is enabled
 
@@ -95,7 +95,7 @@ module _ (g : List Instruction) (table : List NamedArray) (capacity count : ℕ)
 
 -- ---- no record left
 
-pub last-ended : (tables : List ℕ) (ts : List Record.Token) → length (enabledPlaces tables ts) ≡ 0 → (o : AnswerOutcome.Outcome) → EndsAs o tables ts → LastAs o tables ts
+pub last-ended : (tables : List ℕ) (ts : List Record.Token) → length (enabledPlaces tables ts) ≡ 0 → (o : AnswerOutcome.Outcome) → EndsWith o tables ts → LastAs o tables ts
 last-ended tables ts z o e g right ports table capacity count law cs f =
     let M₁ = machineOf g table capacity count in
     (ending M₁ (stateHeld ts cs), sym (e g right table capacity count cs), profileRests M₁ law ProfileFull 0 f (stateHeld ts cs) (none-enabled g table capacity count tables ts cs right ports z))
@@ -109,24 +109,24 @@ last-full tables ts n g right ports table capacity count law cs f = (refused Pro
 pub record Standing (tables ledger : List ℕ) (used place : ℕ) : Type 0 where
   pub below : place < used
   pub room : place < length ledger / tokenWidth
-  pub leading : leads tables (tokens used ledger) place (tokenAt ledger place) ≡ true
+  pub leading : leadsIn tables (tokens used ledger) place (tokenAt ledger place) ≡ true
   pub arity : OneOrTwo (arityOf tables (tokenAt ledger place .tag))
 
 -- after k of a step's activities, from a ledger and cells as lent
 pub record Midway (g : List Instruction) (tables ledger₀ cells₀ : List ℕ) (start count : ℕ) (from links flags ledger cells : List ℕ) (used k spent : ℕ) : Type 0 where
   pub log : List Tag
-  pub fires : Fires (machineFor g tables ledger₀ cells₀) (stateIn ledger₀ cells₀ start) log (stateIn ledger cells used)
+  pub fires : Fires (machineOver g tables ledger₀ cells₀) (stateIn ledger₀ cells₀ start) log (stateIn ledger cells used)
   pub counted : length log ≡ k
   pub few : spent ≤ 2 * k
-  pub unspent : unspentIn (machineFor g tables ledger₀ cells₀) (stateIn ledger cells used .tokens) + spent ≡ unspentAt g tables ledger₀ cells₀ start + (used - start)
+  pub unspent : unspentIn (machineOver g tables ledger₀ cells₀) (stateIn ledger cells used .tokens) + spent ≡ unspentAt g tables ledger₀ cells₀ start + (used - start)
   pub under : Underway g ledger₀ cells₀ start tables links flags ledger cells used
   -- those that are left
   pub more : List (Activity Tag)
-  pub waiting : Waiting (machineFor g tables ledger₀ cells₀) more (stateIn ledger cells used)
+  pub waiting : Waiting (machineOver g tables ledger₀ cells₀) more (stateIn ledger cells used)
   pub size : length more + k ≡ count
-  pub at : (j : ℕ) → j < length more → getD (placesOf (machineFor g tables ledger₀ cells₀) more) j 0 ≡ getD from (k + j) 0
-  pub toDo : (f : ℕ) (next : ℕ → State Tag ℤ → Profile Refusal Tag ℤ) → inTurn (machineFor g tables ledger₀ cells₀) (enabled (machineFor g tables ledger₀ cells₀) (stateIn ledger₀ cells₀ start)) f (stateIn ledger₀ cells₀ start) next
-      ≡ inTurn (machineFor g tables ledger₀ cells₀) more (f + k) (stateIn ledger cells used) next
+  pub at : (j : ℕ) → j < length more → getD (placesOf (machineOver g tables ledger₀ cells₀) more) j 0 ≡ getD from (k + j) 0
+  pub toDo : (f : ℕ) (next : ℕ → State Tag ℤ → Profile Refusal Tag ℤ) → firesInTurn (machineOver g tables ledger₀ cells₀) (enabled (machineOver g tables ledger₀ cells₀) (stateIn ledger₀ cells₀ start)) f (stateIn ledger₀ cells₀ start) next
+      ≡ firesInTurn (machineOver g tables ledger₀ cells₀) more (f + k) (stateIn ledger cells used) next
 
 -- the first of these activities stands at its place
 pub record Next (tables : List ℕ) (more : List (Activity Tag)) (ledger : List ℕ) (used place : ℕ) : Type 0 where
@@ -142,8 +142,8 @@ among-map f (p ∷ l) a m = go (List·Memᴰ·cases-cons m) (λ h. among-map f l
     go (inl e) rec = (0, omega arith, e)
     go (inr h) rec = let (j, lt, e) = rec h in (suc j, omega arith, e)
 
-live-some : (n : ℕ) (ts : List Record.Token) (τ : Tag) → allLive n ts τ ≡ true → 0 < n
-unfolding allLive
+live-some : (n : ℕ) (ts : List Record.Token) (τ : Tag) → operandsLive n ts τ ≡ true → 0 < n
+unfolding operandsLive
 live-some zero ts τ e = let z : _≡_ {A = ℕ} 0 1 = cc in absurd (omega arith)
 live-some (suc n) ts τ e = omega arith
 
@@ -153,7 +153,7 @@ module _ (graph : List ℕ) {tables links₀ flags₀ ledger₀ cells₀ : List 
   g = graphOf graph
 
   abbrev M₀ : Machine
-  M₀ = machineFor g tables ledger₀ cells₀
+  M₀ = machineOver g tables ledger₀ cells₀
 
   abbrev s₀ : State Tag ℤ
   s₀ = stateIn ledger₀ cells₀ start
@@ -181,8 +181,8 @@ module _ (graph : List ℕ) {tables links₀ flags₀ ledger₀ cells₀ : List 
   acts-all count e = e ∙ ap length (sym places-here) ∙ length-map acts (λ (a : Activity Tag). a .place)
 
   -- nothing is enabled
-  pub step-none : (count : ℕ) → count ≡ length (places (flagsOf flags₀)) → count ≡ 0 → (o : AnswerOutcome.Outcome) → EndsAs o tables (tokens start ledger₀)
-      → Halted o g tables links₀ flags₀ ledger₀ cells₀ 0 start start ledger₀ cells₀
+  pub step-none : (count : ℕ) → count ≡ length (places (flagsOf flags₀)) → count ≡ 0 → (o : AnswerOutcome.Outcome) → EndsWith o tables (tokens start ledger₀)
+      → ProfileHalted o g tables links₀ flags₀ ledger₀ cells₀ 0 start start ledger₀ cells₀
   step-none count e z o said = record {
     went = record { log = []; fires = refl; counted = refl; running = now₀; grown = omega arith; size = refl; rest = refl; cellSize = refl };
     outcome = ending M₀ s₀;
@@ -197,11 +197,11 @@ module _ (graph : List ℕ) {tables links₀ flags₀ ledger₀ cells₀ : List 
 
   -- a step of the machine is its activities in turn
   by-turns : (left f : ℕ) → 0 < length acts
-      → profile M₀ ProfileFull (suc left) f s₀ ≡ inTurn M₀ acts f s₀ (λ n x. afterStep M₀ (record { firings = length acts; unspent = unspentIn M₀ (x .tokens) }) (profile M₀ ProfileFull left n x))
+      → profile M₀ ProfileFull (suc left) f s₀ ≡ firesInTurn M₀ acts f s₀ (λ n x. afterStep M₀ (record { firings = length acts; unspent = unspentIn M₀ (x .tokens) }) (profile M₀ ProfileFull left n x))
   by-turns left f h = go acts refl h
     where
       go : (l : List (Activity Tag)) → acts ≡ l → 0 < length l
-          → profile M₀ ProfileFull (suc left) f s₀ ≡ inTurn M₀ l f s₀ (λ n x. afterStep M₀ (record { firings = length l; unspent = unspentIn M₀ (x .tokens) }) (profile M₀ ProfileFull left n x))
+          → profile M₀ ProfileFull (suc left) f s₀ ≡ firesInTurn M₀ l f s₀ (λ n x. afterStep M₀ (record { firings = length l; unspent = unspentIn M₀ (x .tokens) }) (profile M₀ ProfileFull left n x))
       go [] e h = absurd (omega arith)
       go (a ∷ more) e h = profileStep M₀ law ProfileFull left f s₀ a more e
 
@@ -225,7 +225,7 @@ module _ (graph : List ℕ) {tables links₀ flags₀ ledger₀ cells₀ : List 
       waiting = atStart M₀ s₀;
       size = omega (arith, acts-all count (w .counted));
       at = λ j h. let z : 0 + j ≡ j = omega arith in ap (λ (l : List ℕ). getD l j 0) places-here ∙ sym (rw z (w .written j (omega (arith, acts-all count (w .counted), h))));
-      toDo = λ f go. let z : f ≡ f + 0 = omega arith in ap (λ (n : ℕ). inTurn M₀ acts n s₀ go) z;
+      toDo = λ f go. let z : f ≡ f + 0 = omega arith in ap (λ (n : ℕ). firesInTurn M₀ acts n s₀ go) z;
     }
 
     module _ {links flags ledger cells : List ℕ} {used k spent : ℕ} (m : Midway g tables ledger₀ cells₀ start count from links flags ledger cells used k spent) where
@@ -245,8 +245,8 @@ module _ (graph : List ℕ) {tables links₀ flags₀ ledger₀ cells₀ : List 
           let at : a .place ≡ p = ap (λ (b : Activity Tag). b .place) e in
           let low = matching-enabled-below (run .matching) j lt in
           let lead = matching-leads (run .matching) j lt in
-          let tag : getD ts p noToken .tag ≡ tokenAt ledger p .tag = ap (λ (t : Record.Token). t .tag) (getD-rows tokenWidth Tokens.decode used p ledger noToken low) in
-          let on = and-right (eqb (placeOf ts (tokenAt ledger p .tag)) p) _ lead in (
+          let tag : getD ts p noToken .tag ≡ tokenAt ledger p .tag = ap (λ (t : Record.Token). t .tag) (getD-rows tokenWidth Tokens.decodeToken used p ledger noToken low) in
+          let on = and-right (eqb (earliestOf ts (tokenAt ledger p .tag)) p) _ lead in (
             subst (λ (q : ℕ). Standing tables ledger used q) (sym at) (record { below = low; room = omega (arith, low, matching-room (run .matching)); leading = lead; arity = (live-some _ ts _ on, omega (arith, ready .aritiesRight (tokenAt ledger p .tag), arity-small g (tokenAt ledger p .tag))) }),
             ap (λ (b : Activity Tag). b .tag) e ∙ tag ∙ ap (λ (q : ℕ). tokenAt ledger q .tag) (sym at),
           )
@@ -266,7 +266,7 @@ module _ (graph : List ℕ) {tables links₀ flags₀ ledger₀ cells₀ : List 
                 standing = subst (λ (q : ℕ). Standing tables ledger used q) here s;
               }
 
-      went-so : {links′ flags′ ledger′ cells′ : List ℕ} → Running g tables links′ flags′ ledger′ cells′ used → ledger′ ≡ ledger → cells′ ≡ cells → Went g tables links′ flags′ ledger′ cells′ k used start ledger₀ cells₀
+      went-so : {links′ flags′ ledger′ cells′ : List ℕ} → Running g tables links′ flags′ ledger′ cells′ used → ledger′ ≡ ledger → cells′ ≡ cells → WentBy g tables links′ flags′ ledger′ cells′ k used start ledger₀ cells₀
       went-so r l c = record {
         log = m .log;
         fires = subst (λ (y : State Tag ℤ). Fires M₀ s₀ (m .log) y) (λ i. stateIn (sym l i) (sym c i) used) (m .fires);
@@ -287,7 +287,7 @@ module _ (graph : List ℕ) {tables links₀ flags₀ ledger₀ cells₀ : List 
             went = went-so (m .under .running) refl refl;
             unspentLeft = omega (arith, m .unspent, same);
             goesOn = λ left f.
-                by-turns left f (some-enabled some) ∙ m .toDo f (next left) ∙ ap (λ (l : List (Activity Tag)). inTurn M₀ l (f + k) x (next left)) (none-left (m .more) (omega (arith, m .size, end′)))
+                by-turns left f (some-enabled some) ∙ m .toDo f (next left) ∙ ap (λ (l : List (Activity Tag)). firesInTurn M₀ l (f + k) x (next left)) (none-left (m .more) (omega (arith, m .size, end′)))
                 ∙ (λ i. afterStep M₀ (record { firings = size i; unspent = same i }) (profile M₀ ProfileFull left (f + k) x));
           }
         where
@@ -302,7 +302,7 @@ module _ (graph : List ℕ) {tables links₀ flags₀ ledger₀ cells₀ : List 
         fired-here : {links′ flags′ ledger′ cells′ : List ℕ} {tokens′ : ℕ} → Firing.Went g τ (askedIn g tables ledger cells used τ) tables links′ flags′ ledger′ cells′ tokens′ used ledger cells → fire M₀ x τ ≡ fired (stateIn ledger′ cells′ tokens′)
         fired-here {ledger′ = ledger′} {cells′ = cells′} {tokens′ = tokens′} d =
             as-lent g ledger₀ cells₀ start tables (m .under) (λ capacity cellCount. fire (machineOf g (arraysIn tables) capacity cellCount) x τ ≡ fired (stateIn ledger′ cells′ tokens′))
-            (fires-asked (machineFor g tables ledger cells) x τ ∙ d .step)
+            (fires-asked (machineOver g tables ledger cells) x τ ∙ d .step)
 
         -- it fired
         pub fired-on : {links′ flags′ ledger′ cells′ : List ℕ} {tokens′ one : ℕ} → one ≡ arityOf tables τ → Firing.Went g τ (askedIn g tables ledger cells used τ) tables links′ flags′ ledger′ cells′ tokens′ used ledger cells
@@ -329,30 +329,30 @@ module _ (graph : List ℕ) {tables links₀ flags₀ ledger₀ cells₀ : List 
                   ap (λ (l : List (Activity Tag)). getD (placesOf M₀ l) (suc j) 0) (sym (n .split)) ∙ m .at (suc j) (omega (arith, ap length (n .split), h)) ∙ ap (λ (i : ℕ). getD from i 0) z;
               toDo = λ f go.
                   let z : suc (f + k) ≡ f + (k + 1) = omega arith in
-                  m .toDo f go ∙ ap (λ (l : List (Activity Tag)). inTurn M₀ l (f + k) x go) (n .split) ∙ ap (λ (q : FiredOf M₀). tried M₀ (f + k) x a q (λ u. inTurn M₀ (n .after) (suc (f + k)) u go)) e ∙ ap (λ (i : ℕ). inTurn M₀ (n .after) i y go) z;
+                  m .toDo f go ∙ ap (λ (l : List (Activity Tag)). firesInTurn M₀ l (f + k) x go) (n .split) ∙ ap (λ (q : FiredOf M₀). tried M₀ (f + k) x a q (λ u. firesInTurn M₀ (n .after) (suc (f + k)) u go)) e ∙ ap (λ (i : ℕ). firesInTurn M₀ (n .after) i y go) z;
             }
 
         -- it was refused
         pub cut-here : {links′ flags′ ledger′ cells′ : List ℕ} {r : Refusal} → 0 < count → Firing.Stopped r g τ (askedIn g tables ledger cells used τ) tables links′ flags′ ledger′ cells′ used ledger cells
-            → Halted (Outcomes.Refused r place) g tables links′ flags′ ledger′ cells′ k used start ledger₀ cells₀
+            → ProfileHalted (Outcomes.Refused r place) g tables links′ flags′ ledger′ cells′ k used start ledger₀ cells₀
         cut-here {ledger′ = ledger′} {cells′ = cells′} {r = r} some d =
             let a : Activity Tag = record { place = place; tag = τ } in
-            let e : fire M₀ x τ ≡ notFired r = as-lent g ledger₀ cells₀ start tables (m .under) (λ capacity cellCount. fire (machineOf g (arraysIn tables) capacity cellCount) x τ ≡ notFired r) (fires-asked (machineFor g tables ledger cells) x τ ∙ d .step) in
+            let e : fire M₀ x τ ≡ notFired r = as-lent g ledger₀ cells₀ start tables (m .under) (λ capacity cellCount. fire (machineOf g (arraysIn tables) capacity cellCount) x τ ≡ notFired r) (fires-asked (machineOver g tables ledger cells) x τ ∙ d .step) in
             let same : x ≡ stateIn ledger′ cells′ used = λ i. stateIn (sym (d .sameLedger) i) (sym (d .sameCells) i) used in
             record {
               went = went-so (d .running) (d .sameLedger) (d .sameCells);
               outcome = refused r place;
               told = refl;
-              ends = λ left f. by-turns left f (some-enabled some) ∙ m .toDo f (next left) ∙ ap (λ (l : List (Activity Tag)). inTurn M₀ l (f + k) x (next left)) (n .split)
-                  ∙ ap (λ (q : FiredOf M₀). tried M₀ (f + k) x a q (λ u. inTurn M₀ (n .after) (suc (f + k)) u (next left))) e ∙ ap (λ (u : State Tag ℤ). endsHere M₀ (end M₀ (refused r place) (f + k) u)) same;
+              ends = λ left f. by-turns left f (some-enabled some) ∙ m .toDo f (next left) ∙ ap (λ (l : List (Activity Tag)). firesInTurn M₀ l (f + k) x (next left)) (n .split)
+                  ∙ ap (λ (q : FiredOf M₀). tried M₀ (f + k) x a q (λ u. firesInTurn M₀ (n .after) (suc (f + k)) u (next left))) e ∙ ap (λ (u : State Tag ℤ). endsHere M₀ (end M₀ (refused r place) (f + k) u)) same;
             }
 
 -- a whole step, by what was live or deferred before it
 pub step-whole : {g : List Instruction} {tables links flags ledger′ cells′ : List ℕ} {count n gone used unspent : ℕ} {ledger cells : List ℕ} → AllFired g tables links flags ledger′ cells′ count n gone used ledger cells
-    → unspent ≡ unspentAt g tables ledger cells used → Stepped g tables links flags ledger′ cells′ count n (unspent + (n - used) - gone) used ledger cells
+    → unspent ≡ unspentAt g tables ledger cells used → SteppedWhole g tables links flags ledger′ cells′ count n (unspent + (n - used) - gone) used ledger cells
 step-whole {g} {tables} {ledger′ = ledger′} {cells′ = cells′} {count = count} {n = n} {gone = gone} {used = used} {unspent = before} {ledger = ledger} {cells = cells} a e =
     let same : unspentAt g tables ledger′ cells′ n ≡ before + (n - used) - gone = omega (arith, a .unspentLeft, e) in
-    let M = machineFor g tables ledger cells in
+    let M = machineOver g tables ledger cells in
     record {
       went = a .went;
       unspentLeft = sym same;

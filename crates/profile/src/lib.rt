@@ -20,12 +20,12 @@ ghost use lib.ListN.{length, getD, set};
 ghost use Rattle.buffer.specs.Rows.{putRow};
 ghost use Rattle.record.specs.GraphRecords.{graphOf};
 ghost use Rattle.record.specs.TokensAndTags.{tokens, tokenAt};
-ghost use Rattle.record.specs.Widths.{tokenWidth, cellWidth};
+ghost use Rattle.record.specs.Widths.{tokenWidth, cellWidth, stepWidth};
 ghost use Rattle.machine.specs.Steps.{profile as Machine·profile};
 ghost use Rattle.rules.specs.declared.answer.Refusal.the-variants.{ProfileFull};
 ghost use Rattle.rules.specs.declared.answer.Checked.the-variants.{Passed};
 ghost use Rattle.rules.specs.Run.{firstState};
-ghost use Rattle.rules.specs.Profile.{stepWidth, checkProfileStores, checkProfile, encode};
+ghost use Rattle.rules.specs.Profile.{checkProfileStores, checkProfile, encodeStep};
 ghost use Rattle.rules.specs.Runs.{lentToProfile, leftByProfile, ProfiledOn};
 ghost use Rattle.store_flags.specs.Flags.{Counted, place, places, inWord, flagsOf};
 ghost use Rattle.store_enabled.specs.Enabled.{arityOf, enabledPlaces};
@@ -95,7 +95,7 @@ fn check(
 
 // The bytes of a step's record.
 fn bytes_of(firings: usize, unspent: usize) -> [u8; WIDTH]
-    ensures { λ r. ⌜ r ≡ encode (record { firings = firings; unspent = unspent }) ⌝ }
+    ensures { λ r. ⌜ r ≡ encodeStep (record { firings = firings; unspent = unspent }) ⌝ }
 {
     [
         (firings % 256) as u8,
@@ -108,7 +108,7 @@ fn bytes_of(firings: usize, unspent: usize) -> [u8; WIDTH]
 // Writes a step's record as record i of a profile; every other byte stays.
 fn put_record(profile: &mut [u8], i: usize, firings: usize, unspent: usize)
     requires { ⌜ i < length (now profile) / stepWidth ⌝ }
-    ensures { λ _. ⌜ now (profile .exit) ≡ putRow stepWidth (now (profile .entry)) i (encode (record { firings = firings; unspent = unspent })) ⌝ }
+    ensures { λ _. ⌜ now (profile .exit) ≡ putRow stepWidth (now (profile .entry)) i (encodeStep (record { firings = firings; unspent = unspent })) ⌝ }
 {
     let bytes = bytes_of(firings, unspent);
     buffer::put_row(profile, WIDTH, i, &bytes);
@@ -211,8 +211,12 @@ fn in_turn(
     count: usize,
     start: usize,
 ) -> Progress
-    requires { ⌜ Prepared (now graph) (now tables) × Running (graphOf (now graph)) (now tables) (now links) (now flags) (now ledger) (now cells) start × PlacesIn count (now flags) (now places) × (0 < count) ⌝ }
-    ensures { λ r. ⌜ FiredAs (r .outcome) (graphOf (now (graph .entry))) (now (tables .entry)) (now (links .exit)) (now (flags .exit)) (now (ledger .exit)) (now (cells .exit)) (r .firings) (r .tokens) (r .spent) start (now (ledger .entry)) (now (cells .entry)) ⌝ }
+    requires { ⌜ Prepared (now graph) (now tables)
+        × Running (graphOf (now graph)) (now tables) (now links) (now flags) (now ledger) (now cells) start
+        × PlacesIn count (now flags) (now places)
+        × (0 < count) ⌝ }
+    ensures { λ r. ⌜ FiredAs (r .outcome) (graphOf (now (graph .entry))) (now (tables .entry)) (now (links .exit)) (now (flags .exit)) (now (ledger .exit))
+        (now (cells .exit)) (r .firings) (r .tokens) (r .spent) start (now (ledger .entry)) (now (cells .entry)) ⌝ }
 {
     let mut used = start;
     let mut spent = 0;
@@ -257,8 +261,12 @@ fn step(
     start: usize,
     live: usize,
 ) -> StepEnd
-    requires { ⌜ Prepared (now graph) (now tables) × Running (graphOf (now graph)) (now tables) (now links) (now flags) (now ledger) (now cells) start × (live ≡ unspentAt (graphOf (now graph)) (now tables) (now ledger) (now cells) start) × (length (now places) ≡ 2048) ⌝ }
-    ensures { λ r. ⌜ StepDone r (graphOf (now (graph .entry))) (now (tables .entry)) (now (links .exit)) (now (flags .exit)) (now (ledger .exit)) (now (cells .exit)) start (now (ledger .entry)) (now (cells .entry)) ⌝ }
+    requires { ⌜ Prepared (now graph) (now tables)
+        × Running (graphOf (now graph)) (now tables) (now links) (now flags) (now ledger) (now cells) start
+        × (live ≡ unspentAt (graphOf (now graph)) (now tables) (now ledger) (now cells) start)
+        × (length (now places) ≡ 2048) ⌝ }
+    ensures { λ r. ⌜ StepDone r (graphOf (now (graph .entry))) (now (tables .entry)) (now (links .exit)) (now (flags .exit)) (now (ledger .exit))
+        (now (cells .exit)) start (now (ledger .entry)) (now (cells .entry)) ⌝ }
     ensures { λ _. ⌜ length (now (places .exit)) ≡ 2048 ⌝ }
 {
     let count = enabled_places(flags, places);
@@ -309,8 +317,13 @@ fn proceed(
     profile: &mut [u8],
     start: usize,
 ) -> Profiled
-    requires { ⌜ Prepared (now graph) (now tables) × Running (graphOf (now graph)) (now tables) (now links) (now flags) (now ledger) (now cells) start × (start ≡ unspentAt (graphOf (now graph)) (now tables) (now ledger) (now cells) start) ⌝ }
-    ensures { λ r. ⌜ ProfiledTo (profileFrom (graphOf (now (graph .entry))) (length (now (profile .entry)) / stepWidth) 0 (now (tables .entry)) (now (ledger .entry)) (now (cells .entry)) start) r (now (ledger .entry)) (now (cells .entry)) (now (profile .entry)) (now (ledger .exit)) (now (cells .exit)) (now (profile .exit)) ⌝ }
+    requires { ⌜ Prepared (now graph) (now tables)
+        × Running (graphOf (now graph)) (now tables) (now links) (now flags) (now ledger) (now cells) start
+        × (start ≡ unspentAt (graphOf (now graph)) (now tables) (now ledger) (now cells) start) ⌝ }
+    ensures { λ r. ⌜ ProfiledTo
+        (profileFrom (graphOf (now (graph .entry))) (length (now (profile .entry)) / stepWidth) 0 (now (tables .entry)) (now (ledger .entry))
+        (now (cells .entry)) start) r (now (ledger .entry)) (now (cells .entry)) (now (profile .entry)) (now (ledger .exit)) (now (cells .exit))
+        (now (profile .exit)) ⌝ }
 {
     let room = profile.len() / WIDTH;
     let mut places = [0u16; 2048];
@@ -358,7 +371,10 @@ fn accepted(
     profile: &mut [u8],
 ) -> Profiled
     requires { ⌜ checkProfile (now graph) (now arrays) (now inputs) (length (now ledger)) (length (now cells)) (length (now profile)) ≡ Passed ⌝ }
-    ensures { λ r. ⌜ ProfiledTo (Machine·profile (machineLent (now (graph .entry)) (now (arrays .entry)) (now (ledger .entry)) (now (cells .entry))) ProfileFull (length (now (profile .entry)) / stepWidth) 0 (firstState (now (inputs .entry)) (length (now (cells .entry)) / cellWidth))) r (now (ledger .entry)) (now (cells .entry)) (now (profile .entry)) (now (ledger .exit)) (now (cells .exit)) (now (profile .exit)) ⌝ }
+    ensures { λ r. ⌜ ProfiledTo
+        (Machine·profile (machineLent (now (graph .entry)) (now (arrays .entry)) (now (ledger .entry)) (now (cells .entry))) ProfileFull
+        (length (now (profile .entry)) / stepWidth) 0 (firstState (now (inputs .entry)) (length (now (cells .entry)) / cellWidth))) r
+        (now (ledger .entry)) (now (cells .entry)) (now (profile .entry)) (now (ledger .exit)) (now (cells .exit)) (now (profile .exit)) ⌝ }
 {
     let mut tables = [0u16; store_enabled::TABLES_LENGTH];
     let mut links = [0u16; store_chains::LENGTH];
@@ -394,7 +410,9 @@ pub fn profile(
     cells: &mut [u8],
     profile: &mut [u8],
 ) -> Profiled
-    ensures { λ r. ⌜ ProfiledOn (now (graph .entry)) (now (arrays .entry)) (now (inputs .entry)) (lentToProfile (now (ledger .entry)) (now (cells .entry)) (now (profile .entry))) (leftByProfile r (now (ledger .exit)) (now (cells .exit)) (now (profile .exit))) ⌝ }
+    ensures { λ r. ⌜ ProfiledOn (now (graph .entry)) (now (arrays .entry)) (now (inputs .entry))
+        (lentToProfile (now (ledger .entry)) (now (cells .entry)) (now (profile .entry)))
+        (leftByProfile r (now (ledger .exit)) (now (cells .exit)) (now (profile .exit))) ⌝ }
 {
     let checked = check(
         graph,

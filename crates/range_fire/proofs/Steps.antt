@@ -27,7 +27,7 @@ use Rattle.fire_effect.specs.declared.operate.Action.{Action}
 use Rattle.fire_effect.specs.declared.operate.Operated.the-variants.{Refuse, Act}
 use Rattle.fire_effect.specs.declared.tags.NewTags.{NewTags}
 use Rattle.fire_effect.specs.declared.tags.NewTags.the-variants as Tags
-use Rattle.fire_effect.specs.Effects.{keysOf, actionHeld, Arrives, Makes, newTagsOf, thenTags}
+use Rattle.fire_effect.specs.Effects.{outputKeys, actionHeld, Arrives, Makes, newTagsOf, thenTags}
 use Rattle.fire_effect.proofs.Passed.{in-bytes}
 use Rattle.fire_effect.proofs.Parted.{first-refused, second-refused, both-held}
 use Rattle.fire_operands.specs.Operands.{byPort, bothAt, matchedAt}
@@ -69,7 +69,7 @@ module _ (graph : List ℕ) (table : List NamedArray) (cells : ℕ) (τ : Tag) (
 
     pub asked-done : checkGraph graph ≡ Passed → {s : Outputs} → m ≡ Tags.To s → Done (graphOf graph) cells x s (stepIn (graphOf graph) table cells h τ a b .asked)
     asked-done passed {s} e =
-        let held : actionHeld x (keysOf s) ≡ stepIn (graphOf graph) table cells h τ a b .asked = both-held _ _ asked-in-turn operated made e in
+        let held : actionHeld x (outputKeys s) ≡ stepIn (graphOf graph) table cells h τ a b .asked = both-held _ _ asked-in-turn operated made e in
         let fine : Fine (graphOf graph) cells (stepIn (graphOf graph) table cells h τ a b .asked) = asked-fine graph passed table cells τ h a b in
         record {
           held = held;
@@ -82,7 +82,7 @@ module _ (graph : List ℕ) (table : List NamedArray) (cells : ℕ) (τ : Tag) (
 -- what the code's commit requires of them
 pub fitting : (g : List Instruction) (cells : ℕ) (x : Action) (o : Outputs) {e : _} → Done g cells x o e → Fitting cells x o
 fitting g cells x o d =
-    (d .counted, low-ports g (o .count) (o .first) (o .second) (sent-keys (Arrives g) x (keysOf o) (d .arrives)), on-cells cells x (keysOf o) (rw (← d .held) at (d .cellsBelow)))
+    (d .counted, low-ports g (o .count) (o .first) (o .second) (sent-keys (Arrives g) x (outputKeys o) (d .arrives)), on-cells cells x (outputKeys o) (rw (← d .held) at (d .cellsBelow)))
 
 -- ---- what the code does
 

@@ -24,7 +24,7 @@ use Rattle.record.specs.GraphRecords.{destinations, operationOf, operandsOf, ro
 use Rattle.record.specs.GraphRecords as Graph
 use Rattle.record.proofs.Paths.{is-root}
 use Rattle.machine.specs.Machine.{Key, Content, spent, deferred, Machine, State, isThere, at, look, enabled}
-use Rattle.machine.specs.Orders.{Lawful, Spent, Start, Reached, Invariants, outputs}
+use Rattle.machine.specs.Orders.{Lawful, SpentContent, Start, Reached, Invariants, outputs}
 use Rattle.machine.proofs.View.{falseTrue}
 use Rattle.machine.proofs.Orders.{startGood}
 use Rattle.machine.proofs.Reached.{reached-good, reached-invariants}
@@ -35,7 +35,7 @@ use Rattle.rules.specs.declared.answer.Checked.the-variants.{Passed}
 use Rattle.rules.specs.Check.{demand, any, inTurn, instructionAt, operandsAt, checkGraph, checkInputs}
 use Rattle.rules.specs.InstructionSet.{keyUnder, allUnder, effectIn, isResult, arityIn, machineOf}
 use Rattle.rules.specs.Run.{tokenHeld, firstState}
-use Rattle.rules.specs.Needs.{anyBelow, sumBelow, sendsTo, portReached, allReached, reached, Closed, firingsOf, outputsOf, total, loopFree, inputsOf, NoSwitchOrFetch}
+use Rattle.rules.specs.Needs.{anyBelow, sumBelow, sendsTo, portReached, allReached, reached, Closed, firingsNeeded, outputsNeeded, total, loopFree, inputsOf, NoSwitchOrFetch}
 use Rattle.rules.proofs.Passed.{both, demand-passed, turn-passed}
 use Rattle.rules.proofs.PassedGraph.{Good, past-operands, of-graph, coded, said-of, least-fan-out}
 use Rattle.rules.proofs.Lawful.{lawful}
@@ -79,7 +79,7 @@ module _ (graph inputs : List ℕ) (table : List NamedArray) (capacity cells : �
 
   free-at : (i : ℕ) → i < length g → loopFree (instructionAt g i) ≡ true
   unfolding instructionAt
-  free-at i h = demand-passed _ Refusals.NotLoopFree (0 + i) (turn-passed (λ i r. demand (loopFree r) Refusals.NotLoopFree i) (Graph.decode []) 0 g free i h)
+  free-at i h = demand-passed _ Refusals.NotLoopFree (0 + i) (turn-passed (λ i r. demand (loopFree r) Refusals.NotLoopFree i) (Graph.decodeInstruction []) 0 g free i h)
 
   -- ---- the operands that an activity waits for
 
@@ -200,7 +200,7 @@ module _ (graph inputs : List ℕ) (table : List NamedArray) (capacity cells : �
       inv : Invariants M s f o x
       inv = reached-invariants M law s begun f o x r
 
-      first-spent : Spent (look M x (at M (rootOf i) 0))
+      first-spent : SpentContent (look M x (at M (rootOf i) 0))
       first-spent = spent-is _ e
 
       spent-port : 0 < M .arity (rootOf i) → (p : ℕ) → p < M .arity (rootOf i) → portReached ts g S i p ≡ true
@@ -233,9 +233,9 @@ module _ (graph inputs : List ℕ) (table : List NamedArray) (capacity cells : �
 
   record Tally (x : State Tag ℤ) (f o : ℕ) : Type 0 where
     firings : f ≡ done x (λ i. 1)
-    outputs : o ≡ done x (λ i. outputsOf (instructionAt g i))
+    outputs : o ≡ done x (λ i. outputsNeeded (instructionAt g i))
 
-  sent-counted : (y x : State Tag ℤ) (τ : Tag) → τ .instruction < length g → Marked M y τ x → outputs M y τ ≡ outputsOf (instructionAt g (τ .instruction))
+  sent-counted : (y x : State Tag ℤ) (τ : Tag) → τ .instruction < length g → Marked M y τ x → outputs M y τ ≡ outputsNeeded (instructionAt g (τ .instruction))
   unfolding effectIn
   sent-counted y x τ l now =
       let i = τ .instruction in
@@ -245,7 +245,7 @@ module _ (graph inputs : List ℕ) (table : List NamedArray) (capacity cells : �
   none-done w = sum-none (length g) (λ i. cond (Fired s i) (w i) 0) (λ i. ap (λ (b : Bool). cond b (w i) 0) (start-none M law s begun (rootOf i)))
 
   tally : (f o : ℕ) (x : State Tag ℤ) → Reached M s f o x → Tally x f o
-  tally zero o x (e, q) = rw q (record { firings = sym (none-done (λ i. 1)); outputs = e ∙ sym (none-done (λ i. outputsOf (instructionAt g i))) })
+  tally zero o x (e, q) = rw q (record { firings = sym (none-done (λ i. 1)); outputs = e ∙ sym (none-done (λ i. outputsNeeded (instructionAt g i))) })
   tally (suc f) o x (y, n, τ, r, e, q) = next (tally f n y r)
     where
       now : Marked M y τ x
@@ -270,7 +270,7 @@ module _ (graph inputs : List ℕ) (table : List NamedArray) (capacity cells : �
       next t =
           let here : Marked M y (rootOf i) x = subst (λ (σ : Tag). Marked M y σ x) root now in
           let a = done-more y x i inside here (λ j. 1) in
-          let b = done-more y x i inside here (λ j. outputsOf (instructionAt g j)) in
+          let b = done-more y x i inside here (λ j. outputsNeeded (instructionAt g j)) in
           record { firings = omega (arith, t .firings); outputs = omega (arith, q, t .outputs, sent-counted y x τ inside now) }
 
   -- ---- no state exceeds the bounds
@@ -280,12 +280,12 @@ module _ (graph inputs : List ℕ) (table : List NamedArray) (capacity cells : �
   unfolding total reached
   counted w = refl
 
-  pub within : (f o : ℕ) (x : State Tag ℤ) → Reached M s f o x → (f ≤ total ts g firingsOf) × (o ≤ total ts g outputsOf)
-  unfolding firingsOf
+  pub within : (f o : ℕ) (x : State Tag ℤ) → Reached M s f o x → (f ≤ total ts g firingsNeeded) × (o ≤ total ts g outputsNeeded)
+  unfolding firingsNeeded
   within f o x r =
       let t = tally f o x r in (
-        rw (counted firingsOf) (omega (arith, t .firings, sum-least (length g) _ (λ i. cond (S i) (firingsOf (instructionAt g i)) 0) (λ i l. less i 1 (firingsOf (instructionAt g i)) (λ h. rw (h .fires) (omega arith))))),
-        rw (counted outputsOf) (omega (arith, t .outputs, sum-least (length g) _ (λ i. cond (S i) (outputsOf (instructionAt g i)) 0) (λ i l. less i (outputsOf (instructionAt g i)) (outputsOf (instructionAt g i)) (λ h. omega arith)))),
+        rw (counted firingsNeeded) (omega (arith, t .firings, sum-least (length g) _ (λ i. cond (S i) (firingsNeeded (instructionAt g i)) 0) (λ i l. less i 1 (firingsNeeded (instructionAt g i)) (λ h. rw (h .fires) (omega arith))))),
+        rw (counted outputsNeeded) (omega (arith, t .outputs, sum-least (length g) _ (λ i. cond (S i) (outputsNeeded (instructionAt g i)) 0) (λ i l. less i (outputsNeeded (instructionAt g i)) (outputsNeeded (instructionAt g i)) (λ h. omega arith)))),
       )
     where
       less : (i m n : ℕ) → (FiredAt i → m ≤ n) → cond (Fired x i) m 0 ≤ cond (S i) n 0
@@ -379,18 +379,18 @@ module _ (graph inputs : List ℕ) (table : List NamedArray) (capacity cells : �
         go false false e h = refl
         go false true e h = sym (z h (rw e at (all-fired i h)))
 
-    out-fires : (i : ℕ) → isOut i ≡ true → firingsOf (instructionAt g i) ≡ 0
-    unfolding firingsOf
+    out-fires : (i : ℕ) → isOut i ≡ true → firingsNeeded (instructionAt g i) ≡ 0
+    unfolding firingsNeeded
     out-fires i e = rw e
 
-    out-sends : (i : ℕ) → i < length g → isOut i ≡ true → outputsOf (instructionAt g i) ≡ 0
-    unfolding outputsOf
+    out-sends : (i : ℕ) → i < length g → isOut i ≡ true → outputsNeeded (instructionAt g i) ≡ 0
+    unfolding outputsNeeded
     out-sends i l e = rw (nothing-sent i l e, eqb-true (instructionAt g i .code) 3 e)
 
-    pub at-rest : (f ≡ total ts g firingsOf) × (o ≡ total ts g outputsOf)
-    unfolding firingsOf
+    pub at-rest : (f ≡ total ts g firingsNeeded) × (o ≡ total ts g outputsNeeded)
+    unfolding firingsNeeded
     at-rest =
         let t = tally f o x r in (
-          t .firings ∙ sum-same (length g) _ _ (λ i l. same i 1 (firingsOf (instructionAt g i)) (λ h. rw (h .fires)) (λ e h. out-fires i h)) ∙ sym (counted firingsOf),
-          t .outputs ∙ sum-same (length g) _ _ (λ i l. same i (outputsOf (instructionAt g i)) (outputsOf (instructionAt g i)) (λ h. refl) (λ e h. out-sends i l h)) ∙ sym (counted outputsOf),
+          t .firings ∙ sum-same (length g) _ _ (λ i l. same i 1 (firingsNeeded (instructionAt g i)) (λ h. rw (h .fires)) (λ e h. out-fires i h)) ∙ sym (counted firingsNeeded),
+          t .outputs ∙ sum-same (length g) _ _ (λ i l. same i (outputsNeeded (instructionAt g i)) (outputsNeeded (instructionAt g i)) (λ h. refl) (λ e h. out-sends i l h)) ∙ sym (counted outputsNeeded),
         )

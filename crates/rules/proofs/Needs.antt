@@ -24,8 +24,8 @@ use Rattle.rules.specs.declared.answer.Needs.the-variants.{AtMost}
 use Rattle.rules.specs.Check.{demand, inTurn, goodInput, checkGraph, checkStores, checkArrays, checkInputs, check}
 use Rattle.rules.specs.InstructionSet.{machineOf}
 use Rattle.rules.specs.Run.{firstState, picksOf, result, answer}
-use Rattle.rules.specs.Orders.{Quiescent}
-use Rattle.rules.specs.Needs.{firingsOf, outputsOf, total, loopFree, checkNeeds, inputsOf, unlessRefused, needs, NoSwitchOrFetch, NoStateExceeds, ExactAtRest, NeverExceeded, Exact}
+use Rattle.rules.specs.Orders.{QuiescentResult}
+use Rattle.rules.specs.Needs.{firingsNeeded, outputsNeeded, total, loopFree, checkNeeds, inputsOf, needsUnlessRefused, needs, NoSwitchOrFetch, NoStateExceeds, ExactAtRest, NeverExceeded, Exact}
 use Rattle.rules.proofs.Passed.{andThen-passed}
 use Rattle.rules.proofs.Lawful.{lawful}
 use Rattle.rules.proofs.Inputs.{tokens-first}
@@ -37,15 +37,15 @@ use Rattle.rules.proofs.FiredOnce.{begun, within, at-rest}
 record Taken (graph inputs : List ℕ) (firings tokens : ℕ) : Type 0 where
   passed : checkGraph graph ≡ Passed
   free : inTurn (λ i r. demand (loopFree r) Refusals.NotLoopFree i) 0 (graphOf graph) ≡ Passed
-  isFirings : total (inputsOf inputs) (graphOf graph) firingsOf ≡ firings
-  isTokens : length (inputsOf inputs) + total (inputsOf inputs) (graphOf graph) outputsOf ≡ tokens
+  isFirings : total (inputsOf inputs) (graphOf graph) firingsNeeded ≡ firings
+  isTokens : length (inputsOf inputs) + total (inputsOf inputs) (graphOf graph) outputsNeeded ≡ tokens
 
 taken : (graph inputs : List ℕ) (firings tokens : ℕ) → needs graph inputs ≡ AtMost firings tokens → Taken graph inputs firings tokens
 unfolding needs checkNeeds
 taken graph inputs firings tokens e = go (checkNeeds graph inputs) refl e
   where
     go : (c : Checked) → checkNeeds graph inputs ≡ c
-        → unlessRefused c (AtMost (total (inputsOf inputs) (graphOf graph) firingsOf) (length (inputsOf inputs) + total (inputsOf inputs) (graphOf graph) outputsOf)) ≡ AtMost firings tokens
+        → needsUnlessRefused c (AtMost (total (inputsOf inputs) (graphOf graph) firingsNeeded) (length (inputsOf inputs) + total (inputsOf inputs) (graphOf graph) outputsNeeded)) ≡ AtMost firings tokens
         → Taken graph inputs firings tokens
     go (Failed r p) h k = let z : _≡_ {A = ℕ} 0 1 = cc in absurd (omega arith)
     go Passed h k =
@@ -91,10 +91,10 @@ module _ (graph arrays inputs picks : List ℕ) (budget ledger cells firings tok
       let (f, t) = no-state-exceeds graph inputs (arraysOf arrays) (capacityOf ledger) (cells / cellWidth) firings tokens e (passes h) (reach .done) (reach .sent) (last .state) (reach .reached) in
       (omega (arith, reach .firings), t))
 
-  is-exact : NoSwitchOrFetch graph inputs → Quiescent (result graph arrays inputs picks budget ledger cells)
+  is-exact : NoSwitchOrFetch graph inputs → QuiescentResult (result graph arrays inputs picks budget ledger cells)
       → (answer (result graph arrays inputs picks budget ledger cells) .firings ≡ firings) × (answer (result graph arrays inputs picks budget ledger cells) .tokens ≡ tokens)
   unfolding answer result
-  is-exact plain = by-check (check graph arrays inputs picks ledger cells) _ (λ x. Quiescent x → (answer x .firings ≡ firings) × (answer x .tokens ≡ tokens)) (λ r p f h. absurd h) (λ h q.
+  is-exact plain = by-check (check graph arrays inputs picks ledger cells) _ (λ x. QuiescentResult x → (answer x .firings ≡ firings) × (answer x .tokens ≡ tokens)) (λ r p f h. absurd h) (λ h q.
       let rest = rested Whole (last .outcome) budget (reach .done) (last .state) q (reach .says) .0 in
       let (f, t) = exact-at-rest graph inputs (arraysOf arrays) (capacityOf ledger) (cells / cellWidth) firings tokens e plain (passes h) (reach .done) (reach .sent) (last .state) (reach .reached) rest in
       (omega (arith, reach .firings), t))

@@ -21,11 +21,11 @@ use Rattle.rules.specs.Check.{demand, _andThen_, checkStores, checkInput
 use Rattle.rules.specs.InstructionSet.{machineOf}
 use Rattle.rules.specs.Run.{firstState, picksOf, Result, refusedAtOnce, ranTo, unlessFailed, result, answer, Ran}
 use Rattle.rules.specs.Log.{logSuffices, checkLogStores, LogResult, logUnlessFailed, logged, LogRan}
-use Rattle.rules.specs.Saved.{machineSaved, stateSaved, taken, carried}
+use Rattle.rules.specs.Saved.{machineSaved, stateSaved, stateTaken, carried}
 use Rattle.rules.specs.Runs.{LentToRun, LeftByRun, LentToLogged, LeftByLogged}
-use Rattle.rules.specs.Orders.{Quiescent, Refused, Alike, Allowed}
+use Rattle.rules.specs.Orders.{QuiescentResult, RefusedResult, AlikeResults, Allowed}
 use Rattle.rules.specs.Invariants.{LawfulResult}
-use Rattle.rules.specs.Small.{Small, Counted}
+use Rattle.rules.specs.Small.{Small, CountsFit}
 use Rattle.rules.specs.Fits.{AllFit}
 use Rattle.rules.specs.Held.{heldIn}
 
@@ -83,7 +83,7 @@ unfoldable pub checkBoundSaved : (graph arrays picks ledger cells : List ℕ) �
 checkBoundSaved graph arrays picks ledger cells k firings n =
     checkWith graph arrays (length cells / cellWidth)
     (andBound (checkStores 0 (length picks) (length ledger) (length cells)) k)
-    (demand (taken graph ledger cells firings n) DamagedState 0)
+    (demand (stateTaken graph ledger cells firings n) DamagedState 0)
 
 unfoldable pub boundCarried : (graph arrays picks : List ℕ) → (budget bound : ℕ) → (ledger cells : List ℕ) → (firings tokens : ℕ) → Result
 boundCarried graph arrays picks budget k ledger cells firings n =
@@ -105,26 +105,26 @@ pub record BoundZero : Type 0 where
 -- "completes, or hangs with no held activity left"
 abbrev pub LeavesNoneHeld : (graph arrays : List ℕ) → (bound ledger cells : ℕ) → Result → Type 0
 LeavesNoneHeld graph arrays k ledger cells (refusedAtOnce r p) = ⊥
-LeavesNoneHeld graph arrays k ledger cells (ranTo e) = Machines.LeavesNoneHeld (machineOf (graphOf graph) (arraysOf arrays) (capacityOf ledger) (cells / cellWidth)) (heldIn (graphOf graph) k) e
+LeavesNoneHeld graph arrays k ledger cells (ranTo e) = Machines.LeavesNoneHeldOfMachine (machineOf (graphOf graph) (arraysOf arrays) (capacityOf ledger) (cells / cellWidth)) (heldIn (graphOf graph) k) e
 
 -- "must equal the end of every unbounded order [..] as demand 3 compares them"
-pub record EndsAs (x y : Result) : Type 0 where
-  pub rests : Quiescent x
+pub record BoundedEndsAs (x y : Result) : Type 0 where
+  pub rests : QuiescentResult x
   -- completed or hung
   pub outcome : answer x .outcome ≡ answer y .outcome
-  pub alike : Alike x y
+  pub alike : AlikeResults x y
 
 -- "At any budget, a bounded run that completes, or hangs with no held activity left, must equal the end of every unbounded order at budget 2,048"
-abbrev pub AsEveryOrder : Type 0
-AsEveryOrder = (graph arrays inputs picks picks′ : List ℕ) (budget k ledger ledger′ cells cells′ : ℕ)
+abbrev pub BoundedAsEveryOrder : Type 0
+BoundedAsEveryOrder = (graph arrays inputs picks picks′ : List ℕ) (budget k ledger ledger′ cells cells′ : ℕ)
     → LeavesNoneHeld graph arrays k ledger cells (bounded graph arrays inputs picks budget k ledger cells)
     → Allowed picks′ ledger′ cells′ → capacityOf ledger ≡ capacityOf ledger′ → cells / cellWidth ≡ cells′ / cellWidth
-    → EndsAs (bounded graph arrays inputs picks budget k ledger cells) (result graph arrays inputs picks′ 2048 ledger′ cells′)
+    → BoundedEndsAs (bounded graph arrays inputs picks budget k ledger cells) (result graph arrays inputs picks′ 2048 ledger′ cells′)
 
 -- where one order completes or hangs, a run with a bound is not refused: what it may still do is spend its budget or hang on held activities
 abbrev pub NotRefused : Type 0
 NotRefused = (graph arrays inputs picks picks′ : List ℕ) (budget k ledger cells : ℕ) → goodBound k ≡ true → Allowed picks ledger cells
-    → Quiescent (result graph arrays inputs picks′ 2048 ledger cells) → ¬ (Refused (bounded graph arrays inputs picks budget k ledger cells))
+    → QuiescentResult (result graph arrays inputs picks′ 2048 ledger cells) → ¬ (RefusedResult (bounded graph arrays inputs picks budget k ledger cells))
 
 -- a run that writes a log is the run, if the log suffices, and the log has room in what is lent
 abbrev pub BoundLoggedRuns : Type 0
@@ -147,5 +147,5 @@ BoundedSmall = (graph arrays inputs picks : List ℕ) (budget k ledger cells : �
 
 -- 16 bits are enough for each number of an answer
 pub record BoundedCounted : Type 0 where
-  pub byLogged : (graph arrays inputs picks : List ℕ) (budget k ledger cells lent : ℕ) → Counted (answer (boundLogged graph arrays inputs picks budget k ledger cells lent .result))
-  pub byCarried : (graph arrays picks ledger cells : List ℕ) (budget k firings tokens : ℕ) → Counted (answer (boundCarried graph arrays picks budget k ledger cells firings tokens))
+  pub byLogged : (graph arrays inputs picks : List ℕ) (budget k ledger cells lent : ℕ) → CountsFit (answer (boundLogged graph arrays inputs picks budget k ledger cells lent .result))
+  pub byCarried : (graph arrays picks ledger cells : List ℕ) (budget k firings tokens : ℕ) → CountsFit (answer (boundCarried graph arrays picks budget k ledger cells firings tokens))

@@ -42,7 +42,7 @@ abbrev pub root : (instruction port : ℕ) → Content ℤ → Token Tag ℤ
 root i p x = token 0 0 i p x
 
 abbrev pub input : (instruction port : ℕ) → ℤ → List ℕ
-input i p v = Tokens.encode (tokenRecord (root i p (live v)))
+input i p v = Tokens.encodeToken (tokenRecord (root i p (live v)))
 
 abbrev pub values : (word firings tokens place : ℕ) → Values
 values w f t p = record { word = w; firings = f; tokens = t; place = p }
@@ -61,20 +61,20 @@ hung = 101
 abbrev pub binary : (code : ℕ) → List ℕ
 binary code = to1 code (pos 0) 0 1 ++ to0 3 (pos 0)
 
-abbrev pub operands : ℤ → ℤ → List ℕ
-operands a b = input 0 0 a ++ input 0 1 b
+abbrev pub operandInputs : ℤ → ℤ → List ℕ
+operandInputs a b = input 0 0 a ++ input 0 1 b
 
 -- ---- a case
 
 -- a cell that is not absent, with its number
-pub data Numbered : Type 0 where
-  cell : (number : ℕ) → Cell ℤ → Numbered
+pub data NumberedCell : Type 0 where
+  cell : (number : ℕ) → Cell ℤ → NumberedCell
 
 pub data Case : Type 0 where
   -- a run: what is lent; the answer, the tokens of the ledger in order of arrival, the cells that are not absent
-  running : (graph inputs picks : List ℕ) → (budget capacity cells : ℕ) → Values → List (Token Tag ℤ) → List Numbered → Case
+  running : (graph inputs picks : List ℕ) → (budget capacity cells : ℕ) → Values → List (Token Tag ℤ) → List NumberedCell → Case
   -- a run with a table of arrays: what is lent, with the records of the table; the answer, the tokens, the cells that are not absent
-  naming : (graph arrays inputs : List ℕ) → (cells : ℕ) → Values → List (Token Tag ℤ) → List Numbered → Case
+  naming : (graph arrays inputs : List ℕ) → (cells : ℕ) → Values → List (Token Tag ℤ) → List NumberedCell → Case
   -- a profile of `lent` bytes: what is lent; the answer, its records, the tokens
   profiling : (graph inputs : List ℕ) → (capacity cells lent : ℕ) → Values → List StepRecord → List (Token Tag ℤ) → Case
   -- a run with a log of `lent` bytes: what is lent; the answer, the log's bytes
@@ -87,22 +87,22 @@ pub data Case : Type 0 where
   firing : (graph : List ℕ) → (cells : ℕ) → Tag → (a b : ℤ) → Effect Refusal Tag ℤ → Case
 
 pub data Seen : Type 0 where
-  ran : Values → List (Token Tag ℤ) → List Numbered → Seen
+  ran : Values → List (Token Tag ℤ) → List NumberedCell → Seen
   plotted : Values → List StepRecord → List (Token Tag ℤ) → Seen
   wrote : Values → List ℕ → Seen
   again : Values → Seen
   needed : Needs → Seen
   did : Effect Refusal Tag ℤ → Seen
 
-unfoldable pub written : ℕ → List (Cell ℤ) → List Numbered
-written i [] = []
-written i (absent ∷ xs) = written (suc i) xs
-written i (waiting ∷ xs) = cell i waiting ∷ written (suc i) xs
-written i (present v ∷ xs) = cell i (present v) ∷ written (suc i) xs
+unfoldable pub cellsWritten : ℕ → List (Cell ℤ) → List NumberedCell
+cellsWritten i [] = []
+cellsWritten i (absent ∷ xs) = cellsWritten (suc i) xs
+cellsWritten i (waiting ∷ xs) = cell i waiting ∷ cellsWritten (suc i) xs
+cellsWritten i (present v ∷ xs) = cell i (present v) ∷ cellsWritten (suc i) xs
 
 unfoldable pub seenIn : Result → Seen
 seenIn (refusedAtOnce r p) = ran (valuesOf (answer (refusedAtOnce r p))) [] []
-seenIn (ranTo e) = ran (valuesOf (answer (ranTo e))) (e .state .tokens) (written 0 (e .state .cells))
+seenIn (ranTo e) = ran (valuesOf (answer (ranTo e))) (e .state .tokens) (cellsWritten 0 (e .state .cells))
 
 unfoldable pub seenSteps : ProfileResult → Seen
 seenSteps x = plotted (valuesOf (answer (x .result))) (x .records) (held (x .result))

@@ -10,7 +10,7 @@ use Rattle.record.specs.TokensAndTags as Tokens
 use Rattle.machine.specs.Machine.{Content, live, spent, deferred, waiting, present, send, refuse}
 use Rattle.rules.specs.declared.answer.Refusal.the-variants as Refusals
 use Rattle.rules.specs.Run.{tokenRecord}
-use Rattle.rules.specs.CaseRows.{to0, to1, to2, key, token, root, input, values, completed, spentWord, hung, binary, operands, Case, cell, running, firing}
+use Rattle.rules.specs.CaseRows.{to0, to1, to2, key, token, root, input, values, completed, spentWord, hung, binary, operandInputs, Case, cell, running, firing}
 use Rattle.rules.specs.RequestCases.{profiles, logs, sized, named}
 
 -- ---- the starred cases
@@ -18,12 +18,12 @@ use Rattle.rules.specs.RequestCases.{profiles, logs, sized, named}
 -- the operation gives v
 abbrev pub gives : (code : ℕ) → ℤ → ℤ → ℤ → Case
 gives code a b v =
-    running (binary code) (operands a b) [] 2048 2048 8 (values completed 1 3 0) (root 0 0 (spent a) ∷ root 0 1 (spent b) ∷ root 1 0 (live v) ∷ []) []
+    running (binary code) (operandInputs a b) [] 2048 2048 8 (values completed 1 3 0) (root 0 0 (spent a) ∷ root 0 1 (spent b) ∷ root 1 0 (live v) ∷ []) []
 
 -- the operation is refused, and its operands stay live
 abbrev pub refuses : (code : ℕ) → ℤ → ℤ → (number : ℕ) → Case
 refuses code a b number =
-    running (binary code) (operands a b) [] 2048 2048 8 (values number 0 2 0) (root 0 0 (live a) ∷ root 0 1 (live b) ∷ []) []
+    running (binary code) (operandInputs a b) [] 2048 2048 8 (values number 0 2 0) (root 0 0 (live a) ∷ root 0 1 (live b) ∷ []) []
 
 -- 0 is FETCH to 1 port 0; 1 is OUT; 2 is STORE. Cell 5 is fetched, and 40 stored to it
 abbrev pub fetchAndStore : (picks : List ℕ) → Case
@@ -46,13 +46,13 @@ starred =
     -- the printed example
     gives 16 (pos 7) (negsuc 8) (negsuc 1)
     -- budget 0; 1
-    ∷ running (binary 16) (operands (pos 7) (negsuc 8)) [] 0 2048 8 (values spentWord 0 2 0) (root 0 0 (live (pos 7)) ∷ root 0 1 (live (negsuc 8)) ∷ []) []
-    ∷ running (binary 16) (operands (pos 7) (negsuc 8)) [] 1 2048 8 (values completed 1 3 0)
+    ∷ running (binary 16) (operandInputs (pos 7) (negsuc 8)) [] 0 2048 8 (values spentWord 0 2 0) (root 0 0 (live (pos 7)) ∷ root 0 1 (live (negsuc 8)) ∷ []) []
+    ∷ running (binary 16) (operandInputs (pos 7) (negsuc 8)) [] 1 2048 8 (values completed 1 3 0)
     (root 0 0 (spent (pos 7)) ∷ root 0 1 (spent (negsuc 8)) ∷ root 1 0 (live (negsuc 1)) ∷ [])
     []
     -- capacity 2; 1
-    ∷ running (binary 16) (operands (pos 7) (negsuc 8)) [] 2048 2 8 (values 8 0 2 0) (root 0 0 (live (pos 7)) ∷ root 0 1 (live (negsuc 8)) ∷ []) []
-    ∷ running (binary 16) (operands (pos 7) (negsuc 8)) [] 2048 1 8 (values 8 0 0 1) [] []
+    ∷ running (binary 16) (operandInputs (pos 7) (negsuc 8)) [] 2048 2 8 (values 8 0 2 0) (root 0 0 (live (pos 7)) ∷ root 0 1 (live (negsuc 8)) ∷ []) []
+    ∷ running (binary 16) (operandInputs (pos 7) (negsuc 8)) [] 2048 1 8 (values 8 0 0 1) [] []
     -- no inputs
     ∷ running (binary 16) [] [] 2048 2048 8 (values completed 0 0 0) [] []
     -- COPY with both destinations alike
@@ -113,14 +113,14 @@ oneOperand = running (binary 16) (input 0 0 (pos 7)) [] 0 2048 8 (values hung 0 
 -- 0 is SWITCH to 1 or 2, both OUT
 abbrev pub switched : (control : ℤ) → (instruction : ℕ) → Case
 switched control i =
-    running (to2 5 (pos 0) 0 1 0 2 ++ to0 3 (pos 0) ++ to0 3 (pos 0)) (operands (pos 7) control) [] 2048 2048 8 (values completed 1 3 0)
+    running (to2 5 (pos 0) 0 1 0 2 ++ to0 3 (pos 0) ++ to0 3 (pos 0)) (operandInputs (pos 7) control) [] 2048 2048 8 (values completed 1 3 0)
     (root 0 0 (spent (pos 7)) ∷ root 0 1 (spent control) ∷ root i 0 (live (pos 7)) ∷ [])
     []
 
 -- 0 is STORE with a signal to 1, which is OUT
 abbrev pub signalled : Case
 signalled =
-    running (to1 11 (pos 0) 0 1 ++ to0 3 (pos 0)) (operands (pos 5) (pos 40)) [] 2048 2048 8 (values completed 1 3 0)
+    running (to1 11 (pos 0) 0 1 ++ to0 3 (pos 0)) (operandInputs (pos 5) (pos 40)) [] 2048 2048 8 (values completed 1 3 0)
     (root 0 0 (spent (pos 5)) ∷ root 0 1 (spent (pos 40)) ∷ root 1 0 (live (pos 0)) ∷ [])
     (cell 5 (present (pos 40)) ∷ [])
 
@@ -233,7 +233,7 @@ loop =
 -- refused in every order, by different numbers: 0 is DIV, by 0, and 1 is FETCH of cell -1
 abbrev pub bothRefused : (picks : List ℕ) → (number place : ℕ) → Case
 bothRefused picks number place =
-    running (to1 19 (pos 0) 0 2 ++ to1 10 (pos 0) 0 3 ++ to0 3 (pos 0) ++ to0 3 (pos 0)) (operands (pos 7) (pos 0) ++ input 1 0 (negsuc 0)) picks 2048 2048 8
+    running (to1 19 (pos 0) 0 2 ++ to1 10 (pos 0) 0 3 ++ to0 3 (pos 0) ++ to0 3 (pos 0)) (operandInputs (pos 7) (pos 0) ++ input 1 0 (negsuc 0)) picks 2048 2048 8
     (values number 0 3 place)
     (root 0 0 (live (pos 7)) ∷ root 0 1 (live (pos 0)) ∷ root 1 0 (live (negsuc 0)) ∷ [])
     []
@@ -285,7 +285,7 @@ badLent inputs picks capacity cells number place = refusedFirst (to1 1 (pos 0) 0
 
 -- an input that is not at the root
 abbrev pub lostInput : List ℕ
-lostInput = Tokens.encode (tokenRecord (token 256 0 0 0 (live (pos 7))))
+lostInput = Tokens.encodeToken (tokenRecord (token 256 0 0 0 (live (pos 7))))
 
 -- 0 enters site 1 at 1, which leaves with a constant of 1: the return instruction 2 plus 1 is past the graph
 abbrev pub returnsPast : Case

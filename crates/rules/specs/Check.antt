@@ -54,7 +54,7 @@ module _ {A : Type 0} where
 
 -- a record's position is its instruction number; past the graph stands an unknown operation, which has no operands
 unfoldable pub instructionAt : List Instruction → ℕ → Instruction
-instructionAt g i = getD g i (Graph.decode [])
+instructionAt g i = getD g i (Graph.decodeInstruction [])
 
 unfoldable pub operandsAt : List Instruction → ℕ → ℕ
 operandsAt g i = operandsOf (instructionAt g i .code)
@@ -145,7 +145,7 @@ secondInput earlier t = any (standsAt (t .tag) (t .port)) earlier
 
 unfoldable pub checkInputs : List Instruction → (capacity : ℕ) → (inputs : List ℕ) → Checked
 checkInputs g capacity inputs =
-    let ts = allRows tokenWidth Tokens.decode inputs in
+    let ts = allRows tokenWidth Tokens.decodeToken inputs in
     inTurn (λ i good. demand good BadInput i) 0 (allRows tokenWidth (goodInput g) inputs)
     andThen demand (leb (length ts) capacity) LedgerFull capacity
     andThen inTurn (λ i t. demand (not (secondInput (take i ts) t)) SecondToken i) 0 ts

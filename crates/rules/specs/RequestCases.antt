@@ -10,7 +10,7 @@ use Rattle.machine.specs.Machine.{Content, live, spent, deferred, Token, waitin
 use Rattle.rules.specs.declared.answer.Refusal.the-variants.{BadInput, BadStore, NotLoopFree}
 use Rattle.rules.specs.declared.answer.Needs.the-variants.{AtMost, Refused}
 use Rattle.rules.specs.Answer.{Values}
-use Rattle.rules.specs.CaseRows.{to0, to1, to2, root, input, values, completed, spentWord, hung, binary, operands, Numbered, Case, cell, running, naming, profiling, logging, replaying, needing}
+use Rattle.rules.specs.CaseRows.{to0, to1, to2, root, input, values, completed, spentWord, hung, binary, operandInputs, NumberedCell, Case, cell, running, naming, profiling, logging, replaying, needing}
 
 -- ---- R-1
 
@@ -19,7 +19,7 @@ step f u = record { firings = f; unspent = u }
 
 -- ADD of 7 and -9, with a profile of `lent` bytes
 abbrev pub added : (lent : ℕ) → Values → List StepRecord → List (Token Tag ℤ) → Case
-added lent a rs ts = profiling (binary 16) (operands (pos 7) (negsuc 8)) 2048 8 lent a rs ts
+added lent a rs ts = profiling (binary 16) (operandInputs (pos 7) (negsuc 8)) 2048 8 lent a rs ts
 
 -- 0 is COPY to 2, which is OUT, 1 is COPY to 3, which is DIV by 0 to 2. The second step is refused
 abbrev pub refusedStep : (lent : ℕ) → Values → Case
@@ -48,7 +48,7 @@ abbrev pub addLog : List ℕ
 addLog = replicate 20 0
 
 abbrev pub replaysAdd : (log : List ℕ) → Values → Case
-replaysAdd log a = replaying (binary 16) (operands (pos 7) (negsuc 8)) log a
+replaysAdd log a = replaying (binary 16) (operandInputs (pos 7) (negsuc 8)) log a
 
 -- 0 and 1 are COPY to 2 and to 3, both OUT. Instruction 1 fires first
 abbrev pub twoCopies : List ℕ
@@ -59,11 +59,11 @@ secondFirst = replicate 18 0 ++ bytes16 1
 
 abbrev pub logs : List Case
 logs =
-    logging (binary 16) (operands (pos 7) (negsuc 8)) [] 2 40 (values completed 1 3 0) addLog
+    logging (binary 16) (operandInputs (pos 7) (negsuc 8)) [] 2 40 (values completed 1 3 0) addLog
     -- one record is fewer than the budget; 2,048 are enough for every budget; 45 bytes are not whole
-    ∷ logging (binary 16) (operands (pos 7) (negsuc 8)) [] 2 20 (values 7 0 0 0) []
-    ∷ logging (binary 16) (operands (pos 7) (negsuc 8)) [] 65535 40960 (values completed 1 3 0) addLog
-    ∷ logging (binary 16) (operands (pos 7) (negsuc 8)) [] 2 45 (values 7 0 0 0) []
+    ∷ logging (binary 16) (operandInputs (pos 7) (negsuc 8)) [] 2 20 (values 7 0 0 0) []
+    ∷ logging (binary 16) (operandInputs (pos 7) (negsuc 8)) [] 65535 40960 (values completed 1 3 0) addLog
+    ∷ logging (binary 16) (operandInputs (pos 7) (negsuc 8)) [] 2 45 (values 7 0 0 0) []
     ∷ logging twoCopies (input 0 0 (pos 7) ++ input 1 0 (pos 8)) (bytes16 1) 1 20 (values spentWord 1 3 0) secondFirst
     ∷ replaysAdd addLog (values completed 1 3 0)
     ∷ replaysAdd [] (values spentWord 0 2 0)
@@ -102,11 +102,11 @@ vectorSum =
 abbrev pub sized : List Case
 sized =
     -- the printed example; without its second input
-    needing (binary 16) (operands (pos 7) (negsuc 8)) (AtMost 1 3)
+    needing (binary 16) (operandInputs (pos 7) (negsuc 8)) (AtMost 1 3)
     ∷ needing (binary 16) (input 0 0 (pos 7)) (AtMost 0 1)
     -- a SWITCH reaches both sides and counts one output: a run fires one COPY less
-    ∷ needing twoSides (operands (pos 7) (pos 0)) (AtMost 3 5)
-    ∷ running twoSides (operands (pos 7) (pos 0)) [] 2048 2048 8 (values completed 2 4 0)
+    ∷ needing twoSides (operandInputs (pos 7) (pos 0)) (AtMost 3 5)
+    ∷ running twoSides (operandInputs (pos 7) (pos 0)) [] 2048 2048 8 (values completed 2 4 0)
     (root 0 0 (spent (pos 7)) ∷ root 0 1 (spent (pos 0)) ∷ root 2 0 (spent (pos 7)) ∷ root 4 0 (live (pos 7)) ∷ [])
     []
     ∷ needing vectorSum (input 0 0 (pos 0) ++ input 2 0 (pos 2) ++ input 5 0 (pos 1) ++ input 7 0 (pos 3)) (AtMost 10 15)
@@ -129,7 +129,7 @@ abbrev pub array : (first length : ℕ) → List ℕ
 array first n = bytes16 first ++ bytes16 n
 
 -- 0 is STORE to the array with this constant, of 40 at an index; array 1 has cells 2 and 3, array 2 has cells 3 to 5
-abbrev pub storeIn : (constant index : ℤ) → Values → (Content ℤ × Content ℤ) → List Numbered → Case
+abbrev pub storeIn : (constant index : ℤ) → Values → (Content ℤ × Content ℤ) → List NumberedCell → Case
 storeIn k index a tokens cs = naming (to0 11 k) (array 2 2 ++ array 3 3) (input 0 0 index ++ input 0 1 (pos 40)) 6 a (root 0 0 (tokens .0) ∷ root 0 1 (tokens .1) ∷ []) cs
 
 abbrev pub storedIn : (constant index : ℤ) → (number : ℕ) → Case
@@ -172,5 +172,5 @@ named =
     ∷ badArray (array 4 3) (input 0 1 (pos 7)) (pos 0) 22 0
     ∷ badArray (array 4 2) (input 0 1 (pos 7)) (pos 1) 6 0
     -- the bounds let the constant by
-    ∷ needing (to0 11 (pos 9)) (operands (pos 1) (pos 40)) (AtMost 1 2)
+    ∷ needing (to0 11 (pos 9)) (operandInputs (pos 1) (pos 40)) (AtMost 1 2)
     ∷ []

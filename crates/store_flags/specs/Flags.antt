@@ -80,13 +80,13 @@ atMostOne zero = 0
 atMostOne (suc n) = 1
 
 -- 1 for a word that has any flag set
-abbrev pub any : ℕ → ℕ
-any w = atMostOne (ones (inWord w))
+abbrev pub anySet : ℕ → ℕ
+anySet w = atMostOne (ones (inWord w))
 
 -- word 32 says which of those before it have any flag set
 pub record Summed (ws : List ℕ) : Type 0 where
   pub count : length ws ≡ 69
-  pub last : inWord (getD ws 32 0) ≡ map any (take 32 ws) ++ replicate 32 0
+  pub last : inWord (getD ws 32 0) ≡ map anySet (take 32 ws) ++ replicate 32 0
 
 -- the invariant that every operation keeps; the counts stand behind word 32
 pub record Counted (ws : List ℕ) : Type 0 where

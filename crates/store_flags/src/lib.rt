@@ -6,7 +6,7 @@ ghost use mathlib.Core.Path.{_≡_};
 ghost use Prim.Native.Nat.{_+_, _-_, _*_, _≤_, _<_};
 ghost use lib.Dec.{eqb};
 ghost use lib.ListN.{length, getD, set, take, drop};
-ghost use Rattle.store_flags.specs.Flags.{ones, place, places, minus, Under, FirstIn, inWord, flagsOf, any, Summed, Counted};
+ghost use Rattle.store_flags.specs.Flags.{ones, place, places, minus, Under, FirstIn, inWord, flagsOf, anySet, Summed, Counted};
 
 // The words of the flags, with what is known of them behind.
 pub const LENGTH: usize = 69;
@@ -49,7 +49,7 @@ fn marked(word: u64, k: usize) -> u64
 // The same, where a flag of it is lowered, and it is `after`.
 fn unmark(marks: u64, b: usize, after: u64) -> u64
     requires { ⌜ (b < 64) × (getD (inWord marks) b 0 ≡ 1) ⌝ }
-    ensures { λ r. ⌜ inWord r ≡ set (inWord marks) b (any after) ⌝ }
+    ensures { λ r. ⌜ inWord r ≡ set (inWord marks) b (anySet after) ⌝ }
 {
     if after == 0 { lowered(marks, b) } else { marks }
 }

@@ -6,12 +6,12 @@ use borrow.Author.Tests.{ne-eqb}
 use Rattle.rules.specs.Answer.{numberOf}
 use Rattle.rules.specs.declared.answer.Refusal.{Refusal}
 use Rattle.abi.specs.declared.Numbered.the-variants.{NoRefusal}
-use Rattle.abi.specs.Numbers.{refusals, lookup, refusalOf}
+use Rattle.abi.specs.Numbers.{refusals, refusalWith, refusalOf}
 use Rattle.record.proofs.LastArm.{Absent, onto, turned}
 use Rattle.abi.proofs.refusal_of.Statement.{statement}
 use Rattle.abi.proofs.refusal_of.Tie as tie
 
-absent : (rs : List Refusal) (n : ℕ) → Absent numberOf rs n → lookup rs n ≡ NoRefusal
+absent : (rs : List Refusal) (n : ℕ) → Absent numberOf rs n → refusalWith rs n ≡ NoRefusal
 absent [] n h = refl
 absent (r ∷ rs) n h = rw (ne-eqb n (numberOf r) (h .0)) (absent rs n (h .1))
 

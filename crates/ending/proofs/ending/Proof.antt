@@ -5,7 +5,7 @@ use mathlib.Core.Bool.{true}
 use native.Mathlib.Omega.{arith}
 use borrow.Author.Tests.{not-true, not-false}
 use lib.ListN.{drop, length, drop-of-length-le}
-use Rattle.record.specs.TokensAndTags.{tokens, decode}
+use Rattle.record.specs.TokensAndTags.{tokens, decodeToken}
 use Rattle.record.specs.Widths.{tokenWidth}
 use Rattle.buffer.proofs.Tables.{length-rows}
 use Rattle.ending.proofs.Laws.{allBy, ends-completed, ends-hung, pass-on, stop-here, four-before, pass-four}
@@ -27,7 +27,7 @@ ending-spec =
     (λ c.  -- loop-holds
     let s = c .before in
     let ts = tokens (s .args .used) (s .args .ledger .now) in
-    let past : length ts ≤ s .args .used = omega (arith, length-rows tokenWidth decode (s .args .used) (s .args .ledger .now)) in
+    let past : length ts ≤ s .args .used = omega (arith, length-rows tokenWidth decodeToken (s .args .used) (s .args .ledger .now)) in
     (omega arith, ap (allBy (s .args .tables .now)) (drop-of-length-le ts past)))
     (λ c κs. omega arith)  -- four-spent-requires
     (λ c. let l = c .before .before .before in omega (arith, four-before (l .before .before .args .ledger .now) (l .loop .i) (sym (c .before .four-spent .ensures) ∙ c .if1 .taken)))  -- sub-i

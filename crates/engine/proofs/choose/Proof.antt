@@ -7,9 +7,13 @@ use Rattle.engine.proofs.choose.Tie as tie
 pub choose-spec : {M : Type 1} → statement M
 choose-spec = tie.close (tie.spec
     (λ c. search needs)  -- enum-told
-    (λ c κs. record { links = c .before .before .before .before .args .links .now; matching = c .before .before .before .before .pre .0 })  -- oldest-requires
+    (λ c κs.  -- oldest-requires
+    let entry = c .before .before .before .before in
+    record { links = entry .args .links .now; matching = entry .pre .0 })
     (λ c. search needs)  -- enum-told-2
-    (λ c κs. record { links = c .before .before .before .before .args .links .now; matching = c .before .before .before .before .pre .0 })  -- by-pick-requires
+    (λ c κs.  -- by-pick-requires
+    let entry = c .before .before .before .before in
+    record { links = entry .args .links .now; matching = entry .pre .0 })
     (λ c. search needs)  -- enum-told-3
     (λ c κs. c .before .before .before .before .pre .0)  -- by-record-requires
     (λ c. search needs)  -- enum-told-4

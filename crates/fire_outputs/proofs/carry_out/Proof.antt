@@ -9,7 +9,7 @@ use Rattle.record.specs.TokensAndTags.{tokens}
 use Rattle.store_enabled.proofs.Spending.{spendable-within}
 use Rattle.store.proofs.Laws.{matching-counted, matching-few, matching-room}
 use Rattle.fire_outputs.proofs.Laws.{kept-spent, kept-again, kept-as, kept-room, kept-most, on-more, low-content, keys-carried}
-use Rattle.fire_outputs.specs.Outputs.{Kept, spentAt, outputsOf, wokenBy, cellsIn}
+use Rattle.fire_outputs.specs.Outputs.{Kept, spentAt, outputTokens, wokenBy, cellsIn}
 use Rattle.fire_outputs.proofs.carry_out.Statement.{statement}
 use Rattle.fire_outputs.proofs.carry_out.Tie as tie
 
@@ -50,14 +50,15 @@ carry-out-spec = tie.close (tie.spec
     (λ c. search needs)  -- same-length
     (λ c. search needs)  -- same-length-2
     (λ c.  -- returns
+    let at-change-cells = c .before .before .before .before .before .before .before .before .before .before .before .before .before .before .change-cells in
     let s = c .before .before .before .before .before .before .before .before .before .before .before .before .before .before .before .before .before .before .before .before .before .before .before in
     let a = s .args in
     let k = spent (c .before .before .before .before .before .before .before .before .before .before .before .before .before .before .before .before .before .before) in
     let w = kept-again k (wokenBy (a .action)) (a .used) (le-refl (a .used)) (c .before .before .before .before .before .before .before .before .wake .ensures) in
-    let e = c .before .before .before .before .before .before .before .before .before .before .before .before .before .before .change-cells .ensures in
+    let e = at-change-cells .ensures in
     let o = c .before .before .append-outputs .ensures in
-    let v = kept-again w (λ ts. ts ++ outputsOf (c .before .before .before .before .before .before .before .before .before .before .before .before .before .before .change-cells .result) (a .outputs)) (a .used + a .outputs .count) (le-add-right (a .used) (a .outputs .count)) (o .1) in (
+    let v = kept-again w (λ ts. ts ++ outputTokens (at-change-cells .result) (a .outputs)) (a .used + a .outputs .count) (le-add-right (a .used) (a .outputs .count)) (o .1) in (
       o .0,
-      kept-as v (ap (λ x. wokenBy (a .action) (spentAt (a .operands .place) (a .operands .other) (tokens (a .used) (a .ledger .now))) ++ outputsOf x (a .outputs)) (e .0)),
+      kept-as v (ap (λ x. wokenBy (a .action) (spentAt (a .operands .place) (a .operands .other) (tokens (a .used) (a .ledger .now))) ++ outputTokens x (a .outputs)) (e .0)),
       e .1,
     )))

@@ -12,11 +12,12 @@ follow-spec = tie.close (tie.spec
     (λ c κs. let s = c .before .before .before .before in (s .pre .1, s .pre .2, s .pre .3, s .pre .8 .countedNexts, s .pre .8 .clear))  -- list-new-requires
     (λ c κs. let s = c .before .before .before .before .before .before .before in (s .pre .2, s .pre .3, c .before .before .list-new .ensures .0, s .pre .8 .countedHeld))  -- drop-spent-requires
     (λ c κs.  -- decide-requires
+    let at-drop-spent = c .before .before .before .drop-spent in
     let s = c .before .before .before .before .before .before .before .before .before .before .before in
     let a = s .args in
     let h = s .pre .8 in
     let new = c .before .before .before .before .before .before .list-new .ensures in
-    let drop = c .before .before .before .drop-spent .ensures in
+    let drop = at-drop-spent .ensures in
     let g = graphOf (a .graph .now) in
     let nexts = flagsOf (a .nexts .now) in
     let held = flagsOf (a .held .now) in
@@ -34,7 +35,7 @@ follow-spec = tie.close (tie.spec
       clear,
       under,
       marked-more (a .tables .now) (a .ledger .now) (a .bound) (a .used) (a .n) (a .marks .now) (s .pre .1) (h .marked),
-      listed-all g (a .bound) (flagsOf (a .flags .now)) (flagsOf (c .before .before .before .drop-spent .last .1 .1 .1 .0)) (a .ledger .now) (a .n) (s .pre .7) right,
+      listed-all g (a .bound) (flagsOf (a .flags .now)) (flagsOf (at-drop-spent .last .1 .1 .1 .0)) (a .ledger .now) (a .n) (s .pre .7) right,
       standing-dropped g (a .bound) (a .ledger .now) (a .used) (a .n) nexts held _ (new .1) (a .place) _ _ (drop .2) (a .marks .now) (standing-more g (a .ledger .now) (a .bound) (a .used) (a .n) held (a .marks .now) (s .pre .1) (h .standing)),
     ))
     (λ c. c .before .before .decide .ensures .1 .0 .1 .size ∙ sym (c .before .before .before .before .before .before .before .before .before .before .before .before .before .before .pre .8 .marked .size))  -- same-length

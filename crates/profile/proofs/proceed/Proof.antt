@@ -7,10 +7,10 @@ use lib.ListN.{length}
 use borrow.Author.Needs.{needs}
 use Rattle.record.specs.GraphRecords.{graphOf}
 use Rattle.store.proofs.Laws.{matching-counted, matching-places, matching-room}
-use Rattle.rules.specs.Profile.{stepWidth}
 use Rattle.profile.proofs.Looping.{SoFar, went-joined, firings-few, begun, same-profile, advanced, halted, finished}
 use Rattle.profile.proofs.proceed.Statement.{statement}
 use Rattle.profile.proofs.proceed.Tie as tie
+use Rattle.record.specs.Widths.{stepWidth}
 
 abbrev Inv-loop : tie.InvT-loop
 Inv-loop graph tables links₀ flags₀ ledger₀ cells₀ profile₀ start room places₀ used₀ unspent₀ firings₀ records₀ links flags ledger cells profile places used unspent firings records =
@@ -51,10 +51,11 @@ proceed-spec =
     omega (arith, more))
     (λ c. omega (arith, c .before .before .before .before .before .before .before .before .before .before .before .before .before .before .before .before .before .loop-test .taken))  -- loop-less
     (λ c.  -- loop-again
+    let at-step = c .before .before .before .before .before .before .before .before .before .before .before .step in
     let l = c .before .before .before .before .before .before .before .before .before .before .before .before .before .before .before .before .before .before in
     let s = l .before .before .before .before .before in
-    let w = rw (c .before .before .before .before .before .ended .given .1) at (c .before .before .before .before .before .before .before .before .before .before .before .step .ensures .0) in
-    (advanced _ _ _ (s .pre .0) (s .pre .1) (l .loop .inv .0) (c .before .before .before .before .before .before .before .before .before .before .before .before .before .before .before .before .before .loop-test .taken) w (c .before .before .put-record .ensures), c .before .before .before .before .before .before .before .before .before .before .before .step .ensures .1))
+    let w = rw (c .before .before .before .before .before .ended .given .1) at (at-step .ensures .0) in
+    (advanced _ _ _ (s .pre .0) (s .pre .1) (l .loop .inv .0) (c .before .before .before .before .before .before .before .before .before .before .before .before .before .before .before .before .before .loop-test .taken) w (c .before .before .put-record .ensures), at-step .ensures .1))
     (λ c. search needs)  -- enum-known-ended-2
     (λ c.  -- add-answered
     let l = c .before .before .before .before .before .before .before .before .before .before .before .before .before .before in

@@ -41,15 +41,22 @@ step-spec = tie.close (tie.spec
     (step-none _ (s .pre .0) (s .pre .1) _ (n .enabled-places .ensures .counted) (c .before .before .if1 .taken) _ (c .ending .ensures), n .enabled-places .ensures .size))
     (λ c κs. let s = c .before .before .before .before .before .before .before .before .before .before .before .before in (s .pre .0, s .pre .1, c .before .before .before .before .before .before .enabled-places .ensures, omega (arith, c .before .before .before .before .before .if1 .left)))  -- in-turn-requires
     (λ c. search needs)  -- enum-known-outcome
-    (λ c. all-of (c .before .before .before .before .before .in-turn .result .outcome) (c .match .keys2) (c .before .before .before .before .before .in-turn .ensures) .went .grown)  -- sub-t31
+    (λ c.  -- sub-t31
+    let at-in-turn = c .before .before .before .before .before .in-turn in
+    all-of (at-in-turn .result .outcome) (c .match .keys2) (at-in-turn .ensures) .went .grown)
     (λ c.  -- add-t32
+    let at-in-turn = c .before .before .before .before .before .in-turn in
     let s = c .before .before .before .before .before .before .before .before .before .before .before .before .before .before .before .before .before .before in
-    let a = all-of (c .before .before .before .before .before .in-turn .result .outcome) (c .match .keys2) (c .before .before .before .before .before .in-turn .ensures) in
+    let a = all-of (at-in-turn .result .outcome) (c .match .keys2) (at-in-turn .ensures) in
     omega (arith, unspent-below (s .pre .1) (s .pre .2), matching-few (s .pre .1 .matching), matching-few (a .went .running .matching)))
-    (λ c. let s = c .before .before .before .before .before .before .before .before .before .before .before .before .before .before .before .before .before .before .before in let a = all-of (c .before .before .before .before .before .before .in-turn .result .outcome) (c .before .match .keys2) (c .before .before .before .before .before .before .in-turn .ensures) in omega (arith, a .unspentLeft, s .pre .2))  -- sub-t33
+    (λ c.  -- sub-t33
+    let at-in-turn = c .before .before .before .before .before .before .in-turn in
+    let s = c .before .before .before .before .before .before .before .before .before .before .before .before .before .before .before .before .before .before .before in let a = all-of (at-in-turn .result .outcome) (c .before .match .keys2) (at-in-turn .ensures) in omega (arith, a .unspentLeft, s .pre .2))
     (λ c. search needs)  -- same-length-2
     (λ c. search needs)  -- same-length-3
     (λ c. (rw (c .before .outcome .given .1) at (c .before .before .before .before .before .before .before .in-turn .ensures), c .before .before .before .before .before .before .before .before .before .before .before .before .before .before .enabled-places .ensures .size))  -- returns-2
     (λ c. search needs)  -- same-length-4
     (λ c. search needs)  -- same-length-5
-    (λ c. (step-whole (all-of (c .before .before .before .before .before .before .in-turn .result .outcome) (c .before .match .keys2) (c .before .before .before .before .before .before .in-turn .ensures)) (c .before .before .before .before .before .before .before .before .before .before .before .before .before .before .before .before .before .before .before .pre .2), c .before .before .before .before .before .before .before .before .before .before .before .before .before .enabled-places .ensures .size)))  -- returns-3
+    (λ c.  -- returns-3
+    let at-in-turn = c .before .before .before .before .before .before .in-turn in
+    (step-whole (all-of (at-in-turn .result .outcome) (c .before .match .keys2) (at-in-turn .ensures)) (c .before .before .before .before .before .before .before .before .before .before .before .before .before .before .before .before .before .before .before .pre .2), c .before .before .before .before .before .before .before .before .before .before .before .before .before .enabled-places .ensures .size)))

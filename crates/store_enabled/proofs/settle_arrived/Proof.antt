@@ -8,14 +8,14 @@ use borrow.Author.Tests.{ltb-true}
 use lib.Dec.{ltb}
 use Rattle.record.specs.TokensAndTags.{tokens}
 use Rattle.store_chains.proofs.Index.{and-left}
-use Rattle.store_enabled.specs.Enabled.{allLive, waitedFor}
+use Rattle.store_enabled.specs.Enabled.{operandsLive, waitedFor}
 use Rattle.store_enabled.proofs.Arriving.{last-partner, last-place, last-flag, last-operand}
 use Rattle.store_enabled.proofs.settle_arrived.Statement.{statement}
 use Rattle.store_enabled.proofs.settle_arrived.Tie as tie
 
 -- whether it is an operand, and its tag's operands are all live
 whole : (c : tie.After-completes-by)
-    → let a = c .before .before .args in let n = waitedFor (a .entry) (a .tag) in c .completes-by .result ≡ ltb (a .port) n && allLive n (tokens (a .own + 1) (a .ledger .now)) (a .tag)
+    → let a = c .before .before .args in let n = waitedFor (a .entry) (a .tag) in c .completes-by .result ≡ ltb (a .port) n && operandsLive n (tokens (a .own + 1) (a .ledger .now)) (a .tag)
 whole c =
     let s = c .before .before in
     c .completes-by .ensures ∙ last-operand (s .pre .1) (waitedFor (s .args .entry) (s .args .tag)) (s .pre .2)
@@ -25,7 +25,7 @@ waited : (c : tie.After-completes-by) → c .completes-by .result ≡ true → l
 waited c e =
     let a = c .before .before .args in
     let n = waitedFor (a .entry) (a .tag) in
-    ltb-true (a .port) n (and-left (ltb (a .port) n) (allLive n (tokens (a .own + 1) (a .ledger .now)) (a .tag)) (sym (whole c) ∙ e))
+    ltb-true (a .port) n (and-left (ltb (a .port) n) (operandsLive n (tokens (a .own + 1) (a .ledger .now)) (a .tag)) (sym (whole c) ∙ e))
 
 pub settle-arrived-spec : {M : Type 1} → statement M
 settle-arrived-spec = tie.close (tie.spec

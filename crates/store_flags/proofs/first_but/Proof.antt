@@ -56,10 +56,11 @@ first-but-spec = tie.close (tie.spec
     (λ c. search needs)  -- add-b
     (λ c. search needs)  -- loop-less
     (λ c.  -- loop-again
+    let at-loop = c .before .before .before .before .loop in
     let s = c .before .before .before .before .before .before .before .before .before in
     let w = c .before .before .word-but in
-    word-passed (s .pre .0) (s .pre .1) (s .pre .2) (c .before .before .before .before .loop .b) (w .result) (w .ensures)
-    (eqb-true (ones (inWord (w .result))) 0 (sym (c .before .has-none .ensures) ∙ not-false _ (c .if2 .left))) (c .before .before .before .before .loop .inv))
+    word-passed (s .pre .0) (s .pre .1) (s .pre .2) (at-loop .b) (w .result) (w .ensures)
+    (eqb-true (ones (inWord (w .result))) 0 (sym (c .before .has-none .ensures) ∙ not-false _ (c .if2 .left))) (at-loop .inv))
     (λ c.  -- returns-3
     let s = c .before .before .before .before .before .before in
     none-behind (s .pre .0) (s .pre .1) (s .pre .2) (c .before .loop .b) (omega (arith, c .loop-test .left)) (c .before .loop .inv)))

@@ -4,7 +4,7 @@ use mathlib.Core.Path.{ap, _∙_}
 use native.Mathlib.Omega.{arith}
 use lib.ListN.{getD, set}
 use borrow.Author.Needs.{needs}
-use Rattle.store_flags.specs.Flags.{inWord, any}
+use Rattle.store_flags.specs.Flags.{inWord, anySet}
 use Rattle.store_flags.proofs.Words.{words-flag, word-bounds, group-bounds, mark-at, any-some, marks-kept, in-word-kept, in-group-kept, flags-put, counted-put}
 use Rattle.store_flags.proofs.lower.Statement.{statement}
 use Rattle.store_flags.proofs.lower.Tie as tie
@@ -39,9 +39,10 @@ lower-spec = tie.close (tie.spec
     (λ c. search needs)  -- mul-in-group
     (λ c. search needs)  -- element-copy-out-in-group
     (λ c.  -- sub-flags-2
+    let at-lowered = c .before .before .before .before .lowered in
     let s = c .before .before .before .before .before .before in
     let i = s .args .i in
-    omega (arith, s .pre .2, group-bounds (s .pre .1) i (s .pre .0), in-group-kept (s .args .flags .now) i (c .before .before .before .before .lowered .result) (c .before .before .unmark .result) (getD (set (set (s .args .flags .now) (i / 64) (c .before .before .before .before .lowered .result)) 32 (c .before .before .unmark .result)) (33 + i / 64) 0 - 1) (s .pre .0)))
+    omega (arith, s .pre .2, group-bounds (s .pre .1) i (s .pre .0), in-group-kept (s .args .flags .now) i (at-lowered .result) (c .before .before .unmark .result) (getD (set (set (s .args .flags .now) (i / 64) (at-lowered .result)) 32 (c .before .before .unmark .result)) (33 + i / 64) 0 - 1) (s .pre .0)))
     (λ c. search needs)  -- add-flags-2
     (λ c. search needs)  -- mul-flags-3
     (λ c. search needs)  -- element-write-flags-4
@@ -51,7 +52,7 @@ lower-spec = tie.close (tie.spec
     let f = s .args .flags .now in
     let w = c .before .before .before .before .lowered in
     let m = c .before .before .unmark in
-    let marked = m .ensures ∙ ap (λ (x : ℕ). set (inWord x) (i / 64) (any (w .result))) (marks-kept f i (w .result) (s .pre .0)) in
+    let marked = m .ensures ∙ ap (λ (x : ℕ). set (inWord x) (i / 64) (anySet (w .result))) (marks-kept f i (w .result) (s .pre .0)) in
     let n = word-bounds (s .pre .1) i (s .pre .0) in
     let n′ = in-word-kept f i (w .result) (m .result) (s .pre .0) in
     let g = group-bounds (s .pre .1) i (s .pre .0) in

@@ -33,9 +33,10 @@ raise-spec = tie.close (tie.spec
     (λ c. search needs)  -- mul-in-group
     (λ c. search needs)  -- element-copy-out-in-group
     (λ c.  -- add-flags-3
+    let at-raised = c .before .before .before .before .raised in
     let s = c .before .before .before .before .before .before in
     let i = s .args .i in
-    record { fits = omega (arith, group-bounds (s .pre .1) i (s .pre .0), in-group-kept (s .args .flags .now) i (c .before .before .before .before .raised .result) (c .before .before .marked .result) (getD (set (set (s .args .flags .now) (i / 64) (c .before .before .before .before .raised .result)) 32 (c .before .before .marked .result)) (33 + i / 64) 0 + 1) (s .pre .0)) })
+    record { fits = omega (arith, group-bounds (s .pre .1) i (s .pre .0), in-group-kept (s .args .flags .now) i (at-raised .result) (c .before .before .marked .result) (getD (set (set (s .args .flags .now) (i / 64) (at-raised .result)) 32 (c .before .before .marked .result)) (33 + i / 64) 0 + 1) (s .pre .0)) })
     (λ c. search needs)  -- add-flags-4
     (λ c. search needs)  -- mul-flags-3
     (λ c. search needs)  -- element-write-flags-4

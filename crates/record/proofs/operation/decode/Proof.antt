@@ -4,7 +4,7 @@ use mathlib.Core.List.{List, [], _∷_}
 use Prim.Native.Nat.{ℕ}
 use borrow.Author.Tests.{ne-eqb}
 use Rattle.record.specs.declared.operation.Operation.the-variants.{Unknown}
-use Rattle.record.specs.GraphRecords.{Row, table, lookup, rowOf}
+use Rattle.record.specs.GraphRecords.{Row, table, rowWith, rowOf}
 use Rattle.record.proofs.LastArm.{Absent, onto, turned}
 use Rattle.record.proofs.operation.decode.Statement.{statement}
 use Rattle.record.proofs.operation.decode.Tie as tie
@@ -12,7 +12,7 @@ use Rattle.record.proofs.operation.decode.Tie as tie
 abbrev code : Row → ℕ
 code r = r .code
 
-absent : (rs : List Row) (n : ℕ) → Absent code rs n → lookup rs n .operation ≡ Unknown
+absent : (rs : List Row) (n : ℕ) → Absent code rs n → rowWith rs n .operation ≡ Unknown
 absent [] n h = refl
 absent (r ∷ rs) n h = rw (ne-eqb n (r .code) (h .0)) (absent rs n (h .1))
 
