@@ -126,10 +126,10 @@ CellsLent x lent = (length lent % cellWidth ≡ 0) × CellCount x (length lent /
 
 module _ (x y : Result) {r q : Answer} {l l′ c c′ m m′ d d′ : List ℕ} (ranX : Ran x r l l′ c c′) (ranY : Ran y q m m′ d d′) (cx : Rules.QuiescentResult x) (cy : Rules.QuiescentResult y) where
   abbrev left : LeftByRun
-  left = record { listAnswer = r; ledger = l′; cells = c′ }
+  left = record { answer = r; ledger = l′; cells = c′ }
 
   abbrev other : LeftByRun
-  other = record { listAnswer = q; ledger = m′; cells = d′ }
+  other = record { answer = q; ledger = m′; cells = d′ }
 
   pub bytes-alike : r .outcome ≡ q .outcome → Rules.AlikeResults x y → All TokenFits (resultTokens x) → length (resultTokens x) ≤ mostTokens → CellsLent x c → CellsLent y d → AlikeBytes left other
   bytes-alike outcomes same fits few cellsX cellsY =
