@@ -100,7 +100,7 @@ pub record PlottedAlike (x y : LeftByProfile) : Type 0 where
 
 -- what is kept is of this run: its answer and, of a hang, how many activities its bound holds back in what it left
 pub record KeptOf (q : Request) (x : LeftByRun) (e : Ended) : Type 0 where
-  pub listAnswer : x .answer ≡ e .answer
+  pub answer : x .answer ≡ e .answer
   pub held : Runs.Hung (x .answer .outcome) → heldLeft (q .graph) (q .limits .bound) x ≡ e .held
 
 -- what is kept serves: the run that is asked for shows the same as the kept one; and so does its profile, in room for as many records
