@@ -5,6 +5,8 @@
 //! caches.
 
 use super::{microseconds, middle, ratio, time, Kind, Lent, BLOCK, BUDGET, KINDS, SIZES};
+use layout::widths;
+
 use crate::work::{self, Work};
 use second::{Program, Schedule};
 use std::time::Duration;
@@ -48,7 +50,7 @@ pub fn run_bounded(lent: &mut Lent, bound: u16) -> u64 {
 
 /// As many arrays as a table may have, all empty.
 pub fn full_table() -> Vec<u8> {
-    vec![0; second::ARRAY_RECORD * second::MOST_ARRAYS]
+    vec![0; widths::ARRAY * widths::MOST_ARRAYS]
 }
 
 fn profile(lent: &mut Lent, profile: &mut [u8]) -> u64 {
@@ -103,8 +105,8 @@ impl Calls {
     pub fn new((name, work, newest): Kind, size: usize) -> Calls {
         let lent = || Lent::new(work(size), size, newest);
         let log = agreed(&mut lent());
-        let profile = vec![0; 4 * usize::from(BUDGET)];
-        let room = vec![0; second::LOG_RECORD * usize::from(BUDGET)];
+        let profile = vec![0; widths::STEP * usize::from(BUDGET)];
+        let room = vec![0; widths::LOGGED * usize::from(BUDGET)];
         let further = [Vec::new(), full_table(), profile, room, log];
         let mut all = Vec::from(further.map(|further| (lent(), further)));
         let mut ended = lent();
@@ -156,7 +158,7 @@ impl Calls {
 fn agreed(lent: &mut Lent) -> Vec<u8> {
     let (program, inputs) = (lent.work.program(), &lent.work.inputs);
     let (mut ledger, mut cells) = (lent.ledger.clone(), lent.cells.clone());
-    let mut due = vec![0; 4 * usize::from(BUDGET)];
+    let mut due = vec![0; widths::STEP * usize::from(BUDGET)];
     let mut found = due.clone();
     let profiled = second::profile(program, inputs, &mut ledger, &mut cells, &mut due);
     let answer = engine::packed_answer(&profiled.answer);
@@ -165,7 +167,7 @@ fn agreed(lent: &mut Lent) -> Vec<u8> {
 
     let (program, inputs) = (lent.work.program(), &lent.work.inputs);
     let schedule = Schedule::new(&lent.picks, BUDGET);
-    let mut due = vec![0; second::LOG_RECORD * usize::from(BUDGET)];
+    let mut due = vec![0; widths::LOGGED * usize::from(BUDGET)];
     let mut found = due.clone();
     let (ledger, cells) = (&mut ledger, &mut cells);
     let answer = second::run_logged(program, inputs, schedule, ledger, cells, &mut due);
@@ -176,7 +178,7 @@ fn agreed(lent: &mut Lent) -> Vec<u8> {
     assert_eq!(run_under_table(lent, &mut full_table()), packed, "table");
     assert!(*ledger == lent.ledger && *cells == lent.cells);
 
-    found.truncate(second::LOG_RECORD * answer.firings);
+    found.truncate(widths::LOGGED * answer.firings);
     assert_eq!(replay(lent, &mut found), packed, "replay");
     assert!(*ledger == lent.ledger && *cells == lent.cells);
     let checked = carry_on(lent, &mut counts(packed));
@@ -219,14 +221,17 @@ pub struct Bounds {
     times: [Vec<Duration>; 2],
 }
 
+/// Bytes of the longest graph.
+const MOST_GRAPH: usize = widths::INSTRUCTION * widths::MOST_INSTRUCTIONS;
+
 const BOUNDS: [Made; 2] = [
     |work| engine::bounds(&work.graph, &work.inputs),
     |work| engine::packed_bounds(&second::bounds(&work.graph, &work.inputs)),
 ];
 const EXPRESSION: [Made; 2] = [
-    |work| engine::expression(&work.graph, &mut [0; 16 * 256]),
+    |work| engine::expression(&work.graph, &mut [0; MOST_GRAPH]),
     |work| {
-        let made = second::expression(&work.graph, &mut [0; 16 * 256]);
+        let made = second::expression(&work.graph, &mut [0; MOST_GRAPH]);
         engine::packed_expression(&made)
     },
 ];

@@ -7,10 +7,13 @@
 //! firing orders at random, so that no run is like the one before it.
 
 use super::{middle, stepped, time, Kind, Lent, BUDGET, KINDS};
+use layout::fields::{instruction, token};
+use layout::widths::{self, MOST_RECORDS};
+
 use crate::work::Work;
 use std::time::Duration;
 
-const SIZES: [usize; 2] = [256, 2048];
+const SIZES: [usize; 2] = [256, MOST_RECORDS];
 const BLOCKS: usize = 25;
 const BLOCK: usize = 32;
 const UNCOUNTED: usize = 8;
@@ -145,7 +148,7 @@ fn random_picks(seed: u64) -> Vec<u8> {
 
 /// The same work with its instructions in another order; number 0 keeps theirs.
 fn renumbered(work: &Work, number: usize) -> Work {
-    let count = work.graph.len() / 16;
+    let count = work.graph.len() / widths::INSTRUCTION;
     let mut places: Vec<u16> = (0..count as u16).collect();
     let mut state = number as u64;
     for end in (1..count).rev().filter(|_| number > 0) {
@@ -153,20 +156,22 @@ fn renumbered(work: &Work, number: usize) -> Work {
         places.swap(end, (state >> 33) as usize % (end + 1));
     }
     let moved = |field: &mut [u8]| {
-        let old = u16::from_le_bytes([field[0], field[1]]);
+        let old = layout::unsigned(field, 0..2);
         field.copy_from_slice(&places[usize::from(old)].to_le_bytes());
     };
     let mut graph = vec![0; work.graph.len()];
-    for (record, &place) in work.graph.chunks_exact(16).zip(&places) {
-        let new = &mut graph[16 * usize::from(place)..][..16];
+    let records = work.graph.chunks_exact(widths::INSTRUCTION);
+    for (record, &place) in records.zip(&places) {
+        let at = widths::INSTRUCTION * usize::from(place);
+        let new = &mut graph[at..][..widths::INSTRUCTION];
         new.copy_from_slice(record);
-        for arc in 0..usize::from(record[1]) {
-            moved(&mut new[4 + 2 * arc..6 + 2 * arc]);
+        for arc in 0..usize::from(record[instruction::FAN_OUT]) {
+            moved(&mut new[instruction::target(arc)]);
         }
     }
     let mut inputs = work.inputs.clone();
-    for token in inputs.chunks_exact_mut(second::TOKEN_RECORD) {
-        moved(&mut token[18..20]);
+    for token in inputs.chunks_exact_mut(widths::TOKEN) {
+        moved(&mut token[token::INSTRUCTION]);
     }
     Work { graph, inputs }
 }

@@ -18,13 +18,14 @@ mod work;
 
 use std::time::{Duration, Instant};
 
+use layout::widths::{self, MOST_CELLS, MOST_RECORDS, WHOLE_BUDGET};
 use printing::Printing;
 use second::{Answer, Outcome, Schedule};
 use work::Work;
 
-const SIZES: [usize; 5] = [128, 256, 512, 1024, 2048];
-const CELLS: usize = 1024;
-const BUDGET: u16 = 2048;
+const SIZES: [usize; 5] = [128, 256, 512, 1024, MOST_RECORDS];
+const CELLS: usize = MOST_CELLS;
+const BUDGET: u16 = WHOLE_BUDGET;
 /// How often each emulator runs each work.
 const RUNS: usize = 400;
 /// How often it does before the next work, where works are repeated, and how often a
@@ -149,8 +150,8 @@ impl Lent {
         Lent {
             work,
             picks,
-            ledger: vec![0xa5; second::TOKEN_RECORD * size],
-            cells: vec![0xa5; 8 * CELLS],
+            ledger: vec![0xa5; widths::TOKEN * size],
+            cells: vec![0xa5; widths::CELL * CELLS],
         }
     }
 
@@ -259,7 +260,7 @@ fn growth_of(works: &[Measured], name: &str) -> f64 {
             .find(|work| work.name == name && work.size == size);
         found.expect("a measured size").a_firing()
     };
-    at(2048) / at(256)
+    at(MOST_RECORDS) / at(256)
 }
 
 fn time<A>(run: impl FnOnce() -> A) -> Duration {
@@ -283,7 +284,7 @@ fn ratio(one: Duration, other: Duration) -> String {
 }
 
 /// How the records lie before they are listed.
-type Arrangement = (&'static str, fn(&mut [[u8; second::TOKEN_RECORD]]));
+type Arrangement = (&'static str, fn(&mut [[u8; widths::TOKEN]]));
 
 const ARRANGEMENTS: [Arrangement; 3] = [
     ("in order of arrival", |_| {}),
@@ -292,7 +293,7 @@ const ARRANGEMENTS: [Arrangement; 3] = [
 ];
 
 /// A fixed mixture: swaps by a linear congruential generator.
-fn mix(records: &mut [[u8; second::TOKEN_RECORD]]) {
+fn mix(records: &mut [[u8; widths::TOKEN]]) {
     let mut state: u64 = 1;
     for end in (1..records.len()).rev() {
         state = stepped(state);
@@ -320,8 +321,8 @@ impl Listing {
         let mut lent = Lent::new(work::vector_sum(size), size, false);
         lent.agreed();
         let mut records = Vec::new();
-        for record in lent.ledger.chunks_exact(second::TOKEN_RECORD) {
-            records.push(<[u8; second::TOKEN_RECORD]>::try_from(record).expect("a whole record"));
+        for record in lent.ledger.chunks_exact(widths::TOKEN) {
+            records.push(<[u8; widths::TOKEN]>::try_from(record).expect("a whole record"));
         }
         arrange(&mut records);
         let ledger = records.concat();
@@ -354,7 +355,7 @@ impl Listing {
         println!(
             "| {} | {} | {} | {} | {} |",
             self.name,
-            self.ledger.len() / second::TOKEN_RECORD,
+            self.ledger.len() / widths::TOKEN,
             microseconds(engine_time),
             microseconds(sorted_time),
             ratio(engine_time, sorted_time),

@@ -4,6 +4,8 @@
 
 use std::time::Duration;
 
+use layout::widths;
+
 use crate::{microseconds, middle, ratio, time, Kind, Lent, CELLS};
 use second::Answer;
 
@@ -29,7 +31,7 @@ impl Left {
         let mut lent = Lent::new(work(size), size, newest);
         let answer = lent.agreed();
         let packed = engine::packed_answer(&answer);
-        let mut listing = vec![0; second::TOKEN_RECORD * answer.tokens];
+        let mut listing = vec![0; widths::TOKEN * answer.tokens];
         assert_eq!(second::list(&lent.ledger[..listing.len()], &mut listing), 0);
         Left {
             answer,
@@ -50,7 +52,7 @@ impl Left {
 
 /// The bytes of the longest text of these tokens (`text-within` of the crate text).
 pub fn longest(tokens: usize) -> usize {
-    74 + 75 * tokens + 46 * CELLS
+    widths::printed(tokens, CELLS)
 }
 
 impl Printing {

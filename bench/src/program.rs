@@ -4,6 +4,7 @@
 //! whose answer is `refused 1`: that is what starting it costs.
 
 use std::fs;
+use std::ops::Range;
 use std::path::{Path, PathBuf};
 use std::process::Command;
 use std::time::Duration;
@@ -12,9 +13,11 @@ use crate::calls::{self, Calls};
 use crate::printing::longest;
 use crate::work::Work;
 use crate::{microseconds, middle, ratio, time, Kind, Lent, BUDGET, CELLS, KINDS};
+use layout::fields::{cell, token};
+use layout::widths::{self, MOST_RECORDS};
 use second::Schedule;
 
-const RECORDS: usize = 2048;
+const RECORDS: usize = MOST_RECORDS;
 const RUNS: usize = 200;
 
 pub fn print() {
@@ -52,8 +55,8 @@ fn print_job(name: &str, work: &Work, folder: &Path) {
 }
 
 fn engine_job(work: &Work) -> Vec<u8> {
-    let mut ledger = vec![0; second::TOKEN_RECORD * RECORDS];
-    let mut cells = vec![0; 8 * CELLS];
+    let mut ledger = vec![0; widths::TOKEN * RECORDS];
+    let mut cells = vec![0; widths::CELL * CELLS];
     let answer = engine::run(
         work.program(),
         &work.inputs,
@@ -61,7 +64,7 @@ fn engine_job(work: &Work) -> Vec<u8> {
         &mut ledger,
         &mut cells,
     );
-    let used = second::TOKEN_RECORD * engine::unpacked(answer).2 as usize;
+    let used = widths::TOKEN * engine::unpacked(answer).2 as usize;
     let mut listing = vec![0; used];
     engine::list(&ledger[..used], &mut listing);
     let mut text = vec![0; longest(RECORDS)];
@@ -71,8 +74,8 @@ fn engine_job(work: &Work) -> Vec<u8> {
 }
 
 fn second_job(work: &Work) -> Vec<u8> {
-    let mut ledger = vec![0; second::TOKEN_RECORD * RECORDS];
-    let mut cells = vec![0; 8 * CELLS];
+    let mut ledger = vec![0; widths::TOKEN * RECORDS];
+    let mut cells = vec![0; widths::CELL * CELLS];
     let answer = second::run(
         work.program(),
         &work.inputs,
@@ -80,7 +83,7 @@ fn second_job(work: &Work) -> Vec<u8> {
         &mut ledger,
         &mut cells,
     );
-    let used = second::TOKEN_RECORD * answer.tokens;
+    let used = widths::TOKEN * answer.tokens;
     let mut listing = vec![0; used];
     second::list(&ledger[..used], &mut listing);
     second::print(&answer, &listing, &cells)
@@ -149,16 +152,16 @@ pub fn bounded_once(name: &str, bound: u16) {
 pub fn ranges_once(name: &str) {
     let (_, work, _) = kind_of(name);
     let work = work(RECORDS);
-    let wide = |records: &[u8], width: usize, value: usize| -> Vec<u8> {
+    let wide = |records: &[u8], width: usize, value: Range<usize>| -> Vec<u8> {
         let records = records.chunks_exact(width);
         records
-            .flat_map(|record| [record, &record[value..value + 4]].concat())
+            .flat_map(|record| [record, &record[value.clone()]].concat())
             .collect()
     };
-    let mut ledger = vec![0; second::TOKEN_RECORD * RECORDS];
-    let mut cells = vec![0; second::CELL_RECORD * CELLS];
-    let mut range_ledger = vec![0; second::RANGE_TOKEN_RECORD * RECORDS];
-    let mut range_cells = vec![0; second::RANGE_CELL_RECORD * CELLS];
+    let mut ledger = vec![0; widths::TOKEN * RECORDS];
+    let mut cells = vec![0; widths::CELL * CELLS];
+    let mut range_ledger = vec![0; widths::RANGE_TOKEN * RECORDS];
+    let mut range_cells = vec![0; widths::RANGE_CELL * CELLS];
     let schedule = Schedule::new(&[], BUDGET);
     let answer = engine::run(
         work.program(),
@@ -167,7 +170,7 @@ pub fn ranges_once(name: &str) {
         &mut ledger,
         &mut cells,
     );
-    let inputs = wide(&work.inputs, second::TOKEN_RECORD, 20);
+    let inputs = wide(&work.inputs, widths::TOKEN, token::VALUE);
     let ranged = engine::run_ranges(
         work.program(),
         &inputs,
@@ -177,17 +180,13 @@ pub fn ranges_once(name: &str) {
     );
     assert_eq!(engine::unpacked(ranged), engine::unpacked(answer));
     let used = engine::unpacked(answer).2 as usize;
-    let tokens = wide(
-        &ledger[..second::TOKEN_RECORD * used],
-        second::TOKEN_RECORD,
-        20,
-    );
+    let tokens = wide(&ledger[..widths::TOKEN * used], widths::TOKEN, token::VALUE);
     assert!(
         range_ledger[..tokens.len()] == tokens,
         "other tokens than the plain run's"
     );
     assert!(
-        range_cells == wide(&cells, second::CELL_RECORD, 0),
+        range_cells == wide(&cells, widths::CELL, cell::VALUE),
         "other cells than the plain run's"
     );
     println!("{used}");

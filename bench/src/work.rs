@@ -1,5 +1,6 @@
 //! The graphs that are measured, each for a number of tokens.
 
+use layout::widths::{EXPRESSION, INSTRUCTION};
 use layout::*;
 use second::Program;
 
@@ -18,18 +19,15 @@ impl Work {
 
     /// Adds an instruction; its arcs are drawn later.
     fn add(&mut self, code: u8, constant: i32) -> u16 {
-        let number = (self.graph.len() / 16) as u16;
+        let number = (self.graph.len() / INSTRUCTION) as u16;
         self.graph.extend(layout::instruction(code, &[], constant));
         number
     }
 
     /// Draws the next arc of an instruction.
     fn arc(&mut self, from: u16, to: u16, port: u8) {
-        let record = &mut self.graph[16 * usize::from(from)..][..16];
-        let number = usize::from(record[1]);
-        record[1] += 1;
-        record[2 + number] = port;
-        record[4 + 2 * number..6 + 2 * number].copy_from_slice(&to.to_le_bytes());
+        let record = &mut self.graph[INSTRUCTION * usize::from(from)..][..INSTRUCTION];
+        layout::add_arc(record, to, port);
     }
 
     fn input(&mut self, to: u16, port: u8, value: i32) {
@@ -150,7 +148,7 @@ pub fn waiting(tokens: usize) -> Work {
         let out = add - 1;
         work.arc(
             add,
-            if work.graph[16 * usize::from(out)] == ADD {
+            if layout::record(&work.graph, out.into())[fields::instruction::CODE] == ADD {
                 out
             } else {
                 add
@@ -244,11 +242,11 @@ pub fn sum(variables: u8) -> Work {
         } else {
             variables + number - 1
         };
-        [16, left, number + 1, 0, 0, 0, 0, 0]
+        layout::term(ADD, left, number + 1)
     };
     let operations = (0..variables - 1).flat_map(operation);
     Work {
-        graph: vec![0; 8 * usize::from(variables)]
+        graph: vec![0; EXPRESSION * usize::from(variables)]
             .into_iter()
             .chain(operations)
             .collect(),
@@ -259,14 +257,15 @@ pub fn sum(variables: u8) -> Work {
 #[cfg(test)]
 mod tests {
     use super::*;
+    use layout::widths::{CELL, MOST_CELLS, MOST_RECORDS, TOKEN, WHOLE_BUDGET};
     use second::{run, Answer, Outcome, Schedule};
 
-    const SIZES: [usize; 5] = [128, 256, 512, 1024, 2048];
+    const SIZES: [usize; 5] = [128, 256, 512, 1024, MOST_RECORDS];
 
     /// The answer, and the number of records in a state.
     fn counted(work: &Work, size: usize, budget: u16, state: u8) -> (Answer, usize) {
-        let mut ledger = vec![0; second::TOKEN_RECORD * size];
-        let mut cells = vec![0; 8 * 1024];
+        let mut ledger = vec![0; TOKEN * size];
+        let mut cells = vec![0; CELL * MOST_CELLS];
         let answer = run(
             work.program(),
             &work.inputs,
@@ -274,11 +273,11 @@ mod tests {
             &mut ledger,
             &mut cells,
         );
-        let used = &ledger[..second::TOKEN_RECORD * answer.tokens];
+        let used = &ledger[..TOKEN * answer.tokens];
         (
             answer,
-            used.chunks(second::TOKEN_RECORD)
-                .filter(|record| record[24] == state)
+            used.chunks(TOKEN)
+                .filter(|record| record[fields::token::STATE] == state)
                 .count(),
         )
     }
@@ -293,11 +292,14 @@ mod tests {
                 (waiting(size), Outcome::Hung),
                 (recursion(size), Outcome::Completed),
             ] {
-                let (answer, _) = counted(&work, size, 2048, 0);
+                let (answer, _) = counted(&work, size, WHOLE_BUDGET, 0);
                 assert_eq!(answer.outcome, outcome);
                 assert!(answer.tokens > 3 * size / 4, "{} of {size}", answer.tokens);
             }
-            assert_eq!(counted(&vector_sum(size), size, 2048, 0).0.tokens, size);
+            assert_eq!(
+                counted(&vector_sum(size), size, WHOLE_BUDGET, 0).0.tokens,
+                size
+            );
         }
     }
 
@@ -312,12 +314,12 @@ mod tests {
 
     #[test]
     fn one_store_wakes_all_reads() {
-        let work = waiting(2048);
-        let (answer, live) = counted(&work, 2048, 2048, 0);
+        let work = waiting(MOST_RECORDS);
+        let (answer, live) = counted(&work, MOST_RECORDS, WHOLE_BUDGET, 0);
         assert_eq!(live, 1000);
         // The last firing is the STORE.
-        let before = counted(&work, 2048, answer.firings as u16 - 1, 2).1;
-        let after = counted(&work, 2048, answer.firings as u16, 2).1;
+        let before = counted(&work, MOST_RECORDS, answer.firings as u16 - 1, 2).1;
+        let after = counted(&work, MOST_RECORDS, answer.firings as u16, 2).1;
         assert_eq!((before, after), (840, 0));
     }
 }

@@ -1,6 +1,7 @@
 """Every function once, over the library, and the graphs of the gallery against their listings."""
 import glob
 import os
+import re
 import unittest
 
 import ttda
@@ -10,6 +11,34 @@ ROOT = os.path.join(os.path.dirname(os.path.abspath(__file__)), '..', '..')
 GRAPH = [Instruction('ADD', [(1, 0)]), Instruction('OUT')]
 INPUTS = [Input(0, 0, 7), Input(0, 1, -9)]
 TEXT = 'completed 1 3 0\n0 0 0 0 7 spent\n0 0 0 1 -9 spent\n0 0 1 0 -2 live\n'
+
+
+class Layout(unittest.TestCase):
+    """Records, limits and operations are those of the C header."""
+
+    def setUp(self):
+        with open(os.path.join(ROOT, 'crates', 'abi', 'ttda.h'), encoding='utf-8') as header:
+            self.text = header.read()
+        self.numbers = {name: int(number) for name, number in re.findall(r'TTDA_(\w+) = (\d+)', self.text)}
+
+    def test_records(self):
+        names = dict(LOGGED='LOG', OLD_LOGGED='OLD_LOG', TERM='EXPRESSION')
+        for name in ['INSTRUCTION', 'TOKEN', 'OLD_TOKEN', 'CELL', 'RANGE_TOKEN', 'RANGE_CELL', 'ARRAY', 'PICK', 'LOGGED', 'OLD_LOGGED', 'STEP', 'TERM']:
+            self.assertEqual(getattr(ttda, name).size, self.numbers[names.get(name, name) + '_BYTES'], name)
+        for name in ['MOST_RECORDS', 'MOST_CELLS']:
+            self.assertEqual(getattr(ttda, name), self.numbers[name], name)
+        room = f'({ttda.ANSWER_LINE} + {ttda.TOKEN_LINE} * (size_t)(tokens) + {ttda.CELL_LINE} * (size_t)(cells))'
+        self.assertIn(room, self.text)
+
+    def test_codes(self):
+        for name, code in ttda._OPERATIONS.items():
+            self.assertEqual(code, self.numbers[name], name)
+        self.assertEqual(ttda._WITH_CONSTANT, self.numbers['WITH_CONSTANT'])
+        for states, kind in [(ttda._TOKEN_STATES, 'TOKEN'), (ttda._CELL_STATES, 'CELL')]:
+            for number, state in enumerate(states):
+                self.assertEqual(number, self.numbers[f'{kind}_{state.upper()}'])
+        for number, word in ttda._WORDS.items():
+            self.assertEqual(number, self.numbers[word.upper()])
 
 
 class Runs(unittest.TestCase):
@@ -22,11 +51,11 @@ class Runs(unittest.TestCase):
     def test_the_longest_lines_have_room(self):
         longest = ttda.TOKEN.pack(16 * b'\xff', 255, 255, 65535, -2 ** 31, 2)
         done = ttda.run(GRAPH, INPUTS)._replace(ledger=10 * longest, memory=b'', answer=Answer('completed', 0, 1, 10, 0))
-        self.assertEqual([len(line) for line in done.text.splitlines()[1:]], 10 * [74])
+        self.assertEqual([len(line) + 1 for line in done.text.splitlines()[1:]], 10 * [ttda.TOKEN_LINE])
 
     def test_bytes_are_taken_as_they_are(self):
         graph, inputs = ttda.graph_bytes(GRAPH), ttda.input_bytes(INPUTS)
-        self.assertEqual((len(graph), len(inputs)), (32, 56))
+        self.assertEqual((len(graph), len(inputs)), (2 * ttda.INSTRUCTION.size, 2 * ttda.TOKEN.size))
         self.assertEqual(ttda.run(graph, inputs, b'').text, TEXT)
 
     def test_a_typed_graph(self):
@@ -108,7 +137,7 @@ class Runs(unittest.TestCase):
         self.assertEqual(ttda.bounds(GRAPH, INPUTS), Answer('completed', 0, 1, 3, 0))
 
     def test_expressions(self):
-        difference = bytes(16) + bytes([17, 0, 1, 0, 0, 0, 0, 0])
+        difference = b''.join(ttda.TERM.pack(*term) for term in [(0, 0, 0), (0, 0, 0), (17, 0, 1)])
         answer, graph = ttda.expression_graph(difference)
         self.assertEqual((answer.firings, len(graph)), (4, 64))
         self.assertEqual(ttda.expression_value(difference, [5, 12])[1], -7)

@@ -16,17 +16,29 @@ import subprocess
 import tempfile
 from typing import List, NamedTuple, Optional, Tuple
 
+# The most records of a ledger, and the most cells. No run exceeds a budget of MOST_RECORDS, for firings never exceed tokens.
 MOST_RECORDS = 2048
 MOST_CELLS = 1024
+
+# The records. A path has 16 bytes, and had 8 before calls nested eight levels deep.
 INSTRUCTION = struct.Struct('<4B2Hi4x')
 TOKEN = struct.Struct('<16s2BHiB3x')
-OLD_TOKEN_BYTES = 20
-OLD_LOG_BYTES = 12
+OLD_TOKEN = struct.Struct('<8s2BHiB3x')
 CELL = struct.Struct('<iB3x')
 RANGE_TOKEN = struct.Struct('<16s2BHiB3xi')
 RANGE_CELL = struct.Struct('<iB3xi')
+ARRAY = struct.Struct('<2H')
+PICK = struct.Struct('<H')
 LOGGED = struct.Struct('<16sBxH')
+OLD_LOGGED = struct.Struct('<8sBxH')
 STEP = struct.Struct('<2H')
+TERM = struct.Struct('<3B5x')
+ROOT = bytes(16)
+
+# The bytes of the longest printed answer, token and cell.
+ANSWER_LINE = 74
+TOKEN_LINE = 75
+CELL_LINE = 46
 
 _OPERATIONS = dict(COPY=1, SINK=2, OUT=3, CONST=4, SWITCH=5, GATE=6, NEXT=7, ENTER=8, LEAVE=9, FETCH=10, STORE=11,
                    ADD=16, SUB=17, MUL=18, DIV=19, REM=20, LT=21, LE=22, EQ=23)
@@ -160,7 +172,8 @@ class Run(NamedTuple):
     @property
     def text(self) -> str:
         """The lines that the program ttda prints."""
-        room = ctypes.create_string_buffer(74 + 75 * self.answer.tokens + 46 * (len(self.memory) // CELL.size))
+        lines = ANSWER_LINE + TOKEN_LINE * self.answer.tokens + CELL_LINE * (len(self.memory) // CELL.size)
+        room = ctypes.create_string_buffer(lines)
         length = _call('ttda_print', self.number, _listed(self.ledger), self.memory, room)
         return room.raw[:length].decode('ascii')
 
@@ -170,9 +183,9 @@ class Request(NamedTuple):
     graph: bytes
     inputs: bytes = b''
     picks: bytes = b''
-    budget: int = 2048
-    capacity: int = 2048
-    cells: int = 1024
+    budget: int = MOST_RECORDS
+    capacity: int = MOST_RECORDS
+    cells: int = MOST_CELLS
     arrays: bytes = b''
     bound: int = 0
 
@@ -294,17 +307,17 @@ def input_bytes(inputs) -> bytes:
     """The records of a list of Input. Bytes stay as they are."""
     if isinstance(inputs, bytes):
         return inputs
-    return b''.join(TOKEN.pack(bytes(16), 0, port, instruction, value, 0) for instruction, port, value in inputs)
+    return b''.join(TOKEN.pack(ROOT, 0, port, instruction, value, 0) for instruction, port, value in inputs)
 
 
 def pick_bytes(picks) -> bytes:
     """The records of a list of numbers. Bytes stay as they are."""
-    return picks if isinstance(picks, bytes) else struct.pack(f'<{len(picks)}H', *picks)
+    return picks if isinstance(picks, bytes) else b''.join(PICK.pack(pick) for pick in picks)
 
 
 def array_bytes(arrays) -> bytes:
     """The records of a list of pairs, first cell and length of each array. Bytes stay as they are."""
-    return arrays if isinstance(arrays, bytes) else b''.join(struct.pack('<2H', first, length) for first, length in arrays)
+    return arrays if isinstance(arrays, bytes) else b''.join(ARRAY.pack(*array) for array in arrays)
 
 
 def assembled(text) -> Files:
@@ -361,7 +374,7 @@ def run_ranges(graph, inputs, picks=None, budget=MOST_RECORDS, capacity=MOST_REC
     memory = ctypes.create_string_buffer(RANGE_CELL.size * cells)
     files = _lent(graph, b'', picks, arrays)
     lent = inputs if isinstance(inputs, bytes) else b''.join(
-        RANGE_TOKEN.pack(bytes(16), 0, port, instruction, low, 0, high) for instruction, port, low, high in inputs)
+        RANGE_TOKEN.pack(ROOT, 0, port, instruction, low, 0, high) for instruction, port, low, high in inputs)
     answer = _answer(_call('ttda_run_ranges', files.graph, files.arrays, lent, files.picks, budget, bound, ledger, memory))
     return RangeRun(answer, ledger.raw[:RANGE_TOKEN.size * answer.tokens], memory.raw)
 
@@ -419,7 +432,7 @@ def bounds(graph, inputs=None) -> Answer:
 
 def expression_graph(expression) -> Tuple[Answer, bytes]:
     """The graph of an expression in bytes. The answer has the graph's records in the place of firings."""
-    graph = ctypes.create_string_buffer(INSTRUCTION.size * (len(expression) // 8 + 1))
+    graph = ctypes.create_string_buffer(INSTRUCTION.size * (len(expression) // TERM.size + 1))
     answer = _answer(_call('ttda_expression', expression, graph))
     return answer, graph.raw[:INSTRUCTION.size * answer.firings]
 
@@ -456,16 +469,16 @@ def _request(request):
 
 def converted(records) -> bytes:
     """Token records of 20 bytes, from before paths of eight levels, as records of 28."""
-    return _widened('ttda_convert', records, OLD_TOKEN_BYTES)
+    return _widened('ttda_convert', records, OLD_TOKEN, TOKEN)
 
 
 def converted_log(records) -> bytes:
     """Log records of 12 bytes, from before paths of eight levels, as records of 20."""
-    return _widened('ttda_convert_log', records, OLD_LOG_BYTES)
+    return _widened('ttda_convert_log', records, OLD_LOGGED, LOGGED)
 
 
-def _widened(function, records, old_bytes) -> bytes:
-    out = ctypes.create_string_buffer((old_bytes + 8) * (len(records) // old_bytes))
+def _widened(function, records, old, new) -> bytes:
+    out = ctypes.create_string_buffer(new.size * (len(records) // old.size))
     if _call(function, records, out) != 0:
-        raise ValueError(f'these are not whole records of {old_bytes} bytes, or too many')
+        raise ValueError(f'these are not whole records of {old.size} bytes, or too many')
     return out.raw

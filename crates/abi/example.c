@@ -22,7 +22,7 @@ static uint8_t text[TTDA_PRINTED_BYTES(TTDA_MOST_RECORDS, TTDA_MOST_CELLS)];
 int main(void) {
     /* No named arrays, no picks, no bound. */
     uint8_t none[1] = {0};
-    uint64_t answer = ttda_run(graph, sizeof graph, none, 0, inputs, sizeof inputs, none, 0, 2048, 0,
+    uint64_t answer = ttda_run(graph, sizeof graph, none, 0, inputs, sizeof inputs, none, 0, TTDA_MOST_RECORDS, 0,
                                ledger, sizeof ledger, cells, sizeof cells);
     /* The bytes of the ledger that have tokens. */
     size_t used = TTDA_TOKEN_BYTES * (size_t)ttda_tokens(answer);

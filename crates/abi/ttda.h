@@ -63,19 +63,42 @@ enum {
     TTDA_ARRAY_BYTES = 4,
     TTDA_PICK_BYTES = 2,
     TTDA_LOG_BYTES = 20,
+    TTDA_OLD_LOG_BYTES = 12,
     TTDA_STEP_BYTES = 4,
     TTDA_EXPRESSION_BYTES = 8,
     TTDA_VALUE_BYTES = 4
 };
 
+/* Where the fields of a record begin. An instruction has the ports and the targets of two destinations side by side, a target 16 bits; a
+   high value is that of a range run. */
+enum {
+    TTDA_INSTRUCTION_CODE = 0,
+    TTDA_INSTRUCTION_FAN_OUT = 1,
+    TTDA_INSTRUCTION_PORTS = 2,
+    TTDA_INSTRUCTION_TARGETS = 4,
+    TTDA_INSTRUCTION_CONSTANT = 8
+};
+enum {
+    TTDA_TOKEN_PATH = 0,
+    TTDA_TOKEN_ITERATION = 16,
+    TTDA_TOKEN_PORT = 17,
+    TTDA_TOKEN_INSTRUCTION = 18,
+    TTDA_TOKEN_VALUE = 20,
+    TTDA_TOKEN_STATE = 24,
+    TTDA_TOKEN_HIGH = 28
+};
+enum { TTDA_CELL_VALUE = 0, TTDA_CELL_STATE = 4, TTDA_CELL_HIGH = 8 };
+enum { TTDA_LOG_PATH = 0, TTDA_LOG_ITERATION = 16, TTDA_LOG_INSTRUCTION = 18 };
+
 /* Most records: instructions of a graph; tokens of a ledger, and so inputs, picks, firings and steps; cells; named arrays; an
-   expression. */
+   expression. And most levels of calls. */
 enum {
     TTDA_MOST_INSTRUCTIONS = 256,
     TTDA_MOST_RECORDS = 2048,
     TTDA_MOST_CELLS = 1024,
     TTDA_MOST_ARRAYS = 64,
-    TTDA_MOST_EXPRESSION = 100
+    TTDA_MOST_EXPRESSION = 100,
+    TTDA_MOST_LEVELS = 8
 };
 
 /* The four numbers of an answer, the value in an answer of ttda_expression_value, and the two counts in one of ttda_held. */

@@ -53,8 +53,8 @@ functions! {
     run = ttda_run(graph: lent, arrays: lent, inputs: lent, picks: lent, budget: u16, bound: u16,
         ledger: written, cells: written) -> Answer;
 
-    /// Runs a graph whose inputs are known only between limits. Records are wider: `RANGE_TOKEN_WIDTH` and
-    /// `RANGE_CELL_WIDTH` of `widths`.
+    /// Runs a graph whose inputs are known only between limits. Records are wider: `RANGE_TOKEN` and
+    /// `RANGE_CELL` of `widths`.
     run_ranges = ttda_run_ranges(graph: lent, arrays: lent, inputs: lent, picks: lent, budget: u16, bound: u16,
         ledger: written, cells: written) -> Answer;
 

@@ -1,36 +1,29 @@
 //! Every function once, on 01's example: 7 and -9 go to an ADD, and the sum to an OUT. A test here fails where a
 //! declaration has other parameters than the library.
 
+use ttda::layout::fields::{instruction, token};
+use ttda::layout::{
+    input, instruction, signed, term, token, ADD, COPY, GATE, NEXT, OUT, STORE, SUB,
+};
 use ttda::widths::{
-    CELL, INSTRUCTION, LOGGED, OLD_TOKEN, RANGE_CELL_WIDTH, RANGE_TOKEN_WIDTH, STEP, TOKEN,
+    CELL, INSTRUCTION, LOGGED, OLD_LOGGED, OLD_TOKEN, RANGE_CELL, RANGE_TOKEN, STEP, TOKEN,
+    TOKEN_LINE, WHOLE_BUDGET,
 };
 use ttda::{Answer, Limits, NotPrinted, Word};
 
-const ADD: u8 = 16;
-const OUT: u8 = 3;
-const GATE: u8 = 6;
-const NEXT: u8 = 7;
 const TEXT: &str = "completed 1 3 0\n0 0 0 0 7 spent\n0 0 0 1 -9 spent\n0 0 1 0 -2 live\n";
 
 fn graph() -> Vec<u8> {
-    let mut graph = vec![0; 2 * INSTRUCTION];
-    graph[..5].copy_from_slice(&[ADD, 1, 0, 0, 1]);
-    graph[INSTRUCTION] = OUT;
-    graph
+    [instruction(ADD, &[(1, 0)], 0), instruction(OUT, &[], 0)].concat()
 }
 
-/// The two inputs, in records of this width with the value at this byte.
-fn inputs(width: usize, value: usize) -> Vec<u8> {
-    let mut inputs = vec![0; 2 * width];
-    inputs[value..value + 4].copy_from_slice(&7i32.to_le_bytes());
-    inputs[width + value - 3] = 1;
-    inputs[width + value..width + value + 4].copy_from_slice(&(-9i32).to_le_bytes());
-    inputs
+fn inputs() -> Vec<u8> {
+    [input(0, 0, 7), input(0, 1, -9)].concat()
 }
 
 /// Graph and inputs, and buffers for a few tokens and cells.
 fn lent() -> (Vec<u8>, Vec<u8>, [u8; 4 * TOKEN], [u8; 2 * CELL]) {
-    (graph(), inputs(TOKEN, 20), [0; 4 * TOKEN], [0; 2 * CELL])
+    (graph(), inputs(), [0; 4 * TOKEN], [0; 2 * CELL])
 }
 
 /// What is printed of an answer.
@@ -61,17 +54,18 @@ fn a_run_is_listed_and_printed() {
 #[test]
 fn inputs_between_limits() {
     let graph = graph();
-    let mut inputs = inputs(RANGE_TOKEN_WIDTH, 20);
-    inputs[TOKEN..][..4].copy_from_slice(&8i32.to_le_bytes());
-    inputs[RANGE_TOKEN_WIDTH + TOKEN..].copy_from_slice(&(-5i32).to_le_bytes());
-    let (mut ledger, mut cells) = ([0; 4 * RANGE_TOKEN_WIDTH], [1; 2 * RANGE_CELL_WIDTH]);
+    let range = |port, low, high: i32| [&input(0, port, low)[..], &high.to_le_bytes()].concat();
+    let inputs = [range(0, 7, 8), range(1, -9, -5)].concat();
+    let (mut ledger, mut cells) = ([0; 4 * RANGE_TOKEN], [1; 2 * RANGE_CELL]);
     let answer = ttda::run_ranges(&graph, &[], &inputs, &[], 9, 0, &mut ledger, &mut cells);
     assert_eq!(answer, Answer::of(Word::COMPLETED, 1, 3, 0));
-    let sum = &ledger[2 * RANGE_TOKEN_WIDTH..3 * RANGE_TOKEN_WIDTH];
-    assert_eq!(sum[20..24], (-2i32).to_le_bytes());
-    assert_eq!(sum[TOKEN..], 3i32.to_le_bytes());
-    assert_eq!(cells, [0; 2 * RANGE_CELL_WIDTH]);
-    inputs[TOKEN] = 6;
+    let sum = &ledger[2 * RANGE_TOKEN..3 * RANGE_TOKEN];
+    assert_eq!(
+        (signed(sum, token::VALUE), signed(sum, token::HIGH)),
+        (-2, 3)
+    );
+    assert_eq!(cells, [0; 2 * RANGE_CELL]);
+    let inputs = [range(0, 7, 6), range(1, -9, -5)].concat();
     let answer = ttda::run_ranges(&graph, &[], &inputs, &[], 9, 0, &mut ledger, &mut cells);
     assert_eq!(answer, Answer::of(23, 0, 0, 0));
 }
@@ -102,13 +96,15 @@ fn a_budget_that_is_used_up_is_carried_on() {
 /// Two NEXTs in a row beside an operand that waits: a bound of 2 holds the second one back, and 1 is none.
 #[test]
 fn a_bound_holds_loops_back() {
-    let mut graph = vec![0; 4 * INSTRUCTION];
-    graph[..5].copy_from_slice(&[NEXT, 1, 0, 0, 1]);
-    graph[INSTRUCTION..INSTRUCTION + 5].copy_from_slice(&[NEXT, 1, 0, 0, 2]);
-    graph[2 * INSTRUCTION] = OUT;
-    graph[3 * INSTRUCTION..3 * INSTRUCTION + 5].copy_from_slice(&[GATE, 1, 0, 0, 2]);
-    let mut inputs = vec![0; 2 * TOKEN];
-    inputs[TOKEN + 18] = 3;
+    let to = |code, target| instruction(code, &[(target, 0)], 0);
+    let graph = [
+        to(NEXT, 1),
+        to(NEXT, 2),
+        instruction(OUT, &[], 0),
+        to(GATE, 2),
+    ]
+    .concat();
+    let inputs = [input(0, 0, 0), input(3, 0, 0)].concat();
     for (bound, due) in [
         (0, Answer::of(Word::HUNG, 2, 4, 0)),
         (2, Answer::of(Word::HUNG, 1, 3, 0)),
@@ -180,7 +176,7 @@ fn bounds_and_refusals() {
 
 #[test]
 fn an_expression_has_a_graph_and_a_value() {
-    let difference = [[0; 8], [0; 8], [ADD + 1, 0, 1, 0, 0, 0, 0, 0]].concat();
+    let difference = [term(0, 0, 0), term(0, 0, 0), term(SUB, 0, 1)].concat();
     let mut made = [0; 4 * INSTRUCTION];
     let answer = ttda::expression(&difference, &mut made);
     assert_eq!((answer.word(), answer.firings()), (Word::Completed, 4));
@@ -200,24 +196,34 @@ fn an_expression_has_a_graph_and_a_value() {
 #[test]
 fn old_records_are_made_new() {
     let mut new = [1; 2 * TOKEN];
-    assert!(ttda::convert(&inputs(OLD_TOKEN, 12), &mut new).is_done());
-    assert_eq!(new.to_vec(), inputs(TOKEN, 20));
-    assert!(!ttda::convert(&[0; 19], &mut new).is_done());
-    let (mut old, mut log) = ([0; 12], [1; 20]);
+    let inputs = inputs();
+    let old = inputs
+        .chunks(TOKEN)
+        .flat_map(|input| &input[TOKEN - OLD_TOKEN..]);
+    assert!(ttda::convert(&old.copied().collect::<Vec<_>>(), &mut new).is_done());
+    assert_eq!(new.to_vec(), inputs);
+    assert!(!ttda::convert(&[0; OLD_TOKEN - 1], &mut new).is_done());
+    let (mut old, mut log) = ([0; OLD_LOGGED], [1; LOGGED]);
     old[0] = 7;
     assert!(ttda::convert_log(&old, &mut log).is_done());
-    assert_eq!((log[0], &log[1..]), (7, &[0; 19][..]));
-    assert!(!ttda::convert_log(&[0; 13], &mut log).is_done());
+    assert_eq!((log[0], &log[1..]), (7, &[0; LOGGED - 1][..]));
+    assert!(!ttda::convert_log(&[0; OLD_LOGGED + 1], &mut log).is_done());
 }
 
 /// Tokens with every field as long as it can be: the path of 128 bits, the least value, the longest word.
 #[test]
 fn the_longest_lines_have_room() {
-    let mut longest = [255; TOKEN];
-    longest[20..].copy_from_slice(&[0, 0, 0, 128, 2, 0, 0, 0]);
+    let longest = token(
+        u128::MAX,
+        u8::MAX,
+        u16::MAX,
+        u8::MAX,
+        i32::MIN,
+        token::DEFERRED,
+    );
     let text = printed(Answer::of(0, 0, 10, 0), &longest.repeat(10), &[]);
     let lengths: Vec<usize> = text.lines().skip(1).map(str::len).collect();
-    assert_eq!(lengths, [74; 10]);
+    assert_eq!(lengths, [TOKEN_LINE - 1; 10]);
 }
 
 #[test]
@@ -230,7 +236,7 @@ fn what_is_not_printed_says_why() {
 /// Whether a completed run of 1 firing serves for another one, with one thing changed at a time.
 #[test]
 fn a_kept_run_serves_other_orders_and_no_other_run() {
-    let (graph, inputs) = (graph(), inputs(TOKEN, 20));
+    let (graph, inputs) = (graph(), inputs());
     let kept = Answer::of(Word::COMPLETED, 1, 3, 0);
     let kept_limits = Limits {
         budget: 9,
@@ -239,7 +245,7 @@ fn a_kept_run_serves_other_orders_and_no_other_run() {
         cells: 2 * CELL as u64,
     };
     let serves = |graph: &[u8], inputs: &[u8], picks: &[u8], limits, answer| {
-        let (own, from) = (self::graph(), self::inputs(TOKEN, 20));
+        let (own, from) = (self::graph(), self::inputs());
         ttda::serves(
             &own,
             &[],
@@ -258,8 +264,8 @@ fn a_kept_run_serves_other_orders_and_no_other_run() {
     };
     let same = kept_limits;
     let mut other = (graph.clone(), inputs.clone());
-    other.0[8] = 1;
-    other.1[20] = 8;
+    other.0[instruction::CONSTANT.start] = 1;
+    other.1[token::VALUE.start] = 8;
     assert!(serves(&graph, &inputs, &[], same, kept));
     let just = Limits { budget: 1, ..same };
     assert!(serves(&graph, &inputs, &[1, 0], just, kept));
@@ -289,19 +295,20 @@ fn a_kept_run_serves_other_orders_and_no_other_run() {
 /// iteration 1 is held, and the hang serves itself alone.
 #[test]
 fn a_hang_on_held_activities_is_told_and_serves_itself_alone() {
-    let record = |code: u8, to: &[u8]| {
-        let mut record = [0; 16];
-        (record[0], record[1]) = (code, to.len() as u8);
-        if let [to] = to {
-            record[4] = *to;
-        }
-        record
-    };
-    let graph = [record(7, &[1]), record(1, &[0]), record(11, &[])].concat();
-    let mut inputs = vec![0; 2 * TOKEN];
-    inputs[TOKEN + 18] = 2;
+    let to = |code, arcs: &[(u16, u8)]| instruction(code, arcs, 0);
+    let graph = [to(NEXT, &[(1, 0)]), to(COPY, &[(0, 0)]), to(STORE, &[])].concat();
+    let inputs = [input(0, 0, 0), input(2, 0, 0)].concat();
     let (mut ledger, mut cells) = (vec![0; 600 * TOKEN], [0; CELL]);
-    let hung = ttda::run(&graph, &[], &inputs, &[], 2048, 2, &mut ledger, &mut cells);
+    let hung = ttda::run(
+        &graph,
+        &[],
+        &inputs,
+        &[],
+        WHOLE_BUDGET,
+        2,
+        &mut ledger,
+        &mut cells,
+    );
     assert_eq!(hung.word(), Word::Hung);
     let counts = |bound, tokens: usize| {
         let (firings, tokens) = (hung.firings() as u16, tokens as u16);
@@ -314,7 +321,7 @@ fn a_hang_on_held_activities_is_told_and_serves_itself_alone() {
     assert_eq!(counts(1, hung.tokens()).word(), Word::Refused(21));
     assert_eq!(counts(2, hung.tokens() + 1).word(), Word::Refused(24));
     let bounded = Limits {
-        budget: 2048,
+        budget: WHOLE_BUDGET.into(),
         bound: 2,
         ledger: ledger.len() as u64,
         cells: cells.len() as u64,

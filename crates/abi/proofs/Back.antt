@@ -8,7 +8,7 @@ use Rattle.rules.specs.declared.answer.Needs.{Needs}
 use Rattle.rules.specs.declared.answer.Needs.the-variants.{AtMost, Refused}
 use Rattle.rules.specs.Answer.{Values, valuesOf, valuesNeeded}
 use Rattle.rules.specs.Needs.{needs}
-use Rattle.rules.specs.Small.{Counted}
+use Rattle.rules.specs.Small.{CountsFit}
 use Rattle.rules.proofs.Bounded.{bounded-counted}
 use Rattle.rules.proofs.Counted.{all-counted}
 use Rattle.bounds.proofs.Small.{Small, needs-small}
@@ -17,7 +17,7 @@ use Rattle.abi.specs.Numbers.{packed, unpacked, answerNeeded}
 use Rattle.abi.specs.Back.{Recovered, NumbersBack}
 use Rattle.abi.proofs.Laws.{Fits, unpacked-packed, run-back, packed-unpacked}
 
-recovered : (a : Answer) → Counted a → Recovered a
+recovered : (a : Answer) → CountsFit a → Recovered a
 recovered a h = unpacked-packed a (omega (arith, h .byTokens, h .tokens), omega (arith, h .tokens), omega (arith, h .place))
 
 -- ---- the bounds

@@ -22,7 +22,7 @@ use Rattle.rules.specs.declared.answer.Answer.{Answer}
 use Rattle.rules.specs.Run.{answer}
 use Rattle.rules.specs.Bounded.{bounded}
 use Rattle.rules.proofs.Bounded.{bounded-small}
-use Rattle.text.specs.Text.{decimal, line, outcomeFields, answerLine, tokenLine, cellLines, printed, printedOf, outAfter}
+use Rattle.text.specs.Text.{decimal, line, outcomeFields, answerLine, tokenLine, cellLines, printed, printedOf, printedOut}
 use Rattle.text.proofs.Decimals.{decimal-digit, length-more}
 use Rattle.abi.specs.declared.Numbered.{Numbered}
 use Rattle.abi.specs.declared.Numbered.the-variants.{One, NoRefusal}
@@ -30,12 +30,12 @@ use Rattle.abi.specs.declared.Named.{Named}
 use Rattle.abi.specs.declared.Named.the-variants.{Ended, NoOutcome}
 use Rattle.abi.specs.declared.Unpacked.{Unpacked}
 use Rattle.abi.specs.declared.Unpacked.the-variants.{Answered, NoAnswer}
-use Rattle.abi.specs.Numbers.{packed, refusals, lookup, refusalOf, unplaced, placed, outcomeOf, unpacked, lengthOf, printAnswer, printAfter}
+use Rattle.abi.specs.Numbers.{packed, refusals, refusalWith, refusalOf, unplaced, placed, outcomeNumbered, unpacked, lengthOf, printAnswer, printAfter}
 
 -- ---- an answer is recovered from its number
 
-refusal-back : (r : Refusal) (place : ℕ) → outcomeOf (numberOf r) place ≡ Ended (Refused r place)
-unfolding outcomeOf refusalOf
+refusal-back : (r : Refusal) (place : ℕ) → outcomeNumbered (numberOf r) place ≡ Ended (Refused r place)
+unfolding outcomeNumbered refusalOf
 refusal-back GraphLength place = refl
 refusal-back UnknownOperation place = refl
 refusal-back FanOut place = refl
@@ -61,8 +61,8 @@ refusal-back DamagedState place = refl
 refusal-back BadExpression place = refl
 refusal-back GraphTooLong place = refl
 
-outcome-back : (o : Outcome) → outcomeOf (wordOf o) (placeIn o) ≡ Ended o
-unfolding outcomeOf
+outcome-back : (o : Outcome) → outcomeNumbered (wordOf o) (placeIn o) ≡ Ended o
+unfolding outcomeNumbered
 outcome-back Completed = refl
 outcome-back Hung = refl
 outcome-back Spent = refl
@@ -147,14 +147,14 @@ pub print-answer : (a : Answer) → Fits a → (listing cells out : List ℕ)
 print-answer a h listing cells out = rw (unpacked-packed a h)
 
 pub print-after : (a : Answer) → Fits a → (listing cells out : List ℕ)
-    → printAfter (unpacked (packed (valuesOf a))) listing cells out ≡ outAfter (printed a listing cells) out
+    → printAfter (unpacked (packed (valuesOf a))) listing cells out ≡ printedOut (printed a listing cells) out
 print-after a h listing cells out = rw (unpacked-packed a h)
 
 -- the length that is answered and the bytes that are left, for the number of any run
 pub run-printed : (graph arrays inputs picks : List ℕ) (budget bound ledgerBytes cellBytes : ℕ) (listing cells out : List ℕ)
     → let a = answer (bounded graph arrays inputs picks budget bound ledgerBytes cellBytes) in
     (printAnswer (unpacked (packed (valuesOf a))) listing cells out ≡ lengthOf (printedOf (printed a listing cells) out))
-    × (printAfter (unpacked (packed (valuesOf a))) listing cells out ≡ outAfter (printed a listing cells) out)
+    × (printAfter (unpacked (packed (valuesOf a))) listing cells out ≡ printedOut (printed a listing cells) out)
 run-printed graph arrays inputs picks budget bound ledgerBytes cellBytes listing cells out =
     let a = answer (bounded graph arrays inputs picks budget bound ledgerBytes cellBytes) in
     let fits = run-fits graph arrays inputs picks budget bound ledgerBytes cellBytes in
@@ -193,7 +193,7 @@ unfolding printed answerLine
 text-least a listing cells =
     append-least
     (answerLine a)
-    (joined (λ (l : List ℕ). l) (map tokenLine (allRows tokenWidth Tokens.decode listing) ++ cellLines 0 (allRows cellWidth Cells.decode cells)))
+    (joined (λ (l : List ℕ). l) (map tokenLine (allRows tokenWidth Tokens.decodeToken listing) ++ cellLines 0 (allRows cellWidth Cells.decodeCell cells)))
     (fields-least (a .outcome) (a .firings) (a .tokens) (placeIn (a .outcome)))
 
 -- ---- a number that names an answer is that answer's: no part of it is passed over
@@ -206,13 +206,13 @@ abbrev isOne : Numbered → ℕ
 isOne (One r) = 1
 isOne NoRefusal = 0
 
-numbered : (rs : List Refusal) (n : ℕ) (r : Refusal) → lookup rs n ≡ One r → numberOf r ≡ n
+numbered : (rs : List Refusal) (n : ℕ) (r : Refusal) → refusalWith rs n ≡ One r → numberOf r ≡ n
 numbered [] n r e =
     let z : _≡_ {A = ℕ} 0 1 = ap isOne e in
     absurd (omega arith)
 numbered (x ∷ rs) n r e = go (eqb n (numberOf x)) refl (λ k. numbered rs n r k)
   where
-    go : (b : Bool) → eqb n (numberOf x) ≡ b → (lookup rs n ≡ One r → numberOf r ≡ n) → numberOf r ≡ n
+    go : (b : Bool) → eqb n (numberOf x) ≡ b → (refusalWith rs n ≡ One r → numberOf r ≡ n) → numberOf r ≡ n
     go true t k = sym (ap numberIn (rw t at e)) ∙ sym (eqb-true n (numberOf x) t)
     go false t k = k (rw t at e)
 
@@ -250,8 +250,8 @@ refused NoRefusal w p o l e =
     let z : _≡_ {A = ℕ} 0 1 = ap isEnded e in
     absurd (omega arith)
 
-named : (w p : ℕ) (o : Outcome) → outcomeOf w p ≡ Ended o → Of w p o
-unfolding outcomeOf
+named : (w p : ℕ) (o : Outcome) → outcomeNumbered w p ≡ Ended o → Of w p o
+unfolding outcomeNumbered
 named w p o e = go (eqb w 0) (eqb w 100) (eqb w 101) refl refl refl
   where
     go : (b c d : Bool) → eqb w 0 ≡ b → eqb w 100 ≡ c → eqb w 101 ≡ d → Of w p o
@@ -293,9 +293,9 @@ isAnswered NoAnswer = 0
 
 pub packed-unpacked : (n : ℕ) (a : Answer) → n < 18446744073709551616 → unpacked n ≡ Answered a → packed (valuesOf a) ≡ n
 unfolding unpacked
-packed-unpacked n a h e = go (outcomeOf (n % 65536) (n / 281474976710656)) refl
+packed-unpacked n a h e = go (outcomeNumbered (n % 65536) (n / 281474976710656)) refl
   where
-    go : (x : Named) → outcomeOf (n % 65536) (n / 281474976710656) ≡ x → packed (valuesOf a) ≡ n
+    go : (x : Named) → outcomeNumbered (n % 65536) (n / 281474976710656) ≡ x → packed (valuesOf a) ≡ n
     go (Ended o) t =
         let k = named _ _ o t in
         let b = ap (λ u. valuesOf (answerIn u a)) (rw t at e) in

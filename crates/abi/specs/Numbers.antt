@@ -6,7 +6,7 @@ use mathlib.Core.List.{List, [], _∷_}
 use lib.Dec.{eqb}
 use lib.ListN.{getD}
 use Rattle.number.specs.Number.{bitsOf}
-use Rattle.rules.specs.Answer.{Values, numberOf}
+use Rattle.rules.specs.Answer.{Values, numberOf, valuesOf}
 use Rattle.rules.specs.declared.answer.Refusal.{Refusal}
 use Rattle.rules.specs.declared.answer.Refusal.the-variants.{GraphLength, UnknownOperation, FanOut, BadArc, BadSite, BadInput, BadStore, LedgerFull, SecondToken, NoSuchCell, SecondWrite, OutOfRange, Iteration, TooDeep, NoReturn, ProfileFull, NotLoopFree, NotEnabled, BadBound, BadArray, Undecided, DamagedState, BadExpression, GraphTooLong}
 use Rattle.rules.specs.declared.answer.Outcome.{Outcome}
@@ -23,7 +23,7 @@ use Rattle.activities.specs.declared.Tally.the-variants as Counting
 use Rattle.plot_cache.specs.declared.Limits.{Limits}
 use Rattle.plot_cache.specs.declared.Ended as Ending
 use Rattle.plot_cache.specs.Serves.{Request, serves, Served}
-use Rattle.text.specs.Text.{printed, printedOf, outAfter}
+use Rattle.text.specs.Text.{printed, printedOf, printedOut}
 use Rattle.text.specs.declared.Printed.{Printed}
 use Rattle.text.specs.declared.Printed.the-variants.{Done, TooSmall}
 use Rattle.abi.specs.declared.Numbered.{Numbered}
@@ -37,6 +37,12 @@ use Rattle.abi.specs.declared.Unpacked.the-variants.{Answered, NoAnswer}
 
 abbrev pub packed : Values → ℕ
 packed v = v .word + v .firings % 65536 * 65536 + v .tokens % 65536 * 4294967296 + v .place % 65536 * 281474976710656
+
+-- `ttda_run` does what `engine::run` promises, and answers its answer's number; likewise `ttda_carry_on`, `ttda_run_logged`, `ttda_replay`, `ttda_profile`, `ttda_run_ranges`
+pub record AsNumber (r : ℕ) (Promised : Answer → Type 0) : Type 0 where
+  pub answer : Answer
+  pub number : r ≡ packed (valuesOf answer)
+  pub promised : Promised answer
 
 -- what becomes of an expression of 02, R-14: word 0 and the number of records in the place of the firings, or the refusal's number with its place
 abbrev pub madeNumber : Made → Values
@@ -85,12 +91,12 @@ refusals =
     ∷ []
 
 -- the one of some with a number
-abbrev pub lookup : List Refusal → ℕ → Numbered
-lookup [] n = NoRefusal
-lookup (r ∷ rs) n = cond (eqb n (numberOf r)) (One r) (lookup rs n)
+abbrev pub refusalWith : List Refusal → ℕ → Numbered
+refusalWith [] n = NoRefusal
+refusalWith (r ∷ rs) n = cond (eqb n (numberOf r)) (One r) (refusalWith rs n)
 
 unfoldable pub refusalOf : ℕ → Numbered
-refusalOf n = lookup refusals n
+refusalOf n = refusalWith refusals n
 
 -- "The place is 0 unless refused."
 abbrev pub unplaced : Outcome → (place : ℕ) → Named
@@ -101,18 +107,18 @@ placed (One r) place = Ended (Refused r place)
 placed NoRefusal place = NoOutcome
 
 -- the outcome with a word and a place
-unfoldable pub outcomeOf : (word place : ℕ) → Named
-outcomeOf word place =
+unfoldable pub outcomeNumbered : (word place : ℕ) → Named
+outcomeNumbered word place =
     cond (eqb word 0) (unplaced Completed place)
     (cond (eqb word 100) (unplaced Spent place) (cond (eqb word 101) (unplaced Hung place) (placed (refusalOf word) place)))
 
-abbrev pub counted : Named → (firings tokens : ℕ) → Unpacked
-counted (Ended o) firings tokens = Answered (record { outcome = o; firings = firings; tokens = tokens })
-counted NoOutcome firings tokens = NoAnswer
+abbrev pub answerCounted : Named → (firings tokens : ℕ) → Unpacked
+answerCounted (Ended o) firings tokens = Answered (record { outcome = o; firings = firings; tokens = tokens })
+answerCounted NoOutcome firings tokens = NoAnswer
 
 -- the answer with a number; none where no outcome has the number's word and place
 unfoldable pub unpacked : ℕ → Unpacked
-unpacked n = counted (outcomeOf (n % 65536) (n / 281474976710656)) (n / 65536 % 65536) (n / 4294967296 % 65536)
+unpacked n = answerCounted (outcomeNumbered (n % 65536) (n / 281474976710656)) (n / 65536 % 65536) (n / 4294967296 % 65536)
 
 -- the bounds of 02, R-3, as an answer: completed, with the most firings and the most tokens, or refused
 abbrev pub answerNeeded : Needs → Answer
@@ -151,5 +157,5 @@ printAnswer (Answered a) listing cells out = lengthOf (printedOf (printed a list
 printAnswer NoAnswer listing cells out = 1
 
 abbrev pub printAfter : Unpacked → (listing cells out : List ℕ) → List ℕ
-printAfter (Answered a) listing cells out = outAfter (printed a listing cells) out
+printAfter (Answered a) listing cells out = printedOut (printed a listing cells) out
 printAfter NoAnswer listing cells out = out

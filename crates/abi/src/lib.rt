@@ -1,4 +1,4 @@
-// What Rust and C link: the run, with and without a log, the replay, the profile, the bounds, the activities that a bound holds back,
+// What Rust and C link: the run, with and without a log, the replay, the bounds, the activities that a bound holds back,
 // expressions, the listing and the printed lines over numbers and byte slices, with the promises of the crates behind them.
 use activities::Tally;
 use convert::Converted;
@@ -20,17 +20,14 @@ ghost use Rattle.rules.specs.Needs.{needs};
 ghost use Rattle.record.specs.ExpressionRecords.{expressionOf};
 ghost use Rattle.rules.specs.Expression.{graphFor, checkMade, madeOf, outputOf, evaluated};
 ghost use Prim.Native.Nat.{suc};
-ghost use Rattle.rules.specs.Run.{ledgerAfter, cellsAfter};
-ghost use Rattle.rules.specs.Run.{answer as Run·answer};
-ghost use Rattle.rules.specs.Bounded.{bounded, boundLogged, boundCarried};
-ghost use Rattle.rules.specs.Log.{logAfter, replayed};
-ghost use Rattle.rules.specs.Profile.{profiled, profileAnswer, profileAfter};
+ghost use Rattle.rules.specs.Runs.{lentToRun, leftByRun, lentToLogged, leftByLogged, ReplayedOn};
+ghost use Rattle.rules.specs.Bounded.{BoundedOn, BoundLoggedOn, BoundCarriedOn};
 ghost use Rattle.activities.specs.Counts.{counts};
 ghost use Rattle.plot_cache.specs.Serves.{request};
-ghost use Rattle.convert.specs.Convert.{tokenRest, logRest, numberOf as Convert·numberOf, answer as Convert·answer, outAfter as Convert·outAfter};
-ghost use Rattle.listing.specs.Listing.{outAfter};
-ghost use Rattle.listing.specs.Listing.{answer as Listing·answer};
-ghost use Rattle.abi.specs.Numbers.{packed, madeNumber, valueNumber, refusalOf, unplaced, outcomeOf, unpacked, tallyNumber, limitsIn, ServesNumber, printAnswer, printAfter};
+ghost use Rattle.convert.specs.Convert.{tokenRest, logRest, convertedNumber as Convert·numberOf, convertAnswer as Convert·answer, convertedOut as Convert·outAfter};
+ghost use Rattle.listing.specs.Listing.{listedOut};
+ghost use Rattle.listing.specs.Listing.{listAnswer as Listing·answer};
+ghost use Rattle.abi.specs.Numbers.{packed, AsNumber, madeNumber, valueNumber, refusalOf, unplaced, outcomeNumbered, unpacked, tallyNumber, limitsIn, ServesNumber, printAnswer, printAfter};
 
 // What a word says of a refusal.
 enum Numbered {
@@ -118,7 +115,7 @@ fn unplaced(outcome: Outcome, place: usize) -> Named
 
 // The outcome with a word and a place.
 fn outcome_of(word: u64, place: usize) -> Named
-    ensures { λ r. ⌜ r ≡ outcomeOf word place ⌝ }
+    ensures { λ r. ⌜ r ≡ outcomeNumbered word place ⌝ }
 {
     match word {
         0 => unplaced(Outcome::Completed, place),
@@ -163,9 +160,10 @@ pub extern "C" fn ttda_run(
     ledger: &mut [u8],
     cells: &mut [u8],
 ) -> u64
-    ensures { λ r. ⌜ r ≡ packed (valuesOf (Run·answer (bounded (now (graph .entry)) (now (arrays .entry)) (now (inputs .entry)) (now (picks .entry)) budget bound (length (now (ledger .entry))) (length (now (cells .entry)))))) ⌝ }
-    ensures { λ _. ⌜ now (ledger .exit) ≡ ledgerAfter (bounded (now (graph .entry)) (now (arrays .entry)) (now (inputs .entry)) (now (picks .entry)) budget bound (length (now (ledger .entry))) (length (now (cells .entry)))) (now (ledger .entry)) ⌝ }
-    ensures { λ _. ⌜ now (cells .exit) ≡ cellsAfter (bounded (now (graph .entry)) (now (arrays .entry)) (now (inputs .entry)) (now (picks .entry)) budget bound (length (now (ledger .entry))) (length (now (cells .entry)))) (now (cells .entry)) ⌝ }
+    ensures { λ r. ⌜ AsNumber r (λ a.
+        BoundedOn (now (graph .entry)) (now (arrays .entry)) (now (inputs .entry)) budget bound
+        (lentToRun (now (picks .entry)) (now (ledger .entry)) (now (cells .entry)))
+        (leftByRun a (now (ledger .exit)) (now (cells .exit)))) ⌝ }
 {
     number_of(engine::run(graph, arrays, inputs, picks, budget, bound, ledger, cells))
 }
@@ -182,9 +180,9 @@ pub extern "C" fn ttda_carry_on(
     ledger: &mut [u8],
     cells: &mut [u8],
 ) -> u64
-    ensures { λ r. ⌜ r ≡ packed (valuesOf (Run·answer (boundCarried (now (graph .entry)) (now (arrays .entry)) (now (picks .entry)) budget bound (now (ledger .entry)) (now (cells .entry)) firings tokens))) ⌝ }
-    ensures { λ _. ⌜ now (ledger .exit) ≡ ledgerAfter (boundCarried (now (graph .entry)) (now (arrays .entry)) (now (picks .entry)) budget bound (now (ledger .entry)) (now (cells .entry)) firings tokens) (now (ledger .entry)) ⌝ }
-    ensures { λ _. ⌜ now (cells .exit) ≡ cellsAfter (boundCarried (now (graph .entry)) (now (arrays .entry)) (now (picks .entry)) budget bound (now (ledger .entry)) (now (cells .entry)) firings tokens) (now (cells .entry)) ⌝ }
+    ensures { λ r. ⌜ AsNumber r (λ a.
+        BoundCarriedOn (now (graph .entry)) (now (arrays .entry)) (now (picks .entry)) budget bound firings tokens
+        a (now (ledger .entry)) (now (ledger .exit)) (now (cells .entry)) (now (cells .exit))) ⌝ }
 {
     number_of(engine::carry_on(
         graph,
@@ -211,10 +209,10 @@ pub extern "C" fn ttda_run_logged(
     cells: &mut [u8],
     log: &mut [u8],
 ) -> u64
-    ensures { λ r. ⌜ r ≡ packed (valuesOf (Run·answer (boundLogged (now (graph .entry)) (now (arrays .entry)) (now (inputs .entry)) (now (picks .entry)) budget bound (length (now (ledger .entry))) (length (now (cells .entry))) (length (now (log .entry))) .result))) ⌝ }
-    ensures { λ _. ⌜ now (ledger .exit) ≡ ledgerAfter (boundLogged (now (graph .entry)) (now (arrays .entry)) (now (inputs .entry)) (now (picks .entry)) budget bound (length (now (ledger .entry))) (length (now (cells .entry))) (length (now (log .entry))) .result) (now (ledger .entry)) ⌝ }
-    ensures { λ _. ⌜ now (cells .exit) ≡ cellsAfter (boundLogged (now (graph .entry)) (now (arrays .entry)) (now (inputs .entry)) (now (picks .entry)) budget bound (length (now (ledger .entry))) (length (now (cells .entry))) (length (now (log .entry))) .result) (now (cells .entry)) ⌝ }
-    ensures { λ _. ⌜ now (log .exit) ≡ logAfter (boundLogged (now (graph .entry)) (now (arrays .entry)) (now (inputs .entry)) (now (picks .entry)) budget bound (length (now (ledger .entry))) (length (now (cells .entry))) (length (now (log .entry)))) (now (log .entry)) ⌝ }
+    ensures { λ r. ⌜ AsNumber r (λ a.
+        BoundLoggedOn (now (graph .entry)) (now (arrays .entry)) (now (inputs .entry)) bound
+        (lentToLogged (now (picks .entry)) budget (now (ledger .entry)) (now (cells .entry)) (now (log .entry)))
+        (leftByLogged a (now (ledger .exit)) (now (cells .exit)) (now (log .exit)))) ⌝ }
 {
     number_of(engine::run_logged(
         graph,
@@ -238,34 +236,11 @@ pub extern "C" fn ttda_replay(
     ledger: &mut [u8],
     cells: &mut [u8],
 ) -> u64
-    ensures { λ r. ⌜ r ≡ packed (valuesOf (Run·answer (replayed (now (graph .entry)) (now (arrays .entry)) (now (inputs .entry)) (now (log .entry)) (length (now (ledger .entry))) (length (now (cells .entry)))))) ⌝ }
-    ensures { λ _. ⌜ now (ledger .exit) ≡ ledgerAfter (replayed (now (graph .entry)) (now (arrays .entry)) (now (inputs .entry)) (now (log .entry)) (length (now (ledger .entry))) (length (now (cells .entry)))) (now (ledger .entry)) ⌝ }
-    ensures { λ _. ⌜ now (cells .exit) ≡ cellsAfter (replayed (now (graph .entry)) (now (arrays .entry)) (now (inputs .entry)) (now (log .entry)) (length (now (ledger .entry))) (length (now (cells .entry)))) (now (cells .entry)) ⌝ }
+    ensures { λ r. ⌜ AsNumber r (λ a.
+        ReplayedOn (now (graph .entry)) (now (arrays .entry)) (now (inputs .entry)) (now (log .entry))
+        (now (ledger .entry)) (now (cells .entry)) a (now (ledger .exit)) (now (cells .exit))) ⌝ }
 {
     number_of(replay::replay(graph, arrays, inputs, log, ledger, cells))
-}
-
-// The number of records goes to `records`.
-#[no_mangle]
-pub extern "C" fn ttda_profile(
-    graph: &[u8],
-    arrays: &[u8],
-    inputs: &[u8],
-    ledger: &mut [u8],
-    cells: &mut [u8],
-    profile: &mut [u8],
-    records: &mut u64,
-) -> u64
-    ensures { λ r. ⌜ r ≡ packed (valuesOf (profileAnswer (profiled (now (graph .entry)) (now (arrays .entry)) (now (inputs .entry)) (length (now (ledger .entry))) (length (now (cells .entry))) (length (now (profile .entry)))) .answer)) ⌝ }
-    ensures { λ _. ⌜ now (records .exit) ≡ profileAnswer (profiled (now (graph .entry)) (now (arrays .entry)) (now (inputs .entry)) (length (now (ledger .entry))) (length (now (cells .entry))) (length (now (profile .entry)))) .records ⌝ }
-    ensures { λ _. ⌜ now (ledger .exit) ≡ ledgerAfter (profiled (now (graph .entry)) (now (arrays .entry)) (now (inputs .entry)) (length (now (ledger .entry))) (length (now (cells .entry))) (length (now (profile .entry))) .result) (now (ledger .entry)) ⌝ }
-    ensures { λ _. ⌜ now (cells .exit) ≡ cellsAfter (profiled (now (graph .entry)) (now (arrays .entry)) (now (inputs .entry)) (length (now (ledger .entry))) (length (now (cells .entry))) (length (now (profile .entry))) .result) (now (cells .entry)) ⌝ }
-    ensures { λ _. ⌜ now (profile .exit) ≡ profileAfter (profiled (now (graph .entry)) (now (arrays .entry)) (now (inputs .entry)) (length (now (ledger .entry))) (length (now (cells .entry))) (length (now (profile .entry)))) (now (profile .entry)) ⌝ }
-{
-    let profiled = profile::profile(graph, arrays, inputs, ledger, cells, profile);
-    *records = profiled.records as u64;
-    let answer = profiled.answer;
-    number_of(answer)
 }
 
 #[no_mangle]
@@ -323,7 +298,7 @@ pub extern "C" fn ttda_expression_value(expression: &[u8], values: &[u8]) -> u64
 
 #[no_mangle]
 pub extern "C" fn ttda_list(ledger: &[u8], out: &mut [u8]) -> u64
-    ensures { λ r. ⌜ (r ≡ Listing·answer (now (ledger .entry)) (now (out .entry))) × (now (out .exit) ≡ outAfter (now (ledger .entry)) (now (out .entry))) ⌝ }
+    ensures { λ r. ⌜ (r ≡ Listing·answer (now (ledger .entry)) (now (out .entry))) × (now (out .exit) ≡ listedOut (now (ledger .entry)) (now (out .entry))) ⌝ }
 {
     let listed = listing::list(ledger, out);
     match listed {
@@ -383,7 +358,11 @@ pub extern "C" fn ttda_serves(
     picks: &[u8],
     limits: &[u64; 4],
 ) -> u64
-    ensures { λ r. ⌜ ServesNumber (request (now («kept_graph» .entry)) (now («kept_arrays» .entry)) (now («kept_inputs» .entry)) (now («kept_picks» .entry)) (limitsIn (now («kept_limits» .entry)))) «kept_answer» «kept_held» (request (now (graph .entry)) (now (arrays .entry)) (now (inputs .entry)) (now (picks .entry)) (limitsIn (now (limits .entry)))) r ⌝ }
+    ensures { λ r. ⌜
+        ServesNumber
+        (request (now («kept_graph» .entry)) (now («kept_arrays» .entry)) (now («kept_inputs» .entry)) (now («kept_picks» .entry)) (limitsIn (now («kept_limits» .entry))))
+        «kept_answer» «kept_held»
+        (request (now (graph .entry)) (now (arrays .entry)) (now (inputs .entry)) (now (picks .entry)) (limitsIn (now (limits .entry)))) r ⌝ }
 {
     let Unpacked::Answered(answer) = unpack(kept_answer) else {
         return 0;

@@ -10,7 +10,7 @@ use Rattle.arithmetic.specs.declared.Range.{Range}
 use Rattle.arithmetic.specs.Ranges.{Holds}
 use Rattle.machine.specs.Machine.{Outcome, completed, hung, budgetSpent, refused, End}
 use Rattle.machine.specs.Orders as Orders
-use Rattle.machine.specs.InStep.{RelatedToken, EndsAlike}
+use Rattle.machine.specs.InStep.{RelatedToken, RelatedEnds}
 use Rattle.machine.proofs.InStep.{pairLength}
 use Rattle.rules.specs.declared.answer.Refusal.{Refusal}
 use Rattle.rules.specs.declared.answer.Outcome as AnswerOutcome
@@ -25,7 +25,7 @@ use Rattle.range_engine.specs.Promise.{LentToRun, LeftByRun}
 use Rattle.abi_ranges.specs.Choices.{WithinRanges, RangesHold, SameRanges, RangeOrders}
 
 -- at rest by the answer, at rest by the machine
-at-rest : (o : Outcome Refusal) → Quiescent (outcomeOf o) → Orders.Quiescent o
+at-rest : (o : Outcome Refusal) → Quiescent (outcomeOf o) → Orders.QuiescentEnd o
 at-rest completed q = tt
 at-rest hung q = tt
 at-rest budgetSpent q = q

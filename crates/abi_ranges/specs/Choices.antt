@@ -15,12 +15,12 @@ use Rattle.buffer.specs.Rows.{whole, writtenOver}
 use Rattle.arithmetic.specs.declared.Range.{Range}
 use Rattle.arithmetic.specs.Ranges.{Holds}
 use Rattle.machine.specs.Machine.{Token, Cell}
-use Rattle.machine.specs.InStep.{Pairwise, RelatedToken, RelatedCell}
+use Rattle.machine.specs.InStep.{PlaceByPlace, RelatedToken, RelatedCell}
 use Rattle.rules.specs.Run.{tokenRecord, cellRecord}
 use Rattle.rules.specs.Runs.{Quiescent}
 use Rattle.rules.specs.Bounded.{BoundedOn}
 use Rattle.rules.specs.RangeRun.{encodeRange, encodeRangeCell}
-use Rattle.rules.specs.Ranges.{Chosen, AsMany}
+use Rattle.rules.specs.Ranges.{ChosenInputs, AsManyRecords}
 use Rattle.range_engine.specs.Promise.{LentToRun, LeftByRun, RangesOn}
 
 -- the answers are equal; the tokens of both runs have equal keys and states place by place, and each value lies in its token's range; the cells likewise
@@ -28,19 +28,19 @@ pub record WithinRanges (l : LentToRun) (x : LeftByRun) (m : LentToRun) (y : Lef
   pub answer : x .answer ≡ y .answer
   pub ranges : List (Token Tag Range)
   pub values : List (Token Tag ℤ)
-  pub tokens : Pairwise (RelatedToken Holds) ranges values
+  pub tokens : PlaceByPlace (RelatedToken Holds) ranges values
   pub rangeLedger : x .ledger ≡ writtenOver encodeRange ranges (l .ledger)
   pub ledger : y .ledger ≡ ledgerOf (map tokenRecord values) (m .ledger)
   pub cellRanges : List (Cell Range)
   pub cellValues : List (Cell ℤ)
-  pub cells : Pairwise (RelatedCell Holds) cellRanges cellValues
+  pub cells : PlaceByPlace (RelatedCell Holds) cellRanges cellValues
   pub rangeCells : x .cells ≡ writtenOver encodeRangeCell cellRanges (l .cells)
-  pub plainCells : y .cells ≡ writtenOver Cells.encode (map cellRecord cellValues) (m .cells)
+  pub plainCells : y .cells ≡ writtenOver Cells.encodeCell (map cellRecord cellValues) (m .cells)
 
 -- of a range run that completes or hangs, with a bound or none, and a plain run under the same table, picks, budget and bound
 abbrev pub RangesHold : Type 0
-RangesHold = (graph arrays ranges inputs : List ℕ) (budget k : ℕ) (l m : LentToRun) (x y : LeftByRun) → Chosen ranges inputs → l .picks ≡ m .picks
-    → AsMany (length (l .ledger)) (length (l .cells)) (length (m .ledger)) (length (m .cells))
+RangesHold = (graph arrays ranges inputs : List ℕ) (budget k : ℕ) (l m : LentToRun) (x y : LeftByRun) → ChosenInputs ranges inputs → l .picks ≡ m .picks
+    → AsManyRecords (length (l .ledger)) (length (l .cells)) (length (m .ledger)) (length (m .cells))
     → RangesOn graph arrays ranges budget k l x → BoundedOn graph arrays inputs budget k m y → Quiescent (x .answer .outcome) → WithinRanges l x m y
 
 -- as demand 3 compares runs: equal answers and cells, and the same tokens in some order

@@ -1,10 +1,7 @@
 // What Rust and C link for range runs (02, R-11), in an archive of its own: the compiler inlines what one place calls, and a range run in the same archive
 // would be a second caller of all that fires in a plain one.
-ghost use mathlib.Core.Path.{_≡_};
-ghost use lib.ListN.{length};
-ghost use Rattle.rules.specs.Answer.{valuesOf};
-ghost use Rattle.rules.specs.RangeRun.{rangeResult, rangeAnswer, rangeLedgerAfter, rangeCellsAfter};
-ghost use Rattle.abi.specs.Numbers.{packed};
+ghost use Rattle.range_engine.specs.Promise.{lentToRun, leftByRun, RangesOn};
+ghost use Rattle.abi.specs.Numbers.{AsNumber};
 
 #[no_mangle]
 pub extern "C" fn ttda_run_ranges(
@@ -17,9 +14,10 @@ pub extern "C" fn ttda_run_ranges(
     ledger: &mut [u8],
     cells: &mut [u8],
 ) -> u64
-    ensures { λ r. ⌜ r ≡ packed (valuesOf (rangeAnswer (rangeResult (now (graph .entry)) (now (arrays .entry)) (now (inputs .entry)) (now (picks .entry)) budget bound (length (now (ledger .entry))) (length (now (cells .entry)))))) ⌝ }
-    ensures { λ _. ⌜ now (ledger .exit) ≡ rangeLedgerAfter (rangeResult (now (graph .entry)) (now (arrays .entry)) (now (inputs .entry)) (now (picks .entry)) budget bound (length (now (ledger .entry))) (length (now (cells .entry)))) (now (ledger .entry)) ⌝ }
-    ensures { λ _. ⌜ now (cells .exit) ≡ rangeCellsAfter (rangeResult (now (graph .entry)) (now (arrays .entry)) (now (inputs .entry)) (now (picks .entry)) budget bound (length (now (ledger .entry))) (length (now (cells .entry)))) (now (cells .entry)) ⌝ }
+    ensures { λ r. ⌜ AsNumber r (λ a.
+        RangesOn (now (graph .entry)) (now (arrays .entry)) (now (inputs .entry)) budget bound
+        (lentToRun (now (picks .entry)) (now (ledger .entry)) (now (cells .entry)))
+        (leftByRun a (now (ledger .exit)) (now (cells .exit)))) ⌝ }
 {
     abi::number_of(range_engine::run_ranges(
         graph,

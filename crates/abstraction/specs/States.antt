@@ -9,7 +9,7 @@ use Rattle.record.specs.declared.token.Token as Record
 use Rattle.record.specs.declared.cell.Cell as RecordCell
 use Rattle.record.specs.declared.instruction.Instruction.{Instruction}
 use Rattle.buffer.specs.Rows.{All}
-use Rattle.record.specs.TokensAndTags.{decode}
+use Rattle.record.specs.TokensAndTags.{decodeToken}
 use Rattle.machine.specs.Machine.{State}
 use Rattle.rules.specs.InstructionSet.{arityIn}
 use Rattle.rules.specs.Run.{tokenHeld}
@@ -17,7 +17,7 @@ pub use Rattle.rules.specs.Run.{cellHeld}
 
 -- what stands where no token does; it is never looked at
 abbrev pub noToken : Record.Token
-noToken = decode []
+noToken = decodeToken []
 
 abbrev pub stateHeld : List Record.Token → List RecordCell.Cell → State Tag ℤ
 stateHeld ts cs = record { tokens = map tokenHeld ts; cells = map cellHeld cs }

@@ -37,14 +37,14 @@ use Rattle.rules.specs.Run.{tokenRecord, cellRecord, firstState, picksOf, Resul
 use Rattle.rules.specs.Runs.{LentToRun, LeftByRun, Completed, Quiescent}
 use Rattle.rules.specs.Parts.{leftBy}
 use Rattle.rules.specs.Held.{heldIn}
-use Rattle.rules.specs.Saved.{taken}
+use Rattle.rules.specs.Saved.{stateTaken}
 use Rattle.rules.specs.Bounded.{goodBound, andBound, checkBounded, bounded, LeavesNoneHeld, BoundedOn}
 use Rattle.rules.proofs.Passed.{demand-passed, andThen-passed}
 use Rattle.rules.proofs.Accepted.{whole-bytes, stores-whole, Accepted, accepted, by-check}
 use Rattle.rules.proofs.Saved.{Resumable, resumable-reached, resumable-start, resumed, taken-again}
 use Rattle.rules.proofs.Written.{Rooms, ledger-size, cells-size}
 use Rattle.activities.specs.declared.Tally.the-variants.{Found}
-use Rattle.activities.specs.Counts.{heldOf, enabledIn, heldBackIn, lentChecked, counted, counts}
+use Rattle.activities.specs.Counts.{heldOf, enabledIn, heldBackIn, countLentChecked, counted, counts}
 use Rattle.activities.specs.Hangs.{heldLeft, TellsHang, WhichHang}
 use Rattle.activities.proofs.Counting.{both-ways, is-counted, lent-counts}
 
@@ -63,9 +63,9 @@ module _ (M : Machine) (held : Held M) (x : StateOf M) where
 
   -- completed, or hung with none of the enabled held
   abbrev NoneHeld : Outcome (M .Refusal) → Type 0
-  NoneHeld o = Ends.Completed o ⊎ (Ends.Hung o × ((a : Activity (M .Tag)) → List·Memᴰ a (enabled M x) → held x a ≡ false))
+  NoneHeld o = Ends.CompletedEnd o ⊎ (Ends.HungEnd o × ((a : Activity (M .Tag)) → List·Memᴰ a (enabled M x) → held x a ≡ false))
 
-  tells : (o : Outcome (M .Refusal)) (budget n : ℕ) → Ends.Quiescent o → SaysFree M held o budget n x
+  tells : (o : Outcome (M .Refusal)) (budget n : ℕ) → Ends.QuiescentEnd o → SaysFree M held o budget n x
       → (length (heldOf M held x) ≡ length (enabled M x)) × (length (heldOf M held x) ≡ 0 ↔ NoneHeld o)
   tells completed budget n q (f, proper) =
       let e = all-held f in
@@ -127,7 +127,7 @@ module _ (graph arrays inputs : List ℕ) (graphBytes : Bytes graph) (inputBytes
   ledger′ = ledgerOf (map tokenRecord (e .state .tokens)) ledger
 
   abbrev cells′ : List ℕ
-  cells′ = writtenOver Cells.encode (map cellRecord (e .state .cells)) cells
+  cells′ = writtenOver Cells.encodeCell (map cellRecord (e .state .cells)) cells
 
   -- what is read back is the state, and no table is looked at
   held-back : heldBackIn graph k ledger′ cells′ (length (e .state .tokens)) ≡ length (heldOf M (heldIn (graphOf graph) k) (e .state))
@@ -142,14 +142,14 @@ module _ (graph arrays inputs : List ℕ) (graphBytes : Bytes graph) (inputBytes
       resumed graph graphBytes (a .graphPassed) table capacity count few (e .firings) (e .state) goes ledger cells room refl refl
       (λ c n (x : State Tag ℤ). length (enabled (machineOf (graphOf graph) [] c n) x))
 
-  is-taken : taken graph ledger′ cells′ (e .firings) (length (e .state .tokens)) ≡ true
+  is-taken : stateTaken graph ledger′ cells′ (e .firings) (length (e .state .tokens)) ≡ true
   is-taken = taken-again graph graphBytes (a .graphPassed) table capacity count few (e .firings) (e .state) goes ledger cells room refl refl
 
-  passes : lentChecked graph k (length ledger′) (length cells′) ≡ Passed
+  passes : countLentChecked graph k (length ledger′) (length cells′) ≡ Passed
   unfolding andBound checkStores
   passes = rw (a .graphPassed, ledger-size (e .state) ledger cells room, cells-size (e .state) ledger cells room, wholeLedger, wholeCells, bound)
 
-  quiet : (o : Outcome Refusal) → Quiescent (outcomeOf o) → Ends.Quiescent o
+  quiet : (o : Outcome Refusal) → Quiescent (outcomeOf o) → Ends.QuiescentEnd o
   quiet completed h = tt
   quiet hung h = tt
   quiet budgetSpent h = h
@@ -167,7 +167,7 @@ module _ (graph arrays inputs : List ℕ) (graphBytes : Bytes graph) (inputBytes
   none-left : Quiescent (outcomeOf (e .outcome)) → heldBackIn graph k ledger′ cells′ (length (e .state .tokens)) ≡ 0 ↔ LeavesNoneHeld graph arrays k (length ledger) (length cells) (ranTo e)
   none-left h = let (there, back) = said h .1 in (λ z. there (sym held-back ∙ z), λ n. held-back ∙ back n)
 
-  done : (o : Outcome Refusal) → Completed (outcomeOf o) → Ends.Completed o
+  done : (o : Outcome Refusal) → Completed (outcomeOf o) → Ends.CompletedEnd o
   done completed h = tt
   done hung h = h
   done budgetSpent h = h

@@ -11,13 +11,13 @@ use Rattle.rules.specs.Check.{checkGraph, mostCells}
 use Rattle.fire.specs.Running.{Prepared, Running}
 
 -- the graph passed its check, and ledger and cells are of allowed length
-pub record Lent (graph : List ℕ) (ledger cells : ℕ) : Type 0 where
+pub record LentToCount (graph : List ℕ) (ledger cells : ℕ) : Type 0 where
   pub graphPassed : checkGraph graph ≡ Passed
   pub few : capacityOf ledger ≤ mostTokens
   pub cellRecords : (cells % cellWidth ≡ 0) × (cells / cellWidth ≤ mostCells)
 
 -- the flags are those of the enabled activities, as between the firings of a run
-pub record Ready (graph tables flags ledger : List ℕ) (used : ℕ) : Type 0 where
+pub record ReadyToCount (graph tables flags ledger : List ℕ) (used : ℕ) : Type 0 where
   pub prepared : Prepared graph tables
   pub links : List ℕ
   pub cells : List ℕ

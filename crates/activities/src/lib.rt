@@ -18,8 +18,8 @@ ghost use Rattle.machine.specs.Bounded.{freeOf};
 ghost use Rattle.rules.specs.InstructionSet.{machineOf};
 ghost use Rattle.rules.specs.Held.{heldIn};
 ghost use Rattle.abstraction.specs.States.{stateHeld};
-ghost use Rattle.activities.specs.Counts.{lentChecked, counted, counts};
-ghost use Rattle.activities.specs.Ready.{Lent, Ready};
+ghost use Rattle.activities.specs.Counts.{countLentChecked, counted, counts};
+ghost use Rattle.activities.specs.Ready.{LentToCount, ReadyToCount};
 
 // What is found of a state: so many activities are enabled, and so many of these are held back; or it is refused.
 pub enum Tally {
@@ -29,7 +29,7 @@ pub enum Tally {
 
 // The check of what is lent beside the state: the graph, then ledger and cells by their lengths in bytes, then the bound.
 fn check_lent(graph: &[u8], bound: usize, ledger: usize, cells: usize) -> Checked
-    ensures { λ r. ⌜ r ≡ lentChecked (now (graph .entry)) bound ledger cells ⌝ }
+    ensures { λ r. ⌜ r ≡ countLentChecked (now (graph .entry)) bound ledger cells ⌝ }
 {
     let of_graph = graph::check(graph);
     let Checked::Passed = of_graph else {
@@ -47,8 +47,10 @@ fn count_free(
     used: usize,
     bound: usize,
 ) -> usize
-    requires { ⌜ Ready (now graph) (now tables) (now flags) (now ledger) used × (0 < bound) × (bound < 65536) ⌝ }
-    ensures { λ r. ⌜ ((table : List NamedArray) (capacity count : ℕ) (cs : List Cell) → r ≡ length (freeOf (machineOf (graphOf (now (graph .entry))) table capacity count) (heldIn (graphOf (now (graph .entry))) bound) (stateHeld (tokens used (now (ledger .entry))) cs))) ⌝ }
+    requires { ⌜ ReadyToCount (now graph) (now tables) (now flags) (now ledger) used × (0 < bound) × (bound < 65536) ⌝ }
+    ensures { λ r. ⌜ ((table : List NamedArray) (capacity count : ℕ) (cs : List Cell) → r ≡ length
+        (freeOf (machineOf (graphOf (now (graph .entry))) table capacity count) (heldIn (graphOf (now (graph .entry))) bound)
+        (stateHeld (tokens used (now (ledger .entry))) cs))) ⌝ }
 {
     let mut nexts = [0u64; store_flags::LENGTH];
     let mut held = [0u64; store_flags::LENGTH];
@@ -79,7 +81,7 @@ fn count_taken(
     ledger: &[u8],
     cells: &[u8],
 ) -> Tally
-    requires { ⌜ Lent (now graph) (length (now ledger)) (length (now cells)) × (bound < 65536) ⌝ }
+    requires { ⌜ LentToCount (now graph) (length (now ledger)) (length (now cells)) × (bound < 65536) ⌝ }
     ensures { λ r. ⌜ r ≡ counted (now (graph .entry)) bound firings used (now (ledger .entry)) (now (cells .entry)) ⌝ }
 {
     let none = [0u8; 0];

@@ -6,7 +6,7 @@ use mathlib.Core.Logic.{_⊎_, inl, inr}
 use lib.IntN.{ℤ}
 use lib.Signed.{leZ, _≤ℤ_, ≤ℤ-refl}
 use Rattle.arithmetic.specs.declared.Range.{Range}
-use Rattle.arithmetic.specs.Ranges.{Holds, Proper, smaller, larger, corners}
+use Rattle.arithmetic.specs.Ranges.{Holds, ProperRange, smaller, larger, corners}
 use Rattle.arithmetic.proofs.Order.{≤ℤ-trans, test-le, test-not}
 
 -- ---- the smaller and the larger of two
@@ -65,19 +65,19 @@ Falls f r = (x y : ℤ) → Holds r x → Holds r y → x ≤ℤ y → f y ≤�
 abbrev pub Monotone : (ℤ → ℤ) → Range → Type 0
 Monotone f r = Rises f r ⊎ Falls f r
 
-pub holds-low : (r : Range) → Proper r → Holds r (r .low)
+pub holds-low : (r : Range) → ProperRange r → Holds r (r .low)
 holds-low r p = record { above = ≤ℤ-refl (r .low); below = p }
 
-pub holds-high : (r : Range) → Proper r → Holds r (r .high)
+pub holds-high : (r : Range) → ProperRange r → Holds r (r .high)
 holds-high r p = record { above = p; below = ≤ℤ-refl (r .high) }
 
-pub holds-proper : (r : Range) (v : ℤ) → Holds r v → Proper r
+pub holds-proper : (r : Range) (v : ℤ) → Holds r v → ProperRange r
 holds-proper r v h = ≤ℤ-trans (h .above) (h .below)
 
 monotone-between : (f : ℤ → ℤ) (r : Range) → Monotone f r → (x : ℤ) → Holds r x → Between (f (r .low)) (f (r .high)) (f x)
 monotone-between f r m x h = go m
   where
-    p : Proper r
+    p : ProperRange r
     p = holds-proper r x h
 
     l : ℤ
@@ -119,7 +119,7 @@ module _ (f : ℤ → ℤ → ℤ) (a b : Range) where
     pub holdsRight : Holds b right
     pub gives : f left right ≡ z
 
-  module _ (p : Proper a) (q : Proper b) where
+  module _ (p : ProperRange a) (q : ProperRange b) where
     low-low : Reached (f (a .low) (b .low))
     low-low = record { left = a .low; right = b .low; holdsLeft = holds-low a p; holdsRight = holds-low b q; gives = refl }
 

@@ -8,7 +8,7 @@ use lib.Signed.{leZ, _≤ℤ_}
 use Rattle.record.specs.declared.operation.Arithmetic.the-variants.{Eq}
 use Rattle.arithmetic.specs.Arithmetic.{eqZ}
 use Rattle.arithmetic.specs.declared.Range.{Range}
-use Rattle.arithmetic.specs.Ranges.{Holds, Proper, isSingle, bit, outcome, equalities}
+use Rattle.arithmetic.specs.Ranges.{Holds, ProperRange, isSingle, truthValue, outcome, equalities}
 use Rattle.arithmetic.proofs.Order.{≤ℤ-trans, ≤ℤ-antisym, test-le, le-test}
 use Rattle.arithmetic.proofs.Corners.{holds-low, holds-high, Reached, larger-cases}
 use Rattle.arithmetic.proofs.Ranged.{eq-eqZ, eqZ-true, ne-eqZ}
@@ -17,7 +17,7 @@ use Rattle.arithmetic.proofs.Rising.{trueFalse, bothTrue, bit-rises}
 pub same-ends : (r : Range) (v : ℤ) → isSingle r ≡ true → Holds r v → v ≡ r .low
 same-ends r v e h = ≤ℤ-antisym v (r .low) (subst (λ (z : ℤ). v ≤ℤ z) (sym (eqZ-true (r .low) (r .high) e)) (h .below)) (h .above)
 
-pub equalities-hold : (a b : Range) (x y : ℤ) → Holds a x → Holds b y → Holds (equalities a b) (bit (eqZ x y))
+pub equalities-hold : (a b : Range) (x y : ℤ) → Holds a x → Holds b y → Holds (equalities a b) (truthValue (eqZ x y))
 unfolding equalities
 equalities-hold a b x y h k = record {
   above = bit-rises (isSingle a && (isSingle b && eqZ (a .low) (b .low))) (eqZ x y) (λ e.
@@ -29,13 +29,13 @@ equalities-hold a b x y h k = record {
       rw (le-test (a .low) (b .high) (≤ℤ-trans (h .above) (subst (λ (w : ℤ). w ≤ℤ b .high) (sym z) (k .below))), le-test (b .low) (a .high) (≤ℤ-trans (k .above) (subst (λ (w : ℤ). w ≤ℤ a .high) z (h .below)))));
 }
 
-module _ (a b : Range) (p : Proper a) (q : Proper b) where
+module _ (a b : Range) (p : ProperRange a) (q : ProperRange b) where
   abbrev Equality : ℤ → Type 0
   Equality z = Reached (outcome Eq) a b z
 
-  equal-at : (x y : ℤ) (t : Bool) → Holds a x → Holds b y → eqZ x y ≡ t → Equality (bit t)
+  equal-at : (x y : ℤ) (t : Bool) → Holds a x → Holds b y → eqZ x y ≡ t → Equality (truthValue t)
   unfolding outcome
-  equal-at x y t h k e = record { left = x; right = y; holdsLeft = h; holdsRight = k; gives = ap bit e }
+  equal-at x y t h k e = record { left = x; right = y; holdsLeft = h; holdsRight = k; gives = ap truthValue e }
 
   -- of two numbers that differ, one differs from a third
   differ-one : (x y z : ℤ) → eqZ x y ≡ false → (eqZ x z ≡ false) ⊎ (eqZ y z ≡ false)
@@ -53,10 +53,10 @@ module _ (a b : Range) (p : Proper a) (q : Proper b) where
   unfolding equalities
   equal-low = go (isSingle a) (isSingle b) (eqZ (a .low) (b .low)) refl refl refl
     where
-      differs : (t : Bool) → eqZ (a .low) (b .low) ≡ t → Equality (bit t)
+      differs : (t : Bool) → eqZ (a .low) (b .low) ≡ t → Equality (truthValue t)
       differs t k = equal-at (a .low) (b .low) t (holds-low a p) (holds-low b q) k
 
-      go : (s t u : Bool) → isSingle a ≡ s → isSingle b ≡ t → eqZ (a .low) (b .low) ≡ u → Equality (bit (s && (t && u)))
+      go : (s t u : Bool) → isSingle a ≡ s → isSingle b ≡ t → eqZ (a .low) (b .low) ≡ u → Equality (truthValue (s && (t && u)))
       go true true u i j k = differs u k
       go true false u i j k = onSide (differ-one (b .low) (b .high) (a .low) j)
         where
@@ -82,7 +82,7 @@ module _ (a b : Range) (p : Proper a) (q : Proper b) where
       apart : (eqZ (a .low) (b .low) ≡ true → ⊥) → Equality (pos 0)
       apart n = equal-at (a .low) (b .low) false (holds-low a p) (holds-low b q) (ne-eqZ (a .low) (b .low) (λ e. n (eq-eqZ e)))
 
-      go : (s t : Bool) → leZ (a .low) (b .high) ≡ s → leZ (b .low) (a .high) ≡ t → Equality (bit (s && t))
+      go : (s t : Bool) → leZ (a .low) (b .high) ≡ s → leZ (b .low) (a .high) ≡ t → Equality (truthValue (s && t))
       go true true i j = overlap (test-le (a .low) (b .high) i) (test-le (b .low) (a .high) j)
       go false t i j = apart (λ e. trueFalse (sym (le-test (a .low) (b .high) (subst (λ (z : ℤ). z ≤ℤ b .high) (sym (eqZ-true (a .low) (b .low) e)) q)) ∙ i))
       go true false i j = apart (λ e. trueFalse (sym (le-test (b .low) (a .high) (subst (λ (z : ℤ). z ≤ℤ a .high) (eqZ-true (a .low) (b .low) e) p)) ∙ j))

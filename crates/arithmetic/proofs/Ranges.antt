@@ -15,8 +15,8 @@ use Rattle.arithmetic.specs.declared.Computed.{Computed}
 use Rattle.arithmetic.specs.declared.Computed.the-variants.{Value, OutOfRange}
 use Rattle.arithmetic.specs.Arithmetic.{least, most, eqZ, ranged, divided, truth, computeOf}
 use Rattle.arithmetic.specs.declared.Range.{Range}
-use Rattle.arithmetic.specs.Ranges.{Holds, Proper, mayBeZero, bit, outcome, remainders, outcomes, divides, isValue, inBits, rangeOf}
-use Rattle.arithmetic.specs.Ranges.{FitsBits, Outcome, HoldsEvery, Smallest, RefusedFor, RefusedForZero, GivesSound}
+use Rattle.arithmetic.specs.Ranges.{Holds, ProperRange, mayBeZero, truthValue, outcome, remainders, outcomes, divides, isValue, inBits, rangeOf}
+use Rattle.arithmetic.specs.Ranges.{FitsBits, OutcomeOf, HoldsEvery, Smallest, RefusedFor, RefusedForZero, GivesSound}
 use Rattle.arithmetic.proofs.Order.{≤ℤ-trans, le-test, lt-is}
 use Rattle.arithmetic.proofs.Corners.{holds-low, holds-proper, corners-hold, Reached, low-corner, high-corner}
 use Rattle.arithmetic.proofs.Ranged.{by-nonzero, fits-ranged, ranged-fits}
@@ -26,7 +26,7 @@ use Rattle.arithmetic.proofs.Remainders.{not-less, remainders-hold, rem
 
 -- ---- 32 bits
 
-truth-ranged : (t : Bool) → truth t ≡ ranged (bit t)
+truth-ranged : (t : Bool) → truth t ≡ ranged (truthValue t)
 unfolding ranged
 truth-ranged true = refl
 truth-ranged false = refl
@@ -87,7 +87,7 @@ pub record EndsGiven (op : Arithmetic) (a b : Range) : Type 0 where
   least : Reached (outcome op) a b (outcomes op a b .low)
   most : Reached (outcome op) a b (outcomes op a b .high)
 
-ends-given : (op : Arithmetic) → ¬ (op ≡ Rem) → (a b : Range) → Proper a → Proper b → EndsGiven op a b
+ends-given : (op : Arithmetic) → ¬ (op ≡ Rem) → (a b : Range) → ProperRange a → ProperRange b → EndsGiven op a b
 unfolding outcomes
 ends-given Add n a b p q = record { least = low-corner (outcome Add) a b p q; most = high-corner (outcome Add) a b p q }
 ends-given Sub n a b p q = record { least = low-corner (outcome Sub) a b p q; most = high-corner (outcome Sub) a b p q }
@@ -126,7 +126,7 @@ holds-every op a b r e x y h k =
     (outcome op x y, computed op x y (by-nonzero-or op b (g .divisible) y k) ∙ within, held)
 
 -- an outcome, as the operation computes it
-outcome-computed : (op : Arithmetic) (a b : Range) → Divisible op b → (z : ℤ) (c : Computed) → Reached (outcome op) a b z → ranged z ≡ c → Outcome op a b c
+outcome-computed : (op : Arithmetic) (a b : Range) → Divisible op b → (z : ℤ) (c : Computed) → Reached (outcome op) a b z → ranged z ≡ c → OutcomeOf op a b c
 outcome-computed op a b d z c r e = record {
   left = r .left;
   right = r .right;
@@ -164,7 +164,7 @@ refused-for op n a b p q e = go (divides op && mayBeZero b) (isValue (ranged (ou
     ends = ends-given op n a b p q
 
     go : (t l h : Bool) → divides op && mayBeZero b ≡ t → isValue (ranged (outcomes op a b .low)) ≡ l → isValue (ranged (outcomes op a b .high)) ≡ h
-        → cond t none (cond (l && h) (some (outcomes op a b)) none) ≡ none → Outcome op a b OutOfRange
+        → cond t none (cond (l && h) (some (outcomes op a b)) none) ≡ none → OutcomeOf op a b OutOfRange
     go true l h i j k f =
         let (d, z) = bothTrue (divides op) (mayBeZero b) i in
         record { left = a .low; right = pos 0; holdsLeft = holds-low a p; holdsRight = zero-held b z; gives = by-zero op (a .low) d }

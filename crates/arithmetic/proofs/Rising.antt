@@ -11,7 +11,7 @@ use borrow.Author.Tests.{le-leb}
 use Rattle.record.specs.declared.operation.Arithmetic.{Arithmetic}
 use Rattle.record.specs.declared.operation.Arithmetic.the-variants.{Add, Sub, Mul, Div, Rem, Lt, Le, Eq}
 use Rattle.arithmetic.specs.declared.Range.{Range}
-use Rattle.arithmetic.specs.Ranges.{Holds, Proper, mayBeZero, bit, outcome, divides}
+use Rattle.arithmetic.specs.Ranges.{Holds, ProperRange, mayBeZero, truthValue, outcome, divides}
 use Rattle.arithmetic.proofs.Order.{le-pos, pos-le, neg-le, ≤ℤ-trans, test-le, le-test, lt-is, neg-turns, sum-rises, product-rises, product-falls, quotient-turns, quotient-rises, quotient-falls, nearer-above, nearer-below}
 use Rattle.arithmetic.proofs.Corners.{Monotone, MonotoneInEach}
 
@@ -25,7 +25,7 @@ bothTrue true q e = (refl, e)
 bothTrue false q e = trueFalse (sym e)
 
 -- if the one holds where the other does
-pub bit-rises : (t u : Bool) → (t ≡ true → u ≡ true) → bit t ≤ℤ bit u
+pub bit-rises : (t u : Bool) → (t ≡ true → u ≡ true) → truthValue t ≤ℤ truthValue u
 bit-rises true true h = ≤ℤ-refl (pos 1)
 bit-rises true false h = trueFalse (sym (h refl))
 bit-rises false true h = le-pos zero-le
@@ -38,7 +38,7 @@ data OneSide (r : Range) : Type 0 where
   positive : (n : ℕ) → r .low ≡ pos (suc n) → OneSide r
   negative : (n : ℕ) → r .high ≡ negsuc n → OneSide r
 
-one-side : (r : Range) → Proper r → mayBeZero r ≡ false → OneSide r
+one-side : (r : Range) → ProperRange r → mayBeZero r ≡ false → OneSide r
 one-side r p e = go (r .low) (r .high) refl refl p e
   where
     go : (l h : ℤ) → r .low ≡ l → r .high ≡ h → l ≤ℤ h → leZ l (pos 0) && leZ (pos 0) h ≡ false → OneSide r
@@ -128,7 +128,7 @@ ByCorners Eq = ⊥
 abbrev pub Divisible : Arithmetic → Range → Type 0
 Divisible op b = divides op && mayBeZero b ≡ false
 
-pub monotone : (op : Arithmetic) → ByCorners op → (a b : Range) → Proper b → Divisible op b → MonotoneInEach (outcome op) a b
+pub monotone : (op : Arithmetic) → ByCorners op → (a b : Range) → ProperRange b → Divisible op b → MonotoneInEach (outcome op) a b
 unfolding outcome
 monotone Add n a b p d = record { left = λ y h. inl (λ x z i j l. sum-rises x z y l); right = λ x h. inl (λ y z i j l. rw (+ℤ-comm x y, +ℤ-comm x z) (sum-rises y z x l)) }
 monotone Sub n a b p d = record { left = λ y h. inl (λ x z i j l. sum-rises x z (negℤ y) l); right = λ x h. inr (λ y z i j l. difference-falls x y z l) }

@@ -8,7 +8,7 @@ use lib.Signed.{leZ, remZ, _≤ℤ_, ≤ℤ-refl}
 use Rattle.record.specs.declared.operation.Arithmetic.{Arithmetic}
 use Rattle.record.specs.declared.operation.Arithmetic.the-variants.{Add, Sub, Mul, Div, Rem, Lt, Le, Eq}
 use Rattle.arithmetic.specs.Arithmetic.{eqZ, ranged, computeOf}
-use Rattle.arithmetic.specs.Ranges.{Holds, single, mayBeZero, smaller, larger, corners, bit, outcome, equalities, remainders, outcomes, divides, isValue, inBits, rangeOf}
+use Rattle.arithmetic.specs.Ranges.{Holds, single, mayBeZero, smaller, larger, corners, truthValue, outcome, equalities, remainders, outcomes, divides, isValue, inBits, rangeOf}
 use Rattle.arithmetic.specs.Ranges.{asRange, SingleExact}
 use Rattle.arithmetic.proofs.Order.{≤ℤ-antisym, test-le, le-test}
 use Rattle.arithmetic.proofs.Ranged.{eq-eqZ, eqZ-true}
@@ -43,7 +43,7 @@ both-ways x y = go (eqZ x y) refl
         apart false f = refl
         apart true f = let (h, k) = bothTrue (leZ x y) (leZ y x) f in trueFalse (sym (eq-eqZ (≤ℤ-antisym x y (test-le x y h) (test-le y x k))) ∙ e)
 
-equal-single : (x y : ℤ) → equalities (single x) (single y) ≡ single (bit (eqZ x y))
+equal-single : (x y : ℤ) → equalities (single x) (single y) ≡ single (truthValue (eqZ x y))
 unfolding equalities
 equal-single x y = rw (eq-eqZ {a = x} refl, eq-eqZ {a = y} refl, both-ways x y)
 

@@ -28,8 +28,8 @@ pub record FitsBits (r : Range) : Type 0 where
   pub high : SFits w32 (r .high)
 
 -- there is a value in it
-abbrev pub Proper : Range → Type 0
-Proper r = r .low ≤ℤ r .high
+abbrev pub ProperRange : Range → Type 0
+ProperRange r = r .low ≤ℤ r .high
 
 abbrev pub single : ℤ → Range
 single v = record { low = v; high = v }
@@ -58,8 +58,8 @@ corners f a b = record {
 }
 
 -- 1 if so, else 0
-abbrev pub bit : Bool → ℤ
-bit t = cond t (pos 1) (pos 0)
+abbrev pub truthValue : Bool → ℤ
+truthValue t = cond t (pos 1) (pos 0)
 
 -- what an operation gives of two numbers, whatever its size; of a divisor 0 it is of no account
 unfoldable pub outcome : Arithmetic → ℤ → ℤ → ℤ
@@ -68,15 +68,15 @@ outcome Sub x y = x -ℤ y
 outcome Mul x y = x *ℤ y
 outcome Div x y = quotZ x y
 outcome Rem x y = remZ x y
-outcome Lt x y = bit (ltZ x y)
-outcome Le x y = bit (leZ x y)
-outcome Eq x y = bit (eqZ x y)
+outcome Lt x y = truthValue (ltZ x y)
+outcome Le x y = truthValue (leZ x y)
+outcome Eq x y = truthValue (eqZ x y)
 
 -- two ranges are surely equal if both are one value, the same; and may be equal if they overlap
 unfoldable pub equalities : Range → Range → Range
 equalities a b = record {
-  low = bit (isSingle a && (isSingle b && eqZ (a .low) (b .low)));
-  high = bit (leZ (a .low) (b .high) && leZ (b .low) (a .high));
+  low = truthValue (isSingle a && (isSingle b && eqZ (a .low) (b .low)));
+  high = truthValue (leZ (a .low) (b .high) && leZ (b .low) (a .high));
 }
 
 -- "REM of two single values is exact. Otherwise, with m the divisor's largest magnitude, it runs from 1 - m (0 if the dividend can't be negative) to m - 1
@@ -125,7 +125,7 @@ rangeOf op a b = cond (divides op && mayBeZero b) none (inBits (outcomes op a b)
 -- ---- what is stated
 
 -- of two numbers out of two ranges an operation gives the computed c
-pub record Outcome (op : Arithmetic) (a b : Range) (c : Computed) : Type 0 where
+pub record OutcomeOf (op : Arithmetic) (a b : Range) (c : Computed) : Type 0 where
   pub left : ℤ
   pub right : ℤ
   pub holdsLeft : Holds a left
@@ -138,15 +138,15 @@ HoldsEvery = (op : Arithmetic) (a b r : Range) → rangeOf op a b ≡ some r →
 
 -- the smallest such range: both ends are outcomes
 pub record EndsReached (op : Arithmetic) (a b r : Range) : Type 0 where
-  pub least : Outcome op a b (Value (r .low))
-  pub most : Outcome op a b (Value (r .high))
+  pub least : OutcomeOf op a b (Value (r .low))
+  pub most : OutcomeOf op a b (Value (r .high))
 
 abbrev pub Smallest : Type 0
-Smallest = (op : Arithmetic) → ¬ (op ≡ Rem) → (a b r : Range) → Proper a → Proper b → rangeOf op a b ≡ some r → EndsReached op a b r
+Smallest = (op : Arithmetic) → ¬ (op ≡ Rem) → (a b r : Range) → ProperRange a → ProperRange b → rangeOf op a b ≡ some r → EndsReached op a b r
 
 -- and refusal 12 comes only if an outcome is out of range or a divisor 0
 abbrev pub RefusedFor : Type 0
-RefusedFor = (op : Arithmetic) → ¬ (op ≡ Rem) → (a b : Range) → Proper a → Proper b → rangeOf op a b ≡ none → Outcome op a b OutOfRange
+RefusedFor = (op : Arithmetic) → ¬ (op ≡ Rem) → (a b : Range) → ProperRange a → ProperRange b → rangeOf op a b ≡ none → OutcomeOf op a b OutOfRange
 
 -- REM of 32-bit operands: only for a divisor's range that holds 0
 abbrev pub RefusedForZero : Type 0
@@ -154,11 +154,11 @@ RefusedForZero = (a b : Range) → FitsBits a → FitsBits b → rangeOf Rem a b
 
 -- what is given is a range again, of 32-bit ends
 pub record Sound (r : Range) : Type 0 where
-  pub proper : Proper r
+  pub proper : ProperRange r
   pub fits : FitsBits r
 
 abbrev pub GivesSound : Type 0
-GivesSound = (op : Arithmetic) (a b r : Range) → Proper a → Proper b → rangeOf op a b ≡ some r → Sound r
+GivesSound = (op : Arithmetic) (a b r : Range) → ProperRange a → ProperRange b → rangeOf op a b ≡ some r → Sound r
 
 -- of single values an operation over ranges gives what it gives of numbers
 abbrev pub asRange : Computed → Option Range

@@ -10,7 +10,7 @@ use Rattle.buffer.specs.Rows.{joined, allRows}
 use Rattle.buffer.proofs.Tables.{length-joined, length-rows}
 use lib.IntN.{ℤ}
 use Rattle.record.specs.declared.tag.Tag.{Tag}
-use Rattle.record.specs.TokensAndTags.{encode, capacityOf}
+use Rattle.record.specs.TokensAndTags.{encodeToken, capacityOf}
 use Rattle.record.specs.TokensAndTags as Tokens
 use Rattle.record.specs.Cells as Cells
 use Rattle.record.specs.Widths.{tokenWidth, cellWidth}
@@ -26,7 +26,7 @@ use Rattle.rules.specs.declared.answer.Checked.the-variants.{Passed, Failed}
 use Rattle.record.specs.GraphRecords.{graphOf}
 use Rattle.rules.specs.Check.{check, checkStores, checkArrays, mostCells}
 use Rattle.rules.specs.Run.{cellRecord, outcomeOf, Result, refusedAtOnce, ranTo, unlessFailed, result, answer, ledgerAfter, cellsAfter, tokenRecord}
-use Rattle.rules.specs.Orders.{tokensOf, cellsOf, Quiescent, Allowed}
+use Rattle.rules.specs.Orders.{resultTokens, resultCells, QuiescentResult, Allowed}
 use Rattle.rules.specs.Invariants.{LawfulResult}
 use Rattle.rules.specs.Capacity as Rules
 use Rattle.rules.proofs.Inputs.{tokens-first}
@@ -36,7 +36,7 @@ use Rattle.rules.specs.Fits.{CellCount}
 use Rattle.rules.proofs.Capacity as Laws
 use Rattle.rules.specs.Runs.{LentToRun, LeftByRun, RanOn}
 use Rattle.rules.specs.Runs as Runs
-use Rattle.bounds.specs.Capacity.{used, SameEnd, EnoughRoom, RefusedBy8, TooSmall}
+use Rattle.bounds.specs.Capacity.{firstRecords, SameEnd, EnoughRoom, RefusedBy8, TooSmall}
 use Rattle.bounds.proofs.Runs.{quiescent}
 
 -- ---- what a run leaves, in bytes
@@ -50,33 +50,33 @@ module _ (graph arrays inputs : List ℕ) (ledger cells : ℕ) where
   -- and the inputs among the tokens, where the check passed
   inputs-among : (c : Checked) (e : End Refusal Tag ℤ) → c ≡ Passed → LawfulResult graph arrays inputs ledger cells (unlessFailed c (ranTo e)) → length inputs / tokenWidth ≤ answer (unlessFailed c (ranTo e)) .tokens
   unfolding answer unlessFailed
-  inputs-among Passed e p h = omega (arith, h .invariants .count, tokens-first inputs (cells / cellWidth), length-rows tokenWidth Tokens.decode (length inputs / tokenWidth) inputs)
+  inputs-among Passed e p h = omega (arith, h .invariants .count, tokens-first inputs (cells / cellWidth), length-rows tokenWidth Tokens.decodeToken (length inputs / tokenWidth) inputs)
   inputs-among (Failed r place) e p h = let z : _≡_ {A = ℕ} 0 1 = cc in absurd (omega arith)
 
 -- the cells are all written
-cell-bytes : (x : Result) → Quiescent x → (lent : List ℕ) → length lent % cellWidth ≡ 0 → CellCount x (length lent / cellWidth) → cellsAfter x lent ≡ joined Cells.encode (cellsOf x)
+cell-bytes : (x : Result) → QuiescentResult x → (lent : List ℕ) → length lent % cellWidth ≡ 0 → CellCount x (length lent / cellWidth) → cellsAfter x lent ≡ joined Cells.encodeCell (resultCells x)
 unfolding cellsAfter
 cell-bytes (refusedAtOnce r p) h lent whole count = absurd h
 cell-bytes (ranTo e) h lent whole count =
-    let written = joined Cells.encode (cellsOf (ranTo e)) in
-    let n : length written ≡ length (cellsOf (ranTo e)) * cellWidth = length-joined cellWidth Cells.encode length-cell (cellsOf (ranTo e)) in
+    let written = joined Cells.encodeCell (resultCells (ranTo e)) in
+    let n : length written ≡ length (resultCells (ranTo e)) * cellWidth = length-joined cellWidth Cells.encodeCell length-cell (resultCells (ranTo e)) in
     let all : length lent ≤ length written = omega arith in
     ap (λ (l : List ℕ). written ++ l) (drop-of-length-le lent all) ∙ append-nil written
 
-token-bytes : (x : Result) → Quiescent x → length (joined encode (tokensOf x)) ≡ answer x .tokens * tokenWidth
+token-bytes : (x : Result) → QuiescentResult x → length (joined encodeToken (resultTokens x)) ≡ answer x .tokens * tokenWidth
 unfolding answer
 token-bytes (refusedAtOnce r p) h = absurd h
-token-bytes (ranTo e) h = length-joined tokenWidth encode length-token (tokensOf (ranTo e)) ∙ rw (length-map (e .state .tokens) tokenRecord)
+token-bytes (ranTo e) h = length-joined tokenWidth encodeToken length-token (resultTokens (ranTo e)) ∙ rw (length-map (e .state .tokens) tokenRecord)
 
-ledger-bytes : (x : Result) → Quiescent x → (lent : List ℕ) → ledgerAfter x lent ≡ joined encode (tokensOf x) ++ drop (answer x .tokens * tokenWidth) lent
+ledger-bytes : (x : Result) → QuiescentResult x → (lent : List ℕ) → ledgerAfter x lent ≡ joined encodeToken (resultTokens x) ++ drop (answer x .tokens * tokenWidth) lent
 unfolding ledgerAfter
 ledger-bytes (refusedAtOnce r p) h lent = absurd h
 ledger-bytes (ranTo e) h lent = rw (token-bytes (ranTo e) h)
 
 -- the used records of one ledger, in another
-used-bytes : (x : Result) → Quiescent x → (lent lent′ : List ℕ) → ledgerAfter x lent′ ≡ used (answer x .tokens) (ledgerAfter x lent) ++ drop (answer x .tokens * tokenWidth) lent′
+used-bytes : (x : Result) → QuiescentResult x → (lent lent′ : List ℕ) → ledgerAfter x lent′ ≡ firstRecords (answer x .tokens) (ledgerAfter x lent) ++ drop (answer x .tokens * tokenWidth) lent′
 used-bytes x h lent lent′ =
-    rw (ledger-bytes x h lent′, ledger-bytes x h lent, take-at (joined encode (tokensOf x)) (drop (answer x .tokens * tokenWidth) lent) (answer x .tokens * tokenWidth) (token-bytes x h))
+    rw (ledger-bytes x h lent′, ledger-bytes x h lent, take-at (joined encodeToken (resultTokens x)) (drop (answer x .tokens * tokenWidth) lent) (answer x .tokens * tokenWidth) (token-bytes x h))
 
 -- ---- refused by 8
 
@@ -86,7 +86,7 @@ full hung h = absurd h
 full budgetSpent h = absurd h
 full (refused r place) h = (place, rw h)
 
-by-8 : (x : Result) → Rules.RefusedBy8 x → (place : ℕ) × (answer x .outcome ≡ Refused LedgerFull place)
+by-8 : (x : Result) → Rules.RefusedBy8OfResults x → (place : ℕ) × (answer x .outcome ≡ Refused LedgerFull place)
 unfolding answer
 by-8 (refusedAtOnce r place) h = (place, rw h)
 by-8 (ranTo e) h = full (e .outcome) h
@@ -101,7 +101,7 @@ module _ (graph arrays inputs : List ℕ) (l m : LentToRun) (x y : LeftByRun) (r
   abbrev resultOf : LentToRun → Result
   resultOf k = result graph arrays inputs (k .picks) 2048 (length (k .ledger)) (length (k .cells))
 
-  rests : Quiescent (resultOf l)
+  rests : QuiescentResult (resultOf l)
   rests = quiescent (resultOf l) (rw (ranX .answered) at rest)
 
   tokens : x .answer .tokens ≡ answer (resultOf l) .tokens
@@ -114,7 +114,7 @@ module _ (graph arrays inputs : List ℕ) (l m : LentToRun) (x y : LeftByRun) (r
       let stores = accepted graph inputs (capacityOf (length (l .ledger))) (checkStores (length inputs) (length (l .picks)) (length (l .ledger)) (length (l .cells))) (checkArrays (graphOf graph) (length (l .cells) / cellWidth) arrays) passed .0 in
       whole-bytes cellWidth mostCells (length (l .cells)) (stores-whole (length inputs) (length (l .picks)) (length (l .ledger)) (length (l .cells)) stores .wholeCells) .0
 
-  cells-of : (lent : List ℕ) → length lent ≡ length (l .cells) → cellsAfter (resultOf l) lent ≡ joined Cells.encode (cellsOf (resultOf l))
+  cells-of : (lent : List ℕ) → length lent ≡ length (l .cells) → cellsAfter (resultOf l) lent ≡ joined Cells.encodeCell (resultCells (resultOf l))
   cells-of lent e = cell-bytes (resultOf l) rests lent (rw e whole-cells) (rw e (cell-count graph arrays inputs (length (l .ledger)) (length (l .cells)) (resultOf l) (result-invariants graph arrays inputs (l .picks) 2048 (length (l .ledger)) (length (l .cells)))))
 
   same-end : resultOf m ≡ resultOf l → SameEnd x y (m .ledger)
@@ -131,8 +131,8 @@ module _ (graph arrays inputs : List ℕ) (l m : LentToRun) (x y : LeftByRun) (r
     abbrev count : ℕ
     count = length inputs / tokenWidth
 
-    inputs-counted : length (allRows tokenWidth Tokens.decode inputs) ≡ count
-    inputs-counted = length-rows tokenWidth Tokens.decode count inputs
+    inputs-counted : length (allRows tokenWidth Tokens.decodeToken inputs) ≡ count
+    inputs-counted = length-rows tokenWidth Tokens.decodeToken count inputs
 
     allowed-here : Allowed (m .picks) (length (m .ledger)) (length (l .cells))
     allowed-here = rw (← cells) allowed

@@ -3,7 +3,7 @@ use Prim.Native.Nat.{ℕ, zero, suc, _+_, _*_, _/_, _≤_, _<_}
 use native.Mathlib.Omega.{arith}
 use native.Mathlib.Decide.{ℕ-discrete}
 use mathlib.Core.Path.{_≡_, refl, sym, _∙_}
-use mathlib.Core.Bool.{Bool, true, false, _&&_, _||_}
+use mathlib.Core.Bool.{Bool, true, false, _&&_, _||_, or-false, and-comm, or-assoc}
 use mathlib.Core.List.{List, [], _∷_}
 use lib.ListN.{length, getD, set, drop, replicate, length-set, length-replicate, getD-replicate}
 use lib.Seq.{getD-set-same, getD-set-other}
@@ -24,48 +24,36 @@ use Rattle.rules.specs.declared.answer.Checked.the-variants.{Passed}
 use Rattle.rules.specs.Check.{demand, any, all, inTurn, goodArc, goodInput, operandsAt, instructionAt, checkGraph}
 use Rattle.rules.proofs.Lists.{or-right}
 use Rattle.rules.proofs.PassedGraph.{two-operands}
-use Rattle.check_fields.proofs.Turns.{or-false, and-true-left, and-true-right, demanded, each-passed}
+use Rattle.check_fields.proofs.Turns.{and-true-left, and-true-right, demanded, each-passed}
 use Rattle.buffer.proofs.Tables.{length-rows, getD-rows}
 use Rattle.checks.proofs.Passed.{good-arc, passed-at, passed-length, passed-input}
-use Rattle.bounds.specs.Reach.{Inside, GoodToken, entryOf, Ports, marked}
-
--- ---- tests
-
-pub or-assoc : (a b c : Bool) → (a || b) || c ≡ a || (b || c)
-or-assoc true b c = refl
-or-assoc false b c = refl
-
-and-swap : (a b : Bool) → a && b ≡ b && a
-and-swap true true = refl
-and-swap true false = refl
-and-swap false true = refl
-and-swap false false = refl
+use Rattle.bounds.specs.Reach.{OnPort, GoodToken, portEntry, Ports, marked}
 
 -- ---- marked ports
 
 pub no-ports : Ports (λ i p. false) (replicate 512 false)
-no-ports = record { size = length-replicate 512 false; says = λ i p l. getD-replicate 512 (entryOf i p) false false (omega (arith, l .low, l .one)) }
+no-ports = record { size = length-replicate 512 false; says = λ i p l. getD-replicate 512 (portEntry i p) false false (omega (arith, l .low, l .one)) }
 
 pub alike : {f h : ℕ → ℕ → Bool} {table : List Bool} → Ports f table → ((i p : ℕ) → f i p ≡ h i p) → Ports h table
 alike k e = record { size = k .size; says = λ i p l. k .says i p l ∙ e i p }
 
-pub mark : {f : ℕ → ℕ → Bool} {table : List Bool} → Ports f table → (j q : ℕ) → Inside j q → Ports (λ i p. f i p || (eqb j i && eqb q p)) (set table (entryOf j q) true)
+pub mark : {f : ℕ → ℕ → Bool} {table : List Bool} → Ports f table → (j q : ℕ) → OnPort j q → Ports (λ i p. f i p || (eqb j i && eqb q p)) (set table (portEntry j q) true)
 mark {f} {table} k j q m = record {
-  size = length-set table (entryOf j q) true ∙ k .size;
-  says = λ i p l. go i p l (ℕ-discrete (entryOf i p) (entryOf j q)) (eqb j i) (eqb q p) refl refl;
+  size = length-set table (portEntry j q) true ∙ k .size;
+  says = λ i p l. go i p l (ℕ-discrete (portEntry i p) (portEntry j q)) (eqb j i) (eqb q p) refl refl;
 }
   where
-    go : (i p : ℕ) → Inside i p → Dec (entryOf i p ≡ entryOf j q) → (a b : Bool) → eqb j i ≡ a → eqb q p ≡ b → getD (set table (entryOf j q) true) (entryOf i p) false ≡ f i p || (a && b)
+    go : (i p : ℕ) → OnPort i p → Dec (portEntry i p ≡ portEntry j q) → (a b : Bool) → eqb j i ≡ a → eqb q p ≡ b → getD (set table (portEntry j q) true) (portEntry i p) false ≡ f i p || (a && b)
     go i p l (yes e) a b x y =
         let u : j ≡ i = omega (arith, l .one, m .one) in
         let v : q ≡ p = omega (arith, l .one, m .one) in
-        rw (e, ← x, ← y, eq-eqb j i u, eq-eqb q p v, or-right (f i p) true refl) (getD-set-same table (entryOf j q) true false (omega (arith, k .size, m .low, m .one)))
+        rw (e, ← x, ← y, eq-eqb j i u, eq-eqb q p v, or-right (f i p) true refl) (getD-set-same table (portEntry j q) true false (omega (arith, k .size, m .low, m .one)))
     go i p l (no n) true true x y = absurd (n (rw (eqb-true j i x, eqb-true q p y)))
-    go i p l (no n) true false x y = rw or-false (getD-set-other table (entryOf j q) (entryOf i p) true false n ∙ k .says i p l)
-    go i p l (no n) false b x y = rw or-false (getD-set-other table (entryOf j q) (entryOf i p) true false n ∙ k .says i p l)
+    go i p l (no n) true false x y = rw or-false (getD-set-other table (portEntry j q) (portEntry i p) true false n ∙ k .says i p l)
+    go i p l (no n) false b x y = rw or-false (getD-set-other table (portEntry j q) (portEntry i p) true false n ∙ k .says i p l)
 
 abbrev pub InsideAll : List Destination → Type 0
-InsideAll ds = All (λ d. Inside (d .instruction) (d .port)) ds
+InsideAll ds = All (λ d. OnPort (d .instruction) (d .port)) ds
 
 pub mark-all : {f : ℕ → ℕ → Bool} {table : List Bool} → Ports f table → (ds : List Destination) → InsideAll ds
     → Ports (λ i p. f i p || any (λ d. eqb (d .instruction) i && eqb (d .port) p) ds) (marked table ds)
@@ -74,19 +62,19 @@ mark-all {f} k (d ∷ ds) l =
     alike (mark-all (mark k (d .instruction) (d .port) (l .0)) ds (l .1)) (λ i p. or-assoc (f i p) (eqb (d .instruction) i && eqb (d .port) p) _)
 
 -- the first destination in use, and the second
-pub first-inside : (n : ℕ) (d e : Destination) → InsideAll (inUse n d e) → (n ≡ 0 → ⊥) → Inside (d .instruction) (d .port)
+pub first-inside : (n : ℕ) (d e : Destination) → InsideAll (inUse n d e) → (n ≡ 0 → ⊥) → OnPort (d .instruction) (d .port)
 first-inside zero d e l h = absurd (h refl)
 first-inside (suc zero) d e l h = l .0
 first-inside (suc (suc n)) d e l h = l .0
 
-pub second-inside : (n : ℕ) (d e : Destination) → InsideAll (inUse n d e) → (n ≡ 0 → ⊥) → (n ≡ 1 → ⊥) → Inside (e .instruction) (e .port)
+pub second-inside : (n : ℕ) (d e : Destination) → InsideAll (inUse n d e) → (n ≡ 0 → ⊥) → (n ≡ 1 → ⊥) → OnPort (e .instruction) (e .port)
 second-inside zero d e l h k = absurd (h refl)
 second-inside (suc zero) d e l h k = absurd (k refl)
 second-inside (suc (suc n)) d e l h k = l .1 .0
 
 -- ---- a graph and inputs that passed
 
-port-inside : (g : List Instruction) (i p : ℕ) → length g ≤ 256 → i < length g → p < operandsAt g i → Inside i p
+port-inside : (g : List Instruction) (i p : ℕ) → length g ≤ 256 → i < length g → p < operandsAt g i → OnPort i p
 unfolding operandsAt
 port-inside g i p n l h = record { low = omega arith; one = omega (arith, two-operands (instructionAt g i .code)) }
 
@@ -102,7 +90,7 @@ module _ (graph : List ℕ) (passed : checkGraph graph ≡ Passed) where
 
   pub inputs-inside : (inputs : List ℕ) → inTurn (λ i good. demand good BadInput i) 0 (allRows tokenWidth (goodInput (graphOf graph)) inputs) ≡ Passed
       → (i : ℕ) → i < length inputs / tokenWidth → GoodToken (tokenAt inputs i)
-  unfolding Tokens.decode
+  unfolding Tokens.decodeToken
   inputs-inside inputs e i h =
       let g = graphOf graph in
       let n = length inputs / tokenWidth in
@@ -117,4 +105,4 @@ module _ (graph : List ℕ) (passed : checkGraph graph ≡ Passed) where
 
 pub stands : (t : Token) → GoodToken t → (i p : ℕ) → standsAt (rootOf i) p t ≡ eqb (t .tag .instruction) i && eqb (t .port) p
 unfolding standsAt sameTag
-stands t good i p = rw (good .root, path-same rootPath rootPath refl) (and-swap (eqb (t .port) p) (eqb (t .tag .instruction) i))
+stands t good i p = rw (good .root, path-same rootPath rootPath refl) (and-comm (eqb (t .port) p) (eqb (t .tag .instruction) i))

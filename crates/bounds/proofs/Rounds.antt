@@ -5,7 +5,7 @@ use native.Mathlib.Omega.{arith}
 use native.Mathlib.Decide.{ℕ-discrete}
 use native.Mathlib.Numerals.{add-one}
 use mathlib.Core.Path.{_≡_, refl, sym, _∙_}
-use mathlib.Core.Bool.{Bool, true, false, _&&_, _||_}
+use mathlib.Core.Bool.{Bool, true, false, _&&_, _||_, or-false, or-assoc}
 use mathlib.Core.List.{List}
 use lib.ListN.{length, getD, set, replicate, length-set, length-replicate}
 use lib.Seq.{getD-set-same, getD-set-other}
@@ -19,9 +19,8 @@ use Rattle.rules.specs.Needs.{anyBelow, allBelow, sendsTo, portReached, allReac
 use Rattle.rules.proofs.PassedGraph.{two-operands}
 use Rattle.rules.proofs.Below.{sum-same}
 use Rattle.rules.proofs.Rounds.{Within, all-more, after, round, inside, reached-least}
-use Rattle.check_fields.proofs.Turns.{or-false}
-use Rattle.bounds.specs.Reach.{entryOf, Ports, marked, given, flag, sumOver, ReachedSoFar, Round}
-use Rattle.bounds.proofs.Ports.{InsideAll, alike, mark-all, or-assoc}
+use Rattle.bounds.specs.Reach.{portEntry, Ports, marked, sentByInputs, flag, sumOver, ReachedSoFar, Round}
+use Rattle.bounds.proofs.Ports.{InsideAll, alike, mark-all}
 
 -- ---- tests
 
@@ -94,21 +93,21 @@ module _ (ts : List Token) (g : List Instruction) where
       let more = any-more (length g) (λ k. flag t k && sends k) (λ k. flag (set t j true) k && sends k) j (sends j) l here (λ k n. rw (getD-set-other t j k true false n)) in
       rw more (or-assoc (any (standsAt (rootOf i) p) ts) (anyBelow (length g) (λ k. flag t k && sends k)) (sends j))
 
-  no-instruction : (i p : ℕ) → given ts i p ≡ portReached ts g (flag (replicate 256 false)) i p
+  no-instruction : (i p : ℕ) → sentByInputs ts i p ≡ portReached ts g (flag (replicate 256 false)) i p
   unfolding portReached
   no-instruction i p =
       let none = any-none (length g) (λ k. flag (replicate 256 false) k && sendsTo i p (instructionAt g k)) (λ k. rw (no-flag 256 k)) in
       rw (none) (sym (or-false (any (standsAt (rootOf i) p) ts)))
 
   -- whether all ports of an instruction are reached, by the table
-  pub is-ready : {sent t : List Bool} → ReachedSoFar ts g sent t → (i : ℕ) → i < 256 → allBelow (operandsAt g i) (λ p. getD sent (entryOf i p) false) ≡ allReached ts g (flag t) i
+  pub is-ready : {sent t : List Bool} → ReachedSoFar ts g sent t → (i : ℕ) → i < 256 → allBelow (operandsAt g i) (λ p. getD sent (portEntry i p) false) ≡ allReached ts g (flag t) i
   unfolding allReached operandsAt
   is-ready {sent} {t} k i h =
-      all-same (operandsAt g i) (λ p. getD sent (entryOf i p) false) (portReached ts g (flag t) i) (λ p l. k .ports .says i p (record { low = h; one = omega (arith, two-operands (instructionAt g i .code)) }))
+      all-same (operandsAt g i) (λ p. getD sent (portEntry i p) false) (portReached ts g (flag t) i) (λ p l. k .ports .says i p (record { low = h; one = omega (arith, two-operands (instructionAt g i .code)) }))
 
   -- ---- what is kept
 
-  pub start : {sent : List Bool} → Ports (given ts) sent → ReachedSoFar ts g sent (replicate 256 false)
+  pub start : {sent : List Bool} → Ports (sentByInputs ts) sent → ReachedSoFar ts g sent (replicate 256 false)
   start k = record {
     ports = alike k no-instruction;
     size = length-replicate 256 false;

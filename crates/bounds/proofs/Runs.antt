@@ -5,19 +5,19 @@ use Rattle.machine.specs.Machine as Machine
 use Rattle.machine.specs.Orders as Ends
 use Rattle.rules.specs.declared.answer.Refusal.{Refusal}
 use Rattle.rules.specs.Run.{Result, refusedAtOnce, ranTo, outcomeOf, answer}
-use Rattle.rules.specs.Orders.{Quiescent}
+use Rattle.rules.specs.Orders.{QuiescentResult}
 use Rattle.rules.specs.Runs as Runs
 use Rattle.rules.proofs.Needs.{never-exceeded, exact}
 use Rattle.bounds.specs.Runs.{NoRunExceeds, BoundsExact}
 
-rests : (o : Machine.Outcome Refusal) → Runs.Quiescent (outcomeOf o) → Ends.Quiescent o
+rests : (o : Machine.Outcome Refusal) → Runs.Quiescent (outcomeOf o) → Ends.QuiescentEnd o
 rests Machine.completed h = tt
 rests Machine.hung h = tt
 rests Machine.budgetSpent h = absurd h
 rests (Machine.refused r p) h = absurd h
 
 -- a run that answers completed or hung has nothing enabled
-pub quiescent : (x : Result) → Runs.Quiescent (answer x .outcome) → Quiescent x
+pub quiescent : (x : Result) → Runs.Quiescent (answer x .outcome) → QuiescentResult x
 unfolding answer
 quiescent (refusedAtOnce r p) h = absurd h
 quiescent (ranTo e) h = rests (e .outcome) h

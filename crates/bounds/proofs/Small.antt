@@ -23,7 +23,7 @@ use Rattle.rules.specs.declared.answer.Checked.the-variants.{Passed, Failed}
 use Rattle.rules.specs.declared.answer.Needs.{Needs}
 use Rattle.rules.specs.declared.answer.Needs.the-variants.{AtMost, Refused}
 use Rattle.rules.specs.Check.{demand, inTurn, instructionAt, goodInput, checkGraph, checkStores}
-use Rattle.rules.specs.Needs.{sumBelow, rounds, firingsOf, outputsOf, total, loopFree, checkNeeds, inputsOf, unlessRefused, needs}
+use Rattle.rules.specs.Needs.{sumBelow, rounds, firingsNeeded, outputsNeeded, total, loopFree, checkNeeds, inputsOf, needsUnlessRefused, needs}
 use Rattle.rules.proofs.Passed.{andThen-passed}
 use Rattle.rules.proofs.PassedGraph.{at-most}
 use Rattle.rules.proofs.Accepted.{whole-bytes, stores-whole}
@@ -47,8 +47,8 @@ total-most : (k : ℕ) (f : Instruction → ℕ) → ((r : Instruction) → f r 
 unfolding total
 total-most k f h ts g = sum-most k (length g) _ (λ i. flag-most k (getD (rounds ts g (length g)) i false) (f (instructionAt g i)) (h (instructionAt g i)))
 
-one-firing : (r : Instruction) → firingsOf r ≤ 1
-unfolding firingsOf
+one-firing : (r : Instruction) → firingsNeeded r ≤ 1
+unfolding firingsNeeded
 one-firing r = go (eqb (r .code) 3)
   where
     go : (b : Bool) → cond b 0 1 ≤ 1
@@ -60,8 +60,8 @@ in-use zero d e = omega arith
 in-use (suc zero) d e = omega arith
 in-use (suc (suc n)) d e = omega arith
 
-two-outputs : (r : Instruction) → outputsOf r ≤ 2
-unfolding outputsOf
+two-outputs : (r : Instruction) → outputsNeeded r ≤ 2
+unfolding outputsNeeded
 two-outputs r = go (eqb (r .code) 5)
   where
     go : (b : Bool) → cond b 1 (length (inUse (r .fanout) (r .first) (r .second))) ≤ 2
@@ -72,7 +72,7 @@ two-outputs r = go (eqb (r .code) 5)
 
 module _ (graph inputs : List ℕ) where
   few-records : checkGraph graph ≡ Passed → length (graphOf graph) ≤ 256
-  few-records e = omega (arith, at-most graph e, length-rows graphWidth Graph.decode (length graph / graphWidth) graph)
+  few-records e = omega (arith, at-most graph e, length-rows graphWidth Graph.decodeInstruction (length graph / graphWidth) graph)
 
   few-inputs : checkStores (length inputs) 0 0 0 ≡ Passed → length inputs / tokenWidth ≤ mostTokens
   few-inputs e = whole-bytes tokenWidth mostTokens (length inputs) (stores-whole (length inputs) 0 0 0 e .wholeInputs) .1
@@ -88,21 +88,21 @@ module _ (graph inputs : List ℕ) where
       (turn-below (λ i good. demand good BadInput i) (λ i good h. demand-below good BadInput i (λ k. h)) 0 goods (omega (arith, few-inputs f, length-rows tokenWidth (goodInput (graphOf graph)) n inputs)))
       (λ k. turn-below (λ i r. demand (loopFree r) NotLoopFree i) (λ i r h. demand-below (loopFree r) NotLoopFree i (λ l. h)) 0 (graphOf graph) (omega (arith, few-records e)))))
 
-  passed-small : checkNeeds graph inputs ≡ Passed → Small (AtMost (total (inputsOf inputs) (graphOf graph) firingsOf) (length (inputsOf inputs) + total (inputsOf inputs) (graphOf graph) outputsOf))
+  passed-small : checkNeeds graph inputs ≡ Passed → Small (AtMost (total (inputsOf inputs) (graphOf graph) firingsNeeded) (length (inputsOf inputs) + total (inputsOf inputs) (graphOf graph) outputsNeeded))
   unfolding checkNeeds
   passed-small e =
       let parts = andThen-passed (checkGraph graph) _ e in
       let later = andThen-passed (checkStores (length inputs) 0 0 0) _ (parts .1) in
       let records = few-records (parts .0) in
-      let firings = total-most 1 firingsOf one-firing (inputsOf inputs) (graphOf graph) in
-      let outputs = total-most 2 outputsOf two-outputs (inputsOf inputs) (graphOf graph) in
-      (omega arith, omega (arith, few-inputs (later .0), length-rows tokenWidth Tokens.decode (length inputs / tokenWidth) inputs))
+      let firings = total-most 1 firingsNeeded one-firing (inputsOf inputs) (graphOf graph) in
+      let outputs = total-most 2 outputsNeeded two-outputs (inputsOf inputs) (graphOf graph) in
+      (omega arith, omega (arith, few-inputs (later .0), length-rows tokenWidth Tokens.decodeToken (length inputs / tokenWidth) inputs))
 
   pub needs-small : Small (needs graph inputs)
   unfolding needs
   needs-small = go (checkNeeds graph inputs) refl
     where
       go : (c : Checked) → checkNeeds graph inputs ≡ c
-          → Small (unlessRefused c (AtMost (total (inputsOf inputs) (graphOf graph) firingsOf) (length (inputsOf inputs) + total (inputsOf inputs) (graphOf graph) outputsOf)))
+          → Small (needsUnlessRefused c (AtMost (total (inputsOf inputs) (graphOf graph) firingsNeeded) (length (inputsOf inputs) + total (inputsOf inputs) (graphOf graph) outputsNeeded)))
       go Passed e = passed-small e
       go (Failed r p) e = rw e at check-below

@@ -16,14 +16,14 @@ use Rattle.rules.specs.Runs.{LentToRun, LeftByRun, RanOn, Quiescent}
 -- ---- "with any capacity from t to 2,048 and equal picks the end is the same apart from unused bytes"
 
 -- the bytes of the first t records
-abbrev pub used : (t : ℕ) → List ℕ → List ℕ
-used t ledger = take (t * tokenWidth) ledger
+abbrev pub firstRecords : (t : ℕ) → List ℕ → List ℕ
+firstRecords t ledger = take (t * tokenWidth) ledger
 
 pub record SameEnd (x y : LeftByRun) (lent : List ℕ) : Type 0 where
   pub answers : y .answer ≡ x .answer
   pub cells : y .cells ≡ x .cells
   -- the used records are the same, and bytes past them stay as lent
-  pub ledger : y .ledger ≡ used (x .answer .tokens) (x .ledger) ++ drop (x .answer .tokens * tokenWidth) lent
+  pub ledger : y .ledger ≡ firstRecords (x .answer .tokens) (x .ledger) ++ drop (x .answer .tokens * tokenWidth) lent
 
 abbrev pub EnoughRoom : Type 0
 EnoughRoom = (graph arrays inputs : List ℕ) (l m : LentToRun) (x y : LeftByRun) → RanOn graph arrays inputs 2048 l x → Quiescent (x .answer .outcome)

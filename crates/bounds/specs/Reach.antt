@@ -16,31 +16,31 @@ use Rattle.rules.specs.Needs as Needs
 -- ---- ports
 
 -- a graph has 256 instructions at most, and an instruction two ports at most
-pub record Inside (instruction port : ℕ) : Type 0 where
+pub record OnPort (instruction port : ℕ) : Type 0 where
   pub low : instruction < 256
   pub one : port < 2
 
 -- an input at a port of a graph, at the root
 pub record GoodToken (t : Token) : Type 0 where
   pub root : t .tag ≡ rootOf (t .tag .instruction)
-  pub inside : Inside (t .tag .instruction) (t .port)
+  pub inside : OnPort (t .tag .instruction) (t .port)
 
-abbrev pub entryOf : (instruction port : ℕ) → ℕ
-entryOf i p = i * 2 + p
+abbrev pub portEntry : (instruction port : ℕ) → ℕ
+portEntry i p = i * 2 + p
 
 -- the table says of each port what f does
 pub record Ports (f : (instruction port : ℕ) → Bool) (table : List Bool) : Type 0 where
   pub size : length table ≡ 512
-  pub says : (i p : ℕ) → Inside i p → getD table (entryOf i p) false ≡ f i p
+  pub says : (i p : ℕ) → OnPort i p → getD table (portEntry i p) false ≡ f i p
 
 -- the table with some ports marked
 abbrev pub marked : List Bool → List Destination → List Bool
 marked table [] = table
-marked table (d ∷ ds) = marked (set table (entryOf (d .instruction) (d .port)) true) ds
+marked table (d ∷ ds) = marked (set table (portEntry (d .instruction) (d .port)) true) ds
 
 -- an input sends to the port
-abbrev pub given : List Token → (instruction port : ℕ) → Bool
-given ts i p = any (standsAt (rootOf i) p) ts
+abbrev pub sentByInputs : List Token → (instruction port : ℕ) → Bool
+sentByInputs ts i p = any (standsAt (rootOf i) p) ts
 
 -- ---- instructions
 

@@ -6,7 +6,7 @@ ghost use Prim.Native.Nat.{_/_, _≤_};
 ghost use lib.ListN.{length};
 ghost use Rattle.record.specs.GraphRecords.{graphOf};
 ghost use Rattle.record.specs.Widths.{graphWidth};
-ghost use Rattle.rules.specs.Needs.{firingsOf, outputsOf};
+ghost use Rattle.rules.specs.Needs.{firingsNeeded, outputsNeeded};
 ghost use Rattle.bounds.specs.Reach.{sumOver};
 
 // The firings and the outputs of all reached instructions.
@@ -17,14 +17,14 @@ pub struct Totals {
 
 // An OUT never fires.
 fn firings_of(r: Instruction) -> usize
-    ensures { λ n. ⌜ (n ≡ firingsOf r) × (n ≤ 1) ⌝ }
+    ensures { λ n. ⌜ (n ≡ firingsNeeded r) × (n ≤ 1) ⌝ }
 {
     if r.code == 3 { 0 } else { 1 }
 }
 
 // A SWITCH has one output, whichever side it takes.
 fn outputs_of(r: Instruction) -> usize
-    ensures { λ n. ⌜ (n ≡ outputsOf r) × (n ≤ 2) ⌝ }
+    ensures { λ n. ⌜ (n ≡ outputsNeeded r) × (n ≤ 2) ⌝ }
 {
     if r.code == 5 {
         return 1;
@@ -37,7 +37,9 @@ fn outputs_of(r: Instruction) -> usize
 
 pub fn total(graph: &[u8], reached: &[bool; 256]) -> Totals
     requires { ⌜ length (now graph) / graphWidth ≤ 256 ⌝ }
-    ensures { λ t. ⌜ (t .firings ≡ sumOver (length (graphOf (now (graph .entry)))) (graphOf (now (graph .entry))) (now (reached .entry)) firingsOf) × (t .outputs ≡ sumOver (length (graphOf (now (graph .entry)))) (graphOf (now (graph .entry))) (now (reached .entry)) outputsOf) × (t .outputs ≤ 512) ⌝ }
+    ensures { λ t. ⌜ (t .firings ≡ sumOver (length (graphOf (now (graph .entry)))) (graphOf (now (graph .entry))) (now (reached .entry)) firingsNeeded)
+        × (t .outputs ≡ sumOver (length (graphOf (now (graph .entry)))) (graphOf (now (graph .entry))) (now (reached .entry)) outputsNeeded)
+        × (t .outputs ≤ 512) ⌝ }
 {
     let mut firings = 0;
     let mut outputs = 0;

@@ -18,11 +18,11 @@ ghost use Rattle.rules.specs.declared.answer.Checked.the-variants.{Passed};
 ghost use Rattle.rules.specs.Check.{operandsAt, checkGraph};
 ghost use Rattle.rules.specs.Needs.{allBelow, inputsOf};
 ghost use Rattle.rules.specs.Needs as Needs;
-ghost use Rattle.bounds.specs.Reach.{Inside, GoodToken, entryOf, Ports, marked, given, flag, ReachedSoFar, Round};
+ghost use Rattle.bounds.specs.Reach.{OnPort, GoodToken, portEntry, Ports, marked, sentByInputs, flag, ReachedSoFar, Round};
 
 fn entry(d: Destination) -> usize
-    requires { ⌜ Inside (d .instruction) (d .port) ⌝ }
-    ensures { λ r. ⌜ (r ≡ entryOf (d .instruction) (d .port)) × (r < 512) ⌝ }
+    requires { ⌜ OnPort (d .instruction) (d .port) ⌝ }
+    ensures { λ r. ⌜ (r ≡ portEntry (d .instruction) (d .port)) × (r < 512) ⌝ }
 {
     d.instruction as usize * 2 + d.port as usize
 }
@@ -30,7 +30,7 @@ fn entry(d: Destination) -> usize
 // The ports that an input sends to.
 pub fn given(inputs: &[u8]) -> [bool; 512]
     requires { ⌜ ((i : ℕ) → i < length (now inputs) / tokenWidth → GoodToken (tokenAt (now inputs) i)) ⌝ }
-    ensures { λ r. ⌜ Ports (given (inputsOf (now (inputs .entry)))) r ⌝ }
+    ensures { λ r. ⌜ Ports (sentByInputs (inputsOf (now (inputs .entry)))) r ⌝ }
 {
     let mut sent = [false; 512];
     let mut i = 0;
@@ -49,7 +49,7 @@ pub fn given(inputs: &[u8]) -> [bool; 512]
 
 // Marks the ports that an instruction sends to, both sides of a SWITCH.
 fn send(sent: &mut [bool; 512], r: Instruction)
-    requires { ⌜ All (λ d. Inside (d .instruction) (d .port)) (destinations r) ⌝ }
+    requires { ⌜ All (λ d. OnPort (d .instruction) (d .port)) (destinations r) ⌝ }
     ensures { λ _. ⌜ now (sent .exit) ≡ marked (now (sent .entry)) (destinations r) ⌝ }
 {
     let first = r.first;
@@ -67,7 +67,7 @@ fn send(sent: &mut [bool; 512], r: Instruction)
 // Whether all ports of instruction i are marked: it has one or two. Port 0 decides most often, so it comes first.
 fn ready(graph: &[u8], sent: &[bool; 512], i: usize) -> bool
     requires { ⌜ (i < length (now graph) / graphWidth) × (i < 256) × (1 ≤ operandsAt (graphOf (now graph)) i) ⌝ }
-    ensures { λ r. ⌜ r ≡ allBelow (operandsAt (graphOf (now (graph .entry))) i) (λ p. getD (now (sent .entry)) (entryOf i p) false) ⌝ }
+    ensures { λ r. ⌜ r ≡ allBelow (operandsAt (graphOf (now (graph .entry))) i) (λ p. getD (now (sent .entry)) (portEntry i p) false) ⌝ }
 {
     let at = i * 2;
     if !sent[at] {
@@ -82,7 +82,9 @@ fn ready(graph: &[u8], sent: &[bool; 512], i: usize) -> bool
 // Adds instruction i where it is ready, and marks the ports that it sends to; whether it was added.
 fn add(graph: &[u8], sent: &mut [bool; 512], reached: &mut [bool; 256], i: usize) -> bool
     requires { ⌜ (checkGraph (now graph) ≡ Passed) × (i < length (now graph) / graphWidth) ⌝ }
-    ensures { λ r. ⌜ ((ts : List Token) (before : List Bool) (added : Bool) → Round ts (graphOf (now (graph .entry))) i before (now (sent .entry)) (now (reached .entry)) added → Round ts (graphOf (now (graph .entry))) (i + 1) before (now (sent .exit)) (now (reached .exit)) (added || r)) ⌝ }
+    ensures { λ r. ⌜ ((ts : List Token) (before : List Bool) (added : Bool)
+        → Round ts (graphOf (now (graph .entry))) i before (now (sent .entry)) (now (reached .entry)) added
+        → Round ts (graphOf (now (graph .entry))) (i + 1) before (now (sent .exit)) (now (reached .exit)) (added || r)) ⌝ }
 {
     if reached[i] {
         return false;
@@ -98,7 +100,9 @@ fn add(graph: &[u8], sent: &mut [bool; 512], reached: &mut [bool; 256], i: usize
 // Adds each instruction that is ready; whether any was added.
 fn round(graph: &[u8], sent: &mut [bool; 512], reached: &mut [bool; 256]) -> bool
     requires { ⌜ checkGraph (now graph) ≡ Passed ⌝ }
-    ensures { λ added. ⌜ ((ts : List Token) → ReachedSoFar ts (graphOf (now (graph .entry))) (now (sent .entry)) (now (reached .entry)) → Round ts (graphOf (now (graph .entry))) (length (graphOf (now (graph .entry)))) (now (reached .entry)) (now (sent .exit)) (now (reached .exit)) added) ⌝ }
+    ensures { λ added. ⌜ ((ts : List Token)
+        → ReachedSoFar ts (graphOf (now (graph .entry))) (now (sent .entry)) (now (reached .entry))
+        → Round ts (graphOf (now (graph .entry))) (length (graphOf (now (graph .entry)))) (now (reached .entry)) (now (sent .exit)) (now (reached .exit)) added) ⌝ }
 {
     let mut added = false;
     let mut i = 0;
@@ -115,7 +119,7 @@ fn round(graph: &[u8], sent: &mut [bool; 512], reached: &mut [bool; 256]) -> boo
 // the last: no other would add any.
 pub fn reach(graph: &[u8], sent: &mut [bool; 512]) -> [bool; 256]
     requires { ⌜ checkGraph (now graph) ≡ Passed ⌝ }
-    ensures { λ r. ⌜ ((ts : List Token) → Ports (given ts) (now (sent .entry)) → (i : ℕ) → flag r i ≡ Needs.reached ts (graphOf (now (graph .entry))) i) ⌝ }
+    ensures { λ r. ⌜ ((ts : List Token) → Ports (sentByInputs ts) (now (sent .entry)) → (i : ℕ) → flag r i ≡ Needs.reached ts (graphOf (now (graph .entry))) i) ⌝ }
 {
     let mut reached = [false; 256];
     let mut rounds = 0;

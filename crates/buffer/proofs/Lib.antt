@@ -1,2 +1,3 @@
 -- What holds of records of one width. Assumes nothing.
 pub mod Tables
+pub mod Copies

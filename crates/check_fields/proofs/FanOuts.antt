@@ -9,17 +9,17 @@ use lib.Dec.{T, eqb, eqb→eq}
 use denote.Enum.Declared.{tagOf}
 use types.Run.{OneOf}
 use Rattle.record.specs.declared.operation.Operation.the-variants.{Unknown}
-use Rattle.record.specs.GraphRecords.{Row, table, lookup, noRow, rowOf, operationOf}
+use Rattle.record.specs.GraphRecords.{Row, table, rowWith, noRow, rowOf, operationOf}
 use Rattle.record.proofs.operation.Operation.{the-type}
 use Rattle.rules.specs.Check.{all}
 use Rattle.check_fields.proofs.Turns.{and-true, and-left, and-right}
 
 -- a test that each row passes, and that a code in no row passes, each code passes
-found : (f : Row → Bool) (rs : List Row) → T (all f rs) → ((n : ℕ) → T (f (noRow n))) → (n : ℕ) → T (f (lookup rs n))
+found : (f : Row → Bool) (rs : List Row) → T (all f rs) → ((n : ℕ) → T (f (noRow n))) → (n : ℕ) → T (f (rowWith rs n))
 found f [] t u n = u n
 found f (r ∷ rs) t u n = go (f r) (eqb n (r .code)) refl t (λ k. found f rs k u n)
   where
-    go : (b e : Bool) → f r ≡ b → T (b && all f rs) → (T (all f rs) → T (f (lookup rs n))) → T (f (cond e r (lookup rs n)))
+    go : (b e : Bool) → f r ≡ b → T (b && all f rs) → (T (all f rs) → T (f (rowWith rs n))) → T (f (cond e r (rowWith rs n)))
     go true true p t k = rw p tt
     go true false p t k = k t
     go false e p t k = absurd t

@@ -12,36 +12,36 @@ use Rattle.record.specs.declared.tag.Tag.{Tag}
 use Rattle.record.specs.declared.instruction.Destination.{Destination}
 use Rattle.record.specs.declared.instruction.Instruction.{Instruction}
 use Rattle.record.specs.Paths.{isRoot}
-use Rattle.record.specs.GraphRecords.{decode, graphOf, instructionIn, inUse, rowOf, operandsOf}
+use Rattle.record.specs.GraphRecords.{decodeInstruction, graphOf, instructionIn, inUse, rowOf, operandsOf}
 use Rattle.buffer.proofs.Tables.{length-rows, getD-rows}
 use Rattle.record.specs.Widths.{graphWidth}
 use Rattle.rules.specs.Check.{instructionAt, operandsAt}
 use Rattle.rules.specs.InstructionSet.{isResult, arityIn}
 
 pub length-graph : (l : List ℕ) → length (graphOf l) ≡ length l / graphWidth
-length-graph l = length-rows graphWidth decode (length l / graphWidth) l
+length-graph l = length-rows graphWidth decodeInstruction (length l / graphWidth) l
 
 module _ (l : List ℕ) (i : ℕ) where
   module _ (h : i < length l / graphWidth) where
     -- whatever stands past the graph
     pub in-graph : (d : Instruction) → getD (graphOf l) i d ≡ instructionIn l i
-    in-graph d = getD-rows graphWidth decode (length l / graphWidth) i l d h
+    in-graph d = getD-rows graphWidth decodeInstruction (length l / graphWidth) i l d h
 
     pub at-graph : instructionAt (graphOf l) i ≡ instructionIn l i
     unfolding instructionAt
-    at-graph = in-graph (decode [])
+    at-graph = in-graph (decodeInstruction [])
 
     pub code-at : instructionAt (graphOf l) i .code ≡ getD l (i * graphWidth) 0
-    unfolding decode
+    unfolding decodeInstruction
     code-at = ap (λ (r : Instruction). r .code) at-graph ∙ getD-drop (i * graphWidth) l 0 0 ∙ rw (add-zero (i * graphWidth))
 
   module _ (h : length l / graphWidth ≤ i) where
-    pub past-graph : instructionAt (graphOf l) i ≡ decode []
+    pub past-graph : instructionAt (graphOf l) i ≡ decodeInstruction []
     unfolding instructionAt
-    past-graph = List·getD-eq-default (graphOf l) (decode []) (omega (arith, length-graph l))
+    past-graph = List·getD-eq-default (graphOf l) (decodeInstruction []) (omega (arith, length-graph l))
 
     pub code-past : instructionAt (graphOf l) i .code ≡ 0
-    unfolding decode
+    unfolding decodeInstruction
     code-past = ap (λ (r : Instruction). r .code) past-graph
 
   pub operands-in : i < length l / graphWidth → operandsAt (graphOf l) i ≡ operandsOf (getD l (i * graphWidth) 0)
@@ -73,5 +73,5 @@ module _ (l : List ℕ) (τ : Tag) where
 
 -- an instruction past any graph has no operands
 pub past : (g : List Instruction) (i : ℕ) → length g ≤ i → operandsAt g i ≡ 0
-unfolding operandsAt instructionAt decode rowOf
-past g i h = ap (λ (r : Instruction). operandsOf (r .code)) (List·getD-eq-default g (decode []) h)
+unfolding operandsAt instructionAt decodeInstruction rowOf
+past g i h = ap (λ (r : Instruction). operandsOf (r .code)) (List·getD-eq-default g (decodeInstruction []) h)

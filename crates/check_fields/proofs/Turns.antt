@@ -12,11 +12,9 @@ use lib.Seq.{take-suc, drop-cons}
 use Rattle.rules.specs.declared.answer.Refusal.{Refusal}
 use Rattle.rules.specs.declared.answer.Checked.{Checked}
 use Rattle.rules.specs.declared.answer.Checked.the-variants.{Passed, Failed}
-use Rattle.rules.specs.Check.{demand, _andThen_, all, any, inTurn}
-
-pub and-true : (b : Bool) → (b && true) ≡ b
-and-true true = refl
-and-true false = refl
+use Rattle.rules.specs.Check.{_andThen_, all, any, inTurn}
+pub use mathlib.Core.Bool.{and-true, or-false}
+pub use Rattle.rules.proofs.Passed.{andThen-passed as both-passed, demand-passed as demanded}
 
 pub and-left : (a b : Bool) → T (a && b) → T a
 and-left true b t = tt
@@ -33,21 +31,6 @@ and-true-left false b e = e
 pub and-true-right : (a b : Bool) → (a && b) ≡ true → b ≡ true
 and-true-right true b e = e
 and-true-right false b e = let z : _≡_ {A = ℕ} 0 1 = cc in absurd (omega arith)
-
-pub or-false : (b : Bool) → (b || false) ≡ b
-or-false true = refl
-or-false false = refl
-
-failed : {X : Type 0} (r : Refusal) (p : ℕ) → Failed r p ≡ Passed → X
-failed r p e = let z : _≡_ {A = ℕ} 0 1 = cc in absurd (omega arith)
-
-pub both-passed : (a b : Checked) → (a andThen b) ≡ Passed → (a ≡ Passed) × (b ≡ Passed)
-both-passed Passed b e = (refl, e)
-both-passed (Failed r p) b e = failed r p e
-
-pub demanded : (b : Bool) (r : Refusal) (p : ℕ) → demand b r p ≡ Passed → b ≡ true
-demanded true r p e = refl
-demanded false r p e = failed r p e
 
 module _ {A : Type 0} where
   -- element i decides, and then the rest

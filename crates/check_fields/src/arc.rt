@@ -4,7 +4,7 @@ use record::instruction::Destination;
 use record::instruction::Instruction;
 use record::operation;
 ghost use mathlib.Core.Path.{_≡_};
-ghost use Rattle.record.specs.GraphRecords.{Counts, graphOf, destinations};
+ghost use Rattle.record.specs.GraphRecords.{OperandCounts, graphOf, destinations};
 ghost use Rattle.rules.specs.Check.{operandsAt, goodArc, all};
 
 fn wide(x: u16) -> usize
@@ -15,7 +15,7 @@ fn wide(x: u16) -> usize
 
 // The operand count of an instruction, 0 for an absent one.
 pub fn operands_at(counts: &[u8; 256], graph: &[u8], i: u16) -> u8
-    requires { ⌜ Counts (now counts) ⌝ }
+    requires { ⌜ OperandCounts (now counts) ⌝ }
     ensures { λ r. ⌜ r ≡ operandsAt (graphOf (now (graph .entry))) i ⌝ }
 {
     let at = wide(i);
@@ -27,7 +27,7 @@ pub fn operands_at(counts: &[u8; 256], graph: &[u8], i: u16) -> u8
 }
 
 fn good(counts: &[u8; 256], graph: &[u8], d: Destination) -> bool
-    requires { ⌜ Counts (now counts) ⌝ }
+    requires { ⌜ OperandCounts (now counts) ⌝ }
     ensures { λ r. ⌜ r ≡ goodArc (graphOf (now (graph .entry))) d ⌝ }
 {
     d.port < operands_at(counts, graph, d.instruction)
@@ -35,7 +35,7 @@ fn good(counts: &[u8; 256], graph: &[u8], d: Destination) -> bool
 
 // The arcs in use.
 pub fn all_good(counts: &[u8; 256], graph: &[u8], r: Instruction) -> bool
-    requires { ⌜ Counts (now counts) ⌝ }
+    requires { ⌜ OperandCounts (now counts) ⌝ }
     ensures { λ b. ⌜ b ≡ all (goodArc (graphOf (now (graph .entry)))) (destinations r) ⌝ }
 {
     let fan_out = r.fanout;

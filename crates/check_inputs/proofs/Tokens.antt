@@ -11,18 +11,18 @@ use borrow.Author.Tests.{eqb-true, eqb-false}
 use Rattle.record.specs.declared.tag.Tag.{Tag}
 use Rattle.record.specs.declared.token.Token.{Token}
 use Rattle.record.specs.Paths.{samePath}
-use Rattle.record.specs.TokensAndTags.{decode, tokenAt, sameTag, standsAt}
+use Rattle.record.specs.TokensAndTags.{decodeToken, tokenAt, sameTag, standsAt}
 use Rattle.buffer.proofs.Tables.{length-rows, getD-rows}
 use Rattle.record.specs.Widths.{tokenWidth}
 use Rattle.rules.specs.Check.{any}
-use Rattle.check_inputs.specs.Inputs.{tokensOf, entryOf, Seen}
+use Rattle.check_inputs.specs.Inputs.{inputTokens, entryOf, SeenEntries}
 use Rattle.check_fields.proofs.Turns.{or-false, any-append, and-true-left, and-true-right}
 
-pub length-tokens : (l : List ℕ) → length (tokensOf l) ≡ length l / tokenWidth
-length-tokens l = length-rows tokenWidth decode (length l / tokenWidth) l
+pub length-tokens : (l : List ℕ) → length (inputTokens l) ≡ length l / tokenWidth
+length-tokens l = length-rows tokenWidth decodeToken (length l / tokenWidth) l
 
-pub in-tokens : (l : List ℕ) (i : ℕ) → i < length l / tokenWidth → (d : Token) → getD (tokensOf l) i d ≡ tokenAt l i
-in-tokens l i h d = getD-rows tokenWidth decode (length l / tokenWidth) i l d h
+pub in-tokens : (l : List ℕ) (i : ℕ) → i < length l / tokenWidth → (d : Token) → getD (inputTokens l) i d ≡ tokenAt l i
+in-tokens l i h d = getD-rows tokenWidth decodeToken (length l / tokenWidth) i l d h
 
 -- a token is found among more, too
 pub any-more : {A : Type 0} (f : A → Bool) (xs : List A) (i n : ℕ) → i ≤ n → any f (take i xs) ≡ true → any f (take n xs) ≡ true
@@ -30,7 +30,7 @@ any-more f xs i n h e =
     let s : n ≡ i + (n - i) = omega arith in
     rw (s, take-add i (n - i) xs, any-append f (take i xs) (take (n - i) (drop i xs)), e)
 
-pub none-seen : Seen [] (replicate 512 0)
+pub none-seen : SeenEntries [] (replicate 512 0)
 none-seen tag port z = refl
 
 -- a token that stands at a port of a tag has that one's entry
@@ -42,7 +42,7 @@ same-entry tag port t e =
     let i = eqb-true (t .tag .instruction) (tag .instruction) (and-true-right (eqb (t .tag .iteration) (tag .iteration)) _ (and-true-right (samePath (t .tag .path) (tag .path)) _ q)) in
     rw (p, i)
 
-pub see : (ts : List Token) (table : List ℕ) (t : Token) → Seen ts table → length table ≡ 512 → Seen (ts ++ t ∷ []) (set table (entryOf (t .tag) (t .port)) 1)
+pub see : (ts : List Token) (table : List ℕ) (t : Token) → SeenEntries ts table → length table ≡ 512 → SeenEntries (ts ++ t ∷ []) (set table (entryOf (t .tag) (t .port)) 1)
 see ts table t seen n tag port z =
     any-append (standsAt tag port) ts (t ∷ [])
     ∙ rw (or-false (standsAt tag port t)) (go (eqb (entryOf tag port) (entryOf (t .tag) (t .port))) (standsAt tag port t) refl refl)

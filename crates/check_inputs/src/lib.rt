@@ -11,11 +11,11 @@ ghost use mathlib.Core.Path.{_≡_};
 ghost use mathlib.Core.Bool.{false};
 ghost use Prim.Native.Nat.{_/_, _≤_, _<_};
 ghost use lib.ListN.{length, take};
-ghost use Rattle.record.specs.GraphRecords.{Counts, graphOf};
+ghost use Rattle.record.specs.GraphRecords.{OperandCounts, graphOf};
 ghost use Rattle.record.specs.TokensAndTags.{isInput, standsAt};
 ghost use Rattle.record.specs.Widths.{tokenWidth};
 ghost use Rattle.rules.specs.Check.{any, goodInput, secondInput, checkInputs};
-ghost use Rattle.check_inputs.specs.Inputs.{tokensOf, checkFields, checkSecond, entryOf};
+ghost use Rattle.check_inputs.specs.Inputs.{inputTokens, checkFields, checkSecond, entryOf};
 
 // Of the record that s starts with: root path and iteration, state 0, zeros.
 fn is_input(s: &[u8]) -> bool
@@ -29,7 +29,7 @@ fn is_input(s: &[u8]) -> bool
 
 // 6, of the record that s starts with.
 fn good(counts: &[u8; 256], graph: &[u8], s: &[u8]) -> bool
-    requires { ⌜ Counts (now counts) × (tokenWidth ≤ length (now s)) ⌝ }
+    requires { ⌜ OperandCounts (now counts) × (tokenWidth ≤ length (now s)) ⌝ }
     ensures { λ r. ⌜ r ≡ goodInput (graphOf (now (graph .entry))) (now (s .entry)) ⌝ }
 {
     is_input(s)
@@ -54,7 +54,7 @@ pub fn fields(graph: &[u8], inputs: &[u8]) -> Checked
 // Whether one of the first n tokens stands at a port of a tag.
 fn taken(inputs: &[u8], n: usize, tag: Tag, port: u8) -> bool
     requires { ⌜ n ≤ length (now inputs) / tokenWidth ⌝ }
-    ensures { λ r. ⌜ r ≡ any (standsAt tag port) (take n (tokensOf (now (inputs .entry)))) ⌝ }
+    ensures { λ r. ⌜ r ≡ any (standsAt tag port) (take n (inputTokens (now (inputs .entry)))) ⌝ }
 {
     let mut j = 0;
     while j < n {
@@ -76,8 +76,8 @@ fn entry(t: Token) -> usize
 
 // Whether input i is a second token, where `mark` is the entry of the table of `second`.
 fn is_second(inputs: &[u8], i: usize, t: Token, mark: u8) -> bool
-    requires { ⌜ (i ≤ length (now inputs) / tokenWidth) × (mark ≡ 0 → secondInput (take i (tokensOf (now inputs))) t ≡ false) ⌝ }
-    ensures { λ r. ⌜ r ≡ secondInput (take i (tokensOf (now (inputs .entry)))) t ⌝ }
+    requires { ⌜ (i ≤ length (now inputs) / tokenWidth) × (mark ≡ 0 → secondInput (take i (inputTokens (now inputs))) t ≡ false) ⌝ }
+    ensures { λ r. ⌜ r ≡ secondInput (take i (inputTokens (now (inputs .entry)))) t ⌝ }
 {
     let tag = t.tag;
     mark != 0 && taken(inputs, i, tag, t.port)

@@ -10,7 +10,7 @@ use lib.Dec.{eqb, leb, ltb}
 use borrow.Author.Tests.{eqb-true, leb-true, ltb-true, ltb-false, not-true}
 use Rattle.record.specs.declared.instruction.Destination.{Destination}
 use Rattle.record.specs.declared.instruction.Instruction.{Instruction}
-use Rattle.record.specs.GraphRecords.{decode, isGraphLength, graphOf, destinations, operandsOf}
+use Rattle.record.specs.GraphRecords.{decodeInstruction, isGraphLength, graphOf, destinations, operandsOf}
 use Rattle.number.specs.Number.{byteAt, number32}
 use Rattle.buffer.specs.Rows.{whole, allRows}
 use Rattle.record.specs.Arrays.{mostArrays}
@@ -23,7 +23,7 @@ use Rattle.record.proofs.Paths.{root-words}
 use Rattle.rules.specs.declared.answer.Refusal.the-variants.{GraphLength, BadInput, SecondToken}
 use Rattle.rules.specs.declared.answer.Checked.the-variants.{Passed}
 use Rattle.rules.specs.Check.{demand, all, instructionAt, operandsAt, fanOutAllowed, unusedAreZero, goodArc, goodSite, checkRecord, checkGraph, checkStores, checkArrays, goodInput, secondInput, checkInputs, check}
-use Rattle.check_inputs.specs.Inputs.{tokensOf}
+use Rattle.check_inputs.specs.Inputs.{inputTokens}
 use Rattle.check_fields.proofs.Turns.{and-true-left, and-true-right, both-passed, demanded, each-passed}
 use Rattle.check_fields.proofs.Graphs.{length-graph, past}
 use Rattle.check_inputs.proofs.Tokens.{length-tokens, in-tokens}
@@ -61,8 +61,8 @@ module _ (l : List ℕ) (passed : checkGraph l ≡ Passed) where
   pub passed-at : (i : ℕ) → i < length (graphOf l) → GoodRecord (graphOf l) i (instructionAt (graphOf l) i)
   unfolding checkGraph instructionAt
   passed-at i h =
-      passed-record (graphOf l) i (getD (graphOf l) i (decode []))
-      (rw (zero-add i) at (each-passed (checkRecord (graphOf l)) 0 (graphOf l) (both-passed (demand (isGraphLength (length l)) GraphLength 0) _ passed .1) i h (decode [])))
+      passed-record (graphOf l) i (getD (graphOf l) i (decodeInstruction []))
+      (rw (zero-add i) at (each-passed (checkRecord (graphOf l)) 0 (graphOf l) (both-passed (demand (isGraphLength (length l)) GraphLength 0) _ passed .1) i h (decodeInstruction [])))
 
 -- a port below an operand count is one of an instruction in the graph
 inside : (g : List Instruction) (i port : ℕ) → port < operandsAt g i → i < length g
@@ -129,9 +129,9 @@ passed-input g l e =
     }
 
 pub record GoodInputs (g : List Instruction) (capacity : ℕ) (inputs : List ℕ) : Type 0 where
-  pub fit : length (tokensOf inputs) ≤ capacity
+  pub fit : length (inputTokens inputs) ≤ capacity
   pub good : (i : ℕ) → i < length inputs / tokenWidth → goodInput g (drop (i * tokenWidth) inputs) ≡ true
-  pub alone : (i : ℕ) → i < length inputs / tokenWidth → secondInput (take i (tokensOf inputs)) (Tokens.tokenAt inputs i) ≡ false
+  pub alone : (i : ℕ) → i < length inputs / tokenWidth → secondInput (take i (inputTokens inputs)) (Tokens.tokenAt inputs i) ≡ false
 
 pub passed-inputs : (g : List Instruction) (capacity : ℕ) (inputs : List ℕ) → checkInputs g capacity inputs ≡ Passed → GoodInputs g capacity inputs
 unfolding checkInputs
@@ -145,8 +145,8 @@ passed-inputs g capacity inputs e =
           sym (getD-rows tokenWidth (goodInput g) n i inputs true h)
           ∙ demanded _ BadInput (0 + i) (each-passed (λ k x. demand x BadInput k) 0 (allRows tokenWidth (goodInput g) inputs) (a .0) i (omega (arith, length-rows tokenWidth (goodInput g) n inputs)) true);
       alone = λ i h.
-          let d = Tokens.decode [] in
-          let ts = tokensOf inputs in
+          let d = Tokens.decodeToken [] in
+          let ts = inputTokens inputs in
           let q : not (secondInput (take (0 + i) ts) (getD ts i d)) ≡ true =
           demanded _ SecondToken (0 + i) (each-passed (λ k t. demand (not (secondInput (take k ts) t)) SecondToken k) 0 ts (b .1) i (omega (arith, length-tokens inputs)) d) in
           not-true _ (rw (zero-add i, in-tokens inputs i h d) at q);

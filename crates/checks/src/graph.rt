@@ -9,7 +9,7 @@ use rules::answer::Checked;
 use rules::answer::Refusal;
 ghost use mathlib.Core.Path.{_≡_};
 ghost use lib.ListN.{take};
-ghost use Rattle.record.specs.GraphRecords.{Counts, isGraphLength, graphOf};
+ghost use Rattle.record.specs.GraphRecords.{OperandCounts, isGraphLength, graphOf};
 ghost use Rattle.rules.specs.Check.{demand, _andThen_, inTurn, checkRecord, checkGraph};
 ghost use Rattle.check_fields.specs.Sites.{Sites};
 
@@ -34,7 +34,7 @@ fn first_fault(i: usize, known: bool, fields: bool, arcs: bool, site: bool) -> C
 
 // Record i: 2 to 5.
 fn record(counts: &[u8; 256], graph: &[u8], sites: &[u32; 256], i: usize, r: Instruction) -> Checked
-    requires { ⌜ Counts (now counts) × Sites (take i (graphOf (now graph))) (now sites) ⌝ }
+    requires { ⌜ OperandCounts (now counts) × Sites (take i (graphOf (now graph))) (now sites) ⌝ }
     ensures { λ c. ⌜ c ≡ checkRecord (graphOf (now (graph .entry))) i r ⌝ }
 {
     let known = 1 <= operation::count_of(counts, r.code);

@@ -27,7 +27,9 @@ fn in_order(
     ledger: usize,
     cells: usize,
 ) -> Checked
-    ensures { λ r. ⌜ r ≡ (checkGraph (now (graph .entry)) andThen lent andThen checkArrays (graphOf (now (graph .entry))) (cells / cellWidth) (now (arrays .entry)) andThen checkInputs (graphOf (now (graph .entry))) (capacityOf ledger) (now (inputs .entry))) ⌝ }
+    ensures { λ r. ⌜ r
+        ≡ (checkGraph (now (graph .entry)) andThen lent andThen checkArrays (graphOf (now (graph .entry))) (cells / cellWidth) (now (arrays .entry))
+        andThen checkInputs (graphOf (now (graph .entry))) (capacityOf ledger) (now (inputs .entry))) ⌝ }
 {
     let of_graph = graph::check(graph);
     let Checked::Passed = of_graph else {

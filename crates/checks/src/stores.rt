@@ -15,10 +15,10 @@ ghost use Rattle.rules.specs.Log.{logSuffices, checkLogStores};
 fn all_whole(inputs: usize, picks: usize, ledger: usize, cells: usize) -> bool
     ensures { λ r. ⌜ r ≡ (Rows.whole tokenWidth 2048 inputs && (Rows.whole pickWidth 2048 picks && (Rows.whole tokenWidth 2048 ledger && Rows.whole cellWidth 1024 cells))) ⌝ }
 {
-    buffer::whole(token::WIDTH, 2048, inputs)
-        && (buffer::whole(pick::WIDTH, 2048, picks)
-            && (buffer::whole(token::WIDTH, 2048, ledger)
-                && buffer::whole(cell::WIDTH, 1024, cells)))
+    buffer::whole(token::WIDTH, token::MOST, inputs)
+        && (buffer::whole(pick::WIDTH, token::MOST, picks)
+            && (buffer::whole(token::WIDTH, token::MOST, ledger)
+                && buffer::whole(cell::WIDTH, cell::MOST, cells)))
 }
 
 pub fn check(inputs: usize, picks: usize, ledger: usize, cells: usize) -> Checked
@@ -36,7 +36,7 @@ fn log_suffices(budget: usize, log: usize) -> bool
     ensures { λ r. ⌜ r ≡ logSuffices budget log ⌝ }
 {
     let records = log / log::WIDTH;
-    log % log::WIDTH == 0 && (budget <= records || 2048 <= records)
+    log % log::WIDTH == 0 && (budget <= records || token::MOST <= records)
 }
 
 // The same with a log.

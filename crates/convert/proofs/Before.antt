@@ -62,8 +62,8 @@ use Rattle.convert.proofs.Fired.{log-keeps}
 
 -- ---- what is read from a converted record is what was read from the old one
 
-decode-wide : (l r : List ℕ) → Tokens.decode (wide l ++ r) ≡ decodeBefore l
-unfolding Tokens.decode decodeBefore
+decode-wide : (l r : List ℕ) → Tokens.decodeToken (wide l ++ r) ≡ decodeBefore l
+unfolding Tokens.decodeToken decodeBefore
 decode-wide l r = refl
 
 good-wide : (g : List Instruction) (l r : List ℕ) → goodInput g (wide l ++ r) ≡ goodInputBefore g l
@@ -89,11 +89,11 @@ module _ {A : Type 0} (f h : List ℕ → A) (reads : (l r : List ℕ) → f (wi
 
 same-inputs : (g : List Instruction) (capacity : ℕ) (inputs : List ℕ) → checkInputs g capacity (converted tokenRest inputs) ≡ checkInputsBefore g capacity inputs
 unfolding checkInputs checkInputsBefore
-same-inputs g capacity inputs = rw (all-wide Tokens.decode decodeBefore decode-wide inputs, all-wide (goodInput g) (goodInputBefore g) (good-wide g) inputs)
+same-inputs g capacity inputs = rw (all-wide Tokens.decodeToken decodeBefore decode-wide inputs, all-wide (goodInput g) (goodInputBefore g) (good-wide g) inputs)
 
 same-first : (inputs : List ℕ) (cells : ℕ) → firstState (converted tokenRest inputs) cells ≡ firstStateBefore inputs cells
 unfolding firstState firstStateBefore
-same-first inputs cells = rw (all-wide Tokens.decode decodeBefore decode-wide inputs)
+same-first inputs cells = rw (all-wide Tokens.decodeToken decodeBefore decode-wide inputs)
 
 still-whole : (n : ℕ) → whole oldWidth mostTokens n ≡ true → whole tokenWidth mostTokens (asMany n) ≡ true
 still-whole n e =
@@ -289,8 +289,8 @@ unfolding encodeBefore
 length-before t = refl
 
 -- the record of a token of four levels at most, converted
-encode-wide : (t : Record.Token) → pathNumber (t .tag .path) < 65536 ^ 4 → (r : List ℕ) → widened tokenRest (encodeBefore t ++ r) ≡ Tokens.encode t
-unfolding pathNumber widened encodeBefore Tokens.encode
+encode-wide : (t : Record.Token) → pathNumber (t .tag .path) < 65536 ^ 4 → (r : List ℕ) → widened tokenRest (encodeBefore t ++ r) ≡ Tokens.encodeToken t
+unfolding pathNumber widened encodeBefore Tokens.encodeToken
 encode-wide t h r = let high : t .tag .path .high ≡ 0 = omega arith in rw high
 
 pub keeps-ledger : KeepsLedger
@@ -320,7 +320,7 @@ keeps-ledger graph arrays inputs picks budget ledger cells allowed =
         let lawful = subst (LawfulResult graph arrays (converted tokenRest inputs) (asMany (length ledger)) cells) (same-result graph arrays inputs picks budget (length ledger) cells allowed ∙ ran)
         (result-invariants graph arrays (converted tokenRest inputs) picks budget (asMany (length ledger)) cells) in
         let room : length ts ≤ capacity = subst (λ (k : ℕ). k ≤ capacity) (sym (length-map (e .state .tokens) tokenRecord)) (subst (λ (k : ℕ). length (e .state .tokens) ≤ k) (records-count (length ledger)) (lawful .invariants .room)) in
-        wide-written oldWidth tokenWidth (widened tokenRest) (length-widened tokenRest) (λ t. pathNumber (t .tag .path) < 65536 ^ 4) encodeBefore Tokens.encode length-before length-token encode-wide
+        wide-written oldWidth tokenWidth (widened tokenRest) (length-widened tokenRest) (λ t. pathNumber (t .tag .path) < 65536 ^ 4) encodeBefore Tokens.encodeToken length-before length-token encode-wide
         ts (left-paths graph (parts .0) (arraysOf arrays) capacity count (e .state .tokens) (shallow .tokens)) ledger room (omega arith) (omega (arith, length-joined oldWidth encodeBefore length-before ts))
 
 -- ---- a run that writes a log
@@ -398,8 +398,8 @@ length-tag-before : (τ : Tag) → length (encodeTagBefore τ) ≡ oldLogWidth
 unfolding encodeTagBefore
 length-tag-before τ = refl
 
-tag-wide : (τ : Tag) → ShallowTag τ → (r : List ℕ) → widened logRest (encodeTagBefore τ ++ r) ≡ Logs.encode τ
-unfolding pathNumber widened encodeTagBefore Logs.encode
+tag-wide : (τ : Tag) → ShallowTag τ → (r : List ℕ) → widened logRest (encodeTagBefore τ ++ r) ≡ Logs.encodeActivity τ
+unfolding pathNumber widened encodeTagBefore Logs.encodeActivity
 tag-wide τ h r = let p = h .0 in let high : τ .path .high ≡ 0 = omega arith in rw high
 
 pub keeps-log : KeepsLog
@@ -432,5 +432,5 @@ keeps-log graph arrays inputs picks budget ledger cells log allowed =
         let fits = subst (λ (x : List Tag). length x * logWidth ≤ asManyLogs (length log)) (ap (λ (x : LogResult). x .log) (same-logged graph arrays inputs picks budget ledger cells (length log) allowed) ∙ ran)
         (log-fits graph arrays (converted tokenRest inputs) picks budget (asMany ledger) cells (asManyLogs (length log))) in
         let room : length τs ≤ length log / oldLogWidth = omega arith in
-        wide-written oldLogWidth logWidth (widened logRest) (length-widened logRest) ShallowTag encodeTagBefore Logs.encode length-tag-before length-record tag-wide
+        wide-written oldLogWidth logWidth (widened logRest) (length-widened logRest) ShallowTag encodeTagBefore Logs.encodeActivity length-tag-before length-record tag-wide
         τs shallow log room (omega arith) (omega (arith, length-joined oldLogWidth encodeTagBefore length-tag-before τs))

@@ -16,7 +16,7 @@ use Rattle.record.specs.declared.instruction.Instruction.{Instruction}
 use Rattle.record.specs.Paths.{pathNumber}
 use Rattle.record.specs.Arrays.{arraysOf}
 use Rattle.record.specs.GraphRecords.{graphOf}
-use Rattle.record.specs.TokensAndTags.{contentOf, valueOf, stateOf, mostTokens}
+use Rattle.record.specs.TokensAndTags.{contentOf, valueField, stateOf, mostTokens}
 use Rattle.record.specs.Widths.{tokenWidth, cellWidth, pickWidth, logWidth}
 use Rattle.machine.specs.Machine.{absent, refuse, State, Machine, byPicks, run}
 use Rattle.machine.specs.Sequences.{logOf}
@@ -25,7 +25,7 @@ use Rattle.rules.specs.declared.answer.Refusal.the-variants as Refusals
 use Rattle.rules.specs.declared.answer.Outcome.the-variants.{Refused}
 use Rattle.rules.specs.declared.answer.Answer.{Answer}
 use Rattle.rules.specs.declared.answer.Checked.{Checked}
-use Rattle.rules.specs.Check.{demand, _andThen_, inTurn, instructionAt, operandsAt, checkGraph, checkArrays, mostCells, secondInput}
+use Rattle.rules.specs.Check.{demand, _andThen_, inTurn, instructionAt, operandsAt, mostCells, secondInput, checkWith}
 use Rattle.rules.specs.InstructionSet.{EffectHere, effectIn, arityIn, machineOf}
 use Rattle.rules.specs.Run.{tokenHeld, tokenRecord, picksOf, Result, refusedAtOnce, ranTo, unlessFailed, result, answer, ledgerAfter}
 use Rattle.rules.specs.Log.{LogResult, logUnlessFailed, logged, logAfter}
@@ -45,7 +45,7 @@ decodeBefore l = record {
 
 unfoldable pub encodeBefore : Record.Token → List ℕ
 encodeBefore t =
-    bytes64 (t .tag .path .low) ++ t .tag .iteration ∷ t .port ∷ bytes16 (t .tag .instruction) ++ bytes32 (valueOf (t .content)) ++ stateOf (t .content) ∷ 0 ∷ 0 ∷ 0 ∷ []
+    bytes64 (t .tag .path .low) ++ t .tag .iteration ∷ t .port ∷ bytes16 (t .tag .instruction) ++ bytes32 (valueField (t .content)) ++ stateOf (t .content) ∷ 0 ∷ 0 ∷ 0 ∷ []
 
 unfoldable pub isInputBefore : List ℕ → Bool
 isInputBefore l = eqb (number64 l 0) 0 && (eqb (byteAt l 8) 0 && eqb (number32 l 16) 0)
@@ -75,10 +75,9 @@ checkInputsBefore g capacity inputs =
 
 unfoldable pub checkBefore : (graph arrays inputs picks : List ℕ) → (ledger cells : ℕ) → Checked
 checkBefore graph arrays inputs picks ledger cells =
-    checkGraph graph
-    andThen checkStoresBefore (length inputs) (length picks) ledger cells
-    andThen checkArrays (graphOf graph) (cells / cellWidth) arrays
-    andThen checkInputsBefore (graphOf graph) (ledger / oldWidth) inputs
+    checkWith graph arrays (cells / cellWidth)
+    (checkStoresBefore (length inputs) (length picks) ledger cells)
+    (checkInputsBefore (graphOf graph) (ledger / oldWidth) inputs)
 
 -- ---- the machine: "Four levels at most." 14: "ENTER at four levels". ENTER has code 8, and a path of four levels or more is at least 65,536 to the third
 
@@ -117,10 +116,9 @@ checkLogStoresBefore inputs picks ledger cells budget lent =
 
 unfoldable pub checkLoggedBefore : (graph arrays inputs picks : List ℕ) → (budget ledger cells lent : ℕ) → Checked
 checkLoggedBefore graph arrays inputs picks budget ledger cells lent =
-    checkGraph graph
-    andThen checkLogStoresBefore (length inputs) (length picks) ledger cells budget lent
-    andThen checkArrays (graphOf graph) (cells / cellWidth) arrays
-    andThen checkInputsBefore (graphOf graph) (ledger / oldWidth) inputs
+    checkWith graph arrays (cells / cellWidth)
+    (checkLogStoresBefore (length inputs) (length picks) ledger cells budget lent)
+    (checkInputsBefore (graphOf graph) (ledger / oldWidth) inputs)
 
 unfoldable pub loggedBefore : (graph arrays inputs picks : List ℕ) → (budget ledger cells lent : ℕ) → LogResult
 loggedBefore graph arrays inputs picks budget ledger cells lent =

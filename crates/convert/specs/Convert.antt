@@ -27,22 +27,22 @@ unfoldable pub converted : (rest : ℕ) → (old : List ℕ) → List ℕ
 converted rest old = joined (λ (r : List ℕ). r) (allRows (8 + rest) (widened rest) old)
 
 -- of the two lengths
-unfoldable pub accepted : (rest : ℕ) → (old out : ℕ) → Bool
-accepted rest old out = whole (8 + rest) mostTokens old && eqb out (old / (8 + rest) * (16 + rest))
+unfoldable pub convertAccepted : (rest : ℕ) → (old out : ℕ) → Bool
+convertAccepted rest old out = whole (8 + rest) mostTokens old && eqb out (old / (8 + rest) * (16 + rest))
 
 -- 0 where it is done, and else the number of the refusal
-unfoldable pub answer : (rest : ℕ) → (old out : List ℕ) → ℕ
-answer rest old out = cond (accepted rest (length old) (length out)) 0 7
+unfoldable pub convertAnswer : (rest : ℕ) → (old out : List ℕ) → ℕ
+convertAnswer rest old out = cond (convertAccepted rest (length old) (length out)) 0 7
 
-unfoldable pub outAfter : (rest : ℕ) → (old out : List ℕ) → List ℕ
-outAfter rest old out = cond (accepted rest (length old) (length out)) (converted rest old) out
+unfoldable pub convertedOut : (rest : ℕ) → (old out : List ℕ) → List ℕ
+convertedOut rest old out = cond (convertAccepted rest (length old) (length out)) (converted rest old) out
 
 -- the number of what a converter returns; 7 is "bad store" (01, "The answer and the refusals")
-abbrev pub numberOf : Converted → ℕ
-numberOf Done = 0
-numberOf BadStore = 7
+abbrev pub convertedNumber : Converted → ℕ
+convertedNumber Done = 0
+convertedNumber BadStore = 7
 
 -- what a converter promises of the two buffers it was lent
 pub record ConvertedBy (rest : ℕ) (old out left : List ℕ) (r : Converted) : Type 0 where
-  pub answered : numberOf r ≡ answer rest old out
-  pub written : left ≡ outAfter rest old out
+  pub answered : convertedNumber r ≡ convertAnswer rest old out
+  pub written : left ≡ convertedOut rest old out

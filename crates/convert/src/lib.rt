@@ -1,10 +1,11 @@
 // Records from before R-8 of 02 made new ones: inputs and listings of 20 bytes a token, logs of 12 bytes a firing. The path
 // had 8 bytes and has 16; what stands behind it stays as it was.
+use record::token;
 ghost use mathlib.Core.Path.{_≡_};
 ghost use Prim.Native.Nat.{_+_, _*_, _/_, _≤_};
 ghost use lib.ListN.{length, drop};
 ghost use Rattle.buffer.specs.Rows.{putRow};
-ghost use Rattle.convert.specs.Convert.{tokenRest, logRest, widened, converted, accepted, ConvertedBy};
+ghost use Rattle.convert.specs.Convert.{tokenRest, logRest, widened, converted, convertAccepted, ConvertedBy};
 
 // The bytes of a path before R-8 and since then.
 const OLD_PATH: usize = 8;
@@ -15,9 +16,6 @@ const PATH: usize = 16;
 const TOKEN_REST: usize = 12;
 
 const LOG_REST: usize = 4;
-
-// The most records of a ledger (01, "Tokens and tags").
-const MOST: usize = 2048;
 
 pub enum Converted {
     Done,
@@ -57,14 +55,14 @@ fn put_records(rest: usize, old: &[u8], out: &mut [u8])
 // Whether an output of one length takes the old records of another.
 fn accepts(rest: usize, old: usize, out: usize) -> bool
     requires { ⌜ rest ≤ 12 ⌝ }
-    ensures { λ r. ⌜ r ≡ accepted rest old out ⌝ }
+    ensures { λ r. ⌜ r ≡ convertAccepted rest old out ⌝ }
 {
     let width = OLD_PATH + rest;
-    buffer::whole(width, MOST, old) && out == old / width * (PATH + rest)
+    buffer::whole(width, token::MOST, old) && out == old / width * (PATH + rest)
 }
 
 // Writes the records of `old` to `out`, the new bytes zero. A bad store, with `out` untouched, unless
-// `old` is whole records, `MOST` at most, and `out` has the length of as many new ones.
+// `old` is whole records, 2,048 at most, and `out` has the length of as many new ones.
 fn convert_records(rest: usize, old: &[u8], out: &mut [u8]) -> Converted
     requires { ⌜ rest ≤ 12 ⌝ }
     ensures { λ r. ⌜ ConvertedBy rest (now (old .entry)) (now (out .entry)) (now (out .exit)) r ⌝ }

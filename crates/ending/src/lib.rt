@@ -12,7 +12,7 @@ ghost use Rattle.record.specs.TokensAndTags.{tokens, tokenAt};
 ghost use Rattle.record.specs.Widths.{tokenWidth};
 ghost use Rattle.store_flags.specs.Flags.{Counted, places, flagsOf};
 ghost use Rattle.store_enabled.specs.Enabled.{enabledPlaces};
-ghost use Rattle.ending.specs.Endings.{properBy, EndsAs, RestsAs};
+ghost use Rattle.ending.specs.Endings.{properBy, stateSpent, fourSpent, EndsWith, RestsAs};
 
 // Whether a completed run may leave this token: a spent one, or a live result, which waits for no operand.
 fn proper(tables: &Tables, t: Token) -> bool
@@ -38,17 +38,39 @@ pub fn proper_at(tables: &Tables, ledger: &[u8], i: usize) -> bool
     proper(tables, token::token_at(ledger, i))
 }
 
+// Whether the token of record i of a ledger is spent.
+fn spent_at(ledger: &[u8], i: usize) -> bool
+    requires { ⌜ i < length (now ledger) / tokenWidth ⌝ }
+    ensures { λ r. ⌜ r ≡ stateSpent (now (ledger .entry)) i ⌝ }
+{
+    ledger[i * token::WIDTH + token::STATE] == 1
+}
+
+// Whether there are four records before record i of a ledger, and they are spent.
+fn four_spent(ledger: &[u8], i: usize) -> bool
+    requires { ⌜ i ≤ length (now ledger) / tokenWidth ⌝ }
+    ensures { λ r. ⌜ r ≡ fourSpent (now (ledger .entry)) i ⌝ }
+{
+    4 <= i
+        && (spent_at(ledger, i - 1)
+            && (spent_at(ledger, i - 2) && (spent_at(ledger, i - 3) && spent_at(ledger, i - 4))))
+}
+
 // 02, R-2: with nothing enabled, a run is completed only if every live token is a result and none is deferred.
 pub fn ending(tables: &Tables, ledger: &[u8], used: usize) -> Outcome
     requires { ⌜ used ≤ length (now ledger) / tokenWidth ⌝ }
-    ensures { λ r. ⌜ EndsAs r (now (tables .entry)) (tokens used (now (ledger .entry))) ⌝ }
+    ensures { λ r. ⌜ EndsWith r (now (tables .entry)) (tokens used (now (ledger .entry))) ⌝ }
 {
     // From the newest record back: these are the likeliest to be in the processor's cache, and to wait.
     let mut i = used;
     while 0 < i {
-        i -= 1;
-        if !proper_at(tables, ledger, i) {
-            return Outcome::Hung;
+        if four_spent(ledger, i) {
+            i -= 4;
+        } else {
+            i -= 1;
+            if !proper_at(tables, ledger, i) {
+                return Outcome::Hung;
+            }
         }
     }
     Outcome::Completed

@@ -32,7 +32,7 @@ use Rattle.checks.proofs.Passed.{passed-stores, passed-arrays}
 use Rattle.rules.specs.InstructionSet.{machineOf}
 use Rattle.rules.specs.Run.{picksOf, firstState}
 use Rattle.abstraction.specs.Tables.{arraysIn}
-use Rattle.fire.specs.Running.{machineFor, stateIn}
+use Rattle.fire.specs.Running.{machineOver, stateIn}
 use Rattle.start.specs.Begun.{machineLent, Accepted, Begun}
 use Rattle.start.specs.Ended.{EndedAt}
 use Rattle.start.proofs.Starting.{from-start, as-lent}
@@ -44,7 +44,7 @@ use Rattle.engine.proofs.Looping.{ended-at}
 
 module _ (order : Order) (picks : List ℕ) (by : ByPicks order picks) (g : List Instruction) (tables ledger cells : List ℕ) (used budget : ℕ) where
   abbrev M₁ : Machine
-  M₁ = machineFor g tables ledger cells
+  M₁ = machineOver g tables ledger cells
 
   ends-by-picks : endOf order picks g tables ledger cells used budget ≡ run M₁ budget (picksOf picks) (stateIn ledger cells used)
   ends-by-picks =

@@ -38,16 +38,16 @@ use Rattle.abstraction.specs.Tables.{Arities, arraysIn}
 use Rattle.fire_outputs.specs.Outputs.{cellsIn}
 use Rattle.fire.proofs.Place.{on-ports}
 use Rattle.fire.proofs.Effects.{asked-below}
-use Rattle.fire.specs.Running.{machineFor, stateIn, askedIn, Arrived, Running, Went, Prepared}
-use Rattle.ending.specs.Endings.{EndsAs}
-use Rattle.held.specs.Deciding.{heldAt, Decided}
+use Rattle.fire.specs.Running.{machineOver, stateIn, askedIn, Arrived, Running, Went, Prepared}
+use Rattle.ending.specs.Endings.{EndsWith}
+use Rattle.held.specs.Deciding.{heldAt, HeldDecided}
 use Rattle.held.proofs.Deciding.{places-one, among}
 use Rattle.held.proofs.Following.{carried-later, carried-none}
 use Rattle.held.proofs.Free.{held-under, free-places}
 use Rattle.held.proofs.Fired.{went-later, flags-unspent}
 use Rattle.engine.specs.declared.Order.{Order}
-use Rattle.engine.specs.declared.Order.the-variants.{Oldest, Picks, Log, Places, Free}
-use Rattle.engine.specs.Turns.{Plain, Beside, HeldBack, Bounding, FiredOn, Takes, Ends, Proceeded, Settled, restsThere, asItWas}
+use Rattle.engine.specs.declared.Order.the-variants.{Oldest, Picks, Log, Free}
+use Rattle.engine.specs.Turns.{Plain, HeldBeside, HeldBack, Bounding, FiredOn, TakesPlace, Ends, Proceeded, Settled, restsThere, asItWas}
 use Rattle.engine.proofs.Choosing.{getD-map, taken-there}
 
 -- ---- a choice
@@ -72,7 +72,7 @@ pub all-free : (l m : List ℕ) → length (places m) ≡ 0 → minus l m ≡ l
 all-free l m h = none-minus 0 l m h
 
 module _ (tables ledger : List ℕ) (used : ℕ) (g : List Instruction) (right : Arities g tables) (arrived : Arrived g (tokens used ledger)) (table : List NamedArray) (capacity count : ℕ) (cs : List Cell)
-    (links flags held : List ℕ) (m : Matching tables links flags ledger used) (k : ℕ) (d : Decided g k flags held ledger used) where
+    (links flags held : List ℕ) (m : Matching tables links flags ledger used) (k : ℕ) (d : HeldDecided g k flags held ledger used) where
   abbrev ts : List Record.Token
   ts = tokens used ledger
 
@@ -107,7 +107,7 @@ module _ (tables ledger : List ℕ) (used : ℕ) (g : List Instruction) (right :
       go (p ∷ l) h = refl
 
   module _ (picks : List ℕ) (f : ℕ) where
-    pub free-none : length free ≡ 0 → (o : AnswerOutcome.Outcome) → EndsAs o tables ts → Ends o (byFree M (heldIn g k) (byPicks M) picks f s)
+    pub free-none : length free ≡ 0 → (o : AnswerOutcome.Outcome) → EndsWith o tables ts → Ends o (byFree M (heldIn g k) (byPicks M) picks f s)
     free-none z o said = record {
       outcome = ending M s;
       told = sym (said g right table capacity count cs);
@@ -120,7 +120,7 @@ module _ (tables ledger : List ℕ) (used : ℕ) (g : List Instruction) (right :
         ap (λ (n : ℕ). getD (activity p ∷ map activity l) (getD picks f 0 % n) (activity p)) size
         ∙ getD-map activity (p ∷ l) (getD picks f 0 % length (p ∷ l)) 0 (activity p) (mod-lt (getD picks f 0) (omega arith))
 
-    pub free-there : (place : ℕ) → ¬ (length free ≡ 0) → place ≡ getD free (getD picks f 0 % length free) 0 → Takes place (byFree M (heldIn g k) (byPicks M) picks f s) tables ledger used
+    pub free-there : (place : ℕ) → ¬ (length free ≡ 0) → place ≡ getD free (getD picks f 0 % length free) 0 → TakesPlace place (byFree M (heldIn g k) (byPicks M) picks f s) tables ledger used
     free-there place n at =
         let chosen = ap (λ (l : List (Activity Tag)). onList l (ends (ending M s)) (λ a more. takes (byPicks M s (getD picks f 0) a more))) free-here in
         let low : getD picks f 0 % length free < length free = mod-lt (getD picks f 0) (omega arith) in
@@ -148,7 +148,6 @@ pub plain-bounding : (order : Order) → Plain order → (g : List Instruction) 
 plain-bounding Oldest p g tables flags ledger used nexts held marks = tt
 plain-bounding Picks p g tables flags ledger used nexts held marks = tt
 plain-bounding Log p g tables flags ledger used nexts held marks = tt
-plain-bounding Places p g tables flags ledger used nexts held marks = tt
 plain-bounding (Free k) p g tables flags ledger used nexts held marks = absurd p
 
 module _ (graph : List ℕ) {tables links flags ledger cells : List ℕ} {used : ℕ} (ready : Prepared graph tables) (now : Running (graphOf graph) tables links flags ledger cells used) where
@@ -159,21 +158,19 @@ module _ (graph : List ℕ) {tables links flags ledger cells : List ℕ} {used :
   back-of Oldest nexts held marks b = tt
   back-of Picks nexts held marks b = tt
   back-of Log nexts held marks b = tt
-  back-of Places nexts held marks b = tt
   back-of (Free k) nexts held marks b = b .kept .decided
 
-  pub beside-of : (order : Order) (nexts held marks : List ℕ) → Bounding order g tables flags ledger used nexts held marks → Beside order flags held
+  pub beside-of : (order : Order) (nexts held marks : List ℕ) → Bounding order g tables flags ledger used nexts held marks → HeldBeside order flags held
   beside-of Oldest nexts held marks b = tt
   beside-of Picks nexts held marks b = tt
   beside-of Log nexts held marks b = tt
-  beside-of Places nexts held marks b = tt
   beside-of (Free k) nexts held marks b =
       let d = b .kept .decided in
       (d .counted, held-under g [] 0 0 k tables links flags held ledger used [] (ready .aritiesRight) (on-ports g (tokens used ledger) (now .arrived)) (now .matching) d)
 
   -- what the rules ask for names cells of the store
   pub below-here : (τ : Tag) → CellsBelow (length cells / cellWidth) (askedIn g tables ledger cells used τ)
-  below-here τ = asked-below (machineFor g tables ledger cells) (lawful graph (ready .passed) (arraysIn tables) (length ledger / tokenWidth) (length cells / cellWidth)) (stateIn ledger cells used) τ
+  below-here τ = asked-below (machineOver g tables ledger cells) (lawful graph (ready .passed) (arraysIn tables) (length ledger / tokenWidth) (length cells / cellWidth)) (stateIn ledger cells used) τ
 
   -- a firing of whatever effect
   module _ {τ : Tag} {e : Effect Refusal Tag ℤ} (below : CellsBelow (length cells / cellWidth) e) {links′ flags′ ledger′ cells′ : List ℕ} {n : ℕ} (w : Went g τ e tables links′ flags′ ledger′ cells′ n used ledger cells) where
@@ -181,7 +178,6 @@ module _ (graph : List ℕ) {tables links flags ledger cells : List ℕ} {used :
     fired-on Oldest nexts held marks b = tt
     fired-on Picks nexts held marks b = tt
     fired-on Log nexts held marks b = tt
-    fired-on Places nexts held marks b = tt
     fired-on (Free k) nexts held marks b = record {
       arities = ready .aritiesRight;
       grown = w .grown;
@@ -213,7 +209,6 @@ module _ (graph : List ℕ) {tables links flags ledger cells : List ℕ} {used :
   halted-on Oldest nexts held marks r e b = tt
   halted-on Picks nexts held marks r e b = tt
   halted-on Log nexts held marks r e b = tt
-  halted-on Places nexts held marks r e b = tt
   halted-on (Free k) nexts held marks {links′} {flags′} r e b =
       let m : Matching tables links′ flags′ ledger used = subst (λ (l : List ℕ). Matching tables links′ flags′ l used) e (r .matching) in
       let d = b .kept .decided in
@@ -230,9 +225,9 @@ module _ (graph : List ℕ) {tables links flags ledger cells : List ℕ} {used :
 
 -- "If only held ones remain, the answer is hung, at a used-up budget too.": a run that came to the end e, whatever its firings asked for, is settled
 module _ (g : List Instruction) (k : ℕ) (tables links flags held ledger cells ledger₀ cells₀ : List ℕ) (start : ℕ) (e : End Refusal Tag ℤ) (own r : Answer) (right : Arities g tables)
-    (p : Proceeded e own g tables links flags ledger cells start ledger₀ cells₀) (d : Decided g k flags held ledger (own .tokens)) where
+    (p : Proceeded e own g tables links flags ledger cells start ledger₀ cells₀) (d : HeldDecided g k flags held ledger (own .tokens)) where
   abbrev M₀ : Machine
-  M₀ = machineFor g tables ledger₀ cells₀
+  M₀ = machineOver g tables ledger₀ cells₀
 
   abbrev s₁ : StateOf M₀
   s₁ = stateIn ledger cells (own .tokens)

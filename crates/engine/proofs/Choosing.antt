@@ -1,5 +1,5 @@
 -- The choice of a turn: the activity at the place that the code finds is the one that the chooser takes, and it is enabled; where the code finds none, the chooser
--- ends the run. By picks, by the names of a log, by places. Assumes nothing.
+-- ends the run. By picks, and by the names of a log. Assumes nothing.
 use Prim.Native.Nat.{ℕ, zero, suc, _+_, _-_, _*_, _/_, _%_, _≤_, _<_}
 use mathlib.Core.Path.{_≡_, refl, sym, ap, subst, _∙_}
 use mathlib.Core.Bool.{Bool, true, false, _&&_, cond}
@@ -10,7 +10,7 @@ use native.Mathlib.Decide.{decLe}
 use native.Mathlib.Nat.{mod-lt}
 use lib.Dec.{eqb, leb}
 use lib.ListN.{length, getD, drop, length-map, length-drop}
-use borrow.Author.Tests.{eq-eqb, ne-eqb, eqb-true, eqb-false, leb-true}
+use borrow.Author.Tests.{eq-eqb, eqb-true, leb-true}
 use Rattle.buffer.proofs.Tables.{length-rows, getD-rows}
 use Rattle.record.specs.declared.array.NamedArray.{NamedArray}
 use Rattle.record.specs.declared.tag.Tag.{Tag}
@@ -21,19 +21,19 @@ use Rattle.record.specs.TokensAndTags.{tokens, tokenAt, tagIn, portIn}
 use Rattle.record.specs.TokensAndTags as Tokens
 use Rattle.record.specs.Logs.{nameOf}
 use Rattle.record.specs.Widths.{tokenWidth, logWidth}
-use Rattle.store_flags.specs.Flags.{places, placesFrom, flagsOf}
+use Rattle.store_flags.specs.Flags.{places, flagsOf}
 use Rattle.store_chains.specs.declared.Found.{Found}
 use Rattle.store_chains.specs.declared.Found.the-variants.{At, Nothing}
 use Rattle.store_chains.proofs.Index.{and-left, and-right}
-use Rattle.store_enabled.specs.Enabled.{allLive, isEnabled, tagSame, placeOf, leads, enabledPlaces}
+use Rattle.store_enabled.specs.Enabled.{operandsLive, isEnabled, tagSame, earliestOf, leadsIn, enabledPlaces}
 use Rattle.store_enabled.specs.Store.{enabledAt}
 use Rattle.store_enabled.proofs.Right.{tag-equal}
 use Rattle.store.specs.Matching.{Matching}
 use Rattle.store.proofs.Laws.{matching-counted, matching-places, matching-enabled-below, matching-leads}
 use Rattle.machine.specs.Machine.{Machine, StateOf, Activity, onList, look, ending, enabled, pickOf, byPicks}
 use Rattle.machine.specs.Machine as Machines
-use Rattle.machine.specs.Replay.{withTag, named}
-use Rattle.machine.specs.Choosers.{Chosen, takes, ends, byPick, orRefused, atPlace, byName, byPlace}
+use Rattle.machine.specs.Replay.{withTag, namedIn}
+use Rattle.machine.specs.Choosers.{Chosen, takes, ends, byPick, orRefused, byName}
 use Rattle.machine.proofs.Replay.{foundByTag}
 use Rattle.rules.specs.declared.answer.Refusal.{Refusal}
 use Rattle.rules.specs.declared.answer.Refusal.the-variants.{NotEnabled}
@@ -47,8 +47,8 @@ use Rattle.abstraction.proofs.Arities.{arity-small}
 use Rattle.abstraction.proofs.Enabled.{held-enabled, held-below, held-place}
 use Rattle.fire.proofs.Place.{on-ports}
 use Rattle.fire.specs.Running.{Arrived}
-use Rattle.ending.specs.Endings.{EndsAs}
-use Rattle.engine.specs.Turns.{Takes, Ends}
+use Rattle.ending.specs.Endings.{EndsWith}
+use Rattle.engine.specs.Turns.{TakesPlace, Ends}
 
 -- ---- lists
 
@@ -61,14 +61,6 @@ past : {A : Type 0} (l : List A) (k : ℕ) (d : A) → length l ≤ k → getD l
 past [] k d h = refl
 past (x ∷ l) zero d h = absurd (omega arith)
 past (x ∷ l) (suc k) d h = past l k d (omega arith)
-
--- a flag that is set has a place, which stands among the places
-among-places : (i k : ℕ) (l : List ℕ) → 0 < getD l k 0 → (j : ℕ) × (j < length (placesFrom i l)) × (i + k ≡ getD (placesFrom i l) j 0)
-among-places i k [] h = absurd (omega arith)
-among-places i zero (zero ∷ l) h = absurd (omega arith)
-among-places i zero (suc x ∷ l) h = (0, omega arith, omega arith)
-among-places i (suc k) (zero ∷ l) h = let (j, lt, e) = among-places (suc i) k l h in (j, lt, omega arith)
-among-places i (suc k) (suc x ∷ l) h = let (j, lt, e) = among-places (suc i) k l h in (suc j, omega arith, omega arith)
 
 -- ---- the names of a log
 
@@ -97,17 +89,17 @@ unfolding namesIn
 name-past log i h = sym (past (namesIn log) i none (omega (arith, length-rows logWidth nameOf ((length log + (logWidth - 1)) / logWidth) log)))
 
 -- the earliest token of a tag has the tag
-place-tag : (tag : Tag) (d : Record.Token) (ts : List Record.Token) → placeOf ts tag < length ts → getD ts (placeOf ts tag) d .tag ≡ tag
+place-tag : (tag : Tag) (d : Record.Token) (ts : List Record.Token) → earliestOf ts tag < length ts → getD ts (earliestOf ts tag) d .tag ≡ tag
 place-tag tag d [] h = absurd (omega arith)
 place-tag tag d (t ∷ ts) h = go (tagSame tag (t .tag)) refl h (place-tag tag d ts)
   where
-    go : (b : Bool) → tagSame tag (t .tag) ≡ b → cond b 0 (suc (placeOf ts tag)) < suc (length ts) → (placeOf ts tag < length ts → getD ts (placeOf ts tag) d .tag ≡ tag)
-        → getD (t ∷ ts) (cond b 0 (suc (placeOf ts tag))) d .tag ≡ tag
+    go : (b : Bool) → tagSame tag (t .tag) ≡ b → cond b 0 (suc (earliestOf ts tag)) < suc (length ts) → (earliestOf ts tag < length ts → getD ts (earliestOf ts tag) d .tag ≡ tag)
+        → getD (t ∷ ts) (cond b 0 (suc (earliestOf ts tag))) d .tag ≡ tag
     go true e l ih = sym (tag-equal tag (t .tag) e)
     go false e l ih = ih (omega arith)
 
-live-some : (n : ℕ) (ts : List Record.Token) (tag : Tag) → allLive n ts tag ≡ true → 0 < n
-unfolding allLive
+live-some : (n : ℕ) (ts : List Record.Token) (tag : Tag) → operandsLive n ts tag ≡ true → 0 < n
+unfolding operandsLive
 live-some zero ts tag e = let z : _≡_ {A = ℕ} 0 1 = cc in absurd (omega arith)
 live-some (suc n) ts tag e = omega arith
 
@@ -128,24 +120,6 @@ module _ {tables links flags ledger : List ℕ} {used : ℕ} (m : Matching table
   pick-number picks f e pick number place all taken numbered at =
       at ∙ (λ i. getD (matching-places m i) ((numbered ∙ λ j. taken j % (all ∙ ap length (matching-places m)) j) i) 0)
 
-  -- a flag is 0 or 1
-  pub is-raised : (place : ℕ) (r : Bool) → r ≡ eqb (getD (flagsOf flags) place 0) 1 → r ≡ true → 0 < getD (flagsOf flags) place 0
-  is-raised place r e h = omega (arith, eqb-true (getD (flagsOf flags) place 0) 1 (sym e ∙ h))
-
-  pub is-lowered : (place : ℕ) (r : Bool) → r ≡ eqb (getD (flagsOf flags) place 0) 1 → r ≡ false → getD (flagsOf flags) place 0 ≡ 0
-  is-lowered place r e h = omega (arith, eqb-false (getD (flagsOf flags) place 0) 1 (sym e ∙ h), matching-counted m .tallied .binary place)
-
-  -- no token past the used ones is enabled
-  pub past-none : (place : ℕ) → used ≤ place → getD (flagsOf flags) place 0 ≡ 0
-  past-none place h = go (getD (flagsOf flags) place 0) refl
-    where
-      go : (x : ℕ) → getD (flagsOf flags) place 0 ≡ x → x ≡ 0
-      go zero e = refl
-      go (suc x) e =
-          let (j, lt, at) = among-places 0 place (flagsOf flags) (omega arith) in
-          let all = matching-places m in
-          absurd (omega (arith, matching-enabled-below m j (subst (λ (l : List ℕ). j < length l) all lt), at, ap (λ (l : List ℕ). getD l j 0) all))
-
   -- the first enabled activity, and that it is the one of its tag
   module _ (some : ¬ (length (places (flagsOf flags)) ≡ 0)) (place : ℕ) (first : place ≡ getD (places (flagsOf flags)) 0 0) where
     among : 0 < length (enabledPlaces tables (tokens used ledger))
@@ -160,9 +134,9 @@ module _ {tables links flags ledger : List ℕ} {used : ℕ} (m : Matching table
     pub first-named : (tag : Tag) → Tokens.sameTag (tokenAt ledger place .tag) tag ≡ true → At place ≡ enabledAt tables (tokens used ledger) tag
     first-named tag same =
         let own = tokenAt ledger place .tag in
-        let lead = subst (λ (p : ℕ). leads tables (tokens used ledger) p (tokenAt ledger p) ≡ true) (sym at-first) (matching-leads m 0 among) in
-        let there = eqb-true (placeOf (tokens used ledger) own) place (and-left _ _ lead) in
-        let on = and-right (eqb (placeOf (tokens used ledger) own) place) _ lead in
+        let lead = subst (λ (p : ℕ). leadsIn tables (tokens used ledger) p (tokenAt ledger p) ≡ true) (sym at-first) (matching-leads m 0 among) in
+        let there = eqb-true (earliestOf (tokens used ledger) own) place (and-left _ _ lead) in
+        let on = and-right (eqb (earliestOf (tokens used ledger) own) place) _ lead in
         rw (tag-equal tag own same, on) (ap At (sym there))
 
 -- ---- what the machine has enabled
@@ -185,22 +159,22 @@ module _ (tables ledger : List ℕ) (used : ℕ) (g : List Instruction) (right :
 
   -- an enabled activity by its place
   recorded-there : (place : ℕ) → place < used → activity place ≡ record { place = place; tag = tokenAt ledger place .tag }
-  recorded-there place h = ap (λ (t : Record.Token). record { place = place; tag = t .tag }) (getD-rows tokenWidth Tokens.decode used place ledger noToken h)
+  recorded-there place h = ap (λ (t : Record.Token). record { place = place; tag = t .tag }) (getD-rows tokenWidth Tokens.decodeToken used place ledger noToken h)
 
   pub taken-there : {links flags : List ℕ} → Matching tables links flags ledger used → (chosen : Chosen Refusal Tag) (place k : ℕ) → k < length (enabledPlaces tables ts) → place ≡ getD (enabledPlaces tables ts) k 0
-      → chosen ≡ takes (activity place) → Takes place chosen tables ledger used
+      → chosen ≡ takes (activity place) → TakesPlace place chosen tables ledger used
   taken-there m chosen place k h at e =
       let below : place < used = subst (λ (p : ℕ). p < used) (sym at) (matching-enabled-below m k h) in
       record {
         taken = e ∙ ap takes (recorded-there place below);
         below = below;
-        enabledThere = subst (λ (p : ℕ). leads tables ts p (tokenAt ledger p) ≡ true) (sym at) (matching-leads m k h);
+        enabledThere = subst (λ (p : ℕ). leadsIn tables ts p (tokenAt ledger p) ≡ true) (sym at) (matching-leads m k h);
       }
 
   -- ---- by picks
 
   module _ (picks : List ℕ) (f : ℕ) where
-    pub pick-none : length (enabledPlaces tables ts) ≡ 0 → (o : AnswerOutcome.Outcome) → EndsAs o tables ts → Ends o (byPick M (byPicks M) picks f s)
+    pub pick-none : length (enabledPlaces tables ts) ≡ 0 → (o : AnswerOutcome.Outcome) → EndsWith o tables ts → Ends o (byPick M (byPicks M) picks f s)
     pick-none z o said = record {
       outcome = ending M s;
       told = sym (said g right table capacity count cs);
@@ -219,7 +193,7 @@ module _ (tables ledger : List ℕ) (used : ℕ) (g : List Instruction) (right :
         ∙ getD-map activity (p ∷ l) (getD picks f 0 % length (p ∷ l)) 0 (activity p) (mod-lt (getD picks f 0) (omega arith))
 
     pub pick-there : {links flags : List ℕ} → Matching tables links flags ledger used → (place : ℕ) → (length (enabledPlaces tables ts) ≡ 0 → ⊥)
-        → place ≡ getD (enabledPlaces tables ts) (getD picks f 0 % length (enabledPlaces tables ts)) 0 → Takes place (byPick M (byPicks M) picks f s) tables ledger used
+        → place ≡ getD (enabledPlaces tables ts) (getD picks f 0 % length (enabledPlaces tables ts)) 0 → TakesPlace place (byPick M (byPicks M) picks f s) tables ledger used
     pick-there m place n at =
         let all = ap (λ (l : List (Activity Tag)). onList l (ends (ending M s)) (λ a more. takes (byPicks M s (getD picks f 0) a more))) enabled-here in
         taken-there m _ place (getD picks f 0 % length (enabledPlaces tables ts)) (mod-lt (getD picks f 0) (omega arith)) at (all ∙ go (enabledPlaces tables ts) n at)
@@ -233,22 +207,22 @@ module _ (tables ledger : List ℕ) (used : ℕ) (g : List Instruction) (right :
 
   -- all operands of a tag are live, in the machine's words and in those of the records
   all-live : (τ : Tag) → 0 < arityIn g τ → Machines.allLive M (look M s) τ ≡ isEnabled tables ts τ
-  all-live τ l = held-below g table capacity count (arityIn g τ) τ ts l (arity-small g τ) ∙ ap (λ (n : ℕ). allLive n ts τ) (sym (right τ))
+  all-live τ l = held-below g table capacity count (arityIn g τ) τ ts l (arity-small g τ) ∙ ap (λ (n : ℕ). operandsLive n ts τ) (sym (right τ))
 
   absent : (τ : Tag) → isEnabled tables ts τ ≡ false → withTag M τ (enabled M s) ≡ none
   absent τ e = foundByTag M s τ .absent (λ h. let z : _≡_ {A = Bool} false true = sym e ∙ sym (all-live τ (h .0)) ∙ h .1 in let y : _≡_ {A = ℕ} 0 1 = cc in omega arith)
 
-  present : (τ : Tag) → isEnabled tables ts τ ≡ true → withTag M τ (enabled M s) ≡ some (record { place = placeOf ts τ; tag = τ })
+  present : (τ : Tag) → isEnabled tables ts τ ≡ true → withTag M τ (enabled M s) ≡ some (record { place = earliestOf ts τ; tag = τ })
   present τ e =
       let l : 0 < arityIn g τ = subst (λ (n : ℕ). 0 < n) (right τ) (live-some _ ts τ e) in
       foundByTag M s τ .present l (all-live τ l ∙ e) ∙ ap (λ (n : ℕ). some (record { place = n; tag = τ })) (held-place g table capacity count τ ts l (on-ports g ts arrived))
 
   module _ (names : List (Option Tag)) (f : ℕ) where
-    not-named : named M (getD names f none) (enabled M s) ≡ none → Ends (Outcomes.Refused NotEnabled f) (byName M NotEnabled names f s)
+    not-named : namedIn M (getD names f none) (enabled M s) ≡ none → Ends (Outcomes.Refused NotEnabled f) (byName M NotEnabled names f s)
     not-named e = record { outcome = Machines.refused NotEnabled f; told = refl; ended = ap (orRefused M NotEnabled f) e }
 
-    by-name : (x : Option Tag) → getD names f none ≡ x → named M (getD names f none) (enabled M s) ≡ named M x (enabled M s)
-    by-name x e = ap (λ (n : Option Tag). named M n (enabled M s)) e
+    by-name : (x : Option Tag) → getD names f none ≡ x → namedIn M (getD names f none) (enabled M s) ≡ namedIn M x (enabled M s)
+    by-name x e = ap (λ (n : Option Tag). namedIn M n (enabled M s)) e
 
     -- it "lacks its zero byte or isn't whole"
     pub names-nothing : none ≡ getD names f none → Ends (Outcomes.Refused NotEnabled f) (byName M NotEnabled names f s)
@@ -257,61 +231,17 @@ module _ (tables ledger : List ℕ) (used : ℕ) (g : List Instruction) (right :
     module _ (τ : Tag) (is : some τ ≡ getD names f none) (found : Found) (searched : found ≡ enabledAt tables ts τ) where
       -- it "names no enabled activity"
       pub names-none : found ≡ Nothing → Ends (Outcomes.Refused NotEnabled f) (byName M NotEnabled names f s)
-      names-none e = not-named (by-name (some τ) (sym is) ∙ absent τ (when-nothing (isEnabled tables ts τ) (placeOf ts τ) (sym searched ∙ e)))
+      names-none e = not-named (by-name (some τ) (sym is) ∙ absent τ (when-nothing (isEnabled tables ts τ) (earliestOf ts τ) (sym searched ∙ e)))
 
-      pub names-there : (place : ℕ) → found ≡ At place → place < used → Takes place (byName M NotEnabled names f s) tables ledger used
+      pub names-there : (place : ℕ) → found ≡ At place → place < used → TakesPlace place (byName M NotEnabled names f s) tables ledger used
       names-there place at within =
-          let (on, first) = when-at (isEnabled tables ts τ) (placeOf ts τ) place (sym searched ∙ at) in
-          let size = length-rows tokenWidth Tokens.decode used ledger in
+          let (on, first) = when-at (isEnabled tables ts τ) (earliestOf ts τ) place (sym searched ∙ at) in
+          let size = length-rows tokenWidth Tokens.decodeToken used ledger in
           let that : tokenAt ledger place .tag ≡ τ =
-          ap (λ (t : Record.Token). t .tag) (sym (getD-rows tokenWidth Tokens.decode used place ledger noToken within))
+          ap (λ (t : Record.Token). t .tag) (sym (getD-rows tokenWidth Tokens.decodeToken used place ledger noToken within))
           ∙ subst (λ (n : ℕ). getD ts n noToken .tag ≡ τ) first (place-tag τ noToken ts (omega (arith, first, size))) in
           record {
             taken = ap (orRefused M NotEnabled f) (by-name (some τ) (sym is) ∙ present τ on) ∙ (λ i. takes (record { place = first i; tag = sym that i }));
             below = within;
             enabledThere = rw (that, eq-eqb _ _ first) on;
           }
-
-  -- ---- by places
-
-  before : (p i : ℕ) (l : List ℕ) → p < i → atPlace M p (map activity (placesFrom i l)) ≡ none
-  before p i [] h = refl
-  before p i (zero ∷ l) h = before p (suc i) l (omega arith)
-  before p i (suc x ∷ l) h = rw (ne-eqb i p (λ e. omega arith)) (before p (suc i) l (omega arith))
-
-  raised-at : (i k : ℕ) (l : List ℕ) → 0 < getD l k 0 → atPlace M (i + k) (map activity (placesFrom i l)) ≡ some (activity (i + k))
-  raised-at i k [] h = absurd (omega arith)
-  raised-at i zero (zero ∷ l) h = absurd (omega arith)
-  raised-at i zero (suc x ∷ l) h = let e : i ≡ i + 0 = omega arith in rw (eq-eqb i (i + 0) e) (ap (λ (p : ℕ). some (activity p)) e)
-  raised-at i (suc k) (zero ∷ l) h = let e : suc i + k ≡ i + suc k = omega arith in subst (λ (p : ℕ). atPlace M p (map activity (placesFrom (suc i) l)) ≡ some (activity p)) e (raised-at (suc i) k l h)
-  raised-at i (suc k) (suc x ∷ l) h =
-      let e : suc i + k ≡ i + suc k = omega arith in
-      rw (ne-eqb i (i + suc k) (λ q. omega arith)) (subst (λ (p : ℕ). atPlace M p (map activity (placesFrom (suc i) l)) ≡ some (activity p)) e (raised-at (suc i) k l h))
-
-  lowered-at : (i k : ℕ) (l : List ℕ) → getD l k 0 ≡ 0 → atPlace M (i + k) (map activity (placesFrom i l)) ≡ none
-  lowered-at i k [] h = refl
-  lowered-at i zero (zero ∷ l) h = before (i + 0) (suc i) l (omega arith)
-  lowered-at i zero (suc x ∷ l) h = absurd (omega arith)
-  lowered-at i (suc k) (zero ∷ l) h = let e : suc i + k ≡ i + suc k = omega arith in subst (λ (p : ℕ). atPlace M p (map activity (placesFrom (suc i) l)) ≡ none) e (lowered-at (suc i) k l h)
-  lowered-at i (suc k) (suc x ∷ l) h =
-      let e : suc i + k ≡ i + suc k = omega arith in
-      rw (ne-eqb i (i + suc k) (λ q. omega arith)) (subst (λ (p : ℕ). atPlace M p (map activity (placesFrom (suc i) l)) ≡ none) e (lowered-at (suc i) k l h))
-
-  module _ {links flags : List ℕ} (m : Matching tables links flags ledger used) (from : List ℕ) (f place : ℕ) (is : place ≡ getD from f 0) where
-    looked-up : byPlace M NotEnabled from f s ≡ orRefused M NotEnabled f (atPlace M place (map activity (places (flagsOf flags))))
-    looked-up = λ i. orRefused M NotEnabled f (atPlace M (sym is i) ((enabled-here ∙ ap (map activity) (sym (matching-places m))) i))
-
-    pub place-there : 0 < getD (flagsOf flags) place 0 → Takes place (byPlace M NotEnabled from f s) tables ledger used
-    place-there h =
-        let same : 0 + place ≡ place = omega arith in
-        let (j, lt, e) = among-places 0 place (flagsOf flags) h in
-        let all : places (flagsOf flags) ≡ enabledPlaces tables ts = matching-places m in
-        let there : atPlace M place (map activity (places (flagsOf flags))) ≡ some (activity place) =
-        subst (λ (p : ℕ). atPlace M p (map activity (places (flagsOf flags))) ≡ some (activity p)) same (raised-at 0 place (flagsOf flags) h) in
-        taken-there m _ place j (subst (λ (l : List ℕ). j < length l) all lt) (sym same ∙ e ∙ ap (λ (l : List ℕ). getD l j 0) all) (looked-up ∙ ap (orRefused M NotEnabled f) there)
-
-    pub place-none : getD (flagsOf flags) place 0 ≡ 0 → Ends (Outcomes.Refused NotEnabled f) (byPlace M NotEnabled from f s)
-    place-none h =
-        let same : 0 + place ≡ place = omega arith in
-        let nowhere : atPlace M place (map activity (places (flagsOf flags))) ≡ none = subst (λ (p : ℕ). atPlace M p (map activity (places (flagsOf flags))) ≡ none) same (lowered-at 0 place (flagsOf flags) h) in
-        record { outcome = Machines.refused NotEnabled f; told = refl; ended = looked-up ∙ ap (orRefused M NotEnabled f) nowhere }

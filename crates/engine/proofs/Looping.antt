@@ -23,14 +23,14 @@ use Rattle.rules.specs.Run.{outcomeOf}
 use Rattle.abstraction.specs.Tables.{Arities, arraysIn}
 use Rattle.fire_outputs.specs.Outputs.{cellsIn}
 use Rattle.fire.proofs.Place.{on-ports}
-use Rattle.fire.specs.Running.{machineFor, stateIn, Running, Went, asked, askedIn}
+use Rattle.fire.specs.Running.{machineOver, stateIn, Running, Went, asked, askedIn}
 use Rattle.fire.proofs.Effects.{fires-asked}
 use Rattle.ending.specs.Endings.{RestsAs}
 use Rattle.ending.proofs.Laws.{rests-there}
 use Rattle.start.specs.Ended.{EndedAt}
 use Rattle.start.proofs.Ending.{left}
 use Rattle.engine.specs.declared.Order.{Order}
-use Rattle.engine.specs.Turns.{chooserOf, chooserFor, Advanced, Stops, byChoice, byRefusal, Halted, endOf, firedBy, noted, recorded, Proceeded}
+use Rattle.engine.specs.Turns.{chooserOf, chooserFor, Advanced, Stops, byChoice, byRefusal, Halted, endOf, firedBy, logNoted, recorded, Proceeded}
 use Rattle.engine.proofs.Recording.{recorded-none, length-recorded, noted-next}
 
 -- ---- a turn that ends the run
@@ -54,7 +54,7 @@ pub ended-at : {e : End Refusal Tag ℤ} {r : Answer} {g : List Instruction} {ta
     → Proceeded e r g tables links flags ledger′ cells′ used ledger cells → EndedAt e r ledger cells ledger′ cells′
 ended-at {e} {r} {g} {tables} {ledger′ = ledger′} {cells′ = cells′} {ledger = ledger} {cells = cells} p =
     subst (λ (x : End Refusal Tag ℤ). EndedAt x r ledger cells ledger′ cells′) (sym (p .ends))
-    (subst (λ (o : AnswerOutcome.Outcome). EndedAt (end (machineFor g tables ledger cells) (p .outcome) (r .firings) (stateIn ledger′ cells′ (r .tokens))) (record { outcome = o; firings = r .firings; tokens = r .tokens }) ledger cells ledger′ cells′) (p .told)
+    (subst (λ (o : AnswerOutcome.Outcome). EndedAt (end (machineOver g tables ledger cells) (p .outcome) (r .firings) (stateIn ledger′ cells′ (r .tokens))) (record { outcome = o; firings = r .firings; tokens = r .tokens }) ledger cells ledger′ cells′) (p .told)
     (left g (p .running) ledger cells (p .rest) (p .cellSize) (p .outcome) (r .firings)))
 
 -- ---- between firings, whatever they asked for
@@ -88,13 +88,13 @@ module _ (g : List Instruction) (ledger₀ cells₀ : List ℕ) (start : ℕ) (t
 
     module _ {e : End Refusal Tag ℤ} (f : ℕ) where
       -- the run ends here
-      pub ends-here : (o : Outcome Refusal) (w : AnswerOutcome.Outcome) {links′ flags′ ledger′ cells′ : List ℕ} → outcomeOf o ≡ w → e ≡ end (machineFor g tables ledger₀ cells₀) o f (stateIn ledger cells used)
+      pub ends-here : (o : Outcome Refusal) (w : AnswerOutcome.Outcome) {links′ flags′ ledger′ cells′ : List ℕ} → outcomeOf o ≡ w → e ≡ end (machineOver g tables ledger₀ cells₀) o f (stateIn ledger cells used)
           → Running g tables links′ flags′ ledger′ cells′ used → ledger′ ≡ ledger → cells′ ≡ cells
           → Proceeded e (record { outcome = w; firings = f; tokens = used }) g tables links′ flags′ ledger′ cells′ start ledger₀ cells₀
       ends-here o w told h r l c = record {
         outcome = o;
         told = told;
-        ends = h ∙ (λ i. end (machineFor g tables ledger₀ cells₀) o f (stateIn (sym l i) (sym c i) used));
+        ends = h ∙ (λ i. end (machineOver g tables ledger₀ cells₀) o f (stateIn (sym l i) (sym c i) used));
         running = r;
         grown = u .grown;
         size = ap length l ∙ u .size;
@@ -103,10 +103,10 @@ module _ (g : List Instruction) (ledger₀ cells₀ : List ℕ) (start : ℕ) (t
       }
 
       -- with no firing left to do
-      pub rests-here : Arities g tables → (w : AnswerOutcome.Outcome) → RestsAs w tables (tokens used ledger) → e ≡ restsAt (machineFor g tables ledger₀ cells₀) f (stateIn ledger cells used)
+      pub rests-here : Arities g tables → (w : AnswerOutcome.Outcome) → RestsAs w tables (tokens used ledger) → e ≡ restsAt (machineOver g tables ledger₀ cells₀) f (stateIn ledger cells used)
           → Proceeded e (record { outcome = w; firings = f; tokens = used }) g tables links flags ledger cells start ledger₀ cells₀
       rests-here right w said h =
-          let M = machineFor g tables ledger₀ cells₀ in
+          let M = machineOver g tables ledger₀ cells₀ in
           let s = stateIn ledger cells used in
           let told = said g right (on-ports g (tokens used ledger) (u .running .arrived)) (arraysIn tables) (length ledger₀ / tokenWidth) (length cells₀ / cellWidth) (cellsIn cells) (byPicks M) [] f in
           ends-here (runBy M (byPicks M) 0 [] f s .outcome) w (sym told) (h ∙ rest-is M f s ∙ rests-there M (byPicks M) [] f s) (u .running) refl refl
@@ -119,7 +119,7 @@ pub record SoFar (g : List Instruction) (order : Order) (source ledger₀ cells�
   pub under : Underway g ledger₀ cells₀ start tables links flags ledger cells used
   -- the run that is left to do
   pub toDo : endOf order source g tables ledger₀ cells₀ start budget
-      ≡ runFrom (machineFor g tables ledger₀ cells₀) (chooserFor order source g tables ledger₀ cells₀) (budget - firings) firings (stateIn ledger cells used)
+      ≡ runFrom (machineOver g tables ledger₀ cells₀) (chooserFor order source g tables ledger₀ cells₀) (budget - firings) firings (stateIn ledger cells used)
 
 -- the log after some firings, from one as lent
 pub record Noted (g : List Instruction) (order : Order) (source tables ledger₀ cells₀ log₀ : List ℕ) (start budget : ℕ) (ledger cells log : List ℕ) (used firings : ℕ) : Type 0 where
@@ -129,13 +129,13 @@ pub record Noted (g : List Instruction) (order : Order) (source tables ledger₀
   pub written : log ≡ recorded done log₀
   -- the log that is left to write
   pub toLog : firedBy order source g tables ledger₀ cells₀ start budget
-      ≡ done ++ logFrom (machineFor g tables ledger₀ cells₀) (chooserFor order source g tables ledger₀ cells₀) (budget - firings) firings (stateIn ledger cells used)
+      ≡ done ++ logFrom (machineOver g tables ledger₀ cells₀) (chooserFor order source g tables ledger₀ cells₀) (budget - firings) firings (stateIn ledger cells used)
 
 module _ (g : List Instruction) (order : Order) (source ledger₀ cells₀ : List ℕ) (start budget : ℕ) (tables : List ℕ) where
   abbrev M₀ : Machine
-  M₀ = machineFor g tables ledger₀ cells₀
+  M₀ = machineOver g tables ledger₀ cells₀
 
-  abbrev c₀ : Chooser (machineFor g tables ledger₀ cells₀)
+  abbrev c₀ : Chooser (machineOver g tables ledger₀ cells₀)
   c₀ = chooserFor order source g tables ledger₀ cells₀
 
   all-left : budget ≡ budget - 0
@@ -210,13 +210,13 @@ module _ (g : List Instruction) (order : Order) (source ledger₀ cells₀ : Lis
 
       pub noted-on : (h : firings < budget) {links′ flags′ ledger′ cells′ : List ℕ} {n place : ℕ}
           → Advanced g (chooserFor order source g tables ledger cells firings (stateIn ledger cells used)) (askedIn g tables ledger cells used) place tables links′ flags′ ledger′ cells′ n used ledger cells
-          → (log′ : List ℕ) → log′ ≡ noted log firings (tokenAt ledger′ place .tag) → Noted g order source tables ledger₀ cells₀ log₀ start budget ledger′ cells′ log′ n (firings + 1)
+          → (log′ : List ℕ) → log′ ≡ logNoted log firings (tokenAt ledger′ place .tag) → Noted g order source tables ledger₀ cells₀ log₀ start budget ledger′ cells′ log′ n (firings + 1)
       noted-on h {ledger′ = ledger′} {cells′ = cells′} {n = n} {place = place} a log′ w =
           let τ = tokenAt ledger′ place .tag in
           let b = budget - suc firings in
           let later = logFrom M₀ c₀ b (suc firings) (stateIn ledger′ cells′ n) in
           let step : logFrom M₀ c₀ (suc b) firings s ≡ τ ∷ later = logFired M₀ c₀ b firings s (record { place = place; tag = τ }) (took h a) (stateIn ledger′ cells′ n) (stepped h a) in
-          let all : log′ ≡ recorded (no .done ++ τ ∷ []) log₀ = w ∙ (λ i. noted (no .written i) (sym (no .count) i) τ) ∙ noted-next (no .done) log₀ τ in
+          let all : log′ ≡ recorded (no .done ++ τ ∷ []) log₀ = w ∙ (λ i. logNoted (no .written i) (sym (no .count) i) τ) ∙ noted-next (no .done) log₀ τ in
           record {
             done = no .done ++ τ ∷ [];
             count = omega (arith, length-append (no .done) (τ ∷ []), no .count);

@@ -26,7 +26,7 @@ use Rattle.rules.specs.Answer.{valuesOf}
 use Rattle.rules.specs.Check.{_andThen_, demand, checkGraph, checkStores, checkArrays}
 use Rattle.rules.specs.Run.{picksOf, Result, refusedAtOnce, unlessFailed, outcomeOf, answer, ledgerAfter, cellsAfter, Ran}
 use Rattle.rules.specs.Held.{heldIn}
-use Rattle.rules.specs.Saved.{stateSaved, machineSaved, taken}
+use Rattle.rules.specs.Saved.{stateSaved, machineSaved, stateTaken}
 use Rattle.rules.specs.Bounded.{andBound, checkBoundSaved, boundCarried, BoundCarriedOn}
 use Rattle.check_fields.proofs.Turns.{both-passed}
 use Rattle.checks.proofs.Passed.{passed-stores, passed-arrays}
@@ -34,7 +34,7 @@ use Rattle.abstraction.specs.Tables.{arraysIn}
 use Rattle.fire.specs.Running.{stateIn}
 use Rattle.start.specs.Ended.{EndedAt}
 use Rattle.engine.specs.Turns.{endBounded}
-use Rattle.engine.specs.Resumed.{lentChecked, Lent, resumed}
+use Rattle.engine.specs.Resumed.{resumeLentChecked, LentToResume, resumed}
 
 -- ---- the run
 
@@ -61,7 +61,7 @@ module _ (graph arrays picks ledger cells : List ℕ) (budget k firings used : �
         let k : endBounded k picks (graphOf graph) tables ledger cells used budget .firings ≡ own .firings = ap (λ (x : End Refusal Tag ℤ). x .firings) same-own in
         omega (arith, few)
 
-    pub goes-on : true ≡ taken graph ledger cells firings used → (r a : Answer) (ledger′ cells′ : List ℕ) → EndedAt (endBounded k picks (graphOf graph) tables ledger cells used budget) r ledger cells ledger′ cells′
+    pub goes-on : true ≡ stateTaken graph ledger cells firings used → (r a : Answer) (ledger′ cells′ : List ℕ) → EndedAt (endBounded k picks (graphOf graph) tables ledger cells used budget) r ledger cells ledger′ cells′
         → a ≡ record { outcome = r .outcome; firings = firings + r .firings; tokens = r .tokens } → Ran (resumed graph arrays picks budget k ledger cells firings used) a ledger ledger′ cells cells′
     unfolding unlessFailed answer ledgerAfter cellsAfter
     goes-on t r a ledger′ cells′ h e =
@@ -72,7 +72,7 @@ module _ (graph arrays picks ledger cells : List ℕ) (budget k firings used : �
         let same = told ∙ ap (λ (n : ℕ). record { outcome = outcomeOf (own .outcome); firings = n; tokens = length (own .state .tokens) }) all in
         rw (← t) (record { answered = same; numbers = ap valuesOf same; ledgerLeft = z .ledgerLeft; cellsLeft = z .cellsLeft })
 
-  pub refuses : false ≡ taken graph ledger cells firings used → (a : Answer) (ledger′ : List ℕ) → a ≡ record { outcome = Outcomes.Refused DamagedState 0; firings = 0; tokens = 0 } → ledger′ ≡ ledger
+  pub refuses : false ≡ stateTaken graph ledger cells firings used → (a : Answer) (ledger′ : List ℕ) → a ≡ record { outcome = Outcomes.Refused DamagedState 0; firings = 0; tokens = 0 } → ledger′ ≡ ledger
       → Ran (resumed graph arrays picks budget k ledger cells firings used) a ledger ledger′ cells cells
   unfolding unlessFailed answer ledgerAfter cellsAfter
   refuses t a ledger′ e l = rw (← t) (record { answered = e; numbers = ap valuesOf e; ledgerLeft = l; cellsLeft = refl })
@@ -83,17 +83,17 @@ module _ (graph arrays picks ledger cells : List ℕ) (budget k firings used : �
   unfolding andBound
   whole-stores e = both-passed (checkStores 0 (length picks) (length ledger) (length cells)) _ e .0
 
-  pub lent : lentChecked graph arrays (length picks) k (length ledger) (length cells) ≡ Passed → Lent graph arrays (length ledger) (length cells)
+  pub lent : resumeLentChecked graph arrays (length picks) k (length ledger) (length cells) ≡ Passed → LentToResume graph arrays (length ledger) (length cells)
   lent e =
       let (g, later) = both-passed (checkGraph graph) _ e in
       let (s, named) = both-passed (andBound (checkStores 0 (length picks) (length ledger) (length cells)) k) _ later in
       let stores = passed-stores 0 (length picks) (length ledger) (length cells) (whole-stores s) in
       record { graphPassed = g; fewArrays = passed-arrays (graphOf graph) (length cells / cellWidth) arrays named; few = stores .tokenRecords .1; cellRecords = stores .cellRecords }
 
-  pub lent-failed : (r : Refusal) (p : ℕ) → lentChecked graph arrays (length picks) k (length ledger) (length cells) ≡ Failed r p → boundCarried graph arrays picks budget k ledger cells firings used ≡ refusedAtOnce r p
+  pub lent-failed : (r : Refusal) (p : ℕ) → resumeLentChecked graph arrays (length picks) k (length ledger) (length cells) ≡ Failed r p → boundCarried graph arrays picks budget k ledger cells firings used ≡ refusedAtOnce r p
   unfolding boundCarried checkBoundSaved unlessFailed
   lent-failed r p e = go (checkGraph graph) (andBound (checkStores 0 (length picks) (length ledger) (length cells)) k) (checkArrays (graphOf graph) (length cells / cellWidth) arrays) e
-      (demand (taken graph ledger cells firings used) DamagedState 0) _
+      (demand (stateTaken graph ledger cells firings used) DamagedState 0) _
     where
       go : (c d n : Checked) → (c andThen d andThen n) ≡ Failed r p → (x : Checked) (y : Result) → unlessFailed (c andThen d andThen n andThen x) y ≡ refusedAtOnce r p
       go (Failed q m) d n h x y = let a : _≡_ {A = Checked} (Failed q m) (Failed r p) = h in ap (λ (k : Checked). unlessFailed k y) a
@@ -101,7 +101,7 @@ module _ (graph arrays picks ledger cells : List ℕ) (budget k firings used : �
       go Passed Passed (Failed q m) h x y = let a : _≡_ {A = Checked} (Failed q m) (Failed r p) = h in ap (λ (k : Checked). unlessFailed k y) a
       go Passed Passed Passed h x y = let z : _≡_ {A = ℕ} 0 1 = cc in absurd (omega arith)
 
-  pub lent-passed : lentChecked graph arrays (length picks) k (length ledger) (length cells) ≡ Passed → boundCarried graph arrays picks budget k ledger cells firings used ≡ resumed graph arrays picks budget k ledger cells firings used
+  pub lent-passed : resumeLentChecked graph arrays (length picks) k (length ledger) (length cells) ≡ Passed → boundCarried graph arrays picks budget k ledger cells firings used ≡ resumed graph arrays picks budget k ledger cells firings used
   unfolding boundCarried checkBoundSaved
   lent-passed e =
       let (g, later) = both-passed (checkGraph graph) _ e in
@@ -109,7 +109,7 @@ module _ (graph arrays picks ledger cells : List ℕ) (budget k firings used : �
       rw (g, s, named)
 
   -- a refusal of the checks
-  pub failed : (r : Refusal) (p : ℕ) → lentChecked graph arrays (length picks) k (length ledger) (length cells) ≡ Failed r p → (a : Answer) → a ≡ record { outcome = Outcomes.Refused r p; firings = 0; tokens = 0 }
+  pub failed : (r : Refusal) (p : ℕ) → resumeLentChecked graph arrays (length picks) k (length ledger) (length cells) ≡ Failed r p → (a : Answer) → a ≡ record { outcome = Outcomes.Refused r p; firings = 0; tokens = 0 }
       → BoundCarriedOn graph arrays picks budget k firings used a ledger ledger cells cells
   unfolding answer ledgerAfter cellsAfter
   failed r p e a h = rw (lent-failed r p e) (record { answered = h; numbers = ap valuesOf h; ledgerLeft = refl; cellsLeft = refl })

@@ -23,10 +23,10 @@ use Rattle.rules.specs.Run.{tokenHeld}
 use Rattle.abstraction.specs.States.{noToken}
 use Rattle.abstraction.specs.Tables.{arraysIn}
 use Rattle.fire_outputs.specs.Outputs.{cellsIn}
-use Rattle.fire.specs.Running.{machineFor, stateIn, Running, Went, Stopped, Prepared}
+use Rattle.fire.specs.Running.{machineOver, stateIn, Running, Went, Stopped, Prepared}
 use Rattle.engine.specs.declared.Order.{Order}
 use Rattle.engine.specs.declared.Choice.{Choice}
-use Rattle.engine.specs.Turns.{chooserFor, HeldBack, Chooses, ChosenAs, Takes, Ends, Advanced, byChoice, byRefusal, Halted}
+use Rattle.engine.specs.Turns.{chooserFor, HeldBack, Chooses, ChosenAs, TakesPlace, Ends, Advanced, byChoice, byRefusal, Halted}
 use Rattle.engine.proofs.Choosing.{getD-map}
 use Rattle.engine.proofs.Places.{keys-kept}
 
@@ -34,7 +34,7 @@ use Rattle.engine.proofs.Places.{keys-kept}
 held-tag : (l : List ℕ) (n i : ℕ) → i < n → getD (map tokenHeld (tokens n l)) i (tokenHeld noToken) .key .tag ≡ tokenAt l i .tag
 held-tag l n i h =
     ap (λ (t : Token Tag ℤ). t .key .tag)
-    (getD-map tokenHeld (tokens n l) i noToken (tokenHeld noToken) (rw (length-rows tokenWidth Tokens.decode n l) h) ∙ ap tokenHeld (getD-rows tokenWidth Tokens.decode n i l noToken h))
+    (getD-map tokenHeld (tokens n l) i noToken (tokenHeld noToken) (rw (length-rows tokenWidth Tokens.decodeToken n l) h) ∙ ap tokenHeld (getD-rows tokenWidth Tokens.decodeToken n i l noToken h))
 
 -- the choice, of the graph and the cells at hand
 pub chosen-now : (graph : List ℕ) (order : Order) (source : List ℕ) (f : ℕ) (r : Choice) (held : List ℕ) {tables links flags ledger cells : List ℕ} {used : ℕ} → ChosenAs r order source f tables flags held ledger used
@@ -47,13 +47,13 @@ module _ {g : List Instruction} {chosen : Chosen Refusal Tag} (asks : Tag → Ef
   pub turn-ended : {links flags : List ℕ} {o : AnswerOutcome.Outcome} → Ends o chosen → Running g tables links flags ledger cells used → Halted o g chosen asks tables links flags ledger cells used ledger cells
   turn-ended e now = record { outcome = e .outcome; told = e .told; stops = byChoice (e .ended); running = now; sameLedger = refl; sameCells = refl }
 
-  module _ {place : ℕ} (t : Takes place chosen tables ledger used) {links′ flags′ ledger′ cells′ : List ℕ} where
+  module _ {place : ℕ} (t : TakesPlace place chosen tables ledger used) {links′ flags′ ledger′ cells′ : List ℕ} where
     tag-kept : {n : ℕ} → Went g (tokenAt ledger place .tag) (asks (tokenAt ledger place .tag)) tables links′ flags′ ledger′ cells′ n used ledger cells → tokenAt ledger′ place .tag ≡ tokenAt ledger place .tag
     tag-kept {n} w =
         let low = t .below in
         sym (held-tag ledger′ n place (omega (arith, w .grown)))
-        ∙ ap (λ (k : Key Tag). k .tag) (keys-kept (machineFor g tables ledger cells) (stateIn ledger cells used) _ _ _ (w .step) place (tokenHeld noToken)
-        (rw (length-map (tokens used ledger) tokenHeld, length-rows tokenWidth Tokens.decode used ledger) low))
+        ∙ ap (λ (k : Key Tag). k .tag) (keys-kept (machineOver g tables ledger cells) (stateIn ledger cells used) _ _ _ (w .step) place (tokenHeld noToken)
+        (rw (length-map (tokens used ledger) tokenHeld, length-rows tokenWidth Tokens.decodeToken used ledger) low))
         ∙ held-tag ledger used place low
 
     pub turn-done : {n : ℕ} → Went g (tokenAt ledger place .tag) (asks (tokenAt ledger place .tag)) tables links′ flags′ ledger′ cells′ n used ledger cells → Advanced g chosen asks place tables links′ flags′ ledger′ cells′ n used ledger cells

@@ -17,14 +17,14 @@ use Rattle.rules.specs.Check.{demand, _andThen_, checkGraph, checkStores, check
 use Rattle.rules.specs.Run.{picksOf, Result, ranTo, unlessFailed}
 use Rattle.rules.specs.Held.{heldIn}
 use Rattle.rules.specs.Bounded.{andBound}
-use Rattle.rules.specs.Saved.{stateSaved, machineSaved, taken}
+use Rattle.rules.specs.Saved.{stateSaved, machineSaved, stateTaken}
 
 -- the checks of what is lent beside it; picks, ledger and cells by their lengths in bytes
-abbrev pub lentChecked : (graph arrays : List ℕ) → (picks bound ledger cells : ℕ) → Checked
-lentChecked graph arrays picks k ledger cells = checkGraph graph andThen andBound (checkStores 0 picks ledger cells) k andThen checkArrays (graphOf graph) (cells / cellWidth) arrays
+abbrev pub resumeLentChecked : (graph arrays : List ℕ) → (picks bound ledger cells : ℕ) → Checked
+resumeLentChecked graph arrays picks k ledger cells = checkGraph graph andThen andBound (checkStores 0 picks ledger cells) k andThen checkArrays (graphOf graph) (cells / cellWidth) arrays
 
 -- the graph passed, the table of named arrays is not too long, and ledger and cells are of allowed length
-pub record Lent (graph arrays : List ℕ) (ledger cells : ℕ) : Type 0 where
+pub record LentToResume (graph arrays : List ℕ) (ledger cells : ℕ) : Type 0 where
   pub graphPassed : checkGraph graph ≡ Passed
   pub fewArrays : length arrays / arrayWidth ≤ mostArrays
   pub few : capacityOf ledger ≤ mostTokens
@@ -34,4 +34,4 @@ pub record Lent (graph arrays : List ℕ) (ledger cells : ℕ) : Type 0 where
 abbrev pub resumed : (graph arrays picks : List ℕ) → (budget bound : ℕ) → (ledger cells : List ℕ) → (firings used : ℕ) → Result
 resumed graph arrays picks budget k ledger cells firings used =
     let M = machineSaved graph (arraysOf arrays) ledger cells in
-    unlessFailed (demand (taken graph ledger cells firings used) DamagedState 0) (ranTo (runBounded M (heldIn (graphOf graph) k) (byPicks M) budget (picksOf picks) firings (stateSaved ledger cells used)))
+    unlessFailed (demand (stateTaken graph ledger cells firings used) DamagedState 0) (ranTo (runBounded M (heldIn (graphOf graph) k) (byPicks M) budget (picksOf picks) firings (stateSaved ledger cells used)))

@@ -12,13 +12,13 @@ use Rattle.record.specs.declared.tag.Tag.{Tag}
 use Rattle.record.specs.declared.cell.Cell.{Cell}
 use Rattle.record.specs.declared.instruction.Instruction.{Instruction}
 use Rattle.record.specs.GraphRecords.{graphOf}
-use Rattle.record.specs.Logs.{encode}
+use Rattle.record.specs.Logs.{encodeActivity}
 use Rattle.record.specs.TokensAndTags.{tokens, tokenAt}
 use Rattle.record.specs.Widths.{tokenWidth, cellWidth, logWidth}
 use Rattle.buffer.specs.Rows.{putRow, writtenOver}
 use Rattle.machine.specs.Machine.{Machine, StateOf, EffectOf, Effect, Activity, Outcome, refused, notFired, End, byPicks, commit, end}
 use Rattle.machine.specs.Bounded.{byFree, runBounded, logBounded}
-use Rattle.machine.specs.Choosers.{Chosen, takes, ends, Chooser, runFrom, logFrom, byPick, byName, byPlace}
+use Rattle.machine.specs.Choosers.{Chosen, takes, ends, Chooser, runFrom, logFrom, byPick, byName}
 use Rattle.rules.specs.declared.answer.Refusal.{Refusal}
 use Rattle.rules.specs.declared.answer.Refusal.the-variants.{NotEnabled}
 use Rattle.rules.specs.declared.answer.Outcome as AnswerOutcome
@@ -27,15 +27,15 @@ use Rattle.rules.specs.InstructionSet.{machineOf}
 use Rattle.rules.specs.Run.{picksOf, outcomeOf, firstState}
 use Rattle.rules.specs.Held.{heldIn}
 use Rattle.rules.specs.Log.{namesIn}
-use Rattle.store_enabled.specs.Enabled.{leads}
+use Rattle.store_enabled.specs.Enabled.{leadsIn}
 use Rattle.store_flags.specs.Flags.{places, minus, Under, flagsOf, Counted}
 use Rattle.store.specs.Matching.{Matching}
 use Rattle.abstraction.specs.States.{stateHeld}
 use Rattle.abstraction.specs.Tables.{Arities, arraysIn}
-use Rattle.ending.specs.Endings.{EndsAs}
-use Rattle.held.specs.Deciding.{FlagsUnspent, Decided, Carried, Kept}
+use Rattle.ending.specs.Endings.{EndsWith}
+use Rattle.held.specs.Deciding.{FlagsUnspent, HeldDecided, Carried, HeldKept}
 use Rattle.start.specs.Begun.{machineLent}
-use Rattle.fire.specs.Running.{machineFor, stateIn, Arrived, Running, Went}
+use Rattle.fire.specs.Running.{machineOver, stateIn, Arrived, Running, Went}
 use Rattle.engine.specs.declared.Order.{Order}
 use Rattle.engine.specs.declared.Order.the-variants as Orders
 use Rattle.engine.specs.declared.Choice.{Choice}
@@ -50,10 +50,9 @@ abbrev pub chooserOf : Order → (source : List ℕ) → (g : List Instruction) 
 chooserOf Orders.Oldest source g table capacity count = byPick (machineOf g table capacity count) (byPicks (machineOf g table capacity count)) []
 chooserOf Orders.Picks source g table capacity count = byPick (machineOf g table capacity count) (byPicks (machineOf g table capacity count)) (picksOf source)
 chooserOf Orders.Log source g table capacity count = byName (machineOf g table capacity count) NotEnabled (namesIn source)
-chooserOf Orders.Places source g table capacity count = byPlace (machineOf g table capacity count) NotEnabled (picksOf source)
 chooserOf (Orders.Free k) source g table capacity count = byFree (machineOf g table capacity count) (heldIn g k) (byPicks (machineOf g table capacity count)) (picksOf source)
 
-abbrev pub chooserFor : Order → (source : List ℕ) → (g : List Instruction) (tables ledger cells : List ℕ) → Chooser (machineFor g tables ledger cells)
+abbrev pub chooserFor : Order → (source : List ℕ) → (g : List Instruction) (tables ledger cells : List ℕ) → Chooser (machineOver g tables ledger cells)
 chooserFor order source g tables ledger cells = chooserOf order source g (arraysIn tables) (length ledger / tokenWidth) (length cells / cellWidth)
 
 -- this order goes by the picks
@@ -66,36 +65,32 @@ abbrev pub Plain : Order → Type 0
 Plain Orders.Oldest = Unit {0}
 Plain Orders.Picks = Unit {0}
 Plain Orders.Log = Unit {0}
-Plain Orders.Places = Unit {0}
 Plain (Orders.Free k) = ⊥
 
 -- ---- what is held back, if the order looks at it
 
 -- the flags of the held are flags of enabled ones
-abbrev pub Beside : Order → (flags held : List ℕ) → Type 0
-Beside Orders.Oldest flags held = Unit {0}
-Beside Orders.Picks flags held = Unit {0}
-Beside Orders.Log flags held = Unit {0}
-Beside Orders.Places flags held = Unit {0}
-Beside (Orders.Free k) flags held = Counted held × Under (flagsOf held) (flagsOf flags)
+abbrev pub HeldBeside : Order → (flags held : List ℕ) → Type 0
+HeldBeside Orders.Oldest flags held = Unit {0}
+HeldBeside Orders.Picks flags held = Unit {0}
+HeldBeside Orders.Log flags held = Unit {0}
+HeldBeside (Orders.Free k) flags held = Counted held × Under (flagsOf held) (flagsOf flags)
 
 abbrev pub HeldBack : Order → List Instruction → (flags held ledger : List ℕ) → (used : ℕ) → Type 0
 HeldBack Orders.Oldest g flags held ledger used = Unit {0}
 HeldBack Orders.Picks g flags held ledger used = Unit {0}
 HeldBack Orders.Log g flags held ledger used = Unit {0}
-HeldBack Orders.Places g flags held ledger used = Unit {0}
-HeldBack (Orders.Free k) g flags held ledger used = Decided g k flags held ledger used
+HeldBack (Orders.Free k) g flags held ledger used = HeldDecided g k flags held ledger used
 
 -- what is kept of it between firings
 pub record Holding (g : List Instruction) (k : ℕ) (tables flags ledger : List ℕ) (used : ℕ) (nexts held marks : List ℕ) : Type 0 where
   pub bound : (0 < k) × (k < 65536)
-  pub kept : Kept g tables flags ledger k used nexts held marks
+  pub kept : HeldKept g tables flags ledger k used nexts held marks
 
 abbrev pub Bounding : Order → List Instruction → (tables flags ledger : List ℕ) → (used : ℕ) → (nexts held marks : List ℕ) → Type 0
 Bounding Orders.Oldest g tables flags ledger used nexts held marks = Unit {0}
 Bounding Orders.Picks g tables flags ledger used nexts held marks = Unit {0}
 Bounding Orders.Log g tables flags ledger used nexts held marks = Unit {0}
-Bounding Orders.Places g tables flags ledger used nexts held marks = Unit {0}
 Bounding (Orders.Free k) g tables flags ledger used nexts held marks = Holding g k tables flags ledger used nexts held marks
 
 -- and right after one, which left n tokens where there were `used`
@@ -112,7 +107,6 @@ abbrev pub FiredOn : Order → List Instruction → (tables flags ledger : List 
 FiredOn Orders.Oldest g tables flags ledger used n nexts held marks = Unit {0}
 FiredOn Orders.Picks g tables flags ledger used n nexts held marks = Unit {0}
 FiredOn Orders.Log g tables flags ledger used n nexts held marks = Unit {0}
-FiredOn Orders.Places g tables flags ledger used n nexts held marks = Unit {0}
 FiredOn (Orders.Free k) g tables flags ledger used n nexts held marks = Followed g k tables flags ledger used n nexts held marks
 
 -- ---- a choice
@@ -123,10 +117,10 @@ pub record Flagged (tables flags ledger : List ℕ) (used : ℕ) : Type 0 where
   pub matching : Matching tables links flags ledger used
 
 -- the chooser takes the activity at this place, which is enabled
-pub record Takes (place : ℕ) (chosen : Chosen Refusal Tag) (tables ledger : List ℕ) (used : ℕ) : Type 0 where
+pub record TakesPlace (place : ℕ) (chosen : Chosen Refusal Tag) (tables ledger : List ℕ) (used : ℕ) : Type 0 where
   pub taken : chosen ≡ takes (record { place = place; tag = tokenAt ledger place .tag })
   pub below : place < used
-  pub enabledThere : leads tables (tokens used ledger) place (tokenAt ledger place) ≡ true
+  pub enabledThere : leadsIn tables (tokens used ledger) place (tokenAt ledger place) ≡ true
 
 -- the chooser ends the run
 pub record Ends (o : AnswerOutcome.Outcome) (chosen : Chosen Refusal Tag) : Type 0 where
@@ -135,7 +129,7 @@ pub record Ends (o : AnswerOutcome.Outcome) (chosen : Chosen Refusal Tag) : Type
   pub ended : chosen ≡ ends outcome
 
 abbrev pub Chooses : Choice → Chosen Refusal Tag → (tables ledger : List ℕ) → (used : ℕ) → Type 0
-Chooses (Choices.At place) chosen tables ledger used = Takes place chosen tables ledger used
+Chooses (Choices.At place) chosen tables ledger used = TakesPlace place chosen tables ledger used
 Chooses (Choices.Ended o) chosen tables ledger used = Ends o chosen
 
 -- the choice of a turn after f firings, for every graph whose tables these are and every store of cells
@@ -160,7 +154,7 @@ pub data Stops (M : Machine) (s : StateOf M) (chosen : Chosen (M .Refusal) (M .T
 pub record Halted (o : AnswerOutcome.Outcome) (g : List Instruction) (chosen : Chosen Refusal Tag) (asks : Tag → Effect Refusal Tag ℤ) (tables links flags ledger′ cells′ : List ℕ) (used : ℕ) (ledger cells : List ℕ) : Type 0 where
   pub outcome : Outcome Refusal
   pub told : outcomeOf outcome ≡ o
-  pub stops : Stops (machineFor g tables ledger cells) (stateIn ledger cells used) chosen asks outcome
+  pub stops : Stops (machineOver g tables ledger cells) (stateIn ledger cells used) chosen asks outcome
   pub running : Running g tables links flags ledger′ cells′ used
   pub sameLedger : ledger′ ≡ ledger
   pub sameCells : cells′ ≡ cells
@@ -175,24 +169,24 @@ Turned (Turns.Ended o) g chosen asks tables links flags ledger′ cells′ used 
 
 -- the end of a run from a state, and its log
 abbrev pub endOf : Order → (source : List ℕ) → List Instruction → (tables ledger cells : List ℕ) → (used budget : ℕ) → End Refusal Tag ℤ
-endOf order source g tables ledger cells used budget = runFrom (machineFor g tables ledger cells) (chooserFor order source g tables ledger cells) budget 0 (stateIn ledger cells used)
+endOf order source g tables ledger cells used budget = runFrom (machineOver g tables ledger cells) (chooserFor order source g tables ledger cells) budget 0 (stateIn ledger cells used)
 
 abbrev pub firedBy : Order → (source : List ℕ) → List Instruction → (tables ledger cells : List ℕ) → (used budget : ℕ) → List Tag
-firedBy order source g tables ledger cells used budget = logFrom (machineFor g tables ledger cells) (chooserFor order source g tables ledger cells) budget 0 (stateIn ledger cells used)
+firedBy order source g tables ledger cells used budget = logFrom (machineOver g tables ledger cells) (chooserFor order source g tables ledger cells) budget 0 (stateIn ledger cells used)
 
 -- record i of a log, if it has room for it
-unfoldable pub noted : (log : List ℕ) → (i : ℕ) → Tag → List ℕ
-noted log i τ = cond (ltb i (length log / logWidth)) (putRow logWidth log i (encode τ)) log
+unfoldable pub logNoted : (log : List ℕ) → (i : ℕ) → Tag → List ℕ
+logNoted log i τ = cond (ltb i (length log / logWidth)) (putRow logWidth log i (encodeActivity τ)) log
 
 -- a log that took the records of these tags, as many as it has room for
 unfoldable pub recorded : List Tag → (lent : List ℕ) → List ℕ
-recorded τs lent = writtenOver encode (take (length lent / logWidth) τs) lent
+recorded τs lent = writtenOver encodeActivity (take (length lent / logWidth) τs) lent
 
 -- a run left arrays, ledger and cells, from which another may go on, and its answer tells its end
 pub record Proceeded (e : End Refusal Tag ℤ) (r : Answer) (g : List Instruction) (tables links flags ledger′ cells′ : List ℕ) (used : ℕ) (ledger cells : List ℕ) : Type 0 where
   pub outcome : Outcome Refusal
   pub told : outcomeOf outcome ≡ r .outcome
-  pub ends : e ≡ end (machineFor g tables ledger cells) outcome (r .firings) (stateIn ledger′ cells′ (r .tokens))
+  pub ends : e ≡ end (machineOver g tables ledger cells) outcome (r .firings) (stateIn ledger′ cells′ (r .tokens))
   pub running : Running g tables links flags ledger′ cells′ (r .tokens)
   pub grown : used ≤ r .tokens
   pub size : length ledger′ ≡ length ledger
@@ -203,19 +197,19 @@ pub record Proceeded (e : End Refusal Tag ℤ) (r : Answer) (g : List Instructio
 
 -- "If only held ones remain, the answer is hung, at a used-up budget too.": the answer of the turns, and what is made of it
 pub data Settled (tables flags held ledger : List ℕ) (own r : Answer) : Type 0 where
-  restsThere : length (places (minus (flagsOf flags) (flagsOf held))) ≡ 0 → (o : AnswerOutcome.Outcome) → EndsAs o tables (tokens (own .tokens) ledger)
+  restsThere : length (places (minus (flagsOf flags) (flagsOf held))) ≡ 0 → (o : AnswerOutcome.Outcome) → EndsWith o tables (tokens (own .tokens) ledger)
       → r ≡ record { outcome = o; firings = own .firings; tokens = own .tokens } → Settled tables flags held ledger own r
   asItWas : ¬ (length (places (minus (flagsOf flags) (flagsOf held))) ≡ 0) → r ≡ own → Settled tables flags held ledger own r
 
 -- the end of a run with a bound, which is none where it is 0, and its log
 abbrev pub endBounded : (bound : ℕ) → (picks : List ℕ) → List Instruction → (tables ledger cells : List ℕ) → (used budget : ℕ) → End Refusal Tag ℤ
 endBounded k picks g tables ledger cells used budget =
-    let M = machineFor g tables ledger cells in
+    let M = machineOver g tables ledger cells in
     runBounded M (heldIn g k) (byPicks M) budget (picksOf picks) 0 (stateIn ledger cells used)
 
 abbrev pub firedBounded : (bound : ℕ) → (picks : List ℕ) → List Instruction → (tables ledger cells : List ℕ) → (used budget : ℕ) → List Tag
 firedBounded k picks g tables ledger cells used budget =
-    let M = machineFor g tables ledger cells in
+    let M = machineOver g tables ledger cells in
     logBounded M (heldIn g k) (byPicks M) budget (picksOf picks) (stateIn ledger cells used)
 
 -- from the inputs, in the words of the rules

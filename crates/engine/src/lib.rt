@@ -7,6 +7,7 @@ use fire_commit::Fired;
 use record::cell;
 use record::log;
 use record::log::Named;
+use record::pick;
 use record::tag::Tag;
 use record::token;
 use rules::answer;
@@ -32,7 +33,7 @@ ghost use Rattle.rules.specs.Check.{checkGraph};
 ghost use Rattle.rules.specs.Run.{Ran};
 ghost use Rattle.rules.specs.Bounded.{BoundCarriedOn};
 ghost use Rattle.rules.specs.Log.{namesIn};
-ghost use Rattle.store_chains.specs.Search.{Within};
+ghost use Rattle.store_chains.specs.Search.{FoundWithin};
 ghost use Rattle.store_enabled.specs.Store.{enabledAt};
 ghost use Rattle.store.specs.Matching.{Matching};
 ghost use Rattle.fire.specs.Running.{stateIn, askedIn, Prepared, Running};
@@ -40,17 +41,16 @@ ghost use Rattle.store_flags.specs.Flags.{places, minus, Under, flagsOf, Counte
 ghost use Rattle.start.specs.Begun.{Accepted};
 ghost use Rattle.start.specs.Ended.{EndedAt};
 ghost use Rattle.engine.specs.Promise.{lentToRun, leftByRun, BoundedOn, lentToLogged, leftByLogged, BoundLoggedOn};
-ghost use Rattle.engine.specs.Resumed.{lentChecked, Lent, resumed};
-ghost use Rattle.engine.specs.Turns.{chooserFor, ByPicks, Plain, Flagged, Beside, HeldBack, ChosenAs, Turned, endOf, firedBy, noted, recorded, Proceeded, Bounding, FiredOn, Settled, endBounded, firedBounded, endFromInputs, firedFromInputs};
-ghost use Rattle.engine.specs.declared.Order.the-variants.{Oldest, Picks, Log, Places, Free};
+ghost use Rattle.engine.specs.Resumed.{resumeLentChecked, LentToResume, resumed};
+ghost use Rattle.engine.specs.Turns.{chooserFor, ByPicks, Plain, Flagged, HeldBeside, HeldBack, ChosenAs, Turned, endOf, firedBy, logNoted, recorded, Proceeded, Bounding, FiredOn, Settled, endBounded, firedBounded, endFromInputs, firedFromInputs};
+ghost use Rattle.engine.specs.declared.Order.the-variants.{Oldest, Picks, Log, Free};
 
-// How the activity of a turn is chosen: the first of all, by picks, by the records of a log, by places, 2 bytes each as picks, or by
-// picks among those that a bound does not hold back.
+// How the activity of a turn is chosen: the first of all, by picks, by the records of a log, or by picks among those that a
+// bound does not hold back.
 pub enum Order {
     Oldest,
     Picks,
     Log,
-    Places,
     Free(usize),
 }
 
@@ -102,7 +102,7 @@ fn by_pick(
     if e == 0 {
         return Choice::Ended(ending::ending(tables, ledger, used));
     }
-    let number = number_of(load::pick_at(picks, firings), e);
+    let number = number_of(pick::pick_at(picks, firings), e);
     Choice::At(store::enabled_at(flags, number))
 }
 
@@ -127,7 +127,7 @@ fn place_named(
     tag: Tag,
 ) -> Found
     requires { ⌜ Matching (now tables) (now links) (now flags) (now ledger) used ⌝ }
-    ensures { λ r. ⌜ (r ≡ enabledAt (now (tables .entry)) (tokens used (now (ledger .entry))) tag) × Within r used ⌝ }
+    ensures { λ r. ⌜ (r ≡ enabledAt (now (tables .entry)) (tokens used (now (ledger .entry))) tag) × FoundWithin r used ⌝ }
 {
     if !store_flags::is_empty(flags) {
         let first = store::enabled_at(flags, 0);
@@ -163,27 +163,6 @@ fn by_record(
     Choice::At(place)
 }
 
-// The one at the place of this turn, if it is enabled.
-fn by_place(
-    tables: &Tables,
-    flags: &Flags,
-    ledger: &[u8],
-    used: usize,
-    places: &[u8],
-    firings: usize,
-) -> Choice
-    requires { ⌜ Flagged (now tables) (now flags) (now ledger) used ⌝ }
-    ensures { λ r. ⌜ ((flags held : List ℕ) → ChosenAs r Places (now (places .entry)) firings (now (tables .entry)) flags held (now (ledger .entry)) used) ⌝ }
-{
-    let place = load::pick_at(places, firings);
-    if place < used {
-        if store_flags::is_raised(flags, place) {
-            return Choice::At(place);
-        }
-    }
-    Choice::Ended(Outcome::Refused(Refusal::NotEnabled, firings))
-}
-
 // The place of number k of the activities that are not held back. Where none is, they are all that are enabled.
 fn free_at(flags: &Flags, held: &Flags, k: usize) -> usize
     requires { ⌜ Counted (now flags) × Counted (now held) × Under (flagsOf (now held)) (flagsOf (now flags)) × (k < length (places (minus (flagsOf (now flags)) (flagsOf (now held))))) ⌝ }
@@ -193,6 +172,20 @@ fn free_at(flags: &Flags, held: &Flags, k: usize) -> usize
         store_flags::select(flags, k)
     } else {
         store_flags::select_but(flags, held, k)
+    }
+}
+
+// The first of those that are not held back: without picks each is 0.
+fn first_free(tables: &Tables, flags: &Flags, held: &Flags, ledger: &[u8], used: usize) -> Choice
+    requires { ⌜ Flagged (now tables) (now flags) (now ledger) used × Counted (now held) × Under (flagsOf (now held)) (flagsOf (now flags)) ⌝ }
+    ensures { λ r. ⌜ ((bound f : ℕ) → ChosenAs r (Free bound) [] f (now (tables .entry)) (now (flags .entry)) (now (held .entry)) (now (ledger .entry)) used) ⌝ }
+{
+    let place = store_flags::first_but(flags, held);
+    if place < 2048 {
+        Choice::At(place)
+    } else {
+        let outcome = ending::ending(tables, ledger, used);
+        Choice::Ended(outcome)
     }
 }
 
@@ -209,11 +202,14 @@ fn by_free(
     requires { ⌜ Flagged (now tables) (now flags) (now ledger) used × Counted (now held) × Under (flagsOf (now held)) (flagsOf (now flags)) ⌝ }
     ensures { λ r. ⌜ ((bound : ℕ) → ChosenAs r (Free bound) (now (picks .entry)) firings (now (tables .entry)) (now (flags .entry)) (now (held .entry)) (now (ledger .entry)) used) ⌝ }
 {
+    if picks.len() == 0 {
+        return first_free(tables, flags, held, ledger, used);
+    }
     let e = store_flags::count_but(flags, held);
     if e == 0 {
         return Choice::Ended(ending::ending(tables, ledger, used));
     }
-    let number = number_of(load::pick_at(picks, firings), e);
+    let number = number_of(pick::pick_at(picks, firings), e);
     Choice::At(free_at(flags, held, number))
 }
 
@@ -229,14 +225,13 @@ pub fn choose(
     ledger: &[u8],
     used: usize,
 ) -> Choice
-    requires { ⌜ Matching (now tables) (now links) (now flags) (now ledger) used × Beside order (now flags) (now held) ⌝ }
+    requires { ⌜ Matching (now tables) (now links) (now flags) (now ledger) used × HeldBeside order (now flags) (now held) ⌝ }
     ensures { λ r. ⌜ ChosenAs r order (now (source .entry)) firings (now (tables .entry)) (now (flags .entry)) (now (held .entry)) (now (ledger .entry)) used ⌝ }
 {
     match order {
         Order::Oldest => oldest(tables, flags, ledger, used),
         Order::Picks => by_pick(tables, flags, ledger, used, source, firings),
         Order::Log => by_record(tables, links, flags, ledger, used, source, firings),
-        Order::Places => by_place(tables, flags, ledger, used, source, firings),
         Order::Free(_) => by_free(tables, flags, held, ledger, used, source, firings),
     }
 }
@@ -255,8 +250,15 @@ fn take_turn(
     cells: &mut [u8],
     used: usize,
 ) -> Turn
-    requires { ⌜ Prepared (now graph) (now tables) × Running (graphOf (now graph)) (now tables) (now links) (now flags) (now ledger) (now cells) used × Beside order (now flags) (now held) × HeldBack order (graphOf (now graph)) (now flags) (now held) (now ledger) used ⌝ }
-    ensures { λ r. ⌜ Turned r (graphOf (now (graph .entry))) (chooserFor order (now (source .entry)) (graphOf (now (graph .entry))) (now (tables .entry)) (now (ledger .entry)) (now (cells .entry)) firings (stateIn (now (ledger .entry)) (now (cells .entry)) used)) (askedIn (graphOf (now (graph .entry))) (now (tables .entry)) (now (ledger .entry)) (now (cells .entry)) used) (now (tables .entry)) (now (links .exit)) (now (flags .exit)) (now (ledger .exit)) (now (cells .exit)) used (now (ledger .entry)) (now (cells .entry)) ⌝ }
+    requires { ⌜ Prepared (now graph) (now tables)
+        × Running (graphOf (now graph)) (now tables) (now links) (now flags) (now ledger) (now cells) used
+        × HeldBeside order (now flags) (now held)
+        × HeldBack order (graphOf (now graph)) (now flags) (now held) (now ledger) used ⌝ }
+    ensures { λ r. ⌜ Turned r (graphOf (now (graph .entry)))
+        (chooserFor order (now (source .entry)) (graphOf (now (graph .entry))) (now (tables .entry)) (now (ledger .entry)) (now (cells .entry))
+        firings (stateIn (now (ledger .entry)) (now (cells .entry)) used))
+        (askedIn (graphOf (now (graph .entry))) (now (tables .entry)) (now (ledger .entry)) (now (cells .entry)) used) (now (tables .entry))
+        (now (links .exit)) (now (flags .exit)) (now (ledger .exit)) (now (cells .exit)) used (now (ledger .entry)) (now (cells .entry)) ⌝ }
 {
     let chosen = choose(
         order,
@@ -283,7 +285,7 @@ fn take_turn(
 // Writes the record of firing i, of the activity at a place, if the log has room for it. A run without a log has one of no bytes.
 fn note(log: &mut [u8], i: usize, ledger: &[u8], place: usize)
     requires { ⌜ place < length (now ledger) / tokenWidth ⌝ }
-    ensures { λ _. ⌜ now (log .exit) ≡ noted (now (log .entry)) i (tokenAt (now (ledger .entry)) place .tag) ⌝ }
+    ensures { λ _. ⌜ now (log .exit) ≡ logNoted (now (log .entry)) i (tokenAt (now (ledger .entry)) place .tag) ⌝ }
 {
     if i < log.len() / log::WIDTH {
         let t = token::token_at(ledger, place);
@@ -315,29 +317,43 @@ pub fn follow(
     ensures { λ _. ⌜ Bounding order (graphOf (now (graph .entry))) (now (tables .entry)) (now (flags .entry)) (now (ledger .entry)) n (now (nexts .exit)) (now (held .exit)) (now (marks .exit)) ⌝ }
 {
     match order {
-        Order::Free(bound) => held::follow(
-            graph,
-            tables,
-            flags,
-            ledger,
-            used,
-            n,
-            place,
-            bound,
-            nexts,
-            held,
-            marks,
-        ),
+        Order::Free(bound) => {
+            if !held::calm(
+                graph,
+                tables,
+                flags,
+                ledger,
+                used,
+                n,
+                bound,
+                nexts,
+                held,
+                marks,
+            ) {
+                held::follow(
+                    graph,
+                    tables,
+                    flags,
+                    ledger,
+                    used,
+                    n,
+                    place,
+                    bound,
+                    nexts,
+                    held,
+                    marks,
+                );
+            }
+        }
         Order::Oldest => {}
         Order::Picks => {}
         Order::Log => {}
-        Order::Places => {}
     }
 }
 
 // A run goes on from a state, and notes each firing. Whoever chooses, this is the loop. The arrays of what is held back are lent; an
 // order that holds nothing back does not look at them.
-pub fn turns(
+fn turns(
     graph: &[u8],
     tables: &Tables,
     order: Order,
@@ -352,10 +368,19 @@ pub fn turns(
     log: &mut [u8],
     going: Going,
 ) -> Answer
-    requires { ⌜ Prepared (now graph) (now tables) × Running (graphOf (now graph)) (now tables) (now links) (now flags) (now ledger) (now cells) (going .used) × Bounding order (graphOf (now graph)) (now tables) (now flags) (now ledger) (going .used) (now nexts) (now held) (now marks) ⌝ }
-    ensures { λ r. ⌜ Proceeded (endOf order (now (source .entry)) (graphOf (now (graph .entry))) (now (tables .entry)) (now (ledger .entry)) (now (cells .entry)) (going .used) (going .budget)) r (graphOf (now (graph .entry))) (now (tables .entry)) (now (links .exit)) (now (flags .exit)) (now (ledger .exit)) (now (cells .exit)) (going .used) (now (ledger .entry)) (now (cells .entry)) ⌝ }
-    ensures { λ _. ⌜ now (log .exit) ≡ recorded (firedBy order (now (source .entry)) (graphOf (now (graph .entry))) (now (tables .entry)) (now (ledger .entry)) (now (cells .entry)) (going .used) (going .budget)) (now (log .entry)) ⌝ }
-    ensures { λ r. ⌜ Bounding order (graphOf (now (graph .entry))) (now (tables .entry)) (now (flags .exit)) (now (ledger .exit)) (r .tokens) (now (nexts .exit)) (now (held .exit)) (now (marks .exit)) ⌝ }
+    requires { ⌜ Prepared (now graph) (now tables)
+        × Running (graphOf (now graph)) (now tables) (now links) (now flags) (now ledger) (now cells) (going .used)
+        × Bounding order (graphOf (now graph)) (now tables) (now flags) (now ledger) (going .used) (now nexts) (now held) (now marks) ⌝ }
+    ensures { λ r. ⌜ Proceeded
+        (endOf order (now (source .entry)) (graphOf (now (graph .entry))) (now (tables .entry)) (now (ledger .entry)) (now (cells .entry))
+        (going .used) (going .budget)) r (graphOf (now (graph .entry))) (now (tables .entry)) (now (links .exit)) (now (flags .exit))
+        (now (ledger .exit)) (now (cells .exit)) (going .used) (now (ledger .entry)) (now (cells .entry)) ⌝ }
+    ensures { λ _. ⌜ now (log .exit)
+        ≡ recorded
+        (firedBy order (now (source .entry)) (graphOf (now (graph .entry))) (now (tables .entry)) (now (ledger .entry)) (now (cells .entry))
+        (going .used) (going .budget)) (now (log .entry)) ⌝ }
+    ensures { λ r. ⌜ Bounding order (graphOf (now (graph .entry))) (now (tables .entry)) (now (flags .exit)) (now (ledger .exit)) (r .tokens) (now (nexts .exit))
+        (now (held .exit)) (now (marks .exit)) ⌝ }
 {
     let budget = going.budget;
     let mut used = going.used;
@@ -415,8 +440,14 @@ pub fn proceed(
     going: Going,
 ) -> Answer
     requires { ⌜ Prepared (now graph) (now tables) × Running (graphOf (now graph)) (now tables) (now links) (now flags) (now ledger) (now cells) (going .used) × Plain order ⌝ }
-    ensures { λ r. ⌜ Proceeded (endOf order (now (source .entry)) (graphOf (now (graph .entry))) (now (tables .entry)) (now (ledger .entry)) (now (cells .entry)) (going .used) (going .budget)) r (graphOf (now (graph .entry))) (now (tables .entry)) (now (links .exit)) (now (flags .exit)) (now (ledger .exit)) (now (cells .exit)) (going .used) (now (ledger .entry)) (now (cells .entry)) ⌝ }
-    ensures { λ _. ⌜ now (log .exit) ≡ recorded (firedBy order (now (source .entry)) (graphOf (now (graph .entry))) (now (tables .entry)) (now (ledger .entry)) (now (cells .entry)) (going .used) (going .budget)) (now (log .entry)) ⌝ }
+    ensures { λ r. ⌜ Proceeded
+        (endOf order (now (source .entry)) (graphOf (now (graph .entry))) (now (tables .entry)) (now (ledger .entry)) (now (cells .entry))
+        (going .used) (going .budget)) r (graphOf (now (graph .entry))) (now (tables .entry)) (now (links .exit)) (now (flags .exit))
+        (now (ledger .exit)) (now (cells .exit)) (going .used) (now (ledger .entry)) (now (cells .entry)) ⌝ }
+    ensures { λ _. ⌜ now (log .exit)
+        ≡ recorded
+        (firedBy order (now (source .entry)) (graphOf (now (graph .entry))) (now (tables .entry)) (now (ledger .entry)) (now (cells .entry))
+        (going .used) (going .budget)) (now (log .entry)) ⌝ }
 {
     let mut nexts = [0u64; store_flags::LENGTH];
     let mut held = [0u64; store_flags::LENGTH];
@@ -475,8 +506,13 @@ fn proceed_bounded(
     going: Going,
 ) -> Answer
     requires { ⌜ Prepared (now graph) (now tables) × Running (graphOf (now graph)) (now tables) (now links) (now flags) (now ledger) (now cells) (going .used) × (0 < bound) × (bound < 65536) ⌝ }
-    ensures { λ r. ⌜ EndedAt (endBounded bound (now (picks .entry)) (graphOf (now (graph .entry))) (now (tables .entry)) (now (ledger .entry)) (now (cells .entry)) (going .used) (going .budget)) r (now (ledger .entry)) (now (cells .entry)) (now (ledger .exit)) (now (cells .exit)) ⌝ }
-    ensures { λ _. ⌜ now (log .exit) ≡ recorded (firedBounded bound (now (picks .entry)) (graphOf (now (graph .entry))) (now (tables .entry)) (now (ledger .entry)) (now (cells .entry)) (going .used) (going .budget)) (now (log .entry)) ⌝ }
+    ensures { λ r. ⌜ EndedAt
+        (endBounded bound (now (picks .entry)) (graphOf (now (graph .entry))) (now (tables .entry)) (now (ledger .entry)) (now (cells .entry))
+        (going .used) (going .budget)) r (now (ledger .entry)) (now (cells .entry)) (now (ledger .exit)) (now (cells .exit)) ⌝ }
+    ensures { λ _. ⌜ now (log .exit)
+        ≡ recorded
+        (firedBounded bound (now (picks .entry)) (graphOf (now (graph .entry))) (now (tables .entry)) (now (ledger .entry)) (now (cells .entry))
+        (going .used) (going .budget)) (now (log .entry)) ⌝ }
 {
     let mut nexts = [0u64; store_flags::LENGTH];
     let mut held = [0u64; store_flags::LENGTH];
@@ -528,8 +564,13 @@ fn go_on(
     going: Going,
 ) -> Answer
     requires { ⌜ Prepared (now graph) (now tables) × Running (graphOf (now graph)) (now tables) (now links) (now flags) (now ledger) (now cells) (going .used) × (bound < 65536) ⌝ }
-    ensures { λ r. ⌜ EndedAt (endBounded bound (now (picks .entry)) (graphOf (now (graph .entry))) (now (tables .entry)) (now (ledger .entry)) (now (cells .entry)) (going .used) (going .budget)) r (now (ledger .entry)) (now (cells .entry)) (now (ledger .exit)) (now (cells .exit)) ⌝ }
-    ensures { λ _. ⌜ now (log .exit) ≡ recorded (firedBounded bound (now (picks .entry)) (graphOf (now (graph .entry))) (now (tables .entry)) (now (ledger .entry)) (now (cells .entry)) (going .used) (going .budget)) (now (log .entry)) ⌝ }
+    ensures { λ r. ⌜ EndedAt
+        (endBounded bound (now (picks .entry)) (graphOf (now (graph .entry))) (now (tables .entry)) (now (ledger .entry)) (now (cells .entry))
+        (going .used) (going .budget)) r (now (ledger .entry)) (now (cells .entry)) (now (ledger .exit)) (now (cells .exit)) ⌝ }
+    ensures { λ _. ⌜ now (log .exit)
+        ≡ recorded
+        (firedBounded bound (now (picks .entry)) (graphOf (now (graph .entry))) (now (tables .entry)) (now (ledger .entry)) (now (cells .entry))
+        (going .used) (going .budget)) (now (log .entry)) ⌝ }
 {
     if bound != 0 {
         return proceed_bounded(
@@ -574,8 +615,13 @@ fn accepted(
     log: &mut [u8],
 ) -> Answer
     requires { ⌜ Accepted (now graph) (now arrays) (now inputs) (length (now ledger)) (length (now cells)) × (bound < 65536) ⌝ }
-    ensures { λ r. ⌜ EndedAt (endFromInputs bound (now (picks .entry)) budget (now (graph .entry)) (now (arrays .entry)) (now (inputs .entry)) (now (ledger .entry)) (now (cells .entry))) r (now (ledger .entry)) (now (cells .entry)) (now (ledger .exit)) (now (cells .exit)) ⌝ }
-    ensures { λ _. ⌜ now (log .exit) ≡ recorded (firedFromInputs bound (now (picks .entry)) budget (now (graph .entry)) (now (arrays .entry)) (now (inputs .entry)) (now (ledger .entry)) (now (cells .entry))) (now (log .entry)) ⌝ }
+    ensures { λ r. ⌜ EndedAt
+        (endFromInputs bound (now (picks .entry)) budget (now (graph .entry)) (now (arrays .entry)) (now (inputs .entry)) (now (ledger .entry))
+        (now (cells .entry))) r (now (ledger .entry)) (now (cells .entry)) (now (ledger .exit)) (now (cells .exit)) ⌝ }
+    ensures { λ _. ⌜ now (log .exit)
+        ≡ recorded
+        (firedFromInputs bound (now (picks .entry)) budget (now (graph .entry)) (now (arrays .entry)) (now (inputs .entry)) (now (ledger .entry))
+        (now (cells .entry))) (now (log .entry)) ⌝ }
 {
     let mut tables = [0u16; store_enabled::TABLES_LENGTH];
     let mut links = [0u16; store_chains::LENGTH];
@@ -614,7 +660,7 @@ fn check_lent(
     ledger: usize,
     cells: usize,
 ) -> Checked
-    ensures { λ r. ⌜ r ≡ lentChecked (now (graph .entry)) (now (arrays .entry)) picks bound ledger cells ⌝ }
+    ensures { λ r. ⌜ r ≡ resumeLentChecked (now (graph .entry)) (now (arrays .entry)) picks bound ledger cells ⌝ }
 {
     let of_graph = graph::check(graph);
     let Checked::Passed = of_graph else {
@@ -639,8 +685,10 @@ fn resume(
     ledger: &mut [u8],
     cells: &mut [u8],
 ) -> Answer
-    requires { ⌜ Lent (now graph) (now arrays) (length (now ledger)) (length (now cells)) × (budget < 65536) × (firings < 65536) × (bound < 65536) ⌝ }
-    ensures { λ r. ⌜ Ran (resumed (now (graph .entry)) (now (arrays .entry)) (now (picks .entry)) budget bound (now (ledger .entry)) (now (cells .entry)) firings used) r (now (ledger .entry)) (now (ledger .exit)) (now (cells .entry)) (now (cells .exit)) ⌝ }
+    requires { ⌜ LentToResume (now graph) (now arrays) (length (now ledger)) (length (now cells)) × (budget < 65536) × (firings < 65536) × (bound < 65536) ⌝ }
+    ensures { λ r. ⌜ Ran
+        (resumed (now (graph .entry)) (now (arrays .entry)) (now (picks .entry)) budget bound (now (ledger .entry)) (now (cells .entry)) firings used)
+        r (now (ledger .entry)) (now (ledger .exit)) (now (cells .entry)) (now (cells .exit)) ⌝ }
 {
     let mut tables = [0u16; store_enabled::TABLES_LENGTH];
     let mut links = [0u16; store_chains::LENGTH];
@@ -693,7 +741,8 @@ pub fn run(
     ledger: &mut [u8],
     cells: &mut [u8],
 ) -> Answer
-    ensures { λ r. ⌜ BoundedOn (now (graph .entry)) (now (arrays .entry)) (now (inputs .entry)) budget bound (lentToRun (now (picks .entry)) (now (ledger .entry)) (now (cells .entry))) (leftByRun r (now (ledger .exit)) (now (cells .exit))) ⌝ }
+    ensures { λ r. ⌜ BoundedOn (now (graph .entry)) (now (arrays .entry)) (now (inputs .entry)) budget bound
+        (lentToRun (now (picks .entry)) (now (ledger .entry)) (now (cells .entry))) (leftByRun r (now (ledger .exit)) (now (cells .exit))) ⌝ }
 {
     let k = bound as usize;
     let checked = checks::check_bounded(graph, arrays, inputs, picks, k, ledger.len(), cells.len());
@@ -728,7 +777,9 @@ pub fn run_logged(
     cells: &mut [u8],
     log: &mut [u8],
 ) -> Answer
-    ensures { λ r. ⌜ BoundLoggedOn (now (graph .entry)) (now (arrays .entry)) (now (inputs .entry)) bound (lentToLogged (now (picks .entry)) budget (now (ledger .entry)) (now (cells .entry)) (now (log .entry))) (leftByLogged r (now (ledger .exit)) (now (cells .exit)) (now (log .exit))) ⌝ }
+    ensures { λ r. ⌜ BoundLoggedOn (now (graph .entry)) (now (arrays .entry)) (now (inputs .entry)) bound
+        (lentToLogged (now (picks .entry)) budget (now (ledger .entry)) (now (cells .entry)) (now (log .entry)))
+        (leftByLogged r (now (ledger .exit)) (now (cells .exit)) (now (log .exit))) ⌝ }
 {
     let firings = budget as usize;
     let k = bound as usize;
@@ -762,7 +813,8 @@ pub fn carry_on(
     ledger: &mut [u8],
     cells: &mut [u8],
 ) -> Answer
-    ensures { λ r. ⌜ BoundCarriedOn (now (graph .entry)) (now (arrays .entry)) (now (picks .entry)) budget bound firings tokens r (now (ledger .entry)) (now (ledger .exit)) (now (cells .entry)) (now (cells .exit)) ⌝ }
+    ensures { λ r. ⌜ BoundCarriedOn (now (graph .entry)) (now (arrays .entry)) (now (picks .entry)) budget bound firings tokens r (now (ledger .entry))
+        (now (ledger .exit)) (now (cells .entry)) (now (cells .exit)) ⌝ }
 {
     let k = bound as usize;
     let checked = check_lent(graph, arrays, picks.len(), k, ledger.len(), cells.len());

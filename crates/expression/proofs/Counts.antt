@@ -8,7 +8,7 @@ use native.Mathlib.Decide.{ℕ-discrete}
 use lib.ListN.{length, getD, take, set, replicate, length-set, length-replicate}
 use lib.Seq.{length-take-le, getD-set-same, getD-set-other}
 use Rattle.record.specs.declared.term.Term.{Term}
-use Rattle.record.specs.ExpressionRecords.{decode}
+use Rattle.record.specs.ExpressionRecords.{decodeTerm}
 use Rattle.rules.specs.Expression.{mostTerms, termAt, isVariable, isOperation, count, variableNumber, instructionFor}
 use Rattle.rules.proofs.ExpressionGraph.{count-both}
 use Rattle.rules.proofs.ExpressionSizes.{count-append}

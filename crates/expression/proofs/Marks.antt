@@ -15,7 +15,7 @@ use Rattle.rules.specs.Expression.{mostTerms, isVariable, names, goodOperation,
 use Rattle.rules.proofs.Passed.{both}
 use Rattle.rules.proofs.Lists.{or-right}
 use Rattle.check_fields.proofs.Turns.{or-false, any-append}
-use Rattle.expression.specs.Tables.{Marked, NamesInside}
+use Rattle.expression.specs.Tables.{MarkedNamed, NamesInside}
 
 -- what a good record names comes before it
 pub names-inside : (earlier : List Term) (i : ℕ) (t : Term) → i ≤ mostTerms → goodTerm earlier i t ≡ true → NamesInside t
@@ -28,19 +28,19 @@ names-inside earlier i t few e o =
     let right = both (ltb (t .right) i) _ more .0 in
     (omega (arith, ltb-true (t .left) i left), omega (arith, ltb-true (t .right) i right))
 
-pub no-marks : Marked [] (replicate mostTerms false)
+pub no-marks : MarkedNamed [] (replicate mostTerms false)
 no-marks = record { size = length-replicate mostTerms false; says = λ j l. getD-replicate mostTerms j false false l }
 
 module _ (ts : List Term) (t : Term) where
   named-next : (j : ℕ) → any (names j) (ts ++ t ∷ []) ≡ any (names j) ts || names j t
   named-next j = any-append (names j) ts (t ∷ []) ∙ ap (λ (b : Bool). any (names j) ts || b) (or-false (names j t))
 
-  module _ (table : List Bool) (m : Marked ts table) where
+  module _ (table : List Bool) (m : MarkedNamed ts table) where
     -- a variable names none
-    pub mark-variable : isVariable t ≡ true → Marked (ts ++ t ∷ []) table
+    pub mark-variable : isVariable t ≡ true → MarkedNamed (ts ++ t ∷ []) table
     mark-variable v = record { size = m .size; says = λ j l. m .says j l ∙ sym (named-next j ∙ rw (v, or-false (any (names j) ts))) }
 
-    pub mark-operation : isVariable t ≡ false → t .left < mostTerms → t .right < mostTerms → Marked (ts ++ t ∷ []) (set (set table (t .left) true) (t .right) true)
+    pub mark-operation : isVariable t ≡ false → t .left < mostTerms → t .right < mostTerms → MarkedNamed (ts ++ t ∷ []) (set (set table (t .left) true) (t .right) true)
     mark-operation v left right = record {
       size = length-set (set table (t .left) true) (t .right) true ∙ length-set table (t .left) true ∙ m .size;
       says = λ j l. go j l (ℕ-discrete j (t .left)) (ℕ-discrete j (t .right)) ∙ sym (named-next j ∙ rw v);

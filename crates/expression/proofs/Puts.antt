@@ -25,10 +25,10 @@ use Rattle.rules.proofs.Passed.{getD-past}
 use Rattle.rules.proofs.ExpressionPassed.{OperationAt, Proper, passed}
 use Rattle.rules.proofs.ExpressionGraph.{length-graph, number-low}
 use Rattle.rules.proofs.ExpressionPut.{length-put, put-variable, put-operation, graphs-put}
-use Rattle.expression.specs.Tables.{Numbered}
+use Rattle.expression.specs.Tables.{NumberedRecords}
 use Rattle.expression.proofs.Terms.{length-terms, at-terms}
 
-module _ {s numbers : List ℕ} (h : Numbered s numbers) (i : ℕ) (low : i < length (expressionOf s)) (t : Term) (told : t ≡ termIn s i) where
+module _ {s numbers : List ℕ} (h : NumberedRecords s numbers) (i : ℕ) (low : i < length (expressionOf s)) (t : Term) (told : t ≡ termIn s i) where
   abbrev ts : List Term
   ts = expressionOf s
 
@@ -44,21 +44,21 @@ module _ {s numbers : List ℕ} (h : Numbered s numbers) (i : ℕ) (low : i < le
       let o : OperationAt ts i = passed s (h .passed) .operation i low (rw at-i v) in
       (rw at-i at (o .left), rw at-i at (o .right))
 
-  module _ (to : Destination) (g : List Instruction) (size : length g ≡ suc (length ts)) (rest before after : List ℕ) (is : before ≡ joined Graph.encode g ++ rest) where
+  module _ (to : Destination) (g : List Instruction) (size : length g ≡ suc (length ts)) (rest before after : List ℕ) (is : before ≡ joined Graph.encodeInstruction g ++ rest) where
     abbrev own : List Instruction
     own = set g (instructionFor ts i) (sending (codeFor (termAt ts i)) to)
 
     -- its own instruction
-    pub puts-own : (r : Instruction) → r ≡ sending (codeFor t) to → after ≡ putRow graphWidth before (getD numbers i 0) (Graph.encode r) → after ≡ joined Graph.encode own ++ rest
+    pub puts-own : (r : Instruction) → r ≡ sending (codeFor t) to → after ≡ putRow graphWidth before (getD numbers i 0) (Graph.encodeInstruction r) → after ≡ joined Graph.encodeInstruction own ++ rest
     puts-own r e put =
         let m = number-low ts i low in
-        put ∙ rw (h .says i low, e, is, at-i) (put-joined graphWidth Graph.encode length-instruction g rest (instructionFor ts i) (sending (codeFor t) to) (omega arith))
+        put ∙ rw (h .says i low, e, is, at-i) (put-joined graphWidth Graph.encodeInstruction length-instruction g rest (instructionFor ts i) (sending (codeFor t) to) (omega arith))
 
     pub length-own : length own ≡ suc (length ts)
     length-own = length-set g (instructionFor ts i) (sending (codeFor (termAt ts i)) to) ∙ size
 
-    pub puts-variable : isVariable t ≡ true → after ≡ joined Graph.encode own ++ rest → after ≡ joined Graph.encode (putAt ts i to g) ++ rest
-    puts-variable v e = e ∙ ap (λ (x : List Instruction). joined Graph.encode x ++ rest) (sym (put-variable ts (passed s (h .passed)) i (rw at-i v) to g))
+    pub puts-variable : isVariable t ≡ true → after ≡ joined Graph.encodeInstruction own ++ rest → after ≡ joined Graph.encodeInstruction (putAt ts i to g) ++ rest
+    puts-variable v e = e ∙ ap (λ (x : List Instruction). joined Graph.encodeInstruction x ++ rest) (sym (put-variable ts (passed s (h .passed)) i (rw at-i v) to g))
 
     -- then those that it names
     abbrev left-to : Destination
@@ -73,10 +73,10 @@ module _ {s numbers : List ℕ} (h : Numbered s numbers) (i : ℕ) (low : i < le
     pub length-lefts : length lefts ≡ suc (length ts)
     length-lefts = length-put (suc (t .left)) ts (t .left) left-to own ∙ length-own
 
-    pub puts-operation : isVariable t ≡ false → after ≡ joined Graph.encode (putAt ts (t .right) right-to lefts) ++ rest → after ≡ joined Graph.encode (putAt ts i to g) ++ rest
+    pub puts-operation : isVariable t ≡ false → after ≡ joined Graph.encodeInstruction (putAt ts (t .right) right-to lefts) ++ rest → after ≡ joined Graph.encodeInstruction (putAt ts i to g) ++ rest
     puts-operation v e =
         let same : putAt ts (t .right) right-to lefts ≡ putAt ts i to g = rw (h .says i low, ← at-i) (sym (put-operation ts (passed s (h .passed)) i low (rw at-i v) to g)) in
-        e ∙ ap (λ (x : List Instruction). joined Graph.encode x ++ rest) same
+        e ∙ ap (λ (x : List Instruction). joined Graph.encodeInstruction x ++ rest) same
 
 -- ---- bytes that are lent are those of some instructions
 
@@ -88,9 +88,9 @@ take-bytes n l long b k = go (decLe (suc k) n)
     go (no h) = rw (getD-past (take n l) k 0 (omega (arith, length-take-le n l long))) (omega arith)
 
 abbrev first : List ℕ → Instruction
-first l = Graph.decode (take graphWidth l)
+first l = Graph.decodeInstruction (take graphWidth l)
 
-lent-rows : (n : ℕ) (l : List ℕ) → Bytes l → n * graphWidth ≤ length l → joined Graph.encode (rows graphWidth first n l) ≡ take (n * graphWidth) l
+lent-rows : (n : ℕ) (l : List ℕ) → Bytes l → n * graphWidth ≤ length l → joined Graph.encodeInstruction (rows graphWidth first n l) ≡ take (n * graphWidth) l
 lent-rows zero l b long = refl
 lent-rows (suc n) l b long =
     let enough : n * graphWidth + graphWidth ≤ length l = rw (suc-mul n graphWidth) at long in
@@ -113,18 +113,18 @@ module _ (s : List ℕ) (ok : checkExpression s ≡ Passed) (lent : List ℕ) (b
   pub length-lent : length lentGraph ≡ suc (length us)
   length-lent = length-rows graphWidth first (suc (length us)) lent
 
-  pub lent-is : lent ≡ joined Graph.encode lentGraph ++ behind
+  pub lent-is : lent ≡ joined Graph.encodeInstruction lentGraph ++ behind
   lent-is = sym (rw (lent-rows (suc (length us)) lent b (omega arith)) (take-append-drop (suc (length us) * graphWidth) lent))
 
   -- OUT is put first
-  pub out-put : (after : List ℕ) (n : ℕ) → n ≡ length us → (r : Instruction) → r ≡ out → after ≡ putRow graphWidth lent n (Graph.encode r) → after ≡ joined Graph.encode (set lentGraph (outFor us) out) ++ behind
+  pub out-put : (after : List ℕ) (n : ℕ) → n ≡ length us → (r : Instruction) → r ≡ out → after ≡ putRow graphWidth lent n (Graph.encodeInstruction r) → after ≡ joined Graph.encodeInstruction (set lentGraph (outFor us) out) ++ behind
   out-put after n e r f put =
-      put ∙ rw (e, f) (ap (λ (l : List ℕ). putRow graphWidth l (length us) (Graph.encode out)) lent-is
-      ∙ put-joined graphWidth Graph.encode length-instruction lentGraph behind (length us) out (omega (arith, length-lent)))
+      put ∙ rw (e, f) (ap (λ (l : List ℕ). putRow graphWidth l (length us) (Graph.encodeInstruction out)) lent-is
+      ∙ put-joined graphWidth Graph.encodeInstruction length-instruction lentGraph behind (length us) out (omega (arith, length-lent)))
 
   pub whole-graph : (after : List ℕ) (n : ℕ) → n ≡ length us
-      → after ≡ joined Graph.encode (putAt us (n - 1) (record { instruction = n; port = 0 }) (set lentGraph (outFor us) out)) ++ behind → after ≡ writtenOver Graph.encode (graphFor us) lent
+      → after ≡ joined Graph.encodeInstruction (putAt us (n - 1) (record { instruction = n; port = 0 }) (set lentGraph (outFor us) out)) ++ behind → after ≡ writtenOver Graph.encodeInstruction (graphFor us) lent
   unfolding putGraph
   whole-graph after n e put =
-      let size : length (joined Graph.encode (graphFor us)) ≡ suc (length us) * graphWidth = length-joined graphWidth Graph.encode length-instruction (graphFor us) ∙ ap (λ (m : ℕ). m * graphWidth) (length-graph us) in
-      put ∙ rw (e, size) (ap (λ (x : List Instruction). joined Graph.encode x ++ behind) (graphs-put s ok lentGraph length-lent))
+      let size : length (joined Graph.encodeInstruction (graphFor us)) ≡ suc (length us) * graphWidth = length-joined graphWidth Graph.encodeInstruction length-instruction (graphFor us) ∙ ap (λ (m : ℕ). m * graphWidth) (length-graph us) in
+      put ∙ rw (e, size) (ap (λ (x : List Instruction). joined Graph.encodeInstruction x ++ behind) (graphs-put s ok lentGraph length-lent))

@@ -37,7 +37,7 @@ use Rattle.rules.specs.declared.answer.Made.the-variants.{Records, Refused}
 use Rattle.rules.specs.Fits.{AllFit}
 use Rattle.rules.specs.Run.{tokenRecord, outcomeOf, ranTo, Result, result, answer, ledgerAfter, Ran}
 use Rattle.rules.specs.Runs.{LentToRun, LeftByRun, RanOn}
-use Rattle.rules.specs.Expression.{isVariable, count, graphFor, graphBytes, inputsFor, inputBytes, variablesOf, valueOf, checkExpression, checkMade, checkValues, madeOf, outputOf, MadeFrom, evaluatedOf, evaluated, ValuesFor, machineFor, Received, Evaluates}
+use Rattle.rules.specs.Expression.{isVariable, count, graphFor, graphBytes, inputsFor, inputBytes, variablesOf, expressionValue, checkExpression, checkMade, checkValues, madeOf, outputOf, MadeFrom, evaluatedOf, evaluated, ValuesFor, expressionMachine, Received, EvaluatesExpression}
 use Rattle.rules.proofs.ExpressionPassed.{Proper, passed}
 use Rattle.rules.proofs.ExpressionGraph.{length-graph}
 use Rattle.rules.proofs.ExpressionAccepted.{fits, inputs-fit, few-values}
@@ -65,8 +65,8 @@ module _ (expression lent output : List ℕ) (n : ℕ) (made : MadeFrom expressi
       go (Failed r p) e a o = let z : _≡_ {A = ℕ} 0 1 = cc in absurd (omega arith)
       go Passed e a o =
           let same : n ≡ length ts = cc in
-          let size : length (joined Graph.encode (graphFor ts)) ≡ suc n * graphWidth = length-joined graphWidth Graph.encode length-instruction (graphFor ts) ∙ ap (λ (m : ℕ). m * graphWidth) (length-graph ts ∙ ap suc (sym same)) in
-          record { passed = e; many = same; graph = ap (take (suc n * graphWidth)) o ∙ take-at (joined Graph.encode (graphFor ts)) _ (suc n * graphWidth) size }
+          let size : length (joined Graph.encodeInstruction (graphFor ts)) ≡ suc n * graphWidth = length-joined graphWidth Graph.encodeInstruction length-instruction (graphFor ts) ∙ ap (λ (m : ℕ). m * graphWidth) (length-graph ts ∙ ap suc (sym same)) in
+          record { passed = e; many = same; graph = ap (take (suc n * graphWidth)) o ∙ take-at (joined Graph.encodeInstruction (graphFor ts)) _ (suc n * graphWidth) size }
 
 -- ---- the values of the variables
 
@@ -112,7 +112,7 @@ module _ (e : End Refusal Tag ℤ) (lent : List ℕ) (x : LeftByRun) (answered :
       let rs = map tokenRecord (e .state .tokens) in
       let n : length rs ≡ length (e .state .tokens) = length-map (e .state .tokens) tokenRecord in
       let back : tokens (length rs) (x .ledger) ≡ rs = ap (tokens (length rs)) left ∙ tokens-joined rs _ fit in
-      sym (getD-rows tokenWidth Tokens.decode (length rs) i (x .ledger) (tokenRecord t) (omega arith))
+      sym (getD-rows tokenWidth Tokens.decodeToken (length rs) i (x .ledger) (tokenRecord t) (omega arith))
       ∙ ap (λ (ys : List Record.Token). getD ys i (tokenRecord t)) back ∙ mapped (e .state .tokens) i low ∙ ap tokenRecord (there t)
     where
       mapped : (ts : List (Token Tag ℤ)) (i : ℕ) → i < length ts → getD (map tokenRecord ts) i (tokenRecord t) ≡ tokenRecord (getD ts i t)
@@ -124,7 +124,7 @@ module _ (e : End Refusal Tag ℤ) (lent : List ℕ) (x : LeftByRun) (answered :
     out-received : (v : ℤ) → Received ts capacity cells v e → OutReceived (length ts) v x
     unfolding answer
     out-received v r =
-        let M = machineFor ts capacity cells in
+        let M = expressionMachine ts capacity cells in
         let (i, low, there) = found-at M (at M (rootOf (length ts)) 0) (live v) (e .state .tokens) (r .received) in
         record {
           completed = ap (λ (a : Answer). a .outcome) answered ∙ ap outcomeOf (r .outcome);
@@ -134,7 +134,7 @@ module _ (e : End Refusal Tag ℤ) (lent : List ℕ) (x : LeftByRun) (answered :
           received = token-left i low (record { key = record { tag = rootOf (length ts); port = 0 }; content = live v }) there;
         }
 
-    gives : (c : Computed) → Evaluates ts capacity cells c e → Gives (evaluatedOf Passed c) (length ts) x
+    gives : (c : Computed) → EvaluatesExpression ts capacity cells c e → Gives (evaluatedOf Passed c) (length ts) x
     unfolding answer
     gives (Value v) r = out-received v r
     gives OutOfRange (place, r) = (place, ap (λ (a : Answer). a .outcome) answered ∙ ap outcomeOf r)
@@ -166,4 +166,4 @@ expressions-run expression values lent output n made bytes passed-both l x allow
     let all = result-fits (graphBytes ts) [] (inputBytes vs) (l .picks) 2048 (length (l .ledger)) (length (l .cells)) (graph-bytes ts (passed expression ok)) (input-bytes ts (passed expression ok) vs fit) in
     let small = subst (λ (q : Result). AllFit q (capacityOf (length (l .ledger))) (length (l .cells) / cellWidth)) is all in
     rw (passed-both, w .many)
-    (gives e (l .ledger) x (ran′ .answered) (ran′ .ledgerLeft) (small .tokens) ts (capacityOf (length (l .ledger))) (length (l .cells) / cellWidth) (valueOf ts vs) r)
+    (gives e (l .ledger) x (ran′ .answered) (ran′ .ledgerLeft) (small .tokens) ts (capacityOf (length (l .ledger))) (length (l .cells) / cellWidth) (expressionValue ts vs) r)

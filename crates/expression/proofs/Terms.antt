@@ -10,7 +10,7 @@ use borrow.Author.Tests.{leb-true, eqb-true}
 use Rattle.buffer.specs.Rows.{whole}
 use Rattle.buffer.proofs.Tables.{length-rows, getD-rows}
 use Rattle.record.specs.declared.term.Term.{Term}
-use Rattle.record.specs.ExpressionRecords.{decode, expressionOf, termIn}
+use Rattle.record.specs.ExpressionRecords.{decodeTerm, expressionOf, termIn}
 use Rattle.record.specs.Widths.{termWidth, graphWidth, valueWidth}
 use Rattle.rules.specs.declared.answer.Refusal.the-variants.{BadStore, GraphTooLong}
 use Rattle.rules.specs.declared.answer.Checked.the-variants.{Passed}
@@ -21,16 +21,16 @@ use Rattle.rules.proofs.ExpressionPassed.{passed}
 use Rattle.check_fields.proofs.Turns.{both-passed, demanded}
 
 pub length-terms : (l : List ℕ) → length (expressionOf l) ≡ length l / termWidth
-length-terms l = length-rows termWidth decode (length l / termWidth) l
+length-terms l = length-rows termWidth decodeTerm (length l / termWidth) l
 
 module _ (l : List ℕ) (i : ℕ) (h : i < length l / termWidth) where
   -- whatever stands past the expression
   pub in-terms : (d : Term) → getD (expressionOf l) i d ≡ termIn l i
-  in-terms d = getD-rows termWidth decode (length l / termWidth) i l d h
+  in-terms d = getD-rows termWidth decodeTerm (length l / termWidth) i l d h
 
   pub at-terms : termAt (expressionOf l) i ≡ termIn l i
   unfolding termAt
-  at-terms = in-terms (decode [])
+  at-terms = in-terms (decodeTerm [])
 
 -- "1 to 100 records"
 module _ (n : ℕ) (e : isExpressionLength n ≡ true) where

@@ -12,10 +12,10 @@ use Rattle.rules.specs.Expression.{termAt, isVariable, count, arithmeticOf, com
 use Rattle.rules.proofs.ExpressionPassed.{passed}
 use Rattle.rules.proofs.ExpressionGraph.{variable-number, variable-low}
 use Rattle.rules.proofs.ExpressionTree.{variable-value, operation-value}
-use Rattle.expression.specs.Tables.{Numbered}
+use Rattle.expression.specs.Tables.{NumberedRecords}
 use Rattle.expression.proofs.Puts.{at-i}
 
-module _ {s numbers : List ℕ} (h : Numbered s numbers) (i : ℕ) (low : i < length (expressionOf s)) (t : Term) (told : t ≡ termIn s i) where
+module _ {s numbers : List ℕ} (h : NumberedRecords s numbers) (i : ℕ) (low : i < length (expressionOf s)) (t : Term) (told : t ≡ termIn s i) where
   abbrev ts : List Term
   ts = expressionOf s
 

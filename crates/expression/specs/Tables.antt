@@ -12,7 +12,7 @@ use Rattle.rules.specs.Check.{any}
 use Rattle.rules.specs.Expression.{mostTerms, isOperation, names, instructionFor, checkExpression}
 
 -- the table has the numbers that some records name
-pub record Marked (ts : List Term) (table : List Bool) : Type 0 where
+pub record MarkedNamed (ts : List Term) (table : List Bool) : Type 0 where
   pub size : length table ≡ mostTerms
   pub says : (j : ℕ) → j < mostTerms → getD table j false ≡ any (names j) ts
 
@@ -21,7 +21,7 @@ abbrev pub NamesInside : Term → Type 0
 NamesInside t = isOperation t ≡ true → (t .left < mostTerms) × (t .right < mostTerms)
 
 -- the table has the instruction of each record of an expression that passed
-pub record Numbered (expression table : List ℕ) : Type 0 where
+pub record NumberedRecords (expression table : List ℕ) : Type 0 where
   pub passed : checkExpression expression ≡ Passed
   pub size : length table ≡ mostTerms
   pub says : (i : ℕ) → i < length (expressionOf expression) → getD table i 0 ≡ instructionFor (expressionOf expression) i

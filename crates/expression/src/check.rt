@@ -6,16 +6,14 @@ use record::term::Term;
 use rules::answer::Checked;
 use rules::answer::Refusal;
 ghost use mathlib.Core.Path.{_≡_};
-ghost use mathlib.Core.Bool.{true, _||_};
+ghost use mathlib.Core.Bool.{true};
 ghost use mathlib.Core.List.{List, [], _∷_, _++_};
-ghost use Prim.Native.Nat.{suc, _≤_, _<_};
-ghost use lib.ListN.{length, take};
-ghost use lib.Dec.{eqb};
+ghost use Prim.Native.Nat.{_≤_};
+ghost use lib.ListN.{length};
 ghost use Rattle.record.specs.ExpressionRecords.{expressionOf};
 ghost use Rattle.rules.specs.declared.answer.Checked.the-variants.{Passed};
-ghost use Rattle.rules.specs.Check.{demand, any, inTurn};
-ghost use Rattle.rules.specs.Expression.{mostTerms, isExpressionLength, names, goodTerm, checkExpression, checkMade, checkValues};
-ghost use Rattle.expression.specs.Tables.{Marked, NamesInside};
+ghost use Rattle.rules.specs.Expression.{mostTerms, isExpressionLength, goodTerm, checkExpression, checkMade, checkValues, checkGoodTerms, checkNamed};
+ghost use Rattle.expression.specs.Tables.{MarkedNamed, NamesInside};
 
 // The most records of an expression.
 pub const MOST: usize = 100;
@@ -29,7 +27,7 @@ fn good_length(len: usize) -> bool
 // Whether record i is as it may be, where the table has what the records before it name.
 fn good_term(named: &[bool; MOST], i: usize, t: Term) -> bool
     requires { ⌜ i ≤ mostTerms ⌝ }
-    ensures { λ r. ⌜ ((earlier : List Term) → Marked earlier (now (named .entry)) → r ≡ goodTerm earlier i t) ⌝ }
+    ensures { λ r. ⌜ ((earlier : List Term) → MarkedNamed earlier (now (named .entry)) → r ≡ goodTerm earlier i t) ⌝ }
 {
     let left = t.left as usize;
     let right = t.right as usize;
@@ -47,7 +45,7 @@ fn good_term(named: &[bool; MOST], i: usize, t: Term) -> bool
 // Adds what a record names to the table.
 fn mark(named: &mut [bool; MOST], t: Term)
     requires { ⌜ NamesInside t ⌝ }
-    ensures { λ _. ⌜ ((ts : List Term) → Marked ts (now (named .entry)) → Marked (ts ++ t ∷ []) (now (named .exit))) ⌝ }
+    ensures { λ _. ⌜ ((ts : List Term) → MarkedNamed ts (now (named .entry)) → MarkedNamed (ts ++ t ∷ []) (now (named .exit))) ⌝ }
 {
     if t.kind == 0 {
         return;
@@ -60,9 +58,9 @@ fn mark(named: &mut [bool; MOST], t: Term)
 
 // The first record with a bad field or naming one already named; the table then has what all name.
 fn terms(expression: &[u8], named: &mut [bool; MOST]) -> Checked
-    requires { ⌜ (isExpressionLength (length (now expression)) ≡ true) × Marked [] (now named) ⌝ }
-    ensures { λ c. ⌜ c ≡ inTurn (λ i t. demand (goodTerm (take i (expressionOf (now (expression .entry)))) i t) Refusal.BadExpression i) 0 (expressionOf (now (expression .entry))) ⌝ }
-    ensures { λ c. ⌜ (c ≡ Passed → Marked (expressionOf (now (expression .entry))) (now (named .exit))) ⌝ }
+    requires { ⌜ (isExpressionLength (length (now expression)) ≡ true) × MarkedNamed [] (now named) ⌝ }
+    ensures { λ c. ⌜ c ≡ checkGoodTerms (expressionOf (now (expression .entry))) ⌝ }
+    ensures { λ c. ⌜ (c ≡ Passed → MarkedNamed (expressionOf (now (expression .entry))) (now (named .exit))) ⌝ }
 {
     let mut i = 0;
     while i < expression.len() / term::WIDTH {
@@ -78,8 +76,8 @@ fn terms(expression: &[u8], named: &mut [bool; MOST]) -> Checked
 
 // The first record never named, of all but the last.
 fn all_named(expression: &[u8], named: &[bool; MOST]) -> Checked
-    requires { ⌜ (isExpressionLength (length (now expression)) ≡ true) × Marked (expressionOf (now expression)) (now named) ⌝ }
-    ensures { λ c. ⌜ c ≡ inTurn (λ j t. demand (eqb (suc j) (length (expressionOf (now (expression .entry)))) || any (names j) (expressionOf (now (expression .entry)))) Refusal.BadExpression j) 0 (expressionOf (now (expression .entry))) ⌝ }
+    requires { ⌜ (isExpressionLength (length (now expression)) ≡ true) × MarkedNamed (expressionOf (now expression)) (now named) ⌝ }
+    ensures { λ c. ⌜ c ≡ checkNamed (expressionOf (now (expression .entry))) ⌝ }
 {
     let mut j = 0;
     while j + 1 < expression.len() / term::WIDTH {

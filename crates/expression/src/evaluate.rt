@@ -11,8 +11,8 @@ ghost use lib.IntN.{pos};
 ghost use Rattle.record.specs.ExpressionRecords.{expressionOf};
 ghost use Rattle.record.specs.Widths.{valueWidth};
 ghost use Rattle.rules.specs.declared.answer.Checked.the-variants.{Passed};
-ghost use Rattle.rules.specs.Expression.{arithmeticOf, combined, variablesOf, isVariable, count, valueAt, valueOf, checkValues};
-ghost use Rattle.expression.specs.Tables.{Numbered};
+ghost use Rattle.rules.specs.Expression.{arithmeticOf, combined, variablesOf, isVariable, count, valueAt, expressionValue, checkValues};
+ghost use Rattle.expression.specs.Tables.{NumberedRecords};
 
 fn arithmetic_of(kind: u8) -> Arithmetic
     ensures { λ r. ⌜ r ≡ arithmeticOf kind ⌝ }
@@ -52,7 +52,8 @@ fn variable(values: &[u8], k: usize) -> i32
 
 // The value of record i.
 fn value_at(expression: &[u8], numbers: &[u16; MOST], values: &[u8], i: usize) -> Computed
-    requires { ⌜ Numbered (now expression) (now numbers) × (i < length (expressionOf (now expression))) × (length (now values) / valueWidth ≡ count isVariable (expressionOf (now expression))) ⌝ }
+    requires { ⌜ NumberedRecords (now expression) (now numbers) × (i < length (expressionOf (now expression)))
+        × (length (now values) / valueWidth ≡ count isVariable (expressionOf (now expression))) ⌝ }
     ensures { λ r. ⌜ r ≡ valueAt (expressionOf (now (expression .entry))) (variablesOf (now (values .entry))) i ⌝ }
 {
     let t = term::term_at(expression, i);
@@ -67,7 +68,7 @@ fn value_at(expression: &[u8], numbers: &[u16; MOST], values: &[u8], i: usize) -
 // The value of the last record.
 pub fn whole(expression: &[u8], values: &[u8]) -> Computed
     requires { ⌜ checkValues (now expression) (length (now values)) ≡ Passed ⌝ }
-    ensures { λ r. ⌜ r ≡ valueOf (expressionOf (now (expression .entry))) (variablesOf (now (values .entry))) ⌝ }
+    ensures { λ r. ⌜ r ≡ expressionValue (expressionOf (now (expression .entry))) (variablesOf (now (values .entry))) ⌝ }
 {
     let numbers = numbers::numbers(expression);
     value_at(

@@ -11,7 +11,7 @@ ghost use Rattle.record.specs.ExpressionRecords.{expressionOf};
 ghost use Rattle.record.specs.Widths.{termWidth};
 ghost use Rattle.rules.specs.declared.answer.Checked.the-variants.{Passed};
 ghost use Rattle.rules.specs.Expression.{isVariable, count, checkExpression};
-ghost use Rattle.expression.specs.Tables.{Numbered};
+ghost use Rattle.expression.specs.Tables.{NumberedRecords};
 
 // 1 for a variable.
 fn variable_of(t: Term) -> usize
@@ -47,7 +47,7 @@ fn number_of(t: Term, before: usize, i: usize, n: usize) -> usize
 
 pub fn numbers(expression: &[u8]) -> [u16; MOST]
     requires { ⌜ checkExpression (now expression) ≡ Passed ⌝ }
-    ensures { λ r. ⌜ Numbered (now (expression .entry)) r ⌝ }
+    ensures { λ r. ⌜ NumberedRecords (now (expression .entry)) r ⌝ }
 {
     let n = variables(expression);
     let mut numbers = [0u16; MOST];

@@ -18,7 +18,7 @@ ghost use Rattle.record.specs.Widths.{graphWidth};
 ghost use Rattle.rules.specs.declared.answer.Checked.the-variants.{Passed};
 ghost use Rattle.rules.specs.Expression.{codeFor, graphFor, putAt, checkMade};
 ghost use Rattle.rules.specs.Expression as Expression;
-ghost use Rattle.expression.specs.Tables.{Numbered};
+ghost use Rattle.expression.specs.Tables.{NumberedRecords};
 
 // An instruction without a constant that sends to one destination, or to none.
 fn instruction_of(code: u8, fanout: u8, to: Destination) -> Instruction
@@ -46,8 +46,11 @@ fn code_of(t: Term) -> u8
 
 // Puts the instruction of record i, which sends to `to`, those of the records that it names, and so on.
 fn put(expression: &[u8], numbers: &[u16; MOST], i: usize, to: Destination, graph: &mut [u8])
-    requires { ⌜ Numbered (now expression) (now numbers) × (i < length (expressionOf (now expression))) × (graphWidth * suc (length (expressionOf (now expression))) ≤ length (now graph)) ⌝ }
-    ensures { λ _. ⌜ ((g : List Instruction) (rest : List ℕ) → length g ≡ suc (length (expressionOf (now (expression .entry)))) → now (graph .entry) ≡ joined Graph.encode g ++ rest → now (graph .exit) ≡ joined Graph.encode (putAt (expressionOf (now (expression .entry))) i to g) ++ rest) ⌝ }
+    requires { ⌜ NumberedRecords (now expression) (now numbers) × (i < length (expressionOf (now expression)))
+        × (graphWidth * suc (length (expressionOf (now expression))) ≤ length (now graph)) ⌝ }
+    ensures { λ _. ⌜ ((g : List Instruction) (rest : List ℕ)
+        → length g ≡ suc (length (expressionOf (now (expression .entry)))) → now (graph .entry) ≡ joined Graph.encodeInstruction g ++ rest
+        → now (graph .exit) ≡ joined Graph.encodeInstruction (putAt (expressionOf (now (expression .entry))) i to g) ++ rest) ⌝ }
 {
     let t = term::term_at(expression, i);
     let number = numbers[i];
@@ -71,7 +74,7 @@ fn put(expression: &[u8], numbers: &[u16; MOST], i: usize, to: Destination, grap
 // Writes the graph: OUT, then from the last record down, which sends to it.
 pub fn write(expression: &[u8], graph: &mut [u8])
     requires { ⌜ checkMade (now expression) (length (now graph)) ≡ Passed ⌝ }
-    ensures { λ _. ⌜ now (graph .exit) ≡ writtenOver Graph.encode (graphFor (expressionOf (now (expression .entry)))) (now (graph .entry)) ⌝ }
+    ensures { λ _. ⌜ now (graph .exit) ≡ writtenOver Graph.encodeInstruction (graphFor (expressionOf (now (expression .entry)))) (now (graph .entry)) ⌝ }
 {
     let numbers = numbers::numbers(expression);
     let n = expression.len() / term::WIDTH;

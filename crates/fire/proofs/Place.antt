@@ -16,15 +16,15 @@ use Rattle.record.specs.declared.token.Token.{Token}
 use Rattle.record.specs.declared.token.Content.the-variants.{Live}
 use Rattle.record.specs.declared.instruction.Instruction.{Instruction}
 use Rattle.record.specs.GraphRecords.{operandsOf, graphOf}
-use Rattle.record.specs.TokensAndTags.{decode, tokens, tokenAt, standsAt}
+use Rattle.record.specs.TokensAndTags.{decodeToken, tokens, tokenAt, standsAt}
 use Rattle.buffer.proofs.Tables.{length-rows, getD-rows}
 use Rattle.record.specs.Widths.{tokenWidth}
 use Rattle.store_chains.specs.declared.Found.{Found}
 use Rattle.store_chains.specs.declared.Found.the-variants.{At, Nothing}
 use Rattle.store_chains.specs.Search.{firstFrom}
 use Rattle.store_chains.proofs.Index.{and-left, and-right}
-use Rattle.store_enabled.specs.Enabled.{isLive, arityOf, isEnabled, placeOf, leads}
-use Rattle.store_enabled.specs.Store.{lower, Operands}
+use Rattle.store_enabled.specs.Enabled.{isLiveRecord, arityOf, isEnabled, earliestOf, leadsIn}
+use Rattle.store_enabled.specs.Store.{lower, OperandPlaces}
 use Rattle.store_enabled.proofs.Places.{first-place, lower-first, lower-second}
 use Rattle.store_enabled.proofs.Store.{all-at}
 use Rattle.rules.specs.Check.{instructionAt, operandsAt}
@@ -49,20 +49,20 @@ on-ports g (t ∷ ts) a = (on-port g t (a .0), on-ports g ts (a .1))
 
 module _ {graph tables links flags ledger cells : List ℕ} {used : ℕ} (ready : Prepared graph tables)
     (now : Running (graphOf graph) tables links flags ledger cells used) (place : ℕ) (within : place < used)
-    (first : leads tables (tokens used ledger) place (tokenAt ledger place) ≡ true) where
+    (first : leadsIn tables (tokens used ledger) place (tokenAt ledger place) ≡ true) where
   pub earliest-here : (t : Token) (a : ℕ) → t ≡ tokenAt ledger place → a ≡ arityOf tables (t .tag) → Earliest a (tokens used ledger) (t .tag) place
   earliest-here t a e f =
       let ts = tokens used ledger in
-      let there : getD ts place noToken ≡ t = getD-rows tokenWidth decode used place ledger noToken within ∙ sym e in
-      let inside : place < length ts = omega (arith, length-rows tokenWidth decode used ledger) in
+      let there : getD ts place noToken ≡ t = getD-rows tokenWidth decodeToken used place ledger noToken within ∙ sym e in
+      let inside : place < length ts = omega (arith, length-rows tokenWidth decodeToken used ledger) in
       let arity : a ≡ arityIn (graphOf graph) (t .tag) = f ∙ ready .aritiesRight (t .tag) in
       let here = all-at (λ (u : Token). 0 < arityIn (graphOf graph) (u .tag) → u .port < arityIn (graphOf graph) (u .tag)) ts place noToken inside (on-ports (graphOf graph) ts (now .arrived)) in
-      let lead : leads tables ts place t ≡ true = subst (λ (u : Token). leads tables ts place u ≡ true) (sym e) first in
+      let lead : leadsIn tables ts place t ≡ true = subst (λ (u : Token). leadsIn tables ts place u ≡ true) (sym e) first in
       record {
         within = inside;
-        first = eqb-true (placeOf ts (t .tag)) place (and-left (eqb (placeOf ts (t .tag)) place) (isEnabled tables ts (t .tag)) lead);
+        first = eqb-true (earliestOf ts (t .tag)) place (and-left (eqb (earliestOf ts (t .tag)) place) (isEnabled tables ts (t .tag)) lead);
         waited = rw (there, arity) (rw there at here);
-        enabled = rw f (and-right (eqb (placeOf ts (t .tag)) place) (isEnabled tables ts (t .tag)) lead);
+        enabled = rw f (and-right (eqb (earliestOf ts (t .tag)) place) (isEnabled tables ts (t .tag)) lead);
       }
 
 -- ---- the operands that matching found
@@ -84,16 +84,16 @@ one-port g ts a τ one = go (firstFrom (standsAt τ 1) 0 ts) refl
 module _ (g : List Instruction) (ledger : List ℕ) (used : ℕ) (ports : All (λ (t : Token). t .port < 2) (tokens used ledger)) (arrived : Arrived g (tokens used ledger)) (τ : Tag) {i j : ℕ} {v w : ℤ}
     (p : Places (arityIn g τ) (tokens used ledger) τ i j v w) where
   size : length (tokens used ledger) ≡ used
-  size = length-rows tokenWidth decode used ledger
+  size = length-rows tokenWidth decodeToken used ledger
 
   read : (k : ℕ) → k < length (tokens used ledger) → getD (tokens used ledger) k noToken ≡ tokenAt ledger k
-  read k h = getD-rows tokenWidth decode used k ledger noToken (omega (arith, size))
+  read k h = getD-rows tokenWidth decodeToken used k ledger noToken (omega (arith, size))
 
   tag-at : (port k : ℕ) → k < length (tokens used ledger) → firstFrom (standsAt τ port) 0 (tokens used ledger) ≡ At k → tokenAt ledger k .tag ≡ τ
   tag-at port k h e = ap (λ (t : Token). t .tag) (sym (read k h)) ∙ stands-tag τ port (getD (tokens used ledger) k noToken) (search-at (standsAt τ port) noToken k (tokens used ledger) e .passes)
 
-  live-at : (k : ℕ) {x : ℤ} → k < length (tokens used ledger) → getD (tokens used ledger) k noToken .content ≡ Live x → isLive (tokenAt ledger k .content) ≡ true
-  live-at k h e = ap (λ (t : Token). isLive (t .content)) (sym (read k h)) ∙ ap isLive e
+  live-at : (k : ℕ) {x : ℤ} → k < length (tokens used ledger) → getD (tokens used ledger) k noToken .content ≡ Live x → isLiveRecord (tokenAt ledger k .content) ≡ true
+  live-at k h e = ap (λ (t : Token). isLiveRecord (t .content)) (sym (read k h)) ∙ ap isLiveRecord e
 
   first-tag : tokenAt ledger i .tag ≡ τ
   first-tag = tag-at 0 i (p .firstWithin) (p .firstFound)
@@ -102,13 +102,13 @@ module _ (g : List Instruction) (ledger : List ℕ) (used : ℕ) (ports : All (�
   second-tag = ⊎-elim (λ h. ap (λ (k : ℕ). tokenAt ledger k .tag) (h .1) ∙ first-tag) (λ h. tag-at 1 j (p .secondWithin) (h .1)) (p .secondFound)
 
   -- the earlier of the two is the first token of the tag
-  pub place-here : placeOf (tokens used ledger) τ ≡ lower i j
+  pub place-here : earliestOf (tokens used ledger) τ ≡ lower i j
   place-here = first-place τ used ledger ports ∙ rw (p .firstFound) (⊎-elim
       (λ h. rw (one-port g (tokens used ledger) arrived τ (h .0), h .1) (lower-first i used (omega (arith, size, p .firstWithin)) ∙ sym (lower-second i i (omega arith))))
       (λ h. rw (h .1))
       (p .secondFound))
 
-  pub operands-here : Operands ledger used i j
+  pub operands-here : OperandPlaces ledger used i j
   operands-here = record {
     firstWithin = omega (arith, size, p .firstWithin);
     secondWithin = omega (arith, size, p .secondWithin);

@@ -8,6 +8,7 @@ use mathlib.Core.List.{List, [], _∷_, _++_, map}
 use native.Mathlib.Omega.{arith}
 use lib.ListN.{length, getD, length-append, length-map, length-set}
 use lib.Dec.{eqb}
+use borrow.Author.Tests.{eqb-true}
 use lib.IntN.{ℤ}
 use Rattle.record.specs.declared.array.NamedArray.{NamedArray}
 use Rattle.record.specs.declared.tag.Tag.{Tag}
@@ -36,23 +37,25 @@ use Rattle.fire_effect.specs.declared.output.Key as EffectKey
 use Rattle.fire_effect.specs.declared.output.Outputs.{Outputs}
 use Rattle.fire_effect.specs.declared.operate.Action.{Action}
 use Rattle.fire_effect.specs.declared.operate.Action.the-variants.{Send, Read, Write}
-use Rattle.fire_effect.specs.Effects.{keyHeld, keysHeld, keysOf, actionHeld, Arrives, AllSent, Effected}
+use Rattle.fire_effect.specs.Effects.{keyHeld, keysHeld, outputKeys, actionHeld, Arrives, AllSent, Effected}
 use Rattle.fire_effect.proofs.Arrives.{arrives-port, arrives-inside}
 use Rattle.fire_effect.proofs.Does.{records}
 use Rattle.abstraction.proofs.Arities.{arity-small}
-use Rattle.store_enabled.specs.Enabled.{arityOf, leads}
+use Rattle.store_chains.proofs.Index.{and-left}
+use Rattle.store_enabled.specs.Enabled.{arityOf, isEnabled, earliestOf, leadsIn}
 use Rattle.abstraction.specs.Tables.{arraysIn}
 use Rattle.abstraction.specs.States.{noToken, stateHeld}
-use Rattle.fire_operands.specs.Operands.{Matched, Both, matchedAt, LowPortsBy, Verdict, Yes, No, admittedOf}
+use Rattle.fire_operands.specs.Operands.{Matched, Both, byPort, bothAt, matchedAt, LowPortsBy, Verdict, Yes, No, admittedOf}
 use Rattle.fire_operands.proofs.AsMachine.{valuesOf, Places, matched-places, held-operands}
-use Rattle.fire_outputs.specs.Outputs.{spendOne, spentAt, outputsBy, outputsOf, cellsIn, OnCells, contentBy, wokenBy, writesAgain, Kept, CellsKept, Fireable}
+use Rattle.fire_outputs.specs.Outputs.{spendOne, spentAt, outputsBy, outputTokens, cellsIn, OnCells, contentGiven, cellsBy, wokenBy, writesAgain, Kept, CellsKept, Fireable}
+use Rattle.fire_outputs.proofs.Laws.{spent-by-port}
 use Rattle.fire_commit.specs.declared.Fired.{Fired}
 use Rattle.fire_commit.specs.declared.Fired.the-variants as Fires
 use Rattle.fire_commit.specs.Commit.{Committed, done, refused, ifAdmitted, committedOf, CommittedTo, Fitting}
 use Rattle.fire_commit.proofs.AsMachine.{firedOf, commit-held}
 use Rattle.fire.proofs.Place.{place-here, operands-here}
 use Rattle.fire.proofs.Effects.{good-committed}
-use Rattle.fire.specs.Running.{machineFor, stateIn, Arrived, Running, asked, askedIn, Went, Stopped, Stepped, Prepared}
+use Rattle.fire.specs.Running.{machineOver, stateIn, Arrived, Running, asked, askedIn, Went, Stopped, Stepped, Prepared}
 
 -- ---- what holds of a token by its tag and port alone
 
@@ -108,7 +111,7 @@ on-cells n (Write c v) keys h = h
 -- what the code's commit requires of them
 pub fitting : (g : List Instruction) (table : List NamedArray) (cells : ℕ) (τ : Tag) (a b : ℤ) (x : Action) (o : Outputs) → Effected g table cells τ a b x o → Fitting cells x o
 fitting g table cells τ a b x o h =
-    (h .counted, low-ports g (o .count) (o .first) (o .second) (sent-keys (Arrives g) x (keysOf o) (h .arrives)), on-cells cells x (keysOf o) (h .cellsBelow))
+    (h .counted, low-ports g (o .count) (o .first) (o .second) (sent-keys (Arrives g) x (outputKeys o) (h .arrives)), on-cells cells x (outputKeys o) (h .cellsBelow))
 
 -- ---- tokens after a firing
 
@@ -145,8 +148,8 @@ module _ (g : List Instruction) (ts : List Record.Token) (h : Arrived g ts) (i j
   by-key : (t u : Record.Token) → t .tag ≡ u .tag → t .port ≡ u .port → P t → P u
   by-key t u p r l = rw (← p, ← r) l
 
-  with-outputs : (vs : List Record.Token) (o : Outputs) (x : RecordContent.Content) → All P vs → length vs ≡ length ts → All (Arrives g) (keysOf o) → Grown g (length ts) (done (vs ++ outputsOf x o) [])
-  with-outputs vs o x b e c = (all-append P vs (outputsOf x o) b (sent-arrive g (o .count) (o .first) (o .second) x c), omega (arith, length-append vs (outputsOf x o)))
+  with-outputs : (vs : List Record.Token) (o : Outputs) (x : RecordContent.Content) → All P vs → length vs ≡ length ts → All (Arrives g) (outputKeys o) → Grown g (length ts) (done (vs ++ outputTokens x o) [])
+  with-outputs vs o x b e c = (all-append P vs (outputTokens x o) b (sent-arrive g (o .count) (o .first) (o .second) x c), omega (arith, length-append vs (outputTokens x o)))
 
   length-woken : (a : Action) (us : List Record.Token) → length (wokenBy a us) ≡ length us
   length-woken (Send v) us = refl
@@ -158,20 +161,20 @@ module _ (g : List Instruction) (ts : List Record.Token) (h : Arrived g ts) (i j
   all-woken (Read c) us b = b
   all-woken (Write c v) us b = all-map P (woken c v) (λ t l. l) us b
 
-  pub grown : (capacity : ℕ) (cs : List RecordCell.Cell) (x : Action) (o : Outputs) → AllSent (Arrives g) (actionHeld x (keysOf o)) → Grown g (length ts) (committedOf capacity ts cs i j x o)
+  pub grown : (capacity : ℕ) (cs : List RecordCell.Cell) (x : Action) (o : Outputs) → AllSent (Arrives g) (actionHeld x (outputKeys o)) → Grown g (length ts) (committedOf capacity ts cs i j x o)
   unfolding committedOf
   grown capacity cs x o a =
       let us = spentAt i j ts in
-      let out = with-outputs (wokenBy x us) o (contentBy x cs) (all-woken x us (all-spent-at P by-key i j ts h)) (length-woken x us ∙ length-spent-at i j ts) (sent-keys (Arrives g) x (keysOf o) a) in
+      let out = with-outputs (wokenBy x us) o (contentGiven x cs) (all-woken x us (all-spent-at P by-key i j ts h)) (length-woken x us ∙ length-spent-at i j ts) (sent-keys (Arrives g) x (outputKeys o) a) in
       unless-again g (length ts) (writesAgain x cs) _ (if-admitted g (length ts) (admittedOf capacity ts o) _ out)
 
 -- ---- a firing
 
 -- an effect is what an action asks for, with these outputs: they arrive, its cell is one of the store, and a read has a key
 pub record Done (g : List Instruction) (cells : ℕ) (x : Action) (o : Outputs) (e : Effect Refusal Tag ℤ) : Type 0 where
-  pub held : actionHeld x (keysOf o) ≡ e
+  pub held : actionHeld x (outputKeys o) ≡ e
   pub counted : o .count ≤ 2
-  pub arrives : AllSent (Arrives g) (actionHeld x (keysOf o))
+  pub arrives : AllSent (Arrives g) (actionHeld x (outputKeys o))
   pub cellsBelow : CellsBelow cells e
   pub readsForSome : ReadsForSome e
 
@@ -181,7 +184,7 @@ module _ (graph : List ℕ) (passed : checkGraph graph ≡ Passed) {tables links
   g = graphOf graph
 
   abbrev M : Machine
-  M = machineFor (graphOf graph) tables ledger cells
+  M = machineOver (graphOf graph) tables ledger cells
 
   abbrev s : State Tag ℤ
   s = stateIn ledger cells used
@@ -226,7 +229,7 @@ module _ (graph : List ℕ) (passed : checkGraph graph ≡ Passed) {tables links
                     (subst (λ (b : ℕ). Good (machineOf (graphOf graph) (arraysIn tables) (length ledger / tokenWidth) (b / cellWidth)) (stateIn ledger′ cells′ n)) (sym (c .size))
                     (subst (λ (x : State Tag ℤ). Good M x) same (good-after (stateHeld us ds) f)));
               };
-              grown = omega (arith, a .1, length-rows tokenWidth Tokens.decode used ledger, length-rows tokenWidth Tokens.decode n ledger′, ap length (k .held));
+              grown = omega (arith, a .1, length-rows tokenWidth Tokens.decodeToken used ledger, length-rows tokenWidth Tokens.decodeToken n ledger′, ap length (k .held));
               size = k .size;
               rest = k .rest;
               cellSize = c .size;
@@ -260,6 +263,22 @@ module _ (graph : List ℕ) (passed : checkGraph graph ≡ Passed) {tables links
             go (Fires.Refused q) (done us ds) f a l = absurd l
             go (Fires.Refused q) (refused p) f a l = stopped q (f ∙ ap notFired (sym (l .0))) (l .1) (l .2) (l .3)
 
+-- ---- operands by ports
+
+sum-by-port : (port p q : ℕ) → p + q ≡ byPort port p q + byPort port q p
+sum-by-port port p q = go (eqb port 0)
+  where
+    go : (b : Bool) → p + q ≡ cond b p q + cond b q p
+    go true = refl
+    go false = omega arith
+
+pub committed-by-port : (port p q capacity : ℕ) (ts : List Record.Token) (cs : List RecordCell.Cell) (x : Action) (o : Outputs)
+    → committedOf capacity ts cs p q x o ≡ committedOf capacity ts cs (byPort port p q) (byPort port q p) x o
+unfolding committedOf
+committed-by-port port p q capacity ts cs x o =
+    ap (λ (us : List Record.Token). cond (writesAgain x cs) (refused SecondWrite) (ifAdmitted (admittedOf capacity ts o) (done (wokenBy x us ++ outputTokens (contentGiven x cs) o) (cellsBy x cs))))
+    (spent-by-port port p q ts)
+
 -- ---- what the code finds
 
 at-place : (P : Record.Token → Type 0) (d : Record.Token) (ts : List Record.Token) (i : ℕ) → i < length ts → All P ts → P (getD ts i d)
@@ -275,9 +294,9 @@ module _ (graph : List ℕ) {tables links flags ledger cells : List ℕ} {used :
   -- the token at the place is of an instruction of the graph
   pub inside : (t : Record.Token) → t ≡ tokenAt ledger place → t .tag .instruction < length graph / graphWidth
   inside t e =
-      let size = length-rows tokenWidth Tokens.decode used ledger in
+      let size = length-rows tokenWidth Tokens.decodeToken used ledger in
       let here = at-place (λ (u : Record.Token). u .port < operandsAt (graphOf graph) (u .tag .instruction)) noToken (tokens used ledger) place (omega arith) (now .arrived) in
-      let same : getD (tokens used ledger) place noToken ≡ t = getD-rows tokenWidth Tokens.decode used place ledger noToken within ∙ sym e in
+      let same : getD (tokens used ledger) place noToken ≡ t = getD-rows tokenWidth Tokens.decodeToken used place ledger noToken within ∙ sym e in
       let arrives : t .port < operandsAt (graphOf graph) (t .tag .instruction) = subst (λ (u : Record.Token). u .port < operandsAt (graphOf graph) (u .tag .instruction)) same here in
       omega (arith, arrives-inside (graphOf graph) (record { tag = t .tag; port = t .port }) arrives, records graph)
 
@@ -291,21 +310,33 @@ module _ (graph : List ℕ) {tables links flags ledger cells : List ℕ} {used :
       ∙ ap (λ (u : Record.Token). matchedAt (arityIn (graphOf graph) (u .tag)) (tokens used ledger) (u .tag)) e)
 
   -- what commit is lent
-  pub lent-here : leads tables (tokens used ledger) place (tokenAt ledger place) ≡ true → (i j : ℕ) (v w : ℤ) → matchedAt (arityIn (graphOf graph) (tokenAt ledger place .tag)) (tokens used ledger) (tokenAt ledger place .tag) ≡ Both i j v w
-      → Fireable tables links flags ledger cells used i j
-  lent-here on i j v w e =
+  pub lent-here : leadsIn tables (tokens used ledger) place (tokenAt ledger place) ≡ true → (other : ℕ) (v w : ℤ)
+      → matchedAt (arityIn (graphOf graph) (tokenAt ledger place .tag)) (tokens used ledger) (tokenAt ledger place .tag) ≡ bothAt (tokenAt ledger place .port) place other v w
+      → Fireable tables links flags ledger cells used place other
+  lent-here on other v w e =
       let τ = tokenAt ledger place .tag in
+      let port = tokenAt ledger place .port in
       let p = matched-places (tokens used ledger) τ (arityIn (graphOf graph) τ) (arity-small (graphOf graph) τ) e in
+      let first : earliestOf (tokens used ledger) τ ≡ place =
+      eqb-true (earliestOf (tokens used ledger) τ) place (and-left (eqb (earliestOf (tokens used ledger) τ) place) (isEnabled tables (tokens used ledger) τ) on) in
       record {
         matching = now .matching;
         few = now .few;
-        activity = operands-here (graphOf graph) ledger used (matching-ports (now .matching)) (now .arrived) τ p;
-        raised = rw (← place-here (graphOf graph) ledger used (matching-ports (now .matching)) (now .arrived) τ p) (matching-raised (now .matching) place within on);
+        activity = record {
+          first = byPort port place other;
+          second = byPort port other place;
+          operands = operands-here (graphOf graph) ledger used (matching-ports (now .matching)) (now .arrived) τ p;
+          order = record {
+            lead = sym first ∙ place-here (graphOf graph) ledger used (matching-ports (now .matching)) (now .arrived) τ p;
+            rest = sum-by-port port place other;
+          };
+        };
+        raised = rw first at (matching-raised (now .matching) place within on);
         store = now .store;
       }
 
   abbrev M₁ : Machine
-  M₁ = machineFor (graphOf graph) tables ledger cells
+  M₁ = machineOver (graphOf graph) tables ledger cells
 
   abbrev s₁ : State Tag ℤ
   s₁ = stateIn ledger cells used
@@ -316,10 +347,16 @@ module _ (graph : List ℕ) {tables links flags ledger cells : List ℕ} {used :
   asks-refusal σ h = record { step = ap (commit M₁ s₁ σ) h; running = now; sameLedger = refl; sameCells = refl }
 
   -- the operands that matching found, and the token that the code read at the place
-  module _ (t : Record.Token) (same : t ≡ tokenAt ledger place) (i j : ℕ) (v w : ℤ)
-      (matched : matchedAt (arityIn (graphOf graph) (tokenAt ledger place .tag)) (tokens used ledger) (tokenAt ledger place .tag) ≡ Both i j v w) where
+  module _ (t : Record.Token) (same : t ≡ tokenAt ledger place) (other : ℕ) (v w : ℤ)
+      (matched : matchedAt (arityIn (graphOf graph) (tokenAt ledger place .tag)) (tokens used ledger) (tokenAt ledger place .tag) ≡ bothAt (tokenAt ledger place .port) place other v w) where
     abbrev τ : Tag
     τ = tokenAt ledger place .tag
+
+    abbrev i : ℕ
+    i = byPort (tokenAt ledger place .port) place other
+
+    abbrev j : ℕ
+    j = byPort (tokenAt ledger place .port) other place
 
     abbrev its : Effect Refusal Tag ℤ
     its = askedIn (graphOf graph) tables ledger cells used (tokenAt ledger place .tag)
@@ -334,11 +371,11 @@ module _ (graph : List ℕ) {tables links flags ledger cells : List ℕ} {used :
     -- from matching to output
     pub stepped-here : (x : Action) (o : Outputs) → Effected (graphOf graph) (arraysIn tables) (length cells / cellWidth) (t .tag) v w x o
         → (links′ flags′ ledger′ cells′ : List ℕ) (r : Fired)
-        → CommittedTo r (committedOf (length ledger / tokenWidth) (tokens used ledger) (cellsIn cells) i j x o) tables links′ flags′ ledger′ cells′ used ledger cells
+        → CommittedTo r (committedOf (length ledger / tokenWidth) (tokens used ledger) (cellsIn cells) place other x o) tables links′ flags′ ledger′ cells′ used ledger cells
         → Stepped r (graphOf graph) τ its tables links′ flags′ ledger′ cells′ used ledger cells
     stepped-here x o effected links′ flags′ ledger′ cells′ r left =
         let does = subst (λ (u : Record.Token). Effected (graphOf graph) (arraysIn tables) (length cells / cellWidth) (u .tag) v w x o) same effected in
-        let asks : actionHeld x (keysOf o) ≡ its = does .held ∙ sym found in
+        let asks : actionHeld x (outputKeys o) ≡ its = does .held ∙ sym found in
         stepped graph (ready .passed) now τ (arity-small (graphOf graph) τ) i j v w matched x o its
         (record {
           held = asks;
@@ -346,4 +383,5 @@ module _ (graph : List ℕ) {tables links flags ledger cells : List ℕ} {used :
           arrives = does .arrives;
           cellsBelow = subst (CellsBelow (length cells / cellWidth)) asks (does .cellsBelow);
           readsForSome = subst ReadsForSome (sym found) (lawful graph (ready .passed) (arraysIn tables) (length ledger / tokenWidth) (length cells / cellWidth) .readsForSome τ v w);
-        }) links′ flags′ ledger′ cells′ r left
+        }) links′ flags′ ledger′ cells′ r
+        (subst (λ (y : Committed). CommittedTo r y tables links′ flags′ ledger′ cells′ used ledger cells) (committed-by-port (tokenAt ledger place .port) place other (length ledger / tokenWidth) (tokens used ledger) (cellsIn cells) x o) left)

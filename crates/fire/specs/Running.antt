@@ -26,8 +26,8 @@ use Rattle.fire_commit.specs.declared.Fired.{Fired}
 use Rattle.fire_commit.specs.declared.Fired.the-variants as Fires
 
 -- the machine of a graph and of the named arrays in the tables, over a ledger and cells, and its state there
-abbrev pub machineFor : List Instruction → (tables ledger cells : List ℕ) → Machine
-machineFor g tables ledger cells = machineOf g (arraysIn tables) (length ledger / tokenWidth) (length cells / cellWidth)
+abbrev pub machineOver : List Instruction → (tables ledger cells : List ℕ) → Machine
+machineOver g tables ledger cells = machineOf g (arraysIn tables) (length ledger / tokenWidth) (length cells / cellWidth)
 
 abbrev pub stateIn : (ledger cells : List ℕ) → (used : ℕ) → State Tag ℤ
 stateIn ledger cells used = stateHeld (tokens used ledger) (cellsIn cells)
@@ -42,7 +42,7 @@ pub record Running (g : List Instruction) (tables links flags ledger cells : Lis
   pub few : length ledger / tokenWidth ≤ 2048
   pub store : CellStore cells
   pub arrived : Arrived g (tokens used ledger)
-  pub good : Good (machineFor g tables ledger cells) (stateIn ledger cells used)
+  pub good : Good (machineOver g tables ledger cells) (stateIn ledger cells used)
 
 -- ---- a firing, whatever its activity asks for: e is given, so that another instruction set may fire by the same steps
 
@@ -51,11 +51,11 @@ abbrev pub asked : (M : Machine) → StateOf M → M .Tag → EffectOf M
 asked M s τ = onOption (operands M (look M s) τ) (refuse (M .secondToken)) (λ p. M .effect τ (p .left) (p .right))
 
 abbrev pub askedIn : List Instruction → (tables ledger cells : List ℕ) → (used : ℕ) → Tag → Effect Refusal Tag ℤ
-askedIn g tables ledger cells used τ = asked (machineFor g tables ledger cells) (stateIn ledger cells used) τ
+askedIn g tables ledger cells used τ = asked (machineOver g tables ledger cells) (stateIn ledger cells used) τ
 
 -- a firing that was done left n tokens
 pub record Went (g : List Instruction) (τ : Tag) (e : Effect Refusal Tag ℤ) (tables links flags ledger′ cells′ : List ℕ) (n used : ℕ) (ledger cells : List ℕ) : Type 0 where
-  pub step : commit (machineFor g tables ledger cells) (stateIn ledger cells used) τ e ≡ fired (stateIn ledger′ cells′ n)
+  pub step : commit (machineOver g tables ledger cells) (stateIn ledger cells used) τ e ≡ fired (stateIn ledger′ cells′ n)
   pub running : Running g tables links flags ledger′ cells′ n
   pub grown : used ≤ n
   pub size : length ledger′ ≡ length ledger
@@ -64,7 +64,7 @@ pub record Went (g : List Instruction) (τ : Tag) (e : Effect Refusal Tag ℤ) (
 
 -- a firing that was refused left ledger and cells as it found them
 pub record Stopped (r : Refusal) (g : List Instruction) (τ : Tag) (e : Effect Refusal Tag ℤ) (tables links flags ledger′ cells′ : List ℕ) (used : ℕ) (ledger cells : List ℕ) : Type 0 where
-  pub step : commit (machineFor g tables ledger cells) (stateIn ledger cells used) τ e ≡ notFired r
+  pub step : commit (machineOver g tables ledger cells) (stateIn ledger cells used) τ e ≡ notFired r
   pub running : Running g tables links flags ledger′ cells′ used
   pub sameLedger : ledger′ ≡ ledger
   pub sameCells : cells′ ≡ cells

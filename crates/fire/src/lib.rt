@@ -30,7 +30,7 @@ ghost use mathlib.Core.Path.{_≡_};
 ghost use mathlib.Core.Bool.{true};
 ghost use Rattle.record.specs.GraphRecords.{graphOf};
 ghost use Rattle.record.specs.TokensAndTags.{tokens, tokenAt};
-ghost use Rattle.store_enabled.specs.Enabled.{leads};
+ghost use Rattle.store_enabled.specs.Enabled.{leadsIn};
 ghost use Rattle.fire.specs.Running.{Prepared, Running, askedIn, Stepped};
 
 // The enabled activity whose place this is fires, or is refused with ledger and cells as they were.
@@ -44,8 +44,14 @@ pub fn fire(
     used: usize,
     place: usize,
 ) -> Fired
-    requires { ⌜ Prepared (now graph) (now tables) × Running (graphOf (now graph)) (now tables) (now links) (now flags) (now ledger) (now cells) used × (place < used) × (leads (now tables) (tokens used (now ledger)) place (tokenAt (now ledger) place) ≡ true) ⌝ }
-    ensures { λ r. ⌜ Stepped r (graphOf (now (graph .entry))) (tokenAt (now (ledger .entry)) place .tag) (askedIn (graphOf (now (graph .entry))) (now (tables .entry)) (now (ledger .entry)) (now (cells .entry)) used (tokenAt (now (ledger .entry)) place .tag)) (now (tables .entry)) (now (links .exit)) (now (flags .exit)) (now (ledger .exit)) (now (cells .exit)) used (now (ledger .entry)) (now (cells .entry)) ⌝ }
+    requires { ⌜ Prepared (now graph) (now tables)
+        × Running (graphOf (now graph)) (now tables) (now links) (now flags) (now ledger) (now cells) used
+        × (place < used)
+        × (leadsIn (now tables) (tokens used (now ledger)) place (tokenAt (now ledger) place) ≡ true) ⌝ }
+    ensures { λ r. ⌜ Stepped r (graphOf (now (graph .entry))) (tokenAt (now (ledger .entry)) place .tag)
+        (askedIn (graphOf (now (graph .entry))) (now (tables .entry)) (now (ledger .entry)) (now (cells .entry)) used
+        (tokenAt (now (ledger .entry)) place .tag)) (now (tables .entry)) (now (links .exit)) (now (flags .exit)) (now (ledger .exit))
+        (now (cells .exit)) used (now (ledger .entry)) (now (cells .entry)) ⌝ }
 {
     // Matching.
     let t = token::token_at(ledger, place);
@@ -55,8 +61,8 @@ pub fn fire(
     let left = matched.left;
     let right = matched.right;
     let operands = Places {
-        first: matched.first,
-        second: matched.second,
+        place,
+        other: matched.other,
     };
     // Instruction fetch.
     let r = instruction::instruction_at(graph, tag.instruction as usize);

@@ -24,11 +24,11 @@ use Rattle.rules.specs.Run.{contentHeld, tokenHeld}
 use Rattle.fire_effect.specs.declared.output.Outputs.{Outputs}
 use Rattle.fire_effect.specs.declared.operate.Action.{Action}
 use Rattle.fire_effect.specs.declared.operate.Action.the-variants.{Send, Read, Write}
-use Rattle.fire_effect.specs.Effects.{keysOf, actionHeld}
+use Rattle.fire_effect.specs.Effects.{outputKeys, actionHeld}
 use Rattle.abstraction.specs.States.{cellHeld, stateHeld}
 use Rattle.fire_operands.specs.Operands.{Verdict, Yes, No, admittedOf}
 use Rattle.fire_operands.proofs.AsMachine.{byAdmitted, Places, held-admitted}
-use Rattle.fire_outputs.specs.Outputs.{spentAt, outputsOf, cellsFetched, contentFetched, isPresent}
+use Rattle.fire_outputs.specs.Outputs.{spentAt, outputTokens, cellsFetched, contentFetched, isPresent}
 use Rattle.fire_outputs.proofs.Spent.{map-map, spent-one, spent-two}
 use Rattle.fire_outputs.proofs.AsMachine.{outputs-held, woken-held, cell-held, set-held, fetched-cell, fetched-content}
 use Rattle.fire_commit.specs.Commit.{Committed, done, refused, ifAdmitted, committedOf}
@@ -56,17 +56,17 @@ module _ (g : List Instruction) (table : List NamedArray) (capacity cells : ℕ)
       (p .secondFound)
 
   -- tokens and outputs in one list
-  appended : (us : List Record.Token) (o : Outputs) (x : RecordContent.Content) → map tokenHeld us ++ map (output (contentHeld x)) (keysOf o) ≡ map tokenHeld (us ++ outputsOf x o)
-  appended us o x = ap (λ l. map tokenHeld us ++ l) (outputs-held o x) ∙ sym (map-append tokenHeld us (outputsOf x o))
+  appended : (us : List Record.Token) (o : Outputs) (x : RecordContent.Content) → map tokenHeld us ++ map (output (contentHeld x)) (outputKeys o) ≡ map tokenHeld (us ++ outputTokens x o)
+  appended us o x = ap (λ l. map tokenHeld us ++ l) (outputs-held o x) ∙ sym (map-append tokenHeld us (outputTokens x o))
 
   -- what goes into the ledger, or is refused
   goes-in : (o : Outputs) → o .count ≤ 2 → (old : Ledger M) (us : List Record.Token) (cells′ : List (Cell ℤ)) (ds : List RecordCell.Cell) (y : Content ℤ) (x : RecordContent.Content)
       → old ≡ map tokenHeld us → cells′ ≡ map cellHeld ds → y ≡ contentHeld x
-      → admit M (stateHeld ts cs) old cells′ y (keysOf o) ≡ firedOf (ifAdmitted (admittedOf capacity ts o) (done (us ++ outputsOf x o) ds))
+      → admit M (stateHeld ts cs) old cells′ y (outputKeys o) ≡ firedOf (ifAdmitted (admittedOf capacity ts o) (done (us ++ outputTokens x o) ds))
   goes-in o h old us cells′ ds y x p q r =
       held-admitted g table capacity cells ts cs o h old cells′ y
-      ∙ admitted-held (admittedOf capacity ts o) (done (us ++ outputsOf x o) ds) _
-      (λ i. fired (record { tokens = (ap (λ l. l ++ map (output y) (keysOf o)) p ∙ ap (λ z. map tokenHeld us ++ map (output z) (keysOf o)) r ∙ appended us o x) i; cells = q i }))
+      ∙ admitted-held (admittedOf capacity ts o) (done (us ++ outputTokens x o) ds) _
+      (λ i. fired (record { tokens = (ap (λ l. l ++ map (output y) (outputKeys o)) p ∙ ap (λ z. map tokenHeld us ++ map (output z) (outputKeys o)) r ∙ appended us o x) i; cells = q i }))
 
   write-held : (c : RecordCell.Cell) (f : Fired Refusal Tag ℤ) (x : Committed) → f ≡ firedOf x → ifPresent (cellHeld c) (notFired SecondWrite) f ≡ firedOf (cond (isPresent c) (refused SecondWrite) x)
   write-held Absent f x e = e
@@ -74,7 +74,7 @@ module _ (g : List Instruction) (table : List NamedArray) (capacity cells : ℕ)
   write-held (Present v) f x e = refl
 
   pub commit-held : (tag : Tag) (i j : ℕ) (v w : ℤ) → Distinct M (map tokenHeld ts) → Places (arityIn g tag) ts tag i j v w → (a : Action) (o : Outputs) → o .count ≤ 2
-      → commit M (stateHeld ts cs) tag (actionHeld a (keysOf o)) ≡ firedOf (committedOf capacity ts cs i j a o)
+      → commit M (stateHeld ts cs) tag (actionHeld a (outputKeys o)) ≡ firedOf (committedOf capacity ts cs i j a o)
   unfolding commit committedOf
   commit-held tag i j v w d p (Send x) o h = goes-in o h _ (spentAt i j ts) _ cs (live x) (Live x) (spent-held tag i j v w d p) refl refl
   commit-held tag i j v w d p (Read c) o h =
@@ -82,7 +82,7 @@ module _ (g : List Instruction) (table : List NamedArray) (capacity cells : ℕ)
       (ap (λ y. set (map cellHeld cs) c (cellRead y)) (cell-held cs c) ∙ ap (λ y. set (map cellHeld cs) c y) (fetched-cell (getD cs c Absent)) ∙ set-held cs c _)
       (ap (contentRead c) (cell-held cs c) ∙ fetched-content c (getD cs c Absent))
   commit-held tag i j v w d p (Write c x) o h =
-      let written = admit M (stateHeld ts cs) (map (changed (λ k y. fill c x (spendAt M tag k y))) (map tokenHeld ts)) (set (map cellHeld cs) c (present x)) (live (pos 0)) (keysOf o) in
+      let written = admit M (stateHeld ts cs) (map (changed (λ k y. fill c x (spendAt M tag k y))) (map tokenHeld ts)) (set (map cellHeld cs) c (present x)) (live (pos 0)) (outputKeys o) in
       ap (λ y. ifPresent y (notFired SecondWrite) written) (cell-held cs c)
       ∙ write-held (getD cs c Absent) written _
       (goes-in o h _ (map (woken c x) (spentAt i j ts)) _ (set cs c (Present x)) _ (Live (pos 0))

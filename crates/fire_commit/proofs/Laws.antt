@@ -7,7 +7,7 @@ use native.Mathlib.Omega.{arith}
 use lib.Dec.{ltb}
 use lib.ListN.{length}
 use borrow.Author.Tests.{ltb-false}
-use Rattle.record.specs.TokensAndTags.{tokens, decode}
+use Rattle.record.specs.TokensAndTags.{tokens, decodeToken}
 use Rattle.record.specs.declared.token.Token.{Token}
 use Rattle.record.specs.declared.cell.Cell.{Cell}
 use Rattle.buffer.proofs.Tables.{length-rows}
@@ -17,7 +17,7 @@ use Rattle.rules.specs.declared.answer.Refusal.the-variants.{LedgerFull, Second
 use Rattle.fire_effect.specs.declared.output.Outputs.{Outputs}
 use Rattle.fire_effect.specs.declared.operate.Action.{Action}
 use Rattle.fire_operands.specs.Operands.{anyTakenOf, Verdict, Yes, No, admittedOf}
-use Rattle.fire_outputs.specs.Outputs.{spentAt, outputsOf, contentBy, cellsBy, wokenBy, writesAgain, Kept, CellsKept, Fireable}
+use Rattle.fire_outputs.specs.Outputs.{spentAt, outputTokens, contentGiven, cellsBy, wokenBy, writesAgain, Kept, CellsKept, Fireable}
 use Rattle.fire_commit.specs.Commit.{Committed, done, refused, ifAdmitted, committedOf, CommittedTo}
 use Rattle.fire_commit.specs.declared.Fired.the-variants as Fires
 
@@ -35,7 +35,7 @@ pub admitted-room : (capacity used : ℕ) (l : List ℕ) (o : Outputs) → admit
 unfolding admittedOf
 admitted-room capacity used l o e =
     let ts = tokens used l in
-    let n : length ts ≡ used = length-rows tokenWidth decode used l in
+    let n : length ts ≡ used = length-rows tokenWidth decodeToken used l in
     let h : length ts + o .count ≤ capacity = ltb-false capacity (length ts + o .count) (by-tests (ltb capacity (length ts + o .count)) (anyTakenOf ts o) e) in
     omega arith
 
@@ -51,7 +51,7 @@ module _ (capacity : ℕ) (ts : List Token) (cs : List Cell) (i j : ℕ) (a : Ac
     unfolding committedOf ifAdmitted
     act-refused e = rw (once, e)
 
-    pub act-done : admittedOf capacity ts o ≡ Yes → committedOf capacity ts cs i j a o ≡ done (wokenBy a (spentAt i j ts) ++ outputsOf (contentBy a cs) o) (cellsBy a cs)
+    pub act-done : admittedOf capacity ts o ≡ Yes → committedOf capacity ts cs i j a o ≡ done (wokenBy a (spentAt i j ts) ++ outputTokens (contentGiven a cs) o) (cellsBy a cs)
     unfolding committedOf ifAdmitted
     act-done e = rw (once, e)
 

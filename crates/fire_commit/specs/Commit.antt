@@ -13,7 +13,7 @@ use Rattle.fire_effect.specs.declared.operate.Action.{Action}
 use Rattle.rules.specs.declared.answer.Refusal.{Refusal}
 use Rattle.rules.specs.declared.answer.Refusal.the-variants.{SecondWrite}
 use Rattle.fire_operands.specs.Operands.{Verdict, Yes, No, admittedOf}
-use Rattle.fire_outputs.specs.Outputs.{spentAt, outputsOf, LowPorts, OnCells, contentBy, cellsBy, wokenBy, writesAgain, Kept, CellsKept}
+use Rattle.fire_outputs.specs.Outputs.{spentAt, outputTokens, LowPorts, OnCells, contentGiven, cellsBy, wokenBy, writesAgain, Kept, CellsKept}
 use Rattle.fire_commit.specs.declared.Fired.{Fired}
 use Rattle.fire_commit.specs.declared.Fired.the-variants as Fires
 
@@ -31,7 +31,7 @@ ifAdmitted (No r) x = refused r
 unfoldable pub committedOf : (capacity : ℕ) → List Token → List Cell → (i j : ℕ) → Action → Outputs → Committed
 committedOf capacity ts cs i j a o =
     cond (writesAgain a cs) (refused SecondWrite)
-    (ifAdmitted (admittedOf capacity ts o) (done (wokenBy a (spentAt i j ts) ++ outputsOf (contentBy a cs) o) (cellsBy a cs)))
+    (ifAdmitted (admittedOf capacity ts o) (done (wokenBy a (spentAt i j ts) ++ outputTokens (contentGiven a cs) o) (cellsBy a cs)))
 
 -- the code's answer is that of the definition: done, with the tokens used, or refused with ledger and cells as they were
 abbrev pub CommittedTo : Fired → Committed → (tables links flags ledger′ cells′ : List ℕ) → (used : ℕ) → (ledger cells : List ℕ) → Type 0

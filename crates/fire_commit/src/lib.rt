@@ -33,8 +33,11 @@ pub fn commit(
     action: Action,
     sent: Outputs,
 ) -> Fired
-    requires { ⌜ Fireable (now tables) (now links) (now flags) (now ledger) (now cells) used (operands .first) (operands .second) × Fitting (length (now cells) / cellWidth) action sent ⌝ }
-    ensures { λ r. ⌜ CommittedTo r (committedOf (length (now (ledger .entry)) / tokenWidth) (tokens used (now (ledger .entry))) (cellsIn (now (cells .entry))) (operands .first) (operands .second) action sent) (now (tables .entry)) (now (links .exit)) (now (flags .exit)) (now (ledger .exit)) (now (cells .exit)) used (now (ledger .entry)) (now (cells .entry)) ⌝ }
+    requires { ⌜ Fireable (now tables) (now links) (now flags) (now ledger) (now cells) used (operands .place) (operands .other) × Fitting (length (now cells) / cellWidth) action sent ⌝ }
+    ensures { λ r. ⌜ CommittedTo r
+        (committedOf (length (now (ledger .entry)) / tokenWidth) (tokens used (now (ledger .entry))) (cellsIn (now (cells .entry))) (operands .place)
+        (operands .other) action sent) (now (tables .entry)) (now (links .exit)) (now (flags .exit)) (now (ledger .exit)) (now (cells .exit)) used
+        (now (ledger .entry)) (now (cells .entry)) ⌝ }
 {
     if fire_outputs::writes_again(cells, action) {
         return Fired::Refused(Refusal::SecondWrite);

@@ -42,9 +42,9 @@ use Rattle.rules.proofs.PassedGraph.{Good, of-graph, two-operands}
 use Rattle.fire_effect.proofs.Passed.{switch-two, enter-two}
 
 -- past the graph stands an unknown operation
-past : (g : List Instruction) (i : ℕ) → length g ≤ i → instructionAt g i ≡ Graph.decode []
+past : (g : List Instruction) (i : ℕ) → length g ≤ i → instructionAt g i ≡ Graph.decodeInstruction []
 unfolding instructionAt
-past g i h = List·getD-eq-default g (Graph.decode []) h
+past g i h = List·getD-eq-default g (Graph.decodeInstruction []) h
 
 -- a port that a token can come to is 0 or 1, of an instruction in the graph
 pub arrives-port : (g : List Instruction) (k : Key Tag) → Arrives g k → k .port < 2
@@ -52,7 +52,7 @@ unfolding operandsAt
 arrives-port g k h = omega (arith, h, two-operands (instructionAt g (k .tag .instruction) .code))
 
 pub arrives-inside : (g : List Instruction) (k : Key Tag) → Arrives g k → k .tag .instruction < length g
-unfolding operandsAt Graph.decode rowOf
+unfolding operandsAt Graph.decodeInstruction rowOf
 arrives-inside g k h = go (decLe (suc (k .tag .instruction)) (length g))
   where
     go : Dec (suc (k .tag .instruction) ≤ length g) → suc (k .tag .instruction) ≤ length g
@@ -153,8 +153,8 @@ module _ (graph : List ℕ) (passed : checkGraph graph ≡ Passed) (table : List
   unfolding operandsAt
   known i h = leb-true 1 _ (of-graph graph passed i h .known)
 
-  absent-fine : (r : Instruction) → r ≡ Graph.decode [] → Fine (graphOf graph) table cells (effectOf (operationOf (r .code)) (graphOf graph) table cells τ r a b (allUnder τ r))
-  unfolding effectOf Graph.decode rowOf
+  absent-fine : (r : Instruction) → r ≡ Graph.decodeInstruction [] → Fine (graphOf graph) table cells (effectOf (operationOf (r .code)) (graphOf graph) table cells τ r a b (allUnder τ r))
+  unfolding effectOf Graph.decodeInstruction rowOf
   absent-fine r e = rw e (tt, tt)
 
   fine : Fine (graphOf graph) table cells (effectIn (graphOf graph) table cells τ a b)

@@ -2,7 +2,7 @@
 use Prim.Native.Nat.{ℕ, zero, suc, _+_, _-_, _/_, _≤_, _<_}
 use mathlib.Core.Path.{_≡_, refl, sym, ap, _∙_}
 use mathlib.Core.Bool.{Bool, true, false, _&&_}
-use mathlib.Core.List.{List, [], _∷_}
+use mathlib.Core.List.{List, [], _∷_, map}
 use native.Mathlib.Omega.{arith}
 use native.Mathlib.Nat.{zero-add}
 use borrow.Author.Tests.{leb-true, le-leb, lt-leb, ltb-true, ltb-false, lt-ltb, le-ltb}
@@ -15,7 +15,7 @@ use mir.Val.{Fits, SFits}
 use Rattle.record.specs.declared.array.NamedArray.{NamedArray}
 use Rattle.record.specs.declared.tag.Tag.{Tag}
 use Rattle.record.specs.declared.instruction.Destination.{Destination}
-use Rattle.record.specs.GraphRecords.{decode, graphOf, inUse}
+use Rattle.record.specs.GraphRecords.{decodeInstruction, graphOf, inUse}
 use Rattle.buffer.proofs.Tables.{length-rows}
 use Rattle.record.specs.TokensAndTags.{toOf}
 use Rattle.record.specs.Widths.{graphWidth}
@@ -24,7 +24,7 @@ use Rattle.machine.specs.Machine.{refuse, send}
 use Rattle.rules.specs.declared.answer.Refusal.{Refusal}
 use Rattle.rules.specs.declared.answer.Refusal.the-variants as Refusals
 use Rattle.rules.specs.Check.{within}
-use Rattle.rules.specs.InstructionSet.{EffectHere, sendReturned, numberIn, arrayAt, cellNumber}
+use Rattle.rules.specs.InstructionSet.{EffectHere, keyUnder, sendReturned, numberIn, arrayAt, cellNumber}
 use Rattle.rules.proofs.Below.{listed, unlisted}
 use Rattle.abstraction.specs.Tables.{arrayFrom, arraysIn}
 use Rattle.fire_effect.specs.declared.output.Key.{Key}
@@ -32,7 +32,7 @@ use Rattle.fire_effect.specs.declared.output.Outputs.{Outputs}
 use Rattle.fire_effect.specs.declared.tags.NewTags.{NewTags}
 use Rattle.fire_effect.specs.declared.tags.NewTags.the-variants as Tags
 use Rattle.fire_effect.specs.declared.operate.Named.the-variants.{Cell, NoSuchCell}
-use Rattle.fire_effect.specs.Effects.{keyHeld, keysHeld, keysOf, Sends, Makes, namedOf}
+use Rattle.fire_effect.specs.Effects.{keyHeld, keysHeld, outputKeys, Sends, Makes, namedOf}
 
 abbrev pub Clash : Type 0
 Clash = _≡_ {A = ℕ} 0 1
@@ -43,7 +43,7 @@ clash z = absurd (omega arith)
 -- ---- outputs
 
 -- the count is the number of keys
-pub length-keys : (o : Outputs) → o .count ≤ 2 → length (keysOf o) ≡ o .count
+pub length-keys : (o : Outputs) → o .count ≤ 2 → length (outputKeys o) ≡ o .count
 length-keys o h = go (o .count) h
   where
     go : (n : ℕ) → n ≤ 2 → length (keysHeld n (o .first) (o .second)) ≡ n
@@ -53,10 +53,16 @@ length-keys o h = go (o .count) h
     go (suc (suc (suc n))) h = absurd (omega arith)
 
 -- a fan-out of 2 or more uses both destinations
-pub both-used : (n : ℕ) (d e : Destination) → (n ≡ 0 → ⊥) → (n ≡ 1 → ⊥) → inUse n d e ≡ d ∷ e ∷ []
-both-used zero d e h k = absurd (h refl)
-both-used (suc zero) d e h k = absurd (k refl)
-both-used (suc (suc n)) d e h k = refl
+pub both-used : (n : ℕ) (d e : Destination) → 2 ≤ n → inUse n d e ≡ d ∷ e ∷ []
+both-used zero d e h = absurd (omega arith)
+both-used (suc zero) d e h = absurd (omega arith)
+both-used (suc (suc n)) d e h = refl
+
+-- a lower one uses as many as it says
+pub few-used : (n : ℕ) (τ : Tag) (d e : Destination) (j k : Key) → n < 2 → keyHeld j ≡ keyUnder τ d → keysHeld n j k ≡ map (keyUnder τ) (inUse n d e)
+few-used zero τ d e j k h p = refl
+few-used (suc zero) τ d e j k h p = λ i. p i ∷ []
+few-used (suc (suc n)) τ d e j k h p = absurd (omega arith)
 
 pub sends-key : {o : Outputs} {k : Key} {j : Machine.Key Tag} → keyHeld k ≡ j → Sends o (keyHeld k ∷ []) → Sends o (j ∷ [])
 sends-key e s = rw (← e) s
@@ -159,7 +165,7 @@ module _ (tables : List ℕ) (n : ℕ) where
 
 -- as many as the whole records of the bytes
 pub records : (l : List ℕ) → length (graphOf l) ≡ length l / graphWidth
-records l = length-rows graphWidth decode (length l / graphWidth) l
+records l = length-rows graphWidth decodeInstruction (length l / graphWidth) l
 
 module _ (l : List ℕ) (i k : ℕ) (τ : Tag) where
   pub to-site : i + k < length l / graphWidth → (v : ℤ) → sendReturned (graphOf l) i k τ v ≡ send v (record { tag = toOf τ (i + k); port = 0 } ∷ [])

@@ -32,7 +32,7 @@ use Rattle.fire_effect.specs.declared.operate.Operated.the-variants.{Ref
 use Rattle.fire_effect.specs.declared.operate.Named.the-variants.{Cell, NoSuchCell}
 use Rattle.fire_effect.specs.declared.tags.NewTags.{NewTags}
 use Rattle.fire_effect.specs.declared.tags.NewTags.the-variants as Tags
-use Rattle.fire_effect.specs.Effects.{keysOf, actionHeld, namedOf, onNamed, onComputed, operatedOf, Makes, newTagsOf, thenTags, Effected}
+use Rattle.fire_effect.specs.Effects.{outputKeys, actionHeld, namedOf, onNamed, onComputed, operatedOf, Makes, newTagsOf, thenTags, Effected}
 use Rattle.fire_effect.proofs.Passed.{in-bytes}
 use Rattle.fire_effect.proofs.Arrives.{cells-below, all-arrive}
 
@@ -77,7 +77,7 @@ parted Operations.Unknown g table cells τ r a b = refl
 -- an action with the new tags that were made for it
 abbrev done : Action → NewTags → EffectHere
 done x (Tags.Refuse q) = refuse q
-done x (Tags.To o) = actionHeld x (keysOf o)
+done x (Tags.To o) = actionHeld x (outputKeys o)
 
 then-done : (x : Action) (m : NewTags) (f : ℤ → EffectHere) → Makes m f → thenTags (Act x) f ≡ done x m
 then-done (Send v) (Tags.Refuse q) f d = sym (d .held v)
@@ -99,7 +99,7 @@ module _ (y : Operated) (f : ℤ → EffectHere) {e : EffectHere} (parts : e ≡
     pub second-refused : {q : Refusal} → m ≡ Tags.Refuse q → e ≡ refuse q
     second-refused h = both-done ∙ ap (done x) h
 
-    pub both-held : {s : Outputs} → m ≡ Tags.To s → actionHeld x (keysOf s) ≡ e
+    pub both-held : {s : Outputs} → m ≡ Tags.To s → actionHeld x (outputKeys s) ≡ e
     both-held h = sym (both-done ∙ ap (done x) h)
 
 -- the instruction r of a tag's instruction number, and its operation o
@@ -118,7 +118,7 @@ module _ (graph : List ℕ) (table : List NamedArray) (cells : ℕ) (τ : Tag) (
 
     pub effected : checkGraph graph ≡ Passed → {s : Outputs} → m ≡ Tags.To s → Effected (graphOf graph) table cells τ a b x s
     effected passed {s} e =
-        let held : actionHeld x (keysOf s) ≡ effectIn (graphOf graph) table cells τ a b = both-held _ _ in-turn operated made e in
+        let held : actionHeld x (outputKeys s) ≡ effectIn (graphOf graph) table cells τ a b = both-held _ _ in-turn operated made e in
         record {
           held = held;
           counted = rw e at (made .counted);

@@ -17,12 +17,12 @@ use Rattle.rules.specs.Check.{instructionAt, checkGraph}
 use Rattle.rules.proofs.Passed.{both}
 use Rattle.rules.proofs.PassedGraph.{Good, of-graph, at-most, said-of, least-fan-out, enter-site, leave-site}
 use Rattle.abstraction.specs.Tables.{Returns}
-use Rattle.fire_effect.specs.Effects.{Ready}
+use Rattle.fire_effect.specs.Effects.{ReadyForTags}
 use Rattle.fire_effect.proofs.Does.{both-used, records}
 
 module _ {g : List Instruction} {i : ℕ} {r : Instruction} (good : Good g i r) where
   two : 2 ≤ rowOf (r .code) .leastFanOut → destinations r ≡ r .first ∷ r .second ∷ []
-  two h = both-used (r .fanout) _ _ (λ z. omega (arith, least-fan-out good)) (λ z. omega (arith, least-fan-out good))
+  two h = both-used (r .fanout) _ _ (omega (arith, least-fan-out good))
 
   pub switch-two : operationOf (r .code) ≡ Switch → destinations r ≡ r .first ∷ r .second ∷ []
   switch-two e = two (leb-true _ _ (said-of good e))
@@ -35,9 +35,9 @@ module _ {g : List Instruction} {i : ℕ} {r : Instruction} (good : Good g i r) 
 module _ (graph : List ℕ) (i : ℕ) (inside : i < length graph / graphWidth) where
   pub in-bytes : instructionAt (graphOf graph) i ≡ instructionIn graph i
   unfolding instructionAt
-  in-bytes = getD-rows graphWidth Graph.decode (length graph / graphWidth) i graph (Graph.decode []) inside
+  in-bytes = getD-rows graphWidth Graph.decodeInstruction (length graph / graphWidth) i graph (Graph.decodeInstruction []) inside
 
-  pub ready : (tables : List ℕ) → checkGraph graph ≡ Passed → Returns (graphOf graph) tables → Ready graph tables (operationOf (instructionIn graph i .code)) (instructionIn graph i)
+  pub ready : (tables : List ℕ) → checkGraph graph ≡ Passed → Returns (graphOf graph) tables → ReadyForTags graph tables (operationOf (instructionIn graph i .code)) (instructionIn graph i)
   ready tables passed right =
       let good : Good (graphOf graph) i (instructionIn graph i) = rw in-bytes at (of-graph graph passed i (rw (records graph) inside)) in
       record { records = at-most graph passed; returns = right; ofEnter = enter-site good; ofLeave = leave-site good }

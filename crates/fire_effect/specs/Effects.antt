@@ -49,8 +49,8 @@ keysHeld (suc zero) j k = keyHeld j ∷ []
 keysHeld (suc (suc n)) j k = keyHeld j ∷ keyHeld k ∷ []
 
 -- the keys that are meant, destination 1 first
-abbrev pub keysOf : Outputs → List (Machine.Key Tag)
-keysOf o = keysHeld (o .count) (o .first) (o .second)
+abbrev pub outputKeys : Outputs → List (Machine.Key Tag)
+outputKeys o = keysHeld (o .count) (o .first) (o .second)
 
 abbrev pub actionHeld : Action → List (Machine.Key Tag) → EffectHere
 actionHeld (Send v) keys = send v keys
@@ -59,7 +59,7 @@ actionHeld (Write c v) keys = write c v keys
 
 -- the count of the outputs is at most 2, and so is the number of the keys (length-keys of proofs/Does)
 pub record Sends (o : Outputs) (keys : List (Machine.Key Tag)) : Type 0 where
-  pub held : keysOf o ≡ keys
+  pub held : outputKeys o ≡ keys
   pub counted : o .count ≤ 2
 
 -- ---- operation
@@ -101,7 +101,7 @@ operatedOf Operations.Unknown table k cells a b = Act (Send a)
 -- a value sent under the new tags, or their refusal
 abbrev pub sentUnder : NewTags → ℤ → EffectHere
 sentUnder (Tags.Refuse r) v = refuse r
-sentUnder (Tags.To o) v = send v (keysOf o)
+sentUnder (Tags.To o) v = send v (outputKeys o)
 
 abbrev pub FewTags : NewTags → Type 0
 FewTags (Tags.Refuse r) = Unit {0}
@@ -159,15 +159,15 @@ AllSent P (write c v keys) = All P keys
 
 -- they are the effect of the rules, and what a caller needs of it besides
 pub record Effected (g : List Instruction) (table : List NamedArray) (cells : ℕ) (τ : Tag) (a b : ℤ) (x : Action) (o : Outputs) : Type 0 where
-  pub held : actionHeld x (keysOf o) ≡ effectIn g table cells τ a b
+  pub held : actionHeld x (outputKeys o) ≡ effectIn g table cells τ a b
   pub counted : o .count ≤ 2
-  pub cellsBelow : CellsBelow cells (actionHeld x (keysOf o))
-  pub arrives : AllSent (Arrives g) (actionHeld x (keysOf o))
+  pub cellsBelow : CellsBelow cells (actionHeld x (outputKeys o))
+  pub arrives : AllSent (Arrives g) (actionHeld x (outputKeys o))
 
 -- ---- what is lent
 
 -- what the new tags ask of the graph, of its tables and of an instruction: a graph that passed its check has it
-pub record Ready (graph tables : List ℕ) (o : Operation) (r : Instruction) : Type 0 where
+pub record ReadyForTags (graph tables : List ℕ) (o : Operation) (r : Instruction) : Type 0 where
   pub records : length graph / graphWidth ≤ 256
   pub returns : Returns (graphOf graph) tables
   pub ofEnter : o ≡ Operations.Enter → within 0 255 (r .constant) ≡ true

@@ -52,7 +52,7 @@ pub fn one(key: Key) -> Outputs
 }
 
 // Each destination in use, under a tag's path and iteration. A fan-out past 2, which the check of the
-// graph refuses, counts as 2.
+// graph refuses, counts as 2. Both keys are given in any case: to choose between them would cost more.
 pub fn under(tag: Tag, r: Instruction) -> Outputs
     ensures { λ o. ⌜ Sends o (allUnder tag r) ⌝ }
 {
@@ -61,13 +61,16 @@ pub fn under(tag: Tag, r: Instruction) -> Outputs
     let e = r.second;
     let first = key_under(tag, d);
     let second = key_under(tag, e);
-    match fanout {
-        0 => none(tag),
-        1 => one(first),
-        _ => Outputs {
-            count: 2,
+    if fanout < 2 {
+        return Outputs {
+            count: fanout,
             first,
             second,
-        },
+        };
+    }
+    Outputs {
+        count: 2,
+        first,
+        second,
     }
 }

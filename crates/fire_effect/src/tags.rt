@@ -24,7 +24,7 @@ ghost use Rattle.rules.specs.Check.{within};
 ghost use Rattle.rules.specs.InstructionSet.{keyUnder, allUnder, sideOf, sendNext, sendEntered, sendReturned, sendLeft};
 ghost use Rattle.machine.specs.Machine as Machine;
 ghost use Rattle.abstraction.specs.Tables.{Returns};
-ghost use Rattle.fire_effect.specs.Effects.{Makes, newTagsOf, Ready};
+ghost use Rattle.fire_effect.specs.Effects.{Makes, newTagsOf, ReadyForTags};
 
 pub enum NewTags {
     Refuse(Refusal),
@@ -140,7 +140,7 @@ pub fn new_tags(
     r: Instruction,
     b: i32,
 ) -> NewTags
-    requires { ⌜ Ready (now graph) (now tables) o r ⌝ }
+    requires { ⌜ ReadyForTags (now graph) (now tables) o r ⌝ }
     ensures { λ m. ⌜ Makes m (newTagsOf o (graphOf (now (graph .entry))) tag r b) ⌝ }
 {
     match o {

@@ -18,7 +18,7 @@ use Rattle.record.specs.declared.token.Content.the-variants.{Live, Spent, Defer
 use Rattle.record.specs.declared.cell.Cell as RecordCell
 use Rattle.record.specs.declared.instruction.Instruction.{Instruction}
 use Rattle.record.specs.TokensAndTags.{standsAt}
-use Rattle.machine.specs.Machine.{Machine, Content, Cell, Fired, fired, notFired, Operands, when, liveValue, isThere, output, allBelow, twoValues, sameKey, look, operands, liveAt, among, taken, anyTaken, exceeds, admit, Ledger}
+use Rattle.machine.specs.Machine.{Machine, Content, Cell, Fired, fired, notFired, Operands, when, liveValue, isThere, output, allThere, twoValues, sameKey, look, operands, liveAt, among, keyTaken, anyTaken, exceeds, admit, Ledger}
 use Rattle.machine.proofs.View.{when-yes, when-no}
 use Rattle.rules.specs.declared.answer.Refusal.{Refusal}
 use Rattle.rules.specs.declared.answer.Refusal.the-variants.{LedgerFull, SecondToken}
@@ -31,8 +31,8 @@ use Rattle.abstraction.specs.States.{noToken, stateHeld}
 use Rattle.abstraction.proofs.Keys.{stands, not-stands, search-at, foundContent, held-find}
 use Rattle.fire_effect.specs.declared.output.Key.{Key}
 use Rattle.fire_effect.specs.declared.output.Outputs.{Outputs}
-use Rattle.fire_effect.specs.Effects.{keyHeld, keysHeld, keysOf}
-use Rattle.fire_operands.specs.Operands.{Operand, Held, Lacking, Matched, Both, Missing, operandOf, operandFound, operandAt, one, two, matchedAt, isTaken, sameKeys, anyTakenOf, Verdict, Yes, No, admittedOf}
+use Rattle.fire_effect.specs.Effects.{keyHeld, keysHeld, outputKeys}
+use Rattle.fire_operands.specs.Operands.{Operand, Held, Lacking, Matched, Both, Missing, operandHeld, operandFound, operandAt, one, two, matchedAt, isTaken, sameKeys, anyTakenOf, Verdict, Yes, No, admittedOf}
 
 -- ---- the operands of a tag, as values
 
@@ -44,8 +44,8 @@ abbrev pub valuesOf : Matched → Option (Operands ℤ)
 valuesOf (Both i j v w) = some (record { left = v; right = w })
 valuesOf Missing = none
 
-content-value : (i : ℕ) (x : RecordContent.Content) → liveValue (some (contentHeld x)) ≡ valueOf (operandOf i x)
-unfolding operandOf
+content-value : (i : ℕ) (x : RecordContent.Content) → liveValue (some (contentHeld x)) ≡ valueOf (operandHeld i x)
+unfolding operandHeld
 content-value i (Live v) = refl
 content-value i (Spent v) = refl
 content-value i (Deferred c) = refl
@@ -57,7 +57,7 @@ found-value ts Nothing = refl
 
 -- what the machine makes of the values at the ports below n
 abbrev chosen : (n : ℕ) → (value : ℕ → Option ℤ) → Option (Operands ℤ)
-chosen n value = cond (allBelow value n) (twoValues n (value 0) (value 1)) none
+chosen n value = cond (allThere value n) (twoValues n (value 0) (value 1)) none
 
 module _ (value : ℕ → Option ℤ) where
   one-value : (o : Operand) → value 0 ≡ valueOf o → chosen 1 value ≡ valuesOf (one o)
@@ -100,11 +100,11 @@ record Place (port : ℕ) (ts : List Record.Token) (tag : Tag) (i : ℕ) (v : �
 
 module _ (ts : List Record.Token) (tag : Tag) where
   operand-place : (port : ℕ) {i : ℕ} {v : ℤ} → operandAt ts tag port ≡ Held i v → Place port ts tag i v
-  unfolding operandAt operandFound operandOf
+  unfolding operandAt operandFound operandHeld
   operand-place port {i} {v} h = go (firstFrom (standsAt tag port) 0 ts) refl h
     where
       at : (k : ℕ) → firstFrom (standsAt tag port) 0 ts ≡ At k → (x : RecordContent.Content) → getD ts k noToken .content ≡ x
-          → operandOf k x ≡ Held i v → Place port ts tag i v
+          → operandHeld k x ≡ Held i v → Place port ts tag i v
       at k e (Live u) c q =
           let p : k ≡ i = cc in
           let f : firstFrom (standsAt tag port) 0 ts ≡ At i = e ∙ ap At p in
@@ -212,7 +212,7 @@ module _ (g : List Instruction) (table : List NamedArray) (capacity cells : ℕ)
   pub held-operands : (tag : Tag) → arityIn g tag ≤ 2 → operands M (look M (stateHeld ts cs)) tag ≡ valuesOf (matchedAt (arityIn g tag) ts tag)
   held-operands tag h = values (liveAt M (look M (stateHeld ts cs)) tag) ts tag (arityIn g tag) h (held-value tag 0) (held-value tag 1)
 
-  pub held-taken : (k : Key) → taken M (keyHeld k) (map tokenHeld ts) ≡ isTaken ts k
+  pub held-taken : (k : Key) → keyTaken M (keyHeld k) (map tokenHeld ts) ≡ isTaken ts k
   unfolding isTaken
   held-taken k = rw (held-find g table capacity cells (k .tag) (k .port) noToken ts) (found-there ts (firstFrom (standsAt (k .tag) (k .port)) 0 ts))
 
@@ -225,11 +225,11 @@ module _ (g : List Instruction) (table : List NamedArray) (capacity cells : ℕ)
       go false e = when-no (sameKey M (keyHeld j) (keyHeld k)) true false (not-stands (k .tag) (k .port) (keyed j) e)
 
   -- refusal 8
-  pub held-exceeds : (o : Outputs) → o .count ≤ 2 → exceeds M (map tokenHeld ts) (keysOf o) ≡ ltb capacity (length ts + o .count)
+  pub held-exceeds : (o : Outputs) → o .count ≤ 2 → exceeds M (map tokenHeld ts) (outputKeys o) ≡ ltb capacity (length ts + o .count)
   held-exceeds o h = rw (length-map ts tokenHeld, keys-count (o .count) (o .first) (o .second) h)
 
   -- refusal 9
-  pub held-any-taken : (o : Outputs) → o .count ≤ 2 → anyTaken M (map tokenHeld ts) (keysOf o) ≡ anyTakenOf ts o
+  pub held-any-taken : (o : Outputs) → o .count ≤ 2 → anyTaken M (map tokenHeld ts) (outputKeys o) ≡ anyTakenOf ts o
   unfolding anyTakenOf
   held-any-taken o h = go (o .count) h
     where
@@ -244,8 +244,8 @@ module _ (g : List Instruction) (table : List NamedArray) (capacity cells : ℕ)
       go (suc (suc (suc n))) h = absurd (omega arith)
 
   pub held-admitted : (o : Outputs) → o .count ≤ 2 → (left : Ledger M) (cells′ : List (Cell ℤ)) (x : Content ℤ)
-      → admit M (stateHeld ts cs) left cells′ x (keysOf o)
-      ≡ byAdmitted (admittedOf capacity ts o) (fired (record { tokens = left ++ map (output x) (keysOf o); cells = cells′ }))
+      → admit M (stateHeld ts cs) left cells′ x (outputKeys o)
+      ≡ byAdmitted (admittedOf capacity ts o) (fired (record { tokens = left ++ map (output x) (outputKeys o); cells = cells′ }))
   unfolding admit admittedOf
   held-admitted o h left cells′ x =
       rw (held-exceeds o h, held-any-taken o h) (by-tests (ltb capacity (length ts + o .count)) (anyTakenOf ts o) _)

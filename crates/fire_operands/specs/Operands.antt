@@ -18,13 +18,12 @@ use Rattle.store_chains.specs.declared.Found.the-variants as Search
 use Rattle.store_chains.specs.declared.Slot.{Slot}
 use Rattle.store_chains.specs.Search.{firstFrom, isFound, Free}
 use Rattle.store_chains.specs.Slots.{Open}
-use Rattle.store_enabled.specs.Enabled.{placeOf, allLive}
+use Rattle.store_enabled.specs.Enabled.{earliestOf, operandsLive}
 use Rattle.abstraction.specs.States.{noToken}
 use Rattle.fire_effect.specs.declared.output.Key.{Key}
 use Rattle.fire_effect.specs.declared.output.Outputs.{Outputs}
 use Rattle.rules.specs.declared.answer.Refusal.{Refusal}
 use Rattle.rules.specs.declared.answer.Refusal.the-variants.{LedgerFull, SecondToken}
-use Rattle.number.specs.Number.{signedOf}
 use Rattle.fire_operands.specs.declared.Admitted.{Admitted}
 use Rattle.fire_operands.specs.declared.Admitted.the-variants as Admits
 
@@ -40,13 +39,13 @@ pub data Matched : Type 0 where
   Both : (first second : ℕ) → (left right : ℤ) → Matched
   Missing : Matched
 
-unfoldable pub operandOf : (place : ℕ) → Content → Operand
-operandOf i (Live v) = Held i v
-operandOf i (Spent v) = Lacking
-operandOf i (Deferred cell) = Lacking
+unfoldable pub operandHeld : (place : ℕ) → Content → Operand
+operandHeld i (Live v) = Held i v
+operandHeld i (Spent v) = Lacking
+operandHeld i (Deferred cell) = Lacking
 
 unfoldable pub operandFound : List Token → Found → Operand
-operandFound ts (Search.At i) = operandOf i (getD ts i noToken .content)
+operandFound ts (Search.At i) = operandHeld i (getD ts i noToken .content)
 operandFound ts Search.Nothing = Lacking
 
 unfoldable pub operandAt : List Token → Tag → (port : ℕ) → Operand
@@ -66,19 +65,21 @@ matchedAt n ts tag =
     cond (eqb n 0) Missing
     (cond (eqb n 1) (one (operandAt ts tag 0)) (two (operandAt ts tag 0) (operandAt ts tag 1)))
 
--- the bits of a content as a value: that of a live token
-abbrev pub valueIn : Content → ℤ
-valueIn (Live v) = v
-valueIn (Spent v) = v
-valueIn (Deferred cell) = signedOf cell
+-- of the place of a token on a port and that of its partner, the one on port 0; of the partner's and its own, the one on port 1
+abbrev pub byPort : (port own other : ℕ) → ℕ
+byPort port own other = cond (eqb port 0) own other
+
+-- the operands of an activity with a token on a port at its place, whose partner is at another
+abbrev pub bothAt : (port place other : ℕ) → (left right : ℤ) → Matched
+bothAt port place other v w = Both (byPort port place other) (byPort port other place) v w
 
 -- "Its place is the ledger position of its earliest operand": the token there is the earliest of the tag, and stands on a port that is waited for; all operands
 -- of the tag are live
 pub record Earliest (arity : ℕ) (ts : List Token) (tag : Tag) (place : ℕ) : Type 0 where
   pub within : place < length ts
-  pub first : placeOf ts tag ≡ place
+  pub first : earliestOf ts tag ≡ place
   pub waited : 0 < arity → getD ts place noToken .port < arity
-  pub enabled : allLive arity ts tag ≡ true
+  pub enabled : operandsLive arity ts tag ≡ true
 
 -- ---- the outputs
 
@@ -108,8 +109,8 @@ anyTakenOf ts o =
     (cond (sameKeys (o .first) (o .second)) true (isTaken ts (o .second)))))
 
 -- a slot of the second of two outputs, as it is once the first has arrived as the token at place `used`
-abbrev pub Beside : (first second : Key) → (s : Slot) → (used : ℕ) → (s′ : Slot) → Type 0
-Beside j k s used s′ = (ts : List Token) (x : Content) → length ts ≡ used → (j .port < 2) × (k .port < 2) → sameKeys j k ≡ false
+abbrev pub SlotBeside : (first second : Key) → (s : Slot) → (used : ℕ) → (s′ : Slot) → Type 0
+SlotBeside j k s used s′ = (ts : List Token) (x : Content) → length ts ≡ used → (j .port < 2) × (k .port < 2) → sameKeys j k ≡ false
     → Free ts (j .tag) (j .port) → Open ts (k .tag) (k .port) s → Open (ts ++ tokenOut x j ∷ []) (k .tag) (k .port) s′
 
 -- refusal 8, then 9

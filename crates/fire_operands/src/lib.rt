@@ -12,15 +12,15 @@ use store_chains::Sought;
 ghost use mathlib.Core.Path.{_≡_};
 ghost use Prim.Native.Nat.{_/_, _≤_, _<_};
 ghost use lib.ListN.{length};
-ghost use Rattle.record.specs.TokensAndTags.{tokens};
+ghost use Rattle.record.specs.TokensAndTags.{tokens, tokenAt, valueIn};
 ghost use Rattle.record.specs.Widths.{tokenWidth};
 ghost use Rattle.store_enabled.specs.Store.{Known, placeOr};
-ghost use Rattle.fire_operands.specs.Operands.{Both, valueIn, Earliest, matchedAt, sameKeys, Beside, LowPorts, admittedOf, AdmittedAs};
+ghost use Rattle.fire_operands.specs.Operands.{bothAt, Earliest, matchedAt, sameKeys, SlotBeside, LowPorts, admittedOf, AdmittedAs};
 
-// The operands of an enabled activity, by their places and values. Where one is waited for, it stands for both.
+// The operands of an enabled activity: one stands at its place, the other here, and the values are by ports. Where one is waited for,
+// it stands for both.
 pub struct Operands {
-    pub first: usize,
-    pub second: usize,
+    pub other: usize,
     pub left: i32,
     pub right: i32,
 }
@@ -62,15 +62,14 @@ pub fn operands_of(
     place: usize,
 ) -> Operands
     requires { ⌜ Known (now links) (now ledger) used × Earliest arity (tokens used (now ledger)) tag place ⌝ }
-    ensures { λ r. ⌜ Both (r .first) (r .second) (r .left) (r .right) ≡ matchedAt arity (tokens used (now (ledger .entry))) tag ⌝ }
+    ensures { λ r. ⌜ bothAt (tokenAt (now (ledger .entry)) place .port) place (r .other) (r .left) (r .right) ≡ matchedAt arity (tokens used (now (ledger .entry))) tag ⌝ }
 {
     let t = token::token_at(ledger, place);
     let content = t.content;
     let own = value_in(content);
     if arity != 2 {
         return Operands {
-            first: place,
-            second: place,
+            other: place,
             left: own,
             right: own,
         };
@@ -81,15 +80,13 @@ pub fn operands_of(
     let value = value_in(found);
     if t.port == 0 {
         Operands {
-            first: place,
-            second: other,
+            other,
             left: own,
             right: value,
         }
     } else {
         Operands {
-            first: other,
-            second: place,
+            other,
             left: value,
             right: own,
         }
@@ -107,7 +104,7 @@ fn same_keys(a: Key, b: Key) -> bool
 // The slot of the second of two outputs that differ, once the first stands in record `used`: where both have one tag, they are
 // partners.
 fn beside(first: Key, second: Key, slot: Slot, used: usize) -> Slot
-    ensures { λ r. ⌜ Beside first second slot used r ⌝ }
+    ensures { λ r. ⌜ SlotBeside first second slot used r ⌝ }
 {
     let t = first.tag;
     let u = second.tag;

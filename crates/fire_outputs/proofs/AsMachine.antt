@@ -18,9 +18,9 @@ use Rattle.machine.specs.Machine.{Key, Content, live, deferred, Token, Cell, wh
 use Rattle.rules.specs.Run.{contentHeld, tokenHeld}
 use Rattle.fire_effect.specs.declared.output.Outputs.{Outputs}
 use Rattle.fire_effect.specs.declared.output.Key as EffectKey
-use Rattle.fire_effect.specs.Effects.{keysHeld, keysOf}
+use Rattle.fire_effect.specs.Effects.{keysHeld, outputKeys}
 use Rattle.abstraction.specs.States.{cellHeld}
-use Rattle.fire_outputs.specs.Outputs.{outputsBy, outputsOf, cellFetched, contentFetched}
+use Rattle.fire_outputs.specs.Outputs.{outputsBy, outputTokens, cellFetched, contentFetched}
 use Rattle.fire_outputs.proofs.Spent.{map-map, map-same}
 
 -- ---- outputs
@@ -30,7 +30,7 @@ outputs-by zero j k x = refl
 outputs-by (suc zero) j k x = refl
 outputs-by (suc (suc n)) j k x = refl
 
-pub outputs-held : (o : Outputs) (x : RecordContent.Content) → map (output (contentHeld x)) (keysOf o) ≡ map tokenHeld (outputsOf x o)
+pub outputs-held : (o : Outputs) (x : RecordContent.Content) → map (output (contentHeld x)) (outputKeys o) ≡ map tokenHeld (outputTokens x o)
 outputs-held o x = outputs-by (o .count) (o .first) (o .second) x
 
 -- ---- tokens that wake

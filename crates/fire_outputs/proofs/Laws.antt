@@ -10,12 +10,12 @@ use native.Mathlib.Nat.{add-zero}
 use native.Mathlib.Numerals.{add-one}
 use lib.IntN.{ℤ}
 use lib.ListN.{length, getD, set, take, drop, length-append, length-drop, length-map, length-set}
-use lib.Seq.{length-take-le, drop-drop, drop-at, drop-set-lt, getD-set-other, set-getD, set-set}
+use lib.Seq.{length-take-le, drop-drop, drop-at, drop-set-lt, getD-set-other, set-getD, set-set, set-comm}
 use lib.Dec.{eqb}
 use borrow.Author.Tests.{eq-eqb, ne-eqb}
 use denote.Enum.Declared.{tagOf}
 use Rattle.buffer.specs.Rows.{putRow, joined, All}
-use Rattle.record.specs.TokensAndTags.{tokens, tokenAt, decode, encode, standsAt}
+use Rattle.record.specs.TokensAndTags.{tokens, tokenAt, decodeToken, encodeToken, standsAt}
 use Rattle.record.specs.Cells as Cells
 use Rattle.record.specs.declared.tag.Tag.{Tag}
 use Rattle.record.specs.declared.token.Token.{Token}
@@ -35,7 +35,8 @@ use Rattle.store_chains.specs.Search.{firstFrom}
 use Rattle.store_chains.specs.Slots.{Open}
 use Rattle.store_chains.specs.Deferred.{LowCell, woken}
 use Rattle.store_chains.proofs.Search.{first-set, first-map, first-kept, first-added, first-none-added}
-use Rattle.store_enabled.specs.Store.{Operands, statesSpent, tokensSpent}
+use Rattle.store_enabled.specs.Store.{Spendable, statesSpent, tokensSpent}
+use Rattle.store_enabled.proofs.Spending.{spendable-within}
 use Rattle.store.specs.Matching.{spentToken, Matching}
 use Rattle.store.proofs.Laws.{matching-room}
 use Rattle.fire_effect.specs.declared.output.Key.{Key}
@@ -43,8 +44,8 @@ use Rattle.fire_effect.specs.declared.output.Outputs.{Outputs}
 use Rattle.fire_effect.specs.declared.operate.Action.{Action}
 use Rattle.fire_effect.specs.declared.operate.Action.the-variants.{Send, Read, Write}
 use Rattle.abstraction.specs.States.{noToken}
-use Rattle.fire_operands.specs.Operands.{LowPortsBy, OpenKeysBy}
-use Rattle.fire_outputs.specs.Outputs.{spendOne, spentAt, tokenOut, outputsBy, outputsOf, LowPorts, OpenKeys, cellsIn, CellStore, cellFetched, cellsFetched, contentFetched, isPresent, OnCells, contentBy, wokenBy, writesAgain, Kept, CellsKept}
+use Rattle.fire_operands.specs.Operands.{byPort, LowPortsBy, OpenKeysBy}
+use Rattle.fire_outputs.specs.Outputs.{spendOne, spentAt, tokenOut, outputsBy, outputTokens, LowPorts, OpenKeys, cellsIn, CellStore, cellFetched, cellsFetched, contentFetched, isPresent, OnCells, contentGiven, wokenBy, writesAgain, Kept, CellsKept}
 
 -- ---- one record of a table is replaced
 
@@ -89,7 +90,7 @@ rest-on l m n k h e =
 
 -- a token of the list is that of its record
 pub token-held : (n i : ℕ) (l : List ℕ) → i < n → getD (tokens n l) i noToken ≡ tokenAt l i
-token-held n i l h = getD-rows tokenWidth decode n i l noToken h
+token-held n i l h = getD-rows tokenWidth decodeToken n i l noToken h
 
 -- ---- operands that are spent
 
@@ -116,6 +117,31 @@ spent-both n i j l h k = go (ℕ-discrete i j)
     go (yes e) = rw (spent-one i j ts e, token-held n i l h, ← e) (set-set ts i u u)
     go (no apart) = rw (spent-two i j ts apart, token-held n i l h, getD-set-other ts i j u noToken (λ e. apart (sym e)), token-held n j l k)
 
+-- it does not matter which is spent first
+spent-either : (i j : ℕ) (ts : List Token) → spentAt i j ts ≡ spentAt j i ts
+unfolding spendOne
+spent-either i j ts = go (ℕ-discrete i j)
+  where
+    sp : ℕ → Token
+    sp k = spentToken (getD ts k noToken)
+
+    go : Dec (i ≡ j) → spentAt i j ts ≡ spentAt j i ts
+    go (yes e) = rw e
+    go (no apart) =
+        spent-two i j ts apart
+        ∙ ap (λ (t : Token). set (set ts i (sp i)) j (spentToken t)) (getD-set-other ts i j (sp i) noToken (λ e. apart (sym e)))
+        ∙ set-comm ts i j (sp i) (sp j) apart
+        ∙ sym (ap (λ (t : Token). set (set ts j (sp j)) i (spentToken t)) (getD-set-other ts j i (sp j) noToken apart))
+        ∙ sym (spent-two j i ts (λ e. apart (sym e)))
+
+-- the operands by ports
+pub spent-by-port : (port p q : ℕ) (ts : List Token) → spentAt p q ts ≡ spentAt (byPort port p q) (byPort port q p) ts
+spent-by-port port p q ts = go (eqb port 0)
+  where
+    go : (b : Bool) → spentAt p q ts ≡ spentAt (cond b p q) (cond b q p) ts
+    go true = refl
+    go false = spent-either p q ts
+
 -- ---- what a step leaves
 
 module _ {tables links flags l : List ℕ} {used : ℕ} (m : Matching tables links flags l used) where
@@ -126,44 +152,45 @@ module _ {tables links flags l : List ℕ} {used : ℕ} (m : Matching tables lin
   kept-same = record { matching = m; held = refl; size = refl; rest = refl }
 
   -- the operands are spent
-  pub kept-spent : {i j : ℕ} → Operands l used i j → {flags′ l′ : List ℕ} → l′ ≡ statesSpent l i j → tokens used l′ ≡ tokensSpent used l i j
+  pub kept-spent : {i j : ℕ} → Spendable l used i j → {flags′ l′ : List ℕ} → l′ ≡ statesSpent l i j → tokens used l′ ≡ tokensSpent used l i j
       → Matching tables links flags′ l′ used
       → Kept tables links flags′ l′ used (spentAt i j (tokens used l)) l
   kept-spent {i} {j} o put e n =
       let m = set l (i * tokenWidth + stateOffset) 1 in
+      let inside = spendable-within o in
       record {
         matching = n;
-        held = e ∙ spent-both used i j l (o .firstWithin) (o .secondWithin);
+        held = e ∙ spent-both used i j l (inside .0) (inside .1);
         size = rw put (length-set m (j * tokenWidth + stateOffset) 1 ∙ length-set l (i * tokenWidth + stateOffset) 1);
-        rest = rw put (drop-set-lt (used * tokenWidth) m (j * tokenWidth + stateOffset) 1 (omega (arith, o .secondWithin)) ∙ drop-set-lt (used * tokenWidth) l (i * tokenWidth + stateOffset) 1 (omega (arith, o .firstWithin)));
+        rest = rw put (drop-set-lt (used * tokenWidth) m (j * tokenWidth + stateOffset) 1 (omega (arith, inside)) ∙ drop-set-lt (used * tokenWidth) l (i * tokenWidth + stateOffset) 1 (omega (arith, inside)));
       }
 
   -- a token arrives
-  pub kept-arrived : (t : Token) → used < length l / tokenWidth → {links′ flags′ l′ : List ℕ} → l′ ≡ putRow tokenWidth l used (encode t)
+  pub kept-arrived : (t : Token) → used < length l / tokenWidth → {links′ flags′ l′ : List ℕ} → l′ ≡ putRow tokenWidth l used (encodeToken t)
       → tokens (used + 1) l′ ≡ tokens used l ++ t ∷ []
       → Matching tables links′ flags′ l′ (used + 1)
       → Kept tables links′ flags′ l′ (used + 1) (tokens used l ++ t ∷ []) l
   kept-arrived t h put e n = record {
     matching = n;
     held = e;
-    size = rw put (put-size l (encode t) used (used + 1) (length-token t) (omega arith) (omega arith));
-    rest = rw put (put-rest l (encode t) used (used + 1) (length-token t) (omega arith) (omega arith));
+    size = rw put (put-size l (encodeToken t) used (used + 1) (length-token t) (omega arith) (omega arith));
+    rest = rw put (put-rest l (encodeToken t) used (used + 1) (length-token t) (omega arith) (omega arith));
   }
 
   -- tokens are woken
-  pub kept-woken : (cell : ℕ) (v : ℤ) → {links′ flags′ l′ : List ℕ} → l′ ≡ joined encode (map (woken cell v) (tokens used l)) ++ drop (used * tokenWidth) l
+  pub kept-woken : (cell : ℕ) (v : ℤ) → {links′ flags′ l′ : List ℕ} → l′ ≡ joined encodeToken (map (woken cell v) (tokens used l)) ++ drop (used * tokenWidth) l
       → tokens used l′ ≡ map (woken cell v) (tokens used l)
       → Matching tables links′ flags′ l′ used
       → Kept tables links′ flags′ l′ used (map (woken cell v) (tokens used l)) l
   kept-woken cell v put e n =
       let us = map (woken cell v) (tokens used l) in
       let room : used * tokenWidth ≤ length l = room-bytes in
-      let len : length (joined encode us) ≡ used * tokenWidth = length-joined tokenWidth encode length-token us ∙ rw (length-map (tokens used l) (woken cell v), length-rows tokenWidth decode used l) in
+      let len : length (joined encodeToken us) ≡ used * tokenWidth = length-joined tokenWidth encodeToken length-token us ∙ rw (length-map (tokens used l) (woken cell v), length-rows tokenWidth decodeToken used l) in
       record {
         matching = n;
         held = e;
-        size = rw put (length-append (joined encode us) (drop (used * tokenWidth) l) ∙ omega (arith, length-drop (used * tokenWidth) l));
-        rest = rw put (drop-at (joined encode us) (drop (used * tokenWidth) l) (used * tokenWidth) len);
+        size = rw put (length-append (joined encodeToken us) (drop (used * tokenWidth) l) ∙ omega (arith, length-drop (used * tokenWidth) l));
+        rest = rw put (drop-at (joined encodeToken us) (drop (used * tokenWidth) l) (used * tokenWidth) len);
       }
 
 -- two steps in turn: the second makes f of the tokens
@@ -284,7 +311,7 @@ module _ {tables links flags l start : List ℕ} {used : ℕ} {ts : List Token} 
   appending-none w = record { most = omega arith; kept = rw (add-zero used, append-nil ts) w; next = refl; place = refl }
 
   module _ {k : ℕ} {key : Key} {slot : Slot} (w : Appending tables links flags l used k ts o x s t key slot start) where
-    pub appending-all : (k < o .count → ⊥) → (used + k ≡ used + o .count) × Kept tables links flags l (used + o .count) (ts ++ outputsOf x o) start
+    pub appending-all : (k < o .count → ⊥) → (used + k ≡ used + o .count) × Kept tables links flags l (used + o .count) (ts ++ outputTokens x o) start
     appending-all z =
         let e : k ≡ o .count = omega (arith, w .most) in
         (ap (λ (n : ℕ). used + n) e, rw e at (w .kept))
@@ -336,8 +363,8 @@ all-set P (c ∷ cs) zero x a p = (p, a .1)
 all-set P (c ∷ cs) (suc i) x a p = (a .0, all-set P cs i x (a .1) p)
 
 -- a cell of the list is that of its record
-pub cell-held : (l : List ℕ) (i : ℕ) → i < length l / cellWidth → getD (cellsIn l) i Absent ≡ Cells.cellAt l i
-cell-held l i h = getD-rows cellWidth Cells.decode (length l / cellWidth) i l Absent h
+pub cell-held : (l : List ℕ) (i : ℕ) → i < length l / cellWidth → getD (cellsIn l) i Absent ≡ Cells.cellOfRecord l i
+cell-held l i h = getD-rows cellWidth Cells.decodeCell (length l / cellWidth) i l Absent h
 
 pub cells-same : {l : List ℕ} → CellStore l → CellsKept l (cellsIn l) l
 cells-same s = record { store = s; held = refl; size = refl }
@@ -345,19 +372,19 @@ cells-same s = record { store = s; held = refl; size = refl }
 pub cells-as : {l m : List ℕ} {cs ds : List Cell} → CellsKept l cs m → cs ≡ ds → CellsKept l ds m
 cells-as w e = record { store = w .store; held = w .held ∙ e; size = w .size }
 
-pub cells-written : {l : List ℕ} → CellStore l → (i : ℕ) (x : Cell) → i < length l / cellWidth → Cells.CellFits x → {l′ : List ℕ} → l′ ≡ putRow cellWidth l i (Cells.encode x)
+pub cells-written : {l : List ℕ} → CellStore l → (i : ℕ) (x : Cell) → i < length l / cellWidth → Cells.CellFits x → {l′ : List ℕ} → l′ ≡ putRow cellWidth l i (Cells.encodeCell x)
     → CellsKept l′ (set (cellsIn l) i x) l
 cells-written {l} s i x h f {l′} put =
     let n = length l / cellWidth in
     let cs = cellsIn l in
-    let size : length l′ ≡ length l = rw put (put-cell-size l (Cells.encode x) i (length-cell x) h) in
-    let count : length cs ≡ n = length-rows cellWidth Cells.decode n l in
+    let size : length l′ ≡ length l = rw put (put-cell-size l (Cells.encodeCell x) i (length-cell x) h) in
+    let count : length cs ≡ n = length-rows cellWidth Cells.decodeCell n l in
     let held : cellsIn l′ ≡ set cs i x = rw (size, put) (cells-put x f n i l h (omega arith)) in
-    let whole : l ≡ joined Cells.encode cs ++ [] = s .bytes ∙ sym (append-nil (joined Cells.encode cs)) in
-    let bytes : l′ ≡ joined Cells.encode (set cs i x) = put ∙ ap (λ (b : List ℕ). putRow cellWidth b i (Cells.encode x)) whole ∙ put-joined cellWidth Cells.encode length-cell cs [] i x (omega arith) ∙ append-nil (joined Cells.encode (set cs i x)) in
+    let whole : l ≡ joined Cells.encodeCell cs ++ [] = s .bytes ∙ sym (append-nil (joined Cells.encodeCell cs)) in
+    let bytes : l′ ≡ joined Cells.encodeCell (set cs i x) = put ∙ ap (λ (b : List ℕ). putRow cellWidth b i (Cells.encodeCell x)) whole ∙ put-joined cellWidth Cells.encodeCell length-cell cs [] i x (omega arith) ∙ append-nil (joined Cells.encodeCell (set cs i x)) in
     record {
       store = record {
-        bytes = bytes ∙ ap (joined Cells.encode) (sym held);
+        bytes = bytes ∙ ap (joined Cells.encodeCell) (sym held);
         fits = rw held (all-set Cells.CellFits cs i x (s .fits) f);
         few = omega arith;
       };
@@ -401,7 +428,7 @@ on-more (Read c) h o = omega arith
 on-more (Write c v) h o = omega arith
 
 -- what is deferred is so on the action's own cell
-pub low-content : (a : Action) (cs : List Cell) → OnCells 1024 a → LowCell (contentBy a cs)
+pub low-content : (a : Action) (cs : List Cell) → OnCells 1024 a → LowCell (contentGiven a cs)
 low-content (Send v) cs o = tt
 low-content (Read c) cs o = go (getD cs c Absent)
   where

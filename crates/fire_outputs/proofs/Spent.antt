@@ -21,7 +21,7 @@ use Rattle.store_chains.specs.declared.Found.{Found}
 use Rattle.store_chains.specs.declared.Found.the-variants.{At, Nothing}
 use Rattle.store_chains.specs.Search.{firstFrom}
 use Rattle.store.specs.Matching.{contentSpent, spentToken}
-use Rattle.machine.specs.Machine.{Machine, Token, changed, find, operandOf, spendAt}
+use Rattle.machine.specs.Machine.{Machine, Token, changed, find, isOperandOf, spendAt}
 use Rattle.machine.specs.Machine as Machines
 use Rattle.machine.specs.Orders.{Distinct}
 use Rattle.machine.proofs.View.{noneSome, falseTrue}
@@ -159,7 +159,7 @@ module _ (g : List Instruction) (table : List NamedArray) (capacity cells : ℕ)
       only-there (standsAt tag port) spentToken noToken ts i (f .within) (f .there) (elsewhere tag port i ts d e)
 
   -- the machine's way: every token by its key
-  by-key : (tag : Tag) (p : Record.Token → Bool) → ((t : Record.Token) → operandOf M tag (tokenHeld t .key) ≡ p t) → (ts : List Record.Token)
+  by-key : (tag : Tag) (p : Record.Token → Bool) → ((t : Record.Token) → isOperandOf M tag (tokenHeld t .key) ≡ p t) → (ts : List Record.Token)
       → map (changed (spendAt M tag)) (map tokenHeld ts) ≡ map tokenHeld (map (λ t. cond (p t) (spentToken t) t) ts)
   by-key tag p e ts =
       map-map (changed (spendAt M tag)) tokenHeld ts
@@ -181,7 +181,7 @@ module _ (g : List Instruction) (table : List NamedArray) (capacity cells : ℕ)
   stands-after tag (t ∷ ts) zero h = spent-stands tag 1 (standsAt tag 0 t) t
   stands-after tag (t ∷ ts) (suc k) h = stands-after tag ts k (omega arith)
 
-  both-ports : (tag : Tag) (t : Record.Token) → arityIn g tag ≡ 2 → operandOf M tag (tokenHeld t .key) ≡ (standsAt tag 0 t || standsAt tag 1 t)
+  both-ports : (tag : Tag) (t : Record.Token) → arityIn g tag ≡ 2 → isOperandOf M tag (tokenHeld t .key) ≡ (standsAt tag 0 t || standsAt tag 1 t)
   unfolding standsAt
   both-ports tag t a =
       held-operand g table capacity cells tag t

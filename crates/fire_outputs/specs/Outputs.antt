@@ -18,7 +18,7 @@ use Rattle.record.specs.Cells as Cells
 use Rattle.record.specs.Widths.{tokenWidth, cellWidth}
 use Rattle.store_flags.specs.Flags.{flagsOf}
 use Rattle.store_chains.specs.Deferred.{woken}
-use Rattle.store_enabled.specs.Store.{Operands, lower}
+use Rattle.store_enabled.specs.Store.{Spendable}
 use Rattle.store.specs.Matching.{spentToken, Matching}
 use Rattle.fire_effect.specs.declared.operate.Action.{Action}
 use Rattle.fire_effect.specs.declared.operate.Action.the-variants.{Send, Read, Write}
@@ -42,8 +42,8 @@ outputsBy (suc zero) j k x = tokenOut x j ∷ []
 outputsBy (suc (suc n)) j k x = tokenOut x j ∷ tokenOut x k ∷ []
 
 -- the outputs, destination 1 first, with one content
-abbrev pub outputsOf : Content → Outputs → List Token
-outputsOf x o = outputsBy (o .count) (o .first) (o .second) x
+abbrev pub outputTokens : Content → Outputs → List Token
+outputTokens x o = outputsBy (o .count) (o .first) (o .second) x
 
 -- ---- the cells
 
@@ -52,7 +52,7 @@ cellsIn l = Cells.cells (length l / cellWidth) l
 
 -- a store of whole cells, at most 1,024, in every byte those of its cells
 pub record CellStore (l : List ℕ) : Type 0 where
-  pub bytes : l ≡ joined Cells.encode (cellsIn l)
+  pub bytes : l ≡ joined Cells.encodeCell (cellsIn l)
   pub fits : All Cells.CellFits (cellsIn l)
   pub few : length l / cellWidth ≤ 1024
 
@@ -85,10 +85,10 @@ OnCells n (Read c) = c < n
 OnCells n (Write c v) = c < n
 
 -- the content of its outputs: a value, what FETCH finds, or a signal of value 0
-abbrev pub contentBy : Action → List Cell → Content
-contentBy (Send v) cs = Live v
-contentBy (Read c) cs = contentFetched c (getD cs c Absent)
-contentBy (Write c v) cs = Live (pos 0)
+abbrev pub contentGiven : Action → List Cell → Content
+contentGiven (Send v) cs = Live v
+contentGiven (Read c) cs = contentFetched c (getD cs c Absent)
+contentGiven (Write c v) cs = Live (pos 0)
 
 -- what it makes of the cells
 abbrev pub cellsBy : Action → List Cell → List Cell
@@ -123,11 +123,11 @@ pub record CellsKept (cells′ : List ℕ) (cs : List Cell) (cells : List ℕ) :
   pub held : cellsIn cells′ ≡ cs
   pub size : length cells′ ≡ length cells
 
--- what a firing is lent, with the places of its operands
-pub record Fireable (tables links flags ledger cells : List ℕ) (used i j : ℕ) : Type 0 where
+-- what a firing is lent, with the place of the activity and that of its other operand
+pub record Fireable (tables links flags ledger cells : List ℕ) (used place other : ℕ) : Type 0 where
   pub matching : Matching tables links flags ledger used
   pub few : length ledger / tokenWidth ≤ 2048
-  pub activity : Operands ledger used i j
+  pub activity : Spendable ledger used place other
   -- it is enabled
-  pub raised : getD (flagsOf flags) (lower i j) 0 ≡ 1
+  pub raised : getD (flagsOf flags) place 0 ≡ 1
   pub store : CellStore cells

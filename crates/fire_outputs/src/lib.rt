@@ -21,12 +21,12 @@ ghost use Rattle.record.specs.Widths.{tokenWidth, cellWidth};
 ghost use Rattle.store_chains.specs.Slots.{Open};
 ghost use Rattle.store_chains.specs.Deferred.{LowCell};
 ghost use Rattle.store.specs.Matching.{Matching};
-ghost use Rattle.fire_outputs.specs.Outputs.{Kept, CellStore, CellsKept, spentAt, tokenOut, outputsOf, LowPorts, OpenKeys, cellsIn, cellsFetched, contentFetched, OnCells, contentBy, cellsBy, wokenBy, writesAgain, Fireable};
+ghost use Rattle.fire_outputs.specs.Outputs.{Kept, CellStore, CellsKept, spentAt, tokenOut, outputTokens, LowPorts, OpenKeys, cellsIn, cellsFetched, contentFetched, OnCells, contentGiven, cellsBy, wokenBy, writesAgain, Fireable};
 
-// The places of an activity's operands in the ledger; where it has one operand, that place twice.
+// Where the operands of an activity stand in the ledger: at its place and at another; where it has one operand, that place twice.
 pub struct Places {
-    pub first: usize,
-    pub second: usize,
+    pub place: usize,
+    pub other: usize,
 }
 
 // An output goes in as record `used`, in its slot.
@@ -40,7 +40,12 @@ fn append_one(
     content: Content,
     slot: Slot,
 )
-    requires { ⌜ Matching (now tables) (now links) (now flags) (now ledger) used × (used < length (now ledger) / tokenWidth) × (used < 2048) × (key .port < 2) × LowCell content × Open (tokens used (now ledger)) (key .tag) (key .port) slot ⌝ }
+    requires { ⌜ Matching (now tables) (now links) (now flags) (now ledger) used
+        × (used < length (now ledger) / tokenWidth)
+        × (used < 2048)
+        × (key .port < 2)
+        × LowCell content
+        × Open (tokens used (now ledger)) (key .tag) (key .port) slot ⌝ }
     ensures { λ _. ⌜ Kept (now (tables .entry)) (now (links .exit)) (now (flags .exit)) (now (ledger .exit)) (used + 1)
         (tokens used (now (ledger .entry)) ++ tokenOut content key ∷ []) (now (ledger .entry)) ⌝ }
 {
@@ -72,9 +77,15 @@ fn append_outputs(
     first: Slot,
     second: Slot,
 ) -> usize
-    requires { ⌜ Matching (now tables) (now links) (now flags) (now ledger) used × (used + outputs .count ≤ length (now ledger) / tokenWidth) × (length (now ledger) / tokenWidth ≤ 2048) × (outputs .count ≤ 2) × LowPorts outputs × LowCell content × OpenKeys (tokens used (now ledger)) outputs first second ⌝ }
+    requires { ⌜ Matching (now tables) (now links) (now flags) (now ledger) used
+        × (used + outputs .count ≤ length (now ledger) / tokenWidth)
+        × (length (now ledger) / tokenWidth ≤ 2048)
+        × (outputs .count ≤ 2)
+        × LowPorts outputs
+        × LowCell content
+        × OpenKeys (tokens used (now ledger)) outputs first second ⌝ }
     ensures { λ r. ⌜ (r ≡ used + outputs .count) × Kept (now (tables .entry)) (now (links .exit)) (now (flags .exit)) (now (ledger .exit)) (used + outputs .count)
-        (tokens used (now (ledger .entry)) ++ outputsOf content outputs) (now (ledger .entry)) ⌝ }
+        (tokens used (now (ledger .entry)) ++ outputTokens content outputs) (now (ledger .entry)) ⌝ }
 {
     let n = outputs.count as usize;
     let mut key = outputs.first;
@@ -107,7 +118,7 @@ fn fetch(cells: &mut [u8], number: u32) -> Content
 // What an action makes of the cells; the answer is the content of its outputs. Those of STORE are signals of value 0.
 fn change_cells(cells: &mut [u8], action: Action) -> Content
     requires { ⌜ CellStore (now cells) × OnCells (length (now cells) / cellWidth) action ⌝ }
-    ensures { λ r. ⌜ r ≡ contentBy action (cellsIn (now (cells .entry))) ⌝ }
+    ensures { λ r. ⌜ r ≡ contentGiven action (cellsIn (now (cells .entry))) ⌝ }
     ensures { λ _. ⌜ CellsKept (now (cells .exit)) (cellsBy action (cellsIn (now (cells .entry)))) (now (cells .entry)) ⌝ }
 {
     match action {
@@ -153,12 +164,18 @@ pub fn carry_out(
     first: Slot,
     second: Slot,
 ) -> usize
-    requires { ⌜ Fireable (now tables) (now links) (now flags) (now ledger) (now cells) used (operands .first) (operands .second) × (used + outputs .count ≤ length (now ledger) / tokenWidth) × (outputs .count ≤ 2) × LowPorts outputs × OnCells (length (now cells) / cellWidth) action × OpenKeys (tokens used (now ledger)) outputs first second ⌝ }
+    requires { ⌜ Fireable (now tables) (now links) (now flags) (now ledger) (now cells) used (operands .place) (operands .other)
+        × (used + outputs .count ≤ length (now ledger) / tokenWidth)
+        × (outputs .count ≤ 2)
+        × LowPorts outputs
+        × OnCells (length (now cells) / cellWidth) action
+        × OpenKeys (tokens used (now ledger)) outputs first second ⌝ }
     ensures { λ r. ⌜ (r ≡ used + outputs .count) × Kept (now (tables .entry)) (now (links .exit)) (now (flags .exit)) (now (ledger .exit)) (used + outputs .count)
-        (wokenBy action (spentAt (operands .first) (operands .second) (tokens used (now (ledger .entry)))) ++ outputsOf (contentBy action (cellsIn (now (cells .entry)))) outputs) (now (ledger .entry))
+        (wokenBy action (spentAt (operands .place) (operands .other) (tokens used (now (ledger .entry))))
+        ++ outputTokens (contentGiven action (cellsIn (now (cells .entry)))) outputs) (now (ledger .entry))
         × CellsKept (now (cells .exit)) (cellsBy action (cellsIn (now (cells .entry)))) (now (cells .entry)) ⌝ }
 {
-    store::spend_operands(flags, ledger, operands.first, operands.second);
+    store::spend_operands(flags, ledger, operands.place, operands.other);
     let content = change_cells(cells, action);
     wake(tables, links, flags, ledger, used, action);
     append_outputs(

@@ -84,14 +84,14 @@ module _ (arrays before : List ℕ) where
     }
 
 -- as a list
-listed-rows : (arrays : List ℕ) (f : ℕ → NamedArray) (n i : ℕ) → ((k : ℕ) → k < n → f (i + k) ≡ arrayIn arrays (i + k)) → listFrom i n f ≡ rows arrayWidth Arrays.decode n (drop (i * arrayWidth) arrays)
+listed-rows : (arrays : List ℕ) (f : ℕ → NamedArray) (n i : ℕ) → ((k : ℕ) → k < n → f (i + k) ≡ arrayIn arrays (i + k)) → listFrom i n f ≡ rows arrayWidth Arrays.decodeArray n (drop (i * arrayWidth) arrays)
 listed-rows arrays f zero i h = refl
 listed-rows arrays f (suc n) i h =
     let z : i + 0 ≡ i = omega arith in
     let here : f i ≡ arrayIn arrays i = rw z at (h 0 (omega arith)) in
     let next = listed-rows arrays f n (suc i) (λ k l. let s : i + suc k ≡ suc i + k = omega arith in rw s at (h (suc k) (omega arith))) in
     let d : drop (suc i * arrayWidth) arrays ≡ drop arrayWidth (drop (i * arrayWidth) arrays) = (let s : suc i * arrayWidth ≡ i * arrayWidth + arrayWidth = omega arith in rw s) ∙ sym (drop-drop arrayWidth (i * arrayWidth) arrays) in
-    λ j. here j ∷ (next ∙ ap (rows arrayWidth Arrays.decode n) d) j
+    λ j. here j ∷ (next ∙ ap (rows arrayWidth Arrays.decodeArray n) d) j
 
 pub all-named : (arrays before after : List ℕ) (i : ℕ) → Naming arrays before after i → length arrays / arrayWidth ≤ i → arraysIn after ≡ arraysOf arrays
 unfolding arraysIn

@@ -11,7 +11,7 @@ ghost use Prim.Native.Nat.{ℕ, _+_, _/_, _≤_, _<_};
 ghost use lib.ListN.{length, getD};
 ghost use Rattle.record.specs.Widths.{arrayWidth};
 ghost use Rattle.record.specs.Arrays.{mostArrays, arraysOf};
-ghost use Rattle.record.specs.GraphRecords.{Counts, graphOf};
+ghost use Rattle.record.specs.GraphRecords.{OperandCounts, graphOf};
 ghost use Rattle.record.specs.declared.tag.Tag.{Tag};
 ghost use Rattle.rules.specs.InstructionSet.{arityIn};
 ghost use Rattle.store_enabled.specs.Enabled.{waitedFor};
@@ -22,7 +22,7 @@ ghost use Rattle.abstraction.specs.Tables.{Arities, Returns, arraysIn, TablesOf
 
 // The entry of instruction i, which says for each of its activities how many operands that waits for.
 fn entry_at(counts: &[u8; 256], graph: &[u8], i: usize) -> u16
-    requires { ⌜ Counts (now counts) ⌝ }
+    requires { ⌜ OperandCounts (now counts) ⌝ }
     ensures { λ r. ⌜ ((tag : Tag) → tag .instruction ≡ i → waitedFor r tag ≡ arityIn (graphOf (now (graph .entry))) tag) ⌝ }
 {
     if i < graph.len() / instruction::WIDTH {

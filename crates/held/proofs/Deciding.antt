@@ -4,7 +4,7 @@ use mathlib.Core.Path.{_≡_, refl, sym, ap, subst, _∙_}
 use mathlib.Core.Bool.{Bool, true, false, _&&_}
 use mathlib.Core.List.{List, [], _∷_, map}
 use native.Mathlib.Omega.{arith}
-use lib.Dec.{eqb, ltb}
+use lib.Dec.{eqb, leb, ltb}
 use lib.ListN.{length, getD, set}
 use lib.Seq.{getD-set-same, getD-set-other}
 use borrow.Author.Tests.{eqb-true, eqb-false, ltb-true, ltb-false, lt-ltb}
@@ -12,22 +12,20 @@ use Rattle.record.specs.declared.tag.Tag.{Tag}
 use Rattle.record.specs.declared.token.Token.{Token}
 use Rattle.record.specs.declared.instruction.Instruction.{Instruction}
 use Rattle.record.specs.TokensAndTags.{tokens, tokenAt}
+use lib.IntN.{ℤ}
+use Rattle.machine.specs.Machine as Rules
 use Rattle.rules.specs.Check.{instructionAt}
 use Rattle.rules.specs.Run.{tokenHeld}
 use Rattle.store_flags.specs.Flags.{ones, place, places, placesFrom, Under, flagsOf, Counted}
 use Rattle.store_flags.specs.Marks.{bit}
 use Rattle.store_flags.proofs.Laws.{Binary, ones-places, place-places, place-one}
 use Rattle.abstraction.specs.Tables.{Arities}
-use Rattle.held.specs.Searching.{holdsBy, HolderFrom, Marked}
-use Rattle.held.specs.Deciding.{heldBy, ClearFrom, heldAt, Decided, isNext, Listed}
-use Rattle.held.proofs.Searching.{any-by-first}
-use Rattle.held.proofs.Laws.{other-free, next-held}
+use Rattle.held.specs.Searching.{holdsBy, HolderFrom, Skipped, MarkedPast}
+use Rattle.held.specs.Deciding.{heldBy, ClearFrom, heldAt, HeldDecided, isNext, isLateNext, Listed, Standing, AllStanding, LookedAt}
+use Rattle.held.proofs.Searching.{holds-old, any-by-first}
+use Rattle.held.proofs.Laws.{and-false, other-free, early-free, next-held}
 
 -- ---- one
-
-and-false : (a b : Bool) → b ≡ false → (a && b) ≡ false
-and-false true b e = e
-and-false false b e = refl
 
 module _ (g : List Instruction) (tables ledger : List ℕ) (k used : ℕ) (flags marks : List ℕ) (i : ℕ) where
   pub lowered-free : eqb (getD flags i 0) 1 ≡ false → false ≡ heldAt g k flags ledger used i
@@ -37,7 +35,7 @@ module _ (g : List Instruction) (tables ledger : List ℕ) (k used : ℕ) (flags
   other-free-at t same e =
       sym (and-false (eqb (getD flags i 0) 1) _ (ap (λ (u : Token). heldBy g k (map tokenHeld (tokens used ledger)) (u .tag)) (sym same) ∙ other-free g k (map tokenHeld (tokens used ledger)) (t .tag) e))
 
-  module _ (m : Marked tables ledger k used marks) (few : used ≤ 2048) (low : i < used) where
+  module _ (m : MarkedPast tables ledger k used marks) (few : used ≤ 2048) (low : i < used) where
     pub mark-low : getD marks i 0 ≤ used
     mark-low = go (ltb used (getD marks i 0)) refl
       where
@@ -150,11 +148,64 @@ module _ (f : ℕ → Bool) (nexts : List ℕ) where
           low true e = listed (let z = eqb-false (getD nexts i 0) 0 q in omega arith)
           low false e = absurd (eqb-false (getD nexts i 0) 0 q (clear i (ltb-false i used e)))
 
-pub listed-free : (g : List Instruction) (k : ℕ) (flags nexts ledger : List ℕ) (used : ℕ) → Listed g flags nexts ledger used → (i : ℕ) → i < used → getD nexts i 0 ≡ 0 → heldAt g k flags ledger used i ≡ false
-unfolding isNext
-listed-free g k flags nexts ledger used l i low none = go (eqb (getD flags i 0) 1) (eqb (instructionAt g (tokenAt ledger i .tag .instruction) .code) 7) refl (l i low none)
+pub listed-free : (g : List Instruction) (k : ℕ) (flags nexts ledger : List ℕ) (used : ℕ) → Listed g k flags nexts ledger used → (i : ℕ) → i < used → getD nexts i 0 ≡ 0 → heldAt g k flags ledger used i ≡ false
+unfolding isNext isLateNext
+listed-free g k flags nexts ledger used l i low none =
+    go (eqb (getD flags i 0) 1) (eqb (instructionAt g (tokenAt ledger i .tag .instruction) .code) 7) (leb k (tokenAt ledger i .tag .iteration + 1)) refl refl (l i low none)
   where
-    go : (a n : Bool) → eqb (instructionAt g (tokenAt ledger i .tag .instruction) .code) 7 ≡ n → (a && n) ≡ false → (a && heldBy g k (map tokenHeld (tokens used ledger)) (tokenAt ledger i .tag)) ≡ false
-    go false n e f = refl
-    go true false e f = other-free g k (map tokenHeld (tokens used ledger)) (tokenAt ledger i .tag) e
-    go true true e f = let z : _≡_ {A = ℕ} 0 1 = ap (λ (x : Bool). bit x) (sym f) in absurd (omega arith)
+    ts : List (Rules.Token Tag ℤ)
+    ts = map tokenHeld (tokens used ledger)
+
+    go : (a n y : Bool) → eqb (instructionAt g (tokenAt ledger i .tag .instruction) .code) 7 ≡ n → leb k (tokenAt ledger i .tag .iteration + 1) ≡ y → (a && (n && y)) ≡ false
+        → (a && heldBy g k ts (tokenAt ledger i .tag)) ≡ false
+    go false n y e q f = refl
+    go true false y e q f = other-free g k ts (tokenAt ledger i .tag) e
+    go true true false e q f = early-free g k ts (tokenAt ledger i .tag) q
+    go true true true e q f = let z : _≡_ {A = ℕ} 0 1 = ap (λ (x : Bool). bit x) (sym f) in absurd (omega arith)
+
+-- ---- the record that a search stands at
+
+module _ (g : List Instruction) (ledger : List ℕ) (k used i : ℕ) where
+  pub looked-none : (marks : List ℕ) → LookedAt g ledger k used i false marks marks
+  looked-none marks = record { same = λ j h n. refl; stands = λ e. let z : _≡_ {A = ℕ} 0 1 = ap bit e in absurd (omega arith) }
+
+  pub looked-on : (tables marks₀ marks : List ℕ) → length marks₀ ≡ 4096 → used ≤ 2048 → Skipped tables ledger used marks₀ marks → i < used → (t : Token) → t ≡ tokenAt ledger i
+      → eqb (instructionAt g (t .tag .instruction) .code) 7 ≡ true
+      → (r : ℕ) → HolderFrom tables ledger used (tokenAt ledger i .tag .path) k (tokenAt ledger i .tag .iteration + 1) (getD marks₀ i 0) r
+      → (marks′ : List ℕ) → marks′ ≡ set marks i r → LookedAt g ledger k used i (ltb r used) marks₀ marks′
+  unfolding isNext
+  looked-on tables marks₀ marks size few s low t same next r h marks′ e = record {
+    same = λ j l n. rw e (getD-set-other marks i j r 0 n) ∙ s .same j l;
+    stands = λ o.
+        let below : r < used = ltb-true r used o in
+        let old = holds-old tables k (tokenAt ledger i .tag .path) (tokenAt ledger i .tag .iteration + 1) (tokenAt ledger r) (h .one below) in
+        record {
+          inside = low;
+          below = omega (arith, mine, below);
+          next = ap (λ (u : Token). eqb (instructionAt g (u .tag .instruction) .code) 7) (sym same) ∙ next;
+          old = rw mine old;
+        };
+  }
+    where
+      mine : getD marks′ i 0 ≡ r
+      mine = rw e (getD-set-same marks i r 0 (omega (arith, s .size)))
+
+  -- a look at one, and its flag
+  pub one-standing : (held marks : List ℕ) → used ≤ 2048 → AllStanding g ledger k used held marks → i < length held → (on : Bool) (marks′ : List ℕ) → LookedAt g ledger k used i on marks marks′
+      → (held′ : List ℕ) → held′ ≡ set held i (bit on) → AllStanding g ledger k used held′ marks′
+  one-standing held marks few all inside on marks′ l held′ e j one = go (eqb j i) refl
+    where
+      on-true : (b : Bool) → bit b ≡ 1 → b ≡ true
+      on-true true h = refl
+      on-true false h = absurd (omega arith)
+
+      go : (b : Bool) → eqb j i ≡ b → Standing g ledger k used marks′ j
+      go true q =
+          let same = eqb-true j i q in
+          let mine : bit on ≡ 1 = sym (rw (e, same) (getD-set-same held i (bit on) 0 inside)) ∙ one in
+          rw same (l .stands (on-true on mine))
+      go false q =
+          let other = eqb-false j i q in
+          let was = all j (sym (rw e (getD-set-other held i j (bit on) 0 other)) ∙ one) in
+          let mark = l .same j (omega (arith, was .inside)) other in
+          record { inside = was .inside; below = omega (arith, mark, was .below); next = was .next; old = rw mark (was .old) }

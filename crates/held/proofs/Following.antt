@@ -12,7 +12,7 @@ use Rattle.record.specs.declared.tag.Path.{Path}
 use Rattle.record.specs.declared.tag.Tag.{Tag}
 use Rattle.record.specs.declared.token.Token.{Token}
 use Rattle.record.specs.declared.instruction.Instruction.{Instruction}
-use Rattle.record.specs.TokensAndTags.{tokenAt}
+use Rattle.record.specs.TokensAndTags.{tokenAt, isSpentRecord}
 use Rattle.machine.specs.Machine.{onOption}
 use Rattle.rules.specs.Check.{instructionAt}
 use Rattle.rules.specs.Held.{standsIn}
@@ -21,8 +21,8 @@ use Rattle.store_flags.specs.Marks.{bit}
 use Rattle.store_flags.proofs.Laws.{zero-at}
 use Rattle.store_flags.proofs.Words.{none-set, counted-none}
 use Rattle.ending.specs.Endings.{properBy}
-use Rattle.held.specs.Searching.{holdsBy, Marked}
-use Rattle.held.specs.Deciding.{ClearFrom, isSpent, isNext, Listed, NewListed, Dropped, spentThere, asBefore, FlagsUnspent, Later, Carried, Kept}
+use Rattle.held.specs.Searching.{holdsBy, MarkedPast}
+use Rattle.held.specs.Deciding.{ClearFrom, isNext, isLateNext, Listed, NewListed, Dropped, spentThere, asBefore, FlagsUnspent, Standing, AllStanding, Later, Carried, HeldKept}
 
 set-zero : (l : List ℕ) (i : ℕ) → getD (set l i 0) i 0 ≡ 0
 set-zero [] i = refl
@@ -31,14 +31,19 @@ set-zero (x ∷ l) (suc i) = set-zero l i
 
 -- ---- more records
 
-pub marked-more : (tables ledger : List ℕ) (k used n : ℕ) (marks : List ℕ) → used ≤ n → Marked tables ledger k used marks → Marked tables ledger k n marks
+pub marked-more : (tables ledger : List ℕ) (k used n : ℕ) (marks : List ℕ) → used ≤ n → MarkedPast tables ledger k used marks → MarkedPast tables ledger k n marks
 marked-more tables ledger k used n marks h m = record {
   size = m .size;
   past = λ i j l u. let p = m .past i j l u in (omega (arith, p .0), omega (arith, p .1), p .2);
   skips = λ j i l u. let p = m .skips j i l u in (omega (arith, p .0), p .1);
 }
 
-module _ (g : List Instruction) (ledger : List ℕ) (used n : ℕ) (nexts held nexts′ : List ℕ) (new : NewListed g ledger used n nexts nexts′) where
+pub standing-more : (g : List Instruction) (ledger : List ℕ) (k used n : ℕ) (held marks : List ℕ) → used ≤ n → AllStanding g ledger k used held marks → AllStanding g ledger k n held marks
+standing-more g ledger k used n held marks h all i one =
+    let was = all i one in
+    record { inside = omega (arith, was .inside); below = omega (arith, was .below); next = was .next; old = was .old }
+
+module _ (g : List Instruction) (k : ℕ) (ledger : List ℕ) (used n : ℕ) (nexts held nexts′ : List ℕ) (new : NewListed g k ledger used n nexts nexts′) where
   pub under-new : ClearFrom used nexts → Under held nexts → Under held nexts′
   under-new clear under i = go (ltb i used) refl
     where
@@ -47,12 +52,12 @@ module _ (g : List Instruction) (ledger : List ℕ) (used n : ℕ) (nexts held n
       go false e = omega (arith, clear i (ltb-false i used e), under i)
 
   abbrev Right : (l : List ℕ) → (u : ℕ) → Type 0
-  Right l u = (i : ℕ) → i < u → getD l i 0 ≡ 0 → isNext g (tokenAt ledger i) ≡ true → isSpent (tokenAt ledger i .content) ≡ true
+  Right l u = (i : ℕ) → i < u → getD l i 0 ≡ 0 → isLateNext g k (tokenAt ledger i) ≡ true → isSpentRecord (tokenAt ledger i .content) ≡ true
 
   pub listed-new : Right nexts used → Right nexts′ n
   listed-new old i low none next = go (ltb i used) refl
     where
-      go : (b : Bool) → ltb i used ≡ b → isSpent (tokenAt ledger i .content) ≡ true
+      go : (b : Bool) → ltb i used ≡ b → isSpentRecord (tokenAt ledger i .content) ≡ true
       go true e = let l = ltb-true i used e in old i l (sym (new .same i l) ∙ none) next
       go false e = let z : _≡_ {A = ℕ} 0 1 = sym none ∙ new .new i (ltb-false i used e) low ∙ ap bit next in absurd (omega arith)
 
@@ -80,16 +85,24 @@ module _ (g : List Instruction) (ledger : List ℕ) (used n : ℕ) (nexts held n
     listed-dropped (asBefore e f) r i low none next = r i low (rw (← e) none) next
     listed-dropped (spentThere s e f) r i low none next = go (eqb i place) refl
       where
-        go : (b : Bool) → eqb i place ≡ b → isSpent (tokenAt ledger i .content) ≡ true
+        go : (b : Bool) → eqb i place ≡ b → isSpentRecord (tokenAt ledger i .content) ≡ true
         go true q = rw (eqb-true i place q) s
         go false q = r i low (sym (getD-set-other nexts′ place i 0 0 (eqb-false i place q)) ∙ ap (λ (l : List ℕ). getD l i 0) (sym e) ∙ none) next
 
+    pub standing-dropped : Dropped ledger place nexts′ held nexts″ held″ → (marks : List ℕ) → AllStanding g ledger k n held marks → AllStanding g ledger k n held″ marks
+    standing-dropped (asBefore e f) marks all i one = all i (rw (← f) one)
+    standing-dropped (spentThere s e f) marks all i one = all i (go (eqb i place) refl)
+      where
+        go : (b : Bool) → eqb i place ≡ b → getD held i 0 ≡ 1
+        go true q = let z : getD held″ i 0 ≡ 0 = rw (f, eqb-true i place q) (set-zero held place) in absurd (omega arith)
+        go false q = sym (rw f (getD-set-other held place i 0 0 (eqb-false i place q))) ∙ one
+
 -- no enabled one is missing
-pub listed-all : (g : List Instruction) (flags nexts ledger : List ℕ) (n : ℕ) → FlagsUnspent flags ledger n
-    → ((i : ℕ) → i < n → getD nexts i 0 ≡ 0 → isNext g (tokenAt ledger i) ≡ true → isSpent (tokenAt ledger i .content) ≡ true) → Listed g flags nexts ledger n
-listed-all g flags nexts ledger n unspent right i low none = go (eqb (getD flags i 0) 1) (isNext g (tokenAt ledger i)) refl refl
+pub listed-all : (g : List Instruction) (k : ℕ) (flags nexts ledger : List ℕ) (n : ℕ) → FlagsUnspent flags ledger n
+    → ((i : ℕ) → i < n → getD nexts i 0 ≡ 0 → isLateNext g k (tokenAt ledger i) ≡ true → isSpentRecord (tokenAt ledger i .content) ≡ true) → Listed g k flags nexts ledger n
+listed-all g k flags nexts ledger n unspent right i low none = go (eqb (getD flags i 0) 1) (isLateNext g k (tokenAt ledger i)) refl refl
   where
-    go : (a b : Bool) → eqb (getD flags i 0) 1 ≡ a → isNext g (tokenAt ledger i) ≡ b → (a && b) ≡ false
+    go : (a b : Bool) → eqb (getD flags i 0) 1 ≡ a → isLateNext g k (tokenAt ledger i) ≡ b → (a && b) ≡ false
     go false b e f = refl
     go true false e f = refl
     go true true e f =
@@ -111,14 +124,26 @@ module _ (g : List Instruction) (tables ledger ledger′ : List ℕ) (k used : �
       go false false x y f = ap old (later .tags j low) ∙ f
       go true false x y f = let z : _≡_ {A = ℕ} 0 1 = ap bit (sym y ∙ later .proper j low x) in absurd (omega arith)
 
-  pub carried-later : (nexts held marks : List ℕ) → Carried g tables ledger k used nexts held marks → Carried g tables ledger′ k used nexts held marks
+  standing-later : (marks : List ℕ) (i : ℕ) → Standing g ledger k used marks i → Standing g ledger′ k used marks i
   unfolding isNext
+  standing-later marks i was =
+      let own = later .tags i (was .inside) in
+      let there = later .tags (getD marks i 0) (was .below) in
+      record {
+        inside = was .inside;
+        below = was .below;
+        next = ap (λ (τ : Tag). eqb (instructionAt g (τ .instruction) .code) 7) own ∙ was .next;
+        old = (λ x. onOption (standsIn (own x .path) (there x)) false (λ j. leb (j + k) (own x .iteration + 1))) ∙ was .old;
+      }
+
+  pub carried-later : (nexts held marks : List ℕ) → Carried g tables ledger k used nexts held marks → Carried g tables ledger′ k used nexts held marks
+  unfolding isNext isLateNext
   carried-later nexts held marks c = record {
     countedNexts = c .countedNexts;
     countedHeld = c .countedHeld;
     clear = c .clear;
     under = c .under;
-    listed = λ i low none next. later .spent i low (c .listed i low none (ap (λ (τ : Tag). eqb (instructionAt g (τ .instruction) .code) 7) (sym (later .tags i low)) ∙ next));
+    listed = λ i low none next. later .spent i low (c .listed i low none (ap (λ (τ : Tag). eqb (instructionAt g (τ .instruction) .code) 7 && leb k (τ .iteration + 1)) (sym (later .tags i low)) ∙ next));
     marked = record {
       size = c .marked .size;
       past = λ i j l u.
@@ -126,6 +151,7 @@ module _ (g : List Instruction) (tables ledger ledger′ : List ℕ) (k used : �
           (q .0, q .1, ap (λ (τ : Tag). holdsBy tables k (τ .path) (τ .iteration + 1) (tokenAt ledger′ j)) (later .tags i (q .0)) ∙ still-none (tokenAt ledger i .tag .path) (tokenAt ledger i .tag .iteration + 1) j (q .1) (q .2));
       skips = λ j i l u. let q = c .marked .skips j i l u in (q .0, later .proper i (q .0) (q .1));
     };
+    standing = λ i one. standing-later marks i (c .standing i one);
   }
 
 -- ---- before the first
@@ -142,6 +168,7 @@ carried-none g tables ledger k = record {
     past = λ i j l u. absurd (omega (arith, zero-at 4096 i));
     skips = λ j i l u. absurd (omega (arith, zero-at 4096 (j + 2048)));
   };
+  standing = λ i one. absurd (omega (arith, none i));
 }
   where
     none : (i : ℕ) → getD (flagsOf (replicate 69 0)) i 0 ≡ 0

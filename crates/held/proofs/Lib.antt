@@ -4,5 +4,6 @@ pub mod Searching
 pub mod Laws
 pub mod Deciding
 pub mod Following
+pub mod Quiet
 pub mod Free
 pub mod Fired

@@ -13,17 +13,18 @@ use Rattle.record.specs.declared.instruction.Instruction.{Instruction}
 use Rattle.record.specs.declared.tag.Path.{Path}
 use Rattle.record.specs.declared.tag.Tag.{Tag}
 use Rattle.record.specs.declared.token.Token as Record
-use Rattle.record.specs.TokensAndTags.{tokens, tokenAt, decode}
+use Rattle.record.specs.TokensAndTags.{tokens, tokenAt, decodeToken}
 use Rattle.record.specs.Widths.{tokenWidth}
 use Rattle.buffer.proofs.Tables.{length-rows, getD-rows}
 use Rattle.machine.specs.Machine.{Token, onOption}
 use Rattle.rules.specs.Check.{any}
 use Rattle.rules.specs.Run.{tokenHeld}
 use Rattle.rules.specs.Held.{standsIn, isPending, holdsBack}
+use Rattle.store_chains.proofs.Index.{and-right}
 use Rattle.abstraction.specs.States.{noToken}
 use Rattle.abstraction.specs.Tables.{Arities}
 use Rattle.ending.specs.Endings.{properBy}
-use Rattle.held.specs.Searching.{laterOf, Skips, PendingFrom, holdsBy, HolderFrom, Skipped, Marked}
+use Rattle.held.specs.Searching.{laterOf, Skips, PendingFrom, holdsBy, HolderFrom, Skipped, MarkedPast}
 
 -- ---- one record
 
@@ -39,6 +40,13 @@ module _ (tables : List ℕ) (k : ℕ) (p : Path) (m : ℕ) (t : Record.Token) w
   pub pending-by : properBy tables t ≡ false → holdsBy tables k p m t ≡ onOption (standsIn p (t .tag)) false (λ j. leb (j + k) m)
   unfolding holdsBy
   pending-by e = rw e
+
+  pub holds-old : holdsBy tables k p m t ≡ true → onOption (standsIn p (t .tag)) false (λ j. leb (j + k) m) ≡ true
+  unfolding holdsBy
+  holds-old e = and-right (not (properBy tables t)) _ e
+
+  pub still-holds : properBy tables t ≡ false → onOption (standsIn p (t .tag)) false (λ j. leb (j + k) m) ≡ true → holdsBy tables k p m t ≡ true
+  still-holds e f = pending-by e ∙ f
 
 -- ---- the first that is not proper
 
@@ -172,14 +180,17 @@ module _ (f : Token Tag ℤ → Bool) where
 
 module _ (g : List Instruction) (tables ledger : List ℕ) (right : Arities g tables) (used : ℕ) (path : Path) (k m : ℕ) where
   there : (j : ℕ) → j < used → holdsBack g k path m (tokenHeld (getD (tokens used ledger) j noToken)) ≡ holdsBy tables k path m (tokenAt ledger j)
-  there j h = as-rules tables k path m (getD (tokens used ledger) j noToken) g right ∙ ap (holdsBy tables k path m) (getD-rows tokenWidth decode used j ledger noToken h)
+  there j h = as-rules tables k path m (getD (tokens used ledger) j noToken) g right ∙ ap (holdsBy tables k path m) (getD-rows tokenWidth decodeToken used j ledger noToken h)
+
+  pub any-by-one : (r : ℕ) → r < used → holdsBy tables k path m (tokenAt ledger r) ≡ true → any (holdsBack g k path m) (map tokenHeld (tokens used ledger)) ≡ true
+  any-by-one r low one = any-one (holdsBack g k path m) (tokens used ledger) r (omega (arith, length-rows tokenWidth decodeToken used ledger)) (there r low ∙ one)
 
   pub any-by-first : (r : ℕ) → r ≤ used → ((j : ℕ) → j < r → holdsBy tables k path m (tokenAt ledger j) ≡ false) → (r < used → holdsBy tables k path m (tokenAt ledger r) ≡ true)
       → any (holdsBack g k path m) (map tokenHeld (tokens used ledger)) ≡ ltb r used
   any-by-first r high none one = go (ltb r used) refl
     where
       size : length (tokens used ledger) ≡ used
-      size = length-rows tokenWidth decode used ledger
+      size = length-rows tokenWidth decodeToken used ledger
 
       go : (b : Bool) → ltb r used ≡ b → any (holdsBack g k path m) (map tokenHeld (tokens used ledger)) ≡ b
       go true e = let low = ltb-true r used e in any-one (holdsBack g k path m) (tokens used ledger) r (omega (arith, size)) (there r low ∙ one low)
@@ -187,9 +198,9 @@ module _ (g : List Instruction) (tables ledger : List ℕ) (right : Arities g ta
 
 -- ---- the marks of a record that was looked at
 
-pub marked-on : (tables ledger : List ℕ) (k used : ℕ) (marks₀ marks : List ℕ) → Marked tables ledger k used marks₀ → used ≤ 2048 → Skipped tables ledger used marks₀ marks
+pub marked-on : (tables ledger : List ℕ) (k used : ℕ) (marks₀ marks : List ℕ) → MarkedPast tables ledger k used marks₀ → used ≤ 2048 → Skipped tables ledger used marks₀ marks
     → (i : ℕ) → i < used → (r : ℕ) → HolderFrom tables ledger used (tokenAt ledger i .tag .path) k (tokenAt ledger i .tag .iteration + 1) (getD marks₀ i 0) r
-    → (marks′ : List ℕ) → marks′ ≡ set marks i r → Marked tables ledger k used marks′
+    → (marks′ : List ℕ) → marks′ ≡ set marks i r → MarkedPast tables ledger k used marks′
 marked-on tables ledger k used marks₀ marks m few s i low r h marks′ e = record {
   size = rw e (length-set marks i r) ∙ s .size ∙ m .size;
   past = λ a j l u. go a j l u (eqb a i) refl;

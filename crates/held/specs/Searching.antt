@@ -45,7 +45,7 @@ pub record Skipped (tables ledger : List ℕ) (used : ℕ) (marks marks′ : Lis
   pub skips : Skips tables ledger used marks′
 
 -- the first mark of a record: none of those below it holds its activity back
-pub record Marked (tables ledger : List ℕ) (bound used : ℕ) (marks : List ℕ) : Type 0 where
+pub record MarkedPast (tables ledger : List ℕ) (bound used : ℕ) (marks : List ℕ) : Type 0 where
   pub size : length marks ≡ 4096
   pub past : (i j : ℕ) → i < 2048 → j < getD marks i 0
       → (i < used) × (j < used) × (holdsBy tables bound (tokenAt ledger i .tag .path) (tokenAt ledger i .tag .iteration + 1) (tokenAt ledger j) ≡ false)

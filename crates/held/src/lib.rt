@@ -9,10 +9,10 @@ use record::tag::Tag;
 use record::token;
 use store_enabled::Tables;
 use store_flags::Flags;
-ghost use Prim.Native.Nat.{_+_, _/_, _≤_, _<_};
+ghost use Prim.Native.Nat.{ℕ, _+_, _/_, _≤_, _<_};
 ghost use mathlib.Core.Path.{_≡_};
-ghost use mathlib.Core.Bool.{false, not};
-ghost use lib.ListN.{length, set};
+ghost use mathlib.Core.Bool.{true, false, not};
+ghost use lib.ListN.{length, getD, set};
 ghost use lib.Dec.{eqb, leb};
 ghost use Rattle.record.specs.GraphRecords.{graphOf};
 ghost use Rattle.record.specs.Paths.{samePath};
@@ -24,8 +24,8 @@ ghost use Rattle.rules.specs.Held.{standsIn};
 ghost use Rattle.store_flags.specs.Flags.{flagsOf, Under, Counted};
 ghost use Rattle.store_flags.specs.Marks.{bit};
 ghost use Rattle.abstraction.specs.Tables.{Arities};
-ghost use Rattle.held.specs.Searching.{laterOf, Skips, PendingFrom, HolderFrom, Skipped, Marked};
-ghost use Rattle.held.specs.Deciding.{isNext, heldAt, ClearFrom, Listed, NewListed, Dropped, FlagsUnspent, Decided, Carried, Kept};
+ghost use Rattle.held.specs.Searching.{laterOf, Skips, PendingFrom, HolderFrom, Skipped, MarkedPast};
+ghost use Rattle.held.specs.Deciding.{isLateNext, heldAt, ClearFrom, Listed, NewListed, Dropped, FlagsUnspent, HeldDecided, AllStanding, LookedAt, Carried, HeldKept, NoneNew, HeldStill, AllStill};
 
 // The code of NEXT.
 const NEXT: u8 = 7;
@@ -186,9 +186,17 @@ fn holds_now(
     marks: &mut [u16],
     i: usize,
 ) -> bool
-    requires { ⌜ Arities (graphOf (now graph)) (now tables) × (i < used) × (used ≤ length (now ledger) / tokenWidth) × (used ≤ 2048) × (0 < bound) × (bound < 65536) × Counted (now flags) × Marked (now tables) (now ledger) bound used (now marks) ⌝ }
+    requires { ⌜ Arities (graphOf (now graph)) (now tables)
+        × (i < used)
+        × (used ≤ length (now ledger) / tokenWidth)
+        × (used ≤ 2048)
+        × (0 < bound)
+        × (bound < 65536)
+        × Counted (now flags)
+        × MarkedPast (now tables) (now ledger) bound used (now marks) ⌝ }
     ensures { λ r. ⌜ r ≡ heldAt (graphOf (now (graph .entry))) bound (flagsOf (now (flags .entry))) (now (ledger .entry)) used i ⌝ }
-    ensures { λ _. ⌜ Marked (now (tables .entry)) (now (ledger .entry)) bound used (now (marks .exit)) ⌝ }
+    ensures { λ _. ⌜ MarkedPast (now (tables .entry)) (now (ledger .entry)) bound used (now (marks .exit)) ⌝ }
+    ensures { λ r. ⌜ LookedAt (graphOf (now (graph .entry))) (now (ledger .entry)) bound used i r (now (marks .entry)) (now (marks .exit)) ⌝ }
 {
     if !store_flags::is_raised(flags, i) {
         return false;
@@ -218,9 +226,22 @@ fn decide(
     held: &mut Flags,
     marks: &mut [u16],
 )
-    requires { ⌜ Arities (graphOf (now graph)) (now tables) × (used ≤ length (now ledger) / tokenWidth) × (used ≤ 2048) × (0 < bound) × (bound < 65536) × Counted (now flags) × Counted (now nexts) × Counted (now held) × ClearFrom used (flagsOf (now nexts)) × Under (flagsOf (now held)) (flagsOf (now nexts)) × Marked (now tables) (now ledger) bound used (now marks) × Listed (graphOf (now graph)) (flagsOf (now flags)) (flagsOf (now nexts)) (now ledger) used ⌝ }
-    ensures { λ _. ⌜ Decided (graphOf (now (graph .entry))) bound (now (flags .entry)) (now (held .exit)) (now (ledger .entry)) used ⌝ }
-    ensures { λ _. ⌜ Under (flagsOf (now (held .exit))) (flagsOf (now (nexts .entry))) × Marked (now (tables .entry)) (now (ledger .entry)) bound used (now (marks .exit)) ⌝ }
+    requires { ⌜ Arities (graphOf (now graph)) (now tables)
+        × (used ≤ length (now ledger) / tokenWidth)
+        × (used ≤ 2048)
+        × (0 < bound)
+        × (bound < 65536)
+        × Counted (now flags)
+        × Counted (now nexts)
+        × Counted (now held)
+        × ClearFrom used (flagsOf (now nexts))
+        × Under (flagsOf (now held)) (flagsOf (now nexts))
+        × MarkedPast (now tables) (now ledger) bound used (now marks)
+        × Listed (graphOf (now graph)) bound (flagsOf (now flags)) (flagsOf (now nexts)) (now ledger) used
+        × AllStanding (graphOf (now graph)) (now ledger) bound used (flagsOf (now held)) (now marks) ⌝ }
+    ensures { λ _. ⌜ HeldDecided (graphOf (now (graph .entry))) bound (now (flags .entry)) (now (held .exit)) (now (ledger .entry)) used ⌝ }
+    ensures { λ _. ⌜ Under (flagsOf (now (held .exit))) (flagsOf (now (nexts .entry))) × MarkedPast (now (tables .entry)) (now (ledger .entry)) bound used (now (marks .exit)) ⌝ }
+    ensures { λ _. ⌜ AllStanding (graphOf (now (graph .entry))) (now (ledger .entry)) bound used (flagsOf (now (held .exit))) (now (marks .exit)) ⌝ }
 {
     let n = store_flags::count(nexts);
     let mut k = 0;
@@ -232,24 +253,39 @@ fn decide(
     }
 }
 
-fn at_next(graph: &[u8], ledger: &[u8], i: usize) -> bool
+// Whether a record is at NEXT, where the bound may hold it back: no iteration is k before one below k.
+fn at_next(graph: &[u8], ledger: &[u8], bound: usize, i: usize) -> bool
     requires { ⌜ i < length (now ledger) / tokenWidth ⌝ }
-    ensures { λ r. ⌜ r ≡ isNext (graphOf (now (graph .entry))) (tokenAt (now (ledger .entry)) i) ⌝ }
+    ensures { λ r. ⌜ r ≡ isLateNext (graphOf (now (graph .entry))) bound (tokenAt (now (ledger .entry)) i) ⌝ }
 {
     let t = token::token_at(ledger, i);
     let tag = t.tag;
-    is_next(graph, tag.instruction)
+    if is_next(graph, tag.instruction) {
+        bound <= wide(tag.iteration) + 1
+    } else {
+        false
+    }
+}
+
+// A record that is not listed is, if it has to be.
+fn list_one(graph: &[u8], ledger: &[u8], bound: usize, i: usize, nexts: &mut Flags)
+    requires { ⌜ (i < length (now ledger) / tokenWidth) × (i < 2048) × Counted (now nexts) × (getD (flagsOf (now nexts)) i 0 ≡ 0) ⌝ }
+    ensures { λ _. ⌜ flagsOf (now (nexts .exit)) ≡ set (flagsOf (now (nexts .entry))) i (bit (isLateNext (graphOf (now (graph .entry))) bound (tokenAt (now (ledger .entry)) i))) ⌝ }
+    ensures { λ _. ⌜ Counted (now (nexts .exit)) ⌝ }
+{
+    if at_next(graph, ledger, bound, i) {
+        store_flags::raise(nexts, i);
+    }
 }
 
 // The records that came since, from `used` on: those at NEXT are listed.
-fn list_new(graph: &[u8], ledger: &[u8], used: usize, n: usize, nexts: &mut Flags)
+fn list_new(graph: &[u8], ledger: &[u8], used: usize, n: usize, bound: usize, nexts: &mut Flags)
     requires { ⌜ (used ≤ n) × (n ≤ length (now ledger) / tokenWidth) × (n ≤ 2048) × Counted (now nexts) × ClearFrom used (flagsOf (now nexts)) ⌝ }
-    ensures { λ _. ⌜ Counted (now (nexts .exit)) × NewListed (graphOf (now (graph .entry))) (now (ledger .entry)) used n (flagsOf (now (nexts .entry))) (flagsOf (now (nexts .exit))) ⌝ }
+    ensures { λ _. ⌜ Counted (now (nexts .exit)) × NewListed (graphOf (now (graph .entry))) bound (now (ledger .entry)) used n (flagsOf (now (nexts .entry))) (flagsOf (now (nexts .exit))) ⌝ }
 {
     let mut i = used;
     while i < n {
-        let on = at_next(graph, ledger, i);
-        put(nexts, i, on);
+        list_one(graph, ledger, bound, i, nexts);
         i += 1;
     }
 }
@@ -257,7 +293,10 @@ fn list_new(graph: &[u8], ledger: &[u8], used: usize, n: usize, nexts: &mut Flag
 // A record below n that is spent is listed no more.
 fn drop_spent(ledger: &[u8], n: usize, place: usize, nexts: &mut Flags, held: &mut Flags)
     requires { ⌜ (n ≤ length (now ledger) / tokenWidth) × (n ≤ 2048) × Counted (now nexts) × Counted (now held) ⌝ }
-    ensures { λ _. ⌜ Counted (now (nexts .exit)) × Counted (now (held .exit)) × Dropped (now (ledger .entry)) place (flagsOf (now (nexts .entry))) (flagsOf (now (held .entry))) (flagsOf (now (nexts .exit))) (flagsOf (now (held .exit))) ⌝ }
+    ensures { λ _. ⌜ Counted (now (nexts .exit))
+        × Counted (now (held .exit))
+        × Dropped (now (ledger .entry)) place (flagsOf (now (nexts .entry))) (flagsOf (now (held .entry))) (flagsOf (now (nexts .exit)))
+        (flagsOf (now (held .exit))) ⌝ }
 {
     if n <= place {
         return;
@@ -268,6 +307,106 @@ fn drop_spent(ledger: &[u8], n: usize, place: usize, nexts: &mut Flags, held: &m
     put(nexts, place, false);
     put(held, place, false);
 }
+
+// ---- a firing after which all is as before
+
+// Whether none of the records that came since has to be listed.
+fn none_new(graph: &[u8], ledger: &[u8], used: usize, n: usize, bound: usize) -> bool
+    requires { ⌜ n ≤ length (now ledger) / tokenWidth ⌝ }
+    ensures { λ r. ⌜ (r ≡ true → NoneNew (graphOf (now (graph .entry))) bound (now (ledger .entry)) used n) ⌝ }
+{
+    let mut i = used;
+    while i < n {
+        if at_next(graph, ledger, bound, i) {
+            return false;
+        }
+        i += 1;
+    }
+    true
+}
+
+// Whether an activity is enabled, and the record that its search stands at is still to hold it back.
+fn holds_still(tables: &Tables, flags: &Flags, ledger: &[u8], marks: &[u16], i: usize) -> bool
+    requires { ⌜ (i < 2048) × Counted (now flags) × (length (now marks) ≡ 4096) × (getD (now marks) i 0 < length (now ledger) / tokenWidth) ⌝ }
+    ensures { λ r. ⌜ (r ≡ true → HeldStill (now (tables .entry)) (flagsOf (now (flags .entry))) (now (ledger .entry)) (now (marks .entry)) i) ⌝ }
+{
+    if store_flags::is_raised(flags, i) {
+        !ending::proper_at(tables, ledger, wide16(marks[i]))
+    } else {
+        false
+    }
+}
+
+// Whether all that are listed were held, and are.
+fn all_still(
+    tables: &Tables,
+    flags: &Flags,
+    ledger: &[u8],
+    nexts: &Flags,
+    held: &Flags,
+    marks: &[u16],
+) -> bool
+    requires { ⌜ Counted (now flags)
+        × Counted (now nexts)
+        × Counted (now held)
+        × (length (now marks) ≡ 4096)
+        × ((i : ℕ) → getD (flagsOf (now held)) i 0 ≡ 1 → getD (now marks) i 0 < length (now ledger) / tokenWidth) ⌝ }
+    ensures { λ r. ⌜ (r ≡ true
+        → AllStill (now (tables .entry)) (flagsOf (now (flags .entry))) (now (ledger .entry)) (flagsOf (now (nexts .entry)))
+        (flagsOf (now (held .entry))) (now (marks .entry))) ⌝ }
+{
+    let n = store_flags::count(nexts);
+    let mut k = 0;
+    while k < n {
+        let i = store_flags::select(nexts, k);
+        if !store_flags::is_raised(held, i) {
+            return false;
+        }
+        if !holds_still(tables, flags, ledger, marks, i) {
+            return false;
+        }
+        k += 1;
+    }
+    true
+}
+
+// Whether a firing that left n tokens where there were `used` leaves the held activities as they were. Most do: nothing new is at
+// NEXT, and none waits there but those that are held by tokens at which their searches stand.
+pub fn calm(
+    graph: &[u8],
+    tables: &Tables,
+    flags: &Flags,
+    ledger: &[u8],
+    used: usize,
+    n: usize,
+    bound: usize,
+    nexts: &Flags,
+    held: &Flags,
+    marks: &[u16],
+) -> bool
+    requires { ⌜ Arities (graphOf (now graph)) (now tables)
+        × (used ≤ n)
+        × (n ≤ length (now ledger) / tokenWidth)
+        × (n ≤ 2048)
+        × (0 < bound)
+        × (bound < 65536)
+        × Counted (now flags)
+        × FlagsUnspent (flagsOf (now flags)) (now ledger) n
+        × Carried (graphOf (now graph)) (now tables) (now ledger) bound used (now nexts) (now held) (now marks) ⌝ }
+    ensures { λ r. ⌜ (r ≡ true
+        → HeldKept (graphOf (now (graph .entry))) (now (tables .entry)) (now (flags .entry)) (now (ledger .entry)) bound n (now (nexts .entry))
+        (now (held .entry)) (now (marks .entry))) ⌝ }
+{
+    if !none_new(graph, ledger, used, n, bound) {
+        return false;
+    }
+    if store_flags::is_empty(nexts) {
+        return true;
+    }
+    all_still(tables, flags, ledger, nexts, held, marks)
+}
+
+// ---- a firing
 
 // After a firing of the activity at a place, which left n tokens where there were `used`: the flags of the held activities are right
 // again. Before the first firing all n are new, and the place is none.
@@ -284,10 +423,18 @@ pub fn follow(
     held: &mut Flags,
     marks: &mut [u16],
 )
-    requires { ⌜ Arities (graphOf (now graph)) (now tables) × (used ≤ n) × (n ≤ length (now ledger) / tokenWidth) × (n ≤ 2048) × (0 < bound) × (bound < 65536) × Counted (now flags) × FlagsUnspent (flagsOf (now flags)) (now ledger) n × Carried (graphOf (now graph)) (now tables) (now ledger) bound used (now nexts) (now held) (now marks) ⌝ }
-    ensures { λ _. ⌜ Kept (graphOf (now (graph .entry))) (now (tables .entry)) (now (flags .entry)) (now (ledger .entry)) bound n (now (nexts .exit)) (now (held .exit)) (now (marks .exit)) ⌝ }
+    requires { ⌜ Arities (graphOf (now graph)) (now tables)
+        × (used ≤ n)
+        × (n ≤ length (now ledger) / tokenWidth)
+        × (n ≤ 2048)
+        × (0 < bound)
+        × (bound < 65536)
+        × Counted (now flags)
+        × FlagsUnspent (flagsOf (now flags)) (now ledger) n
+        × Carried (graphOf (now graph)) (now tables) (now ledger) bound used (now nexts) (now held) (now marks) ⌝ }
+    ensures { λ _. ⌜ HeldKept (graphOf (now (graph .entry))) (now (tables .entry)) (now (flags .entry)) (now (ledger .entry)) bound n (now (nexts .exit)) (now (held .exit)) (now (marks .exit)) ⌝ }
 {
-    list_new(graph, ledger, used, n, nexts);
+    list_new(graph, ledger, used, n, bound, nexts);
     drop_spent(ledger, n, place, nexts, held);
     decide(graph, tables, flags, ledger, n, bound, nexts, held, marks);
 }

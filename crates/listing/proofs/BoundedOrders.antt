@@ -16,17 +16,17 @@ use Rattle.rules.specs.Run.{Result, Ran, result, unlessFailed}
 use Rattle.rules.specs.Log.{LogResult, LogRan}
 use Rattle.rules.specs.Runs.{LentToRun, LeftByRun, RanOn, LentToLogged, LeftByLogged, Quiescent}
 use Rattle.rules.specs.Orders as Rules
-use Rattle.rules.specs.Bounded.{andBound, checkBounded, bounded, LeavesNoneHeld, EndsAs, BoundedOn}
+use Rattle.rules.specs.Bounded.{andBound, checkBounded, bounded, LeavesNoneHeld, BoundedEndsAs, BoundedOn}
 use Rattle.rules.proofs.Passed.{andThen-passed}
 use Rattle.rules.proofs.Accepted.{whole-bytes, Whole, stores-whole}
 use Rattle.rules.proofs.Fits.{result-fits}
 use Rattle.rules.proofs.Bounded.{bound-zero, as-every-order, not-refused, bounded-fits}
-use Rattle.listing.specs.Demand3.{Alike}
+use Rattle.listing.specs.Demand3.{AlikeBytes}
 use Rattle.listing.specs.BoundedOrders.{NoneHeldLeft, BoundedAsOrders, BoundedUnrefused, ZeroIsNone}
 use Rattle.listing.proofs.Demand3.{same-end, bytes-alike}
 
 -- a run with a bound that came to an end passed the check of its stores
-bounded-stores : (graph arrays inputs picks : List ℕ) (budget k ledger cells : ℕ) → Rules.Quiescent (bounded graph arrays inputs picks budget k ledger cells)
+bounded-stores : (graph arrays inputs picks : List ℕ) (budget k ledger cells : ℕ) → Rules.QuiescentResult (bounded graph arrays inputs picks budget k ledger cells)
     → Whole (length inputs) (length picks) ledger cells
 unfolding bounded unlessFailed checkBounded andBound
 bounded-stores graph arrays inputs picks budget k ledger cells rests = go (checkBounded graph arrays inputs picks k ledger cells) refl
@@ -48,7 +48,7 @@ module _ (graph arrays inputs : List ℕ) (graphBytes : Bytes graph) (inputBytes
   abbrev second : Result
   second = result graph arrays inputs (m .picks) 2048 (length (m .ledger)) (length (m .cells))
 
-  ends : EndsAs first second
+  ends : BoundedEndsAs first second
   ends = as-every-order graph arrays inputs (l .picks) (m .picks) budget k (length (l .ledger)) (length (m .ledger)) (length (l .cells)) (length (m .cells)) none allowed capacities counts
 
   stores : Whole (length inputs) (length (l .picks)) (length (l .ledger)) (length (l .cells))
@@ -57,7 +57,7 @@ module _ (graph arrays inputs : List ℕ) (graphBytes : Bytes graph) (inputBytes
   outcomes : x .answer .outcome ≡ y .answer .outcome
   outcomes = ap (λ (r : Answer). r .outcome) (ranX .answered) ∙ ends .outcome ∙ sym (ap (λ (r : Answer). r .outcome) (ranY .answered))
 
-  bounded-alike : Alike x y
+  bounded-alike : AlikeBytes x y
   bounded-alike =
       let fits = bounded-fits graph arrays inputs (l .picks) budget k (length (l .ledger)) (length (l .cells)) graphBytes inputBytes in
       let others = result-fits graph arrays inputs (m .picks) 2048 (length (m .ledger)) (length (m .cells)) graphBytes inputBytes in

@@ -13,7 +13,7 @@ use Rattle.record.specs.declared.tag.Tag.{Tag}
 use Rattle.record.specs.declared.token.Token.{Token}
 use Rattle.number.specs.Number.{Bytes}
 use Rattle.buffer.specs.Rows.{All, joined}
-use Rattle.record.specs.TokensAndTags.{encode, TokenFits, mostTokens, capacityOf, ledgerOf}
+use Rattle.record.specs.TokensAndTags.{encodeToken, TokenFits, mostTokens, capacityOf, ledgerOf}
 use Rattle.record.specs.Cells as Cells
 use Rattle.record.proofs.Records.{length-token, length-cell}
 use Rattle.buffer.proofs.Tables.{length-joined}
@@ -27,7 +27,7 @@ use Rattle.rules.specs.Check.{mostCells}
 use Rattle.rules.specs.Run.{Result, refusedAtOnce, ranTo, outcomeOf, result, Ran, ledgerAfter, cellsAfter, tokenRecord}
 use Rattle.rules.specs.Run as Run
 use Rattle.rules.specs.Log.{logSuffices}
-use Rattle.rules.specs.Orders.{tokensOf, cellsOf, EachOnce}
+use Rattle.rules.specs.Orders.{resultTokens, resultCells, EachOnce}
 use Rattle.rules.specs.Orders as Rules
 use Rattle.rules.proofs.Accepted.{whole-bytes, Whole, stores-whole, Begun, begun-stores}
 use Rattle.rules.proofs.Orders.{any-two-orders, perm-map}
@@ -35,10 +35,10 @@ use Rattle.rules.proofs.Budgets.{any-two-budgets}
 use Rattle.rules.proofs.Logged.{logged-runs-on}
 use Rattle.rules.specs.Fits.{CellCount, AllFit}
 use Rattle.rules.proofs.Fits.{result-fits}
-use Rattle.listing.specs.Listing.{records, answer}
+use Rattle.listing.specs.Listing.{records, listAnswer}
 use Rattle.listing.specs.Sorted.{Pairwise}
 use Rattle.rules.specs.Runs.{LentToRun, LeftByRun, RanOn, LentToLogged, LeftByLogged, LoggedOn, lentBesideLog, leftBesideLog, Completed, Hung, Quiescent, Spent, Refused}
-use Rattle.listing.specs.Demand3.{NotForOthers, used, Alike, Agree, Demand3, AnyTwoBudgets, Demand3Logged}
+use Rattle.listing.specs.Demand3.{NotForOthers, usedBytes, AlikeBytes, BytesAgree, Demand3, AnyTwoBudgets, Demand3Logged}
 use Rattle.listing.proofs.Lists.{all-of}
 use Rattle.listing.proofs.Laws.{records-joined}
 use Rattle.listing.proofs.AnyTwoOrders.{places-differ, records-differ, used-records, length-tokens, list-orders}
@@ -46,11 +46,11 @@ use Rattle.listing.proofs.AnyTwoOrders.{places-differ, records-differ, 
 -- ---- how a run ended: its result and its answer say the same
 
 pub record SameEnd (x : Result) (o : Outcome) : Type 0 where
-  pub completes : Rules.Completed x ↔ Completed o
-  pub hangs : Rules.Hung x ↔ Hung o
-  pub rests : Rules.Quiescent x ↔ Quiescent o
-  pub refuses : Rules.Refused x ↔ Refused o
-  pub spends : Spent o → Rules.Spent x
+  pub completes : Rules.CompletedResult x ↔ Completed o
+  pub hangs : Rules.HungResult x ↔ Hung o
+  pub rests : Rules.QuiescentResult x ↔ Quiescent o
+  pub refuses : Rules.RefusedResult x ↔ Refused o
+  pub spends : Spent o → Rules.SpentResult x
 
 pub same-end : (x : Result) → SameEnd x (Run.answer x .outcome)
 unfolding Run.answer
@@ -82,27 +82,27 @@ same-outcome Outcomes.Hung p q c h = sym (is-hung p (h tt))
 same-outcome Outcomes.Spent p q c h = absurd q
 same-outcome (Outcomes.Refused r place) p q c h = absurd q
 
-quiescent-begun : (x : Result) → Rules.Quiescent x → Begun x
+quiescent-begun : (x : Result) → Rules.QuiescentResult x → Begun x
 quiescent-begun (refusedAtOnce r p) h = h
 quiescent-begun (ranTo e) h = tt
 
 -- ---- what a run leaves, in bytes
 
-pub used-bytes : (x : Result) (lent : List ℕ) → take (Run.answer x .tokens * tokenWidth) (ledgerAfter x lent) ≡ joined encode (tokensOf x)
+pub used-bytes : (x : Result) (lent : List ℕ) → take (Run.answer x .tokens * tokenWidth) (ledgerAfter x lent) ≡ joined encodeToken (resultTokens x)
 unfolding Run.answer ledgerAfter
 used-bytes (refusedAtOnce r p) lent = refl
 used-bytes (ranTo e) lent =
-    ap (λ (n : ℕ). take (n * tokenWidth) (ledgerOf (tokensOf (ranTo e)) lent)) (sym (length-map (e .state .tokens) tokenRecord)) ∙ used-records (tokensOf (ranTo e)) lent
+    ap (λ (n : ℕ). take (n * tokenWidth) (ledgerOf (resultTokens (ranTo e)) lent)) (sym (length-map (e .state .tokens) tokenRecord)) ∙ used-records (resultTokens (ranTo e)) lent
 
-pub ran-cells : (e : Machine.End Refusal Tag ℤ) (lent : List ℕ) → length lent % cellWidth ≡ 0 → CellCount (ranTo e) (length lent / cellWidth) → cellsAfter (ranTo e) lent ≡ joined Cells.encode (cellsOf (ranTo e))
+pub ran-cells : (e : Machine.End Refusal Tag ℤ) (lent : List ℕ) → length lent % cellWidth ≡ 0 → CellCount (ranTo e) (length lent / cellWidth) → cellsAfter (ranTo e) lent ≡ joined Cells.encodeCell (resultCells (ranTo e))
 unfolding cellsAfter
 ran-cells e lent whole count =
-    let written = joined Cells.encode (cellsOf (ranTo e)) in
-    let n : length written ≡ length (cellsOf (ranTo e)) * cellWidth = length-joined cellWidth Cells.encode length-cell (cellsOf (ranTo e)) in
+    let written = joined Cells.encodeCell (resultCells (ranTo e)) in
+    let n : length written ≡ length (resultCells (ranTo e)) * cellWidth = length-joined cellWidth Cells.encodeCell length-cell (resultCells (ranTo e)) in
     let all : length lent ≤ length written = omega arith in
     ap (λ (l : List ℕ). written ++ l) (drop-of-length-le lent all) ∙ append-nil written
 
-cell-bytes : (x : Result) → Rules.Quiescent x → (lent : List ℕ) → length lent % cellWidth ≡ 0 → CellCount x (length lent / cellWidth) → cellsAfter x lent ≡ joined Cells.encode (cellsOf x)
+cell-bytes : (x : Result) → Rules.QuiescentResult x → (lent : List ℕ) → length lent % cellWidth ≡ 0 → CellCount x (length lent / cellWidth) → cellsAfter x lent ≡ joined Cells.encodeCell (resultCells x)
 cell-bytes (refusedAtOnce r p) h lent whole count = absurd h
 cell-bytes (ranTo e) h lent whole count = ran-cells e lent whole count
 
@@ -116,34 +116,34 @@ once-apart : (ts : List Token) → EachOnce ts → Pairwise (λ t u. (t .tag ≡
 once-apart [] h = tt
 once-apart (t ∷ ts) h = (all-apart t ts (h .0), once-apart ts (h .1))
 
-records-of : (ts : List Token) → records (joined encode ts) ≡ map encode ts
-records-of ts = records-joined encode ts (all-of (λ t. length (encode t) ≡ tokenWidth) length-token ts)
+records-of : (ts : List Token) → records (joined encodeToken ts) ≡ map encodeToken ts
+records-of ts = records-joined encodeToken ts (all-of (λ t. length (encodeToken t) ≡ tokenWidth) length-token ts)
 
 -- ---- two ends that are alike by the rules are alike in every byte
 
 abbrev CellsLent : Result → List ℕ → Type 0
 CellsLent x lent = (length lent % cellWidth ≡ 0) × CellCount x (length lent / cellWidth)
 
-module _ (x y : Result) {r q : Answer} {l l′ c c′ m m′ d d′ : List ℕ} (ranX : Ran x r l l′ c c′) (ranY : Ran y q m m′ d d′) (cx : Rules.Quiescent x) (cy : Rules.Quiescent y) where
+module _ (x y : Result) {r q : Answer} {l l′ c c′ m m′ d d′ : List ℕ} (ranX : Ran x r l l′ c c′) (ranY : Ran y q m m′ d d′) (cx : Rules.QuiescentResult x) (cy : Rules.QuiescentResult y) where
   abbrev left : LeftByRun
   left = record { answer = r; ledger = l′; cells = c′ }
 
   abbrev other : LeftByRun
   other = record { answer = q; ledger = m′; cells = d′ }
 
-  pub bytes-alike : r .outcome ≡ q .outcome → Rules.Alike x y → All TokenFits (tokensOf x) → length (tokensOf x) ≤ mostTokens → CellsLent x c → CellsLent y d → Alike left other
+  pub bytes-alike : r .outcome ≡ q .outcome → Rules.AlikeResults x y → All TokenFits (resultTokens x) → length (resultTokens x) ≤ mostTokens → CellsLent x c → CellsLent y d → AlikeBytes left other
   bytes-alike outcomes same fits few cellsX cellsY =
-      let ts = tokensOf x in
-      let us = tokensOf y in
-      let ux : used left ≡ joined encode ts = rw (ranX .answered, ranX .ledgerLeft) (used-bytes x l) in
-      let uy : used other ≡ joined encode us = rw (ranY .answered, ranY .ledgerLeft) (used-bytes y m) in
+      let ts = resultTokens x in
+      let us = resultTokens y in
+      let ux : usedBytes left ≡ joined encodeToken ts = rw (ranX .answered, ranX .ledgerLeft) (used-bytes x l) in
+      let uy : usedBytes other ≡ joined encodeToken us = rw (ranY .answered, ranY .ledgerLeft) (used-bytes y m) in
       let firings : r .firings ≡ q .firings = rw (ranX .answered, ranY .answered) (same .firings) in
       let tokens : r .tokens ≡ q .tokens = rw (ranX .answered, ranY .answered) (same .tokens) in
       let apart = places-differ ts fits (once-apart ts (same .eachOnce)) in
       record {
         answers = λ i. record { outcome = outcomes i; firings = firings i; tokens = tokens i };
-        cells = ranX .cellsLeft ∙ cell-bytes x cx c (cellsX .0) (cellsX .1) ∙ ap (joined Cells.encode) (same .cells) ∙ sym (ranY .cellsLeft ∙ cell-bytes y cy d (cellsY .0) (cellsY .1));
-        sameTokens = rw (ux, uy, records-of ts, records-of us) (perm-map encode (same .sameTokens));
+        cells = ranX .cellsLeft ∙ cell-bytes x cx c (cellsX .0) (cellsX .1) ∙ ap (joined Cells.encodeCell) (same .cells) ∙ sym (ranY .cellsLeft ∙ cell-bytes y cy d (cellsY .0) (cellsY .1));
+        sameTokens = rw (ux, uy, records-of ts, records-of us) (perm-map encodeToken (same .sameTokens));
         eachOnce = rw (ux, records-of ts) (records-differ ts fits apart);
         listings = λ out out′ e e′.
             rw (ux, uy)
@@ -155,13 +155,13 @@ module _ (x y : Result) {r q : Answer} {l l′ c c′ m m′ d d′ : List ℕ} 
 
 -- of what a run left: its tokens fit their records, and its cells those that were lent
 pub record Held (x : Result) (cells : List ℕ) : Type 0 where
-  pub fits : All TokenFits (tokensOf x)
-  pub few : length (tokensOf x) ≤ mostTokens
+  pub fits : All TokenFits (resultTokens x)
+  pub few : length (resultTokens x) ≤ mostTokens
   pub cellsLent : CellsLent x cells
 
 module _ (left right : Result) (l m : LentToRun) (x y : LeftByRun)
     (ranX : Ran left (x .answer) (l .ledger) (x .ledger) (l .cells) (x .cells)) (ranY : Ran right (y .answer) (m .ledger) (y .ledger) (m .cells) (y .cells))
-    (agreed : Rules.Agree left right) (heldX : Rules.Quiescent left → Held left (l .cells)) (heldY : Rules.Quiescent right → Held right (m .cells)) where
+    (agreed : Rules.ResultsAgree left right) (heldX : Rules.QuiescentResult left → Held left (l .cells)) (heldY : Rules.QuiescentResult right → Held right (m .cells)) where
   endedX : SameEnd left (x .answer .outcome)
   endedX = subst (λ (r : Answer). SameEnd left (r .outcome)) (sym (ranX .answered)) (same-end left)
 
@@ -174,7 +174,7 @@ module _ (left right : Result) (l m : LentToRun) (x y : LeftByRun)
   hanging : Hung (x .answer .outcome) ↔ Hung (y .answer .outcome)
   hanging = (λ h. endedY .hangs .0 (agreed .hangs .0 (endedX .hangs .1 h)), λ h. endedX .hangs .0 (agreed .hangs .1 (endedY .hangs .1 h)))
 
-  alike : Quiescent (x .answer .outcome) → Alike x y
+  alike : Quiescent (x .answer .outcome) → AlikeBytes x y
   alike done =
       let outcomes = same-outcome (x .answer .outcome) (y .answer .outcome) done (completing .0) (hanging .0) in
       let cx = endedX .rests .1 done in
@@ -182,7 +182,7 @@ module _ (left right : Result) (l m : LentToRun) (x y : LeftByRun)
       let hx = heldX cx in
       bytes-alike left right ranX ranY cx cy outcomes (agreed .alike cx) (hx .fits) (hx .few) (hx .cellsLent) (heldY cy .cellsLent)
 
-  pub agree-in-bytes : Agree x y
+  pub agree-in-bytes : BytesAgree x y
   agree-in-bytes = record {
     completes = completing;
     hangs = hanging;
@@ -209,7 +209,7 @@ demand3 graph arrays inputs graphBytes inputBytes l m a b capacities counts x y 
     resultOf k = result graph arrays inputs (k .picks) 2048 (length (k .ledger)) (length (k .cells))
 
     -- a run that completes or hangs passed the check of its stores
-    holds : (k : LentToRun) → Rules.Quiescent (resultOf k) → Held (resultOf k) (k .cells)
+    holds : (k : LentToRun) → Rules.QuiescentResult (resultOf k) → Held (resultOf k) (k .cells)
     holds k c =
         held (resultOf k) (length inputs) (length (k .picks)) (k .ledger) (k .cells)
         (stores-whole (length inputs) (length (k .picks)) (length (k .ledger)) (length (k .cells)) (begun-stores graph arrays inputs (k .picks) 2048 (length (k .ledger)) (length (k .cells)) (quiescent-begun (resultOf k) c)))
@@ -226,10 +226,10 @@ module _ (graph arrays inputs : List ℕ) (graphBytes : Bytes graph) (inputBytes
   abbrev second : Result
   second = result graph arrays inputs (m .picks) b (length (m .ledger)) (length (m .cells))
 
-  rests : Rules.Quiescent first
+  rests : Rules.QuiescentResult first
   rests = same-end first .rests .1 (subst (λ (r : Answer). Quiescent (r .outcome)) (ranX .answered) done)
 
-  ends : Rules.EndsAlike first second
+  ends : Rules.ResultsEndAlike first second
   ends =
       any-two-budgets graph arrays inputs (l .picks) (m .picks) a b (length (l .ledger)) (length (m .ledger)) (length (l .cells)) (length (m .cells)) rests allowed capacities counts
       (subst (λ (r : Answer). r .firings ≤ b) (ranX .answered) enough)
@@ -242,7 +242,7 @@ module _ (graph arrays inputs : List ℕ) (graphBytes : Bytes graph) (inputBytes
       stores-whole (length inputs) (length (l .picks)) (length (l .ledger)) (length (l .cells))
       (begun-stores graph arrays inputs (l .picks) a (length (l .ledger)) (length (l .cells)) (quiescent-begun first rests))
 
-  budgets-alike : Alike x y
+  budgets-alike : AlikeBytes x y
   budgets-alike =
       let fits = result-fits graph arrays inputs (l .picks) a (length (l .ledger)) (length (l .cells)) graphBytes inputBytes in
       let others = result-fits graph arrays inputs (m .picks) b (length (m .ledger)) (length (m .cells)) graphBytes inputBytes in

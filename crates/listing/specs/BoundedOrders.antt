@@ -13,7 +13,7 @@ use Rattle.rules.specs.Runs.{LentToRun, LeftByRun, RanOn, LentToLogged, LeftByL
 use Rattle.rules.specs.Orders.{Allowed}
 use Rattle.rules.specs.Saved.{CarriedOn}
 use Rattle.rules.specs.Bounded.{goodBound, bounded, LeavesNoneHeld, BoundedOn, BoundLoggedOn, BoundCarriedOn}
-use Rattle.listing.specs.Demand3.{Alike}
+use Rattle.listing.specs.Demand3.{AlikeBytes}
 
 -- what a run with a bound is lent and leaves
 abbrev pub NoneHeldLeft : (graph arrays inputs : List ℕ) → (budget bound : ℕ) → LentToRun → Type 0
@@ -25,7 +25,7 @@ abbrev pub BoundedAsOrders : Type 0
 BoundedAsOrders = (graph arrays inputs : List ℕ) → Bytes graph → Bytes inputs → (budget k : ℕ) (l m : LentToRun) → NoneHeldLeft graph arrays inputs budget k l
     → Allowed (m .picks) (length (m .ledger)) (length (m .cells))
     → capacityOf (length (l .ledger)) ≡ capacityOf (length (m .ledger)) → length (l .cells) / cellWidth ≡ length (m .cells) / cellWidth
-    → (x y : LeftByRun) → BoundedOn graph arrays inputs budget k l x → RanOn graph arrays inputs 2048 m y → Alike x y
+    → (x y : LeftByRun) → BoundedOn graph arrays inputs budget k l x → RanOn graph arrays inputs 2048 m y → AlikeBytes x y
 
 -- where an order completes or hangs, no run with a bound is refused
 abbrev pub BoundedUnrefused : Type 0

@@ -1,5 +1,5 @@
 -- Demand 3, whole, in the words of the demand and of 01, "Any two orders". One claim about two runs over one graph and one list of inputs, in bytes: for every
--- two lists of picks, and whatever ledger and cells held before. It speaks of what `run` (crate engine) and `list` promise, `RanOn` and `answer` with `outAfter`.
+-- two lists of picks, and whatever ledger and cells held before. It speaks of what `run` (crate engine) and `list` promise, `RanOn` and `listAnswer` with `listedOut`.
 -- Behind it stands the same of two budgets that are each enough, and of runs that write a log. The statements; they are proved in proofs/Demand3. Assumes nothing.
 use Prim.Native.Nat.{ℕ, _*_, _/_, _≤_}
 use mathlib.Core.Path.{_≡_}
@@ -14,7 +14,7 @@ use Rattle.engine.specs.Promise.{LentToRun, LeftByRun, RanOn, LentToLogged, Lef
 use Rattle.rules.specs.Runs.{lentBesideLog, leftBesideLog, Completed, Hung, Quiescent, Spent, Refused}
 use Rattle.rules.specs.Orders.{Allowed, NotForOtherBuffers}
 use Rattle.rules.specs.Log.{logSuffices}
-use Rattle.listing.specs.Listing.{recordKey, records, answer, outAfter}
+use Rattle.listing.specs.Listing.{recordKey, records, listAnswer, listedOut}
 use Rattle.listing.specs.Sorted.{DifferentKeys}
 
 -- ---- two runs
@@ -25,30 +25,30 @@ abbrev pub NotForOthers : (graph inputs : List ℕ) → LentToRun → Type 0
 NotForOthers graph inputs l = NotForOtherBuffers graph inputs (l .picks) (length (l .ledger)) (length (l .cells))
 
 -- the first t ledger records, of t tokens, which `list` is lent
-abbrev pub used : LeftByRun → List ℕ
-used x = take (x .answer .tokens * tokenWidth) (x .ledger)
+abbrev pub usedBytes : LeftByRun → List ℕ
+usedBytes x = take (x .answer .tokens * tokenWidth) (x .ledger)
 
 -- ---- the claim
 
 -- of two runs that complete or hang. R-2: "completed or hung alike in all, with everything else equal"
-pub record Alike (x y : LeftByRun) : Type 0 where
+pub record AlikeBytes (x y : LeftByRun) : Type 0 where
   -- 01: "If one run completes with f firings and t tokens, so does the other.", and if one hangs, so does the other
   pub answers : x .answer ≡ y .answer
   -- 01: "All cell bytes are equal."
   pub cells : x .cells ≡ y .cells
   -- 01: "The first t ledger records of one run are those of the other in some order, in every byte of each, states included"
-  pub sameTokens : List·Permᴰ (records (used x)) (records (used y))
+  pub sameTokens : List·Permᴰ (records (usedBytes x)) (records (usedBytes y))
   -- the demand: "both ledgers hold the same tokens, each once": no two records have one path, iteration, instruction and port
-  pub eachOnce : DifferentKeys recordKey (records (used x))
+  pub eachOnce : DifferentKeys recordKey (records (usedBytes x))
   -- 01: "The listings of the two, in outputs of their length, are equal in every byte": `list` is done with both
-  pub listings : (out out′ : List ℕ) → length out ≡ length (used x) → length out′ ≡ length (used y)
-      → (answer (used x) out ≡ 0) × (answer (used y) out′ ≡ 0) × (outAfter (used x) out ≡ outAfter (used y) out′)
+  pub listings : (out out′ : List ℕ) → length out ≡ length (usedBytes x) → length out′ ≡ length (usedBytes y)
+      → (listAnswer (usedBytes x) out ≡ 0) × (listAnswer (usedBytes y) out′ ≡ 0) × (listedOut (usedBytes x) out ≡ listedOut (usedBytes y) out′)
 
-pub record Agree (x y : LeftByRun) : Type 0 where
+pub record BytesAgree (x y : LeftByRun) : Type 0 where
   -- the demand: "one run completes exactly when the other does"
   pub completes : Completed (x .answer .outcome) ↔ Completed (y .answer .outcome)
   pub hangs : Hung (x .answer .outcome) ↔ Hung (y .answer .outcome)
-  pub alike : Quiescent (x .answer .outcome) → Alike x y
+  pub alike : Quiescent (x .answer .outcome) → AlikeBytes x y
   -- 01: "If one run is refused, so is the other"
   pub refused : Refused (x .answer .outcome) ↔ Refused (y .answer .outcome)
   -- a budget of 2,048 is never spent
@@ -59,7 +59,7 @@ pub record Agree (x y : LeftByRun) : Type 0 where
 abbrev pub Demand3 : Type 0
 Demand3 = (graph arrays inputs : List ℕ) → Bytes graph → Bytes inputs → (l m : LentToRun) → NotForOthers graph inputs l → NotForOthers graph inputs m
     → capacityOf (length (l .ledger)) ≡ capacityOf (length (m .ledger)) → length (l .cells) / cellWidth ≡ length (m .cells) / cellWidth
-    → (x y : LeftByRun) → RanOn graph arrays inputs 2048 l x → RanOn graph arrays inputs 2048 m y → Agree x y
+    → (x y : LeftByRun) → RanOn graph arrays inputs 2048 l x → RanOn graph arrays inputs 2048 m y → BytesAgree x y
 
 -- ---- two budgets
 
@@ -68,7 +68,7 @@ abbrev pub AnyTwoBudgets : Type 0
 AnyTwoBudgets = (graph arrays inputs : List ℕ) → Bytes graph → Bytes inputs → (budget budget′ : ℕ) (l m : LentToRun) → Allowed (m .picks) (length (m .ledger)) (length (m .cells))
     → capacityOf (length (l .ledger)) ≡ capacityOf (length (m .ledger))
     → length (l .cells) / cellWidth ≡ length (m .cells) / cellWidth
-    → (x y : LeftByRun) → RanOn graph arrays inputs budget l x → RanOn graph arrays inputs budget′ m y → Quiescent (x .answer .outcome) → x .answer .firings ≤ budget′ → Alike x y
+    → (x y : LeftByRun) → RanOn graph arrays inputs budget l x → RanOn graph arrays inputs budget′ m y → Quiescent (x .answer .outcome) → x .answer .firings ≤ budget′ → AlikeBytes x y
 
 -- ---- runs that write a log
 
@@ -79,4 +79,4 @@ Demand3Logged = (graph arrays inputs : List ℕ) → Bytes graph → Bytes input
     → NotForOthers graph inputs (lentBesideLog l) → NotForOthers graph inputs (lentBesideLog m)
     → capacityOf (length (l .ledger)) ≡ capacityOf (length (m .ledger))
     → length (l .cells) / cellWidth ≡ length (m .cells) / cellWidth
-    → (x y : LeftByLogged) → LoggedOn graph arrays inputs l x → LoggedOn graph arrays inputs m y → Agree (leftBesideLog x) (leftBesideLog y)
+    → (x y : LeftByLogged) → LoggedOn graph arrays inputs l x → LoggedOn graph arrays inputs m y → BytesAgree (leftBesideLog x) (leftBesideLog y)

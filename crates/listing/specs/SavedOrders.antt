@@ -11,7 +11,7 @@ use Rattle.rules.specs.Check.{checkGraph}
 use Rattle.rules.specs.Runs.{LentToRun, LeftByRun}
 use Rattle.rules.specs.Orders.{Allowed}
 use Rattle.rules.specs.Saved.{CarriedOn}
-use Rattle.listing.specs.Demand3.{Agree}
+use Rattle.listing.specs.Demand3.{BytesAgree}
 
 -- the promise of `carry_on`
 abbrev pub CarriedTo : (graph arrays : List ℕ) → (budget firings tokens : ℕ) → LentToRun → LeftByRun → Type 0
@@ -31,4 +31,4 @@ pub record OneState (tokens : ℕ) (l m : LentToRun) : Type 0 where
 abbrev pub Demand3From : Type 0
 Demand3From = (graph arrays : List ℕ) (firings tokens : ℕ) → Bytes graph → (l m : LentToRun) → Bytes (l .ledger) → Bytes (m .ledger) → Bytes (l .cells)
     → NotBadStore graph l → NotBadStore graph m → OneState tokens l m
-    → (x y : LeftByRun) → CarriedTo graph arrays 2048 firings tokens l x → CarriedTo graph arrays 2048 firings tokens m y → Agree x y
+    → (x y : LeftByRun) → CarriedTo graph arrays 2048 firings tokens l x → CarriedTo graph arrays 2048 firings tokens m y → BytesAgree x y

@@ -61,6 +61,6 @@ fn main() {
     print_lent(&ledger[0..token::WIDTH + 10], token::WIDTH + 10);
     // No record, 2,048 records and 2,049.
     print_limit(0);
-    print_limit(2048 * token::WIDTH);
-    print_limit(2049 * token::WIDTH);
+    print_limit(token::MOST * token::WIDTH);
+    print_limit((token::MOST + 1) * token::WIDTH);
 }

@@ -13,11 +13,11 @@ use Rattle.record.specs.Widths.{cellWidth}
 
 -- ---- cells of zeros are absent
 
-absent-bytes : Cells.encode Absent ≡ replicate cellWidth 0
-unfolding Cells.encode
+absent-bytes : Cells.encodeCell Absent ≡ replicate cellWidth 0
+unfolding Cells.encodeCell
 absent-bytes = refl
 
-pub zeros-joined : (n : ℕ) → replicate (n * cellWidth) 0 ≡ joined Cells.encode (replicate n Absent)
+pub zeros-joined : (n : ℕ) → replicate (n * cellWidth) 0 ≡ joined Cells.encodeCell (replicate n Absent)
 zeros-joined zero = refl
 zeros-joined (suc n) =
     rw (suc-mul n cellWidth, add-comm (n * cellWidth) cellWidth) (sym (replicate-append-replicate cellWidth (n * cellWidth) 0) ∙ rw (absent-bytes, zeros-joined n))
@@ -29,4 +29,4 @@ absent-fit (suc n) = (tt, absent-fit n)
 pub zeros-cells : (n : ℕ) → Cells.cells n (replicate (n * cellWidth) 0) ≡ replicate n Absent
 zeros-cells n =
     let e = cells-joined (replicate n Absent) [] (absent-fit n) in
-    rw (zeros-joined n) (rw (length-replicate n Absent, append-nil (joined Cells.encode (replicate n Absent))) at e)
+    rw (zeros-joined n) (rw (length-replicate n Absent, append-nil (joined Cells.encodeCell (replicate n Absent))) at e)

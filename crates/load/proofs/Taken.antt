@@ -8,7 +8,7 @@ use native.Mathlib.Nat.{suc-mul, add-comm}
 use lib.ListN.{length, take, drop, length-append}
 use lib.Seq.{drop-at, drop-drop, length-take-le}
 use Rattle.buffer.specs.Rows.{allRows, putRow, All}
-use Rattle.record.specs.TokensAndTags.{tokens, tokenAt, decode, encode}
+use Rattle.record.specs.TokensAndTags.{tokens, tokenAt, decodeToken, encodeToken}
 use Rattle.record.specs.declared.token.Token.{Token}
 use Rattle.buffer.proofs.Tables.{length-rows, getD-rows}
 use Rattle.record.proofs.Records.{length-token}
@@ -17,7 +17,7 @@ use Rattle.store_enabled.proofs.Store.{all-at}
 use Rattle.store_chains.specs.Search.{Free}
 use Rattle.store.specs.Matching.{Matching}
 use Rattle.store.proofs.Writing.{tokens-first}
-use Rattle.load.specs.Loaded.{Proper, Alone, Loaded}
+use Rattle.load.specs.Loaded.{ProperArrival, Alone, Loaded}
 
 pub record Taken (tables links flags ledger ledger′ inputs : List ℕ) (i : ℕ) : Type 0 where
   pub few : i ≤ length inputs / tokenWidth
@@ -30,7 +30,7 @@ pub record Taken (tables links flags ledger ledger′ inputs : List ℕ) (i : �
 tokens-more : (i : ℕ) (l : List ℕ) → tokens (suc i) l ≡ tokens i l ++ tokenAt l i ∷ []
 tokens-more zero l = refl
 tokens-more (suc i) l =
-    ap (λ (ts : List Token). decode l ∷ ts) (tokens-more i (drop tokenWidth l))
+    ap (λ (ts : List Token). decodeToken l ∷ ts) (tokens-more i (drop tokenWidth l))
     ∙ rw (drop-drop (i * tokenWidth) tokenWidth l, suc-mul i tokenWidth, add-comm (i * tokenWidth) tokenWidth)
 
 -- a write of record i leaves the bytes past it
@@ -43,10 +43,10 @@ put-rest l i b e h =
     rw (suc-mul i tokenWidth) (ap (drop (i * tokenWidth + tokenWidth)) (sym (append-assoc p b r)) ∙ drop-at (p ++ b) r (i * tokenWidth + tokenWidth) k)
 
 -- what is known of an input
-pub proper : (tables inputs : List ℕ) (i : ℕ) (t : Token) → t ≡ tokenAt inputs i → i < length inputs / tokenWidth → All (Proper tables) (allRows tokenWidth decode inputs) → Proper tables t
+pub proper : (tables inputs : List ℕ) (i : ℕ) (t : Token) → t ≡ tokenAt inputs i → i < length inputs / tokenWidth → All (ProperArrival tables) (allRows tokenWidth decodeToken inputs) → ProperArrival tables t
 proper tables inputs i t e h w =
     let n = length inputs / tokenWidth in
-    rw e (rw (getD-rows tokenWidth decode n i inputs t h) at (all-at (Proper tables) (tokens n inputs) i t (rw (length-rows tokenWidth decode n inputs) h) w))
+    rw e (rw (getD-rows tokenWidth decodeToken n i inputs t h) at (all-at (ProperArrival tables) (tokens n inputs) i t (rw (length-rows tokenWidth decodeToken n inputs) h) w))
 
 pub alone : (inputs l : List ℕ) (i : ℕ) (t : Token) → t ≡ tokenAt inputs i → i < length inputs / tokenWidth → tokens i l ≡ tokens i inputs → Alone inputs → Free (tokens i l) (t .tag) (t .port)
 alone inputs l i t e h same w = rw (same, e) (rw (tokens-first i (length inputs / tokenWidth) inputs (omega arith)) at (w i h))
@@ -56,7 +56,7 @@ module _ (tables ledger inputs : List ℕ) where
   taken-none links flags m = record { few = omega arith; matching = m; taken = refl; size = refl; rest = refl }
 
   pub taken-more : (l : List ℕ) (i : ℕ) → length l ≡ length ledger → tokens i l ≡ tokens i inputs → drop (i * tokenWidth) l ≡ drop (i * tokenWidth) ledger → i < length inputs / tokenWidth → length inputs / tokenWidth ≤ length ledger / tokenWidth
-      → (m : List ℕ) → m ≡ putRow tokenWidth l i (encode (tokenAt inputs i)) → length m ≡ length l → tokens (i + 1) m ≡ tokens i l ++ tokenAt inputs i ∷ []
+      → (m : List ℕ) → m ≡ putRow tokenWidth l i (encodeToken (tokenAt inputs i)) → length m ≡ length l → tokens (i + 1) m ≡ tokens i l ++ tokenAt inputs i ∷ []
       → (links flags : List ℕ) → Matching tables links flags m (i + 1) → Taken tables links flags ledger m inputs (i + 1)
   taken-more l i len same rest h room m put len′ more links flags w =
       let e : drop (suc i * tokenWidth) l ≡ drop (suc i * tokenWidth) ledger =
@@ -66,7 +66,7 @@ module _ (tables ledger inputs : List ℕ) where
         matching = w;
         taken = more ∙ rw (same, add-one) (sym (tokens-more i inputs));
         size = len′ ∙ len;
-        rest = rw (add-one, put) (put-rest l i (encode (tokenAt inputs i)) (length-token (tokenAt inputs i)) (omega arith) ∙ e);
+        rest = rw (add-one, put) (put-rest l i (encodeToken (tokenAt inputs i)) (length-token (tokenAt inputs i)) (omega arith) ∙ e);
       }
 
   pub taken-all : (l : List ℕ) (i : ℕ) (links flags : List ℕ) → Taken tables links flags ledger l inputs i → length inputs / tokenWidth ≤ i → Loaded tables links flags ledger l inputs i

@@ -1,6 +1,4 @@
-// What an accepted run does before its first firing, and how it reads its picks: the cells are cleared, and the
-// input tokens are written to the ledger.
-use record::pick;
+// What an accepted run does before its first firing: the cells are cleared, and the input tokens are written to the ledger.
 use record::token;
 use store_chains::Links;
 use store_chains::Sought;
@@ -8,13 +6,12 @@ use store_enabled::Tables;
 use store_flags::Flags;
 ghost use mathlib.Core.Path.{_≡_};
 ghost use Prim.Native.Nat.{_/_, _≤_, _<_};
-ghost use lib.ListN.{length, getD, replicate};
-ghost use Rattle.number.specs.Number.{number16};
+ghost use lib.ListN.{length, replicate};
 ghost use Rattle.buffer.specs.Rows.{allRows, All};
-ghost use Rattle.record.specs.TokensAndTags.{decode};
-ghost use Rattle.record.specs.Widths.{tokenWidth, pickWidth};
+ghost use Rattle.record.specs.TokensAndTags.{decodeToken};
+ghost use Rattle.record.specs.Widths.{tokenWidth};
 ghost use Rattle.store.specs.Matching.{Matching};
-ghost use Rattle.load.specs.Loaded.{Proper, Alone, Loaded};
+ghost use Rattle.load.specs.Loaded.{ProperArrival, Alone, Loaded};
 
 // 01, "Firing": an accepted run first sets all cells absent. The bytes of an absent cell are zeros.
 pub fn clear(cells: &mut [u8])
@@ -27,31 +24,6 @@ pub fn clear(cells: &mut [u8])
     }
 }
 
-// 01, "Firing": a pick is an unsigned 16-bit number.
-fn wide(x: u16) -> usize
-    ensures { λ r. ⌜ (r ≡ x) × (r < 65536) ⌝ }
-{
-    x as usize
-}
-
-// Pick number k, counted from 0, or another number once the picks have run out.
-fn pick_or(picks: &[u8], k: usize, other: u16) -> u16
-    ensures { λ r. ⌜ r ≡ getD (allRows pickWidth (λ b. number16 b 0) (now (picks .entry))) k other ⌝ }
-{
-    if k < picks.len() / pick::WIDTH {
-        number::u16_at(picks, k * pick::WIDTH)
-    } else {
-        other
-    }
-}
-
-// 01, "Firing": once picks run out, the first enabled activity is taken, which is pick 0.
-pub fn pick_at(picks: &[u8], k: usize) -> usize
-    ensures { λ r. ⌜ (r ≡ getD (allRows pickWidth (λ b. number16 b 0) (now (picks .entry))) k 0) × (r < 65536) ⌝ }
-{
-    wide(pick_or(picks, k, 0))
-}
-
 // The input tokens arrive in their order in an empty ledger. The answer is how many they are. They are written here and then entered,
 // so that `store::arrive` is called in one place.
 pub fn inputs(
@@ -61,7 +33,11 @@ pub fn inputs(
     ledger: &mut [u8],
     inputs: &[u8],
 ) -> usize
-    requires { ⌜ Matching (now tables) (now links) (now flags) (now ledger) 0 × (length (now inputs) / tokenWidth ≤ length (now ledger) / tokenWidth) × (length (now ledger) / tokenWidth ≤ 2048) × All (Proper (now tables)) (allRows tokenWidth decode (now inputs)) × Alone (now inputs) ⌝ }
+    requires { ⌜ Matching (now tables) (now links) (now flags) (now ledger) 0
+        × (length (now inputs) / tokenWidth ≤ length (now ledger) / tokenWidth)
+        × (length (now ledger) / tokenWidth ≤ 2048)
+        × All (ProperArrival (now tables)) (allRows tokenWidth decodeToken (now inputs))
+        × Alone (now inputs) ⌝ }
     ensures { λ r. ⌜ Loaded (now (tables .entry)) (now (links .exit)) (now (flags .exit)) (now (ledger .entry)) (now (ledger .exit)) (now (inputs .entry)) r ⌝ }
 {
     let n = inputs.len() / token::WIDTH;

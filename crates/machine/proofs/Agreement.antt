@@ -7,7 +7,7 @@ use mathlib.Core.Bool.{true, cond}
 use Prim.Native.Nat.{ℕ, suc}
 use lib.ListN.{set}
 use Rattle.machine.specs.Machine.{Key, Content, live, Token, present, refuse, send, read, write, Machine, Activity, notFired, isThere, when, onOption, fill, cellAt, cellRead, contentRead, ifPresent, changed, Operands, firstPick}
-use Rattle.machine.specs.Machine.{Ledger, StateOf, EffectOf, sameKey, at, find, look, operandOf, operands, placeOf, isPlace, enabledFrom, enabled, spendAt, admit, commit, fire, allProper, ending, end, runBy}
+use Rattle.machine.specs.Machine.{Ledger, StateOf, EffectOf, sameKey, at, find, look, isOperandOf, operands, placeOf, isPlace, enabledFrom, enabled, spendAt, admit, commit, fire, allProper, ending, end, runBy}
 use Rattle.machine.specs.Orders.{Lawful, Good}
 use Rattle.machine.specs.Agreement.{withInstructions, AgreeAt, AgreeOn, SameRun}
 use Rattle.machine.proofs.View.{operandLive, operandZero}
@@ -41,7 +41,7 @@ module _ (M : Machine) (arity : M .Tag → ℕ) (effect : M .Tag → M .Value �
 
   placeSame : (τ : M .Tag) → At τ → (ts : Ledger M) → placeOf N τ ts ≡ placeOf M τ ts
   placeSame τ a [] = refl
-  placeSame τ a (t ∷ ts) = rw (a .arities) (ap (λ (n : ℕ). cond (operandOf M τ (t .key)) 0 (suc n)) (placeSame τ a ts))
+  placeSame τ a (t ∷ ts) = rw (a .arities) (ap (λ (n : ℕ). cond (isOperandOf M τ (t .key)) 0 (suc n)) (placeSame τ a ts))
 
   isPlaceSame : (s : StateOf M) (i : ℕ) (t : Token (M .Tag) (M .Value)) → At (t .key .tag) → isPlace N s i t ≡ isPlace M s i t
   isPlaceSame s i t a = rw (placeSame (t .key .tag) a (s .tokens), a .arities)

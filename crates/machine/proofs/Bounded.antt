@@ -13,11 +13,11 @@ use native.Mathlib.Nat.{add-zero, zero-add}
 use lib.ListN.{length, getD}
 use Rattle.machine.specs.Machine.{Key, Content, live, Machine, Activity, fired, notFired, Outcome, completed, hung, budgetSpent, refused, onList, when}
 use Rattle.machine.specs.Machine.{Ledger, StateOf, FiredOf, EndOf, sameKey, at, find, look, enabled, fire, Choice, end, ending, runBy}
-use Rattle.machine.specs.Orders.{Lawful, Good, LawfulChoice, InOrder, Completed, Hung, Refused, Quiescent, Proper, AllProper}
+use Rattle.machine.specs.Orders.{Lawful, Good, LawfulChoice, InOrder, CompletedEnd, HungEnd, RefusedEnd, QuiescentEnd, ProperContentAt, AllProper}
 use Rattle.machine.specs.Sequences.{Fires, NothingEnabled, logOf, Logged, EveryOrder}
 use Rattle.machine.specs.Choosers.{Chosen, takes, ends, Chooser, runFrom, logFrom, byPick}
-use Rattle.machine.specs.Bounded.{Held, without, freeOf, byFree, outcomeHeld, settled, runBounded, logBounded}
-use Rattle.machine.specs.Bounded.{FreeOnce, OnlyHeld, ProperRests, SaysFree, RanBounded, BoundedLogged, HangsOnHeld, Unbounded, BoundedEnds, BoundedUnrefused}
+use Rattle.machine.specs.Bounded.{Held, withoutHeld, freeOf, byFree, outcomeHeld, settled, runBounded, logBounded}
+use Rattle.machine.specs.Bounded.{FreeOnce, OnlyHeld, ProperRests, SaysFree, RanBounded, BoundedLogged, HangsOnHeld, Unbounded, BoundedEnds, BoundedUnrefusedOfMachine}
 use Rattle.machine.proofs.Lists.{no-member}
 use Rattle.machine.proofs.View.{noneSome, falseTrue, operandLive, operandAt}
 use Rattle.machine.proofs.Enabled.{enabledReady, enabledIn, enabledOnce}
@@ -31,41 +31,41 @@ module _ (M : Machine) where
   -- ---- a list without what is held
 
   module _ (held : Activity (M .Tag) → Bool) where
-    leaves : (l : List (Activity (M .Tag))) (a : Activity (M .Tag)) → List·Memᴰ a (without M held l) → List·Memᴰ a l × (held a ≡ false)
+    leaves : (l : List (Activity (M .Tag))) (a : Activity (M .Tag)) → List·Memᴰ a (withoutHeld M held l) → List·Memᴰ a l × (held a ≡ false)
     leaves [] a m = absurd (List·Memᴰ·not-nil m)
     leaves (b ∷ l) a m = go (held b) refl m (λ h. leaves l a h)
       where
-        here : held b ≡ false → (a ≡ b) ⊎ List·Memᴰ a (without M held l) → (List·Memᴰ a (without M held l) → List·Memᴰ a l × (held a ≡ false)) → List·Memᴰ a (b ∷ l) × (held a ≡ false)
+        here : held b ≡ false → (a ≡ b) ⊎ List·Memᴰ a (withoutHeld M held l) → (List·Memᴰ a (withoutHeld M held l) → List·Memᴰ a l × (held a ≡ false)) → List·Memᴰ a (b ∷ l) × (held a ≡ false)
         here e (inl p) rec = (List·Memᴰ·head p, ap held p ∙ e)
         here e (inr h) rec = let (i, q) = rec h in (List·Memᴰ·tail i, q)
 
-        go : (q : Bool) → held b ≡ q → List·Memᴰ a (cond q (without M held l) (b ∷ without M held l)) → (List·Memᴰ a (without M held l) → List·Memᴰ a l × (held a ≡ false)) → List·Memᴰ a (b ∷ l) × (held a ≡ false)
+        go : (q : Bool) → held b ≡ q → List·Memᴰ a (cond q (withoutHeld M held l) (b ∷ withoutHeld M held l)) → (List·Memᴰ a (withoutHeld M held l) → List·Memᴰ a l × (held a ≡ false)) → List·Memᴰ a (b ∷ l) × (held a ≡ false)
         go true e h rec = let (i, q) = rec h in (List·Memᴰ·tail i, q)
         go false e h rec = here e (List·Memᴰ·cases-cons h) rec
 
-    stays : (l : List (Activity (M .Tag))) (a : Activity (M .Tag)) → List·Memᴰ a l → held a ≡ false → List·Memᴰ a (without M held l)
+    stays : (l : List (Activity (M .Tag))) (a : Activity (M .Tag)) → List·Memᴰ a l → held a ≡ false → List·Memᴰ a (withoutHeld M held l)
     stays [] a m e = absurd (List·Memᴰ·not-nil m)
     stays (b ∷ l) a m e = go (held b) refl (List·Memᴰ·cases-cons m) (λ h. stays l a h e)
       where
-        go : (q : Bool) → held b ≡ q → (a ≡ b) ⊎ List·Memᴰ a l → (List·Memᴰ a l → List·Memᴰ a (without M held l)) → List·Memᴰ a (cond q (without M held l) (b ∷ without M held l))
+        go : (q : Bool) → held b ≡ q → (a ≡ b) ⊎ List·Memᴰ a l → (List·Memᴰ a l → List·Memᴰ a (withoutHeld M held l)) → List·Memᴰ a (cond q (withoutHeld M held l) (b ∷ withoutHeld M held l))
         go true h (inl p) rec = falseTrue (sym e ∙ ap held p ∙ h)
         go true h (inr i) rec = rec i
         go false h (inl p) rec = List·Memᴰ·head p
         go false h (inr i) rec = List·Memᴰ·tail (rec i)
 
-    ordered : (m n : ℕ) (l : List (Activity (M .Tag))) → m ≤ n → InOrder M n l → InOrder M m (without M held l)
+    ordered : (m n : ℕ) (l : List (Activity (M .Tag))) → m ≤ n → InOrder M n l → InOrder M m (withoutHeld M held l)
     ordered m n [] h o = tt
     ordered m n (b ∷ l) h o = go (held b) (λ k i. ordered k (suc (b .place)) l i (o .1))
       where
-        go : (q : Bool) → ((k : ℕ) → k ≤ suc (b .place) → InOrder M k (without M held l)) → InOrder M m (cond q (without M held l) (b ∷ without M held l))
+        go : (q : Bool) → ((k : ℕ) → k ≤ suc (b .place) → InOrder M k (withoutHeld M held l)) → InOrder M m (cond q (withoutHeld M held l) (b ∷ withoutHeld M held l))
         go true rec = rec m (let z = o .0 in omega arith)
         go false rec = (let z = o .0 in omega arith, rec (suc (b .place)) (omega arith))
 
-    noneOf : (l : List (Activity (M .Tag))) → ((a : Activity (M .Tag)) → List·Memᴰ a l → held a ≡ true) → without M held l ≡ []
+    noneOf : (l : List (Activity (M .Tag))) → ((a : Activity (M .Tag)) → List·Memᴰ a l → held a ≡ true) → withoutHeld M held l ≡ []
     noneOf [] h = refl
     noneOf (a ∷ l) h = rw (h a (List·Memᴰ·head refl)) (noneOf l (λ b m. h b (List·Memᴰ·tail m)))
 
-    allOf : (l : List (Activity (M .Tag))) → ((a : Activity (M .Tag)) → held a ≡ false) → without M held l ≡ l
+    allOf : (l : List (Activity (M .Tag))) → ((a : Activity (M .Tag)) → held a ≡ false) → withoutHeld M held l ≡ l
     allOf [] h = refl
     allOf (a ∷ l) h = rw (h a) (ap (λ (k : List (Activity (M .Tag))). a ∷ k) (allOf l h))
 
@@ -92,8 +92,8 @@ module _ (M : Machine) where
   properFound k v [] h e = noneSome e
   properFound k v (t ∷ ts) (p, h) e = go (sameKey M k (t .key)) (λ f. properFound k v ts h f) e
     where
-      here : (c : Content (M .Value)) → Proper M (M .arity (t .key .tag)) c → c ≡ live v → M .arity (t .key .tag) ≡ 0
-      here c q f = subst (Proper M (M .arity (t .key .tag))) f q
+      here : (c : Content (M .Value)) → ProperContentAt M (M .arity (t .key .tag)) c → c ≡ live v → M .arity (t .key .tag) ≡ 0
+      here c q f = subst (ProperContentAt M (M .arity (t .key .tag))) f q
 
       go : (q : Dec (k ≡ t .key)) → (find M k ts ≡ some (live v) → M .arity (k .tag) ≡ 0) → when q (some (t .content)) (find M k ts) ≡ some (live v) → M .arity (k .tag) ≡ 0
       go (yes q) rest f = rw q (here (t .content) p (cc))
@@ -233,7 +233,7 @@ module _ (M : Machine) where
   -- ---- as every order
 
   -- one that rests has the outcome of its state
-  restedFree : (held : Held M) (o : Outcome (M .Refusal)) (b n : ℕ) (x : StateOf M) → Quiescent o → SaysFree M held o b n x → o ≡ ending M x
+  restedFree : (held : Held M) (o : Outcome (M .Refusal)) (b n : ℕ) (x : StateOf M) → QuiescentEnd o → SaysFree M held o b n x → o ≡ ending M x
   restedFree held completed b n x q (e, h) = ending-cases M x (λ o. completed ≡ o) (λ k. refl) (λ k. absurd (k h))
   restedFree held hung b n x q (e, h) = ending-cases M x (λ o. hung ≡ o) (λ k. absurd (h k)) (λ k. refl)
   restedFree held budgetSpent b n x q h = absurd q
@@ -257,7 +257,7 @@ module _ (M : Machine) where
           oneTellsAll M law s g f log e (h .logged) rest said d od n (omega (arith, z .0, z .1)) qs
 
       tellsBy : (o : Outcome (M .Refusal)) → e .outcome ≡ o → SaysFree M held o b (length log) (e .state)
-          → Completed o ⊎ (Hung o × ((a : Activity (M .Tag)) → List·Memᴰ a (enabled M (e .state)) → held (e .state) a ≡ false)) → EveryOrder M s f (M .capacity) e
+          → CompletedEnd o ⊎ (HungEnd o × ((a : Activity (M .Tag)) → List·Memᴰ a (enabled M (e .state)) → held (e .state) a ≡ false)) → EveryOrder M s f (M .capacity) e
       tellsBy completed q t k = tells (properRests (e .state) (t .1)) (q ∙ restedFree held completed b (length log) (e .state) tt t)
       tellsBy hung q t (inl k) = absurd k
       tellsBy hung q t (inr k) = tells (noneHeldLeft held (e .state) (t .0) (k .1)) (q ∙ restedFree held hung b (length log) (e .state) tt t)
@@ -267,7 +267,7 @@ module _ (M : Machine) where
       tellsBy (refused r n) q t (inr k) = absurd (k .0)
 
       unrefused : (τs : List (M .Tag)) (x : StateOf M) → Fires M s τs x → NothingEnabled M x
-          → (o : Outcome (M .Refusal)) → SaysFree M held o b (length log) (e .state) → ¬ (Refused o)
+          → (o : Outcome (M .Refusal)) → SaysFree M held o b (length log) (e .state) → ¬ (RefusedEnd o)
       unrefused τs x p none completed t k = k
       unrefused τs x p none hung t k = k
       unrefused τs x p none budgetSpent t k = k
@@ -278,5 +278,5 @@ module _ (M : Machine) where
     pub boundedEnds : BoundedEnds M
     boundedEnds held c ok s g b ps f k = tellsBy held c ok s g b ps f (runBounded M held c b ps f s .outcome) refl (h held c ok s g b ps f .says) k
 
-    pub boundedUnrefused : BoundedUnrefused M
+    pub boundedUnrefused : BoundedUnrefusedOfMachine M
     boundedUnrefused held c ok s g b ps f τs x p none = unrefused held c ok s g b ps f τs x p none (runBounded M held c b ps f s .outcome) (h held c ok s g b ps f .says)

@@ -13,8 +13,8 @@ use borrow.Author.Tests.{lt-ltb, le-ltb}
 use Rattle.machine.specs.Machine.{Key, Content, live, Cell, absent, waiting, present, refuse, send, read, write, Machine, Activity, fired, notFired}
 use Rattle.machine.specs.Machine.{Outcome, completed, hung, budgetSpent, refused, onOption, fill, cellAt, contentRead, ifPresent, changed, output, Operands, firstPick, laterPicks}
 use Rattle.machine.specs.Machine.{Ledger, StateOf, EffectOf, FiredOf, EndOf, look, operands, spendAt, anyTaken, exceeds, enabled, admit, commit, fire, Choice, ending, runBy}
-use Rattle.machine.specs.Orders.{Lawful, Good, Quiescent, BudgetSpent}
-use Rattle.machine.specs.Capacity.{withCapacity, RefusedBy, tokensUsed, EnoughRoom, TooSmall, MoreBudget}
+use Rattle.machine.specs.Orders.{Lawful, Good, QuiescentEnd, BudgetSpent}
+use Rattle.machine.specs.Capacity.{withCapacity, RefusedBy, tokensUsed, EnoughRoomOfMachine, TooSmallOfMachine, MoreBudget}
 use Rattle.machine.proofs.Runs.{along, runEmpty, runFired, runRefused}
 use Rattle.machine.proofs.Orders.{ordersBy, neverSpentBy}
 
@@ -93,9 +93,9 @@ module _ (M : Machine) (n : ℕ) where
     fits : tokensUsed M e ≤ n → runBy M′ c b ps f s ≡ e
     full : n < tokensUsed M e → length (s .tokens) ≤ n → RefusedBy (M .ledgerFull) (runBy M′ c b ps f s .outcome)
 
-  compared : (c : Choice M) (b : ℕ) (ps : List ℕ) (f : ℕ) (s : StateOf M) → Quiescent (runBy M c b ps f s .outcome) → Compared c b ps f s (runBy M c b ps f s)
+  compared : (c : Choice M) (b : ℕ) (ps : List ℕ) (f : ℕ) (s : StateOf M) → QuiescentEnd (runBy M c b ps f s .outcome) → Compared c b ps f s (runBy M c b ps f s)
   unfolding enabled ending
-  compared c = along M c (λ b ps f s e. Quiescent (e .outcome) → Compared c b ps f s e) (record {
+  compared c = along M c (λ b ps f s e. QuiescentEnd (e .outcome) → Compared c b ps f s e) (record {
     rests = λ b ps f s e q. record { grows = omega arith; fits = λ l. runEmpty M′ c b ps f s e; full = λ l m. absurd (omega arith) };
     stops = λ ps f s a more e q. absurd q;
     refuses = λ b ps f s a more r e g q. absurd q;
@@ -118,10 +118,10 @@ module _ (M : Machine) (n : ℕ) where
       within b ps f s x a more e same over later (no k) = rw (runRefused M′ c b ps f s a more (M .ledgerFull) e (over (omega arith))) refl
 
 module _ (M : Machine) where
-  pub enough-room : EnoughRoom M
+  pub enough-room : EnoughRoomOfMachine M
   enough-room c s b ps f q n l = compared M n c b ps f s q .fits l
 
-  unspent : (o : Outcome (M .Refusal)) → Quiescent o → ¬ (BudgetSpent o)
+  unspent : (o : Outcome (M .Refusal)) → QuiescentEnd o → ¬ (BudgetSpent o)
   unspent completed q h = h
   unspent hung q h = h
   unspent budgetSpent q h = q
@@ -133,11 +133,11 @@ module _ (M : Machine) where
   fitting : (s : StateOf M) → Good M s → (n : ℕ) → length (s .tokens) ≤ n → Good (withCapacity M n) s
   fitting s g n l = record { distinct = g .distinct; room = l; cellCount = g .cellCount }
 
-  pub too-small : Lawful M → TooSmall M
+  pub too-small : Lawful M → TooSmallOfMachine M
   too-small law c d lc ld s g b b′ ps qs f q n l room h =
       let long = more-budget M c b (b + b′) ps f s (omega arith) (unspent (runBy M c b ps f s .outcome) q) in
       let all = ordersBy M law c d lc ld s g (b + b′) ps qs f .alike (rw long q) in
       let count : tokensUsed M (runBy M c b ps f s) ≡ tokensUsed M (runBy M d (b + b′) qs f s) = rw long at (all .count) in
       let never = neverSpentBy (withCapacity M n) (lawful law n) d ld s (fitting s g n room) b′ qs f h in
       rw (more-budget (withCapacity M n) d b′ (b + b′) qs f s (omega arith) never) at
-      (compared M n d (b + b′) qs f s (subst Quiescent (all .outcome) (rw long q)) .full (omega arith) room)
+      (compared M n d (b + b′) qs f s (subst QuiescentEnd (all .outcome) (rw long q)) .full (omega arith) room)

@@ -15,10 +15,10 @@ use Rattle.machine.specs.Machine.{Machine, Activity, fired, notFired, Ou
 use Rattle.machine.specs.Machine.{StateOf, FiredOf, EndOf, enabled, fire, Choice, end, after, ending, runBy}
 use Rattle.machine.specs.Orders.{Lawful, Good, InOrder}
 use Rattle.machine.specs.Sequences.{ifFired, Logged, logOf}
-use Rattle.machine.specs.Steps.{ProfileOf, endsHere, inTurn}
-use Rattle.machine.specs.Replay.{named, replay}
+use Rattle.machine.specs.Steps.{ProfileOf, endsHere, firesInTurn}
+use Rattle.machine.specs.Replay.{namedIn, replay}
 use Rattle.machine.specs.Saved.{ifRefused}
-use Rattle.machine.specs.Choosers.{Chosen, takes, ends, onChosen, Chooser, restsAt, runFrom, logFrom, ChoosersLogged, byPick, PicksChoose, orRefused, atPlace, placesOf, byName, byPlace, NamesChoose, stepOf, StepByPlaces}
+use Rattle.machine.specs.Choosers.{Chosen, takes, ends, onChosen, Chooser, restsAt, runFrom, logFrom, ChoosersLogged, byPick, PicksChoose, orRefused, atPlace, placesOf, byName, byPlace, NamesChoose, idealStep, StepByPlaces}
 use Rattle.machine.proofs.Enabled.{enabledOnce}
 use Rattle.machine.proofs.Ending.{ending-cases}
 use Rattle.machine.proofs.Sequences.{firing}
@@ -183,7 +183,7 @@ module _ (M : Machine) where
         go [] d h rest = absurd (omega arith)
         go (n ∷ l) d h rest =
             let (at, later) = head-is f names none n l d in
-            rw at (found l (λ x. rw (later) at (rest (ap length later ∙ omega arith) x)) (named M n (enabled M s)))
+            rw at (found l (λ x. rw (later) at (rest (ap length later ∙ omega arith) x)) (namedIn M n (enabled M s)))
 
     pub namesChoose : NamesChoose M notEnabled
     namesChoose names s = namesRun names (length names) 0 refl s
@@ -211,7 +211,7 @@ module _ (M : Machine) where
 
     module _ (law : Lawful M) (places : List ℕ) (f : ℕ) (next : ℕ → StateOf M → ProfileOf M) where
       steps : (l : List (Activity (M .Tag))) (g : ℕ) (s : StateOf M) → drop g places ≡ placesOf M l → Good M s → Waiting M l s
-          → inTurn M l (f + g) s next ≡ Stepped f next (runFrom M (byPlace M notEnabled places) (length l) g s)
+          → firesInTurn M l (f + g) s next ≡ Stepped f next (runFrom M (byPlace M notEnabled places) (length l) g s)
       steps [] g s d good w = rw (fromZero (byPlace M notEnabled places) g s) (stepsRest f g s next)
       steps (a ∷ l) g s d good w = go (fire M s (a .tag)) refl (λ x h. steps l (suc g) x (here .1) (firing M law s x (a .tag) good h .good) (waitsOn M law a l s x good w h))
         where
@@ -224,8 +224,8 @@ module _ (M : Machine) where
           taken : c g s ≡ takes a
           taken = ap (λ (p : ℕ). orRefused M notEnabled g (atPlace M p (enabled M s))) (here .0) ∙ ap (orRefused M notEnabled g) (found-at 0 (enabled M s) a (enabledOnce M s .inOrder) (w .enabledNow a (List·Memᴰ·head refl)) .1)
 
-          go : (q : FiredOf M) → fire M s (a .tag) ≡ q → ((x : StateOf M) → fire M s (a .tag) ≡ fired x → inTurn M l (f + suc g) x next ≡ Stepped f next (runFrom M c (length l) (suc g) x))
-              → inTurn M (a ∷ l) (f + g) s next ≡ Stepped f next (runFrom M c (suc (length l)) g s)
+          go : (q : FiredOf M) → fire M s (a .tag) ≡ q → ((x : StateOf M) → fire M s (a .tag) ≡ fired x → firesInTurn M l (f + suc g) x next ≡ Stepped f next (runFrom M c (length l) (suc g) x))
+              → firesInTurn M (a ∷ l) (f + g) s next ≡ Stepped f next (runFrom M c (suc (length l)) g s)
           go (fired x) h rest = rw (fromFired c (length l) g s a taken x h) (rw h (rw (add-suc f g) at (rest x h)))
           go (notFired r) h rest = rw (fromRefused c (length l) g s a taken r h) (rw h refl)
 

@@ -6,7 +6,7 @@ use native.Mathlib.Nat.{zero-add, add-zero, add-suc, suc-add}
 use lib.ListN.{take, drop}
 use lib.Seq.{take-nil, drop-nil}
 use Rattle.machine.specs.Machine.{Machine, firstPick, laterPicks, StateOf, EndOf, Choice, end, runBy}
-use Rattle.machine.specs.Saved.{ifRefused, sum, CutRuns}
+use Rattle.machine.specs.Saved.{ifRefused, sum, CutRunsOfMachine}
 use Rattle.machine.proofs.Ending.{ending-cases}
 use Rattle.machine.proofs.Runs.{along, runEmpty, runZero, runFired, runRefused}
 
@@ -48,7 +48,7 @@ module _ (M : Machine) where
     fires = λ a ps f s y x more z e g h. rw (suc-add a k, laterLeft a ps) (h ∙ sym (runFired M c (a + k) ps f s y x more e g));
   })
 
-  pub cut-runs : CutRuns M
+  pub cut-runs : CutRunsOfMachine M
   cut-runs c a [] ps f s = ap (λ (n : ℕ). runBy M c n ps f s) (sym (add-zero a))
   cut-runs c a (b ∷ bs) ps f s = rw (picksTaken c a ps f s, cut-runs c b bs (drop a ps) (runBy M c a ps f s .firings) (runBy M c a ps f s .state)) (cutOnce c (b + sum bs) a ps f s)
 

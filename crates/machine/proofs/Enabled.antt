@@ -10,7 +10,7 @@ use native.Mathlib.Omega.{arith}
 use lib.Dec.{eqb}
 use lib.ListN.{length}
 use borrow.Author.Tests.{eqb-true, eq-eqb}
-use Rattle.machine.specs.Machine.{Key, Content, live, Token, Machine, Activity, when, isLive, Ledger, StateOf, sameKey, at, find, look, operandOf, allLive, placeOf, isPlace, enabledFrom, enabled}
+use Rattle.machine.specs.Machine.{Key, Content, live, Token, Machine, Activity, when, isLive, Ledger, StateOf, sameKey, at, find, look, isOperandOf, allLive, placeOf, isPlace, enabledFrom, enabled}
 use Rattle.machine.specs.Orders.{Live, InOrder, Enabled, EnabledOnce}
 use Rattle.machine.proofs.View.{when-no, noneSome, falseTrue, Ready, operandKey, operandAt, operandLive, operandsThere, operandsAll}
 use Rattle.machine.proofs.Store.{findHead, view}
@@ -29,7 +29,7 @@ module _ (M : Machine) where
 
   placeEnabled : (s : StateOf M) (i : ℕ) (t : Token (M .Tag) (M .Value)) → isPlace M s i t ≡ true → Enabled M s (act i (t .key .tag))
   placeEnabled s i t e =
-      let (w, o, l, p) = allTrue (isLive (t .content)) (operandOf M (t .key .tag) (t .key)) (allLive M (look M s) (t .key .tag)) (eqb (placeOf M (t .key .tag) (s .tokens)) i) e in
+      let (w, o, l, p) = allTrue (isLive (t .content)) (isOperandOf M (t .key .tag) (t .key)) (allLive M (look M s) (t .key .tag)) (eqb (placeOf M (t .key .tag) (s .tokens)) i) e in
       let (q, h) = operandKey M (t .key .tag) (t .key) o in
       (omega arith, l, sym (eqb-true (placeOf M (t .key .tag) (s .tokens)) i p))
 
@@ -49,35 +49,35 @@ module _ (M : Machine) where
   -- ---- each enabled is in the list
 
   -- an operand stands at the tag's place
-  placeThere : (τ : M .Tag) (k : Key (M .Tag)) (y : Content (M .Value)) (ts : Ledger M) → operandOf M τ k ≡ true → find M k ts ≡ some y → placeOf M τ ts < length ts
+  placeThere : (τ : M .Tag) (k : Key (M .Tag)) (y : Content (M .Value)) (ts : Ledger M) → isOperandOf M τ k ≡ true → find M k ts ≡ some y → placeOf M τ ts < length ts
   placeThere τ k y [] o e = noneSome e
-  placeThere τ k y (t ∷ ts) o e = go (operandOf M τ (t .key)) refl (sameKey M k (t .key)) (λ h. placeThere τ k y ts o h) e
+  placeThere τ k y (t ∷ ts) o e = go (isOperandOf M τ (t .key)) refl (sameKey M k (t .key)) (λ h. placeThere τ k y ts o h) e
     where
-      go : (b : Bool) → operandOf M τ (t .key) ≡ b → (d : Dec (k ≡ t .key)) → (find M k ts ≡ some y → placeOf M τ ts < length ts) → when d (some (t .content)) (find M k ts) ≡ some y
+      go : (b : Bool) → isOperandOf M τ (t .key) ≡ b → (d : Dec (k ≡ t .key)) → (find M k ts ≡ some y → placeOf M τ ts < length ts) → when d (some (t .content)) (find M k ts) ≡ some y
           → cond b 0 (suc (placeOf M τ ts)) < suc (length ts)
       go true f d rec h = omega arith
-      go false f (yes p) rec h = falseTrue (sym f ∙ ap (operandOf M τ) (sym p) ∙ o)
+      go false f (yes p) rec h = falseTrue (sym f ∙ ap (isOperandOf M τ) (sym p) ∙ o)
       go false f (no n) rec h = let z = rec h in omega arith
 
   -- the tokens before ts are no operands of the tag
-  module _ (s : StateOf M) (τ : M .Tag) (l : allLive M (look M s) τ ≡ true) (ready : (k : Key (M .Tag)) → operandOf M τ k ≡ true → Live (look M s k)) where
-    enabledAt : (i : ℕ) (ts : Ledger M) → placeOf M τ (s .tokens) ≡ i + placeOf M τ ts → ((k : Key (M .Tag)) → operandOf M τ k ≡ true → look M s k ≡ find M k ts) → placeOf M τ ts < length ts
+  module _ (s : StateOf M) (τ : M .Tag) (l : allLive M (look M s) τ ≡ true) (ready : (k : Key (M .Tag)) → isOperandOf M τ k ≡ true → Live (look M s k)) where
+    enabledAt : (i : ℕ) (ts : Ledger M) → placeOf M τ (s .tokens) ≡ i + placeOf M τ ts → ((k : Key (M .Tag)) → isOperandOf M τ k ≡ true → look M s k ≡ find M k ts) → placeOf M τ ts < length ts
         → List·Memᴰ (act (placeOf M τ (s .tokens)) τ) (enabledFrom M s i ts)
     enabledAt i [] e k h = absurd (omega arith)
-    enabledAt i (t ∷ ts) e k h = go (operandOf M τ (t .key)) refl e h (λ f n g. enabledAt (suc i) ts f n g)
+    enabledAt i (t ∷ ts) e k h = go (isOperandOf M τ (t .key)) refl e h (λ f n g. enabledAt (suc i) ts f n g)
       where
         -- the earliest operand is found by its key
-        liveHere : operandOf M τ (t .key) ≡ true → isLive (t .content) ≡ true
+        liveHere : isOperandOf M τ (t .key) ≡ true → isLive (t .content) ≡ true
         liveHere o =
             let (u, f) = ready (t .key) o in
             let g : some (t .content) ≡ some (live u) = sym (k (t .key) o ∙ findHead M t ts) ∙ f in
             let c : t .content ≡ live u = cc in
             rw c
 
-        here : operandOf M τ (t .key) ≡ true → placeOf M τ (s .tokens) ≡ i → isPlace M s i t ≡ true
+        here : isOperandOf M τ (t .key) ≡ true → placeOf M τ (s .tokens) ≡ i → isPlace M s i t ≡ true
         here o p =
             let (q, n) = operandKey M τ (t .key) o in
-            let a : operandOf M (t .key .tag) (t .key) ≡ true = subst (λ x. operandOf M x (t .key) ≡ true) q o in
+            let a : isOperandOf M (t .key .tag) (t .key) ≡ true = subst (λ x. isOperandOf M x (t .key) ≡ true) q o in
             let b : allLive M (look M s) (t .key .tag) ≡ true = subst (λ x. allLive M (look M s) x ≡ true) q l in
             let c : eqb (placeOf M (t .key .tag) (s .tokens)) i ≡ true = eq-eqb _ _ (ap (λ x. placeOf M x (s .tokens)) (sym q) ∙ p) in
             rw (liveHere o, a, b) c
@@ -86,14 +86,14 @@ module _ (M : Machine) where
         skip true a m = List·Memᴰ·tail m
         skip false a m = m
 
-        same : operandOf M τ (t .key) ≡ true → placeOf M τ (s .tokens) ≡ i → act (placeOf M τ (s .tokens)) τ ≡ act i (t .key .tag)
+        same : isOperandOf M τ (t .key) ≡ true → placeOf M τ (s .tokens) ≡ i → act (placeOf M τ (s .tokens)) τ ≡ act i (t .key .tag)
         same o p = λ j. record { place = p j; tag = operandKey M τ (t .key) o .0 j }
 
-        after : operandOf M τ (t .key) ≡ false → (j : Key (M .Tag)) → operandOf M τ j ≡ true → look M s j ≡ find M j ts
-        after f j o = k j o ∙ when-no (sameKey M j (t .key)) _ _ (λ q. falseTrue (sym f ∙ ap (operandOf M τ) (sym q) ∙ o))
+        after : isOperandOf M τ (t .key) ≡ false → (j : Key (M .Tag)) → isOperandOf M τ j ≡ true → look M s j ≡ find M j ts
+        after f j o = k j o ∙ when-no (sameKey M j (t .key)) _ _ (λ q. falseTrue (sym f ∙ ap (isOperandOf M τ) (sym q) ∙ o))
 
-        go : (b : Bool) → operandOf M τ (t .key) ≡ b → placeOf M τ (s .tokens) ≡ i + cond b 0 (suc (placeOf M τ ts)) → cond b 0 (suc (placeOf M τ ts)) < suc (length ts)
-            → (placeOf M τ (s .tokens) ≡ suc i + placeOf M τ ts → ((j : Key (M .Tag)) → operandOf M τ j ≡ true → look M s j ≡ find M j ts) → placeOf M τ ts < length ts
+        go : (b : Bool) → isOperandOf M τ (t .key) ≡ b → placeOf M τ (s .tokens) ≡ i + cond b 0 (suc (placeOf M τ ts)) → cond b 0 (suc (placeOf M τ ts)) < suc (length ts)
+            → (placeOf M τ (s .tokens) ≡ suc i + placeOf M τ ts → ((j : Key (M .Tag)) → isOperandOf M τ j ≡ true → look M s j ≡ find M j ts) → placeOf M τ ts < length ts
             → List·Memᴰ (act (placeOf M τ (s .tokens)) τ) (enabledFrom M s (suc i) ts))
             → List·Memᴰ (act (placeOf M τ (s .tokens)) τ) (enabledFrom M s i (t ∷ ts))
         go true o f g rec = let p : placeOf M τ (s .tokens) ≡ i = omega arith in rw (here o p) (List·Memᴰ·head (same o p))

@@ -6,7 +6,7 @@ use mathlib.Core.Bool.{Bool, true, false, _&&_, cond}
 use Prim.Native.Nat.{ℕ}
 use borrow.Author.Tests.{eqb-true, eq-eqb}
 use Rattle.machine.specs.Machine.{Content, live, spent, deferred, Machine, Outcome, completed, hung, budgetSpent, refused, isProper, Ledger, StateOf, allProper, ending}
-use Rattle.machine.specs.Orders.{Quiescent, Proper, AllProper, Says}
+use Rattle.machine.specs.Orders.{QuiescentEnd, ProperContentAt, AllProper, Says}
 use Rattle.machine.specs.Sequences.{NothingEnabled}
 use Rattle.machine.proofs.View.{falseTrue}
 
@@ -24,12 +24,12 @@ swapped false false c = refl
 module _ (M : Machine) where
   -- ---- the test, and what it says
 
-  properOne : (n : ℕ) (x : Content (M .Value)) → isProper n x ≡ true → Proper M n x
+  properOne : (n : ℕ) (x : Content (M .Value)) → isProper n x ≡ true → ProperContentAt M n x
   properOne n (live v) e = eqb-true n 0 e
   properOne n (spent v) e = tt
   properOne n (deferred c) e = falseTrue e
 
-  testOne : (n : ℕ) (x : Content (M .Value)) → Proper M n x → isProper n x ≡ true
+  testOne : (n : ℕ) (x : Content (M .Value)) → ProperContentAt M n x → isProper n x ≡ true
   testOne n (live v) h = eq-eqb n 0 h
   testOne n (spent v) h = refl
   testOne n (deferred c) h = absurd h
@@ -58,11 +58,11 @@ module _ (M : Machine) where
   pub ending-says : (s : StateOf M) (budget n : ℕ) → NothingEnabled M s → Says M (ending M s) budget n s
   ending-says s b n e = ending-cases s (λ o. Says M o b n s) (λ h. (e, h)) (λ h. (e, h))
 
-  pub ending-rests : (s : StateOf M) → Quiescent (ending M s)
-  ending-rests s = ending-cases s Quiescent (λ h. tt) (λ h. tt)
+  pub ending-rests : (s : StateOf M) → QuiescentEnd (ending M s)
+  ending-rests s = ending-cases s QuiescentEnd (λ h. tt) (λ h. tt)
 
   -- so it is with a run that completes or hangs
-  pub rested : (o : Outcome (M .Refusal)) (budget n : ℕ) (x : StateOf M) → Quiescent o → Says M o budget n x → NothingEnabled M x × (o ≡ ending M x)
+  pub rested : (o : Outcome (M .Refusal)) (budget n : ℕ) (x : StateOf M) → QuiescentEnd o → Says M o budget n x → NothingEnabled M x × (o ≡ ending M x)
   rested completed b n x q (e, h) = (e, ending-cases x (λ o. completed ≡ o) (λ k. refl) (λ k. absurd (k h)))
   rested hung b n x q (e, h) = (e, ending-cases x (λ o. hung ≡ o) (λ k. absurd (h k)) (λ k. refl))
   rested budgetSpent b n x q h = absurd q

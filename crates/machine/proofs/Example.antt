@@ -10,7 +10,7 @@ use native.Mathlib.Omega.{arith}
 use lib.Dec.{eqb}
 use Rattle.machine.specs.Machine.{Key, Token, Effect, refuse, send, read, write, Machine, State, live, spent, deferred, absent, waiting, present}
 use Rattle.machine.specs.Machine.{completed, hung, budgetSpent, refused, End, byPicks, run, machine}
-use Rattle.machine.specs.Orders.{CellsBelow, ReadsForSome, Lawful, Start, Same, Invariants}
+use Rattle.machine.specs.Orders.{CellsBelow, ReadsForSome, Lawful, Start, EndsAgree, Invariants}
 use Rattle.machine.specs.Sequences.{logOf}
 use Rattle.machine.specs.Steps.{profile}
 use Rattle.machine.specs.Replay.{replay}
@@ -182,7 +182,7 @@ inputs : Start small start
 unfolding machine
 inputs = record { distinct = (refl, (refl, tt)); room = omega arith; allLive = ((5, refl), ((7, refl), tt)); absentCells = refl }
 
-applied : Same (run small 8 [] start) (run small 8 (1 ∷ []) start)
+applied : EndsAgree (run small 8 [] start) (run small 8 (1 ∷ []) start)
 applied = orders small lawful start (startGood small start inputs) 8 [] (1 ∷ [])
 
 atTheEnd : Invariants small start (reached-picks small start 8 [] .done) (reached-picks small start 8 [] .sent) (run small 8 [] start .state)

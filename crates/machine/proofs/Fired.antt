@@ -9,8 +9,8 @@ use Prim.Native.Nat.{ℕ, zero, suc, _<_}
 use native.Mathlib.Omega.{arith}
 use lib.ListN.{length}
 use Rattle.machine.specs.Machine.{Key, Content, live, spent, deferred, refuse, send, read, write, Machine, fired}
-use Rattle.machine.specs.Machine.{onOption, liveValue, isThere, allBelow, StateOf, EffectOf, at, look, operandOf, liveAt, allLive, placeOf, among, enabled, fire}
-use Rattle.machine.specs.Orders.{Lawful, Live, Spent, Good, Start, keysOf, outputs, Reached}
+use Rattle.machine.specs.Machine.{onOption, liveValue, isThere, allThere, StateOf, EffectOf, at, look, isOperandOf, liveAt, allLive, placeOf, among, enabled, fire}
+use Rattle.machine.specs.Orders.{Lawful, Live, SpentContent, Good, Start, effectKeys, outputs, Reached}
 use Rattle.machine.specs.Sequences.{isSpentThere}
 use Rattle.machine.proofs.View.{noneSome, falseTrue, omap, orElse, given, resolve, cellAfter}
 use Rattle.machine.proofs.View.{View, DeltaOf, deltaOf, change, apply, operandKey, operandLive, operandZero}
@@ -24,27 +24,27 @@ use Rattle.machine.proofs.Reached.{keysKnown, startLive, outputsKnown, 
 -- ---- contents
 
 module _ {W : Type 0} where
-  pub spent-is : (x : Option (Content W)) → isSpentThere x ≡ true → Spent x
+  pub spent-is : (x : Option (Content W)) → isSpentThere x ≡ true → SpentContent x
   spent-is none e = falseTrue e
   spent-is (some (live v)) e = falseTrue e
   spent-is (some (spent v)) e = (v, refl)
   spent-is (some (deferred c)) e = falseTrue e
 
-  pub is-spent : (x : Option (Content W)) → Spent x → isSpentThere x ≡ true
+  pub is-spent : (x : Option (Content W)) → SpentContent x → isSpentThere x ≡ true
   is-spent x (v, e) = rw e
 
   -- what is there and not deferred, and not live, is spent
-  neither : (x : Option (Content W)) → isThere x ≡ true → ((c : ℕ) → ¬ (x ≡ some (deferred c))) → liveValue x ≡ none → Spent x
+  neither : (x : Option (Content W)) → isThere x ≡ true → ((c : ℕ) → ¬ (x ≡ some (deferred c))) → liveValue x ≡ none → SpentContent x
   neither none t d e = falseTrue t
   neither (some (live v)) t d e = noneSome (sym e)
   neither (some (spent v)) t d e = (v, refl)
   neither (some (deferred c)) t d e = absurd (d c refl)
 
-  one-missing : (f : ℕ → Option W) (n : ℕ) → allBelow f n ≡ false → (p : ℕ) × (p < n) × (f p ≡ none)
+  one-missing : (f : ℕ → Option W) (n : ℕ) → allThere f n ≡ false → (p : ℕ) × (p < n) × (f p ≡ none)
   one-missing f zero e = falseTrue (sym e)
   one-missing f (suc n) e = go (f n) refl e (λ h. one-missing f n h)
     where
-      go : (q : Option W) → f n ≡ q → onOption q false (λ v. allBelow f n) ≡ false → (allBelow f n ≡ false → (p : ℕ) × (p < n) × (f p ≡ none)) → (p : ℕ) × (p < suc n) × (f p ≡ none)
+      go : (q : Option W) → f n ≡ q → onOption q false (λ v. allThere f n) ≡ false → (allThere f n ≡ false → (p : ℕ) × (p < n) × (f p ≡ none)) → (p : ℕ) × (p < suc n) × (f p ≡ none)
       go none h g rest = (n, omega arith, h)
       go (some v) h g rest = let (p, l, k) = rest g in (p, omega arith, k)
 
@@ -62,7 +62,7 @@ module _ (M : Machine) where
   -- ---- over the view
 
   module _ (v : View M) (τ : M .Tag) (d : DeltaOf M) where
-    spentOther : (k : Key (M .Tag)) → operandOf M τ k ≡ false → isSpentThere (apply M τ d v .tok k) ≡ isSpentThere (v .tok k)
+    spentOther : (k : Key (M .Tag)) → isOperandOf M τ k ≡ false → isSpentThere (apply M τ d v .tok k) ≡ isSpentThere (v .tok k)
     spentOther k o = go (v .tok k) (among M k (d .keys))
       where
         go : (x : Option (Content (M .Value))) (b : Bool) → isSpentThere (orElse (omap (change M τ d k) x) (given b (resolve (cellAfter d (v .cell)) (d .source)))) ≡ isSpentThere x
@@ -70,7 +70,7 @@ module _ (M : Machine) where
         go none true = sourceUnspent (cellAfter d (v .cell)) (d .source)
         go none false = refl
 
-    spentOwn : (k : Key (M .Tag)) → operandOf M τ k ≡ true → Live (v .tok k) → isSpentThere (apply M τ d v .tok k) ≡ true
+    spentOwn : (k : Key (M .Tag)) → isOperandOf M τ k ≡ true → Live (v .tok k) → isSpentThere (apply M τ d v .tok k) ≡ true
     spentOwn k o (u, e) = rw (e, o)
 
     thereStays : (k : Key (M .Tag)) → isThere (v .tok k) ≡ true → isThere (apply M τ d v .tok k) ≡ true
@@ -100,17 +100,17 @@ module _ (M : Machine) where
     pub left : M .Value
     pub right : M .Value
     pub done : Done (M .effect τ left right)
-    pub sent : outputs M y τ ≡ length (keysOf M (M .effect τ left right))
-    pub there : (k : Key (M .Tag)) → among M k (keysOf M (M .effect τ left right)) ≡ true → isThere (look M x k) ≡ true
+    pub sent : outputs M y τ ≡ length (effectKeys M (M .effect τ left right))
+    pub there : (k : Key (M .Tag)) → among M k (effectKeys M (M .effect τ left right)) ≡ true → isThere (look M x k) ≡ true
     pub stays : (k : Key (M .Tag)) → isThere (look M y k) ≡ true → isThere (look M x k) ≡ true
     pub before : hasFired y τ ≡ false
     pub after : hasFired x τ ≡ true
     pub others : (σ : M .Tag) → ¬ (τ ≡ σ) → hasFired x σ ≡ hasFired y σ
 
-  notOperand : (τ σ : M .Tag) → ¬ (τ ≡ σ) → operandOf M τ (at M σ 0) ≡ false
-  notOperand τ σ n = go (operandOf M τ (at M σ 0)) refl
+  notOperand : (τ σ : M .Tag) → ¬ (τ ≡ σ) → isOperandOf M τ (at M σ 0) ≡ false
+  notOperand τ σ n = go (isOperandOf M τ (at M σ 0)) refl
     where
-      go : (b : Bool) → operandOf M τ (at M σ 0) ≡ b → operandOf M τ (at M σ 0) ≡ false
+      go : (b : Bool) → isOperandOf M τ (at M σ 0) ≡ b → isOperandOf M τ (at M σ 0) ≡ false
       go true f = absurd (n (operandKey M τ (at M σ 0) f .0))
       go false f = f
 
@@ -120,7 +120,7 @@ module _ (M : Machine) where
         let st = firing M law y x τ good e .step in
         let d = st .delta in
         let effect = M .effect τ (st .ops .left) (st .ops .right) in
-        let keys : keysOf M effect ≡ d .keys = keysKnown M effect d (st .known) in
+        let keys : effectKeys M effect ≡ d .keys = keysKnown M effect d (st .known) in
         let seen : (k : Key (M .Tag)) → apply M τ d (view M y) .tok k ≡ look M x k = λ k. ap (λ v. v .tok k) (st .result) in
         let o = operandZero M (look M y) τ (st .ops) (st .given) in
         let first = operandLive M (look M y) τ (st .ops) (at M τ 0) (st .given) o in
@@ -145,7 +145,7 @@ module _ (M : Machine) where
       pub left : M .Value
       pub right : M .Value
       pub done : Done (M .effect τ left right)
-      pub there : (k : Key (M .Tag)) → among M k (keysOf M (M .effect τ left right)) ≡ true → isThere (look M x k) ≡ true
+      pub there : (k : Key (M .Tag)) → among M k (effectKeys M (M .effect τ left right)) ≡ true → isThere (look M x k) ≡ true
 
     pub start-none : (s : StateOf M) → Start M s → (τ : M .Tag) → hasFired s τ ≡ false
     start-none s st τ = go (look M s (at M τ 0)) refl
@@ -175,7 +175,7 @@ module _ (M : Machine) where
   -- ---- nothing is enabled
 
   pub fired-or-enabled : (x : StateOf M) → enabled M x ≡ [] → (τ : M .Tag) → 0 < M .arity τ
-      → ((p q : ℕ) → p < M .arity τ → q < M .arity τ → Spent (look M x (at M τ p)) → Spent (look M x (at M τ q)))
+      → ((p q : ℕ) → p < M .arity τ → q < M .arity τ → SpentContent (look M x (at M τ p)) → SpentContent (look M x (at M τ q)))
       → ((p : ℕ) → p < M .arity τ → isThere (look M x (at M τ p)) ≡ true) → ((p c : ℕ) → ¬ (look M x (at M τ p) ≡ some (deferred c))) → hasFired x τ ≡ true
   fired-or-enabled x idle τ waits together there undeferred = go (allLive M (look M x) τ) refl
     where

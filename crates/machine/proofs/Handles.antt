@@ -9,9 +9,9 @@ use lib.ListN.{length, getD, length-append}
 use Rattle.machine.specs.Machine.{Content, live, spent, Token, Cell, present, Effect, Machine, State, Activity, fired, notFired, Outcome, budgetSpent, refused, onOption, onList, Operands}
 use Rattle.machine.specs.Machine.{StateOf, FiredOf, EndOf, enabled, commit, fire, end, ending}
 use Rattle.machine.specs.Choosers.{Chosen, takes, ends, Chooser, restsAt, runFrom}
-use Rattle.machine.specs.InStep.{Pairwise, noMore, pair, RelatedContent, bothLive, bothSpent, bothDeferred, RelatedCell, bothAbsent, bothWaiting, bothPresent, RelatedToken, atKey, RelatedState}
-use Rattle.machine.specs.InStep.{RelatedFired, alone, neither, both, EndsAlike, Over}
-use Rattle.machine.specs.Handles.{Stands, changedTo, contentBy, cellBy, stateBy, Step, TriedOf, TabledOf, tryStep, fireOn, tabled, runOn, NoRefusal, StepsRelated, HandlesInStep}
+use Rattle.machine.specs.InStep.{PlaceByPlace, noMore, pair, RelatedContent, bothLive, bothSpent, bothDeferred, RelatedCell, bothAbsent, bothWaiting, bothPresent, RelatedToken, atKey, RelatedState}
+use Rattle.machine.specs.InStep.{RelatedFired, alone, neither, both, RelatedEnds, Over}
+use Rattle.machine.specs.Handles.{StandsAt, changedTo, meantContent, cellBy, stateBy, Step, TriedOf, TabledOf, tryStep, fireOn, tabled, runOn, NoRefusal, StepsRelated, HandlesInStep}
 use Rattle.machine.proofs.Choosers.{fromEnds, fromFired, fromRefused, fromZero}
 use Rattle.machine.proofs.InStep.{RelatedOption, bothNone, bothSome, RelatedOperands, stateGrows, operandsRelated, enabledSame, endingSame, commitRelated}
 
@@ -35,26 +35,26 @@ module _ {X : Type 0} where
 
 module _ {X W : Type 0} (number : W → ℕ) where
   -- entries never change
-  pub stands-on : (t more : List X) (v : X) (w : W) → Stands number t v w → Stands number (t ++ more) v w
+  pub stands-on : (t more : List X) (v : X) (w : W) → StandsAt number t v w → StandsAt number (t ++ more) v w
   stands-on t more v w h = record { below = let b = h .below in omega (arith, length-append t more); there = getD-front t more (number w) v (h .below) ∙ h .there }
 
   -- a new entry stands at the end
-  pub stands-new : (t : List X) (v : X) (w : W) → number w ≡ length t → Stands number (t ++ v ∷ []) v w
+  pub stands-new : (t : List X) (v : X) (w : W) → number w ≡ length t → StandsAt number (t ++ v ∷ []) v w
   stands-new t v w e = record { below = omega (arith, length-append t (v ∷ [])); there = rw e (getD-last t v v) }
 
   -- a handle has one meaning: the entry at its number
-  pub stands-at : (t : List X) (v d : X) (w : W) → Stands number t v w → getD t (number w) d ≡ v
+  pub stands-at : (t : List X) (v d : X) (w : W) → StandsAt number t v w → getD t (number w) d ≡ v
   stands-at t v d w h = getD-any t (number w) d v (h .below) ∙ h .there
 
 -- ---- what a state stands for
 
 module _ {X W : Type 0} (R : X → W → Type 0) (meaning : W → X) (reads : (v : X) (w : W) → R v w → v ≡ meaning w) where
-  contentRead : {x : Content X} {y : Content W} → RelatedContent R x y → x ≡ contentBy meaning y
+  contentRead : {x : Content X} {y : Content W} → RelatedContent R x y → x ≡ meantContent meaning y
   contentRead (bothLive {v = v} {w = w} h) = ap live (reads v w h)
   contentRead (bothSpent {v = v} {w = w} h) = ap spent (reads v w h)
   contentRead bothDeferred = refl
 
-  tokenRead : {T : Type 0} {t : Token T X} {u : Token T W} → RelatedToken R t u → t ≡ changedTo (contentBy meaning) u
+  tokenRead : {T : Type 0} {t : Token T X} {u : Token T W} → RelatedToken R t u → t ≡ changedTo (meantContent meaning) u
   tokenRead (atKey {k = k} h) = ap (λ (x : Content X). record { key = k; content = x }) (contentRead h)
 
   cellRead : {x : Cell X} {y : Cell W} → RelatedCell R x y → x ≡ cellBy meaning y
@@ -62,14 +62,14 @@ module _ {X W : Type 0} (R : X → W → Type 0) (meaning : W → X) (reads : (v
   cellRead bothWaiting = refl
   cellRead (bothPresent {v = v} {w = w} h) = ap present (reads v w h)
 
-  listRead : {A B : Type 0} (P : A → B → Type 0) (f : B → A) → ((x : A) (y : B) → P x y → x ≡ f y) → {xs : List A} {ys : List B} → Pairwise P xs ys → xs ≡ map f ys
+  listRead : {A B : Type 0} (P : A → B → Type 0) (f : B → A) → ((x : A) (y : B) → P x y → x ≡ f y) → {xs : List A} {ys : List B} → PlaceByPlace P xs ys → xs ≡ map f ys
   listRead P f h noMore = refl
   listRead P f h (pair {x = x} {y = y} k t) = rw (h x y k, listRead P f h t)
 
   -- so the state over handles, read through the table, is the state over values
   pub stateRead : {T : Type 0} {s : State T X} {u : State T W} → RelatedState R s u → s ≡ stateBy meaning u
   stateRead h =
-      let tokens = listRead (RelatedToken R) (changedTo (contentBy meaning)) (λ x y k. tokenRead k) (h .tokens) in
+      let tokens = listRead (RelatedToken R) (changedTo (meantContent meaning)) (λ x y k. tokenRead k) (h .tokens) in
       let cells = listRead (RelatedCell R) (cellBy meaning) (λ x y k. cellRead k) (h .cells) in
       λ i. record { tokens = tokens i; cells = cells i }
 
@@ -84,7 +84,7 @@ module _ (M : Machine) (W : Type 0) (effect : M .Tag → W → W → Effect (M .
   Table = List (M .Value)
 
   abbrev R : Table → M .Value → W → Type 0
-  R t = Stands number t
+  R t = StandsAt number t
 
   abbrev Signal : Table → Type 0
   Signal t = R t (M .signal) signal
@@ -146,12 +146,12 @@ module _ (M : Machine) (W : Type 0) (effect : M .Tag → W → W → Effect (M .
   -- ---- in step
 
   Alike : EndOf M → TabledOf M W effect signal step → Type 0
-  Alike e x = EndsAlike (R (x .table)) e (x .ended)
+  Alike e x = RelatedEnds (R (x .table)) e (x .ended)
 
-  rests : (t : Table) (f : ℕ) (s : StateOf M) (u : StateOf N) → RelatedState (R t) s u → EndsAlike (R t) (restsAt M f s) (restsAt N f u)
+  rests : (t : Table) (f : ℕ) (s : StateOf M) (u : StateOf N) → RelatedState (R t) s u → RelatedEnds (R t) (restsAt M f s) (restsAt N f u)
   rests t f s u h = rw (enabledSame M W effect signal (R t) s u h) (go (enabled N u))
     where
-      go : (l : List (Activity (M .Tag))) → EndsAlike (R t) (onList l (end M (ending M s) f s) (λ a more. end M budgetSpent f s)) (onList l (end N (ending N u) f u) (λ a more. end N budgetSpent f u))
+      go : (l : List (Activity (M .Tag))) → RelatedEnds (R t) (onList l (end M (ending M s) f s) (λ a more. end M budgetSpent f s)) (onList l (end N (ending N u) f u) (λ a more. end N budgetSpent f u))
       go [] = record { outcome = endingSame M W effect signal (R t) s u h; firings = refl; state = h }
       go (a ∷ more) = record { outcome = refl; firings = refl; state = h }
 

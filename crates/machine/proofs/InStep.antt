@@ -9,46 +9,46 @@ use Prim.Native.Nat.{ℕ, zero, suc}
 use native.Mathlib.Decide.{ℕ-discrete}
 use lib.ListN.{length, getD, set}
 use Rattle.machine.specs.Machine.{Key, Content, live, spent, deferred, Token, Cell, absent, present, Effect, Machine, State, Activity, fired, notFired, refused}
-use Rattle.machine.specs.Machine.{when, onOption, liveValue, isLive, isProper, isThere, spend, fill, cellRead, contentRead, ifPresent, changed, output, Operands, allBelow, twoValues}
-use Rattle.machine.specs.Machine.{Ledger, StateOf, EffectOf, FiredOf, EndOf, sameKey, at, find, look, operandOf, liveAt, allLive, operands, placeOf, isPlace, enabledFrom, enabled, spendAt, anyTaken, exceeds, admit, commit, fire, allProper, ending, Choice}
-use Rattle.machine.specs.InStep.{Pairwise, noMore, pair, RelatedContent, bothLive, bothSpent, bothDeferred, RelatedCell, bothAbsent, bothWaiting, bothPresent, RelatedToken, atKey, RelatedState}
-use Rattle.machine.specs.InStep.{RelatedEffect, refusedAlone, bothRefuse, bothSend, bothRead, bothWrite, RelatedFired, alone, neither, both, InStep, alike, stopped, Over, Related, SameChoice, SameHeld, RunsInStep}
+use Rattle.machine.specs.Machine.{when, onOption, liveValue, isLive, isProper, isThere, spend, fill, cellRead, contentRead, ifPresent, changed, output, Operands, allThere, twoValues}
+use Rattle.machine.specs.Machine.{Ledger, StateOf, EffectOf, FiredOf, EndOf, sameKey, at, find, look, isOperandOf, liveAt, allLive, operands, placeOf, isPlace, enabledFrom, enabled, spendAt, anyTaken, exceeds, admit, commit, fire, allProper, ending, Choice}
+use Rattle.machine.specs.InStep.{PlaceByPlace, noMore, pair, RelatedContent, bothLive, bothSpent, bothDeferred, RelatedCell, bothAbsent, bothWaiting, bothPresent, RelatedToken, atKey, RelatedState}
+use Rattle.machine.specs.InStep.{RelatedEffect, refusedAlone, bothRefuse, bothSend, bothRead, bothWrite, RelatedFired, alone, neither, both, InStep, alike, stopped, Over, Related, SameChoice, SameHeld, RunsInStepOfMachine}
 use Rattle.machine.specs.Orders.{Distinct, Good}
 use Rattle.machine.specs.Choosers.{runFrom}
-use Rattle.machine.specs.Bounded.{Held, without, freeOf, byFree, settled}
+use Rattle.machine.specs.Bounded.{Held, withoutHeld, freeOf, byFree, settled}
 use Rattle.machine.proofs.View.{noneSome}
 use Rattle.machine.proofs.Bounded.{freeEmpty, freeZero, freeFired, freeRefused}
 
 -- ---- lists, place by place
 
 module _ {A B : Type 0} (R : A → B → Type 0) where
-  pub pairLength : {xs : List A} {ys : List B} → Pairwise R xs ys → length xs ≡ length ys
+  pub pairLength : {xs : List A} {ys : List B} → PlaceByPlace R xs ys → length xs ≡ length ys
   pairLength noMore = refl
   pairLength (pair h t) = ap suc (pairLength t)
 
-  pairAppend : {xs zs : List A} {ys ws : List B} → Pairwise R xs ys → Pairwise R zs ws → Pairwise R (xs ++ zs) (ys ++ ws)
+  pairAppend : {xs zs : List A} {ys ws : List B} → PlaceByPlace R xs ys → PlaceByPlace R zs ws → PlaceByPlace R (xs ++ zs) (ys ++ ws)
   pairAppend noMore k = k
   pairAppend (pair h t) k = pair h (pairAppend t k)
 
-  pairSet : (i : ℕ) (x : A) (y : B) {xs : List A} {ys : List B} → R x y → Pairwise R xs ys → Pairwise R (set xs i x) (set ys i y)
+  pairSet : (i : ℕ) (x : A) (y : B) {xs : List A} {ys : List B} → R x y → PlaceByPlace R xs ys → PlaceByPlace R (set xs i x) (set ys i y)
   pairSet i x y k noMore = noMore
   pairSet zero x y k (pair h t) = pair k t
   pairSet (suc i) x y k (pair h t) = pair h (pairSet i x y k t)
 
-  pairGetD : (i : ℕ) (x : A) (y : B) {xs : List A} {ys : List B} → R x y → Pairwise R xs ys → R (getD xs i x) (getD ys i y)
+  pairGetD : (i : ℕ) (x : A) (y : B) {xs : List A} {ys : List B} → R x y → PlaceByPlace R xs ys → R (getD xs i x) (getD ys i y)
   pairGetD i x y k noMore = k
   pairGetD zero x y k (pair h t) = h
   pairGetD (suc i) x y k (pair h t) = pairGetD i x y k t
 
-pub pairGrows : {A B : Type 0} (P S : A → B → Type 0) → ((x : A) (y : B) → P x y → S x y) → {xs : List A} {ys : List B} → Pairwise P xs ys → Pairwise S xs ys
+pub pairGrows : {A B : Type 0} (P S : A → B → Type 0) → ((x : A) (y : B) → P x y → S x y) → {xs : List A} {ys : List B} → PlaceByPlace P xs ys → PlaceByPlace S xs ys
 pairGrows P S h noMore = noMore
 pairGrows P S h (pair {x = x} {y = y} k t) = pair (h x y k) (pairGrows P S h t)
 
-pub pairMap : {A B C D : Type 0} (R : A → B → Type 0) (Q : C → D → Type 0) (f : A → C) (g : B → D) → ((x : A) (y : B) → R x y → Q (f x) (g y)) → {xs : List A} {ys : List B} → Pairwise R xs ys → Pairwise Q (map f xs) (map g ys)
+pub pairMap : {A B C D : Type 0} (R : A → B → Type 0) (Q : C → D → Type 0) (f : A → C) (g : B → D) → ((x : A) (y : B) → R x y → Q (f x) (g y)) → {xs : List A} {ys : List B} → PlaceByPlace R xs ys → PlaceByPlace Q (map f xs) (map g ys)
 pairMap R Q f g h noMore = noMore
 pairMap R Q f g h (pair {x = x} {y = y} k t) = pair (h x y k) (pairMap R Q f g h t)
 
-pub pairSame : {A C D : Type 0} (Q : C → D → Type 0) (f : A → C) (g : A → D) → ((x : A) → Q (f x) (g x)) → (xs : List A) → Pairwise Q (map f xs) (map g xs)
+pub pairSame : {A C D : Type 0} (Q : C → D → Type 0) (f : A → C) (g : A → D) → ((x : A) → Q (f x) (g x)) → (xs : List A) → PlaceByPlace Q (map f xs) (map g xs)
 pairSame Q f g h [] = noMore
 pairSame Q f g h (x ∷ xs) = pair (h x) (pairSame Q f g h xs)
 
@@ -111,11 +111,11 @@ module _ {V₁ V₂ : Type 0} (R : V₁ → V₂ → Type 0) where
     pub left : R (o .left) (q .left)
     pub right : R (o .right) (q .right)
 
-  belowSame : (f : ℕ → Option V₁) (g : ℕ → Option V₂) → ((p : ℕ) → RelatedOption R (f p) (g p)) → (n : ℕ) → allBelow f n ≡ allBelow g n
+  belowSame : (f : ℕ → Option V₁) (g : ℕ → Option V₂) → ((p : ℕ) → RelatedOption R (f p) (g p)) → (n : ℕ) → allThere f n ≡ allThere g n
   belowSame f g h zero = refl
   belowSame f g h (suc n) = go (h n) (belowSame f g h n)
     where
-      go : {x : Option V₁} {y : Option V₂} → RelatedOption R x y → allBelow f n ≡ allBelow g n → onOption x false (λ v. allBelow f n) ≡ onOption y false (λ v. allBelow g n)
+      go : {x : Option V₁} {y : Option V₂} → RelatedOption R x y → allThere f n ≡ allThere g n → onOption x false (λ v. allThere f n) ≡ onOption y false (λ v. allThere g n)
       go bothNone e = refl
       go (bothSome k) e = e
 
@@ -156,7 +156,7 @@ module _ (M : Machine) (W : Type 0) (effect : M .Tag → W → W → Effect (M .
   N = Over M W effect signal
 
   abbrev RelatedLedger : Ledger M → Ledger N → Type 0
-  RelatedLedger = Pairwise (RelatedToken R)
+  RelatedLedger = PlaceByPlace (RelatedToken R)
 
   -- ---- matching
 
@@ -170,7 +170,7 @@ module _ (M : Machine) (W : Type 0) (effect : M .Tag → W → W → Effect (M .
 
   placeSame : (τ : M .Tag) {ts : Ledger M} {us : Ledger N} → RelatedLedger ts us → placeOf M τ ts ≡ placeOf N τ us
   placeSame τ noMore = refl
-  placeSame τ (pair {xs = ts} {ys = us} (atKey {k = j} h) t) = ap (λ (n : ℕ). cond (operandOf M τ j) 0 (suc n)) (placeSame τ t)
+  placeSame τ (pair {xs = ts} {ys = us} (atKey {k = j} h) t) = ap (λ (n : ℕ). cond (isOperandOf M τ j) 0 (suc n)) (placeSame τ t)
 
   takenSame : {ts : Ledger M} {us : Ledger N} → RelatedLedger ts us → (keys : List (Key (M .Tag))) → anyTaken M ts keys ≡ anyTaken N us keys
   takenSame h [] = refl
@@ -235,7 +235,7 @@ module _ (M : Machine) (W : Type 0) (effect : M .Tag → W → W → Effect (M .
 
   module _ (Alone : M .Refusal → Type 0) where
     admitRelated : (s : StateOf M) (u : StateOf N) → RelatedState R s u → {ts : Ledger M} {us : Ledger N} → RelatedLedger ts us
-        → {cs : List (Cell (M .Value))} {ds : List (Cell W)} → Pairwise (RelatedCell R) cs ds → (x : Content (M .Value)) (y : Content W) → RelatedContent R x y → (keys : List (Key (M .Tag)))
+        → {cs : List (Cell (M .Value))} {ds : List (Cell W)} → PlaceByPlace (RelatedCell R) cs ds → (x : Content (M .Value)) (y : Content W) → RelatedContent R x y → (keys : List (Key (M .Tag)))
         → RelatedFired R Alone (admit M s ts cs x keys) (admit N u us ds y keys)
     unfolding admit
     admitRelated s u h {ts} {us} l {cs} {ds} c x y k keys =
@@ -250,12 +250,12 @@ module _ (M : Machine) (W : Type 0) (effect : M .Tag → W → W → Effect (M .
 
     spentRelated : (τ : M .Tag) {ts : Ledger M} {us : Ledger N} → RelatedLedger ts us → RelatedLedger (map (changed (spendAt M τ)) ts) (map (changed (spendAt N τ)) us)
     spentRelated τ noMore = noMore
-    spentRelated τ (pair (atKey {k = k} h) t) = pair (atKey (spendRelated R (operandOf M τ k) h)) (spentRelated τ t)
+    spentRelated τ (pair (atKey {k = k} h) t) = pair (atKey (spendRelated R (isOperandOf M τ k) h)) (spentRelated τ t)
 
     filledRelated : (τ : M .Tag) (c : ℕ) {v : M .Value} {w : W} → R v w → {ts : Ledger M} {us : Ledger N} → RelatedLedger ts us
         → RelatedLedger (map (changed (λ k x. fill c v (spendAt M τ k x))) ts) (map (changed (λ k x. fill c w (spendAt N τ k x))) us)
     filledRelated τ c g noMore = noMore
-    filledRelated τ c g (pair (atKey {k = k} h) t) = pair (atKey (fillRelated R c g (spendRelated R (operandOf M τ k) h))) (filledRelated τ c g t)
+    filledRelated τ c g (pair (atKey {k = k} h) t) = pair (atKey (fillRelated R c g (spendRelated R (isOperandOf M τ k) h))) (filledRelated τ c g t)
 
     -- of any effects that are related: those of the machines, or those of a machine whose effects add to a table
     pub commitRelated : R (M .signal) signal → (s : StateOf M) (u : StateOf N) → RelatedState R s u → (τ : M .Tag) {e : EffectOf M} {d : EffectOf N} → RelatedEffect R Alone e d
@@ -296,13 +296,13 @@ module _ (M : Machine) (W : Type 0) (effect : M .Tag → W → W → Effect (M .
 
       -- ---- a run
 
-      withoutSame : (held kept : Activity (M .Tag) → Bool) → ((a : Activity (M .Tag)) → held a ≡ kept a) → (l : List (Activity (M .Tag))) → without M held l ≡ without N kept l
+      withoutSame : (held kept : Activity (M .Tag) → Bool) → ((a : Activity (M .Tag)) → held a ≡ kept a) → (l : List (Activity (M .Tag))) → withoutHeld M held l ≡ withoutHeld N kept l
       withoutSame held kept same [] = refl
       withoutSame held kept same (a ∷ l) = rw (same a, withoutSame held kept same l)
 
       module _ (c : Choice M) (d : Choice N) (same : SameChoice M W effect signal R Alone c d) (held : Held M) (kept : Held N) (heldSame : SameHeld M W effect signal R Alone held kept) where
         freeSame : (s : StateOf M) (u : StateOf N) → RelatedState R s u → freeOf M held s ≡ freeOf N kept u
-        freeSame s u h = withoutSame (held s) (kept u) (heldSame s u h) (enabled M s) ∙ ap (without N (kept u)) (enabledSame s u h)
+        freeSame s u h = withoutSame (held s) (kept u) (heldSame s u h) (enabled M s) ∙ ap (withoutHeld N (kept u)) (enabledSame s u h)
 
         module _ (picks : List ℕ) (f : ℕ) where
           abbrev Left : (budget n : ℕ) → StateOf M → EndOf M
@@ -342,5 +342,5 @@ module _ (M : Machine) (W : Type 0) (effect : M .Tag → W → W → Effect (M .
               go (a ∷ more) e later =
                   byFiring a more e (fireRelated s u h (c s (getD picks n 0) a more .tag)) refl (ap (λ (z : Activity (M .Tag)). fire N u (z .tag)) (sym (same s u h (getD picks n 0) a more))) later
 
-      pub inStep : RunsInStep M W effect signal R Alone
+      pub inStep : RunsInStepOfMachine M W effect signal R Alone
       inStep c d same held kept heldSame s u h b picks f = stepwise c d same held kept heldSame picks f b 0 s u h

@@ -9,7 +9,7 @@ use native.Mathlib.Decide.{ℕ-discrete}
 use lib.ListN.{getD, set}
 use Rattle.machine.specs.Machine.{Key, Content, live, spent, deferred, Token, Cell, absent, waiting, present, refuse, send, read, write, Machine, fired, notFired}
 use Rattle.machine.specs.Machine.{when, onOption, liveValue, spend, fill, cellAt, cellRead, contentRead, ifPresent, changed, output, Operands, twoValues}
-use Rattle.machine.specs.Machine.{Ledger, StateOf, EffectOf, FiredOf, sameKey, at, find, look, operandOf, liveAt, allLive, operands, spendAt, anyTaken, exceeds, admit, commit, fire, run}
+use Rattle.machine.specs.Machine.{Ledger, StateOf, EffectOf, FiredOf, sameKey, at, find, look, isOperandOf, liveAt, allLive, operands, spendAt, anyTaken, exceeds, admit, commit, fire, run}
 use Rattle.machine.specs.Orders.{Reached}
 use Rattle.machine.proofs.View.{noneSome, operandAt, operandLive, operandsAll}
 use Rattle.machine.proofs.Sequences.{firedSame, neverFired}
@@ -165,19 +165,19 @@ module _ (M : Machine) (OfKey : Key (M .Tag) → Type 0) (OfValue : M .Value →
   committed s τ (refuse r) x sig h g e = neverFired M r x e
   committed s τ (send v keys) x sig h g e =
       admitted s _ (s .cells) (live v) keys x
-      (each-map OfToken OfToken (changed (spendAt M τ)) (λ t k. (k .0, spentStays (operandOf M τ (t .key)) (t .content) (k .1))) (s .tokens) (h .tokens))
+      (each-map OfToken OfToken (changed (spendAt M τ)) (λ t k. (k .0, spentStays (isOperandOf M τ (t .key)) (t .content) (k .1))) (s .tokens) (h .tokens))
       (h .cells) (g .0) (g .1) e
   committed s τ (read c keys) x sig h g e =
       let cell = each-getD OfCell (s .cells) c absent (h .cells) tt in
       admitted s _ _ (contentRead c (cellAt (s .cells) c)) keys x
-      (each-map OfToken OfToken (changed (spendAt M τ)) (λ t k. (k .0, spentStays (operandOf M τ (t .key)) (t .content) (k .1))) (s .tokens) (h .tokens))
+      (each-map OfToken OfToken (changed (spendAt M τ)) (λ t k. (k .0, spentStays (isOperandOf M τ (t .key)) (t .content) (k .1))) (s .tokens) (h .tokens))
       (each-set OfCell (s .cells) c _ (h .cells) (readCell (cellAt (s .cells) c) cell)) (readContent c (cellAt (s .cells) c) (g .0) cell) (g .1) e
   committed s τ (write c v keys) x sig h g e = go (cellAt (s .cells) c) e
     where
       written : admit M s (map (changed (λ k z. fill c v (spendAt M τ k z))) (s .tokens)) (set (s .cells) c (present v)) (live (M .signal)) keys ≡ fired x → OfState x
       written f =
           admitted s _ _ (live (M .signal)) keys x
-          (each-map OfToken OfToken (changed (λ k z. fill c v (spendAt M τ k z))) (λ t k. (k .0, filledStays c v (g .0) (spendAt M τ (t .key) (t .content)) (spentStays (operandOf M τ (t .key)) (t .content) (k .1)))) (s .tokens) (h .tokens))
+          (each-map OfToken OfToken (changed (λ k z. fill c v (spendAt M τ k z))) (λ t k. (k .0, filledStays c v (g .0) (spendAt M τ (t .key) (t .content)) (spentStays (isOperandOf M τ (t .key)) (t .content) (k .1)))) (s .tokens) (h .tokens))
           (each-set OfCell (s .cells) c (present v) (h .cells) (g .0)) sig (g .1) f
 
       go : (y : Cell (M .Value))

@@ -1,7 +1,8 @@
 -- The theorems (Enabled, Sequences, Ending, Runs, Orders, Reached, Fired, Steps, Replay, Capacity, Agreement, Cut, Saved, Taken, Kept, Refused, Refusals,
--- Bounds, Trees, Choosers, Bounded, Pending, InStep, Handles), what they are proved from (Lists, Swap, View, Store, Tags, Perm, Sets), and a computed example. Assumes nothing.
+-- Bounds, Trees, Choosers, Bounded, Pending, InStep, Handles), what they are proved from (Lists, Swap, Deltas, View, Store, Tags, Perm, Sets), and a computed example. Assumes nothing.
 pub mod Lists
 pub mod Swap
+pub mod Deltas
 pub mod View
 pub mod Store
 pub mod Tags

@@ -11,9 +11,9 @@ use lib.Dec.{eqb, ltb}
 use lib.ListN.{length, drop, length-map}
 use borrow.Author.Tests.{ne-eqb}
 use Rattle.machine.specs.Machine.{Key, Content, live, spent, deferred, Token, Machine, Fired, fired, notFired, when, onOption, isLive, isProper, changed, output, spend, Operands}
-use Rattle.machine.specs.Machine.{Ledger, StateOf, FiredOf, at, find, look, sameKey, operandOf, operands, commit, fire}
+use Rattle.machine.specs.Machine.{Ledger, StateOf, FiredOf, at, find, look, sameKey, isOperandOf, operands, commit, fire}
 use Rattle.machine.specs.Orders.{Lawful, Good, Distinct}
-use Rattle.machine.specs.Pending.{isPending, pendingIn, isWoken, wokenIn, PendingAfter}
+use Rattle.machine.specs.Pending.{isPendingIn, pendingIn, isWoken, wokenIn, PendingAfter}
 use Rattle.machine.proofs.View.{noneSome, when-no, settle, DeltaOf, deltaOf, change, operandKey, operandLive, operandAt}
 use Rattle.machine.proofs.Store.{After, Answer, commitResult, findHead}
 use Rattle.machine.proofs.Unspent.{countBelow, countAll, OperandsLive}
@@ -97,34 +97,34 @@ module _ (M : Machine) where
           go (some v) = result (eqb (M .arity σ) 0)
 
       one : (t : Token (M .Tag) (M .Value)) (ts : Ledger M) → OperandsLive M τ d (t ∷ ts)
-          → weigh (isPending M (after t)) (t .key .tag) + weigh (operandOf M τ (t .key)) τ + weigh (isWoken M t (after t)) (t .key .tag) ≡ weigh (isPending M t) (t .key .tag)
-      one t ts lives = go (operandOf M τ (t .key)) refl
+          → weigh (isPendingIn M (after t)) (t .key .tag) + weigh (isOperandOf M τ (t .key)) τ + weigh (isWoken M t (after t)) (t .key .tag) ≡ weigh (isPendingIn M t) (t .key .tag)
+      one t ts lives = go (isOperandOf M τ (t .key)) refl
         where
-          spends : operandOf M τ (t .key) ≡ true → (v : M .Value) → t .content ≡ live v
+          spends : isOperandOf M τ (t .key) ≡ true → (v : M .Value) → t .content ≡ live v
               → weigh (not (isProper (M .arity (t .key .tag)) (settle (d .writes) (spend (t .content))))) (t .key .tag) + w τ
-              + weigh (isPending M t && (isProper (M .arity (t .key .tag)) (settle (d .writes) (spend (t .content))) && isLive (settle (d .writes) (spend (t .content))))) (t .key .tag)
-              ≡ weigh (isPending M t) (t .key .tag)
+              + weigh (isPendingIn M t && (isProper (M .arity (t .key .tag)) (settle (d .writes) (spend (t .content))) && isLive (settle (d .writes) (spend (t .content))))) (t .key .tag)
+              ≡ weigh (isPendingIn M t) (t .key .tag)
           spends e v l =
               let (p, h) = operandKey M τ (t .key) e in
               let k : t .key .port < M .arity (t .key .tag) = rw (← p) h in
               let z = own (t .key .port) (t .key .tag) (t .content) k v l in
               rw (z, l, p) (omega arith)
 
-          go : (b : Bool) → operandOf M τ (t .key) ≡ b
+          go : (b : Bool) → isOperandOf M τ (t .key) ≡ b
               → weigh (not (isProper (M .arity (t .key .tag)) (settle (d .writes) (cond b (spend (t .content)) (t .content))))) (t .key .tag) + weigh b τ
-              + weigh (isPending M t && (isProper (M .arity (t .key .tag)) (settle (d .writes) (cond b (spend (t .content)) (t .content))) && isLive (settle (d .writes) (cond b (spend (t .content)) (t .content))))) (t .key .tag)
-              ≡ weigh (isPending M t) (t .key .tag)
+              + weigh (isPendingIn M t && (isProper (M .arity (t .key .tag)) (settle (d .writes) (cond b (spend (t .content)) (t .content))) && isLive (settle (d .writes) (cond b (spend (t .content)) (t .content))))) (t .key .tag)
+              ≡ weigh (isPendingIn M t) (t .key .tag)
           go true e = let (v, l) = lives (t .key) e (t .content) (findHead M t ts) in spends e v l
           go false e = omega (arith, other (t .key .tag) (t .content))
 
       -- the operands' weights together
       abbrev spentIn : Ledger M → ℕ
       spentIn [] = 0
-      spentIn (t ∷ ts) = weigh (operandOf M τ (t .key)) τ + spentIn ts
+      spentIn (t ∷ ts) = weigh (isOperandOf M τ (t .key)) τ + spentIn ts
 
       counted : (ts : Ledger M) → spentIn ts ≡ countBelow M τ (M .arity τ) ts * w τ
       counted [] = sym (zero-mul (w τ))
-      counted (t ∷ ts) = go (operandOf M τ (t .key)) (counted ts)
+      counted (t ∷ ts) = go (isOperandOf M τ (t .key)) (counted ts)
         where
           go : (b : Bool) → spentIn ts ≡ countBelow M τ (M .arity τ) ts * w τ → weigh b τ + spentIn ts ≡ (cond b 1 0 + countBelow M τ (M .arity τ) ts) * w τ
           go true h = rw (h, add-mul 1 (countBelow M τ (M .arity τ) ts) (w τ), suc-mul 0 (w τ), zero-mul (w τ)) (omega arith)

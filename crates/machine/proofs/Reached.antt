@@ -11,8 +11,8 @@ use native.Mathlib.Omega.{arith}
 use lib.ListN.{length, getD, replicate}
 use Rattle.machine.specs.Machine.{Key, Content, live, spent, deferred, Cell, absent, waiting, present, refuse, send, read, write, Machine, fired}
 use Rattle.machine.specs.Machine.{when, onOption, spend, cellAt, contentRead, Operands}
-use Rattle.machine.specs.Machine.{Ledger, StateOf, EffectOf, sameKey, at, find, look, operandOf, operands, spendAt, among, fire, byPicks, runBy, run}
-use Rattle.machine.specs.Orders.{ReadsForSome, Lawful, Live, Spent, AllLive, Good, Start, keysOf, outputs, Reached, ReachedInvariants, Ended, RunsEnd}
+use Rattle.machine.specs.Machine.{Ledger, StateOf, EffectOf, sameKey, at, find, look, isOperandOf, operands, spendAt, among, fire, byPicks, runBy, run}
+use Rattle.machine.specs.Orders.{ReadsForSome, Lawful, Live, SpentContent, AllLive, Good, Start, effectKeys, outputs, Reached, ReachedInvariants, Ended, RunsEnd}
 use Rattle.machine.specs.Sequences.{Fires, spentTags, logOf}
 use Rattle.machine.proofs.Lists.{perm-length}
 use Rattle.machine.proofs.View.{when-yes, noneSome, falseTrue, omap, orElse, given, Source, value, fetched, resolve, settle, onlyAt, cellStep, cellAfter}
@@ -140,7 +140,7 @@ module _ (M : Machine) where
         isFetched = λ i g. let (k, a) = firstAmong keys h in (only i (ℕ-discrete i c) g, k, a);
       }
 
-  pub keysKnown : (e : EffectOf M) (d : DeltaOf M) → deltaOf M e ≡ some d → keysOf M e ≡ d .keys
+  pub keysKnown : (e : EffectOf M) (d : DeltaOf M) → deltaOf M e ≡ some d → effectKeys M e ≡ d .keys
   keysKnown (refuse r) d e = noneSome e
   keysKnown (send v keys) d e = cc
   keysKnown (read c keys) d e = cc
@@ -151,17 +151,17 @@ module _ (M : Machine) where
   pub record HoldsIn (v : View M) : Type 0 where
     pub deferredWaits : (k : Key (M .Tag)) (c : ℕ) → v .tok k ≡ some (deferred c) → v .cell c ≡ waiting
     pub waitingDefers : (c : ℕ) → v .cell c ≡ waiting → (k : Key (M .Tag)) × (v .tok k ≡ some (deferred c))
-    pub spentTogether : (τ : M .Tag) (p q : ℕ) → p < M .arity τ → q < M .arity τ → Spent (v .tok (at M τ p)) → Spent (v .tok (at M τ q))
-    pub othersUnspent : (τ : M .Tag) (p : ℕ) → M .arity τ ≤ p → ¬ (Spent (v .tok (at M τ p)))
+    pub spentTogether : (τ : M .Tag) (p q : ℕ) → p < M .arity τ → q < M .arity τ → SpentContent (v .tok (at M τ p)) → SpentContent (v .tok (at M τ q))
+    pub othersUnspent : (τ : M .Tag) (p : ℕ) → M .arity τ ≤ p → ¬ (SpentContent (v .tok (at M τ p)))
 
-  module _ (v : View M) (τ : M .Tag) (d : DeltaOf M) (shape : Shape d) (al : Allowed M v d) (ready : (k : Key (M .Tag)) → operandOf M τ k ≡ true → Live (v .tok k)) (old : HoldsIn v) where
+  module _ (v : View M) (τ : M .Tag) (d : DeltaOf M) (shape : Shape d) (al : Allowed M v d) (ready : (k : Key (M .Tag)) → isOperandOf M τ k ≡ true → Live (v .tok k)) (old : HoldsIn v) where
     keptDeferred : (k : Key (M .Tag)) (c : ℕ) → apply M τ d v .tok k ≡ some (deferred c) → cellAfter d (v .cell) c ≡ waiting
     keptDeferred k c = go (v .tok k) (among M k (d .keys)) refl
       where
         here : (y : Content (M .Value)) → v .tok k ≡ some y → change M τ d k y ≡ deferred c → cellAfter d (v .cell) c ≡ waiting
         here y f g =
             let (h, w) = settleDeferred (d .writes) (spendAt M τ k y) c g in
-            let z = spendDeferred (operandOf M τ k) y c h in
+            let z = spendDeferred (isOperandOf M τ k) y c h in
             rw w (stillWaiting (d .reads c) (v .cell c) (old .deferredWaits k c (f ∙ ap some z)))
 
         output : (o : Source (M .Value)) → d .source ≡ o → resolve (cellAfter d (v .cell)) o ≡ deferred c → cellAfter d (v .cell) c ≡ waiting
@@ -182,7 +182,7 @@ module _ (M : Machine) where
         before : d .writes c ≡ none → v .cell c ≡ waiting → (k : Key (M .Tag)) × (apply M τ d v .tok k ≡ some (deferred c))
         before w h =
             let (k, f) = old .waitingDefers c h in
-            (k, rw (f, spendKept (operandOf M τ k) c, w))
+            (k, rw (f, spendKept (isOperandOf M τ k) c, w))
 
         readNow : d .reads c ≡ true → (k : Key (M .Tag)) × (apply M τ d v .tok k ≡ some (deferred c))
         readNow r =
@@ -194,42 +194,42 @@ module _ (M : Machine) where
         go none true w r h = readNow r
         go none false w r h = before w h
 
-    spentKept : (k : Key (M .Tag)) → Spent (v .tok k) → Spent (apply M τ d v .tok k)
-    spentKept k (u, e) = (u, rw (e, spendSpent (operandOf M τ k) u))
+    spentKept : (k : Key (M .Tag)) → SpentContent (v .tok k) → SpentContent (apply M τ d v .tok k)
+    spentKept k (u, e) = (u, rw (e, spendSpent (isOperandOf M τ k) u))
 
-    spentBefore : (k : Key (M .Tag)) → operandOf M τ k ≡ false → Spent (apply M τ d v .tok k) → Spent (v .tok k)
+    spentBefore : (k : Key (M .Tag)) → isOperandOf M τ k ≡ false → SpentContent (apply M τ d v .tok k) → SpentContent (v .tok k)
     spentBefore k o (u, e) = go (v .tok k) (among M k (d .keys)) refl e
       where
-        here : (y : Content (M .Value)) → v .tok k ≡ some y → change M τ d k y ≡ spent u → Spent (v .tok k)
+        here : (y : Content (M .Value)) → v .tok k ≡ some y → change M τ d k y ≡ spent u → SpentContent (v .tok k)
         here y f g = (u, f ∙ ap some (settleSpent (d .writes) y u (rw o at g)))
 
-        go : (x : Option (Content (M .Value))) (b : Bool) → v .tok k ≡ x → orElse (omap (change M τ d k) x) (given b (resolve (cellAfter d (v .cell)) (d .source))) ≡ some (spent u) → Spent (v .tok k)
+        go : (x : Option (Content (M .Value))) (b : Bool) → v .tok k ≡ x → orElse (omap (change M τ d k) x) (given b (resolve (cellAfter d (v .cell)) (d .source))) ≡ some (spent u) → SpentContent (v .tok k)
         go (some y) b f g = here y f (someSame _ _ g)
         go none true f g = absurd (resolveSpent (cellAfter d (v .cell)) (d .source) u (someSame _ _ g))
         go none false f g = noneSome g
 
-    notOperand : (k : Key (M .Tag)) → ¬ ((τ ≡ k .tag) × (k .port < M .arity τ)) → operandOf M τ k ≡ false
-    notOperand k n = go (operandOf M τ k) refl
+    notOperand : (k : Key (M .Tag)) → ¬ ((τ ≡ k .tag) × (k .port < M .arity τ)) → isOperandOf M τ k ≡ false
+    notOperand k n = go (isOperandOf M τ k) refl
       where
-        go : (b : Bool) → operandOf M τ k ≡ b → operandOf M τ k ≡ false
+        go : (b : Bool) → isOperandOf M τ k ≡ b → isOperandOf M τ k ≡ false
         go true f = absurd (n (operandKey M τ k f))
         go false f = f
 
     -- the firing's own operands were live, and are all spent
-    ownSpent : (q : ℕ) → q < M .arity τ → Spent (apply M τ d v .tok (at M τ q))
+    ownSpent : (q : ℕ) → q < M .arity τ → SpentContent (apply M τ d v .tok (at M τ q))
     ownSpent q h =
         let o = operandAt M τ q h in
         let (u, e) = ready (at M τ q) o in
         (u, rw (e, o))
 
-    together : (σ : M .Tag) (p q : ℕ) → p < M .arity σ → q < M .arity σ → Spent (apply M τ d v .tok (at M σ p)) → Spent (apply M τ d v .tok (at M σ q))
+    together : (σ : M .Tag) (p q : ℕ) → p < M .arity σ → q < M .arity σ → SpentContent (apply M τ d v .tok (at M σ p)) → SpentContent (apply M τ d v .tok (at M σ q))
     together σ p q hp hq s = go (M .same τ σ)
       where
-        go : Dec (τ ≡ σ) → Spent (apply M τ d v .tok (at M σ q))
-        go (yes e) = subst (λ x. Spent (apply M τ d v .tok (at M x q))) e (ownSpent q (subst (λ x. q < M .arity x) (sym e) hq))
+        go : Dec (τ ≡ σ) → SpentContent (apply M τ d v .tok (at M σ q))
+        go (yes e) = subst (λ x. SpentContent (apply M τ d v .tok (at M x q))) e (ownSpent q (subst (λ x. q < M .arity x) (sym e) hq))
         go (no n) = spentKept (at M σ q) (old .spentTogether σ p q hp hq (spentBefore (at M σ p) (notOperand (at M σ p) (λ z. n (z .0))) s))
 
-    unspent : (σ : M .Tag) (p : ℕ) → M .arity σ ≤ p → ¬ (Spent (apply M τ d v .tok (at M σ p)))
+    unspent : (σ : M .Tag) (p : ℕ) → M .arity σ ≤ p → ¬ (SpentContent (apply M τ d v .tok (at M σ p)))
     unspent σ p h s = old .othersUnspent σ p h (spentBefore (at M σ p) (notOperand (at M σ p) no-operand) s)
       where
         no-operand : ¬ ((τ ≡ σ) × (p < M .arity τ))

@@ -12,9 +12,9 @@ use native.Mathlib.Omega.{arith}
 use lib.ListN.{length}
 use Rattle.machine.specs.Machine.{Machine, Activity, fired, notFired, Outcome, completed, hung, budgetSpent, refused, when, onOption, onList}
 use Rattle.machine.specs.Machine.{StateOf, FiredOf, EndOf, look, allLive, placeOf, enabled, fire, end, after, ending, runBy}
-use Rattle.machine.specs.Orders.{Lawful, Quiescent, Refused, Says}
-use Rattle.machine.specs.Sequences.{NothingEnabled, logOf, Ran}
-use Rattle.machine.specs.Replay.{withTag, named, FoundByTag, LogsAgree, replay, SequenceReplays, RunReplays, ReplayStopped, logEnds, oneEnabled, noneNamed, oneRefused, Replayed, EveryReplay}
+use Rattle.machine.specs.Orders.{Lawful, QuiescentEnd, RefusedEnd, Says}
+use Rattle.machine.specs.Sequences.{NothingEnabled, logOf, RanBy}
+use Rattle.machine.specs.Replay.{withTag, namedIn, FoundByTag, LogsAgreeOfMachine, replay, SequenceReplays, RunReplays, ReplayStopped, logEnds, oneEnabled, noneNamed, oneRefused, Replayed, EveryReplay}
 use Rattle.machine.proofs.View.{noneSome}
 use Rattle.machine.proofs.Enabled.{enabledIn, inEnabled}
 use Rattle.machine.proofs.Sequences.{firedEnabled, firesOnce, sequences}
@@ -46,11 +46,11 @@ module _ (M : Machine) where
       go (no n) (inl p) rec = absurd (n (q ∙ ap (λ (c : Activity (M .Tag)). c .tag) p))
       go (no n) (inr h) rec = rec h
 
-  namedFound : (name : Option (M .Tag)) (l : List (Activity (M .Tag))) (a : Activity (M .Tag)) → named M name l ≡ some a → List·Memᴰ a l × (name ≡ some (a .tag))
+  namedFound : (name : Option (M .Tag)) (l : List (Activity (M .Tag))) (a : Activity (M .Tag)) → namedIn M name l ≡ some a → List·Memᴰ a l × (name ≡ some (a .tag))
   namedFound none l a e = noneSome e
   namedFound (some τ) l a e = let (m, p) = found τ l a e in (m, ap some p)
 
-  namedNone : (name : Option (M .Tag)) (l : List (Activity (M .Tag))) → named M name l ≡ none → (a : Activity (M .Tag)) → List·Memᴰ a l → ¬ (name ≡ some (a .tag))
+  namedNone : (name : Option (M .Tag)) (l : List (Activity (M .Tag))) → namedIn M name l ≡ none → (a : Activity (M .Tag)) → List·Memᴰ a l → ¬ (name ≡ some (a .tag))
   namedNone none l e a m p = noneSome p
   namedNone (some τ) l e a m p = let (b, q) = finds τ l a m (someSame τ (a .tag) p) in noneSome (sym e ∙ q)
 
@@ -81,7 +81,7 @@ module _ (M : Machine) where
 
   -- ---- the logs of two runs
 
-  pub logsAgree : Lawful M → LogsAgree M
+  pub logsAgree : Lawful M → LogsAgreeOfMachine M
   logsAgree law c d lc ld s g b b′ ps qs f p q =
       let h = ran M c lc b ps f s in
       let i = ran M d ld b′ qs f s in
@@ -114,7 +114,7 @@ module _ (M : Machine) where
         go [] h = absurd (List·Memᴰ·not-nil h)
         go (b ∷ l) h = refl
 
-    pub replayFired : (name : Option (M .Tag)) (log : List (Option (M .Tag))) (f : ℕ) (s x : StateOf M) (a : Activity (M .Tag)) → named M name (enabled M s) ≡ some a → fire M s (a .tag) ≡ fired x
+    pub replayFired : (name : Option (M .Tag)) (log : List (Option (M .Tag))) (f : ℕ) (s x : StateOf M) (a : Activity (M .Tag)) → namedIn M name (enabled M s) ≡ some a → fire M s (a .tag) ≡ fired x
         → replay M notEnabled (name ∷ log) f s ≡ replay M notEnabled log (suc f) x
     unfolding replay
     replayFired name log f s x a e q = rw (e, q)
@@ -147,17 +147,17 @@ module _ (M : Machine) where
         τs : List (M .Tag)
         τs = logOf M c b ps s
 
-        h : Ran M s b f τs e
+        h : RanBy M s b f τs e
         h = ran M c ok b ps f s
 
         whole : replay M notEnabled (map some τs) f s ≡ replay M notEnabled [] (e .firings) (e .state)
         whole = ap (λ (l : List (Option (M .Tag))). replay M notEnabled l f s) (sym (append-nil (map some τs))) ∙ sequenceReplays τs s (e .state) (h .logged .fires) [] f
             ∙ ap (λ (n : ℕ). replay M notEnabled [] n (e .state)) (sym (h .logged .firings))
 
-        atRest : (o : Outcome (M .Refusal)) → Quiescent o → Says M o b (length τs) (e .state) → replay M notEnabled [] (e .firings) (e .state) .outcome ≡ o
+        atRest : (o : Outcome (M .Refusal)) → QuiescentEnd o → Says M o b (length τs) (e .state) → replay M notEnabled [] (e .firings) (e .state) .outcome ≡ o
         atRest o q t = let (p, z) = rested M o b (length τs) (e .state) q t in ap (λ (d : EndOf M). d .outcome) (replayRested (e .firings) (e .state) p) ∙ sym z
 
-        ends : (o : Outcome (M .Refusal)) → Says M o b (length τs) (e .state) → ¬ (Refused o) → replay M notEnabled [] (e .firings) (e .state) .outcome ≡ o
+        ends : (o : Outcome (M .Refusal)) → Says M o b (length τs) (e .state) → ¬ (RefusedEnd o) → replay M notEnabled [] (e .firings) (e .state) .outcome ≡ o
         ends completed t n = atRest completed tt t
         ends hung t n = atRest hung tt t
         ends budgetSpent (k, a, m) n = ap (λ (d : EndOf M). d .outcome) (replaySpent (e .firings) (e .state) a m)
@@ -191,7 +191,7 @@ module _ (M : Machine) where
         go : (l : List (Activity (M .Tag))) → enabled M s ≡ l → Replayed M notEnabled s f [] (onList l (end M (ending M s) f s) (λ a more. end M budgetSpent f s))
         go [] e = stops [] f s (ending M s) (logEnds refl e refl)
         go (a ∷ l) e = stops [] f s budgetSpent (oneEnabled refl a (rw e (List·Memᴰ·head refl)) refl)
-    everyReplay (name ∷ log) f s = go (named M name (enabled M s)) refl (λ x. everyReplay log (suc f) x)
+    everyReplay (name ∷ log) f s = go (namedIn M name (enabled M s)) refl (λ x. everyReplay log (suc f) x)
       where
         Rest : Type 0
         Rest = (x : StateOf M) → Replayed M notEnabled x (suc f) log (replay M notEnabled log (suc f) x)
@@ -201,7 +201,7 @@ module _ (M : Machine) where
         byFiring a m p rec (fired x) e = goesOn name log f s x (a .tag) (replay M notEnabled log (suc f) x) p e (rec x)
         byFiring a m p rec (notFired r) e = stops (name ∷ log) f s (refused r (a .place)) (oneRefused a log (ap (λ (n : Option (M .Tag)). n ∷ log) p) m r e refl)
 
-        go : (q : Option (Activity (M .Tag))) → named M name (enabled M s) ≡ q → Rest
+        go : (q : Option (Activity (M .Tag))) → namedIn M name (enabled M s) ≡ q → Rest
             → Replayed M notEnabled s f (name ∷ log)
             (onOption q (end M (refused notEnabled f) f s) (λ a. after M f s a (fire M s (a .tag)) (λ x. replay M notEnabled log (suc f) x)))
         go none e rec = stops (name ∷ log) f s (refused notEnabled f) (noneNamed name log refl (namedNone name (enabled M s) e) refl)

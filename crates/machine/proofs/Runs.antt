@@ -9,7 +9,7 @@ use lib.ListN.{length}
 use Rattle.machine.specs.Machine.{Machine, Activity, fired, notFired, Outcome, completed, hung, budgetSpent, refused, firstPick, laterPicks}
 use Rattle.machine.specs.Machine.{StateOf, FiredOf, EndOf, enabled, fire, Choice, end, ending, runBy}
 use Rattle.machine.specs.Orders.{Lawful, Good, Says}
-use Rattle.machine.specs.Sequences.{NothingEnabled, logOf, Logged, Ran, RunsLogged, EveryOrder, OneTellsAll}
+use Rattle.machine.specs.Sequences.{NothingEnabled, logOf, Logged, RanBy, RunsLogged, EveryOrder, OneTellsAll}
 use Rattle.machine.proofs.Lists.{perm-length}
 use Rattle.machine.proofs.Sequences.{neverFired, sequences, noneRefused}
 use Rattle.machine.proofs.Ending.{ending-says, rested, ending-perm}
@@ -84,7 +84,7 @@ module _ (M : Machine) where
   unfolding logOf
   logRefused c b ps s a more r e f = rw (e, f)
 
-  stopsAt : (s : StateOf M) (b f : ℕ) (o : Outcome (M .Refusal)) → Says M o b 0 s → Ran M s b f [] (end M o f s)
+  stopsAt : (s : StateOf M) (b f : ℕ) (o : Outcome (M .Refusal)) → Says M o b 0 s → RanBy M s b f [] (end M o f s)
   stopsAt s b f o h = record { logged = record { fires = refl; firings = omega arith }; within = omega arith; says = h }
 
   saysLater : (o : Outcome (M .Refusal)) (b n : ℕ) (x : StateOf M) → Says M o b n x → Says M o (suc b) (suc n) x
@@ -93,7 +93,7 @@ module _ (M : Machine) where
   saysLater budgetSpent b n x (e, a, m) = (ap suc e, a, m)
   saysLater (refused r p) b n x (l, a, m, q, e) = (omega arith, a, m, q, e)
 
-  goesOn : (s x : StateOf M) (b f : ℕ) (τ : M .Tag) (τs : List (M .Tag)) (e : EndOf M) → fire M s τ ≡ fired x → Ran M x b (suc f) τs e → Ran M s (suc b) f (τ ∷ τs) e
+  goesOn : (s x : StateOf M) (b f : ℕ) (τ : M .Tag) (τs : List (M .Tag)) (e : EndOf M) → fire M s τ ≡ fired x → RanBy M x b (suc f) τs e → RanBy M s (suc b) f (τ ∷ τs) e
   goesOn s x b f τ τs e q h = record {
     logged = record { fires = (x, q, h .logged .fires); firings = let z = h .logged .firings in omega arith };
     within = let z = h .within in omega arith;
@@ -101,7 +101,7 @@ module _ (M : Machine) where
   }
 
   pub ran : RunsLogged M
-  ran c ok = along c (λ b ps f s e. Ran M s b f (logOf M c b ps s) e) (record {
+  ran c ok = along c (λ b ps f s e. RanBy M s b f (logOf M c b ps s) e) (record {
     rests = λ b ps f s e. rw (logEmpty c b ps s e) (stopsAt s b f (ending M s) (ending-says M s b 0 e));
     stops = λ ps f s a more e. rw (logZero c ps s) (stopsAt s 0 f budgetSpent (refl, a, rw e (List·Memᴰ·head refl)));
     refuses = λ b ps f s a more r e h. rw (logRefused c b ps s a more r e h)
@@ -113,7 +113,7 @@ module _ (M : Machine) where
 
   module _ (law : Lawful M) (s : StateOf M) (good : Good M s) (f : ℕ) (τs : List (M .Tag)) (e : EndOf M) (log : Logged M s f τs e) (rest : NothingEnabled M (e .state)) (said : e .outcome ≡ ending M (e .state)) where
     -- a run with the budget for it ends with nothing enabled
-    comesToRest : (b : ℕ) (υs : List (M .Tag)) (o : Outcome (M .Refusal)) (n : ℕ) (x : StateOf M) → length τs ≤ b → Ran M s b f υs (end M o n x) → NothingEnabled M x × (o ≡ ending M x)
+    comesToRest : (b : ℕ) (υs : List (M .Tag)) (o : Outcome (M .Refusal)) (n : ℕ) (x : StateOf M) → length τs ≤ b → RanBy M s b f υs (end M o n x) → NothingEnabled M x × (o ≡ ending M x)
     comesToRest b υs o n x l h = go o (h .says)
       where
         none : (a : Activity (M .Tag)) → List·Memᴰ a (enabled M x) → (length υs < length τs) × (z : StateOf M) × (fire M x (a .tag) ≡ fired z)

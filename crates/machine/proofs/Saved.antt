@@ -7,7 +7,7 @@ use native.Mathlib.Decide.{decLt}
 use native.Mathlib.Omega.{arith}
 use lib.ListN.{length, List·getD-eq-default}
 use Rattle.machine.specs.Machine.{absent, waiting, Machine, cellAt, StateOf, Choice, runBy}
-use Rattle.machine.specs.Orders.{Lawful, Good, LawfulChoice, Same, Reached}
+use Rattle.machine.specs.Orders.{Lawful, Good, LawfulChoice, EndsAgree, Reached}
 use Rattle.machine.specs.Sequences.{spentTags}
 use Rattle.machine.specs.Saved.{Saved, StartSaved, RunsSave, SavedTags}
 use Rattle.machine.proofs.Store.{view}
@@ -69,5 +69,5 @@ module _ (M : Machine) where
 
     -- "For any state taken, the same orders theorem applies from there"
     pub saved-orders : (c d : Choice M) → LawfulChoice M c → LawfulChoice M d → (f : ℕ) (s : StateOf M) → Saved M f s → (budget : ℕ) (picks picks′ : List ℕ)
-        → Same (runBy M c budget picks f s) (runBy M d budget picks′ f s)
+        → EndsAgree (runBy M c budget picks f s) (runBy M d budget picks′ f s)
     saved-orders c d lc ld f s h budget ps qs = ordersBy M law c d lc ld s (h .good) budget ps qs f

@@ -9,9 +9,9 @@ use native.Mathlib.Omega.{arith}
 use lib.ListN.{length, length-append, length-map}
 use Rattle.machine.specs.Machine.{Machine, Activity, fired, notFired, Outcome, refused, onList}
 use Rattle.machine.specs.Machine.{StateOf, FiredOf, placeOf, enabled, fire, end, ending}
-use Rattle.machine.specs.Orders.{Lawful, Good, InOrder, Refused}
+use Rattle.machine.specs.Orders.{Lawful, Good, InOrder, RefusedEnd}
 use Rattle.machine.specs.Sequences.{Once, Fires, NothingEnabled}
-use Rattle.machine.specs.Steps.{UnspentAfter, StepRecord, firingsIn, EachFires, ProfileOf, unspentIn, tagsOf, endsHere, afterStep, inTurn, StillEnabled}
+use Rattle.machine.specs.Steps.{UnspentAfter, StepRecord, firingsIn, EachFires, ProfileOf, unspentIn, activityTags, endsHere, afterStep, firesInTurn, StillEnabled}
 use Rattle.machine.specs.Steps.{profile, ProfileStopped, noneLeft, full, oneRefused, Profiled, EveryProfile, StepsWithin, Unrefused, ProfileEnds, StepsEndToo}
 use Rattle.machine.proofs.Enabled.{enabledIn, enabledOnce}
 use Rattle.machine.proofs.Sequences.{neverFired, joined, firing, staysEnabled, firesGood, noLonger, noneRefused}
@@ -20,19 +20,19 @@ use Rattle.machine.proofs.Runs.{oneTellsAll}
 module _ (M : Machine) where
   -- ---- no two enabled activities have one tag
 
-  tagIn : (τ : M .Tag) (l : List (Activity (M .Tag))) → List·Memᴰ τ (tagsOf M l) → (a : Activity (M .Tag)) × List·Memᴰ a l × (τ ≡ a .tag)
+  tagIn : (τ : M .Tag) (l : List (Activity (M .Tag))) → List·Memᴰ τ (activityTags M l) → (a : Activity (M .Tag)) × List·Memᴰ a l × (τ ≡ a .tag)
   tagIn τ [] m = absurd (List·Memᴰ·not-nil m)
   tagIn τ (a ∷ l) m = go (List·Memᴰ·cases-cons m) (λ h. tagIn τ l h)
     where
-      go : (τ ≡ a .tag) ⊎ List·Memᴰ τ (tagsOf M l) → (List·Memᴰ τ (tagsOf M l) → (b : Activity (M .Tag)) × List·Memᴰ b l × (τ ≡ b .tag)) → (b : Activity (M .Tag)) × List·Memᴰ b (a ∷ l) × (τ ≡ b .tag)
+      go : (τ ≡ a .tag) ⊎ List·Memᴰ τ (activityTags M l) → (List·Memᴰ τ (activityTags M l) → (b : Activity (M .Tag)) × List·Memᴰ b l × (τ ≡ b .tag)) → (b : Activity (M .Tag)) × List·Memᴰ b (a ∷ l) × (τ ≡ b .tag)
       go (inl e) rec = (a, List·Memᴰ·head refl, e)
       go (inr h) rec = let (b, i, e) = rec h in (b, List·Memᴰ·tail i, e)
 
-  inTags : (a : Activity (M .Tag)) (l : List (Activity (M .Tag))) → List·Memᴰ a l → List·Memᴰ (a .tag) (tagsOf M l)
+  inTags : (a : Activity (M .Tag)) (l : List (Activity (M .Tag))) → List·Memᴰ a l → List·Memᴰ (a .tag) (activityTags M l)
   inTags a [] m = absurd (List·Memᴰ·not-nil m)
   inTags a (b ∷ l) m = go (List·Memᴰ·cases-cons m) (λ h. inTags a l h)
     where
-      go : (a ≡ b) ⊎ List·Memᴰ a l → (List·Memᴰ a l → List·Memᴰ (a .tag) (tagsOf M l)) → List·Memᴰ (a .tag) (tagsOf M (b ∷ l))
+      go : (a ≡ b) ⊎ List·Memᴰ a l → (List·Memᴰ a l → List·Memᴰ (a .tag) (activityTags M l)) → List·Memᴰ (a .tag) (activityTags M (b ∷ l))
       go (inl e) rec = List·Memᴰ·head (ap (λ (c : Activity (M .Tag)). c .tag) e)
       go (inr h) rec = List·Memᴰ·tail (rec h)
 
@@ -44,11 +44,11 @@ module _ (M : Machine) where
       go (inl e) rec = subst (λ (c : Activity (M .Tag)). n ≤ c .place) (sym e) (o .0)
       go (inr h) rec = let z = rec h in let y = o .0 in omega arith
 
-  tagsOnce : (s : StateOf M) (n : ℕ) (l : List (Activity (M .Tag))) → InOrder M n l → ((a : Activity (M .Tag)) → List·Memᴰ a l → a .place ≡ placeOf M (a .tag) (s .tokens)) → Once (tagsOf M l)
+  tagsOnce : (s : StateOf M) (n : ℕ) (l : List (Activity (M .Tag))) → InOrder M n l → ((a : Activity (M .Tag)) → List·Memᴰ a l → a .place ≡ placeOf M (a .tag) (s .tokens)) → Once (activityTags M l)
   tagsOnce s n [] o h = tt
   tagsOnce s n (a ∷ l) o h = (notLater, tagsOnce s (suc (a .place)) l (o .1) (λ b i. h b (List·Memᴰ·tail i)))
     where
-      notLater : ¬ (List·Memᴰ (a .tag) (tagsOf M l))
+      notLater : ¬ (List·Memᴰ (a .tag) (activityTags M l))
       notLater m =
           let (b, i, e) = tagIn (a .tag) l m in
           let p : a .place ≡ b .place = h a (List·Memᴰ·head refl) ∙ ap (λ (τ : M .Tag). placeOf M τ (s .tokens)) e ∙ sym (h b (List·Memᴰ·tail i)) in
@@ -59,7 +59,7 @@ module _ (M : Machine) where
 
   -- these are enabled, and no two have one tag
   pub record Waiting (l : List (Activity (M .Tag))) (s : StateOf M) : Type 0 where
-    pub once : Once (tagsOf M l)
+    pub once : Once (activityTags M l)
     pub enabledNow : (a : Activity (M .Tag)) → List·Memᴰ a l → List·Memᴰ a (enabled M s)
 
   pub atStart : (s : StateOf M) → Waiting (enabled M s) s
@@ -67,16 +67,16 @@ module _ (M : Machine) where
 
   -- the activities l fire whole, or one of them is refused
   data Turn (l : List (Activity (M .Tag))) (s : StateOf M) : Type 0 where
-    whole : (x : StateOf M) → Fires M s (tagsOf M l) x → Turn l s
-    cut : (before : List (Activity (M .Tag))) (a : Activity (M .Tag)) (more : List (Activity (M .Tag))) (x : StateOf M) (r : M .Refusal) → l ≡ before ++ (a ∷ more) → Fires M s (tagsOf M before) x
+    whole : (x : StateOf M) → Fires M s (activityTags M l) x → Turn l s
+    cut : (before : List (Activity (M .Tag))) (a : Activity (M .Tag)) (more : List (Activity (M .Tag))) (x : StateOf M) (r : M .Refusal) → l ≡ before ++ (a ∷ more) → Fires M s (activityTags M before) x
         → List·Memᴰ a (enabled M x) → fire M x (a .tag) ≡ notFired r → Turn l s
 
-  firesWhole : (l : List (Activity (M .Tag))) (f : ℕ) (s x : StateOf M) (next : ℕ → StateOf M → ProfileOf M) → Fires M s (tagsOf M l) x → inTurn M l f s next ≡ next (f + length l) x
+  firesWhole : (l : List (Activity (M .Tag))) (f : ℕ) (s x : StateOf M) (next : ℕ → StateOf M → ProfileOf M) → Fires M s (activityTags M l) x → firesInTurn M l f s next ≡ next (f + length l) x
   firesWhole [] f s x next p = let z : f ≡ f + 0 = omega arith in ap (next f) p ∙ ap (λ (n : ℕ). next n x) z
   firesWhole (a ∷ l) f s x next (y, e, p) = let z : suc f + length l ≡ f + suc (length l) = omega arith in rw e (firesWhole l (suc f) y x next p ∙ ap (λ (n : ℕ). next n x) z)
 
   isCut : (before : List (Activity (M .Tag))) (a : Activity (M .Tag)) (more : List (Activity (M .Tag))) (f : ℕ) (s x : StateOf M) (r : M .Refusal) (next : ℕ → StateOf M → ProfileOf M)
-      → Fires M s (tagsOf M before) x → fire M x (a .tag) ≡ notFired r → inTurn M (before ++ (a ∷ more)) f s next ≡ endsHere M (end M (refused r (a .place)) (f + length before) x)
+      → Fires M s (activityTags M before) x → fire M x (a .tag) ≡ notFired r → firesInTurn M (before ++ (a ∷ more)) f s next ≡ endsHere M (end M (refused r (a .place)) (f + length before) x)
   isCut [] a more f s x r next p q = let z : f ≡ f + 0 = omega arith in rw (p, q) (ap (λ (n : ℕ). endsHere M (end M (refused r (a .place)) n x)) z)
   isCut (b ∷ before) a more f s x r next (y, e, p) q =
       let z : suc f + length before ≡ f + suc (length before) = omega arith in
@@ -86,10 +86,10 @@ module _ (M : Machine) where
     pub waitsOn : (a : Activity (M .Tag)) (l : List (Activity (M .Tag))) (s x : StateOf M) → Good M s → Waiting (a ∷ l) s → fire M s (a .tag) ≡ fired x → Waiting l x
     waitsOn a l s x g w e = record {
       once = w .once .1;
-      enabledNow = λ b m. staysEnabled M law s g x (a .tag) b e (λ p. w .once .0 (subst (λ (τ : M .Tag). List·Memᴰ τ (tagsOf M l)) (sym p) (inTags b l m))) (w .enabledNow b (List·Memᴰ·tail m));
+      enabledNow = λ b m. staysEnabled M law s g x (a .tag) b e (λ p. w .once .0 (subst (λ (τ : M .Tag). List·Memᴰ τ (activityTags M l)) (sym p) (inTags b l m))) (w .enabledNow b (List·Memᴰ·tail m));
     }
 
-    stillWaiting : (before l : List (Activity (M .Tag))) (s x : StateOf M) → Good M s → Waiting (before ++ l) s → Fires M s (tagsOf M before) x → Waiting l x
+    stillWaiting : (before l : List (Activity (M .Tag))) (s x : StateOf M) → Good M s → Waiting (before ++ l) s → Fires M s (activityTags M before) x → Waiting l x
     stillWaiting [] l s x g w p = subst (Waiting l) p w
     stillWaiting (a ∷ before) l s x g w (y, e, p) = stillWaiting before l y x (firing M law s y (a .tag) g e .good) (waitsOn a (before ++ l) s y g w e) p
 
@@ -126,7 +126,7 @@ module _ (M : Machine) where
 
       pub profileStep : (left f : ℕ) (s : StateOf M) (a : Activity (M .Tag)) (more : List (Activity (M .Tag))) → enabled M s ≡ a ∷ more
           → profile M profileFull (suc left) f s
-          ≡ inTurn M (a ∷ more) f s (λ g x. afterStep M (record { firings = length (a ∷ more); unspent = unspentIn M (x .tokens) }) (profile M profileFull left g x))
+          ≡ firesInTurn M (a ∷ more) f s (λ g x. afterStep M (record { firings = length (a ∷ more); unspent = unspentIn M (x .tokens) }) (profile M profileFull left g x))
       unfolding profile
       profileStep left f s a more e = rw e
 
@@ -155,14 +155,14 @@ module _ (M : Machine) where
           Rest = (x : StateOf M) → Good M x → (k : ℕ) → Profiled M profileFull x left k (profile M profileFull left k x)
 
           -- the whole step l and what comes after it
-          goesOn : (l : List (Activity (M .Tag))) (x : StateOf M) → 0 < length l → Fires M s (tagsOf M l) x → Profiled M profileFull x left (f + length l) (profile M profileFull left (f + length l) x)
+          goesOn : (l : List (Activity (M .Tag))) (x : StateOf M) → 0 < length l → Fires M s (activityTags M l) x → Profiled M profileFull x left (f + length l) (profile M profileFull left (f + length l) x)
               → Profiled M profileFull s (suc left) f (after l (f + length l) x)
           goesOn l x some p h =
-              let tags : length (tagsOf M l) ≡ length l = length-map l (λ (a : Activity (M .Tag)). a .tag) in
-              let both : length (tagsOf M l ++ h .log) ≡ length l + length (h .log) = length-append (tagsOf M l) (h .log) ∙ ap (λ (n : ℕ). n + length (h .log)) tags in
+              let tags : length (activityTags M l) ≡ length l = length-map l (λ (a : Activity (M .Tag)). a .tag) in
+              let both : length (activityTags M l ++ h .log) ≡ length l + length (h .log) = length-append (activityTags M l) (h .log) ∙ ap (λ (n : ℕ). n + length (h .log)) tags in
               record {
-                log = tagsOf M l ++ h .log;
-                logged = record { fires = joined M (tagsOf M l) (h .log) s x _ p (h .logged .fires); firings = let z = h .logged .firings in omega arith };
+                log = activityTags M l ++ h .log;
+                logged = record { fires = joined M (activityTags M l) (h .log) s x _ p (h .logged .fires); firings = let z = h .logged .firings in omega arith };
                 cut = h .cut;
                 counted = let z = h .counted in omega arith;
                 eachFires = (some, h .eachFires);
@@ -170,12 +170,12 @@ module _ (M : Machine) where
                 stopped = later left _ (h .cut) _ _ (h .stopped);
               }
 
-          isCutShort : (before : List (Activity (M .Tag))) (a : Activity (M .Tag)) (x : StateOf M) (r : M .Refusal) → Fires M s (tagsOf M before) x → List·Memᴰ a (enabled M x) → fire M x (a .tag) ≡ notFired r
+          isCutShort : (before : List (Activity (M .Tag))) (a : Activity (M .Tag)) (x : StateOf M) (r : M .Refusal) → Fires M s (activityTags M before) x → List·Memᴰ a (enabled M x) → fire M x (a .tag) ≡ notFired r
               → Profiled M profileFull s (suc left) f (endsHere M (end M (refused r (a .place)) (f + length before) x))
           isCutShort before a x r p m q =
-              let tags : length (tagsOf M before) ≡ length before = length-map before (λ (b : Activity (M .Tag)). b .tag) in
+              let tags : length (activityTags M before) ≡ length before = length-map before (λ (b : Activity (M .Tag)). b .tag) in
               record {
-                log = tagsOf M before;
+                log = activityTags M before;
                 logged = record { fires = p; firings = omega arith };
                 cut = length before;
                 counted = omega arith;
@@ -184,11 +184,11 @@ module _ (M : Machine) where
                 stopped = oneRefused a m r q refl;
               }
 
-          byTurn : (l : List (Activity (M .Tag))) → 0 < length l → Rest → Turn l s → Profiled M profileFull s (suc left) f (inTurn M l f s (after l))
-          byTurn l some rec (whole x p) = rw (firesWhole l f s x (after l) p) (goesOn l x some p (rec x (firesGood M law s g (tagsOf M l) x p) (f + length l)))
+          byTurn : (l : List (Activity (M .Tag))) → 0 < length l → Rest → Turn l s → Profiled M profileFull s (suc left) f (firesInTurn M l f s (after l))
+          byTurn l some rec (whole x p) = rw (firesWhole l f s x (after l) p) (goesOn l x some p (rec x (firesGood M law s g (activityTags M l) x p) (f + length l)))
           byTurn l some rec (cut before a more x r e p m q) = rw (e, isCut before a more f s x r (after (before ++ (a ∷ more))) p q) (isCutShort before a x r p m q)
 
-          go : (l : List (Activity (M .Tag))) → enabled M s ≡ l → Rest → Profiled M profileFull s (suc left) f (onList l (endsHere M (end M (ending M s) f s)) (λ a more. inTurn M (a ∷ more) f s (after (a ∷ more))))
+          go : (l : List (Activity (M .Tag))) → enabled M s ≡ l → Rest → Profiled M profileFull s (suc left) f (onList l (endsHere M (end M (ending M s) f s)) (λ a more. firesInTurn M (a ∷ more) f s (after (a ∷ more))))
           go [] e rec = stops s (suc left) f (ending M s) (noneLeft e refl refl)
           go (a ∷ more) e rec = byTurn (a ∷ more) (omega arith) rec (turns (a ∷ more) s g (subst (λ l. Waiting l s) e (atStart s)))
 
@@ -210,7 +210,7 @@ module _ (M : Machine) where
       pub profileEnds : ProfileEnds M profileFull
       profileEnds s g left f n = go (profile M profileFull left f s) (everyProfile s g left f) n
         where
-          go : (p : ProfileOf M) → Profiled M profileFull s left f p → ¬ (Refused (p .ended .outcome)) → Unrefused M profileFull s f p
+          go : (p : ProfileOf M) → Profiled M profileFull s left f p → ¬ (RefusedEnd (p .ended .outcome)) → Unrefused M profileFull s f p
           go p h n = byStop (h .stopped)
             where
               byStop : ProfileStopped M profileFull left (length (p .records)) (h .cut) (p .ended .state) (p .ended .outcome) → Unrefused M profileFull s f p

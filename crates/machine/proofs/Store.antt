@@ -12,7 +12,7 @@ use lib.Seq.{getD-set-same, getD-set-other}
 use borrow.Author.Tests.{ltb-true, ltb-false}
 use Rattle.machine.specs.Machine.{Key, Content, live, spent, deferred, Token, Cell, absent, waiting, present, refuse, send, read, write, Machine, fired, notFired}
 use Rattle.machine.specs.Machine.{when, isThere, fill, cellAt, cellRead, contentRead, ifPresent, changed, output}
-use Rattle.machine.specs.Machine.{Ledger, StateOf, EffectOf, FiredOf, Contents, sameKey, find, look, operandOf, placeOf, spendAt, among, anyTaken, exceeds, admit, commit}
+use Rattle.machine.specs.Machine.{Ledger, StateOf, EffectOf, FiredOf, Contents, sameKey, find, look, isOperandOf, placeOf, spendAt, among, anyTaken, exceeds, admit, commit}
 use Rattle.machine.specs.Orders.{CellsBelow, Distinct}
 use Rattle.machine.proofs.View.{when-yes, noneSome, falseTrue, omap, orElse, given, value, resolve, settle, onlyAt, cellStep, NotPresent, Unwritten, cellAfter}
 use Rattle.machine.proofs.View.{View, DeltaOf, deltaOf, Fresh, Allowed, change, apply, freshGet, freshChange}
@@ -140,7 +140,7 @@ module _ (M : Machine) where
   -- tokens keep their keys, and more come behind them
   placeKept : (f : Key (M .Tag) → Content (M .Value) → Content (M .Value)) (τ : M .Tag) (l m : Ledger M) → placeOf M τ l < length l → placeOf M τ (map (changed f) l ++ m) ≡ placeOf M τ l
   placeKept f τ [] m h = absurd (omega arith)
-  placeKept f τ (x ∷ xs) m h = go (operandOf M τ (x .key)) h (λ i. placeKept f τ xs m i)
+  placeKept f τ (x ∷ xs) m h = go (isOperandOf M τ (x .key)) h (λ i. placeKept f τ xs m i)
     where
       go : (b : Bool) → cond b 0 (suc (placeOf M τ xs)) < suc (length xs) → (placeOf M τ xs < length xs → placeOf M τ (map (changed f) xs ++ m) ≡ placeOf M τ xs)
           → cond b 0 (suc (placeOf M τ (map (changed f) xs ++ m))) ≡ cond b 0 (suc (placeOf M τ xs))

@@ -12,8 +12,8 @@ use lib.Dec.{eqb, ltb}
 use lib.ListN.{length}
 use borrow.Author.Tests.{eqb-true}
 use Rattle.machine.specs.Machine.{Key, Content, live, spent, deferred, Token, Cell, absent, waiting, present, Machine, when, onOption, cellAt, contentRead, changed, output, Operands}
-use Rattle.machine.specs.Machine.{Ledger, StateOf, sameKey, at, find, look, operandOf, operands}
-use Rattle.machine.specs.Orders.{Spent, Distinct, AllLive}
+use Rattle.machine.specs.Machine.{Ledger, StateOf, sameKey, at, find, look, isOperandOf, operands}
+use Rattle.machine.specs.Orders.{SpentContent, Distinct, AllLive}
 use Rattle.machine.specs.Sequences.{Once, isSpent, isSpentFirst, spentTags}
 use Rattle.machine.specs.Saved.{SpentTagsOnce}
 use Rattle.machine.proofs.View.{when-yes, when-no, noneSome, falseTrue, keyPath, Source, value, fetched, resolve, settle, cellAfter}
@@ -96,28 +96,28 @@ module _ (M : Machine) where
 
   -- ---- each once
 
-  firstSpent : (τ : M .Tag) (ts : Ledger M) → Distinct M ts → List·Memᴰ τ (spentTags M ts) → Spent (find M (at M τ 0) ts)
+  firstSpent : (τ : M .Tag) (ts : Ledger M) → Distinct M ts → List·Memᴰ τ (spentTags M ts) → SpentContent (find M (at M τ 0) ts)
   firstSpent τ [] ds m = absurd (List·Memᴰ·not-nil m)
   firstSpent τ (t ∷ ts) ds m = go (isSpentFirst t) refl (λ h. firstSpent τ ts (ds .1) h) m
     where
-      here : isSpentFirst t ≡ true → τ ≡ t .key .tag → Spent (find M (at M τ 0) (t ∷ ts))
+      here : isSpentFirst t ≡ true → τ ≡ t .key .tag → SpentContent (find M (at M τ 0) (t ∷ ts))
       here e q =
           let (z, v, c) = firstOf t e in
           (v, when-yes (sameKey M (at M τ 0) (t .key)) _ _ (keyPath q (sym z)) ∙ ap some c)
 
-      later : Spent (find M (at M τ 0) ts) → Spent (find M (at M τ 0) (t ∷ ts))
+      later : SpentContent (find M (at M τ 0) ts) → SpentContent (find M (at M τ 0) (t ∷ ts))
       later (v, e) = (v, when-no (sameKey M (at M τ 0) (t .key)) _ _ (λ q. noneSome (sym (ds .0) ∙ ap (λ k. find M k ts) (sym q) ∙ e)) ∙ e)
 
-      go : (b : Bool) → isSpentFirst t ≡ b → (List·Memᴰ τ (spentTags M ts) → Spent (find M (at M τ 0) ts))
-          → List·Memᴰ τ (cond b (t .key .tag ∷ spentTags M ts) (spentTags M ts)) → Spent (find M (at M τ 0) (t ∷ ts))
+      go : (b : Bool) → isSpentFirst t ≡ b → (List·Memᴰ τ (spentTags M ts) → SpentContent (find M (at M τ 0) ts))
+          → List·Memᴰ τ (cond b (t .key .tag ∷ spentTags M ts) (spentTags M ts)) → SpentContent (find M (at M τ 0) (t ∷ ts))
       go true e rec h = either (List·Memᴰ·cases-cons h)
         where
-          either : (τ ≡ t .key .tag) ⊎ List·Memᴰ τ (spentTags M ts) → Spent (find M (at M τ 0) (t ∷ ts))
+          either : (τ ≡ t .key .tag) ⊎ List·Memᴰ τ (spentTags M ts) → SpentContent (find M (at M τ 0) (t ∷ ts))
           either (inl q) = here e q
           either (inr n) = later (rec n)
       go false e rec h = later (rec h)
 
-  spentFirst : (τ : M .Tag) (ts : Ledger M) → Spent (find M (at M τ 0) ts) → List·Memᴰ τ (spentTags M ts)
+  spentFirst : (τ : M .Tag) (ts : Ledger M) → SpentContent (find M (at M τ 0) ts) → List·Memᴰ τ (spentTags M ts)
   spentFirst τ [] (v, e) = noneSome e
   spentFirst τ (t ∷ ts) (v, e) = go (sameKey M (at M τ 0) (t .key)) (λ h. spentFirst τ ts (v, h)) e
     where
@@ -147,17 +147,17 @@ module _ (M : Machine) where
       go true e h = (notLater e, h)
       go false e h = h
 
-  pub tags-once : (ts : Ledger M) → Distinct M ts → ((τ : M .Tag) (p q : ℕ) → p < M .arity τ → q < M .arity τ → Spent (find M (at M τ p) ts) → Spent (find M (at M τ q) ts))
-      → ((τ : M .Tag) (p : ℕ) → M .arity τ ≤ p → ¬ (Spent (find M (at M τ p) ts))) → SpentTagsOnce M ts
+  pub tags-once : (ts : Ledger M) → Distinct M ts → ((τ : M .Tag) (p q : ℕ) → p < M .arity τ → q < M .arity τ → SpentContent (find M (at M τ p) ts) → SpentContent (find M (at M τ q) ts))
+      → ((τ : M .Tag) (p : ℕ) → M .arity τ ≤ p → ¬ (SpentContent (find M (at M τ p) ts))) → SpentTagsOnce M ts
   tags-once ts ds together others = record {
     exactly = λ τ. (λ m. (0, firstSpent τ ts ds m), λ (p, w). spentFirst τ ts (onZero τ p w));
     once = tagsOnce ts ds;
   }
     where
-      onZero : (τ : M .Tag) (p : ℕ) → Spent (find M (at M τ p) ts) → Spent (find M (at M τ 0) ts)
+      onZero : (τ : M .Tag) (p : ℕ) → SpentContent (find M (at M τ p) ts) → SpentContent (find M (at M τ 0) ts)
       onZero τ p w = go (decLt p (M .arity τ))
         where
-          go : Dec (p < M .arity τ) → Spent (find M (at M τ 0) ts)
+          go : Dec (p < M .arity τ) → SpentContent (find M (at M τ 0) ts)
           go (yes l) = together τ p 0 l (omega arith) w
           go (no n) = absurd (others τ p (omega arith) w)
 
@@ -191,7 +191,7 @@ module _ (M : Machine) where
         go (yes p) rec h = noneSome (sym h)
         go (no n) rec h = rw (firstKept x n, rec h)
 
-    tagsMore : (u : M .Value) (l : Ledger M) → operandOf M t (at M t 0) ≡ true → Distinct M l → find M (at M t 0) l ≡ some (live u) → List·Permᴰ (spentTags M (after l)) (t ∷ spentTags M l)
+    tagsMore : (u : M .Value) (l : Ledger M) → isOperandOf M t (at M t 0) ≡ true → Distinct M l → find M (at M t 0) l ≡ some (live u) → List·Permᴰ (spentTags M (after l)) (t ∷ spentTags M l)
     tagsMore u [] o ds e = noneSome e
     tagsMore u (x ∷ xs) o ds e = go (sameKey M (at M t 0) (x .key)) (λ h. tagsMore u xs o (ds .1) h) e
       where

@@ -9,10 +9,10 @@ use native.Mathlib.Omega.{arith}
 use lib.Dec.{eqb, leb}
 use lib.ListN.{length}
 use borrow.Author.Tests.{eqb-true, eq-eqb, leb-true, le-leb, ltb-true, lt-ltb}
-use Rattle.machine.specs.Machine.{Key, Content, live, spent, deferred, Token, Cell, absent, waiting, present, Machine, when, isThere, cellAt, Ledger, StateOf, sameKey, at, find, taken}
+use Rattle.machine.specs.Machine.{Key, Content, live, spent, deferred, Token, Cell, absent, waiting, present, Machine, when, isThere, cellAt, Ledger, StateOf, sameKey, at, find, keyTaken}
 use Rattle.machine.specs.Orders.{Distinct}
 use Rattle.machine.specs.Sequences.{isSpentThere, spentTags}
-use Rattle.machine.specs.Saved.{isDeferredOn, isWaiting, allUpTo, Saved, neverTwice, allTokens, together, operandIfSpent, namesCell, anyDeferred, waitsRight, isSaved, TakenExactly}
+use Rattle.machine.specs.Saved.{isDeferredOn, isWaiting, allUpTo, Saved, neverTwice, allTokens, together, operandIfSpent, namesCell, anyDeferred, waitsRight, isSaved, TakenExactlyOfMachine}
 use Rattle.machine.proofs.View.{when-no, noneSome, falseTrue, operandKey, operandAt}
 use Rattle.machine.proofs.Store.{findHead}
 use Rattle.machine.proofs.Ending.{bothTrue}
@@ -84,7 +84,7 @@ module _ (M : Machine) where
   pub distinctOf : (ts : Ledger M) → neverTwice M ts ≡ true → Distinct M ts
   distinctOf [] e = tt
   distinctOf (t ∷ ts) e =
-      let (u, r) = bothTrue (not (taken M (t .key) ts)) (neverTwice M ts) e in
+      let (u, r) = bothTrue (not (keyTaken M (t .key) ts)) (neverTwice M ts) e in
       (untaken (find M (t .key) ts) u, distinctOf ts r)
 
   pub ofDistinct : (ts : Ledger M) → Distinct M ts → neverTwice M ts ≡ true
@@ -209,5 +209,5 @@ module _ (M : Machine) where
       cell c absent e true f = absurd (none c absent e (λ q. absentWaiting q) f)
       cell c (present v) e true f = absurd (none c (present v) e (λ q. presentWaiting q) f)
 
-  pub taken-exactly : TakenExactly M
+  pub taken-exactly : TakenExactlyOfMachine M
   taken-exactly f s = (λ e. saved f s (tested f s e), λ h. passed f s (tests f s h))

@@ -10,10 +10,10 @@ use native.Mathlib.Omega.{arith}
 use lib.ListN.{length, length-append, length-map}
 use borrow.Author.Tests.{le-ltb}
 use Rattle.machine.specs.Machine.{Key, Content, live, spent, refuse, send, Machine, fired, notFired, Outcome, completed, hung, budgetSpent, refused, Operands}
-use Rattle.machine.specs.Machine.{when, onOption, changed, output, twoValues, Ledger, StateOf, FiredOf, sameKey, at, find, look, operandOf, liveAt, allLive, operands, spendAt, among, admit, commit, fire, end, runBy}
-use Rattle.machine.specs.Orders.{Distinct, Proper, AllProper, Says}
+use Rattle.machine.specs.Machine.{when, onOption, changed, output, twoValues, Ledger, StateOf, FiredOf, sameKey, at, find, look, isOperandOf, liveAt, allLive, operands, spendAt, among, admit, commit, fire, end, runBy}
+use Rattle.machine.specs.Orders.{Distinct, ProperContentAt, AllProper, Says}
 use Rattle.machine.specs.Sequences.{Fires, NothingEnabled, logOf}
-use Rattle.machine.specs.Trees.{Source, input, from, comes, first, Tree, IsTree, Fed, valueOf, Evaluates, TreesEvaluate}
+use Rattle.machine.specs.Trees.{Source, input, from, comes, first, Tree, IsTree, Fed, treeValue, EvaluatesTree, TreesEvaluate}
 use Rattle.machine.proofs.Sets.{with, with-own, with-other, with-keeps, with-back, countBelow, none-below, fewer, all-count, one-more}
 use Rattle.machine.proofs.View.{when-yes, when-no, noneSome, falseTrue, omap, orElse, given, liveOf, belowAll, bothParts, twoKept, Ready, operandKey, operandAt, operandLive, operandZero, operandsThere, operandsAll}
 use Rattle.machine.proofs.Store.{findAppend, findChanged, findOutputs, findHead, distinctAppend, view}
@@ -187,10 +187,10 @@ module _ (M : Machine) (t : Tree M) (law : IsTree M t) where
 
       -- a port of another activity is not spent
       module _ (j p : ℕ) (lj : j ≤ t .size) (lp : p < t .ports j) (other : ¬ (j ≡ i)) where
-        notOperand : operandOf M (t .tag i) (key j p) ≡ false
-        notOperand = go (operandOf M (t .tag i) (key j p)) refl
+        notOperand : isOperandOf M (t .tag i) (key j p) ≡ false
+        notOperand = go (isOperandOf M (t .tag i) (key j p)) refl
           where
-            go : (b : Bool) → operandOf M (t .tag i) (key j p) ≡ b → operandOf M (t .tag i) (key j p) ≡ false
+            go : (b : Bool) → isOperandOf M (t .tag i) (key j p) ≡ b → isOperandOf M (t .tag i) (key j p) ≡ false
             go true e = absurd (other (law .apart j i lj (let z = c .low in omega arith) (sym (operandKey M (t .tag i) (key j p) e .0))))
             go false e = e
 
@@ -326,18 +326,18 @@ module _ (M : Machine) (t : Tree M) (law : IsTree M t) where
     done-all i l = all-done (suc i) i (omega arith) l
 
     -- every token is spent but that of the result
-    proper : (k : Key (M .Tag)) (y : Content (M .Value)) → look M x k ≡ some y → Proper M (M .arity (k .tag)) y
+    proper : (k : Key (M .Tag)) (y : Content (M .Value)) → look M x k ≡ some y → ProperContentAt M (M .arity (k .tag)) y
     proper k y e =
         let (i, p, li, lp, q) = h .only k y e in
         let f : there done (t .value) (t .source i p) (done i) ≡ some y = sym (h .ports i p li lp) ∙ ap (look M x) (sym q) ∙ e in
         let (v, g, w) = there-token done (t .value) (t .source i p) (done i) y f in
-        subst (λ (j : Key (M .Tag)). Proper M (M .arity (j .tag)) y) (sym q) (subst (Proper M (M .arity (t .tag i))) (sym g) (go i v li (ℕ-discrete i (t .size))))
+        subst (λ (j : Key (M .Tag)). ProperContentAt M (M .arity (j .tag)) y) (sym q) (subst (ProperContentAt M (M .arity (t .tag i))) (sym g) (go i v li (ℕ-discrete i (t .size))))
       where
-        go : (i : ℕ) (v : M .Value) → i ≤ t .size → Dec (i ≡ t .size) → Proper M (M .arity (t .tag i)) (token (done i) v)
+        go : (i : ℕ) (v : M .Value) → i ≤ t .size → Dec (i ≡ t .size) → ProperContentAt M (M .arity (t .tag i)) (token (done i) v)
         go i v li (yes q) = rw (q, resting h) (law .rests)
         go i v li (no q) = rw (done-all i (omega arith)) tt
 
-    result-there : (v : M .Value) → valueOf M t ≡ some v → look M x (key (t .size) 0) ≡ some (live v)
+    result-there : (v : M .Value) → treeValue M t ≡ some v → look M x (key (t .size) 0) ≡ some (live v)
     result-there v e = h .ports (t .size) 0 (omega arith) (rw (law .one) (omega arith)) ∙ rw (resting h) (go (t .source (t .size) 0) refl e)
       where
         go : (y : Source (M .Value)) → t .source (t .size) 0 ≡ y → comes (t .value) y ≡ some v → there done (t .value) y false ≡ some (live v)
@@ -345,7 +345,7 @@ module _ (M : Machine) (t : Tree M) (law : IsTree M t) where
         go (from j) f g = rw (done-all j (law .once (t .size) 0 j (omega arith) (rw (law .one) (omega arith)) f .0), g)
 
     -- so it has a value
-    result-valued : (v : M .Value) × (valueOf M t ≡ some v)
+    result-valued : (v : M .Value) × (treeValue M t ≡ some v)
     result-valued = go (t .source (t .size) 0) refl
       where
         go : (y : Source (M .Value)) → t .source (t .size) 0 ≡ y → (v : M .Value) × (comes (t .value) y ≡ some v)
@@ -354,14 +354,14 @@ module _ (M : Machine) (t : Tree M) (law : IsTree M t) where
 
   -- ---- an activity without a value leaves the result without one
 
-  pub climbs : (bound j : ℕ) → t .size ≤ j + bound → j < t .size → t .value j ≡ none → valueOf M t ≡ none
+  pub climbs : (bound j : ℕ) → t .size ≤ j + bound → j < t .size → t .value j ≡ none → treeValue M t ≡ none
   climbs zero j b l e = absurd (omega arith)
   climbs (suc bound) j b l e =
       let (i, p, li, lp, f) = law .feeds j l in
       let later = law .once i p j li lp f .0 in
       go i p li lp f later (ℕ-discrete i (t .size)) (λ low g. climbs bound i (omega arith) low g)
     where
-      go : (i p : ℕ) → i ≤ t .size → p < t .ports i → t .source i p ≡ from j → j < i → Dec (i ≡ t .size) → (i < t .size → t .value i ≡ none → valueOf M t ≡ none) → valueOf M t ≡ none
+      go : (i p : ℕ) → i ≤ t .size → p < t .ports i → t .source i p ≡ from j → j < i → Dec (i ≡ t .size) → (i < t .size → t .value i ≡ none → treeValue M t ≡ none) → treeValue M t ≡ none
       go i p li lp f later (no q) up = up (omega arith) (law .strict i p (omega arith) lp (rw f e))
       go i p li lp f later (yes q) up =
           let ports : p < t .ports (t .size) = subst (λ (k : ℕ). p < t .ports k) q lp in
@@ -370,7 +370,7 @@ module _ (M : Machine) (t : Tree M) (law : IsTree M t) where
 
   -- ---- runs
 
-  properAll : (ts : Ledger M) → Distinct M ts → ((k : Key (M .Tag)) (y : Content (M .Value)) → find M k ts ≡ some y → Proper M (M .arity (k .tag)) y) → AllProper M ts
+  properAll : (ts : Ledger M) → Distinct M ts → ((k : Key (M .Tag)) (y : Content (M .Value)) → find M k ts ≡ some y → ProperContentAt M (M .arity (k .tag)) y) → AllProper M ts
   properAll [] d h = tt
   properAll (u ∷ us) d h = (h (u .key) (u .content) (findHead M u us), properAll us (d .1) (λ k y e. h k y (later k y e)))
     where
@@ -378,7 +378,7 @@ module _ (M : Machine) (t : Tree M) (law : IsTree M t) where
       later k y e = when-no (sameKey M k (u .key)) (some (u .content)) (find M k us) (λ q. noneSome (sym (d .0) ∙ ap (λ j. find M j us) (sym q) ∙ e)) ∙ e
 
   module _ (s : StateOf M) (fed : Fed M t s) (budget f : ℕ) (enough : t .size ≤ budget) where
-    ends : (o : Outcome (M .Refusal)) (x : StateOf M) (firings n : ℕ) → Says M o budget n x → Reaches (length (s .tokens)) (λ i. false) n x → firings ≡ f + n → Evaluates M t s f (valueOf M t) (end M o firings x)
+    ends : (o : Outcome (M .Refusal)) (x : StateOf M) (firings n : ℕ) → Says M o budget n x → Reaches (length (s .tokens)) (λ i. false) n x → firings ≡ f + n → EvaluatesTree M t s f (treeValue M t) (end M o firings x)
     ends completed x m n (rest, all) r e =
         let (v, g) = result-valued (r .holds) rest in
         let z = r .holds .used in
@@ -396,7 +396,7 @@ module _ (M : Machine) (t : Tree M) (law : IsTree M t) where
         go j c (t .value j) refl (sym (subst (λ σ. fire M x σ ≡ notFired why) k g) ∙ fires (r .holds) j c)
       where
         go : (j : ℕ) → Can (r .holds) j → (y : Option (M .Value)) → t .value j ≡ y → _≡_ {A = FiredOf M} (notFired why) (onOption y (notFired (t .refusal)) (λ v. fired (next (r .holds) j v)))
-            → Evaluates M t s f (valueOf M t) (end M (refused why place) m x)
+            → EvaluatesTree M t s f (treeValue M t) (end M (refused why place) m x)
         go j c none b w =
             let same : why ≡ t .refusal = cc in
             rw (climbs (t .size) j (omega arith) (c .low) b) (place, ap (λ y. refused y place) same)

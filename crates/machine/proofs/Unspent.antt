@@ -9,7 +9,7 @@ use lib.Dec.{ltb}
 use lib.ListN.{length}
 use borrow.Author.Tests.{ltb-true, lt-ltb, le-ltb, ltb-false}
 use Rattle.machine.specs.Machine.{Key, Content, live, spent, deferred, Token, Cell, absent, waiting, present, Machine, when, onOption, cellAt, contentRead, changed, output, spend, Operands}
-use Rattle.machine.specs.Machine.{Ledger, StateOf, sameKey, at, find, look, operandOf, operands, spendAt}
+use Rattle.machine.specs.Machine.{Ledger, StateOf, sameKey, at, find, look, isOperandOf, operands, spendAt}
 use Rattle.machine.specs.Orders.{Distinct}
 use Rattle.machine.specs.Steps.{isUnspent, unspentIn}
 use Rattle.machine.proofs.View.{when-yes, when-no, noneSome, keyPath, Source, value, fetched, resolve, settle, cellAfter}
@@ -124,12 +124,12 @@ module _ (M : Machine) where
   module _ (τ : M .Tag) (d : DeltaOf M) where
     -- every operand is live
     abbrev pub OperandsLive : Ledger M → Type 0
-    OperandsLive ts = (k : Key (M .Tag)) → operandOf M τ k ≡ true → (y : Content (M .Value)) → find M k ts ≡ some y → (v : M .Value) × (y ≡ live v)
+    OperandsLive ts = (k : Key (M .Tag)) → isOperandOf M τ k ≡ true → (y : Content (M .Value)) → find M k ts ≡ some y → (v : M .Value) × (y ≡ live v)
 
-    spentOne : (t : Token (M .Tag) (M .Value)) (ts : Ledger M) → OperandsLive (t ∷ ts) → isUnspent (change M τ d (t .key) (t .content)) + cond (operandOf M τ (t .key)) 1 0 ≡ isUnspent (t .content)
-    spentOne t ts lives = go (operandOf M τ (t .key)) refl
+    spentOne : (t : Token (M .Tag) (M .Value)) (ts : Ledger M) → OperandsLive (t ∷ ts) → isUnspent (change M τ d (t .key) (t .content)) + cond (isOperandOf M τ (t .key)) 1 0 ≡ isUnspent (t .content)
+    spentOne t ts lives = go (isOperandOf M τ (t .key)) refl
       where
-        go : (b : Bool) → operandOf M τ (t .key) ≡ b → isUnspent (settle (d .writes) (cond b (spend (t .content)) (t .content))) + cond b 1 0 ≡ isUnspent (t .content)
+        go : (b : Bool) → isOperandOf M τ (t .key) ≡ b → isUnspent (settle (d .writes) (cond b (spend (t .content)) (t .content))) + cond b 1 0 ≡ isUnspent (t .content)
         go true e = let (v, l) = lives (t .key) e (t .content) (findHead M t ts) in rw l
         go false e = omega (arith, unspentSettled (d .writes) (t .content))
 

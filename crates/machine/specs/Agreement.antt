@@ -8,9 +8,9 @@ use Rattle.machine.specs.Machine.{Key, Machine, isThere, StateOf, Effect
 use Rattle.machine.specs.Orders.{Good, LawfulChoice}
 
 module _ (M : Machine) (arity : M .Tag → ℕ) (effect : M .Tag → M .Value → M .Value → EffectOf M) where
-  -- all else is equal
-  abbrev pub withInstructions : Machine
-  withInstructions = record {
+  -- one machine with another instruction set and another capacity: all else is equal
+  abbrev pub machineWith : (capacity : ℕ) → Machine
+  machineWith n = record {
     Tag = M .Tag;
     Value = M .Value;
     Refusal = M .Refusal;
@@ -21,9 +21,12 @@ module _ (M : Machine) (arity : M .Tag → ℕ) (effect : M .Tag → M .Value �
     ledgerFull = M .ledgerFull;
     secondToken = M .secondToken;
     secondWrite = M .secondWrite;
-    capacity = M .capacity;
+    capacity = n;
     cellCount = M .cellCount;
   }
+
+  abbrev pub withInstructions : Machine
+  withInstructions = machineWith (M .capacity)
 
   pub record AgreeAt (τ : M .Tag) : Type 0 where
     pub arities : arity τ ≡ M .arity τ

@@ -8,7 +8,7 @@ use Prim.Native.Nat.{ℕ, _+_, _≤_, _<_}
 use lib.ListN.{length, getD}
 use Rattle.machine.specs.Machine.{Machine, Activity, notFired, Outcome, completed, hung, budgetSpent, refused, onList}
 use Rattle.machine.specs.Machine.{StateOf, EndOf, enabled, fire, Choice, end, ending, runBy}
-use Rattle.machine.specs.Orders.{Good, LawfulChoice, InOrder, Completed, Hung, Refused, AllProper}
+use Rattle.machine.specs.Orders.{Good, LawfulChoice, InOrder, CompletedEnd, HungEnd, RefusedEnd, AllProper}
 use Rattle.machine.specs.Sequences.{Fires, NothingEnabled, Logged, logOf, EveryOrder}
 use Rattle.machine.specs.Choosers.{takes, ends, Chooser, runFrom, logFrom}
 
@@ -16,12 +16,12 @@ module _ (M : Machine) where
   abbrev pub Held : Type 0
   Held = StateOf M → Activity (M .Tag) → Bool
 
-  abbrev pub without : (Activity (M .Tag) → Bool) → List (Activity (M .Tag)) → List (Activity (M .Tag))
-  without held [] = []
-  without held (a ∷ more) = cond (held a) (without held more) (a ∷ without held more)
+  abbrev pub withoutHeld : (Activity (M .Tag) → Bool) → List (Activity (M .Tag)) → List (Activity (M .Tag))
+  withoutHeld held [] = []
+  withoutHeld held (a ∷ more) = cond (held a) (withoutHeld held more) (a ∷ withoutHeld held more)
 
   abbrev pub freeOf : Held → StateOf M → List (Activity (M .Tag))
-  freeOf held s = without (held s) (enabled M s)
+  freeOf held s = withoutHeld (held s) (enabled M s)
 
   -- "Picks count without held activities."
   abbrev pub byFree : Held → Choice M → (picks : List ℕ) → Chooser M
@@ -87,16 +87,16 @@ module _ (M : Machine) where
       → (runBounded held c budget picks f s ≡ runBy M c budget picks f s) × (logBounded held c budget picks s ≡ logOf M c budget picks s)
 
   -- "completes, or hangs with no held activity left"
-  abbrev pub LeavesNoneHeld : Held → EndOf M → Type 0
-  LeavesNoneHeld held e = Completed (e .outcome) ⊎ (Hung (e .outcome) × ((a : Activity (M .Tag)) → List·Memᴰ a (enabled M (e .state)) → held (e .state) a ≡ false))
+  abbrev pub LeavesNoneHeldOfMachine : Held → EndOf M → Type 0
+  LeavesNoneHeldOfMachine held e = CompletedEnd (e .outcome) ⊎ (HungEnd (e .outcome) × ((a : Activity (M .Tag)) → List·Memᴰ a (enabled M (e .state)) → held (e .state) a ≡ false))
 
   -- "At any budget, a bounded run that completes, or hangs with no held activity left, must equal the end of every unbounded order at
   -- budget 2,048, as demand 3 compares them."
   abbrev pub BoundedEnds : Type 0
   BoundedEnds = (held : Held) (c : Choice M) → LawfulChoice M c → (s : StateOf M) → Good M s → (budget : ℕ) (picks : List ℕ) (f : ℕ)
-      → LeavesNoneHeld held (runBounded held c budget picks f s) → EveryOrder M s f (M .capacity) (runBounded held c budget picks f s)
+      → LeavesNoneHeldOfMachine held (runBounded held c budget picks f s) → EveryOrder M s f (M .capacity) (runBounded held c budget picks f s)
 
   -- where some sequence ends with nothing enabled, a bounded run is never refused
-  abbrev pub BoundedUnrefused : Type 0
-  BoundedUnrefused = (held : Held) (c : Choice M) → LawfulChoice M c → (s : StateOf M) → Good M s → (budget : ℕ) (picks : List ℕ) (f : ℕ)
-      → (τs : List (M .Tag)) (x : StateOf M) → Fires M s τs x → NothingEnabled M x → ¬ (Refused (runBounded held c budget picks f s .outcome))
+  abbrev pub BoundedUnrefusedOfMachine : Type 0
+  BoundedUnrefusedOfMachine = (held : Held) (c : Choice M) → LawfulChoice M c → (s : StateOf M) → Good M s → (budget : ℕ) (picks : List ℕ) (f : ℕ)
+      → (τs : List (M .Tag)) (x : StateOf M) → Fires M s τs x → NothingEnabled M x → ¬ (RefusedEnd (runBounded held c budget picks f s .outcome))

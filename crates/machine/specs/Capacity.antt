@@ -6,24 +6,11 @@ use mathlib.Core.List.{List}
 use Prim.Native.Nat.{ℕ, _≤_, _<_}
 use lib.ListN.{length}
 use Rattle.machine.specs.Machine.{Machine, Outcome, completed, hung, budgetSpent, refused, StateOf, EndOf, Choice, runBy}
-use Rattle.machine.specs.Orders.{Good, LawfulChoice, Quiescent, BudgetSpent}
+use Rattle.machine.specs.Orders.{Good, LawfulChoice, QuiescentEnd, BudgetSpent}
+use Rattle.machine.specs.Agreement.{machineWith}
 
--- all else is equal
 abbrev pub withCapacity : Machine → ℕ → Machine
-withCapacity M n = record {
-  Tag = M .Tag;
-  Value = M .Value;
-  Refusal = M .Refusal;
-  same = M .same;
-  arity = M .arity;
-  effect = M .effect;
-  signal = M .signal;
-  ledgerFull = M .ledgerFull;
-  secondToken = M .secondToken;
-  secondWrite = M .secondWrite;
-  capacity = n;
-  cellCount = M .cellCount;
-}
+withCapacity M n = machineWith M (M .arity) (M .effect) n
 
 abbrev pub RefusedBy : {R : Type 0} → R → Outcome R → Type 0
 RefusedBy r completed = ⊥
@@ -37,14 +24,14 @@ module _ (M : Machine) where
   tokensUsed e = length (e .state .tokens)
 
   -- of a run that "completed or hung with t tokens": "with any capacity from t [..] and equal picks the end is the same"
-  abbrev pub EnoughRoom : Type 0
-  EnoughRoom = (c : Choice M) (s : StateOf M) (budget : ℕ) (picks : List ℕ) (f : ℕ) → Quiescent (runBy M c budget picks f s .outcome)
+  abbrev pub EnoughRoomOfMachine : Type 0
+  EnoughRoomOfMachine = (c : Choice M) (s : StateOf M) (budget : ℕ) (picks : List ℕ) (f : ℕ) → QuiescentEnd (runBy M c budget picks f s .outcome)
       → (n : ℕ) → tokensUsed (runBy M c budget picks f s) ≤ n → runBy (withCapacity M n) c budget picks f s ≡ runBy M c budget picks f s
 
   -- "with any smaller one every order is refused by 8", where the start fits and the budget is no less than the capacity
-  abbrev pub TooSmall : Type 0
-  TooSmall = (c d : Choice M) → LawfulChoice M c → LawfulChoice M d → (s : StateOf M) → Good M s → (budget budget′ : ℕ) (picks picks′ : List ℕ) (f : ℕ)
-      → Quiescent (runBy M c budget picks f s .outcome) → (n : ℕ) → n < tokensUsed (runBy M c budget picks f s) → length (s .tokens) ≤ n → n ≤ budget′
+  abbrev pub TooSmallOfMachine : Type 0
+  TooSmallOfMachine = (c d : Choice M) → LawfulChoice M c → LawfulChoice M d → (s : StateOf M) → Good M s → (budget budget′ : ℕ) (picks picks′ : List ℕ) (f : ℕ)
+      → QuiescentEnd (runBy M c budget picks f s .outcome) → (n : ℕ) → n < tokensUsed (runBy M c budget picks f s) → length (s .tokens) ≤ n → n ≤ budget′
       → RefusedBy (M .ledgerFull) (runBy (withCapacity M n) d budget′ picks′ f s .outcome)
 
   -- a run that is not spent has done what it can: with more budget it ends the same

@@ -12,8 +12,8 @@ use Rattle.machine.specs.Machine.{Machine, Activity, Outcome, budgetSpen
 use Rattle.machine.specs.Machine.{StateOf, EndOf, enabled, fire, Choice, end, after, ending, runBy}
 use Rattle.machine.specs.Orders.{Good, Lawful}
 use Rattle.machine.specs.Sequences.{ifFired, Logged, logOf}
-use Rattle.machine.specs.Steps.{ProfileOf, endsHere, inTurn}
-use Rattle.machine.specs.Replay.{named, replay}
+use Rattle.machine.specs.Steps.{ProfileOf, endsHere, firesInTurn}
+use Rattle.machine.specs.Replay.{namedIn, replay}
 use Rattle.machine.specs.Saved.{ifRefused}
 
 -- what a chooser gives
@@ -74,7 +74,7 @@ module _ (M : Machine) where
 
   module _ (notEnabled : M .Refusal) where
     abbrev pub byName : (names : List (Option (M .Tag))) → Chooser
-    byName names f s = orRefused notEnabled f (named M (getD names f none) (enabled M s))
+    byName names f s = orRefused notEnabled f (namedIn M (getD names f none) (enabled M s))
 
     abbrev pub byPlace : (places : List ℕ) → Chooser
     byPlace places f s = orRefused notEnabled f (atPlace (getD places f 0) (enabled M s))
@@ -83,10 +83,10 @@ module _ (M : Machine) where
     NamesChoose = (names : List (Option (M .Tag))) (s : StateOf M) → replay M notEnabled names 0 s ≡ runFrom (byName names) (length names) 0 s
 
     -- an ideal step is the run by the places of what is enabled at its start
-    abbrev pub stepOf : StateOf M → EndOf M
-    stepOf s = runFrom (byPlace (placesOf (enabled M s))) (length (enabled M s)) 0 s
+    abbrev pub idealStep : StateOf M → EndOf M
+    idealStep s = runFrom (byPlace (placesOf (enabled M s))) (length (enabled M s)) 0 s
 
     abbrev pub StepByPlaces : Type 0
     StepByPlaces = (s : StateOf M) → Good M s → (f : ℕ) (next : ℕ → StateOf M → ProfileOf M)
-        → let e = stepOf s in
-        inTurn M (enabled M s) f s next ≡ ifRefused (e .outcome) (endsHere M (end M (e .outcome) (f + e .firings) (e .state))) (next (f + e .firings) (e .state))
+        → let e = idealStep s in
+        firesInTurn M (enabled M s) f s next ≡ ifRefused (e .outcome) (endsHere M (end M (e .outcome) (f + e .firings) (e .state))) (next (f + e .firings) (e .state))

@@ -8,10 +8,10 @@ use lib.ListN.{length, getD}
 use Rattle.machine.specs.Machine.{Content, live, spent, deferred, Token, Cell, absent, waiting, present, State, Effect, Machine, Activity, Fired, fired, notFired, refused, End, onOption}
 use Rattle.machine.specs.Machine.{StateOf, FiredOf, EndOf, look, operands, commit, end}
 use Rattle.machine.specs.Choosers.{onChosen, Chooser, restsAt, runFrom}
-use Rattle.machine.specs.InStep.{RelatedState, RelatedEffect, EndsAlike, Over}
+use Rattle.machine.specs.InStep.{RelatedState, RelatedEffect, RelatedEnds, Over}
 
 -- v stands in the table at the handle's number
-pub record Stands {X W : Type 0} (number : W → ℕ) (table : List X) (v : X) (handle : W) : Type 0 where
+pub record StandsAt {X W : Type 0} (number : W → ℕ) (table : List X) (v : X) (handle : W) : Type 0 where
   pub below : number handle < length table
   pub there : getD table (number handle) v ≡ v
 
@@ -21,10 +21,10 @@ abbrev pub changedTo : {T X W : Type 0} → (Content W → Content X) → Token 
 changedTo f t = record { key = t .key; content = f (t .content) }
 
 module _ {X W : Type 0} (meaning : W → X) where
-  abbrev pub contentBy : Content W → Content X
-  contentBy (live w) = live (meaning w)
-  contentBy (spent w) = spent (meaning w)
-  contentBy (deferred c) = deferred c
+  abbrev pub meantContent : Content W → Content X
+  meantContent (live w) = live (meaning w)
+  meantContent (spent w) = spent (meaning w)
+  meantContent (deferred c) = deferred c
 
   abbrev pub cellBy : Cell W → Cell X
   cellBy absent = absent
@@ -32,7 +32,7 @@ module _ {X W : Type 0} (meaning : W → X) where
   cellBy (present w) = present (meaning w)
 
   abbrev pub stateBy : {T : Type 0} → State T W → State T X
-  stateBy u = record { tokens = map (changedTo contentBy) (u .tokens); cells = map cellBy (u .cells) }
+  stateBy u = record { tokens = map (changedTo meantContent) (u .tokens); cells = map cellBy (u .cells) }
 
 -- ---- a run
 
@@ -97,15 +97,15 @@ module _ (M : Machine) (W : Type 0) (effect : M .Tag → W → W → Effect (M .
 
     -- the effect of handles is that of the values for which they stand; what it sends stands in the table that it leaves
     abbrev pub StepsRelated : Type 0
-    StepsRelated = (t : Table) → Stands number t (M .signal) signal → (τ : M .Tag) (a b : M .Value) (c d : W) → Stands number t a c → Stands number t b d
-        → RelatedEffect (Stands number (t ++ step t τ c d .added)) NoRefusal (M .effect τ a b) (step t τ c d .asked)
+    StepsRelated = (t : Table) → StandsAt number t (M .signal) signal → (τ : M .Tag) (a b : M .Value) (c d : W) → StandsAt number t a c → StandsAt number t b d
+        → RelatedEffect (StandsAt number (t ++ step t τ c d .added)) NoRefusal (M .effect τ a b) (step t τ c d .asked)
 
     -- the choosers look at nothing in which a state over handles differs from the one for which it stands
     abbrev pub SameChooser : Chooser M → Chooser N → Type 0
-    SameChooser c d = (t : Table) (f : ℕ) (s : StateOf M) (u : StateOf N) → RelatedState (Stands number t) s u → c f s ≡ d f u
+    SameChooser c d = (t : Table) (f : ℕ) (s : StateOf M) (u : StateOf N) → RelatedState (StandsAt number t) s u → c f s ≡ d f u
 
     -- at the end as at the start the state over handles stands for the state over values
     abbrev pub HandlesInStep : Type 0
     HandlesInStep = (c : Chooser M) (d : Chooser N) → SameChooser c d
-        → (t : Table) → Stands number t (M .signal) signal → (s : StateOf M) (u : StateOf N) → RelatedState (Stands number t) s u → (budget f : ℕ)
-        → EndsAlike (Stands number (runOn d budget f t u .table)) (runFrom M c budget f s) (runOn d budget f t u .ended)
+        → (t : Table) → StandsAt number t (M .signal) signal → (s : StateOf M) (u : StateOf N) → RelatedState (StandsAt number t) s u → (budget f : ℕ)
+        → RelatedEnds (StandsAt number (runOn d budget f t u .table)) (runFrom M c budget f s) (runOn d budget f t u .ended)

@@ -10,9 +10,9 @@ use Rattle.machine.specs.Bounded.{Held, runBounded}
 
 -- ---- related place by place
 
-pub data Pairwise {A B : Type 0} (R : A → B → Type 0) : List A → List B → Type 0 where
-  noMore : Pairwise R [] []
-  pair : {x : A} {y : B} {xs : List A} {ys : List B} → R x y → Pairwise R xs ys → Pairwise R (x ∷ xs) (y ∷ ys)
+pub data PlaceByPlace {A B : Type 0} (R : A → B → Type 0) : List A → List B → Type 0 where
+  noMore : PlaceByPlace R [] []
+  pair : {x : A} {y : B} {xs : List A} {ys : List B} → R x y → PlaceByPlace R xs ys → PlaceByPlace R (x ∷ xs) (y ∷ ys)
 
 module _ {V₁ V₂ : Type 0} (R : V₁ → V₂ → Type 0) where
   -- in one state, of related values; deferred on one cell
@@ -31,11 +31,11 @@ module _ {V₁ V₂ : Type 0} (R : V₁ → V₂ → Type 0) where
     atKey : {k : Key T} {x : Content V₁} {y : Content V₂} → RelatedContent x y → RelatedToken (output x k) (output y k)
 
   pub record RelatedState {T : Type 0} (s : State T V₁) (u : State T V₂) : Type 0 where
-    pub tokens : Pairwise RelatedToken (s .tokens) (u .tokens)
-    pub cells : Pairwise RelatedCell (s .cells) (u .cells)
+    pub tokens : PlaceByPlace RelatedToken (s .tokens) (u .tokens)
+    pub cells : PlaceByPlace RelatedCell (s .cells) (u .cells)
 
   -- the second ends as the first, with as many firings and a related state
-  pub record EndsAlike {F T : Type 0} (d : End F T V₁) (e : End F T V₂) : Type 0 where
+  pub record RelatedEnds {F T : Type 0} (d : End F T V₁) (e : End F T V₂) : Type 0 where
     pub outcome : d .outcome ≡ e .outcome
     pub firings : d .firings ≡ e .firings
     pub state : RelatedState (d .state) (e .state)
@@ -57,7 +57,7 @@ module _ {V₁ V₂ : Type 0} (R : V₁ → V₂ → Type 0) where
 
     -- the ends are alike, unless the first was refused alone
     pub data InStep (d : End F T V₁) (e : End F T V₂) : Type 0 where
-      alike : EndsAlike d e → InStep d e
+      alike : RelatedEnds d e → InStep d e
       stopped : (r : F) (place : ℕ) → d .outcome ≡ refused r place → Alone r → InStep d e
 
 -- ---- the same machine over other values
@@ -95,7 +95,7 @@ module _ (M : Machine) (W : Type 0) (effect : M .Tag → W → W → Effect (M .
   SameHeld held kept = (s : StateOf M) (u : StateOf N) → RelatedState R s u → (a : Activity (M .Tag)) → held s a ≡ kept u a
 
   -- with activities held back, or with none
-  abbrev pub RunsInStep : Type 0
-  RunsInStep = (c : Choice M) (d : Choice N) → SameChoice c d → (held : Held M) (kept : Held N) → SameHeld held kept
+  abbrev pub RunsInStepOfMachine : Type 0
+  RunsInStepOfMachine = (c : Choice M) (d : Choice N) → SameChoice c d → (held : Held M) (kept : Held N) → SameHeld held kept
       → (s : StateOf M) (u : StateOf N) → RelatedState R s u → (budget : ℕ) (picks : List ℕ) (f : ℕ)
       → InStep R Alone (runBounded M held c budget picks f s) (runBounded N kept d budget picks f u)

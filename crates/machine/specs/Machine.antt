@@ -182,9 +182,9 @@ pub record Operands (W : Type 0) : Type 0 where
   pub right : W
 
 -- all ports below n have a value
-abbrev pub allBelow : {W : Type 0} → (ℕ → Option W) → (n : ℕ) → Bool
-allBelow value zero = true
-allBelow value (suc n) = onOption (value n) false (λ v. allBelow value n)
+abbrev pub allThere : {W : Type 0} → (ℕ → Option W) → (n : ℕ) → Bool
+allThere value zero = true
+allThere value (suc n) = onOption (value n) false (λ v. allThere value n)
 
 abbrev pub twoValues : {W : Type 0} → (n : ℕ) → Option W → Option W → Option (Operands W)
 twoValues zero x y = none
@@ -194,8 +194,8 @@ twoValues (suc (suc n)) x y = onOption x none (λ v. onOption y none (λ w. some
 -- ---- picks
 
 -- "of e enabled activities a pick takes number (pick mod e), counted from 0"
-abbrev pub numberOf : (pick e : ℕ) → ℕ
-numberOf pick e = pick % e
+abbrev pub pickedNumber : (pick e : ℕ) → ℕ
+pickedNumber pick e = pick % e
 
 -- "Once picks run out, the first is taken": pick 0
 abbrev pub firstPick : List ℕ → ℕ
@@ -243,14 +243,14 @@ module _ (M : Machine) where
   look s k = find k (s .tokens)
 
   -- the key is one of the ports that the tag's activity waits for
-  abbrev pub operandOf : M .Tag → Key (M .Tag) → Bool
-  operandOf τ k = when (M .same τ (k .tag)) (ltb (k .port) (M .arity τ)) false
+  abbrev pub isOperandOf : M .Tag → Key (M .Tag) → Bool
+  isOperandOf τ k = when (M .same τ (k .tag)) (ltb (k .port) (M .arity τ)) false
 
   abbrev pub liveAt : Contents → M .Tag → (port : ℕ) → Option (M .Value)
   liveAt content τ p = liveValue (content (at τ p))
 
   abbrev pub allLive : Contents → M .Tag → Bool
-  allLive content τ = allBelow (liveAt content τ) (M .arity τ)
+  allLive content τ = allThere (liveAt content τ) (M .arity τ)
 
   -- the operands of a tag, if all of them are live; none for a result
   abbrev pub operands : Contents → M .Tag → Option (Operands (M .Value))
@@ -261,13 +261,13 @@ module _ (M : Machine) where
   -- the ledger position of the tag's earliest operand
   abbrev pub placeOf : M .Tag → Ledger → ℕ
   placeOf τ [] = 0
-  placeOf τ (t ∷ ts) = cond (operandOf τ (t .key)) 0 (suc (placeOf τ ts))
+  placeOf τ (t ∷ ts) = cond (isOperandOf τ (t .key)) 0 (suc (placeOf τ ts))
 
   -- "An activity is enabled when all operands of its tag are live": its place is position i if the token t there is an operand of
   -- its tag, all operands are live (t's own content is looked at first, to compute less), and t is the earliest. So each activity
   -- is counted once. A result has no operands: "OUT never is"
   abbrev pub isPlace : StateOf → ℕ → Token (M .Tag) (M .Value) → Bool
-  isPlace s i t = isLive (t .content) && operandOf (t .key .tag) (t .key) && allLive (look s) (t .key .tag) && eqb (placeOf (t .key .tag) (s .tokens)) i
+  isPlace s i t = isLive (t .content) && isOperandOf (t .key .tag) (t .key) && allLive (look s) (t .key .tag) && eqb (placeOf (t .key .tag) (s .tokens)) i
 
   -- those whose place is in the rest of the ledger from position i on
   abbrev pub enabledFrom : StateOf → ℕ → Ledger → List (Activity (M .Tag))
@@ -282,21 +282,21 @@ module _ (M : Machine) where
 
   -- the firing of τ spends its operands and leaves other tokens
   abbrev pub spendAt : M .Tag → Key (M .Tag) → Content (M .Value) → Content (M .Value)
-  spendAt τ k x = cond (operandOf τ k) (spend x) x
+  spendAt τ k x = cond (isOperandOf τ k) (spend x) x
 
   abbrev pub among : Key (M .Tag) → List (Key (M .Tag)) → Bool
   among k [] = false
   among k (j ∷ js) = when (sameKey k j) true (among k js)
 
   -- by a token in any state
-  abbrev pub taken : Key (M .Tag) → Ledger → Bool
-  taken k ts = isThere (find k ts)
+  abbrev pub keyTaken : Key (M .Tag) → Ledger → Bool
+  keyTaken k ts = isThere (find k ts)
 
   -- "an output's tag and port taken, by a spent token or this firing's other output too"; the firing's own operands are tokens of
   -- the ledger
   abbrev pub anyTaken : Ledger → List (Key (M .Tag)) → Bool
   anyTaken ts [] = false
-  anyTaken ts (k ∷ ks) = taken k ts || among k ks || anyTaken ts ks
+  anyTaken ts (k ∷ ks) = keyTaken k ts || among k ks || anyTaken ts ks
 
   -- "used records plus outputs exceed the capacity"
   abbrev pub exceeds : Ledger → List (Key (M .Tag)) → Bool
@@ -327,7 +327,7 @@ module _ (M : Machine) where
 
   -- the enabled are a ∷ more
   abbrev pub pickOf : (pick : ℕ) → Activity (M .Tag) → List (Activity (M .Tag)) → Activity (M .Tag)
-  pickOf pick a more = getD (a ∷ more) (numberOf pick (length (a ∷ more))) a
+  pickOf pick a more = getD (a ∷ more) (pickedNumber pick (length (a ∷ more))) a
 
   -- a way to choose one of the enabled, a ∷ more, by the state and by the next pick
   abbrev pub Choice : Type 0

@@ -34,8 +34,8 @@ pub record Lawful (M : Machine) : Type 0 where
 abbrev pub Live : {W : Type 0} → Option (Content W) → Type 0
 Live {W} x = (v : W) × (x ≡ some (live v))
 
-abbrev pub Spent : {W : Type 0} → Option (Content W) → Type 0
-Spent {W} x = (v : W) × (x ≡ some (spent v))
+abbrev pub SpentContent : {W : Type 0} → Option (Content W) → Type 0
+SpentContent {W} x = (v : W) × (x ≡ some (spent v))
 
 module _ (M : Machine) where
   -- keys pairwise different: no token after it has a token's key
@@ -82,24 +82,24 @@ module _ (M : Machine) where
 
 -- ---- any two orders
 
-abbrev pub Completed : {R : Type 0} → Outcome R → Type 0
-Completed completed = Unit {0}
-Completed hung = ⊥
-Completed budgetSpent = ⊥
-Completed (refused r place) = ⊥
+abbrev pub CompletedEnd : {R : Type 0} → Outcome R → Type 0
+CompletedEnd completed = Unit {0}
+CompletedEnd hung = ⊥
+CompletedEnd budgetSpent = ⊥
+CompletedEnd (refused r place) = ⊥
 
-abbrev pub Hung : {R : Type 0} → Outcome R → Type 0
-Hung completed = ⊥
-Hung hung = Unit {0}
-Hung budgetSpent = ⊥
-Hung (refused r place) = ⊥
+abbrev pub HungEnd : {R : Type 0} → Outcome R → Type 0
+HungEnd completed = ⊥
+HungEnd hung = Unit {0}
+HungEnd budgetSpent = ⊥
+HungEnd (refused r place) = ⊥
 
 -- completed or hung: nothing is enabled
-abbrev pub Quiescent : {R : Type 0} → Outcome R → Type 0
-Quiescent completed = Unit {0}
-Quiescent hung = Unit {0}
-Quiescent budgetSpent = ⊥
-Quiescent (refused r place) = ⊥
+abbrev pub QuiescentEnd : {R : Type 0} → Outcome R → Type 0
+QuiescentEnd completed = Unit {0}
+QuiescentEnd hung = Unit {0}
+QuiescentEnd budgetSpent = ⊥
+QuiescentEnd (refused r place) = ⊥
 
 abbrev pub BudgetSpent : {R : Type 0} → Outcome R → Type 0
 BudgetSpent completed = ⊥
@@ -107,14 +107,14 @@ BudgetSpent hung = ⊥
 BudgetSpent budgetSpent = Unit {0}
 BudgetSpent (refused r place) = ⊥
 
-abbrev pub Refused : {R : Type 0} → Outcome R → Type 0
-Refused completed = ⊥
-Refused hung = ⊥
-Refused budgetSpent = ⊥
-Refused (refused r place) = Unit {0}
+abbrev pub RefusedEnd : {R : Type 0} → Outcome R → Type 0
+RefusedEnd completed = ⊥
+RefusedEnd hung = ⊥
+RefusedEnd budgetSpent = ⊥
+RefusedEnd (refused r place) = Unit {0}
 
 -- completed or hung alike, as many firings, as many tokens, the same cells, and the same tokens in whatever order they came
-pub record Alike {R T W : Type 0} (x y : End R T W) : Type 0 where
+pub record AlikeEnds {R T W : Type 0} (x y : End R T W) : Type 0 where
   pub outcome : x .outcome ≡ y .outcome
   pub firings : x .firings ≡ y .firings
   pub count : length (x .state .tokens) ≡ length (y .state .tokens)
@@ -123,21 +123,21 @@ pub record Alike {R T W : Type 0} (x y : End R T W) : Type 0 where
 
 -- one completes exactly when the other does, one hangs exactly when the other does, and then they are alike. R-2: "completed or
 -- hung alike in all, with everything else equal"
-pub record Same {R T W : Type 0} (x y : End R T W) : Type 0 where
-  pub completes : Completed (x .outcome) ↔ Completed (y .outcome)
-  pub hangs : Hung (x .outcome) ↔ Hung (y .outcome)
-  pub alike : Quiescent (x .outcome) → Alike x y
+pub record EndsAgree {R T W : Type 0} (x y : End R T W) : Type 0 where
+  pub completes : CompletedEnd (x .outcome) ↔ CompletedEnd (y .outcome)
+  pub hangs : HungEnd (x .outcome) ↔ HungEnd (y .outcome)
+  pub alike : QuiescentEnd (x .outcome) → AlikeEnds x y
 
 module _ (M : Machine) where
   -- from any well-formed state, for any two lawful choices, any two lists of picks, any budget; f firings were done before
-  abbrev pub AnyTwoOrders : Type 0
-  AnyTwoOrders = (c d : Choice M) → LawfulChoice M c → LawfulChoice M d → (s : StateOf M) → Good M s → (budget : ℕ) (picks picks′ : List ℕ) (f : ℕ)
-      → Same (runBy M c budget picks f s) (runBy M d budget picks′ f s)
+  abbrev pub AnyTwoOrdersOfMachine : Type 0
+  AnyTwoOrdersOfMachine = (c d : Choice M) → LawfulChoice M c → LawfulChoice M d → (s : StateOf M) → Good M s → (budget : ℕ) (picks picks′ : List ℕ) (f : ℕ)
+      → EndsAgree (runBy M c budget picks f s) (runBy M d budget picks′ f s)
 
   -- and for any two budgets that are each enough: a run that completes or hangs tells how every run ends whose budget has room for its firings
-  abbrev pub AnyTwoBudgets : Type 0
-  AnyTwoBudgets = (c d : Choice M) → LawfulChoice M c → LawfulChoice M d → (s : StateOf M) → Good M s → (budget budget′ : ℕ) (picks picks′ : List ℕ) (f : ℕ)
-      → Quiescent (runBy M c budget picks f s .outcome) → runBy M c budget picks f s .firings ≤ f + budget′ → Alike (runBy M c budget picks f s) (runBy M d budget′ picks′ f s)
+  abbrev pub AnyTwoBudgetsOfMachine : Type 0
+  AnyTwoBudgetsOfMachine = (c d : Choice M) → LawfulChoice M c → LawfulChoice M d → (s : StateOf M) → Good M s → (budget budget′ : ℕ) (picks picks′ : List ℕ) (f : ℕ)
+      → QuiescentEnd (runBy M c budget picks f s .outcome) → runBy M c budget picks f s .firings ≤ f + budget′ → AlikeEnds (runBy M c budget picks f s) (runBy M d budget′ picks′ f s)
 
   -- as many firings as the ledger has room for tokens are enough
   abbrev pub NeverSpent : Type 0
@@ -147,20 +147,20 @@ module _ (M : Machine) where
   -- "If one order is refused, every order is, though another may be refused by another number."
   abbrev pub AllRefused : Type 0
   AllRefused = (c d : Choice M) → LawfulChoice M c → LawfulChoice M d → (s : StateOf M) → Good M s → (budget : ℕ) (picks picks′ : List ℕ) (f : ℕ) → M .capacity ≤ budget
-      → Refused (runBy M c budget picks f s .outcome) ↔ Refused (runBy M d budget picks′ f s .outcome)
+      → RefusedEnd (runBy M c budget picks f s .outcome) ↔ RefusedEnd (runBy M d budget picks′ f s .outcome)
 
   -- ---- what is reached
 
   -- the outputs of an effect
-  abbrev pub keysOf : Effect (M .Refusal) (M .Tag) (M .Value) → List (Key (M .Tag))
-  keysOf (refuse r) = []
-  keysOf (send v keys) = keys
-  keysOf (read c keys) = keys
-  keysOf (write c v keys) = keys
+  abbrev pub effectKeys : Effect (M .Refusal) (M .Tag) (M .Value) → List (Key (M .Tag))
+  effectKeys (refuse r) = []
+  effectKeys (send v keys) = keys
+  effectKeys (read c keys) = keys
+  effectKeys (write c v keys) = keys
 
   -- how many outputs a firing has
   abbrev pub outputs : StateOf M → M .Tag → ℕ
-  outputs s τ = onOption (operands M (look M s) τ) 0 (λ p. length (keysOf (M .effect τ (p .left) (p .right))))
+  outputs s τ = onOption (operands M (look M s) τ) 0 (λ p. length (effectKeys (M .effect τ (p .left) (p .right))))
 
   -- x is reached from s by firings that sent this number of outputs in all: the last of them, of τ, came after y
   abbrev pub Reached : StateOf M → (firings : ℕ) → (sent : ℕ) → StateOf M → Type 0
@@ -181,9 +181,9 @@ module _ (M : Machine) where
     pub deferredWaits : (k : Key (M .Tag)) (c : ℕ) → find M k (x .tokens) ≡ some (deferred c) → cellAt (x .cells) c ≡ waiting
     pub waitingDefers : (c : ℕ) → cellAt (x .cells) c ≡ waiting → (k : Key (M .Tag)) × (find M k (x .tokens) ≡ some (deferred c))
     -- the operands of a tag are all spent or none is
-    pub spentTogether : (τ : M .Tag) (p q : ℕ) → p < M .arity τ → q < M .arity τ → Spent (find M (at M τ p) (x .tokens)) → Spent (find M (at M τ q) (x .tokens))
+    pub spentTogether : (τ : M .Tag) (p q : ℕ) → p < M .arity τ → q < M .arity τ → SpentContent (find M (at M τ p) (x .tokens)) → SpentContent (find M (at M τ q) (x .tokens))
     -- what is no operand is never spent: results are not
-    pub othersUnspent : (τ : M .Tag) (p : ℕ) → M .arity τ ≤ p → ¬ (Spent (find M (at M τ p) (x .tokens)))
+    pub othersUnspent : (τ : M .Tag) (p : ℕ) → M .arity τ ≤ p → ¬ (SpentContent (find M (at M τ p) (x .tokens)))
 
   abbrev pub ReachedInvariants : Type 0
   ReachedInvariants = (s : StateOf M) → Start M s → (f o : ℕ) (x : StateOf M) → Reached s f o x → Invariants s f o x
@@ -191,14 +191,14 @@ module _ (M : Machine) where
   -- ---- how a run ends
 
   -- "every live token is at an OUT and none is deferred"
-  abbrev pub Proper : (arity : ℕ) → Content (M .Value) → Type 0
-  Proper arity (live v) = arity ≡ 0
-  Proper arity (spent v) = Unit {0}
-  Proper arity (deferred c) = ⊥
+  abbrev pub ProperContentAt : (arity : ℕ) → Content (M .Value) → Type 0
+  ProperContentAt arity (live v) = arity ≡ 0
+  ProperContentAt arity (spent v) = Unit {0}
+  ProperContentAt arity (deferred c) = ⊥
 
   abbrev pub AllProper : Ledger M → Type 0
   AllProper [] = Unit {0}
-  AllProper (t ∷ ts) = Proper (M .arity (t .key .tag)) (t .content) × AllProper ts
+  AllProper (t ∷ ts) = ProperContentAt (M .arity (t .key .tag)) (t .content) × AllProper ts
 
   -- by its outcome: completed or hung, no activity is enabled, and all tokens are proper or not all are. "Spent: the budget's firings
   -- are done and one is still enabled." Refused: an enabled activity is refused in the state that is left, and the place is its place

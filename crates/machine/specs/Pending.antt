@@ -10,17 +10,17 @@ use Rattle.machine.specs.Orders.{Good}
 
 module _ (M : Machine) where
   -- one that a completed run does not leave
-  abbrev pub isPending : Token (M .Tag) (M .Value) → Bool
-  isPending t = not (isProper (M .arity (t .key .tag)) (t .content))
+  abbrev pub isPendingIn : Token (M .Tag) (M .Value) → Bool
+  isPendingIn t = not (isProper (M .arity (t .key .tag)) (t .content))
 
   -- the weights of the pending tokens together
   abbrev pub pendingIn : (weight : M .Tag → ℕ) → Ledger M → ℕ
   pendingIn w [] = 0
-  pendingIn w (t ∷ ts) = cond (isPending t) (w (t .key .tag)) 0 + pendingIn w ts
+  pendingIn w (t ∷ ts) = cond (isPendingIn t) (w (t .key .tag)) 0 + pendingIn w ts
 
   -- a result that a firing wakes: it was deferred, and is live
   abbrev pub isWoken : (before after : Token (M .Tag) (M .Value)) → Bool
-  isWoken t u = isPending t && (isProper (M .arity (u .key .tag)) (u .content) && isLive (u .content))
+  isWoken t u = isPendingIn t && (isProper (M .arity (u .key .tag)) (u .content) && isLive (u .content))
 
   -- of the tokens of a ledger, by what has become of them
   abbrev pub wokenIn : (weight : M .Tag → ℕ) → (before after : Ledger M) → ℕ

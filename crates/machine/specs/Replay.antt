@@ -8,7 +8,7 @@ use Prim.Native.Nat.{ℕ, suc, _+_, _<_}
 use lib.ListN.{length}
 use Rattle.machine.specs.Machine.{Machine, Activity, notFired, Outcome, budgetSpent, refused, when, onOption, onList}
 use Rattle.machine.specs.Machine.{StateOf, EndOf, look, allLive, placeOf, enabled, fire, Choice, end, after, ending, runBy}
-use Rattle.machine.specs.Orders.{Good, LawfulChoice, Quiescent, Refused}
+use Rattle.machine.specs.Orders.{Good, LawfulChoice, QuiescentEnd, RefusedEnd}
 use Rattle.machine.specs.Sequences.{Once, NothingEnabled, Fires, logOf, Logged}
 
 module _ (M : Machine) where
@@ -18,9 +18,9 @@ module _ (M : Machine) where
   withTag τ (a ∷ more) = when (M .same τ (a .tag)) (some a) (withTag τ more)
 
   -- a record names a tag; or none, if it "lacks its zero byte or isn't whole"
-  abbrev pub named : Option (M .Tag) → List (Activity (M .Tag)) → Option (Activity (M .Tag))
-  named none l = none
-  named (some τ) l = withTag τ l
+  abbrev pub namedIn : Option (M .Tag) → List (Activity (M .Tag)) → Option (Activity (M .Tag))
+  namedIn none l = none
+  namedIn (some τ) l = withTag τ l
 
   -- an enabled activity is found by its operands, so the enabled list need not be searched
   pub record FoundByTag (s : StateOf M) (τ : M .Tag) : Type 0 where
@@ -29,9 +29,9 @@ module _ (M : Machine) where
 
   -- "The logs of two completed runs of one graph with equal inputs, capacity and cell count hold the same records, each once.": and of two
   -- that hang; the budgets may differ
-  abbrev pub LogsAgree : Type 0
-  LogsAgree = (c d : Choice M) → LawfulChoice M c → LawfulChoice M d → (s : StateOf M) → Good M s → (b b′ : ℕ) (picks picks′ : List ℕ) (f : ℕ)
-      → Quiescent (runBy M c b picks f s .outcome) → Quiescent (runBy M d b′ picks′ f s .outcome)
+  abbrev pub LogsAgreeOfMachine : Type 0
+  LogsAgreeOfMachine = (c d : Choice M) → LawfulChoice M c → LawfulChoice M d → (s : StateOf M) → Good M s → (b b′ : ℕ) (picks picks′ : List ℕ) (f : ℕ)
+      → QuiescentEnd (runBy M c b picks f s .outcome) → QuiescentEnd (runBy M d b′ picks′ f s .outcome)
       → List·Permᴰ (logOf M c b picks s) (logOf M d b′ picks′ s) × Once (logOf M c b picks s)
 
   -- `notEnabled` is refusal 20
@@ -41,7 +41,7 @@ module _ (M : Machine) where
     unfoldable pub replay : (log : List (Option (M .Tag))) → (f : ℕ) → StateOf M → EndOf M
     replay [] f s = onList (enabled M s) (end M (ending M s) f s) (λ a more. end M budgetSpent f s)
     replay (name ∷ log) f s =
-        onOption (named name (enabled M s)) (end M (refused notEnabled f) f s) (λ a. after M f s a (fire M s (a .tag)) (λ x. replay log (suc f) x))
+        onOption (namedIn name (enabled M s)) (end M (refused notEnabled f) f s) (λ a. after M f s a (fire M s (a .tag)) (λ x. replay log (suc f) x))
 
     -- a firing sequence is replayed, whatever comes after it in the log
     abbrev pub SequenceReplays : Type 0
@@ -51,7 +51,7 @@ module _ (M : Machine) where
     pub record SameAs (d e : EndOf M) : Type 0 where
       pub state : e .state ≡ d .state
       pub firings : e .firings ≡ d .firings
-      pub outcome : ¬ (Refused (d .outcome)) → e .outcome ≡ d .outcome
+      pub outcome : ¬ (RefusedEnd (d .outcome)) → e .outcome ≡ d .outcome
 
     abbrev pub RunReplays : Type 0
     RunReplays = (c : Choice M) → LawfulChoice M c → (budget : ℕ) (picks : List ℕ) (f : ℕ) (s : StateOf M) → SameAs (runBy M c budget picks f s) (replay (map some (logOf M c budget picks s)) f s)

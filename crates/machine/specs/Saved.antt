@@ -9,8 +9,8 @@ use Prim.Native.Nat.{ℕ, zero, suc, _+_, _≤_, _<_}
 use lib.Dec.{eqb, leb, ltb}
 use lib.ListN.{length, take, drop}
 use Rattle.machine.specs.Machine.{Key, Content, live, spent, deferred, Cell, absent, waiting, present, Machine, Outcome, completed, hung, budgetSpent, refused, cellAt}
-use Rattle.machine.specs.Machine.{Ledger, StateOf, EndOf, Choice, at, find, operandOf, taken, runBy}
-use Rattle.machine.specs.Orders.{Spent, Good, Start, LawfulChoice}
+use Rattle.machine.specs.Machine.{Ledger, StateOf, EndOf, Choice, at, find, isOperandOf, keyTaken, runBy}
+use Rattle.machine.specs.Orders.{SpentContent, Good, Start, LawfulChoice}
 use Rattle.machine.specs.Sequences.{Once, isSpent, isSpentThere, spentTags}
 
 -- ---- a run in parts
@@ -53,8 +53,8 @@ module _ (M : Machine) where
       ifRefused (e .outcome) e (inParts choose b bs (drop a picks) (e .firings) (e .state))
 
   -- "A run cut by budgets at any firings [..] ends as the uncut run"
-  abbrev pub CutRuns : Type 0
-  CutRuns = (c : Choice M) (a : ℕ) (later : List ℕ) (picks : List ℕ) (f : ℕ) (s : StateOf M) → inParts c a later picks f s ≡ runBy M c (a + sum later) picks f s
+  abbrev pub CutRunsOfMachine : Type 0
+  CutRunsOfMachine = (c : Choice M) (a : ℕ) (later : List ℕ) (picks : List ℕ) (f : ℕ) (s : StateOf M) → inParts c a later picks f s ≡ runBy M c (a + sum later) picks f s
 
   -- ---- a saved state, with its firings
 
@@ -62,9 +62,9 @@ module _ (M : Machine) where
     -- "tag and port never twice", "tokens within the capacity", and as many cells as the store has. This alone the orders theorem asks for
     pub good : Good M s
     -- the rest of 02's list, which no run breaks. "a tag's operands all present and spent or none spent"
-    pub spentTogether : (τ : M .Tag) (p q : ℕ) → p < M .arity τ → q < M .arity τ → Spent (find M (at M τ p) (s .tokens)) → Spent (find M (at M τ q) (s .tokens))
+    pub spentTogether : (τ : M .Tag) (p q : ℕ) → p < M .arity τ → q < M .arity τ → SpentContent (find M (at M τ p) (s .tokens)) → SpentContent (find M (at M τ q) (s .tokens))
     -- "results never spent", nor anything else that is no operand
-    pub othersUnspent : (τ : M .Tag) (p : ℕ) → M .arity τ ≤ p → ¬ (Spent (find M (at M τ p) (s .tokens)))
+    pub othersUnspent : (τ : M .Tag) (p : ℕ) → M .arity τ ≤ p → ¬ (SpentContent (find M (at M τ p) (s .tokens)))
     -- "each deferred token naming a cell of the store"
     pub cellNamed : (k : Key (M .Tag)) (c : ℕ) → find M k (s .tokens) ≡ some (deferred c) → c < M .cellCount
     -- "cells waiting exactly where one is deferred on them"
@@ -83,7 +83,7 @@ module _ (M : Machine) where
 
   -- its firings are counted by the right tags: exactly those that have a spent operand, each once
   pub record SpentTagsOnce (ts : Ledger M) : Type 0 where
-    pub exactly : (τ : M .Tag) → List·Memᴰ τ (spentTags M ts) ↔ ((p : ℕ) × Spent (find M (at M τ p) ts))
+    pub exactly : (τ : M .Tag) → List·Memᴰ τ (spentTags M ts) ↔ ((p : ℕ) × SpentContent (find M (at M τ p) ts))
     pub once : Once (spentTags M ts)
 
   abbrev pub SavedTags : Type 0
@@ -94,7 +94,7 @@ module _ (M : Machine) where
   -- "tag and port never twice"
   abbrev pub neverTwice : Ledger M → Bool
   neverTwice [] = true
-  neverTwice (t ∷ ts) = not (taken M (t .key) ts) && neverTwice ts
+  neverTwice (t ∷ ts) = not (keyTaken M (t .key) ts) && neverTwice ts
 
   abbrev pub allTokens : (Key (M .Tag) → Content (M .Value) → Bool) → Ledger M → Bool
   allTokens test [] = true
@@ -109,7 +109,7 @@ module _ (M : Machine) where
 
   -- "results never spent": what is spent was an operand
   abbrev pub operandIfSpent : Key (M .Tag) → Content (M .Value) → Bool
-  operandIfSpent k x = not (isSpent x) || operandOf M (k .tag) k
+  operandIfSpent k x = not (isSpent x) || isOperandOf M (k .tag) k
 
   -- "each deferred token naming a cell of the store"
   abbrev pub namesCell : Key (M .Tag) → Content (M .Value) → Bool
@@ -138,5 +138,5 @@ module _ (M : Machine) where
       && eqb f (length (spentTags M (s .tokens)))))))))
 
   -- "A saved state is taken exactly if [..] all of this holds"
-  abbrev pub TakenExactly : Type 0
-  TakenExactly = (f : ℕ) (s : StateOf M) → (isSaved f s ≡ true) ↔ Saved f s
+  abbrev pub TakenExactlyOfMachine : Type 0
+  TakenExactlyOfMachine = (f : ℕ) (s : StateOf M) → (isSaved f s ≡ true) ↔ Saved f s

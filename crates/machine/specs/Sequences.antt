@@ -9,7 +9,7 @@ use lib.Dec.{eqb}
 use lib.ListN.{length}
 use Rattle.machine.specs.Machine.{Content, live, spent, deferred, Token, State, Machine, Activity, Fired, fired, notFired, onList, firstPick, laterPicks}
 use Rattle.machine.specs.Machine.{Ledger, StateOf, EndOf, enabled, fire, Choice, ending, runBy}
-use Rattle.machine.specs.Orders.{Good, LawfulChoice, Alike, Says}
+use Rattle.machine.specs.Orders.{Good, LawfulChoice, AlikeEnds, Says}
 
 -- each once: nothing stands in the list twice
 abbrev pub Once : {A : Type 0} → List A → Type 0
@@ -81,13 +81,13 @@ module _ (M : Machine) where
   NothingEnabled x = enabled M x ≡ []
 
   -- where nothing is enabled any more, the same activities have fired, and what they leave is alike
-  pub record Agree (τs υs : List (M .Tag)) (x y : StateOf M) : Type 0 where
+  pub record SequencesAgree (τs υs : List (M .Tag)) (x y : StateOf M) : Type 0 where
     pub same : List·Permᴰ τs υs
     pub alike : AlikeStates x y
 
   abbrev pub AnyTwoSequences : Type 0
   AnyTwoSequences = (s : StateOf M) → Good M s → (τs υs : List (M .Tag)) (x y : StateOf M)
-      → Fires s τs x → NothingEnabled x → Fires s υs y → NothingEnabled y → Agree τs υs x y
+      → Fires s τs x → NothingEnabled x → Fires s υs y → NothingEnabled y → SequencesAgree τs υs x y
 
   -- where one sequence ends with nothing enabled, every other is shorter while something is, and no enabled activity is refused on its way
   abbrev pub NoneRefused : Type 0
@@ -109,7 +109,7 @@ module _ (M : Machine) where
     pub fires : Fires s τs (e .state)
     pub firings : e .firings ≡ f + length τs
 
-  pub record Ran (s : StateOf M) (budget f : ℕ) (τs : List (M .Tag)) (e : EndOf M) : Type 0 where
+  pub record RanBy (s : StateOf M) (budget f : ℕ) (τs : List (M .Tag)) (e : EndOf M) : Type 0 where
     pub logged : Logged s f τs e
     pub within : length τs ≤ budget
     pub says : Says M (e .outcome) budget (length τs) (e .state)
@@ -117,14 +117,14 @@ module _ (M : Machine) where
   -- every run is a firing sequence, its log
   abbrev pub RunsLogged : Type 0
   RunsLogged = (c : Choice M) → LawfulChoice M c → (budget : ℕ) (picks : List ℕ) (f : ℕ) (s : StateOf M)
-      → Ran s budget f (logOf c budget picks s) (runBy M c budget picks f s)
+      → RanBy s budget f (logOf c budget picks s) (runBy M c budget picks f s)
 
   -- ---- every order
 
   -- e is how every run ends that has the budget for it, with whatever choice and picks
   abbrev pub EveryOrder : StateOf M → (f enough : ℕ) → EndOf M → Type 0
   EveryOrder s f enough e = (c : Choice M) → LawfulChoice M c → (budget : ℕ) → enough ≤ budget → (picks : List ℕ)
-      → Alike e (runBy M c budget picks f s)
+      → AlikeEnds e (runBy M c budget picks f s)
 
   -- so one sequence to any end tells how every order ends: completed or hung, as its state says
   abbrev pub OneTellsAll : Type 0

@@ -7,7 +7,7 @@ use Prim.Native.Nat.{ℕ, zero, suc, _+_, _-_, _≤_, _<_}
 use lib.ListN.{length}
 use Rattle.machine.specs.Machine.{Content, live, spent, deferred, Machine, Activity, End, fired, notFired, Outcome, refused, onList}
 use Rattle.machine.specs.Machine.{Ledger, StateOf, FiredOf, EndOf, enabled, fire, end, ending}
-use Rattle.machine.specs.Orders.{Good, Refused}
+use Rattle.machine.specs.Orders.{Good, RefusedEnd}
 use Rattle.machine.specs.Sequences.{Fires, NothingEnabled, Logged, EveryOrder}
 
 -- of a whole step
@@ -48,8 +48,8 @@ module _ (M : Machine) where
   UnspentAfter = (s : StateOf M) → Good M s → (τ : M .Tag) (x : StateOf M) → fire M s τ ≡ fired x
       → (length (s .tokens) ≤ length (x .tokens)) × (unspentIn (x .tokens) + M .arity τ ≡ unspentIn (s .tokens) + (length (x .tokens) - length (s .tokens)))
 
-  abbrev pub tagsOf : List (Activity (M .Tag)) → List (M .Tag)
-  tagsOf = map (λ a. a .tag)
+  abbrev pub activityTags : List (Activity (M .Tag)) → List (M .Tag)
+  activityTags = map (λ a. a .tag)
 
   -- ends before the next whole step
   abbrev pub endsHere : EndOf M → ProfileOf
@@ -64,14 +64,14 @@ module _ (M : Machine) where
   tried f s a (notFired r) next = endsHere (end M (refused r (a .place)) f s)
 
   -- the activities fire in turn; f firings were done before, and `next` goes on after the last
-  abbrev pub inTurn : List (Activity (M .Tag)) → (f : ℕ) → StateOf M → (next : ℕ → StateOf M → ProfileOf) → ProfileOf
-  inTurn [] f s next = next f s
-  inTurn (a ∷ more) f s next = tried f s a (fire M s (a .tag)) (λ x. inTurn more (suc f) x next)
+  abbrev pub firesInTurn : List (Activity (M .Tag)) → (f : ℕ) → StateOf M → (next : ℕ → StateOf M → ProfileOf) → ProfileOf
+  firesInTurn [] f s next = next f s
+  firesInTurn (a ∷ more) f s next = tried f s a (fire M s (a .tag)) (λ x. firesInTurn more (suc f) x next)
 
   -- each of them is still enabled, at its place, when its turn comes
   abbrev pub StillEnabled : Type 0
   StillEnabled = (s : StateOf M) → Good M s → (before : List (Activity (M .Tag))) (a : Activity (M .Tag)) (more : List (Activity (M .Tag))) (x : StateOf M)
-      → enabled M s ≡ before ++ (a ∷ more) → Fires M s (tagsOf before) x → List·Memᴰ a (enabled M x)
+      → enabled M s ≡ before ++ (a ∷ more) → Fires M s (activityTags before) x → List·Memᴰ a (enabled M x)
 
   -- `profileFull` is refusal 18
   module _ (profileFull : M .Refusal) where
@@ -80,7 +80,7 @@ module _ (M : Machine) where
     profile zero f s = onList (enabled M s) (endsHere (end M (ending M s) f s)) (λ a more. endsHere (end M (refused profileFull 0) f s))
     profile (suc left) f s =
         onList (enabled M s) (endsHere (end M (ending M s) f s)) (λ a more.
-        inTurn (a ∷ more) f s (λ g x. afterStep (record { firings = length (a ∷ more); unspent = unspentIn (x .tokens) }) (profile left g x)))
+        firesInTurn (a ∷ more) f s (λ g x. afterStep (record { firings = length (a ∷ more); unspent = unspentIn (x .tokens) }) (profile left g x)))
 
     -- why it stops in the state x; n of the records are used, and `cut` firings of a step that is not whole are done
     pub data ProfileStopped (left n cut : ℕ) (x : StateOf M) (o : Outcome (M .Refusal)) : Type 0 where
@@ -115,7 +115,7 @@ module _ (M : Machine) where
       pub ends : EveryOrder M s f (M .capacity) (p .ended)
 
     abbrev pub ProfileEnds : Type 0
-    ProfileEnds = (s : StateOf M) → Good M s → (left f : ℕ) → ¬ (Refused (profile left f s .ended .outcome)) → Unrefused s f (profile left f s)
+    ProfileEnds = (s : StateOf M) → Good M s → (left f : ℕ) → ¬ (RefusedEnd (profile left f s .ended .outcome)) → Unrefused s f (profile left f s)
 
     -- and where some sequence ends, the steps do, if there are as many records as it has firings
     abbrev pub StepsEndToo : Type 0

@@ -58,8 +58,8 @@ module _ (M : Machine) where
     pub only : (k : Key (M .Tag)) (x : Content (M .Value)) → look M s k ≡ some x → (i : ℕ) × (p : ℕ) × (i ≤ t .size) × (p < t .ports i) × (k ≡ at M (t .tag i) p)
     pub room : length (s .tokens) + t .size ≤ M .capacity
 
-  abbrev pub valueOf : Tree → Option (M .Value)
-  valueOf t = comes (t .value) (t .source (t .size) 0)
+  abbrev pub treeValue : Tree → Option (M .Value)
+  treeValue t = comes (t .value) (t .source (t .size) 0)
 
   -- from s, after f firings: each activity has fired once, and the result has the value v
   pub record Evaluated (t : Tree) (s : StateOf M) (f : ℕ) (v : M .Value) (e : EndOf M) : Type 0 where
@@ -68,11 +68,11 @@ module _ (M : Machine) where
     pub firings : e .firings ≡ f + t .size
     pub tokens : length (e .state .tokens) ≡ length (s .tokens) + t .size
 
-  abbrev pub Evaluates : (t : Tree) (s : StateOf M) (f : ℕ) → Option (M .Value) → EndOf M → Type 0
-  Evaluates t s f none e = (place : ℕ) × (e .outcome ≡ refused (t .refusal) place)
-  Evaluates t s f (some v) e = Evaluated t s f v e
+  abbrev pub EvaluatesTree : (t : Tree) (s : StateOf M) (f : ℕ) → Option (M .Value) → EndOf M → Type 0
+  EvaluatesTree t s f none e = (place : ℕ) × (e .outcome ≡ refused (t .refusal) place)
+  EvaluatesTree t s f (some v) e = Evaluated t s f v e
 
   -- in every order, with a budget for one firing of each activity
   abbrev pub TreesEvaluate : Type 0
   TreesEvaluate = (t : Tree) → IsTree t → (s : StateOf M) → Fed t s → (c : Choice M) → LawfulChoice M c → (budget : ℕ) → t .size ≤ budget → (picks : List ℕ) (f : ℕ)
-      → Evaluates t s f (valueOf t) (runBy M c budget picks f s)
+      → EvaluatesTree t s f (treeValue t) (runBy M c budget picks f s)

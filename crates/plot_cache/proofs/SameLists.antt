@@ -7,10 +7,7 @@ use native.Mathlib.Omega.{arith}
 use borrow.Author.Tests.{eqb-true, eq-eqb}
 use lib.Dec.{eqb}
 use Rattle.plot_cache.specs.Serves.{sameBytes}
-
-pub both : (a b : Bool) → a && b ≡ true → (a ≡ true) × (b ≡ true)
-both true b e = (refl, e)
-both false b e = let z : _≡_ {A = ℕ} 0 1 = cc in absurd (omega arith)
+use Rattle.rules.proofs.Passed.{both}
 
 pub same-list : (l m : List ℕ) → sameBytes l m ≡ true → l ≡ m
 same-list [] [] e = refl

@@ -16,7 +16,7 @@ use Rattle.buffer.proofs.Tables.{length-joined}
 use Rattle.record.specs.GraphRecords.{graphOf}
 use Rattle.record.specs.TokensAndTags.{mostTokens, capacityOf}
 use Rattle.record.specs.TokensAndTags as Tokens
-use Rattle.record.specs.Widths.{tokenWidth, cellWidth, pickWidth}
+use Rattle.record.specs.Widths.{tokenWidth, cellWidth, pickWidth, stepWidth}
 use Rattle.machine.specs.Steps.{StepRecord}
 use Rattle.rules.specs.declared.answer.Answer.{Answer}
 use Rattle.rules.specs.declared.answer.Profiled.{Profiled}
@@ -27,19 +27,19 @@ use Rattle.rules.specs.Check.{_andThen_, demand, checkStores, checkArrays, most
 use Rattle.rules.specs.Run.{Result, refusedAtOnce, ranTo, result, Ran, cellsAfter, tokenRecord}
 use Rattle.rules.specs.Run as Run
 use Rattle.rules.specs.Runs.{LentToRun, LeftByRun, RanOn, LentToProfile, LeftByProfile, Completed, Quiescent, Hung}
-use Rattle.rules.specs.Orders.{tokensOf, Allowed}
-use Rattle.rules.specs.Profile.{stepWidth, ProfileResult, profiled, profileAnswer, encode, profileAfter, ProfileRan}
+use Rattle.rules.specs.Orders.{resultTokens, Allowed}
+use Rattle.rules.specs.Profile.{ProfileResult, profiled, profileAnswer, encodeStep, profileAfter, ProfileRan}
 use Rattle.rules.specs.Fits.{CellCount}
 use Rattle.rules.specs.Parts.{leftBy}
 use Rattle.rules.specs.Bounded.{goodBound, andBound, checkBounded, bounded, BoundedOn}
-use Rattle.rules.proofs.Passed.{andThen-passed}
+use Rattle.rules.proofs.Passed.{andThen-passed, both}
 use Rattle.rules.proofs.Accepted.{whole-bytes, Whole, stores-whole, Begun, accepted, by-check}
 use Rattle.rules.proofs.Budgets.{quiescent-begun}
 use Rattle.rules.proofs.Bounded.{bounded-fits, bounded-small}
 use Rattle.activities.specs.Hangs.{heldLeft, TellsHang}
 use Rattle.activities.proofs.Hangs.{which-hang}
-use Rattle.listing.specs.Listing.{listing, answer, outAfter}
-use Rattle.listing.specs.Demand3.{used}
+use Rattle.listing.specs.Listing.{listing, listAnswer, listedOut}
+use Rattle.listing.specs.Demand3.{usedBytes}
 use Rattle.listing.proofs.Answers.{Lengths, answers-done}
 use Rattle.listing.proofs.AnyTwoOrders.{length-tokens}
 use Rattle.listing.specs.Demand3 as Demand3
@@ -49,11 +49,12 @@ use Rattle.listing.proofs.BoundedOrders.{bounded-as-orders, zero-is-none}
 use Rattle.plot_cache.specs.declared.Limits.{Limits}
 use Rattle.plot_cache.specs.declared.Ended.{Ended}
 use Rattle.plot_cache.specs.Serves.{Request, sameBytes, sameMachine, sameOrder, rests, anyOrder, serves, RanAs, ProfiledAs, ShownAlike, PlottedAlike, KeptOf, Served, Decided}
-use Rattle.plot_cache.proofs.SameLists.{both, same-list}
+use Rattle.plot_cache.proofs.SameLists.{same-list}
+use Rattle.rules.proofs.Lists.{either}
 
 -- ---- what a result shows
 
-count-tokens : (x : Result) → length (tokensOf x) ≡ Run.answer x .tokens
+count-tokens : (x : Result) → length (resultTokens x) ≡ Run.answer x .tokens
 unfolding Run.answer
 count-tokens (refusedAtOnce r p) = refl
 count-tokens (ranTo e) = length-map (e .state .tokens) tokenRecord
@@ -75,19 +76,19 @@ module _ (graph arrays inputs : List ℕ) (graphBytes : Bytes graph) (inputBytes
   abbrev Leaves : LentToRun → LeftByRun → Type 0
   Leaves lent z = Ran both-give (z .answer) (lent .ledger) (z .ledger) (lent .cells) (z .cells)
 
-  used-is : (lent : LentToRun) (z : LeftByRun) → Leaves lent z → used z ≡ joined Tokens.encode (tokensOf both-give)
+  used-is : (lent : LentToRun) (z : LeftByRun) → Leaves lent z → usedBytes z ≡ joined Tokens.encodeToken (resultTokens both-give)
   used-is lent z ran = rw (ran .answered, ran .ledgerLeft) (used-bytes both-give (lent .ledger))
 
-  listed : (lent : LentToRun) (z : LeftByRun) → Leaves lent z → (out : List ℕ) → length out ≡ length (used z)
-      → (answer (used z) out ≡ 0) × (outAfter (used z) out ≡ listing (joined Tokens.encode (tokensOf both-give)))
+  listed : (lent : LentToRun) (z : LeftByRun) → Leaves lent z → (out : List ℕ) → length out ≡ length (usedBytes z)
+      → (listAnswer (usedBytes z) out ≡ 0) × (listedOut (usedBytes z) out ≡ listing (joined Tokens.encodeToken (resultTokens both-give)))
   listed lent z ran out e =
-      let ts = tokensOf both-give in
+      let ts = resultTokens both-give in
       let small = bounded-small graph arrays inputs (l .picks) budget k (length (l .ledger)) (length (l .cells)) in
       let u = used-is lent z ran in
       let n = ap length u ∙ length-tokens ts in
       let c = count-tokens both-give in
-      let fits : Lengths (length (used z)) (length out) = record { same = sym e; whole = omega arith; few = omega (arith, small .tokens) } in
-      let d = answers-done (used z) out fits in
+      let fits : Lengths (length (usedBytes z)) (length out) = record { same = sym e; whole = omega arith; few = omega (arith, small .tokens) } in
+      let d = answers-done (usedBytes z) out fits in
       (d .0, d .1 ∙ ap listing u)
 
   cells-alike : Leaves l x → Leaves m y → (x .cells ≡ y .cells) ⊎ ((x .cells ≡ l .cells) × (y .cells ≡ m .cells))
@@ -115,10 +116,6 @@ module _ (graph arrays inputs : List ℕ) (graphBytes : Bytes graph) (inputBytes
   }
 
 -- ---- two runs
-
-or-cases : (a b : Bool) → a || b ≡ true → (a ≡ true) ⊎ (b ≡ true)
-or-cases true b e = inl refl
-or-cases false b e = inr e
 
 -- nothing is left enabled: it is completed or hung, and if it hung, nothing is held
 resting : (o : Outcome) (held : ℕ) → rests o held ≡ true → Quiescent o × (Hung o → held ≡ 0)
@@ -218,8 +215,8 @@ module _ (k a : Request) (kept-end : Ended) (graphBytes : Bytes (k .graph)) (inp
             answers = first .answers ∙ second .answers;
             cells = inl (first .cells ∙ second .cells);
             listings = λ out out′ e e′.
-                let p = first .listings out (used between) e refl in
-                let q = second .listings (used between) out′ refl e′ in
+                let p = first .listings out (usedBytes between) e refl in
+                let q = second .listings (usedBytes between) out′ refl e′ in
                 (p .0, q .1, p .2 ∙ q .2);
           }
 
@@ -244,12 +241,12 @@ module _ (k a : Request) (kept-end : Ended) (graphBytes : Bytes (k .graph)) (inp
     one-profile = λ i.
         profiled (sym (same .graphs) i) (sym (same .tables) i) (sym (same .inputs) i) ((asked .ledger ∙ sym (same .ledgers) ∙ sym (kept .ledger)) i) ((asked .cells ∙ sym (same .cells) ∙ sym (kept .cells)) i) (sym room i)
 
-    first-records : (lent : List ℕ) → take (length (first .records) * stepWidth) (profileAfter first lent) ≡ joined encode (first .records)
-    unfolding profileAfter encode
-    first-records lent = take-at (joined encode (first .records)) _ (length (first .records) * stepWidth) (length-joined stepWidth encode (λ (s : StepRecord). refl) (first .records))
+    first-records : (lent : List ℕ) → take (length (first .records) * stepWidth) (profileAfter first lent) ≡ joined encodeStep (first .records)
+    unfolding profileAfter encodeStep
+    first-records lent = take-at (joined encodeStep (first .records)) _ (length (first .records) * stepWidth) (length-joined stepWidth encodeStep (λ (s : StepRecord). refl) (first .records))
 
     plotted : (lent : LentToProfile) (z : LeftByProfile) → ProfileRan first (z .answer) (lent .ledger) (z .ledger) (lent .cells) (z .cells) (lent .profile) (z .profile)
-        → take (z .answer .records * stepWidth) (z .profile) ≡ joined encode (first .records)
+        → take (z .answer .records * stepWidth) (z .profile) ≡ joined encodeStep (first .records)
     unfolding profileAnswer
     plotted lent z h = rw (h .answered, h .profileLeft) (first-records (lent .profile))
 
@@ -264,7 +261,7 @@ served k e a h graphBytes inputBytes =
     let (p, q) = both (sameMachine (k .graph) (a .graph) (k .arrays) (a .arrays) (k .inputs) (a .inputs) (k .limits) (a .limits)) _ h in
     let same = machines-alike k a p in
     record {
-      runs = λ l m x y kept told asked. by-either same l m x y kept told asked (or-cases (sameOrder (k .picks) (a .picks) (k .limits) (a .limits)) _ q);
+      runs = λ l m x y kept told asked. by-either same l m x y kept told asked (either (sameOrder (k .picks) (a .picks) (k .limits) (a .limits)) _ q);
       profiles = λ l m x y kept asked room. by-profile k a e graphBytes inputBytes same l m x y kept asked room;
     }
   where

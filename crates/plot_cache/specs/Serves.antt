@@ -9,16 +9,15 @@ use lib.Dec.{eqb, leb}
 use lib.ListN.{length, take}
 use Rattle.buffer.specs.Rows.{whole}
 use Rattle.record.specs.TokensAndTags.{mostTokens}
-use Rattle.record.specs.Widths.{pickWidth}
+use Rattle.record.specs.Widths.{pickWidth, stepWidth}
 use Rattle.rules.specs.declared.answer.Outcome.{Outcome}
 use Rattle.rules.specs.declared.answer.Outcome.the-variants.{Completed, Hung, Spent, Refused}
-use Rattle.rules.specs.Profile.{stepWidth}
 use Rattle.rules.specs.Runs.{LentToRun, LeftByRun, LentToProfile, LeftByProfile, ProfiledOn}
 use Rattle.rules.specs.Runs as Runs
 use Rattle.rules.specs.Bounded.{BoundedOn}
 use Rattle.activities.specs.Hangs.{heldLeft}
-use Rattle.listing.specs.Listing.{answer, outAfter}
-use Rattle.listing.specs.Demand3.{used}
+use Rattle.listing.specs.Listing.{listAnswer, listedOut}
+use Rattle.listing.specs.Demand3.{usedBytes}
 use Rattle.plot_cache.specs.declared.Limits.{Limits}
 use Rattle.plot_cache.specs.declared.Ended.{Ended}
 
@@ -91,8 +90,8 @@ pub record ShownAlike (l m : LentToRun) (x y : LeftByRun) : Type 0 where
   -- in every byte; but a run that is refused before any firing leaves them as lent
   pub cells : (x .cells ≡ y .cells) ⊎ ((x .cells ≡ l .cells) × (y .cells ≡ m .cells))
   -- `list` is done with both, in outputs of their length
-  pub listings : (out out′ : List ℕ) → length out ≡ length (used x) → length out′ ≡ length (used y)
-      → (answer (used x) out ≡ 0) × (answer (used y) out′ ≡ 0) × (outAfter (used x) out ≡ outAfter (used y) out′)
+  pub listings : (out out′ : List ℕ) → length out ≡ length (usedBytes x) → length out′ ≡ length (usedBytes y)
+      → (listAnswer (usedBytes x) out ≡ 0) × (listAnswer (usedBytes y) out′ ≡ 0) × (listedOut (usedBytes x) out ≡ listedOut (usedBytes y) out′)
 
 -- all that is plotted of two profiles is the same: the answer, the number of records and each byte of these
 pub record PlottedAlike (x y : LeftByProfile) : Type 0 where

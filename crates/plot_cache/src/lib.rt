@@ -1,6 +1,7 @@
 // The cache of the profile plotter: whether what is kept of one run, its answer, listing, cells and profile, serves for a run
 // that is asked for.
 use record::pick;
+use record::token;
 use rules::answer::Answer;
 use rules::answer::Outcome;
 ghost use mathlib.Core.Path.{_≡_};
@@ -40,7 +41,9 @@ fn same_machine(
     inputs: &[u8],
     asked: Limits,
 ) -> bool
-    ensures { λ r. ⌜ r ≡ sameMachine (now («kept_graph» .entry)) (now (graph .entry)) (now («kept_arrays» .entry)) (now (arrays .entry)) (now («kept_inputs» .entry)) (now (inputs .entry)) kept asked ⌝ }
+    ensures { λ r. ⌜ r ≡
+        sameMachine (now («kept_graph» .entry)) (now (graph .entry)) (now («kept_arrays» .entry)) (now (arrays .entry))
+        (now («kept_inputs» .entry)) (now (inputs .entry)) kept asked ⌝ }
 {
     same(kept_graph, graph)
         && (same(kept_arrays, arrays)
@@ -75,7 +78,7 @@ fn any_order(end: Ended, picks: usize, asked: Limits) -> bool
     let outcome = answer.outcome;
     rests(outcome, end.held)
         && (asked.bound == 0
-            && (buffer::whole(pick::WIDTH, 2048, picks) && answer.firings <= asked.budget))
+            && (buffer::whole(pick::WIDTH, token::MOST, picks) && answer.firings <= asked.budget))
 }
 
 // Whether what is kept of a run that ended so serves for the run that is asked for.
@@ -92,7 +95,10 @@ pub fn serves(
     picks: &[u8],
     asked: Limits,
 ) -> bool
-    ensures { λ r. ⌜ Decided (request (now («kept_graph» .entry)) (now («kept_arrays» .entry)) (now («kept_inputs» .entry)) (now («kept_picks» .entry)) kept) end (request (now (graph .entry)) (now (arrays .entry)) (now (inputs .entry)) (now (picks .entry)) asked) r ⌝ }
+    ensures { λ r. ⌜
+        Decided
+        (request (now («kept_graph» .entry)) (now («kept_arrays» .entry)) (now («kept_inputs» .entry)) (now («kept_picks» .entry)) kept) end
+        (request (now (graph .entry)) (now (arrays .entry)) (now (inputs .entry)) (now (picks .entry)) asked) r ⌝ }
 {
     same_machine(
         kept_graph,

@@ -8,7 +8,7 @@ use lib.ListN.{length, take, replicate, length-replicate}
 use Rattle.buffer.specs.Rows.{All, allRows, joined}
 use Rattle.record.specs.declared.token.Token.{Token}
 use Rattle.record.specs.declared.cell.Cell.{Cell}
-use Rattle.record.specs.TokensAndTags.{TokenFits, encode, mostTokens}
+use Rattle.record.specs.TokensAndTags.{TokenFits, encodeToken, mostTokens}
 use Rattle.record.specs.TokensAndTags as Tokens
 use Rattle.record.specs.Cells.{CellFits}
 use Rattle.record.specs.Cells as Cells
@@ -18,11 +18,11 @@ use Rattle.record.proofs.Records.{length-token, length-cell, tokens-joined, cel
 use Rattle.load.proofs.Laws.{zeros-cells, absent-fit}
 use Rattle.rules.specs.Check.{mostCells}
 use Rattle.rules.specs.Run.{Result, refusedAtOnce, ranTo, answer, ledgerAfter, cellsAfter}
-use Rattle.rules.specs.Orders.{tokensOf, cellsOf}
+use Rattle.rules.specs.Orders.{resultTokens, resultCells}
 use Rattle.rules.specs.Fits.{CellCount, AllFit}
 use Rattle.rules.proofs.Small.{answer-small}
 use Rattle.rules.proofs.Fits.{result-fits}
-use Rattle.listing.specs.Listing.{keyOf, keyLe, sortBy, listing}
+use Rattle.listing.specs.Listing.{sortKeyOf, keyLe, sortBy, listing}
 use Rattle.listing.proofs.Lists.{all-perm}
 use Rattle.listing.proofs.Sorting.{length-sort}
 use Rattle.listing.proofs.Laws.{sort-permutation}
@@ -33,15 +33,15 @@ use Rattle.printing.specs.PrintedRun.{ledgerBytes, cellBytes, runOf, pri
 
 -- ---- records that hold what fits them are read back
 
-token-rows : (ts : List Token) → All TokenFits ts → allRows tokenWidth Tokens.decode (joined encode ts) ≡ ts
+token-rows : (ts : List Token) → All TokenFits ts → allRows tokenWidth Tokens.decodeToken (joined encodeToken ts) ≡ ts
 token-rows ts f =
-    let size : length (joined encode ts) / tokenWidth ≡ length ts = ap (λ (n : ℕ). n / tokenWidth) (length-joined tokenWidth encode length-token ts) ∙ mul-div-cancel (length ts) (omega arith) in
-    ap (λ (n : ℕ). Tokens.tokens n (joined encode ts)) size ∙ ap (Tokens.tokens (length ts)) (sym (append-nil (joined encode ts))) ∙ tokens-joined ts [] f
+    let size : length (joined encodeToken ts) / tokenWidth ≡ length ts = ap (λ (n : ℕ). n / tokenWidth) (length-joined tokenWidth encodeToken length-token ts) ∙ mul-div-cancel (length ts) (omega arith) in
+    ap (λ (n : ℕ). Tokens.tokens n (joined encodeToken ts)) size ∙ ap (Tokens.tokens (length ts)) (sym (append-nil (joined encodeToken ts))) ∙ tokens-joined ts [] f
 
-cell-rows : (xs : List Cell) → All CellFits xs → allRows cellWidth Cells.decode (joined Cells.encode xs) ≡ xs
+cell-rows : (xs : List Cell) → All CellFits xs → allRows cellWidth Cells.decodeCell (joined Cells.encodeCell xs) ≡ xs
 cell-rows xs f =
-    let size : length (joined Cells.encode xs) / cellWidth ≡ length xs = ap (λ (n : ℕ). n / cellWidth) (length-joined cellWidth Cells.encode length-cell xs) ∙ mul-div-cancel (length xs) (omega arith) in
-    ap (λ (n : ℕ). Cells.cells n (joined Cells.encode xs)) size ∙ ap (Cells.cells (length xs)) (sym (append-nil (joined Cells.encode xs))) ∙ cells-joined xs [] f
+    let size : length (joined Cells.encodeCell xs) / cellWidth ≡ length xs = ap (λ (n : ℕ). n / cellWidth) (length-joined cellWidth Cells.encodeCell length-cell xs) ∙ mul-div-cancel (length xs) (omega arith) in
+    ap (λ (n : ℕ). Cells.cells n (joined Cells.encodeCell xs)) size ∙ ap (Cells.cells (length xs)) (sym (append-nil (joined Cells.encodeCell xs))) ∙ cells-joined xs [] f
 
 -- ---- what a run leaves
 
@@ -53,24 +53,24 @@ cellsLeft x = cellsAfter x (replicate cellBytes 0)
 
 -- tokens that the program's ledger has room for, each of which fits
 pub record FewTokens (l : List ℕ) : Type 0 where
-  pub fit : All TokenFits (allRows tokenWidth Tokens.decode l)
+  pub fit : All TokenFits (allRows tokenWidth Tokens.decodeToken l)
   pub few : length l ≤ ledgerBytes
 
 pub record FewCells (l : List ℕ) : Type 0 where
-  pub fit : All CellFits (allRows cellWidth Cells.decode l)
+  pub fit : All CellFits (allRows cellWidth Cells.decodeCell l)
   pub few : length l ≡ cellBytes
 
-sorted-tokens : (ts : List Token) → All TokenFits ts → length ts ≤ mostTokens → FewTokens (joined encode (sortBy keyOf ts))
+sorted-tokens : (ts : List Token) → All TokenFits ts → length ts ≤ mostTokens → FewTokens (joined encodeToken (sortBy sortKeyOf ts))
 sorted-tokens ts f h =
-    let fits = all-perm TokenFits (sort-permutation keyOf ts) f in
+    let fits = all-perm TokenFits (sort-permutation sortKeyOf ts) f in
     record {
-      fit = rw (token-rows (sortBy keyOf ts) fits) fits;
-      few = omega (arith, length-joined tokenWidth encode length-token (sortBy keyOf ts), length-sort (λ a b. keyLe (keyOf a) (keyOf b)) ts);
+      fit = rw (token-rows (sortBy sortKeyOf ts) fits) fits;
+      few = omega (arith, length-joined tokenWidth encodeToken length-token (sortBy sortKeyOf ts), length-sort (λ a b. keyLe (sortKeyOf a) (sortKeyOf b)) ts);
     }
 
 tokens-left : (x : Result) → AllFit x mostTokens mostCells → FewTokens (ledgerLeft x)
 tokens-left x a =
-    subst FewTokens (sym (ap listing (used-bytes x (replicate ledgerBytes 0)) ∙ token-listing (tokensOf x) (a .tokens))) (sorted-tokens (tokensOf x) (a .tokens) (a .room))
+    subst FewTokens (sym (ap listing (used-bytes x (replicate ledgerBytes 0)) ∙ token-listing (resultTokens x) (a .tokens))) (sorted-tokens (resultTokens x) (a .tokens) (a .room))
 
 zero-length : length (replicate {A = ℕ} cellBytes 0) ≡ cellBytes
 zero-length = length-replicate {A = ℕ} cellBytes 0
@@ -87,8 +87,8 @@ cells-left (ranTo e) a =
     let count : CellCount (ranTo e) (length (replicate {A = ℕ} cellBytes 0) / cellWidth) = omega (arith, zero-length, a .cellCount) in
     let written = ran-cells e (replicate cellBytes 0) (omega (arith, zero-length)) count in
     subst FewCells (sym written) (record {
-      fit = rw (cell-rows (cellsOf (ranTo e)) (a .cells)) (a .cells);
-      few = omega (arith, length-joined cellWidth Cells.encode length-cell (cellsOf (ranTo e)), a .cellCount);
+      fit = rw (cell-rows (resultCells (ranTo e)) (a .cells)) (a .cells);
+      few = omega (arith, length-joined cellWidth Cells.encodeCell length-cell (resultCells (ranTo e)), a .cellCount);
     })
 
 pub every-text-fits : EveryTextFits

@@ -14,22 +14,22 @@ use Rattle.record.specs.Widths.{tokenWidth, cellWidth, pickWidth}
 use Rattle.rules.specs.Answer.{valuesOf}
 use Rattle.rules.specs.Check.{mostCells}
 use Rattle.rules.specs.Run.{Result, result, answer, ledgerAfter, cellsAfter}
-use Rattle.rules.specs.Orders.{Quiescent}
+use Rattle.rules.specs.Orders.{QuiescentResult}
 use Rattle.listing.specs.Listing.{listing}
 use Rattle.rules.specs.Runs.{LentToRun, LeftByRun, RanOn}
-use Rattle.listing.specs.Demand3.{NotForOthers, used, Alike}
+use Rattle.listing.specs.Demand3.{NotForOthers, usedBytes, AlikeBytes}
 use Rattle.listing.proofs.Answers.{done}
 use Rattle.listing.proofs.Demand3.{same-end, demand3}
 use Rattle.text.specs.declared.Printed.the-variants.{Done, TooSmall}
-use Rattle.text.specs.Text.{printedOf, outAfter}
+use Rattle.text.specs.Text.{printedOf, printedOut}
 use Rattle.text.proofs.Laws.{same-text}
 use Rattle.printing.specs.PrintedRun.{ledgerBytes, cellBytes, runOf, textLeft, printedRun}
 use Rattle.printing.specs.SameBytes.{OrdersPrintAlike}
 
 -- ---- a text in an output
 
-printed-bytes : (text out : List ℕ) (n : ℕ) → printedOf text out ≡ Done n → take n (outAfter text out) ≡ text
-unfolding printedOf outAfter
+printed-bytes : (text out : List ℕ) (n : ℕ) → printedOf text out ≡ Done n → take n (printedOut text out) ≡ text
+unfolding printedOf printedOut
 printed-bytes text out n e = go (leb (length text) (length out)) refl e
   where
     go : (b : Bool) → leb (length text) (length out) ≡ b → cond b (Done (length text)) TooSmall ≡ Done n → take n (cond (leb (length text) (length out)) (text ++ drop (length text) out) out) ≡ text
@@ -67,19 +67,19 @@ module _ (graph arrays inputs : List ℕ) (graphBytes : Bytes graph) (inputBytes
     allowedCells = ap (whole cellWidth mostCells) (length-replicate {A = ℕ} cellBytes 0);
   }
 
-  same-left : (x y : Result) → Alike (leftBy x) (leftBy y) → textLeft x ≡ textLeft y
+  same-left : (x y : Result) → AlikeBytes (leftBy x) (leftBy y) → textLeft x ≡ textLeft y
   same-left x y a =
-      let u = used (leftBy x) in
-      let v = used (leftBy y) in
+      let u = usedBytes (leftBy x) in
+      let v = usedBytes (leftBy y) in
       let l = a .listings u v refl refl in
       let sorted : listing u ≡ listing v = sym (done u u (l .0) .1) ∙ l .2 ∙ done v v (l .1) .1 in
       same-text (answer x) (answer y) (listing u) (listing v) (cellsAfter x (replicate cellBytes 0)) (cellsAfter y (replicate cellBytes 0)) (ap valuesOf (a .answers)) sorted (a .cells)
 
-  same-texts : (picks picks′ : List ℕ) → whole pickWidth mostTokens (length picks) ≡ true → whole pickWidth mostTokens (length picks′) ≡ true → Quiescent (runOf graph arrays inputs picks)
+  same-texts : (picks picks′ : List ℕ) → whole pickWidth mostTokens (length picks) ≡ true → whole pickWidth mostTokens (length picks′) ≡ true → QuiescentResult (runOf graph arrays inputs picks)
       → printedRun graph arrays inputs picks ≡ printedRun graph arrays inputs picks′
   unfolding printedRun
   same-texts picks picks′ w w′ c =
-      let rests : Quiescent (ended picks) = subst Quiescent (sym (same-run picks)) c in
+      let rests : QuiescentResult (ended picks) = subst QuiescentResult (sym (same-run picks)) c in
       let agreed = demand3 graph arrays inputs graphBytes inputBytes (lent picks) (lent picks′) (allowed picks w) (allowed picks′ w′) refl refl (leftBy (ended picks)) (leftBy (ended picks′)) (ran picks) (ran picks′) in
       let alike = agreed .alike (same-end (ended picks) .rests .0 rests) in
       ap textLeft (sym (same-run picks)) ∙ same-left (ended picks) (ended picks′) alike ∙ ap textLeft (same-run picks′)

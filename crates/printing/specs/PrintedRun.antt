@@ -11,7 +11,7 @@ use Rattle.rules.specs.Check.{mostCells}
 use Rattle.rules.specs.Run.{Result, result, answer, ledgerAfter, cellsAfter}
 use Rattle.listing.specs.Listing.{listing}
 use Rattle.text.specs.declared.Printed.{Printed}
-use Rattle.text.specs.Text.{printed, printedOf, outAfter}
+use Rattle.text.specs.Text.{printed, printedOf, printedOut}
 
 -- "with 2,048 records, 1,024 cells, budget 2,048"
 abbrev pub ledgerBytes : ℕ
@@ -24,12 +24,12 @@ unfoldable pub runOf : (graph arrays inputs picks : List ℕ) → Result
 runOf graph arrays inputs picks = result graph arrays inputs picks 2048 ledgerBytes cellBytes
 
 -- the answer, the listing, which "is lent the used records only", and the cells
-abbrev pub textOf : Answer → (ledger cells : List ℕ) → List ℕ
-textOf a ledger cells = printed a (listing (take (a .tokens * tokenWidth) ledger)) cells
+abbrev pub textOfRun : Answer → (ledger cells : List ℕ) → List ℕ
+textOfRun a ledger cells = printed a (listing (take (a .tokens * tokenWidth) ledger)) cells
 
 -- "Its ledger and cells start as zeros": what a run leaves of them is printed
 abbrev pub textLeft : Result → List ℕ
-textLeft x = textOf (answer x) (ledgerAfter x (replicate ledgerBytes 0)) (cellsAfter x (replicate cellBytes 0))
+textLeft x = textOfRun (answer x) (ledgerAfter x (replicate ledgerBytes 0)) (cellsAfter x (replicate cellBytes 0))
 
 unfoldable pub printedRun : (graph arrays inputs picks : List ℕ) → List ℕ
 printedRun graph arrays inputs picks = textLeft (runOf graph arrays inputs picks)
@@ -37,11 +37,11 @@ printedRun graph arrays inputs picks = textLeft (runOf graph arrays inputs picks
 -- what `print_run` promises: how many bytes it wrote, and the end contents of its output
 pub record PrintedRun (graph arrays inputs picks : List ℕ) (r : Printed) (out out′ : List ℕ) : Type 0 where
   pub answered : r ≡ printedOf (printedRun graph arrays inputs picks) out
-  pub outLeft : out′ ≡ outAfter (printedRun graph arrays inputs picks) out
+  pub outLeft : out′ ≡ printedOut (printedRun graph arrays inputs picks) out
 
 -- an output of this length has room for every text; it is proved in proofs/Room
-abbrev pub mostBytes : ℕ
-mostBytes = 200778
+abbrev pub mostTextBytes : ℕ
+mostTextBytes = 200778
 
 abbrev pub EveryTextFits : Type 0
-EveryTextFits = (graph arrays inputs picks : List ℕ) → Bytes graph → Bytes inputs → length (printedRun graph arrays inputs picks) ≤ mostBytes
+EveryTextFits = (graph arrays inputs picks : List ℕ) → Bytes graph → Bytes inputs → length (printedRun graph arrays inputs picks) ≤ mostTextBytes

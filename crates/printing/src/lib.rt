@@ -7,14 +7,10 @@ ghost use mathlib.Core.Path.{_≡_};
 ghost use Prim.Native.Nat.{_≤_};
 ghost use lib.ListN.{length};
 ghost use Rattle.record.specs.TokensAndTags.{mostTokens, capacityOf};
-ghost use Rattle.text.specs.Text.{printedOf, outAfter};
-ghost use Rattle.printing.specs.PrintedRun.{textOf, PrintedRun};
+ghost use Rattle.text.specs.Text.{printedOf, printedOut};
+ghost use Rattle.printing.specs.PrintedRun.{textOfRun, PrintedRun};
 
-const RECORDS: usize = 2048;
-
-const CELLS: usize = 1024;
-
-const BUDGET: u16 = 2048;
+const BUDGET: u16 = token::MOST as u16;
 
 // Lists the used records of a ledger and prints them, with the answer before them and the cells behind; `sorted` is room
 // for the listing.
@@ -26,8 +22,8 @@ fn print_left(
     out: &mut [u8],
 ) -> Printed
     requires { ⌜ (answer .tokens ≤ mostTokens) × (answer .tokens ≤ capacityOf (length (now ledger))) × (length (now sorted) ≡ length (now ledger)) ⌝ }
-    ensures { λ r. ⌜ r ≡ printedOf (textOf answer (now (ledger .entry)) (now (cells .entry))) (now (out .entry)) ⌝ }
-    ensures { λ _. ⌜ now (out .exit) ≡ outAfter (textOf answer (now (ledger .entry)) (now (cells .entry))) (now (out .entry)) ⌝ }
+    ensures { λ r. ⌜ r ≡ printedOf (textOfRun answer (now (ledger .entry)) (now (cells .entry))) (now (out .entry)) ⌝ }
+    ensures { λ _. ⌜ now (out .exit) ≡ printedOut (textOfRun answer (now (ledger .entry)) (now (cells .entry))) (now (out .entry)) ⌝ }
 {
     let used = answer.tokens * token::WIDTH;
     listing::list(&ledger[0..used], &mut sorted[0..used]);
@@ -45,9 +41,9 @@ pub fn print_run(
 ) -> Printed
     ensures { λ r. ⌜ PrintedRun (now (graph .entry)) (now (arrays .entry)) (now (inputs .entry)) (now (picks .entry)) r (now (out .entry)) (now (out .exit)) ⌝ }
 {
-    let mut ledger = [0u8; RECORDS * token::WIDTH];
-    let mut cells = [0u8; CELLS * cell::WIDTH];
-    let mut sorted = [0u8; RECORDS * token::WIDTH];
+    let mut ledger = [0u8; token::MOST * token::WIDTH];
+    let mut cells = [0u8; cell::MOST * cell::WIDTH];
+    let mut sorted = [0u8; token::MOST * token::WIDTH];
     let answer = engine::run(
         graph,
         arrays,

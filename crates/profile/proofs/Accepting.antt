@@ -12,7 +12,7 @@ use Rattle.record.specs.declared.array.NamedArray.{NamedArray}
 use Rattle.record.specs.GraphRecords.{graphOf}
 use Rattle.record.specs.Arrays.{arraysOf}
 use Rattle.record.specs.TokensAndTags.{mostTokens}
-use Rattle.record.specs.Widths.{tokenWidth, cellWidth}
+use Rattle.record.specs.Widths.{tokenWidth, cellWidth, stepWidth}
 use Rattle.machine.specs.Machine.{Machine, State, Ledger, Content, live, spent, deferred}
 use Rattle.machine.specs.Orders as Orders
 use Rattle.machine.specs.Steps.{Profile, isUnspent, unspentIn, profile}
@@ -24,12 +24,12 @@ use Rattle.rules.specs.declared.answer.Checked.the-variants.{Passed}
 use Rattle.rules.specs.Check.{mostCells}
 use Rattle.rules.specs.InstructionSet.{machineOf}
 use Rattle.rules.specs.Run.{firstState}
-use Rattle.rules.specs.Profile.{stepWidth, checkProfile}
+use Rattle.rules.specs.Profile.{checkProfile}
 use Rattle.rules.proofs.Accepted.{whole-bytes, law, begins, good}
 use Rattle.rules.proofs.Accepted as Rules
 use Rattle.rules.proofs.Profile.{wholes}
 use Rattle.checks.proofs.Passed.{passed-arrays}
-use Rattle.fire.specs.Running.{machineFor, stateIn}
+use Rattle.fire.specs.Running.{machineOver, stateIn}
 use Rattle.start.specs.Begun.{machineLent, Accepted, Begun}
 use Rattle.start.proofs.Starting.{from-start, as-lent}
 use Rattle.profile.specs.Steps.{unspentAt, profileFrom, ProfiledTo}

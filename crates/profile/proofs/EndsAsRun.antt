@@ -8,7 +8,7 @@ use lib.ListN.{length, length-map}
 use Rattle.number.specs.Number.{Bytes, number16}
 use Rattle.buffer.specs.Rows.{rows, All, joined}
 use Rattle.record.specs.TokensAndTags.{TokenFits, mostTokens, capacityOf}
-use Rattle.record.specs.Widths.{tokenWidth, cellWidth}
+use Rattle.record.specs.Widths.{tokenWidth, cellWidth, stepWidth}
 use Rattle.machine.specs.Machine as Machine
 use Rattle.machine.specs.Orders as Ends
 use Rattle.machine.specs.Steps.{StepRecord, firingsIn, EachFires}
@@ -19,19 +19,20 @@ use Rattle.rules.specs.Answer.{valuesOf}
 use Rattle.rules.specs.Check.{mostCells}
 use Rattle.rules.specs.Run.{Result, refusedAtOnce, ranTo, outcomeOf, result, Ran, tokenRecord}
 use Rattle.rules.specs.Run as Run
-use Rattle.rules.specs.Orders.{tokensOf, cellsOf, Allowed}
+use Rattle.rules.specs.Orders.{resultTokens, resultCells, Allowed}
 use Rattle.rules.specs.Orders as Rules
-use Rattle.rules.specs.Profile.{stepWidth, ProfileResult, profiled, profileAnswer, encode, profileAfter, EndsAs}
+use Rattle.rules.specs.Profile.{ProfileResult, profiled, profileAnswer, encodeStep, profileAfter, ProfileEndsAs}
 use Rattle.rules.proofs.Accepted.{whole-bytes}
 use Rattle.rules.specs.Fits.{CellCount}
 use Rattle.rules.proofs.Fits.{result-fits}
 use Rattle.rules.proofs.Small.{answer-small}
 use Rattle.rules.proofs.Profile.{passes, wholes, as-every-order}
 use Rattle.rules.specs.Runs.{LentToRun, LeftByRun, RanOn, LentToProfile, LeftByProfile, ProfiledOn, Quiescent, Refused}
-use Rattle.listing.specs.Demand3.{Alike}
-use Rattle.profile.specs.EndsAsRun.{asRun, firingsOf, sum, EndsAsRun, ProfileEndsAsRun}
+use Rattle.listing.specs.Demand3.{AlikeBytes}
+use Rattle.profile.specs.EndsAsRun.{asRun, firingsRecorded, EndsAsRun, ProfileEndsAsRun}
 use Rattle.listing.proofs.Lists.{all-perm}
 use Rattle.listing.proofs.Demand3.{same-end, bytes-alike}
+use Rattle.machine.specs.Saved.{sum}
 
 -- ---- the records, read back
 
@@ -42,8 +43,8 @@ low-high : (n : ℕ) → n < 65536 → n % 256 + 256 * (n / 256 % 256) ≡ n
 low-high n h = omega arith
 
 -- none is past 16 bits where all together are not
-firings-read : (rs : List StepRecord) (lent : List ℕ) → firingsIn rs < 65536 → rows stepWidth (λ b. number16 b 0) (length rs) (joined encode rs ++ lent) ≡ eachOf rs
-unfolding encode
+firings-read : (rs : List StepRecord) (lent : List ℕ) → firingsIn rs < 65536 → rows stepWidth (λ b. number16 b 0) (length rs) (joined encodeStep rs ++ lent) ≡ eachOf rs
+unfolding encodeStep
 firings-read [] lent h = refl
 firings-read (r ∷ rs) lent h = λ i. low-high (r .firings) (omega arith) i ∷ firings-read rs lent (omega arith) i
 
@@ -57,23 +58,23 @@ each-fires (r ∷ rs) h = (h .0, each-fires rs (h .1))
 
 -- ---- how it ended
 
-rests-said : (x : Result) → Rules.Quiescent x → Quiescent (Run.answer x .outcome)
+rests-said : (x : Result) → Rules.QuiescentResult x → Quiescent (Run.answer x .outcome)
 unfolding Run.answer
 rests-said (refusedAtOnce r p) h = absurd h
 rests-said (ranTo e) h = go (e .outcome) h
   where
-    go : (o : Machine.Outcome Refusal) → Ends.Quiescent o → Quiescent (outcomeOf o)
+    go : (o : Machine.Outcome Refusal) → Ends.QuiescentEnd o → Quiescent (outcomeOf o)
     go Machine.completed k = k
     go Machine.hung k = k
     go Machine.budgetSpent k = k
     go (Machine.refused r p) k = k
 
-token-count : (x : Result) → Rules.Quiescent x → length (tokensOf x) ≡ Run.answer x .tokens
+token-count : (x : Result) → Rules.QuiescentResult x → length (resultTokens x) ≡ Run.answer x .tokens
 unfolding Run.answer
 token-count (refusedAtOnce r p) h = absurd h
 token-count (ranTo e) h = length-map (e .state .tokens) tokenRecord
 
-cell-count : (x y : Result) (n : ℕ) → Rules.Quiescent x → Rules.Quiescent y → cellsOf x ≡ cellsOf y → CellCount y n → CellCount x n
+cell-count : (x y : Result) (n : ℕ) → Rules.QuiescentResult x → Rules.QuiescentResult y → resultCells x ≡ resultCells y → CellCount y n → CellCount x n
 cell-count (refusedAtOnce r p) y n h k e c = absurd h
 cell-count (ranTo e) (refusedAtOnce r p) n h k q c = absurd k
 cell-count (ranTo e) (ranTo f) n h k q c = ap length q ∙ c
@@ -96,15 +97,15 @@ module _ (graph arrays inputs : List ℕ) (graphBytes : Bytes graph) (inputBytes
   outcome-is : x .answer .answer .outcome ≡ Run.answer (p .result) .outcome
   outcome-is = ap (λ a. a .outcome) (ranX .answered)
 
-  ends : EndsAs p r
+  ends : ProfileEndsAs p r
   ends =
       as-every-order graph arrays inputs (m .picks) (length (l .ledger)) (length (m .ledger)) (length (l .cells)) (length (m .cells)) (length (l .profile))
       (λ h. unrefused (subst Refused (sym outcome-is) (same-end (p .result) .refuses .0 h))) allowed capacities counts
 
-  rests-y : Rules.Quiescent r
+  rests-y : Rules.QuiescentResult r
   rests-y = same-end r .rests .1 (subst Quiescent (ends .outcome) (rests-said (p .result) (ends .rests)))
 
-  alike : Alike (asRun x) y
+  alike : AlikeBytes (asRun x) y
   alike =
       let fits = result-fits graph arrays inputs (m .picks) 2048 (length (m .ledger)) (length (m .cells)) graphBytes inputBytes in
       let small = answer-small graph arrays inputs (m .picks) 2048 (length (m .ledger)) (length (m .cells)) in
@@ -118,7 +119,7 @@ module _ (graph arrays inputs : List ℕ) (graphBytes : Bytes graph) (inputBytes
       (whole-bytes cellWidth mostCells (length (m .cells)) (allowed .allowedCells) .0, fits .cellCount)
 
   -- the records stand at the start of the profile
-  told : firingsOf x ≡ eachOf (p .records)
+  told : firingsRecorded x ≡ eachOf (p .records)
   unfolding profileAnswer profileAfter
   told =
       let small = answer-small graph arrays inputs (m .picks) 2048 (length (m .ledger)) (length (m .cells)) in

@@ -1,4 +1,4 @@
--- The places at the start of a step: found one after the other, written, 2 bytes each, and read again. Assumes nothing.
+-- The places at the start of a step: found one after the other, and written. Assumes nothing.
 use Prim.Native.Nat.{ℕ, zero, suc, _+_, _-_, _*_, _/_, _%_, _≤_, _<_}
 use mathlib.Core.Path.{_≡_, refl, sym, ap, _∙_}
 use mathlib.Core.List.{List, [], _∷_, _++_}
@@ -6,10 +6,6 @@ use native.Mathlib.Omega.{arith}
 use native.Mathlib.Decide.{decLe}
 use lib.ListN.{length, getD, set, take, drop, length-set, take-append-drop}
 use lib.Seq.{take-all, getD-set-same, getD-set-other, getD-drop, drop-drop, length-take-le, set-append-left}
-use Rattle.number.specs.Number.{number16}
-use Rattle.record.specs.Widths.{pickWidth}
-use Rattle.buffer.proofs.Tables.{getD-rows}
-use Rattle.rules.specs.Run.{picksOf}
 use Rattle.store_flags.specs.Flags.{places, place, ones, inWord, flagsOf, Counted}
 use Rattle.store_flags.proofs.Laws.{Binary, ones-le, ones-places, ones-split, ones-append, ones-set, ones-past, place-skip, place-left, place-right, place-rest, place-lt, place-one}
 use Rattle.store_flags.proofs.Digits.{word-size, word-binary}
@@ -141,38 +137,13 @@ module _ {flags : List ℕ} (w : Counted flags) where
               },
         )
 
--- the first k of a list stand in another, low byte and high byte
-pub record Copied (k : ℕ) (from out : List ℕ) : Type 0 where
-  pub low : (j : ℕ) → j < k → getD out (2 * j) 0 ≡ getD from j 0 % 256
-  pub high : (j : ℕ) → j < k → getD out (2 * j + 1) 0 ≡ getD from j 0 / 256
+-- the first k of a list stand in another
+abbrev pub Copied : (k : ℕ) → (from out : List ℕ) → Type 0
+Copied k from out = (j : ℕ) → j < k → getD out j 0 ≡ getD from j 0
 
-pub copied-none : (from out : List ℕ) → Copied 0 from out
-copied-none from out = record { low = λ j h. absurd (omega arith); high = λ j h. absurd (omega arith) }
-
-pub copied-next : (k x : ℕ) (from out : List ℕ) → 2 * k + 1 < length out → x ≡ getD from k 0 → Copied k from out → Copied (k + 1) from (set (set out (2 * k) (x % 256)) (2 * k + 1) (x / 256))
-copied-next k x from out room e w = record { low = λ j h. lows j h (decLe (suc j) k); high = λ j h. highs j h (decLe (suc j) k) }
+pub copied-next : (k x : ℕ) (from out : List ℕ) → k < length out → x ≡ getD from k 0 → Copied k from out → Copied (k + 1) from (set out k x)
+copied-next k x from out room e w j h = go (decLe (suc j) k)
   where
-    first : List ℕ
-    first = set out (2 * k) (x % 256)
-
-    lows : (j : ℕ) → j < k + 1 → Dec (suc j ≤ k) → getD (set first (2 * k + 1) (x / 256)) (2 * j) 0 ≡ getD from j 0 % 256
-    lows j h (yes l) = getD-set-other first (2 * k + 1) (2 * j) (x / 256) 0 (λ q. omega (arith, q)) ∙ getD-set-other out (2 * k) (2 * j) (x % 256) 0 (λ q. omega (arith, q)) ∙ w .low j l
-    lows j h (no z) =
-        let q : j ≡ k = omega arith in
-        rw q (getD-set-other first (2 * k + 1) (2 * k) (x / 256) 0 (λ p. omega (arith, p)) ∙ getD-set-same out (2 * k) (x % 256) 0 (omega arith) ∙ ap (λ (n : ℕ). n % 256) e)
-
-    highs : (j : ℕ) → j < k + 1 → Dec (suc j ≤ k) → getD (set first (2 * k + 1) (x / 256)) (2 * j + 1) 0 ≡ getD from j 0 / 256
-    highs j h (yes l) = getD-set-other first (2 * k + 1) (2 * j + 1) (x / 256) 0 (λ q. omega (arith, q)) ∙ getD-set-other out (2 * k) (2 * j + 1) (x % 256) 0 (λ q. omega (arith, q)) ∙ w .high j l
-    highs j h (no z) =
-        let q : j ≡ k = omega arith in
-        rw q (getD-set-same first (2 * k + 1) (x / 256) 0 (omega (arith, length-set out (2 * k) (x % 256))) ∙ ap (λ (n : ℕ). n / 256) e)
-
--- read again
-pub copied-read : (k : ℕ) (from out : List ℕ) → k ≤ 2048 → length out ≡ 4096 → Copied k from out → (j : ℕ) → j < k → getD (picksOf out) j 0 ≡ getD from j 0
-unfolding picksOf
-copied-read k from out few size w j h =
-    let at : getD (picksOf out) j 0 ≡ number16 (drop (j * pickWidth) out) 0 = getD-rows pickWidth (λ b. number16 b 0) (length out / pickWidth) j out 0 (omega arith) in
-    let same : j * pickWidth ≡ 2 * j = omega arith in
-    let lo : getD (drop (j * pickWidth) out) 0 0 ≡ getD from j 0 % 256 = getD-drop (j * pickWidth) out 0 0 ∙ ap (λ (n : ℕ). getD out n 0) (omega arith) ∙ w .low j h in
-    let hi : getD (drop (j * pickWidth) out) 1 0 ≡ getD from j 0 / 256 = getD-drop (j * pickWidth) out 1 0 ∙ ap (λ (n : ℕ). getD out n 0) (omega arith) ∙ w .high j h in
-    at ∙ omega (arith, lo, hi)
+    go : Dec (suc j ≤ k) → getD (set out k x) j 0 ≡ getD from j 0
+    go (yes l) = getD-set-other out k j x 0 (λ q. omega (arith, q)) ∙ w j l
+    go (no z) = let q : j ≡ k = omega arith in rw q (getD-set-same out k x 0 room ∙ e)

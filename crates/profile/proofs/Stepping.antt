@@ -1,11 +1,13 @@
--- A step of a profile: what is enabled at its start by the arrays is what the machine has enabled there, and the loop by their places is the machine's step.
--- Assumes nothing.
+-- A step of a profile: what is enabled at its start by the arrays is what the machine has enabled there, and the activities at their places, fired in turn, are the
+-- machine's step. Assumes nothing.
 use Prim.Native.Nat.{ℕ, zero, suc, _+_, _-_, _*_, _/_, _≤_, _<_}
 use mathlib.Core.Path.{_≡_, refl, sym, ap, _∙_, subst}
-use mathlib.Core.List.{List, [], _∷_, map}
+use mathlib.Core.List.{List, [], _∷_, _++_, map, List·Memᴰ, List·Memᴰ·head, List·Memᴰ·cases-cons, List·Memᴰ·not-nil}
+use mathlib.Core.Logic.{_⊎_, inl, inr}
+use mathlib.Core.Bool.{true}
 use native.Mathlib.Omega.{arith}
-use native.Mathlib.Numerals.{add-one}
-use lib.ListN.{length, getD, length-map}
+use lib.Dec.{eqb}
+use lib.ListN.{length, getD, drop, length-map, length-append}
 use lib.IntN.{ℤ}
 use Rattle.record.specs.declared.tag.Tag.{Tag}
 use Rattle.record.specs.declared.array.NamedArray.{NamedArray}
@@ -17,37 +19,36 @@ use Rattle.record.specs.TokensAndTags.{tokens, tokenAt}
 use Rattle.record.specs.TokensAndTags as Tokens
 use Rattle.record.specs.Widths.{tokenWidth, cellWidth}
 use Rattle.buffer.proofs.Tables.{length-rows, getD-rows}
-use Rattle.machine.specs.Machine.{Machine, State, Ledger, Activity, Outcome, End, live, spent, deferred, Content, completed, hung, budgetSpent, refused, FiredOf, ending, enabled, fire, fired, notFired, end}
+use Rattle.machine.specs.Machine.{Machine, State, Ledger, Activity, live, spent, deferred, Content, refused, FiredOf, ending, enabled, fire, fired, notFired, end}
 use Rattle.machine.specs.Orders.{Lawful, Good}
-use Rattle.machine.specs.Steps.{Profile, isUnspent, unspentIn, tagsOf, endsHere, afterStep, tried, inTurn, profile}
+use Rattle.machine.specs.Steps.{Profile, isUnspent, unspentIn, endsHere, afterStep, tried, firesInTurn, profile}
 use Rattle.machine.specs.Sequences.{Fires}
-use Rattle.machine.specs.Saved.{ifRefused}
-use Rattle.machine.specs.Choosers.{Chosen, takes, ends, Chooser, runFrom, logFrom, orRefused, atPlace, placesOf, byPlace, stepOf}
-use Rattle.machine.proofs.Sequences.{firing}
-use Rattle.machine.proofs.Steps.{unspentFired, profileRests, profileNoRecord, profileStep}
-use Rattle.machine.proofs.Choosers.{fromZero, fromEnds, fromFired, fromRefused, choosersLogged, stepByPlaces}
+use Rattle.machine.specs.Choosers.{placesOf}
+use Rattle.machine.proofs.Sequences.{joined}
+use Rattle.machine.proofs.Steps.{Waiting, atStart, waitsOn, unspentFired, profileRests, profileNoRecord, profileStep}
 use Rattle.rules.specs.declared.answer.Refusal.{Refusal}
-use Rattle.rules.specs.declared.answer.Refusal.the-variants.{ProfileFull, NotEnabled}
-use Rattle.rules.specs.declared.answer.Answer.{Answer}
+use Rattle.rules.specs.declared.answer.Refusal.the-variants.{ProfileFull}
 use Rattle.rules.specs.declared.answer.Outcome as AnswerOutcome
 use Rattle.rules.specs.declared.answer.Outcome.the-variants as Outcomes
 use Rattle.rules.specs.InstructionSet.{machineOf}
-use Rattle.rules.specs.Run.{picksOf, tokenHeld, outcomeOf}
-use Rattle.rules.specs.Runs.{Refused}
+use Rattle.rules.specs.Run.{tokenHeld}
 use Rattle.rules.proofs.Lawful.{lawful}
 use Rattle.store_flags.specs.Flags.{places, flagsOf}
-use Rattle.store.proofs.Laws.{matching-places, matching-enabled-below, matching-room}
-use Rattle.store_enabled.specs.Enabled.{arityOf, enabledPlaces}
+use Rattle.store_chains.proofs.Index.{and-right}
+use Rattle.store.proofs.Laws.{matching-places, matching-enabled-below, matching-leads, matching-room}
+use Rattle.store_enabled.specs.Enabled.{arityOf, operandsLive, earliestOf, leadsIn, enabledPlaces}
 use Rattle.abstraction.specs.States.{noToken, stateHeld, OnPorts}
 use Rattle.abstraction.specs.Tables.{Arities, arraysIn}
+use Rattle.abstraction.proofs.Arities.{arity-small}
 use Rattle.abstraction.proofs.Enabled.{held-enabled}
-use Rattle.ending.specs.Endings.{EndsAs}
+use Rattle.ending.specs.Endings.{EndsWith}
 use Rattle.fire_outputs.specs.Outputs.{cellsIn}
-use Rattle.fire.specs.Running.{machineFor, stateIn, Running, Prepared}
+use Rattle.fire.specs.Running.{machineOver, stateIn, askedIn, Running, Prepared}
+use Rattle.fire.specs.Running as Firing
+use Rattle.fire.proofs.Effects.{fires-asked}
 use Rattle.fire.proofs.Place.{on-ports}
-use Rattle.engine.specs.declared.Order.the-variants.{Places}
-use Rattle.engine.specs.Turns.{endOf, Proceeded}
-use Rattle.profile.specs.Steps.{PlacesIn, operandsUpTo, unspentAt, Went, Stepped, Halted, LastAs}
+use Rattle.engine.proofs.Looping.{Underway, none-fired, as-lent, went-on}
+use Rattle.profile.specs.Steps.{OneOrTwo, PlacesIn, unspentAt, WentBy, SteppedWhole, ProfileHalted, AllFired, LastAs}
 
 -- ---- live and deferred tokens
 
@@ -61,10 +62,10 @@ unspent-few M [] = omega arith
 unspent-few M (t ∷ ts) = omega (arith, unspent-few M ts, one-at-most (t .content))
 
 pub held-size : (used : ℕ) (ledger : List ℕ) → length (map tokenHeld (tokens used ledger)) ≡ used
-held-size used ledger = length-map (tokens used ledger) tokenHeld ∙ length-rows tokenWidth Tokens.decode used ledger
+held-size used ledger = length-map (tokens used ledger) tokenHeld ∙ length-rows tokenWidth Tokens.decodeToken used ledger
 
 pub unspent-below : {g : List Instruction} {tables links flags ledger cells : List ℕ} {used live : ℕ} → Running g tables links flags ledger cells used → live ≡ unspentAt g tables ledger cells used → live ≤ used
-unspent-below {g} {tables} {ledger = ledger} {cells = cells} {used = used} now e = omega (arith, unspent-few (machineFor g tables ledger cells) (stateIn ledger cells used .tokens), held-size used ledger)
+unspent-below {g} {tables} {ledger = ledger} {cells = cells} {used = used} now e = omega (arith, unspent-few (machineOver g tables ledger cells) (stateIn ledger cells used .tokens), held-size used ledger)
 
 -- ---- what is enabled
 
@@ -94,7 +95,7 @@ module _ (g : List Instruction) (table : List NamedArray) (capacity count : ℕ)
 
 -- ---- no record left
 
-pub last-ended : (tables : List ℕ) (ts : List Record.Token) → length (enabledPlaces tables ts) ≡ 0 → (o : AnswerOutcome.Outcome) → EndsAs o tables ts → LastAs o tables ts
+pub last-ended : (tables : List ℕ) (ts : List Record.Token) → length (enabledPlaces tables ts) ≡ 0 → (o : AnswerOutcome.Outcome) → EndsWith o tables ts → LastAs o tables ts
 last-ended tables ts z o e g right ports table capacity count law cs f =
     let M₁ = machineOf g table capacity count in
     (ending M₁ (stateHeld ts cs), sym (e g right table capacity count cs), profileRests M₁ law ProfileFull 0 f (stateHeld ts cs) (none-enabled g table capacity count tables ts cs right ports z))
@@ -102,81 +103,49 @@ last-ended tables ts z o e g right ports table capacity count law cs f =
 pub last-full : (tables : List ℕ) (ts : List Record.Token) → (length (enabledPlaces tables ts) ≡ 0 → ⊥) → LastAs (Outcomes.Refused ProfileFull 0) tables ts
 last-full tables ts n g right ports table capacity count law cs f = (refused ProfileFull 0, refl, full-here g table capacity count tables ts cs right ports law f n)
 
--- ---- a step
+-- ---- a step, activity by activity
 
--- runs by choosers that agree while there is budget are one run
-agree : (M : Machine) (c d : Chooser M) (b f : ℕ) (s : State (M .Tag) (M .Value)) → ((k : ℕ) → k < f + b → (x : State (M .Tag) (M .Value)) → c k x ≡ d k x) → runFrom M c b f s ≡ runFrom M d b f s
-agree M c d zero f s h = fromZero M c f s ∙ sym (fromZero M d f s)
-agree M c d (suc b) f s h = go (d f s) refl (λ x. agree M c d b (suc f) x (λ k l y. h k (omega arith) y))
+-- of an enabled activity by its place: its token is the earliest of its tag, and it has an operand or two
+pub record Standing (tables ledger : List ℕ) (used place : ℕ) : Type 0 where
+  pub below : place < used
+  pub room : place < length ledger / tokenWidth
+  pub leading : leadsIn tables (tokens used ledger) place (tokenAt ledger place) ≡ true
+  pub arity : OneOrTwo (arityOf tables (tokenAt ledger place .tag))
+
+-- after k of a step's activities, from a ledger and cells as lent
+pub record Midway (g : List Instruction) (tables ledger₀ cells₀ : List ℕ) (start count : ℕ) (from links flags ledger cells : List ℕ) (used k spent : ℕ) : Type 0 where
+  pub log : List Tag
+  pub fires : Fires (machineOver g tables ledger₀ cells₀) (stateIn ledger₀ cells₀ start) log (stateIn ledger cells used)
+  pub counted : length log ≡ k
+  pub few : spent ≤ 2 * k
+  pub unspent : unspentIn (machineOver g tables ledger₀ cells₀) (stateIn ledger cells used .tokens) + spent ≡ unspentAt g tables ledger₀ cells₀ start + (used - start)
+  pub under : Underway g ledger₀ cells₀ start tables links flags ledger cells used
+  -- those that are left
+  pub more : List (Activity Tag)
+  pub waiting : Waiting (machineOver g tables ledger₀ cells₀) more (stateIn ledger cells used)
+  pub size : length more + k ≡ count
+  pub at : (j : ℕ) → j < length more → getD (placesOf (machineOver g tables ledger₀ cells₀) more) j 0 ≡ getD from (k + j) 0
+  pub toDo : (f : ℕ) (next : ℕ → State Tag ℤ → Profile Refusal Tag ℤ) → firesInTurn (machineOver g tables ledger₀ cells₀) (enabled (machineOver g tables ledger₀ cells₀) (stateIn ledger₀ cells₀ start)) f (stateIn ledger₀ cells₀ start) next
+      ≡ firesInTurn (machineOver g tables ledger₀ cells₀) more (f + k) (stateIn ledger cells used) next
+
+-- the first of these activities stands at its place
+pub record Next (tables : List ℕ) (more : List (Activity Tag)) (ledger : List ℕ) (used place : ℕ) : Type 0 where
+  pub after : List (Activity Tag)
+  pub split : more ≡ record { place = place; tag = tokenAt ledger place .tag } ∷ after
+  pub standing : Standing tables ledger used place
+
+among-map : (f : ℕ → Activity Tag) (l : List ℕ) (a : Activity Tag) → List·Memᴰ a (map f l) → (j : ℕ) × (j < length l) × (a ≡ f (getD l j 0))
+among-map f [] a m = absurd (List·Memᴰ·not-nil m)
+among-map f (p ∷ l) a m = go (List·Memᴰ·cases-cons m) (λ h. among-map f l a h)
   where
-    here : c f s ≡ d f s
-    here = h f (omega arith) s
+    go : (a ≡ f p) ⊎ List·Memᴰ a (map f l) → (List·Memᴰ a (map f l) → (j : ℕ) × (j < length l) × (a ≡ f (getD l j 0))) → (j : ℕ) × (j < length (p ∷ l)) × (a ≡ f (getD (p ∷ l) j 0))
+    go (inl e) rec = (0, omega arith, e)
+    go (inr h) rec = let (j, lt, e) = rec h in (suc j, omega arith, e)
 
-    go : (q : Chosen (M .Refusal) (M .Tag)) → d f s ≡ q → ((x : State (M .Tag) (M .Value)) → runFrom M c b (suc f) x ≡ runFrom M d b (suc f) x) → runFrom M c (suc b) f s ≡ runFrom M d (suc b) f s
-    go (ends o) e rest = fromEnds M c b f s o (here ∙ e) ∙ sym (fromEnds M d b f s o e)
-    go (takes a) e rest = byFiring (fire M s (a .tag)) refl
-      where
-        byFiring : (q : FiredOf M) → fire M s (a .tag) ≡ q → runFrom M c (suc b) f s ≡ runFrom M d (suc b) f s
-        byFiring (fired x) q = fromFired M c b f s a (here ∙ e) x q ∙ rest x ∙ sym (fromFired M d b f s a e x q)
-        byFiring (notFired r) q = fromRefused M c b f s a (here ∙ e) r q ∙ sym (fromRefused M d b f s a e r q)
-
--- activities that fired in turn to the last
-all-fired : (M : Machine) (l : List (Activity (M .Tag))) (f n : ℕ) (s x : State (M .Tag) (M .Value))
-    → inTurn M l f s (λ k y. endsHere M (end M completed k y)) ≡ endsHere M (end M completed n x) → Fires M s (tagsOf M l) x × (n ≡ f + length l)
-all-fired M [] f n s x e =
-    (ap (λ (p : Profile (M .Refusal) (M .Tag) (M .Value)). p .ended .state) e, let z : f ≡ n = ap (λ (p : Profile (M .Refusal) (M .Tag) (M .Value)). p .ended .firings) e in omega arith)
-all-fired M (a ∷ l) f n s x e = go (fire M s (a .tag)) refl e (λ y. all-fired M l (suc f) n y x)
-  where
-    Rest : State (M .Tag) (M .Value) → Type 0
-    Rest y = inTurn M l (suc f) y (λ k z. endsHere M (end M completed k z)) ≡ endsHere M (end M completed n x) → Fires M y (tagsOf M l) x × (n ≡ suc f + length l)
-
-    go : (q : FiredOf M) → fire M s (a .tag) ≡ q → tried M f s a q (λ y. inTurn M l (suc f) y (λ k z. endsHere M (end M completed k z))) ≡ endsHere M (end M completed n x)
-        → ((y : State (M .Tag) (M .Value)) → Rest y) → Fires M s (tagsOf M (a ∷ l)) x × (n ≡ f + length (a ∷ l))
-    go (fired y) q h rest = let (p, z) = rest y h in ((y, q, p), omega arith)
-    go (notFired r) q h rest = let o : refused r (a .place) ≡ completed = ap (λ (p : Profile (M .Refusal) (M .Tag) (M .Value)). p .ended .outcome) h in let z : _≡_ {A = ℕ} 0 1 = cc in absurd (omega arith)
-
--- a sequence has as many live and deferred tokens less as its tags have operands, and as many more as it sent
-abbrev operandsIn : (M : Machine) → List (M .Tag) → ℕ
-operandsIn M [] = 0
-operandsIn M (τ ∷ τs) = M .arity τ + operandsIn M τs
-
-unspent-along : (M : Machine) → Lawful M → (τs : List (M .Tag)) (s x : State (M .Tag) (M .Value)) → Good M s → Fires M s τs x
-    → (length (s .tokens) ≤ length (x .tokens)) × (unspentIn M (x .tokens) + operandsIn M τs ≡ unspentIn M (s .tokens) + (length (x .tokens) - length (s .tokens)))
-unspent-along M law [] s x good e =
-    let n : length (s .tokens) ≡ length (x .tokens) = ap (λ (y : State (M .Tag) (M .Value)). length (y .tokens)) e in
-    let u : unspentIn M (s .tokens) ≡ unspentIn M (x .tokens) = ap (λ (y : State (M .Tag) (M .Value)). unspentIn M (y .tokens)) e in
-    (omega arith, omega arith)
-unspent-along M law (τ ∷ τs) s x good (y, e, p) =
-    let (n, u) = unspentFired M law s good τ y e in
-    let (m, v) = unspent-along M law τs y x (firing M law s y τ good e .good) p in
-    (omega arith, omega arith)
-
-module _ (tables ledger : List ℕ) where
-  up-to-agree : (from to : List ℕ) (k : ℕ) → ((j : ℕ) → j < k → getD from j 0 ≡ getD to j 0) → operandsUpTo tables ledger from k ≡ operandsUpTo tables ledger to k
-  up-to-agree from to zero h = refl
-  up-to-agree from to (suc k) h = λ i. up-to-agree from to k (λ j l. h j (omega arith)) i + arityOf tables (tokenAt ledger (h k (omega arith) i) .tag)
-
-  pub up-to-next : (from : List ℕ) (k sum one p : ℕ) → sum ≡ operandsUpTo tables ledger from k → one ≡ arityOf tables (tokenAt ledger p .tag) → p ≡ getD from k 0 → sum + one ≡ operandsUpTo tables ledger from (k + 1)
-  up-to-next from k sum one p e a at = rw (add-one k) (λ i. e i + (a ∙ ap (λ (n : ℕ). arityOf tables (tokenAt ledger n .tag)) at) i)
-
-  pub up-to-end : (from : List ℕ) (k count sum : ℕ) → sum ≡ operandsUpTo tables ledger from k → k ≡ count → sum ≡ operandsUpTo tables ledger from count
-  up-to-end from k count sum e all = e ∙ ap (operandsUpTo tables ledger from) all
-
-  up-to-front : (p : ℕ) (l : List ℕ) (k : ℕ) → operandsUpTo tables ledger (p ∷ l) (suc k) ≡ arityOf tables (tokenAt ledger p .tag) + operandsUpTo tables ledger l k
-  up-to-front p l zero = omega arith
-  up-to-front p l (suc k) = omega (arith, up-to-front p l k)
-
-if-refused : {A : Type 0} (o : Outcome Refusal) (r : Refusal) (p : ℕ) (a b : A) → outcomeOf o ≡ Outcomes.Refused r p → ifRefused o a b ≡ a
-if-refused completed r p a b e = let z : _≡_ {A = ℕ} 0 1 = cc in absurd (omega arith)
-if-refused hung r p a b e = let z : _≡_ {A = ℕ} 0 1 = cc in absurd (omega arith)
-if-refused budgetSpent r p a b e = let z : _≡_ {A = ℕ} 0 1 = cc in absurd (omega arith)
-if-refused (refused q m) r p a b e = refl
-
-if-not : {A : Type 0} (o : Outcome Refusal) (w : AnswerOutcome.Outcome) (a b : A) → outcomeOf o ≡ w → ¬ (Refused w) → ifRefused o a b ≡ b
-if-not completed w a b e n = refl
-if-not hung w a b e n = refl
-if-not budgetSpent w a b e n = refl
-if-not (refused q m) w a b e n = absurd (n (subst Refused e tt))
+live-some : (n : ℕ) (ts : List Record.Token) (τ : Tag) → operandsLive n ts τ ≡ true → 0 < n
+unfolding operandsLive
+live-some zero ts τ e = let z : _≡_ {A = ℕ} 0 1 = cc in absurd (omega arith)
+live-some (suc n) ts τ e = omega arith
 
 module _ (graph : List ℕ) {tables links₀ flags₀ ledger₀ cells₀ : List ℕ} {start : ℕ} (ready : Prepared graph tables)
     (now₀ : Running (graphOf graph) tables links₀ flags₀ ledger₀ cells₀ start) where
@@ -184,7 +153,7 @@ module _ (graph : List ℕ) {tables links₀ flags₀ ledger₀ cells₀ : List 
   g = graphOf graph
 
   abbrev M₀ : Machine
-  M₀ = machineFor g tables ledger₀ cells₀
+  M₀ = machineOver g tables ledger₀ cells₀
 
   abbrev s₀ : State Tag ℤ
   s₀ = stateIn ledger₀ cells₀ start
@@ -212,8 +181,8 @@ module _ (graph : List ℕ) {tables links₀ flags₀ ledger₀ cells₀ : List 
   acts-all count e = e ∙ ap length (sym places-here) ∙ length-map acts (λ (a : Activity Tag). a .place)
 
   -- nothing is enabled
-  pub step-none : (count : ℕ) → count ≡ length (places (flagsOf flags₀)) → count ≡ 0 → (o : AnswerOutcome.Outcome) → EndsAs o tables (tokens start ledger₀)
-      → Halted o g tables links₀ flags₀ ledger₀ cells₀ 0 start start ledger₀ cells₀
+  pub step-none : (count : ℕ) → count ≡ length (places (flagsOf flags₀)) → count ≡ 0 → (o : AnswerOutcome.Outcome) → EndsWith o tables (tokens start ledger₀)
+      → ProfileHalted o g tables links₀ flags₀ ledger₀ cells₀ 0 start start ledger₀ cells₀
   step-none count e z o said = record {
     went = record { log = []; fires = refl; counted = refl; running = now₀; grown = omega arith; size = refl; rest = refl; cellSize = refl };
     outcome = ending M₀ s₀;
@@ -228,113 +197,164 @@ module _ (graph : List ℕ) {tables links₀ flags₀ ledger₀ cells₀ : List 
 
   -- a step of the machine is its activities in turn
   by-turns : (left f : ℕ) → 0 < length acts
-      → profile M₀ ProfileFull (suc left) f s₀ ≡ inTurn M₀ acts f s₀ (λ n x. afterStep M₀ (record { firings = length acts; unspent = unspentIn M₀ (x .tokens) }) (profile M₀ ProfileFull left n x))
+      → profile M₀ ProfileFull (suc left) f s₀ ≡ firesInTurn M₀ acts f s₀ (λ n x. afterStep M₀ (record { firings = length acts; unspent = unspentIn M₀ (x .tokens) }) (profile M₀ ProfileFull left n x))
   by-turns left f h = go acts refl h
     where
       go : (l : List (Activity Tag)) → acts ≡ l → 0 < length l
-          → profile M₀ ProfileFull (suc left) f s₀ ≡ inTurn M₀ l f s₀ (λ n x. afterStep M₀ (record { firings = length l; unspent = unspentIn M₀ (x .tokens) }) (profile M₀ ProfileFull left n x))
+          → profile M₀ ProfileFull (suc left) f s₀ ≡ firesInTurn M₀ l f s₀ (λ n x. afterStep M₀ (record { firings = length l; unspent = unspentIn M₀ (x .tokens) }) (profile M₀ ProfileFull left n x))
       go [] e h = absurd (omega arith)
       go (a ∷ more) e h = profileStep M₀ law ProfileFull left f s₀ a more e
 
-  up-to-all : (l : List ℕ) → ((k : ℕ) → k < length l → getD l k 0 < start) → operandsUpTo tables ledger₀ l (length l) ≡ operandsIn M₀ (tagsOf M₀ (map started l))
-  up-to-all [] low = refl
-  up-to-all (p ∷ l) low =
-      let tag : tokenAt ledger₀ p .tag ≡ started p .tag = ap (λ (t : Record.Token). t .tag) (sym (getD-rows tokenWidth Tokens.decode start p ledger₀ noToken (low 0 (omega arith)))) in
-      let one : arityOf tables (tokenAt ledger₀ p .tag) ≡ M₀ .arity (started p .tag) = ready .aritiesRight (tokenAt ledger₀ p .tag) ∙ ap (M₀ .arity) tag in
-      up-to-front tables ledger₀ p l (length l) ∙ omega (arith, one, up-to-all l (λ k h. low (suc k) (omega arith)))
+  -- what comes after the last of them
+  abbrev next : (left : ℕ) → ℕ → State Tag ℤ → Profile Refusal Tag ℤ
+  next left n y = afterStep M₀ (record { firings = length acts; unspent = unspentIn M₀ (y .tokens) }) (profile M₀ ProfileFull left n y)
 
-  module _ {count : ℕ} {turns : List ℕ} (w : PlacesIn count flags₀ turns) where
-    -- every place is that of a token
-    pub place-below : (k : ℕ) → k < count → getD (picksOf turns) k 0 < length ledger₀ / tokenWidth
-    place-below k h =
-        let all = matching-places (now₀ .matching) in
-        let low : getD (places (flagsOf flags₀)) k 0 < start = rw all (matching-enabled-below (now₀ .matching) k (omega (arith, w .counted, ap length all))) in
-        omega (arith, w .written k h, low, matching-room (now₀ .matching))
+  module _ {count : ℕ} {from : List ℕ} (w : PlacesIn count flags₀ from) where
+    some-enabled : 0 < count → 0 < length acts
+    some-enabled h = omega (arith, acts-all count (w .counted))
 
-    -- the loop by these places is the step
-    is-step : endOf Places turns g tables ledger₀ cells₀ start count ≡ stepOf M₀ NotEnabled s₀
-    is-step =
-        agree M₀ (byPlace M₀ NotEnabled (picksOf turns)) (byPlace M₀ NotEnabled (placesOf M₀ acts)) count 0 s₀
-        (λ k h x. ap (λ (p : ℕ). orRefused M₀ NotEnabled k (atPlace M₀ p (enabled M₀ x))) (w .written k (omega arith) ∙ ap (λ (l : List ℕ). getD l k 0) (sym places-here)))
-        ∙ ap (λ (n : ℕ). runFrom M₀ (byPlace M₀ NotEnabled (placesOf M₀ acts)) n 0 s₀) (acts-all count (w .counted))
+    pub begun : Midway g tables ledger₀ cells₀ start count from links₀ flags₀ ledger₀ cells₀ start 0 0
+    begun = record {
+      log = [];
+      fires = refl;
+      counted = refl;
+      few = omega arith;
+      unspent = omega arith;
+      under = none-fired g ledger₀ cells₀ start tables now₀;
+      more = acts;
+      waiting = atStart M₀ s₀;
+      size = omega (arith, acts-all count (w .counted));
+      at = λ j h. let z : 0 + j ≡ j = omega arith in ap (λ (l : List ℕ). getD l j 0) places-here ∙ sym (rw z (w .written j (omega (arith, acts-all count (w .counted), h))));
+      toDo = λ f go. let z : f ≡ f + 0 = omega arith in ap (λ (n : ℕ). firesInTurn M₀ acts n s₀ go) z;
+    }
 
-    -- the operands, by the tables and by the machine
-    operands-same : operandsUpTo tables ledger₀ (picksOf turns) count ≡ operandsIn M₀ (tagsOf M₀ acts)
-    operands-same =
-        let e = acts-all count (w .counted) in
-        let all = matching-places (now₀ .matching) in
-        let l = enabledPlaces tables (tokens start ledger₀) in
-        let size : count ≡ length l = w .counted ∙ ap length all in
-        up-to-agree tables ledger₀ (picksOf turns) l count (λ k h. w .written k h ∙ ap (λ (m : List ℕ). getD m k 0) all)
-        ∙ ap (operandsUpTo tables ledger₀ l) size
-        ∙ up-to-all l (λ k h. matching-enabled-below (now₀ .matching) k h)
-        ∙ ap (λ (m : List (Activity Tag)). operandsIn M₀ (tagsOf M₀ m)) (sym acts-here)
-
-    module _ {r : Answer} {links flags ledger cells : List ℕ} (p : Proceeded (endOf Places turns g tables ledger₀ cells₀ start count) r g tables links flags ledger cells start ledger₀ cells₀) where
+    module _ {links flags ledger cells : List ℕ} {used k spent : ℕ} (m : Midway g tables ledger₀ cells₀ start count from links flags ledger cells used k spent) where
       abbrev x : State Tag ℤ
-      x = stateIn ledger cells (r .tokens)
+      x = stateIn ledger cells used
 
-      went : Went g tables links flags ledger cells (r .firings) (r .tokens) start ledger₀ cells₀
-      went =
-          let l = choosersLogged M₀ (byPlace M₀ NotEnabled (picksOf turns)) count 0 s₀ .0 in
-          let e = p .ends in
-          record {
-            log = logFrom M₀ (byPlace M₀ NotEnabled (picksOf turns)) count 0 s₀;
-            fires = subst (λ (y : End Refusal Tag ℤ). Fires M₀ s₀ (logFrom M₀ (byPlace M₀ NotEnabled (picksOf turns)) count 0 s₀) (y .state)) e (l .fires);
-            counted = let z : endOf Places turns g tables ledger₀ cells₀ start count .firings ≡ r .firings = ap (λ (y : End Refusal Tag ℤ). y .firings) e in omega (arith, l .firings);
-            running = p .running;
-            grown = p .grown;
-            size = p .size;
-            rest = p .rest;
-            cellSize = p .cellSize;
-          }
+      good-now : Good M₀ x
+      good-now = as-lent g ledger₀ cells₀ start tables (m .under) (λ capacity cellCount. Good (machineOf g (arraysIn tables) capacity cellCount) x) (m .under .running .good)
 
-      in-turn : (f : ℕ) (next : ℕ → State Tag ℤ → Profile Refusal Tag ℤ)
-          → inTurn M₀ acts f s₀ next ≡ ifRefused (p .outcome) (endsHere M₀ (end M₀ (p .outcome) (f + r .firings) x)) (next (f + r .firings) x)
-      in-turn f next =
-          stepByPlaces M₀ NotEnabled law s₀ (now₀ .good) f next
-          ∙ ap (λ (e : End Refusal Tag ℤ). ifRefused (e .outcome) (endsHere M₀ (end M₀ (e .outcome) (f + e .firings) (e .state))) (next (f + e .firings) (e .state))) (sym is-step ∙ p .ends)
+      stands : (a : Activity Tag) → List·Memᴰ a (enabled M₀ x) → Standing tables ledger used (a .place) × (a .tag ≡ tokenAt ledger (a .place) .tag)
+      stands a h =
+          let run = m .under .running in
+          let ts = tokens used ledger in
+          let all = enabled-here g (arraysIn tables) (length ledger₀ / tokenWidth) (length cells₀ / cellWidth) tables ts (cellsIn cells) (ready .aritiesRight) (on-ports g ts (run .arrived)) in
+          let (j, lt, e) = among-map (λ p. record { place = p; tag = getD ts p noToken .tag }) (enabledPlaces tables ts) a (subst (λ (l : List (Activity Tag)). List·Memᴰ a l) all h) in
+          let p = getD (enabledPlaces tables ts) j 0 in
+          let at : a .place ≡ p = ap (λ (b : Activity Tag). b .place) e in
+          let low = matching-enabled-below (run .matching) j lt in
+          let lead = matching-leads (run .matching) j lt in
+          let tag : getD ts p noToken .tag ≡ tokenAt ledger p .tag = ap (λ (t : Record.Token). t .tag) (getD-rows tokenWidth Tokens.decodeToken used p ledger noToken low) in
+          let on = and-right (eqb (earliestOf ts (tokenAt ledger p .tag)) p) _ lead in (
+            subst (λ (q : ℕ). Standing tables ledger used q) (sym at) (record { below = low; room = omega (arith, low, matching-room (run .matching)); leading = lead; arity = (live-some _ ts _ on, omega (arith, ready .aritiesRight (tokenAt ledger p .tag), arity-small g (tokenAt ledger p .tag))) }),
+            ap (λ (b : Activity Tag). b .tag) e ∙ tag ∙ ap (λ (q : ℕ). tokenAt ledger q .tag) (sym at),
+          )
 
-      some-enabled : (count ≡ 0 → ⊥) → 0 < length acts
-      some-enabled n = omega (arith, acts-all count (w .counted))
+      pub next-here : k < count → Next tables (m .more) ledger used (getD from k 0)
+      next-here h = go (m .more) refl (omega (arith, m .size))
+        where
+          go : (l : List (Activity Tag)) → m .more ≡ l → 0 < length l → Next tables (m .more) ledger used (getD from k 0)
+          go [] e z = absurd (omega arith)
+          go (a ∷ l) e z =
+              let (s, τ) = stands a (m .waiting .enabledNow a (subst (λ (r : List (Activity Tag)). List·Memᴰ a r) (sym e) (List·Memᴰ·head refl))) in
+              let same : k + 0 ≡ k = omega arith in
+              let here : a .place ≡ getD from k 0 = ap (λ (r : List (Activity Tag)). getD (placesOf M₀ r) 0 0) (sym e) ∙ m .at 0 (subst (λ (r : List (Activity Tag)). 0 < length r) (sym e) z) ∙ ap (λ (n : ℕ). getD from n 0) same in
+              record {
+                after = l;
+                split = e ∙ (λ i. record { place = here i; tag = (τ ∙ ap (λ (q : ℕ). tokenAt ledger q .tag) here) i } ∷ l);
+                standing = subst (λ (q : ℕ). Standing tables ledger used q) here s;
+              }
 
-      -- one was refused
-      pub step-cut : (count ≡ 0 → ⊥) → (q : Refusal) (place : ℕ) → r .outcome ≡ Outcomes.Refused q place → Halted (Outcomes.Refused q place) g tables links flags ledger cells (r .firings) (r .tokens) start ledger₀ cells₀
-      step-cut n q place e = record {
-        went = went;
-        outcome = p .outcome;
-        told = p .told ∙ e;
-        ends = λ left f. by-turns left f (some-enabled n) ∙ in-turn f _ ∙ if-refused (p .outcome) q place _ _ (p .told ∙ e);
+      went-so : {links′ flags′ ledger′ cells′ : List ℕ} → Running g tables links′ flags′ ledger′ cells′ used → ledger′ ≡ ledger → cells′ ≡ cells → WentBy g tables links′ flags′ ledger′ cells′ k used start ledger₀ cells₀
+      went-so r l c = record {
+        log = m .log;
+        fires = subst (λ (y : State Tag ℤ). Fires M₀ s₀ (m .log) y) (λ i. stateIn (sym l i) (sym c i) used) (m .fires);
+        counted = m .counted;
+        running = r;
+        grown = m .under .grown;
+        size = ap length l ∙ m .under .size;
+        rest = ap (drop (used * tokenWidth)) l ∙ m .under .rest;
+        cellSize = ap length c ∙ m .under .cellSize;
       }
 
       -- all fired
-      module _ (n : count ≡ 0 → ⊥) (unrefused : ¬ (Refused (r .outcome))) where
-        goes : (f : ℕ) (next : ℕ → State Tag ℤ → Profile Refusal Tag ℤ) → inTurn M₀ acts f s₀ next ≡ next (f + r .firings) x
-        goes f next = in-turn f next ∙ if-not (p .outcome) (r .outcome) _ _ (p .told) unrefused
+      pub all-done : 0 < count → ¬ (k < count) → AllFired g tables links flags ledger cells k used spent start ledger₀ cells₀
+      all-done some end′ =
+          let same : unspentIn M₀ (x .tokens) ≡ unspentAt g tables ledger cells used = λ i. unspentIn (machineOf g (arraysIn tables) (sym (m .under .size) i / tokenWidth) (sym (m .under .cellSize) i / cellWidth)) (x .tokens) in
+          let size : length acts ≡ k = omega (arith, acts-all count (w .counted), m .size, end′) in
+          record {
+            went = went-so (m .under .running) refl refl;
+            unspentLeft = omega (arith, m .unspent, same);
+            goesOn = λ left f.
+                by-turns left f (some-enabled some) ∙ m .toDo f (next left) ∙ ap (λ (l : List (Activity Tag)). firesInTurn M₀ l (f + k) x (next left)) (none-left (m .more) (omega (arith, m .size, end′)))
+                ∙ (λ i. afterStep M₀ (record { firings = size i; unspent = same i }) (profile M₀ ProfileFull left (f + k) x));
+          }
+        where
+          none-left : (l : List (Activity Tag)) → length l ≡ 0 → l ≡ []
+          none-left [] h = refl
+          none-left (a ∷ l) h = absurd (omega arith)
 
-        all : Fires M₀ s₀ (tagsOf M₀ acts) x × (r .firings ≡ count)
-        all =
-            let (fires, z) = all-fired M₀ acts 0 (0 + r .firings) s₀ x (goes 0 (λ k y. endsHere M₀ (end M₀ completed k y))) in
-            (fires, omega (arith, acts-all count (w .counted)))
+      module _ {place : ℕ} (n : Next tables (m .more) ledger used place) where
+        abbrev τ : Tag
+        τ = tokenAt ledger place .tag
 
-        -- less their operands, and more what they sent
-        pub unspent-now : {live : ℕ} → live ≡ unspentAt g tables ledger₀ cells₀ start
-            → unspentAt g tables ledger cells (r .tokens) + operandsUpTo tables ledger₀ (picksOf turns) count ≡ live + (r .tokens - start)
-        unspent-now e =
-            let u = unspent-along M₀ law (tagsOf M₀ acts) s₀ x (now₀ .good) (all .0) .1 in
-            let same : unspentAt g tables ledger cells (r .tokens) ≡ unspentIn M₀ (x .tokens) = λ i. unspentIn (machineOf g (arraysIn tables) (p .size i / tokenWidth) (p .cellSize i / cellWidth)) (x .tokens) in
-            omega (arith, u, same, operands-same, held-size start ledger₀, held-size (r .tokens) ledger)
+        fired-here : {links′ flags′ ledger′ cells′ : List ℕ} {tokens′ : ℕ} → Firing.Went g τ (askedIn g tables ledger cells used τ) tables links′ flags′ ledger′ cells′ tokens′ used ledger cells → fire M₀ x τ ≡ fired (stateIn ledger′ cells′ tokens′)
+        fired-here {ledger′ = ledger′} {cells′ = cells′} {tokens′ = tokens′} d =
+            as-lent g ledger₀ cells₀ start tables (m .under) (λ capacity cellCount. fire (machineOf g (arraysIn tables) capacity cellCount) x τ ≡ fired (stateIn ledger′ cells′ tokens′))
+            (fires-asked (machineOver g tables ledger cells) x τ ∙ d .step)
 
-        pub step-whole : {live : ℕ} → live ≡ unspentAt g tables ledger₀ cells₀ start
-            → Stepped g tables links flags ledger cells count (r .tokens) (live + (r .tokens - start) - operandsUpTo tables ledger₀ (picksOf turns) count) start ledger₀ cells₀
-        step-whole {live} e = record {
-          went = subst (λ (k : ℕ). Went g tables links flags ledger cells k (r .tokens) start ledger₀ cells₀) (all .1) went;
-          unspentLeft = omega (arith, unspent-now e);
-          goesOn = λ left f.
-              let size = acts-all count (w .counted) in
-              let same : unspentIn M₀ (x .tokens) ≡ unspentAt g tables ledger cells (r .tokens) = λ i. unspentIn (machineOf g (arraysIn tables) (sym (p .size) i / tokenWidth) (sym (p .cellSize) i / cellWidth)) (x .tokens) in
-              let left-now : unspentIn M₀ (x .tokens) ≡ live + (r .tokens - start) - operandsUpTo tables ledger₀ (picksOf turns) count = omega (arith, same, unspent-now e) in
-              by-turns left f (some-enabled n)
-              ∙ goes f (λ k y. afterStep M₀ (record { firings = length acts; unspent = unspentIn M₀ (y .tokens) }) (profile M₀ ProfileFull left k y))
-              ∙ (λ i. afterStep M₀ (record { firings = sym size i; unspent = left-now i }) (profile M₀ ProfileFull left (f + all .1 i) x));
-        }
+        -- it fired
+        pub fired-on : {links′ flags′ ledger′ cells′ : List ℕ} {tokens′ one : ℕ} → one ≡ arityOf tables τ → Firing.Went g τ (askedIn g tables ledger cells used τ) tables links′ flags′ ledger′ cells′ tokens′ used ledger cells
+            → Midway g tables ledger₀ cells₀ start count from links′ flags′ ledger′ cells′ tokens′ (k + 1) (spent + one)
+        fired-on {ledger′ = ledger′} {cells′ = cells′} {tokens′ = tokens′} {one = one} is d =
+            let y = stateIn ledger′ cells′ tokens′ in
+            let a : Activity Tag = record { place = place; tag = τ } in
+            let e = fired-here d in
+            let (grown, unspent) = unspentFired M₀ law x good-now τ y e in
+            let arity : arityOf tables τ ≡ M₀ .arity τ = ready .aritiesRight τ in
+            let waits : Waiting M₀ (a ∷ n .after) x = subst (λ (l : List (Activity Tag)). Waiting M₀ l x) (n .split) (m .waiting) in
+            record {
+              log = m .log ++ (τ ∷ []);
+              fires = joined M₀ (m .log) (τ ∷ []) s₀ x y (m .fires) (y, e, refl);
+              counted = length-append (m .log) (τ ∷ []) ∙ omega (arith, m .counted);
+              few = omega (arith, m .few, is, n .standing .arity .1);
+              unspent = omega (arith, m .unspent, unspent, is, arity, held-size used ledger, held-size tokens′ ledger′, m .under .grown, d .grown);
+              under = went-on g ledger₀ cells₀ start tables (m .under) d;
+              more = n .after;
+              waiting = waitsOn M₀ law a (n .after) x y good-now waits e;
+              size = omega (arith, m .size, ap length (n .split));
+              at = λ j h.
+                  let z : k + suc j ≡ k + 1 + j = omega arith in
+                  ap (λ (l : List (Activity Tag)). getD (placesOf M₀ l) (suc j) 0) (sym (n .split)) ∙ m .at (suc j) (omega (arith, ap length (n .split), h)) ∙ ap (λ (i : ℕ). getD from i 0) z;
+              toDo = λ f go.
+                  let z : suc (f + k) ≡ f + (k + 1) = omega arith in
+                  m .toDo f go ∙ ap (λ (l : List (Activity Tag)). firesInTurn M₀ l (f + k) x go) (n .split) ∙ ap (λ (q : FiredOf M₀). tried M₀ (f + k) x a q (λ u. firesInTurn M₀ (n .after) (suc (f + k)) u go)) e ∙ ap (λ (i : ℕ). firesInTurn M₀ (n .after) i y go) z;
+            }
+
+        -- it was refused
+        pub cut-here : {links′ flags′ ledger′ cells′ : List ℕ} {r : Refusal} → 0 < count → Firing.Stopped r g τ (askedIn g tables ledger cells used τ) tables links′ flags′ ledger′ cells′ used ledger cells
+            → ProfileHalted (Outcomes.Refused r place) g tables links′ flags′ ledger′ cells′ k used start ledger₀ cells₀
+        cut-here {ledger′ = ledger′} {cells′ = cells′} {r = r} some d =
+            let a : Activity Tag = record { place = place; tag = τ } in
+            let e : fire M₀ x τ ≡ notFired r = as-lent g ledger₀ cells₀ start tables (m .under) (λ capacity cellCount. fire (machineOf g (arraysIn tables) capacity cellCount) x τ ≡ notFired r) (fires-asked (machineOver g tables ledger cells) x τ ∙ d .step) in
+            let same : x ≡ stateIn ledger′ cells′ used = λ i. stateIn (sym (d .sameLedger) i) (sym (d .sameCells) i) used in
+            record {
+              went = went-so (d .running) (d .sameLedger) (d .sameCells);
+              outcome = refused r place;
+              told = refl;
+              ends = λ left f. by-turns left f (some-enabled some) ∙ m .toDo f (next left) ∙ ap (λ (l : List (Activity Tag)). firesInTurn M₀ l (f + k) x (next left)) (n .split)
+                  ∙ ap (λ (q : FiredOf M₀). tried M₀ (f + k) x a q (λ u. firesInTurn M₀ (n .after) (suc (f + k)) u (next left))) e ∙ ap (λ (u : State Tag ℤ). endsHere M₀ (end M₀ (refused r place) (f + k) u)) same;
+            }
+
+-- a whole step, by what was live or deferred before it
+pub step-whole : {g : List Instruction} {tables links flags ledger′ cells′ : List ℕ} {count n gone used unspent : ℕ} {ledger cells : List ℕ} → AllFired g tables links flags ledger′ cells′ count n gone used ledger cells
+    → unspent ≡ unspentAt g tables ledger cells used → SteppedWhole g tables links flags ledger′ cells′ count n (unspent + (n - used) - gone) used ledger cells
+step-whole {g} {tables} {ledger′ = ledger′} {cells′ = cells′} {count = count} {n = n} {gone = gone} {used = used} {unspent = before} {ledger = ledger} {cells = cells} a e =
+    let same : unspentAt g tables ledger′ cells′ n ≡ before + (n - used) - gone = omega (arith, a .unspentLeft, e) in
+    let M = machineOver g tables ledger cells in
+    record {
+      went = a .went;
+      unspentLeft = sym same;
+      goesOn = λ left f. a .goesOn left f ∙ (λ i. afterStep M (record { firings = count; unspent = same i }) (profile M ProfileFull left (f + count) (stateIn ledger′ cells′ n)));
+    }

@@ -1,6 +1,6 @@
 -- Working definition: no public promise cites it.
 -- A profile, a step at a time, in the terms of the machine: what a step leaves, and what a profile leaves. Assumes nothing.
-use Prim.Native.Nat.{ℕ, zero, suc, _+_, _*_, _≤_, _<_}
+use Prim.Native.Nat.{ℕ, suc, _+_, _-_, _*_, _≤_, _<_}
 use mathlib.Core.Path.{_≡_}
 use mathlib.Core.List.{List}
 use lib.ListN.{length, getD, drop}
@@ -10,7 +10,6 @@ use Rattle.record.specs.declared.array.NamedArray.{NamedArray}
 use Rattle.record.specs.declared.token.Token.{Token}
 use Rattle.record.specs.declared.cell.Cell.{Cell}
 use Rattle.record.specs.declared.instruction.Instruction.{Instruction}
-use Rattle.record.specs.TokensAndTags.{tokenAt}
 use Rattle.record.specs.Widths.{tokenWidth}
 use Rattle.buffer.specs.Rows.{writtenOver}
 use Rattle.machine.specs.Machine.{Outcome, end}
@@ -20,44 +19,43 @@ use Rattle.machine.specs.Steps.{Profile, unspentIn, endsHere, afterStep, profil
 use Rattle.rules.specs.declared.answer.Refusal.{Refusal}
 use Rattle.rules.specs.declared.answer.Refusal.the-variants.{ProfileFull}
 use Rattle.rules.specs.declared.answer.Outcome as AnswerOutcome
+use Rattle.rules.specs.declared.answer.Outcome.the-variants as Outcomes
 use Rattle.rules.specs.declared.answer.Profiled.{Profiled}
 use Rattle.rules.specs.InstructionSet.{machineOf}
-use Rattle.rules.specs.Run.{picksOf, outcomeOf}
-use Rattle.rules.specs.Profile.{encode}
+use Rattle.rules.specs.Run.{outcomeOf}
+use Rattle.rules.specs.Profile.{encodeStep}
 use Rattle.store_flags.specs.Flags.{places, flagsOf}
-use Rattle.store_enabled.specs.Enabled.{arityOf}
 use Rattle.abstraction.specs.States.{stateHeld, OnPorts}
 use Rattle.abstraction.specs.Tables.{Arities}
-use Rattle.fire.specs.Running.{machineFor, stateIn, Running}
+use Rattle.fire.specs.Running.{machineOver, stateIn, Running}
 use Rattle.start.specs.Ended.{EndedAt}
 use Rattle.profile.specs.declared.StepEnd.{StepEnd}
 use Rattle.profile.specs.declared.StepEnd.the-variants as StepEnds
 
 -- live plus deferred tokens
 abbrev pub unspentAt : List Instruction → (tables ledger cells : List ℕ) → (used : ℕ) → ℕ
-unspentAt g tables ledger cells used = unspentIn (machineFor g tables ledger cells) (stateIn ledger cells used .tokens)
+unspentAt g tables ledger cells used = unspentIn (machineOver g tables ledger cells) (stateIn ledger cells used .tokens)
 
 -- the profile from a state, by the records that are left and the firings done
 abbrev pub profileFrom : List Instruction → (left firings : ℕ) → (tables ledger cells : List ℕ) → (used : ℕ) → Profile Refusal Tag ℤ
-profileFrom g left f tables ledger cells used = profile (machineFor g tables ledger cells) ProfileFull left f (stateIn ledger cells used)
+profileFrom g left f tables ledger cells used = profile (machineOver g tables ledger cells) ProfileFull left f (stateIn ledger cells used)
 
 -- ---- a step
 
--- the places of the enabled activities, 2 bytes each as picks
+-- the places of the enabled activities
 pub record PlacesIn (count : ℕ) (flags out : List ℕ) : Type 0 where
   pub counted : count ≡ length (places (flagsOf flags))
-  pub written : (k : ℕ) → k < count → getD (picksOf out) k 0 ≡ getD (places (flagsOf flags)) k 0
-  pub size : length out ≡ 4096
+  pub written : (k : ℕ) → k < count → getD out k 0 ≡ getD (places (flagsOf flags)) k 0
+  pub size : length out ≡ 2048
 
--- the operands of the activities at the first k places
-abbrev pub operandsUpTo : (tables ledger from : List ℕ) → ℕ → ℕ
-operandsUpTo tables ledger from zero = 0
-operandsUpTo tables ledger from (suc k) = operandsUpTo tables ledger from k + arityOf tables (tokenAt ledger (getD from k 0) .tag)
+-- what an activity that is enabled has
+abbrev pub OneOrTwo : ℕ → Type 0
+OneOrTwo n = (0 < n) × (n ≤ 2)
 
 -- this number of firings led from one state of the buffers to another
-pub record Went (g : List Instruction) (tables links flags ledger′ cells′ : List ℕ) (done n used : ℕ) (ledger cells : List ℕ) : Type 0 where
+pub record WentBy (g : List Instruction) (tables links flags ledger′ cells′ : List ℕ) (done n used : ℕ) (ledger cells : List ℕ) : Type 0 where
   pub log : List Tag
-  pub fires : Fires (machineFor g tables ledger cells) (stateIn ledger cells used) log (stateIn ledger′ cells′ n)
+  pub fires : Fires (machineOver g tables ledger cells) (stateIn ledger cells used) log (stateIn ledger′ cells′ n)
   pub counted : length log ≡ done
   pub running : Running g tables links flags ledger′ cells′ n
   pub grown : used ≤ n
@@ -66,24 +64,42 @@ pub record Went (g : List Instruction) (tables links flags ledger′ cells′ : 
   pub cellSize : length cells′ ≡ length cells
 
 -- a whole step gave one record
-pub record Stepped (g : List Instruction) (tables links flags ledger′ cells′ : List ℕ) (count n unspent used : ℕ) (ledger cells : List ℕ) : Type 0 where
-  pub went : Went g tables links flags ledger′ cells′ count n used ledger cells
+pub record SteppedWhole (g : List Instruction) (tables links flags ledger′ cells′ : List ℕ) (count n unspent used : ℕ) (ledger cells : List ℕ) : Type 0 where
+  pub went : WentBy g tables links flags ledger′ cells′ count n used ledger cells
   pub unspentLeft : unspent ≡ unspentAt g tables ledger′ cells′ n
   pub goesOn : (left f : ℕ) → profileFrom g (suc left) f tables ledger cells used
-      ≡ afterStep (machineFor g tables ledger cells) (record { firings = count; unspent = unspent }) (profile (machineFor g tables ledger cells) ProfileFull left (f + count) (stateIn ledger′ cells′ n))
+      ≡ afterStep (machineOver g tables ledger cells) (record { firings = count; unspent = unspent }) (profile (machineOver g tables ledger cells) ProfileFull left (f + count) (stateIn ledger′ cells′ n))
 
 -- a step that ended the profile gave none
-pub record Halted (o : AnswerOutcome.Outcome) (g : List Instruction) (tables links flags ledger′ cells′ : List ℕ) (done n used : ℕ) (ledger cells : List ℕ) : Type 0 where
-  pub went : Went g tables links flags ledger′ cells′ done n used ledger cells
+pub record ProfileHalted (o : AnswerOutcome.Outcome) (g : List Instruction) (tables links flags ledger′ cells′ : List ℕ) (done n used : ℕ) (ledger cells : List ℕ) : Type 0 where
+  pub went : WentBy g tables links flags ledger′ cells′ done n used ledger cells
   pub outcome : Outcome Refusal
   pub told : outcomeOf outcome ≡ o
-  pub ends : (left f : ℕ) → profileFrom g (suc left) f tables ledger cells used ≡ endsHere (machineFor g tables ledger cells) (end (machineFor g tables ledger cells) outcome (f + done) (stateIn ledger′ cells′ n))
+  pub ends : (left f : ℕ) → profileFrom g (suc left) f tables ledger cells used ≡ endsHere (machineOver g tables ledger cells) (end (machineOver g tables ledger cells) outcome (f + done) (stateIn ledger′ cells′ n))
+
+-- all its activities fired: less their operands, and more what they sent, are live or deferred
+pub record AllFired (g : List Instruction) (tables links flags ledger′ cells′ : List ℕ) (count n spent used : ℕ) (ledger cells : List ℕ) : Type 0 where
+  pub went : WentBy g tables links flags ledger′ cells′ count n used ledger cells
+  pub unspentLeft : unspentAt g tables ledger′ cells′ n + spent ≡ unspentAt g tables ledger cells used + (n - used)
+  pub goesOn : (left f : ℕ) → profileFrom g (suc left) f tables ledger cells used
+      ≡ afterStep (machineOver g tables ledger cells) (record { firings = count; unspent = unspentAt g tables ledger′ cells′ n }) (profile (machineOver g tables ledger cells) ProfileFull left (f + count) (stateIn ledger′ cells′ n))
+
+-- or one was refused
+abbrev pub FiredAs : AnswerOutcome.Outcome → List Instruction → (tables links flags ledger′ cells′ : List ℕ) → (count n spent used : ℕ) → (ledger cells : List ℕ) → Type 0
+FiredAs (Outcomes.Refused r place) g tables links flags ledger′ cells′ count n spent used ledger cells =
+    ProfileHalted (Outcomes.Refused r place) g tables links flags ledger′ cells′ count n used ledger cells
+FiredAs Outcomes.Completed g tables links flags ledger′ cells′ count n spent used ledger cells =
+    AllFired g tables links flags ledger′ cells′ count n spent used ledger cells
+FiredAs Outcomes.Hung g tables links flags ledger′ cells′ count n spent used ledger cells =
+    AllFired g tables links flags ledger′ cells′ count n spent used ledger cells
+FiredAs Outcomes.Spent g tables links flags ledger′ cells′ count n spent used ledger cells =
+    AllFired g tables links flags ledger′ cells′ count n spent used ledger cells
 
 abbrev pub StepDone : StepEnd → List Instruction → (tables links flags ledger′ cells′ : List ℕ) → (used : ℕ) → (ledger cells : List ℕ) → Type 0
 StepDone (StepEnds.Whole count n unspent) g tables links flags ledger′ cells′ used ledger cells =
-    Stepped g tables links flags ledger′ cells′ count n unspent used ledger cells
+    SteppedWhole g tables links flags ledger′ cells′ count n unspent used ledger cells
 StepDone (StepEnds.Ended o done n) g tables links flags ledger′ cells′ used ledger cells =
-    Halted o g tables links flags ledger′ cells′ done n used ledger cells
+    ProfileHalted o g tables links flags ledger′ cells′ done n used ledger cells
 
 -- the outcome where no record is left, whatever firings came before
 abbrev pub LastAs : AnswerOutcome.Outcome → (tables : List ℕ) → List Token → Type 0
@@ -97,4 +113,4 @@ LastAs o tables ts = (g : List Instruction) → Arities g tables → OnPorts g t
 pub record ProfiledTo (p : Profile Refusal Tag ℤ) (r : Profiled) (ledger cells profile ledger′ cells′ profile′ : List ℕ) : Type 0 where
   pub ended : EndedAt (p .ended) (r .answer) ledger cells ledger′ cells′
   pub counted : r .records ≡ length (p .records)
-  pub profileLeft : profile′ ≡ writtenOver encode (p .records) profile
+  pub profileLeft : profile′ ≡ writtenOver encodeStep (p .records) profile

@@ -3,8 +3,7 @@
 use checks::arrays;
 use checks::graph;
 use checks::stores;
-use engine::Going;
-use engine::Order;
+use fire_commit::Fired;
 use record::cell;
 use record::token;
 use rules::answer::Answer;
@@ -21,18 +20,18 @@ ghost use lib.ListN.{length, getD, set};
 ghost use Rattle.buffer.specs.Rows.{putRow};
 ghost use Rattle.record.specs.GraphRecords.{graphOf};
 ghost use Rattle.record.specs.TokensAndTags.{tokens, tokenAt};
-ghost use Rattle.record.specs.Widths.{tokenWidth, cellWidth};
+ghost use Rattle.record.specs.Widths.{tokenWidth, cellWidth, stepWidth};
 ghost use Rattle.machine.specs.Steps.{profile as Machine·profile};
 ghost use Rattle.rules.specs.declared.answer.Refusal.the-variants.{ProfileFull};
 ghost use Rattle.rules.specs.declared.answer.Checked.the-variants.{Passed};
-ghost use Rattle.rules.specs.Run.{firstState, picksOf};
-ghost use Rattle.rules.specs.Profile.{stepWidth, checkProfileStores, checkProfile, encode};
+ghost use Rattle.rules.specs.Run.{firstState};
+ghost use Rattle.rules.specs.Profile.{checkProfileStores, checkProfile, encodeStep};
 ghost use Rattle.rules.specs.Runs.{lentToProfile, leftByProfile, ProfiledOn};
 ghost use Rattle.store_flags.specs.Flags.{Counted, place, places, inWord, flagsOf};
 ghost use Rattle.store_enabled.specs.Enabled.{arityOf, enabledPlaces};
 ghost use Rattle.fire.specs.Running.{Prepared, Running};
 ghost use Rattle.start.specs.Begun.{machineLent};
-ghost use Rattle.profile.specs.Steps.{PlacesIn, operandsUpTo, unspentAt, profileFrom, LastAs, StepDone, ProfiledTo};
+ghost use Rattle.profile.specs.Steps.{OneOrTwo, PlacesIn, unspentAt, profileFrom, LastAs, FiredAs, StepDone, ProfiledTo};
 
 // The bytes of a step's record.
 pub const WIDTH: usize = 4;
@@ -42,6 +41,15 @@ pub const WIDTH: usize = 4;
 pub enum StepEnd {
     Whole(usize, usize, usize),
     Ended(Outcome, usize, usize),
+}
+
+// How far the activities of a step came, fired in turn: all of them, or up to the one that was refused; with the tokens then, and the
+// operands that they spent.
+pub struct Progress {
+    pub outcome: Outcome,
+    pub firings: usize,
+    pub tokens: usize,
+    pub spent: usize,
 }
 
 // 7: a profile in whole records, and the stores of a run without picks, by their lengths in bytes.
@@ -87,7 +95,7 @@ fn check(
 
 // The bytes of a step's record.
 fn bytes_of(firings: usize, unspent: usize) -> [u8; WIDTH]
-    ensures { λ r. ⌜ r ≡ encode (record { firings = firings; unspent = unspent }) ⌝ }
+    ensures { λ r. ⌜ r ≡ encodeStep (record { firings = firings; unspent = unspent }) ⌝ }
 {
     [
         (firings % 256) as u8,
@@ -100,7 +108,7 @@ fn bytes_of(firings: usize, unspent: usize) -> [u8; WIDTH]
 // Writes a step's record as record i of a profile; every other byte stays.
 fn put_record(profile: &mut [u8], i: usize, firings: usize, unspent: usize)
     requires { ⌜ i < length (now profile) / stepWidth ⌝ }
-    ensures { λ _. ⌜ now (profile .exit) ≡ putRow stepWidth (now (profile .entry)) i (encode (record { firings = firings; unspent = unspent })) ⌝ }
+    ensures { λ _. ⌜ now (profile .exit) ≡ putRow stepWidth (now (profile .entry)) i (encodeStep (record { firings = firings; unspent = unspent })) ⌝ }
 {
     let bytes = bytes_of(firings, unspent);
     buffer::put_row(profile, WIDTH, i, &bytes);
@@ -112,14 +120,18 @@ fn wide(x: u16) -> usize
     x as usize
 }
 
-// How many operands the activity waits for whose place this is.
-fn arity_at(tables: &Tables, ledger: &[u8], place: usize) -> usize
-    requires { ⌜ place < length (now ledger) / tokenWidth ⌝ }
-    ensures { λ r. ⌜ (r ≡ arityOf (now (tables .entry)) (tokenAt (now (ledger .entry)) place .tag)) × (r < 65536) ⌝ }
+// How many operands the activity has whose place this is. It is enabled, so they are one or two.
+fn operands_at(tables: &Tables, ledger: &[u8], place: usize) -> usize
+    requires { ⌜ (place < length (now ledger) / tokenWidth) × OneOrTwo (arityOf (now tables) (tokenAt (now ledger) place .tag)) ⌝ }
+    ensures { λ r. ⌜ r ≡ arityOf (now (tables .entry)) (tokenAt (now (ledger .entry)) place .tag) ⌝ }
 {
     let t = token::token_at(ledger, place);
     let tag = t.tag;
-    wide(store_enabled::arity(tables, tag))
+    if store_enabled::arity(tables, tag) == 2 {
+        2
+    } else {
+        1
+    }
 }
 
 // How a profile ends that has no record left: 18, unless nothing is enabled.
@@ -149,10 +161,10 @@ fn lowered(word: u64, k: usize) -> u64
     word - (1 << k)
 }
 
-// Writes the places of so many enabled activities, which are all, in order and 2 bytes each. From the word of the first on, the flags
-// of a word are taken away in turn.
-fn put_places(flags: &Flags, count: usize, out: &mut [u8; 4096])
-    requires { ⌜ Counted (now flags) × (length (now out) ≡ 4096) × (count ≡ length (places (flagsOf (now flags)))) × (0 < count) ⌝ }
+// Writes the places of so many enabled activities, which are all, in order. From the word of the first on, the flags of a word are
+// taken away in turn.
+fn put_places(flags: &Flags, count: usize, out: &mut [u16; 2048])
+    requires { ⌜ Counted (now flags) × (length (now out) ≡ 2048) × (count ≡ length (places (flagsOf (now flags)))) × (0 < count) ⌝ }
     ensures { λ _. ⌜ PlacesIn count (now (flags .entry)) (now (out .exit)) ⌝ }
 {
     let mut b = store::enabled_at(flags, 0) / 64;
@@ -161,9 +173,7 @@ fn put_places(flags: &Flags, count: usize, out: &mut [u8; 4096])
     while k < count {
         let p = lowest(rest);
         if p < 64 {
-            let place = b * 64 + p;
-            out[2 * k] = (place % 256) as u8;
-            out[2 * k + 1] = (place / 256) as u8;
+            out[k] = (b * 64 + p) as u16;
             rest = lowered(rest, p);
             k += 1;
         } else {
@@ -173,35 +183,73 @@ fn put_places(flags: &Flags, count: usize, out: &mut [u8; 4096])
     }
 }
 
-// Writes the places of the enabled activities, in order and 2 bytes each, and answers how many there are.
-fn enabled_places(flags: &Flags, out: &mut [u8; 4096]) -> usize
-    requires { ⌜ Counted (now flags) × (length (now out) ≡ 4096) ⌝ }
+// Writes the places of the enabled activities, in order, and answers how many there are. One alone is found at once.
+fn enabled_places(flags: &Flags, out: &mut [u16; 2048]) -> usize
+    requires { ⌜ Counted (now flags) × (length (now out) ≡ 2048) ⌝ }
     ensures { λ r. ⌜ PlacesIn r (now (flags .entry)) (now (out .exit)) ⌝ }
 {
     let count = store::enabled_count(flags);
+    if count == 1 {
+        out[0] = store::enabled_at(flags, 0) as u16;
+        return count;
+    }
     if count != 0 {
         put_places(flags, count, out);
     }
     count
 }
 
-// How many operands the activities at the first places have together.
-fn operands_at(tables: &Tables, ledger: &[u8], places: &[u8], count: usize) -> usize
-    requires { ⌜ (count ≤ 2048) × ((k : ℕ) → k < count → getD (picksOf (now places)) k 0 < length (now ledger) / tokenWidth) ⌝ }
-    ensures { λ r. ⌜ r ≡ operandsUpTo (now (tables .entry)) (now (ledger .entry)) (picksOf (now (places .entry))) count ⌝ }
+// The activities at the first places, which are all that are enabled, fire in turn.
+fn in_turn(
+    graph: &[u8],
+    tables: &Tables,
+    links: &mut Links,
+    flags: &mut Flags,
+    ledger: &mut [u8],
+    cells: &mut [u8],
+    places: &[u16; 2048],
+    count: usize,
+    start: usize,
+) -> Progress
+    requires { ⌜ Prepared (now graph) (now tables)
+        × Running (graphOf (now graph)) (now tables) (now links) (now flags) (now ledger) (now cells) start
+        × PlacesIn count (now flags) (now places)
+        × (0 < count) ⌝ }
+    ensures { λ r. ⌜ FiredAs (r .outcome) (graphOf (now (graph .entry))) (now (tables .entry)) (now (links .exit)) (now (flags .exit)) (now (ledger .exit))
+        (now (cells .exit)) (r .firings) (r .tokens) (r .spent) start (now (ledger .entry)) (now (cells .entry)) ⌝ }
 {
-    let mut sum = 0;
-    let mut k = 0;
-    while k < count {
-        sum += arity_at(tables, ledger, load::pick_at(places, k));
-        k += 1;
+    let mut used = start;
+    let mut spent = 0;
+    let mut firings = 0;
+    while firings < count {
+        let place = wide(places[firings]);
+        spent += operands_at(tables, ledger, place);
+        let fired = fire::fire(graph, tables, links, flags, ledger, cells, used, place);
+        match fired {
+            Fired::Done(n) => {
+                used = n;
+                firings += 1;
+            }
+            Fired::Refused(r) => {
+                return Progress {
+                    outcome: Outcome::Refused(r, place),
+                    firings,
+                    tokens: used,
+                    spent,
+                }
+            }
+        }
     }
-    sum
+    Progress {
+        outcome: Outcome::Spent,
+        firings,
+        tokens: used,
+        spent,
+    }
 }
 
 // An ideal step from a state of `start` tokens, of which `live` are live or deferred. What becomes enabled within it fires in
-// the next step at the earliest, so the places are taken first, and the whole step is a run by these places. Nothing is held back: the
-// arrays for that are lent, so that they are not cleared for each step.
+// the next step at the earliest, so the places are taken first.
 fn step(
     graph: &[u8],
     tables: &Tables,
@@ -209,40 +257,32 @@ fn step(
     flags: &mut Flags,
     ledger: &mut [u8],
     cells: &mut [u8],
-    turns: &mut [u8; 4096],
-    nexts: &mut Flags,
-    held: &mut Flags,
+    places: &mut [u16; 2048],
     start: usize,
     live: usize,
 ) -> StepEnd
-    requires { ⌜ Prepared (now graph) (now tables) × Running (graphOf (now graph)) (now tables) (now links) (now flags) (now ledger) (now cells) start × (live ≡ unspentAt (graphOf (now graph)) (now tables) (now ledger) (now cells) start) × (length (now turns) ≡ 4096) ⌝ }
-    ensures { λ r. ⌜ StepDone r (graphOf (now (graph .entry))) (now (tables .entry)) (now (links .exit)) (now (flags .exit)) (now (ledger .exit)) (now (cells .exit)) start (now (ledger .entry)) (now (cells .entry)) ⌝ }
-    ensures { λ _. ⌜ length (now (turns .exit)) ≡ 4096 ⌝ }
+    requires { ⌜ Prepared (now graph) (now tables)
+        × Running (graphOf (now graph)) (now tables) (now links) (now flags) (now ledger) (now cells) start
+        × (live ≡ unspentAt (graphOf (now graph)) (now tables) (now ledger) (now cells) start)
+        × (length (now places) ≡ 2048) ⌝ }
+    ensures { λ r. ⌜ StepDone r (graphOf (now (graph .entry))) (now (tables .entry)) (now (links .exit)) (now (flags .exit)) (now (ledger .exit))
+        (now (cells .exit)) start (now (ledger .entry)) (now (cells .entry)) ⌝ }
+    ensures { λ _. ⌜ length (now (places .exit)) ≡ 2048 ⌝ }
 {
-    let count = enabled_places(flags, turns);
+    let count = enabled_places(flags, places);
     if count == 0 {
         return StepEnd::Ended(ending::ending(tables, ledger, start), 0, start);
     }
-    let spent = operands_at(tables, ledger, turns, count);
-    let mut none = [0u8; 0];
-    let mut marks = [0u16; 0];
-    let done = engine::turns(
+    let done = in_turn(
         graph,
         tables,
-        Order::Places,
-        turns,
         links,
         flags,
-        nexts,
-        held,
-        &mut marks,
         ledger,
         cells,
-        &mut none,
-        Going {
-            used: start,
-            budget: count,
-        },
+        places,
+        count,
+        start,
     );
     let outcome = done.outcome;
     let n = done.tokens;
@@ -250,7 +290,7 @@ fn step(
         Outcome::Refused(r, place) => {
             StepEnd::Ended(Outcome::Refused(r, place), done.firings, n)
         }
-        _ => StepEnd::Whole(count, n, live + (n - start) - spent),
+        _ => StepEnd::Whole(done.firings, n, live + (n - start) - done.spent),
     }
 }
 
@@ -277,13 +317,16 @@ fn proceed(
     profile: &mut [u8],
     start: usize,
 ) -> Profiled
-    requires { ⌜ Prepared (now graph) (now tables) × Running (graphOf (now graph)) (now tables) (now links) (now flags) (now ledger) (now cells) start × (start ≡ unspentAt (graphOf (now graph)) (now tables) (now ledger) (now cells) start) ⌝ }
-    ensures { λ r. ⌜ ProfiledTo (profileFrom (graphOf (now (graph .entry))) (length (now (profile .entry)) / stepWidth) 0 (now (tables .entry)) (now (ledger .entry)) (now (cells .entry)) start) r (now (ledger .entry)) (now (cells .entry)) (now (profile .entry)) (now (ledger .exit)) (now (cells .exit)) (now (profile .exit)) ⌝ }
+    requires { ⌜ Prepared (now graph) (now tables)
+        × Running (graphOf (now graph)) (now tables) (now links) (now flags) (now ledger) (now cells) start
+        × (start ≡ unspentAt (graphOf (now graph)) (now tables) (now ledger) (now cells) start) ⌝ }
+    ensures { λ r. ⌜ ProfiledTo
+        (profileFrom (graphOf (now (graph .entry))) (length (now (profile .entry)) / stepWidth) 0 (now (tables .entry)) (now (ledger .entry))
+        (now (cells .entry)) start) r (now (ledger .entry)) (now (cells .entry)) (now (profile .entry)) (now (ledger .exit)) (now (cells .exit))
+        (now (profile .exit)) ⌝ }
 {
     let room = profile.len() / WIDTH;
-    let mut turns = [0u8; 4096];
-    let mut nexts = [0u64; store_flags::LENGTH];
-    let mut held = [0u64; store_flags::LENGTH];
+    let mut places = [0u16; 2048];
     let mut used = start;
     let mut unspent = start;
     let mut firings = 0;
@@ -296,9 +339,7 @@ fn proceed(
             flags,
             ledger,
             cells,
-            &mut turns,
-            &mut nexts,
-            &mut held,
+            &mut places,
             used,
             unspent,
         );
@@ -330,7 +371,10 @@ fn accepted(
     profile: &mut [u8],
 ) -> Profiled
     requires { ⌜ checkProfile (now graph) (now arrays) (now inputs) (length (now ledger)) (length (now cells)) (length (now profile)) ≡ Passed ⌝ }
-    ensures { λ r. ⌜ ProfiledTo (Machine·profile (machineLent (now (graph .entry)) (now (arrays .entry)) (now (ledger .entry)) (now (cells .entry))) ProfileFull (length (now (profile .entry)) / stepWidth) 0 (firstState (now (inputs .entry)) (length (now (cells .entry)) / cellWidth))) r (now (ledger .entry)) (now (cells .entry)) (now (profile .entry)) (now (ledger .exit)) (now (cells .exit)) (now (profile .exit)) ⌝ }
+    ensures { λ r. ⌜ ProfiledTo
+        (Machine·profile (machineLent (now (graph .entry)) (now (arrays .entry)) (now (ledger .entry)) (now (cells .entry))) ProfileFull
+        (length (now (profile .entry)) / stepWidth) 0 (firstState (now (inputs .entry)) (length (now (cells .entry)) / cellWidth))) r
+        (now (ledger .entry)) (now (cells .entry)) (now (profile .entry)) (now (ledger .exit)) (now (cells .exit)) (now (profile .exit)) ⌝ }
 {
     let mut tables = [0u16; store_enabled::TABLES_LENGTH];
     let mut links = [0u16; store_chains::LENGTH];
@@ -366,7 +410,9 @@ pub fn profile(
     cells: &mut [u8],
     profile: &mut [u8],
 ) -> Profiled
-    ensures { λ r. ⌜ ProfiledOn (now (graph .entry)) (now (arrays .entry)) (now (inputs .entry)) (lentToProfile (now (ledger .entry)) (now (cells .entry)) (now (profile .entry))) (leftByProfile r (now (ledger .exit)) (now (cells .exit)) (now (profile .exit))) ⌝ }
+    ensures { λ r. ⌜ ProfiledOn (now (graph .entry)) (now (arrays .entry)) (now (inputs .entry))
+        (lentToProfile (now (ledger .entry)) (now (cells .entry)) (now (profile .entry)))
+        (leftByProfile r (now (ledger .exit)) (now (cells .exit)) (now (profile .exit))) ⌝ }
 {
     let checked = check(
         graph,

@@ -5,6 +5,6 @@ use Rattle.arithmetic.specs.declared.Range.{Range}
 use Rattle.range_arithmetic.specs.declared.Ranged.{Ranged}
 use Rattle.range_arithmetic.specs.declared.Ranged.the-variants.{Between, OutOfRange}
 
-abbrev pub given : Ranged → Option Range
-given (Between r) = some r
-given OutOfRange = none
+abbrev pub givenRange : Ranged → Option Range
+givenRange (Between r) = some r
+givenRange OutOfRange = none

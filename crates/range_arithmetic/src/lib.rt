@@ -12,7 +12,7 @@ ghost use lib.Signed.{ltZ, leZ};
 ghost use Rattle.arithmetic.specs.Arithmetic.{eqZ};
 ghost use Rattle.arithmetic.specs.Ranges.{corners, outcome, inBits, rangeOf};
 ghost use Rattle.arithmetic.specs.Ranges as Ranges;
-ghost use Rattle.range_arithmetic.specs.Given.{given};
+ghost use Rattle.range_arithmetic.specs.Given.{givenRange};
 
 // What an operation gives.
 pub enum Ranged {
@@ -22,7 +22,7 @@ pub enum Ranged {
 
 // The range between two numbers, where both fit 32 bits.
 fn narrowed(low: i64, high: i64) -> Ranged
-    ensures { λ r. ⌜ given r ≡ inBits (record { low = low; high = high }) ⌝ }
+    ensures { λ r. ⌜ givenRange r ≡ inBits (record { low = low; high = high }) ⌝ }
 {
     let of_low = arithmetic::narrowed(low);
     let Computed::Value(l) = of_low else {
@@ -37,7 +37,7 @@ fn narrowed(low: i64, high: i64) -> Ranged
 
 // The least and the most of four corners.
 fn at_corners(op: Arithmetic, a: Range, b: Range) -> Ranged
-    ensures { λ r. ⌜ given r ≡ inBits (corners (outcome op) a b) ⌝ }
+    ensures { λ r. ⌜ givenRange r ≡ inBits (corners (outcome op) a b) ⌝ }
 {
     let ll = outcomes::outcome(op, a.low, b.low);
     let lh = outcomes::outcome(op, a.low, b.high);
@@ -75,7 +75,7 @@ fn maybe_equal(a: Range, b: Range) -> bool
 }
 
 fn equalities(a: Range, b: Range) -> Ranged
-    ensures { λ r. ⌜ given r ≡ inBits (Ranges.equalities a b) ⌝ }
+    ensures { λ r. ⌜ givenRange r ≡ inBits (Ranges.equalities a b) ⌝ }
 {
     narrowed(
         outcomes::truth(surely_equal(a, b)),
@@ -121,7 +121,7 @@ fn both_single(a: Range, b: Range) -> bool
 
 // Exact of two single values; else by the dividend's signs and the divisor's largest magnitude.
 fn remainders(a: Range, b: Range) -> Ranged
-    ensures { λ r. ⌜ given r ≡ inBits (Ranges.remainders a b) ⌝ }
+    ensures { λ r. ⌜ givenRange r ≡ inBits (Ranges.remainders a b) ⌝ }
 {
     if both_single(a, b) {
         let r = outcomes::outcome(Arithmetic::Rem, a.low, b.low);
@@ -172,7 +172,7 @@ fn by_zero(op: Arithmetic, b: Range) -> bool
 }
 
 fn of_outcomes(op: Arithmetic, a: Range, b: Range) -> Ranged
-    ensures { λ r. ⌜ given r ≡ inBits (Ranges.outcomes op a b) ⌝ }
+    ensures { λ r. ⌜ givenRange r ≡ inBits (Ranges.outcomes op a b) ⌝ }
 {
     match op {
         Arithmetic::Add => at_corners(op, a, b),
@@ -188,7 +188,7 @@ fn of_outcomes(op: Arithmetic, a: Range, b: Range) -> Ranged
 
 // What an operation gives of two ranges: 12 if an outcome is out of range or the divisor may be 0.
 pub fn range(op: Arithmetic, a: Range, b: Range) -> Ranged
-    ensures { λ r. ⌜ given r ≡ rangeOf op a b ⌝ }
+    ensures { λ r. ⌜ givenRange r ≡ rangeOf op a b ⌝ }
 {
     if by_zero(op, b) {
         return Ranged::OutOfRange;

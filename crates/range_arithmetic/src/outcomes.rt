@@ -4,7 +4,7 @@ ghost use mathlib.Core.Path.{_≡_};
 ghost use lib.IntN.{_+ℤ_, _-ℤ_, _*ℤ_};
 ghost use lib.Signed.{quotZ, remZ, ltZ, leZ};
 ghost use Rattle.arithmetic.specs.Arithmetic.{eqZ};
-ghost use Rattle.arithmetic.specs.Ranges.{bit};
+ghost use Rattle.arithmetic.specs.Ranges.{truthValue};
 ghost use Rattle.arithmetic.specs.Ranges as Ranges;
 
 pub fn smaller(x: i64, y: i64) -> i64
@@ -57,7 +57,7 @@ fn remainder(x: i32, y: i32) -> i64
 }
 
 pub fn truth(t: bool) -> i64
-    ensures { λ r. ⌜ r ≡ bit t ⌝ }
+    ensures { λ r. ⌜ r ≡ truthValue t ⌝ }
 {
     if t { 1 } else { 0 }
 }

@@ -28,7 +28,7 @@ use Rattle.rules.specs.declared.answer.Checked.the-variants.{Passed}
 use Rattle.rules.specs.Check.{all, goodArc, instructionAt, checkGraph}
 use Rattle.rules.specs.InstructionSet.{EffectHere, keyUnder, allUnder, effectOf, effectIn}
 use Rattle.rules.specs.RangeSet.{isUndecided}
-use Rattle.rules.specs.RangeHandles.{StepHere, meaning, sendNew, stepOf, stepIn}
+use Rattle.rules.specs.RangeHandles.{StepHere, meaning, sendNew, rangeStep, stepIn}
 use Rattle.rules.proofs.Passed.{both}
 use Rattle.rules.proofs.PassedGraph.{of-graph}
 use Rattle.rules.proofs.Lawful.{lawful}
@@ -63,8 +63,8 @@ as-is : (e : EffectHere) (d : EffectHere) → e ≡ d → _≡_ {A = StepHere} (
 as-is e d h = ap (λ (x : EffectHere). record { added = []; asked = x }) h
 
 pub step-parted : (o : Operation) (g : List Instruction) (table : List NamedArray) (cells : ℕ) (t : List Range) (τ : Tag) (r : Instruction) (a b : ℤ)
-    → stepOf o g table cells t τ r a b (allUnder τ r) ≡ joined (askOf o table (r .constant) cells t a b) (newTagsOf o g τ r (meaning t b .low))
-unfolding stepOf askOf sendNew effectOf operatedOf newTagsOf
+    → rangeStep o g table cells t τ r a b (allUnder τ r) ≡ joined (askOf o table (r .constant) cells t a b) (newTagsOf o g τ r (meaning t b .low))
+unfolding rangeStep askOf sendNew effectOf operatedOf newTagsOf
 step-parted Operations.Copy g table cells t τ r a b = refl
 step-parted Operations.Sink g table cells t τ r a b = refl
 step-parted Operations.Out g table cells t τ r a b = refl
@@ -112,12 +112,12 @@ module _ (graph : List ℕ) (passed : checkGraph graph ≡ Passed) (table : List
 
   -- past the graph stands an instruction without a destination
   keys-arrive : All (Arrives g) (allUnder τ r)
-  unfolding instructionAt Graph.decode
+  unfolding instructionAt Graph.decodeInstruction
   keys-arrive = go (decLe (suc (τ .instruction)) (length g))
     where
       go : Dec (suc (τ .instruction) ≤ length g) → All (Arrives g) (allUnder τ (instructionAt g (τ .instruction)))
       go (yes h) = arcs g τ (destinations (instructionAt g (τ .instruction))) (of-graph graph passed (τ .instruction) h .arcs)
-      go (no n) = rw (List·getD-eq-default g (Graph.decode []) {n = τ .instruction} (omega arith)) tt
+      go (no n) = rw (List·getD-eq-default g (Graph.decodeInstruction []) {n = τ .instruction} (omega arith)) tt
 
   plain-fine : (o : Operation) → operationOf (r .code) ≡ o → (a b : ℤ) → Fine g cells (effectOf o g table cells τ r a b (allUnder τ r))
   unfolding effectIn
@@ -139,8 +139,8 @@ module _ (graph : List ℕ) (passed : checkGraph graph ≡ Passed) (table : List
   unless-fine true e f = refused-fine g cells
   unless-fine false e f = f
 
-  step-fine : (o : Operation) → operationOf (r .code) ≡ o → (t : List Range) (a b : ℤ) → Fine g cells (stepOf o g table cells t τ r a b (allUnder τ r) .asked)
-  unfolding stepOf
+  step-fine : (o : Operation) → operationOf (r .code) ≡ o → (t : List Range) (a b : ℤ) → Fine g cells (rangeStep o g table cells t τ r a b (allUnder τ r) .asked)
+  unfolding rangeStep
   step-fine Operations.Copy e t a b = plain-fine Operations.Copy e a b
   step-fine Operations.Sink e t a b = plain-fine Operations.Sink e a b
   step-fine Operations.Out e t a b = plain-fine Operations.Out e a b

@@ -13,7 +13,7 @@ ghost use mathlib.Core.Bool.{cond};
 ghost use lib.ListN.{length};
 ghost use Rattle.rules.specs.RangeSet.{isUndecided};
 ghost use Rattle.abstraction.specs.Tables.{arraysIn};
-ghost use Rattle.range_arithmetic.specs.Given.{given};
+ghost use Rattle.range_arithmetic.specs.Given.{givenRange};
 ghost use Rattle.range_table.specs.Table.{pairWidth, tableOf};
 ghost use Rattle.fire_effect.specs.Effects.{operatedOf};
 ghost use Rattle.range_effect.specs.Asked.{onlyIf, newAsk, asIsAsk, askOf, AsksFor};
@@ -48,7 +48,7 @@ fn only_if(decided: bool, operated: Operated, count: usize) -> Asked
 // A new range, with the handle of the table's end; 12 if there is none.
 fn anew(table: &mut [u8], count: usize, made: Ranged) -> Asked
     requires { ⌜ (count * pairWidth + pairWidth ≤ length (now table)) × (count < 2050) ⌝ }
-    ensures { λ r. ⌜ AsksFor r (newAsk (tableOf count (now (table .entry))) (given made)) (now (table .entry)) (now (table .exit)) count ⌝ }
+    ensures { λ r. ⌜ AsksFor r (newAsk (tableOf count (now (table .entry))) (givenRange made)) (now (table .entry)) (now (table .exit)) count ⌝ }
 {
     match made {
         Ranged::OutOfRange => Asked {

@@ -27,7 +27,7 @@ use Rattle.rules.specs.RangeHandles.{StepHere, stepIn}
 use Rattle.rules.proofs.RangeHandles.{steps-related}
 use Rattle.abstraction.specs.Tables.{Arities, arraysIn}
 use Rattle.store.proofs.Laws.{matching-few}
-use Rattle.fire.specs.Running.{machineFor, stateIn, Running, Prepared}
+use Rattle.fire.specs.Running.{machineOver, stateIn, Running, Prepared}
 use Rattle.ending.specs.Endings.{RestsAs}
 use Rattle.engine.specs.declared.Order.{Order}
 use Rattle.engine.specs.declared.Turn.{Turn}
@@ -86,7 +86,7 @@ module _ (graph : List ℕ) (order : Order) (source ledger₀ cells₀ table₀ 
   g = graphOf graph
 
   abbrev M₀ : Machine
-  M₀ = machineFor (graphOf graph) tables ledger₀ cells₀
+  M₀ = machineOver (graphOf graph) tables ledger₀ cells₀
 
   -- the range machine at a capacity and a cell count, its firing and its runs over handles
   abbrev fires : (capacity n : ℕ) → List Range → State Tag ℤ → Tag → Handles.Tried Refusal Tag Range ℤ
@@ -135,9 +135,9 @@ module _ (graph : List ℕ) (order : Order) (source ledger₀ cells₀ table₀ 
     to-do b e = so .toDo ∙ ap (λ (n : ℕ). runs n firings t s) e
 
     -- a firing at the lengths of the lent buffers
-    fires-there : (τ : Tag) → fires (length ledger₀ / tokenWidth) (length cells₀ / cellWidth) t s τ ≡ record { table = t ++ steps τ .added; result = commit (machineFor (graphOf graph) tables ledger cells) s τ (steps τ .asked) }
+    fires-there : (τ : Tag) → fires (length ledger₀ / tokenWidth) (length cells₀ / cellWidth) t s τ ≡ record { table = t ++ steps τ .added; result = commit (machineOver (graphOf graph) tables ledger cells) s τ (steps τ .asked) }
     fires-there τ =
-        lent (λ p q. fires p q t s τ ≡ record { table = t ++ steps τ .added; result = commit (machineFor (graphOf graph) tables ledger cells) s τ (steps τ .asked) })
+        lent (λ p q. fires p q t s τ ≡ record { table = t ++ steps τ .added; result = commit (machineOver (graphOf graph) tables ledger cells) s τ (steps τ .asked) })
         (fires-step (rangeMachineOf (graphOf graph) (arraysIn tables) (length ledger / tokenWidth) (length cells / cellWidth)) ℤ (effectIn (graphOf graph) (arraysIn tables) (length cells / cellWidth)) (pos 0)
         (stepIn (graphOf graph) (arraysIn tables) (length cells / cellWidth)) t s τ)
 
@@ -169,7 +169,7 @@ module _ (graph : List ℕ) (order : Order) (source ledger₀ cells₀ table₀ 
           }
 
       -- a turn that ended the run
-      came : {o : Outcome Refusal} → Stops (machineFor (graphOf graph) tables ledger cells) s chosen (λ τ. steps τ .asked) o → firings < budget
+      came : {o : Outcome Refusal} → Stops (machineOver (graphOf graph) tables ledger cells) s chosen (λ τ. steps τ .asked) o → firings < budget
           → (endOver order source (graphOf graph) tables ledger₀ cells₀ start budget t₀ ≡ record { table = tableOf count′ table′; ended = end M₀ o firings s }) × (count′ ≤ count + 1)
       came {o} (byChoice e) h =
           let more : tableOf count′ table′ ≡ t = held-by (ends o) e ∙ append-nil t in (

@@ -20,7 +20,7 @@ use Rattle.buffer.proofs.Tables.{length-rows}
 use Rattle.arithmetic.specs.declared.Range.{Range}
 use Rattle.arithmetic.specs.Ranges.{single, rangeOf}
 use Rattle.machine.specs.Machine.{Key, Token, Machine, StateOf, EffectOf, Effect, Operands, refuse, fired, output, changed, onOption, look, operands, commit}
-use Rattle.machine.specs.Orders.{CellsBelow, Distinct, keysOf}
+use Rattle.machine.specs.Orders.{CellsBelow, Distinct, effectKeys}
 use Rattle.machine.specs.InStep.{Over}
 use Rattle.machine.specs.Handles.{Step, Tried, fireOn, tryStep}
 use Rattle.machine.proofs.View.{DeltaOf, deltaOf, change}
@@ -32,10 +32,10 @@ use Rattle.rules.specs.declared.answer.Checked.the-variants.{Passed}
 use Rattle.rules.specs.Check.{instructionAt, checkGraph}
 use Rattle.rules.specs.InstructionSet.{allUnder, machineOf}
 use Rattle.rules.specs.Run.{tokenHeld}
-use Rattle.rules.specs.RangeHandles.{StepHere, asIs, meaning, sendNew, stepOf, stepIn}
+use Rattle.rules.specs.RangeHandles.{StepHere, asIs, meaning, sendNew, rangeStep, stepIn}
 use Rattle.rules.proofs.RangeHandles.{steps-add-few}
 use Rattle.abstraction.specs.Tables.{arraysIn}
-use Rattle.fire.specs.Running.{machineFor, stateIn, Running, Went, Prepared}
+use Rattle.fire.specs.Running.{machineOver, stateIn, Running, Went, Prepared}
 use Rattle.range_effect.proofs.Laws.{asked-fine}
 use Rattle.range_fire.specs.Tried.{stepAt}
 
@@ -62,10 +62,10 @@ module _ (M : Machine) (W : Type 0) (effect : M .Tag → W → W → Effect (M .
 
 -- a firing adds as many tokens as the effect has outputs
 counted : (M : Machine) (s : StateOf M) (τ : M .Tag) (e : EffectOf M) (x : StateOf M) → Distinct M (s .tokens) → CellsBelow (length (s .cells)) e → commit M s τ e ≡ fired x
-    → length (x .tokens) ≡ length (s .tokens) + length (keysOf M e)
+    → length (x .tokens) ≡ length (s .tokens) + length (effectKeys M e)
 counted M s τ e x distinct below h = go (deltaOf M e) refl (rw h at (commitResult M s τ e distinct below))
   where
-    go : (q : Option (DeltaOf M)) → deltaOf M e ≡ q → Answer M s τ q (fired x) → length (x .tokens) ≡ length (s .tokens) + length (keysOf M e)
+    go : (q : Option (DeltaOf M)) → deltaOf M e ≡ q → Answer M s τ q (fired x) → length (x .tokens) ≡ length (s .tokens) + length (effectKeys M e)
     go none f a = absurd a
     go (some d) f a =
         let olds = map (changed (change M τ d)) (s .tokens) in
@@ -80,8 +80,8 @@ unfolding sendNew
 one-new t none keys = zero-le
 one-new t (some r) keys = omega arith
 
-one-of : (o : Operation) (g : List Instruction) (named : List NamedArray) (cells : ℕ) (t : List Range) (τ : Tag) (r : Instruction) (a b : ℤ) (keys : List (Key Tag)) → length (stepOf o g named cells t τ r a b keys .added) ≤ 1
-unfolding stepOf
+one-of : (o : Operation) (g : List Instruction) (named : List NamedArray) (cells : ℕ) (t : List Range) (τ : Tag) (r : Instruction) (a b : ℤ) (keys : List (Key Tag)) → length (rangeStep o g named cells t τ r a b keys .added) ≤ 1
+unfolding rangeStep
 one-of Operations.Copy g named cells t τ r a b keys = zero-le
 one-of Operations.Sink g named cells t τ r a b keys = zero-le
 one-of Operations.Out g named cells t τ r a b keys = zero-le
@@ -102,7 +102,7 @@ module _ (graph : List ℕ) (passed : checkGraph graph ≡ Passed) (tables ledge
   g = graphOf graph
 
   abbrev found : Option (Operands ℤ)
-  found = let M = machineFor (graphOf graph) tables ledger cells in operands M (look M (stateIn ledger cells used)) τ
+  found = let M = machineOver (graphOf graph) tables ledger cells in operands M (look M (stateIn ledger cells used)) τ
 
   abbrev of : Option (Operands ℤ) → StepHere
   of q = onOption q (asIs (refuse SecondToken)) (λ p. stepIn (graphOf graph) (arraysIn tables) (length cells / cellWidth) t τ (p .left) (p .right))
@@ -122,10 +122,10 @@ module _ (graph : List ℕ) (passed : checkGraph graph ≡ Passed) (tables ledge
       go none = zero-le
       go (some p) = let r = instructionAt (graphOf graph) (τ .instruction) in one-of (operationOf (r .code)) (graphOf graph) (arraysIn tables) (length cells / cellWidth) t τ r (p .left) (p .right) (allUnder τ r)
 
-  step-few : length (stepAt (graphOf graph) tables ledger cells used t τ .added) ≤ length (keysOf (machineFor (graphOf graph) tables ledger cells) (stepAt (graphOf graph) tables ledger cells used t τ .asked))
+  step-few : length (stepAt (graphOf graph) tables ledger cells used t τ .added) ≤ length (effectKeys (machineOver (graphOf graph) tables ledger cells) (stepAt (graphOf graph) tables ledger cells used t τ .asked))
   step-few = go found
     where
-      go : (q : Option (Operands ℤ)) → length (of q .added) ≤ length (keysOf (machineFor (graphOf graph) tables ledger cells) (of q .asked))
+      go : (q : Option (Operands ℤ)) → length (of q .added) ≤ length (effectKeys (machineOver (graphOf graph) tables ledger cells) (of q .asked))
       go none = zero-le
       go (some p) = steps-add-few graph passed (arraysIn tables) (length cells / cellWidth) t τ (p .left) (p .right)
 
@@ -134,9 +134,9 @@ module _ (graph : List ℕ) (passed : checkGraph graph ≡ Passed) (tables ledge
       → Went (graphOf graph) τ (stepAt (graphOf graph) tables ledger cells used t τ .asked) tables links′ flags′ ledger′ cells′ n used ledger cells
       → used + length (stepAt (graphOf graph) tables ledger cells used t τ .added) ≤ n
   went-few {ledger′ = ledger′} {cells′ = cells′} {n = n} now w =
-      let M = machineFor (graphOf graph) tables ledger cells in
+      let M = machineOver (graphOf graph) tables ledger cells in
       let e = stepAt (graphOf graph) tables ledger cells used t τ .asked in
       let all = counted M (stateIn ledger cells used) τ e (stateIn ledger′ cells′ n) (now .good .distinct) (rw (now .good .cellCount) step-below) (w .step) in
-      let before : length (map tokenHeld (tokens used ledger)) ≡ used = length-map (tokens used ledger) tokenHeld ∙ length-rows tokenWidth Tokens.decode used ledger in
-      let after : length (map tokenHeld (tokens n ledger′)) ≡ n = length-map (tokens n ledger′) tokenHeld ∙ length-rows tokenWidth Tokens.decode n ledger′ in
+      let before : length (map tokenHeld (tokens used ledger)) ≡ used = length-map (tokens used ledger) tokenHeld ∙ length-rows tokenWidth Tokens.decodeToken used ledger in
+      let after : length (map tokenHeld (tokens n ledger′)) ≡ n = length-map (tokens n ledger′) tokenHeld ∙ length-rows tokenWidth Tokens.decodeToken n ledger′ in
       omega (arith, all, before, after, step-few)

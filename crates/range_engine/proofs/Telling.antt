@@ -11,10 +11,10 @@ use Rattle.record.specs.declared.instruction.Instruction.{Instruction}
 use Rattle.arithmetic.specs.declared.Range.{Range}
 use Rattle.arithmetic.specs.Ranges.{single}
 use Rattle.machine.specs.Machine.{Machine, State, Outcome, End, byPicks, ending, onList, enabled}
-use Rattle.machine.specs.Bounded.{without, freeOf, byFree, outcomeHeld, settled, runBounded}
+use Rattle.machine.specs.Bounded.{withoutHeld, freeOf, byFree, outcomeHeld, settled, runBounded}
 use Rattle.machine.specs.Choosers.{Chooser, runFrom, byPick}
-use Rattle.machine.specs.InStep.{RelatedState, EndsAlike}
-use Rattle.machine.specs.Handles.{Stands, stateBy, Tabled, SameChooser, runOn}
+use Rattle.machine.specs.InStep.{RelatedState, RelatedEnds}
+use Rattle.machine.specs.Handles.{StandsAt, stateBy, Tabled, SameChooser, runOn}
 use Rattle.machine.proofs.Choosers.{picksChoose}
 use Rattle.machine.proofs.InStep.{enabledSame, endingSame}
 use Rattle.machine.proofs.Handles.{stands-at, stateRead, handlesInStep}
@@ -40,24 +40,24 @@ module _ (g : List Instruction) (named : List NamedArray) (capacity n : ℕ) (pi
 
   -- the same is enabled, held back and chosen
   picks-same : Same (byPick M (byPicks M) picks) (byPick N (byPicks N) picks)
-  picks-same t f s u h = rw (enabledSame M ℤ (effectIn g named n) (pos 0) (Stands natAbs t) s u h, endingSame M ℤ (effectIn g named n) (pos 0) (Stands natAbs t) s u h)
+  picks-same t f s u h = rw (enabledSame M ℤ (effectIn g named n) (pos 0) (StandsAt natAbs t) s u h, endingSame M ℤ (effectIn g named n) (pos 0) (StandsAt natAbs t) s u h)
 
   module _ (k : ℕ) where
-    free-same : (t : List Range) (s : State Tag Range) (u : State Tag ℤ) → RelatedState (Stands natAbs t) s u → freeOf M (heldIn g k) s ≡ freeOf N (heldIn g k) u
-    free-same t s u h = rw (fun-ext (held-same (Stands natAbs t) g k s u h), enabledSame M ℤ (effectIn g named n) (pos 0) (Stands natAbs t) s u h)
+    free-same : (t : List Range) (s : State Tag Range) (u : State Tag ℤ) → RelatedState (StandsAt natAbs t) s u → freeOf M (heldIn g k) s ≡ freeOf N (heldIn g k) u
+    free-same t s u h = rw (fun-ext (held-same (StandsAt natAbs t) g k s u h), enabledSame M ℤ (effectIn g named n) (pos 0) (StandsAt natAbs t) s u h)
 
     held-chosen : Same (byFree M (heldIn g k) (byPicks M) picks) (byFree N (heldIn g k) (byPicks N) picks)
-    held-chosen t f s u h = rw (free-same t s u h, endingSame M ℤ (effectIn g named n) (pos 0) (Stands natAbs t) s u h)
+    held-chosen t f s u h = rw (free-same t s u h, endingSame M ℤ (effectIn g named n) (pos 0) (StandsAt natAbs t) s u h)
 
   module _ (t : List Range) (s : State Tag Range) (u : State Tag ℤ) (h : StandsFor t s u) (budget : ℕ) where
     abbrev over : Chooser (machineOf g named capacity n) → Tabled Refusal Tag Range ℤ
     over d = runOn (rangeMachineOf g named capacity n) ℤ (effectIn g named n) (pos 0) (stepIn g named n) d budget 0 t u
 
-    alike : (c : Chooser M) (d : Chooser N) → Same c d → EndsAlike (Stands natAbs (over d .table)) (runFrom M c budget 0 s) (over d .ended)
+    alike : (c : Chooser M) (d : Chooser N) → Same c d → RelatedEnds (StandsAt natAbs (over d .table)) (runFrom M c budget 0 s) (over d .ended)
     alike c d same = handlesInStep M ℤ (effectIn g named n) (pos 0) (stepIn g named n) natAbs (steps-related g named capacity n) c d same t (h .zero) s u (h .state) budget 0
 
     read : (c : Chooser M) (d : Chooser N) → Same c d → runFrom M c budget 0 s .state ≡ stateBy (meaning (over d .table)) (over d .ended .state)
-    read c d same = stateRead (Stands natAbs (over d .table)) (meaning (over d .table)) (λ r a k. sym (stands-at natAbs (over d .table) r (single (pos 0)) a k)) (alike c d same .state)
+    read c d same = stateRead (StandsAt natAbs (over d .table)) (meaning (over d .table)) (λ r a k. sym (stands-at natAbs (over d .table) r (single (pos 0)) a k)) (alike c d same .state)
 
     -- the end over ranges of an end over handles, by its table
     abbrev pub meant : Tabled Refusal Tag Range ℤ → End Refusal Tag Range
@@ -83,5 +83,5 @@ module _ (g : List Instruction) (named : List NamedArray) (capacity n : ℕ) (pi
         let w = over d .table in
         let e = runFrom M c budget 0 s in
         let free : freeOf M (heldIn g k) (e .state) ≡ freeOf N (heldIn g k) (over d .ended .state) = free-same k w (e .state) (over d .ended .state) (a .state) in
-        let rests : ending M (e .state) ≡ ending N (over d .ended .state) = endingSame M ℤ (effectIn g named n) (pos 0) (Stands natAbs w) (e .state) (over d .ended .state) (a .state) in
+        let rests : ending M (e .state) ≡ ending N (over d .ended .state) = endingSame M ℤ (effectIn g named n) (pos 0) (StandsAt natAbs w) (e .state) (over d .ended .state) (a .state) in
         λ i. record { outcome = onList (free i) (rests i) (λ b more. a .outcome i); firings = 0 + a .firings i; state = read c d (held-chosen k) i }

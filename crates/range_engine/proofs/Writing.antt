@@ -28,7 +28,7 @@ use Rattle.arithmetic.specs.Ranges.{single}
 use Rattle.machine.specs.Machine.{Machine, State, StateOf, End, Activity, Token, Cell, onList, end, ending, completed, budgetSpent, enabled}
 use Rattle.machine.specs.Choosers.{ends, restsAt, runFrom}
 use Rattle.machine.specs.InStep.{RelatedState}
-use Rattle.machine.specs.Handles.{Stands, changedTo, contentBy, cellBy, stateBy, Tabled, runOn}
+use Rattle.machine.specs.Handles.{StandsAt, changedTo, meantContent, cellBy, stateBy, Tabled, runOn}
 use Rattle.rules.specs.declared.answer.Refusal.{Refusal}
 use Rattle.rules.specs.declared.answer.Answer.{Answer}
 use Rattle.rules.specs.declared.answer.Checked.{Checked}
@@ -60,7 +60,7 @@ use Rattle.range_inputs.proofs.Rows.{fields-each, handles-count}
 use Rattle.range_inputs.proofs.First.{first-state}
 use Rattle.range_output.specs.Left.{tokensMeant, cellsMeant}
 use Rattle.range_engine.specs.declared.Ran.{Ran}
-use Rattle.range_engine.specs.Over.{endOver, settledOver, rangeEnd, RanOver, AsRanges, Fits, StandsFor, Tells, ownBytes, storeBytes, AsMany, LeftAs, Leaves, Lent, withInputs, lentChecked}
+use Rattle.range_engine.specs.Over.{endOver, settledOver, rangeEnd, RanOver, AsRanges, Fits, StandsFor, Tells, ownBytes, storeBytes, AsManyHandles, LeftAs, Leaves, LentToRanges, withInputs, rangesLentChecked}
 use Rattle.range_engine.proofs.Telling.{told-plain, told-bounded}
 
 -- ---- as ranges
@@ -76,8 +76,8 @@ module _ (r : Ran) (E : End Refusal Tag Range) (x : Tabled Refusal Tag Range ℤ
 
   size : length (here .state .tokens) ≡ r .answer .tokens
   size =
-      length-map (map tokenHeld (tokens (r .answer .tokens) ledger′)) (changedTo (contentBy (meaning (tableOf (r .count) table′))))
-      ∙ length-map (tokens (r .answer .tokens) ledger′) tokenHeld ∙ length-rows tokenWidth Tokens.decode (r .answer .tokens) ledger′
+      length-map (map tokenHeld (tokens (r .answer .tokens) ledger′)) (changedTo (meantContent (meaning (tableOf (r .count) table′))))
+      ∙ length-map (tokens (r .answer .tokens) ledger′) tokenHeld ∙ length-rows tokenWidth Tokens.decodeToken (r .answer .tokens) ledger′
 
   pub as-ranges : AsRanges E r ledger′ cells′ table′
   as-ranges = subst (λ (e : End Refusal Tag Range). AsRanges e r ledger′ cells′ table′) (sym same)
@@ -116,8 +116,8 @@ module _ (graph arrays handles : List ℕ) {tables links flags ledger ledger₁ 
   unfolding firstState
   used-all =
       let first = ap (λ (s : State Tag ℤ). length (s .tokens)) (b .state) in
-      let now = length-map (tokens used ledger₁) tokenHeld ∙ length-rows tokenWidth Tokens.decode used ledger₁ in
-      let then = length-map (allRows tokenWidth Tokens.decode handles) tokenHeld ∙ length-rows tokenWidth Tokens.decode (length handles / tokenWidth) handles in
+      let now = length-map (tokens used ledger₁) tokenHeld ∙ length-rows tokenWidth Tokens.decodeToken used ledger₁ in
+      let then = length-map (allRows tokenWidth Tokens.decodeToken handles) tokenHeld ∙ length-rows tokenWidth Tokens.decodeToken (length handles / tokenWidth) handles in
       omega (arith, first, now, then)
 
   pub told-first : (k : ℕ) (picks : List ℕ) (budget : ℕ) (table : List ℕ) (r : Ran) (ledger′ cells′ table′ : List ℕ)
@@ -151,7 +151,7 @@ written-as E r own store table ledger cells ledger′ cells′ a l c =
     record {
       answered = a .answered;
       ledgerLeft =
-          l ∙ ap (λ (ts : List (Token Tag Range)). writtenOver encodeRange ts ledger) (twice tokenHeld (changedTo (contentBy m)) (tokens (r .answer .tokens) own) ∙ sym (ap (λ (s : State Tag Range). s .tokens) (a .state)));
+          l ∙ ap (λ (ts : List (Token Tag Range)). writtenOver encodeRange ts ledger) (twice tokenHeld (changedTo (meantContent m)) (tokens (r .answer .tokens) own) ∙ sym (ap (λ (s : State Tag Range). s .tokens) (a .state)));
       cellsLeft =
           c ∙ ap (λ (cs : List (Cell Range)). writtenOver encodeRangeCell cs cells) (twice cellHeld (cellBy m) (cellsIn store) ∙ sym (ap (λ (s : State Tag Range). s .cells) (a .state)));
     }
@@ -166,7 +166,7 @@ pub own-part : (k m : ℕ) → k ≤ m → length (take (k - 0) (zeros m)) ≡ k
 own-part k m h = rw (sub-zero k) (length-take-le k (zeros m) (omega (arith, length-replicate {A = ℕ} m 0)))
 
 -- of as many records as are lent
-pub as-many : (own store ledger cells : ℕ) → own ≡ ownBytes ledger → store ≡ storeBytes cells → AsMany own store ledger cells
+pub as-many : (own store ledger cells : ℕ) → own ≡ ownBytes ledger → store ≡ storeBytes cells → AsManyHandles own store ledger cells
 as-many own store ledger cells o s = record { tokens = omega (arith, o); cellCount = omega (arith, s) }
 
 pub accepted-in : (graph arrays handles : List ℕ) (own store ledger cells : ℕ) → own ≡ ownBytes ledger → store ≡ storeBytes cells → Accepted graph arrays handles (ownBytes ledger) (storeBytes cells) → Accepted graph arrays handles own store
@@ -174,7 +174,7 @@ accepted-in graph arrays handles own store ledger cells o s a =
     subst (λ (x : ℕ). Accepted graph arrays handles x store) (sym o) (subst (λ (y : ℕ). Accepted graph arrays handles (ownBytes ledger) y) (sym s) a)
 
 -- said of the lengths of the lent buffers
-pub leaves : (k : ℕ) (picks : List ℕ) (budget : ℕ) (graph arrays handles table : List ℕ) (own store ledger cells : List ℕ) (r : Ran) (own′ store′ table′ ledger′ cells′ : List ℕ) → AsMany (length own) (length store) (length ledger) (length cells)
+pub leaves : (k : ℕ) (picks : List ℕ) (budget : ℕ) (graph arrays handles table : List ℕ) (own store ledger cells : List ℕ) (r : Ran) (own′ store′ table′ ledger′ cells′ : List ℕ) → AsManyHandles (length own) (length store) (length ledger) (length cells)
     → Tells k picks budget (graphOf graph) (arraysOf arrays) (length own / tokenWidth) (length store / cellWidth) (tableOf (length handles / tokenWidth + 1) table) (firstState handles (length store / cellWidth)) r own′ store′ table′
     → ledger′ ≡ writtenOver encodeRange (tokensMeant (tableOf (r .count) table′) (tokens (r .answer .tokens) own′)) ledger
     → cells′ ≡ writtenOver encodeRangeCell (cellsMeant (tableOf (r .count) table′) (cellsIn store′)) cells
@@ -206,11 +206,11 @@ first-stands g capacity n inputs passed =
     record {
       zero = record { below = omega arith; there = refl };
       state =
-          subst (λ (u : State Tag ℤ). RelatedState (Stands natAbs (firstTable inputs)) (firstRanges inputs n) u) (rests-state N 0 (firstHandles inputs n))
-          (subst (λ (s : State Tag Range). RelatedState (Stands natAbs (firstTable inputs)) s (restsAt N 0 (firstHandles inputs n) .state)) (rests-state M 0 (firstRanges inputs n)) (none-fires .state));
+          subst (λ (u : State Tag ℤ). RelatedState (StandsAt natAbs (firstTable inputs)) (firstRanges inputs n) u) (rests-state N 0 (firstHandles inputs n))
+          (subst (λ (s : State Tag Range). RelatedState (StandsAt natAbs (firstTable inputs)) s (restsAt N 0 (firstHandles inputs n) .state)) (rests-state M 0 (firstRanges inputs n)) (none-fires .state));
     }
 
-module _ (graph arrays inputs : List ℕ) (ledger cells : ℕ) (lent : Lent graph arrays (length inputs) ledger cells) (passed : checkRangeInputs (graphOf graph) (rangeCapacityOf ledger) inputs ≡ Passed) where
+module _ (graph arrays inputs : List ℕ) (ledger cells : ℕ) (lent : LentToRanges graph arrays (length inputs) ledger cells) (passed : checkRangeInputs (graphOf graph) (rangeCapacityOf ledger) inputs ≡ Passed) where
   proper : checkProper inputs ≡ Passed
   unfolding checkRangeInputs
   proper =
@@ -247,7 +247,7 @@ only-handles inputs handles handles′ table table′ e w =
 -- ---- the checks
 
 module _ (graph arrays : List ℕ) (inputs picks k ledger cells : ℕ) where
-  pub lent-passed : lentChecked graph arrays inputs picks k ledger cells ≡ Passed → Lent graph arrays inputs ledger cells
+  pub lent-passed : rangesLentChecked graph arrays inputs picks k ledger cells ≡ Passed → LentToRanges graph arrays inputs ledger cells
   unfolding checkRangeStores andBound
   lent-passed e =
       let a = andThen-passed (checkGraph graph) _ e in
@@ -272,14 +272,14 @@ joined Passed (Failed r p) c d = refl
 joined Passed Passed c d = refl
 
 module _ (graph arrays inputs picks : List ℕ) (budget k ledger cells : ℕ) where
-  parts : checkRanges graph arrays inputs picks k ledger cells ≡ (lentChecked graph arrays (length inputs) (length picks) k ledger cells andThen checkRangeInputs (graphOf graph) (rangeCapacityOf ledger) inputs)
+  parts : checkRanges graph arrays inputs picks k ledger cells ≡ (rangesLentChecked graph arrays (length inputs) (length picks) k ledger cells andThen checkRangeInputs (graphOf graph) (rangeCapacityOf ledger) inputs)
   unfolding checkRanges
   parts = sym (joined (checkGraph graph) (andBound (checkRangeStores (length inputs) (length picks) ledger cells) k) (checkArrays (graphOf graph) (cells / rangeCellWidth) arrays) (checkRangeInputs (graphOf graph) (rangeCapacityOf ledger) inputs))
 
-  pub result-failed : {r : Refusal} {p : ℕ} → lentChecked graph arrays (length inputs) (length picks) k ledger cells ≡ Failed r p → rangeResult graph arrays inputs picks budget k ledger cells ≡ refusedAtOnce r p
+  pub result-failed : {r : Refusal} {p : ℕ} → rangesLentChecked graph arrays (length inputs) (length picks) k ledger cells ≡ Failed r p → rangeResult graph arrays inputs picks budget k ledger cells ≡ refusedAtOnce r p
   unfolding rangeResult rangesUnlessFailed
   result-failed e = rw (parts, e)
 
-  pub result-passed : lentChecked graph arrays (length inputs) (length picks) k ledger cells ≡ Passed → rangeResult graph arrays inputs picks budget k ledger cells ≡ withInputs k picks budget graph arrays inputs ledger cells
+  pub result-passed : rangesLentChecked graph arrays (length inputs) (length picks) k ledger cells ≡ Passed → rangeResult graph arrays inputs picks budget k ledger cells ≡ withInputs k picks budget graph arrays inputs ledger cells
   unfolding rangeResult
   result-passed e = rw (parts, e)

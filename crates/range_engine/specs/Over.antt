@@ -19,7 +19,7 @@ use Rattle.machine.specs.Machine.{Machine, State, End, byPicks}
 use Rattle.machine.specs.Bounded.{settled, runBounded}
 use Rattle.machine.specs.Choosers.{Chosen, onChosen}
 use Rattle.machine.specs.InStep.{RelatedState}
-use Rattle.machine.specs.Handles.{Stands, stateBy, Tabled, runOn}
+use Rattle.machine.specs.Handles.{StandsAt, stateBy, Tabled, runOn}
 use Rattle.rules.specs.declared.answer.Refusal.{Refusal}
 use Rattle.rules.specs.declared.answer.Answer.{Answer}
 use Rattle.rules.specs.declared.answer.Checked.{Checked}
@@ -33,7 +33,7 @@ use Rattle.rules.specs.RangeSet.{rangeMachineOf}
 use Rattle.rules.specs.RangeRun.{encodeRange, encodeRangeCell, rangeCapacityOf, checkRangeStores, checkRangeInputs, firstRanges, RangeResult, ranTo, rangesUnlessFailed}
 use Rattle.rules.specs.RangeHandles.{StepHere, meaning, stepIn}
 use Rattle.abstraction.specs.Tables.{arraysIn}
-use Rattle.fire.specs.Running.{machineFor, stateIn}
+use Rattle.fire.specs.Running.{machineOver, stateIn}
 use Rattle.engine.specs.declared.Order.{Order}
 use Rattle.engine.specs.Turns.{chooserFor, Turned, Proceeded}
 use Rattle.range_table.specs.Table.{pairWidth, tableOf}
@@ -70,7 +70,7 @@ endOver order source g tables ledger cells used budget t =
 
 -- the same with what is held back left out at its end
 abbrev pub settledOver : (bound : ℕ) → List Instruction → (tables ledger cells : List ℕ) → Tabled Refusal Tag Range ℤ → Tabled Refusal Tag Range ℤ
-settledOver k g tables ledger cells x = record { table = x .table; ended = settled (machineFor g tables ledger cells) (heldIn g k) 0 (x .ended) }
+settledOver k g tables ledger cells x = record { table = x .table; ended = settled (machineOver g tables ledger cells) (heldIn g k) 0 (x .ended) }
 
 -- a run left arrays, ledger, cells and table, and its answer tells its end
 pub record RanOver (x : Tabled Refusal Tag Range ℤ) (r : Ran) (g : List Instruction) (tables links flags ledger′ cells′ table′ : List ℕ) (used : ℕ) (ledger cells table : List ℕ) : Type 0 where
@@ -100,8 +100,8 @@ pub record Fits (r : Ran) (ledger′ cells′ table′ ledger cells table : List
 
 -- a state over handles stands for one over ranges; handle 0 is that of the single value 0
 pub record StandsFor (t : List Range) (s : State Tag Range) (u : State Tag ℤ) : Type 0 where
-  pub zero : Stands natAbs t (single (pos 0)) (pos 0)
-  pub state : RelatedState (Stands natAbs t) s u
+  pub zero : StandsAt natAbs t (single (pos 0)) (pos 0)
+  pub state : RelatedState (StandsAt natAbs t) s u
 
 -- a run over handles from u, with the ranges t, tells the range run of every state for which u stands
 abbrev pub Tells : (bound : ℕ) → (picks : List ℕ) → (budget : ℕ) → List Instruction → List NamedArray → (capacity count : ℕ) → (t : List Range) → (u : State Tag ℤ) → Ran → (ledger cells table : List ℕ) → Type 0
@@ -118,7 +118,7 @@ abbrev pub storeBytes : (cells : ℕ) → ℕ
 storeBytes cells = cells / rangeCellWidth * cellWidth
 
 -- buffers of as many records
-pub record AsMany (own store ledger cells : ℕ) : Type 0 where
+pub record AsManyHandles (own store ledger cells : ℕ) : Type 0 where
   pub tokens : own / tokenWidth ≡ ledger / rangeTokenWidth
   pub cellCount : store / cellWidth ≡ cells / rangeCellWidth
 
@@ -136,7 +136,7 @@ Leaves k picks budget graph arrays handles table r ledger cells ledger′ cells�
     → LeftAs (rangeEnd k picks budget (graphOf graph) (arraysOf arrays) (rangeCapacityOf (length ledger)) n s) r ledger cells ledger′ cells′
 
 -- everything but the inputs passed its check; ledger and cells by their lengths in bytes
-pub record Lent (graph arrays : List ℕ) (inputs ledger cells : ℕ) : Type 0 where
+pub record LentToRanges (graph arrays : List ℕ) (inputs ledger cells : ℕ) : Type 0 where
   pub graphPassed : checkGraph graph ≡ Passed
   pub fewArrays : length arrays / arrayWidth ≤ mostArrays
   pub fewInputs : inputs / rangeTokenWidth ≤ mostTokens
@@ -151,6 +151,6 @@ withInputs k picks budget graph arrays inputs ledger cells =
     (ranTo (rangeEnd k picks budget (graphOf graph) (arraysOf arrays) (rangeCapacityOf ledger) n (firstRanges inputs n)))
 
 -- the checks before that of the inputs
-abbrev pub lentChecked : (graph arrays : List ℕ) → (inputs picks bound ledger cells : ℕ) → Checked
-lentChecked graph arrays inputs picks k ledger cells =
+abbrev pub rangesLentChecked : (graph arrays : List ℕ) → (inputs picks bound ledger cells : ℕ) → Checked
+rangesLentChecked graph arrays inputs picks k ledger cells =
     checkGraph graph andThen andBound (checkRangeStores inputs picks ledger cells) k andThen checkArrays (graphOf graph) (cells / rangeCellWidth) arrays

@@ -31,13 +31,13 @@ ghost use Rattle.rules.specs.RangeRun.{rangeCapacityOf, checkRangeStores, Range
 ghost use Rattle.abstraction.specs.Tables.{arraysIn};
 ghost use Rattle.fire.specs.Running.{stateIn, Prepared, Running};
 ghost use Rattle.start.specs.Begun.{Accepted};
-ghost use Rattle.engine.specs.Turns.{chooserFor, ByPicks, Plain, Beside, HeldBack, Bounding};
+ghost use Rattle.engine.specs.Turns.{chooserFor, ByPicks, Plain, HeldBeside, HeldBack, Bounding};
 ghost use Rattle.engine.specs.declared.Order.the-variants.{Free};
 ghost use Rattle.range_table.specs.Table.{pairWidth, tableOf};
 ghost use Rattle.range_inputs.specs.Handles.{handlesOf};
 ghost use Rattle.range_fire.specs.Tried.{RoomForOne, stepAt};
 ghost use Rattle.range_engine.specs.Promise.{lentToRun, leftByRun, RangesOn};
-ghost use Rattle.range_engine.specs.Over.{TakenAs, Room, endOver, settledOver, RanOver, Tells, Fits, AsMany, ownBytes, storeBytes, Leaves, Lent, withInputs, lentChecked};
+ghost use Rattle.range_engine.specs.Over.{TakenAs, Room, endOver, settledOver, RanOver, Tells, Fits, AsManyHandles, ownBytes, storeBytes, Leaves, LentToRanges, withInputs, rangesLentChecked};
 
 // A turn, and how many ranges the table has after it.
 pub struct Taken {
@@ -74,8 +74,17 @@ fn take_turn(
     cells: &mut [u8],
     used: usize,
 ) -> Taken
-    requires { ⌜ Prepared (now graph) (now tables) × Running (graphOf (now graph)) (now tables) (now links) (now flags) (now ledger) (now cells) used × Beside order (now flags) (now held) × HeldBack order (graphOf (now graph)) (now flags) (now held) (now ledger) used × RoomForOne (now table) count ⌝ }
-    ensures { λ r. ⌜ TakenAs r (graphOf (now (graph .entry))) (chooserFor order (now (picks .entry)) (graphOf (now (graph .entry))) (now (tables .entry)) (now (ledger .entry)) (now (cells .entry)) firings (stateIn (now (ledger .entry)) (now (cells .entry)) used)) (stepAt (graphOf (now (graph .entry))) (now (tables .entry)) (now (ledger .entry)) (now (cells .entry)) used (tableOf count (now (table .entry)))) (now (tables .entry)) (now (links .exit)) (now (flags .exit)) (now (ledger .exit)) (now (cells .exit)) (now (table .exit)) used (now (ledger .entry)) (now (cells .entry)) (now (table .entry)) count ⌝ }
+    requires { ⌜ Prepared (now graph) (now tables)
+        × Running (graphOf (now graph)) (now tables) (now links) (now flags) (now ledger) (now cells) used
+        × HeldBeside order (now flags) (now held)
+        × HeldBack order (graphOf (now graph)) (now flags) (now held) (now ledger) used
+        × RoomForOne (now table) count ⌝ }
+    ensures { λ r. ⌜ TakenAs r (graphOf (now (graph .entry)))
+        (chooserFor order (now (picks .entry)) (graphOf (now (graph .entry))) (now (tables .entry)) (now (ledger .entry)) (now (cells .entry))
+        firings (stateIn (now (ledger .entry)) (now (cells .entry)) used))
+        (stepAt (graphOf (now (graph .entry))) (now (tables .entry)) (now (ledger .entry)) (now (cells .entry)) used
+        (tableOf count (now (table .entry)))) (now (tables .entry)) (now (links .exit)) (now (flags .exit)) (now (ledger .exit)) (now (cells .exit))
+        (now (table .exit)) used (now (ledger .entry)) (now (cells .entry)) (now (table .entry)) count ⌝ }
 {
     let chosen = engine::choose(
         order,
@@ -136,9 +145,17 @@ fn turns(
     cells: &mut [u8],
     going: Going,
 ) -> Ran
-    requires { ⌜ Prepared (now graph) (now tables) × Running (graphOf (now graph)) (now tables) (now links) (now flags) (now ledger) (now cells) (going .used) × Bounding order (graphOf (now graph)) (now tables) (now flags) (now ledger) (going .used) (now nexts) (now held) (now marks) × Room (now table) (going .count) (going .used) ⌝ }
-    ensures { λ r. ⌜ RanOver (endOver order (now (picks .entry)) (graphOf (now (graph .entry))) (now (tables .entry)) (now (ledger .entry)) (now (cells .entry)) (going .used) (going .budget) (tableOf (going .count) (now (table .entry)))) r (graphOf (now (graph .entry))) (now (tables .entry)) (now (links .exit)) (now (flags .exit)) (now (ledger .exit)) (now (cells .exit)) (now (table .exit)) (going .used) (now (ledger .entry)) (now (cells .entry)) (now (table .entry)) ⌝ }
-    ensures { λ r. ⌜ Bounding order (graphOf (now (graph .entry))) (now (tables .entry)) (now (flags .exit)) (now (ledger .exit)) (r .answer .tokens) (now (nexts .exit)) (now (held .exit)) (now (marks .exit)) ⌝ }
+    requires { ⌜ Prepared (now graph) (now tables)
+        × Running (graphOf (now graph)) (now tables) (now links) (now flags) (now ledger) (now cells) (going .used)
+        × Bounding order (graphOf (now graph)) (now tables) (now flags) (now ledger) (going .used) (now nexts) (now held) (now marks)
+        × Room (now table) (going .count) (going .used) ⌝ }
+    ensures { λ r. ⌜ RanOver
+        (endOver order (now (picks .entry)) (graphOf (now (graph .entry))) (now (tables .entry)) (now (ledger .entry)) (now (cells .entry))
+        (going .used) (going .budget) (tableOf (going .count) (now (table .entry)))) r (graphOf (now (graph .entry))) (now (tables .entry))
+        (now (links .exit)) (now (flags .exit)) (now (ledger .exit)) (now (cells .exit)) (now (table .exit)) (going .used) (now (ledger .entry))
+        (now (cells .entry)) (now (table .entry)) ⌝ }
+    ensures { λ r. ⌜ Bounding order (graphOf (now (graph .entry))) (now (tables .entry)) (now (flags .exit)) (now (ledger .exit)) (r .answer .tokens)
+        (now (nexts .exit)) (now (held .exit)) (now (marks .exit)) ⌝ }
 {
     let budget = going.budget;
     let mut used = going.used;
@@ -207,8 +224,12 @@ fn proceed(
     cells: &mut [u8],
     going: Going,
 ) -> Ran
-    requires { ⌜ Prepared (now graph) (now tables) × Running (graphOf (now graph)) (now tables) (now links) (now flags) (now ledger) (now cells) (going .used) × Room (now table) (going .count) (going .used) ⌝ }
-    ensures { λ r. ⌜ Tells 0 (now (picks .entry)) (going .budget) (graphOf (now (graph .entry))) (arraysIn (now (tables .entry))) (length (now (ledger .entry)) / tokenWidth) (length (now (cells .entry)) / cellWidth) (tableOf (going .count) (now (table .entry))) (stateIn (now (ledger .entry)) (now (cells .entry)) (going .used)) r (now (ledger .exit)) (now (cells .exit)) (now (table .exit)) ⌝ }
+    requires { ⌜ Prepared (now graph) (now tables)
+        × Running (graphOf (now graph)) (now tables) (now links) (now flags) (now ledger) (now cells) (going .used)
+        × Room (now table) (going .count) (going .used) ⌝ }
+    ensures { λ r. ⌜ Tells 0 (now (picks .entry)) (going .budget) (graphOf (now (graph .entry))) (arraysIn (now (tables .entry)))
+        (length (now (ledger .entry)) / tokenWidth) (length (now (cells .entry)) / cellWidth) (tableOf (going .count) (now (table .entry)))
+        (stateIn (now (ledger .entry)) (now (cells .entry)) (going .used)) r (now (ledger .exit)) (now (cells .exit)) (now (table .exit)) ⌝ }
     ensures { λ r. ⌜ Fits r (now (ledger .exit)) (now (cells .exit)) (now (table .exit)) (now (ledger .entry)) (now (cells .entry)) (now (table .entry)) ⌝ }
 {
     let mut nexts = [0u64; store_flags::LENGTH];
@@ -245,8 +266,14 @@ fn proceed_bounded(
     cells: &mut [u8],
     going: Going,
 ) -> Ran
-    requires { ⌜ Prepared (now graph) (now tables) × Running (graphOf (now graph)) (now tables) (now links) (now flags) (now ledger) (now cells) (going .used) × Room (now table) (going .count) (going .used) × (0 < bound) × (bound < 65536) ⌝ }
-    ensures { λ r. ⌜ Tells bound (now (picks .entry)) (going .budget) (graphOf (now (graph .entry))) (arraysIn (now (tables .entry))) (length (now (ledger .entry)) / tokenWidth) (length (now (cells .entry)) / cellWidth) (tableOf (going .count) (now (table .entry))) (stateIn (now (ledger .entry)) (now (cells .entry)) (going .used)) r (now (ledger .exit)) (now (cells .exit)) (now (table .exit)) ⌝ }
+    requires { ⌜ Prepared (now graph) (now tables)
+        × Running (graphOf (now graph)) (now tables) (now links) (now flags) (now ledger) (now cells) (going .used)
+        × Room (now table) (going .count) (going .used)
+        × (0 < bound)
+        × (bound < 65536) ⌝ }
+    ensures { λ r. ⌜ Tells bound (now (picks .entry)) (going .budget) (graphOf (now (graph .entry))) (arraysIn (now (tables .entry)))
+        (length (now (ledger .entry)) / tokenWidth) (length (now (cells .entry)) / cellWidth) (tableOf (going .count) (now (table .entry)))
+        (stateIn (now (ledger .entry)) (now (cells .entry)) (going .used)) r (now (ledger .exit)) (now (cells .exit)) (now (table .exit)) ⌝ }
     ensures { λ r. ⌜ Fits r (now (ledger .exit)) (now (cells .exit)) (now (table .exit)) (now (ledger .entry)) (now (cells .entry)) (now (table .entry)) ⌝ }
 {
     let mut nexts = [0u64; store_flags::LENGTH];
@@ -301,8 +328,13 @@ fn go_on(
     cells: &mut [u8],
     going: Going,
 ) -> Ran
-    requires { ⌜ Prepared (now graph) (now tables) × Running (graphOf (now graph)) (now tables) (now links) (now flags) (now ledger) (now cells) (going .used) × Room (now table) (going .count) (going .used) × (bound < 65536) ⌝ }
-    ensures { λ r. ⌜ Tells bound (now (picks .entry)) (going .budget) (graphOf (now (graph .entry))) (arraysIn (now (tables .entry))) (length (now (ledger .entry)) / tokenWidth) (length (now (cells .entry)) / cellWidth) (tableOf (going .count) (now (table .entry))) (stateIn (now (ledger .entry)) (now (cells .entry)) (going .used)) r (now (ledger .exit)) (now (cells .exit)) (now (table .exit)) ⌝ }
+    requires { ⌜ Prepared (now graph) (now tables)
+        × Running (graphOf (now graph)) (now tables) (now links) (now flags) (now ledger) (now cells) (going .used)
+        × Room (now table) (going .count) (going .used)
+        × (bound < 65536) ⌝ }
+    ensures { λ r. ⌜ Tells bound (now (picks .entry)) (going .budget) (graphOf (now (graph .entry))) (arraysIn (now (tables .entry)))
+        (length (now (ledger .entry)) / tokenWidth) (length (now (cells .entry)) / cellWidth) (tableOf (going .count) (now (table .entry)))
+        (stateIn (now (ledger .entry)) (now (cells .entry)) (going .used)) r (now (ledger .exit)) (now (cells .exit)) (now (table .exit)) ⌝ }
     ensures { λ r. ⌜ Fits r (now (ledger .exit)) (now (cells .exit)) (now (table .exit)) (now (ledger .entry)) (now (cells .entry)) (now (table .entry)) ⌝ }
 {
     if bound != 0 {
@@ -345,7 +377,10 @@ fn over_handles(
     cells: &mut [u8],
 ) -> Ran
     requires { ⌜ Accepted (now graph) (now arrays) (now handles) (length (now ledger)) (length (now cells)) × (bound < 65536) × (2050 * pairWidth ≤ length (now table)) ⌝ }
-    ensures { λ r. ⌜ Tells bound (now (picks .entry)) budget (graphOf (now (graph .entry))) (arraysOf (now (arrays .entry))) (length (now (ledger .entry)) / tokenWidth) (length (now (cells .entry)) / cellWidth) (tableOf (length (now (handles .entry)) / tokenWidth + 1) (now (table .entry))) (firstState (now (handles .entry)) (length (now (cells .entry)) / cellWidth)) r (now (ledger .exit)) (now (cells .exit)) (now (table .exit)) ⌝ }
+    ensures { λ r. ⌜ Tells bound (now (picks .entry)) budget (graphOf (now (graph .entry))) (arraysOf (now (arrays .entry)))
+        (length (now (ledger .entry)) / tokenWidth) (length (now (cells .entry)) / cellWidth)
+        (tableOf (length (now (handles .entry)) / tokenWidth + 1) (now (table .entry)))
+        (firstState (now (handles .entry)) (length (now (cells .entry)) / cellWidth)) r (now (ledger .exit)) (now (cells .exit)) (now (table .exit)) ⌝ }
     ensures { λ r. ⌜ Fits r (now (ledger .exit)) (now (cells .exit)) (now (table .exit)) (now (ledger .entry)) (now (cells .entry)) (now (table .entry)) ⌝ }
 {
     let mut tables = [0u16; store_enabled::TABLES_LENGTH];
@@ -393,8 +428,12 @@ fn written(
     ledger: &mut [u8],
     cells: &mut [u8],
 ) -> Answer
-    requires { ⌜ Accepted (now graph) (now arrays) (now handles) (length (now own)) (length (now store)) × (bound < 65536) × (2050 * pairWidth ≤ length (now table)) × AsMany (length (now own)) (length (now store)) (length (now ledger)) (length (now cells)) ⌝ }
-    ensures { λ r. ⌜ Leaves bound (now (picks .entry)) budget (now (graph .entry)) (now (arrays .entry)) (now (handles .entry)) (now (table .entry)) r (now (ledger .entry)) (now (cells .entry)) (now (ledger .exit)) (now (cells .exit)) ⌝ }
+    requires { ⌜ Accepted (now graph) (now arrays) (now handles) (length (now own)) (length (now store))
+        × (bound < 65536)
+        × (2050 * pairWidth ≤ length (now table))
+        × AsManyHandles (length (now own)) (length (now store)) (length (now ledger)) (length (now cells)) ⌝ }
+    ensures { λ r. ⌜ Leaves bound (now (picks .entry)) budget (now (graph .entry)) (now (arrays .entry)) (now (handles .entry)) (now (table .entry)) r
+        (now (ledger .entry)) (now (cells .entry)) (now (ledger .exit)) (now (cells .exit)) ⌝ }
 {
     let ran = over_handles(
         graph,
@@ -426,7 +465,8 @@ fn accepted(
     cells: &mut [u8],
 ) -> Answer
     requires { ⌜ Accepted (now graph) (now arrays) (now handles) (ownBytes (length (now ledger))) (storeBytes (length (now cells))) × (bound < 65536) × (2050 * pairWidth ≤ length (now table)) ⌝ }
-    ensures { λ r. ⌜ Leaves bound (now (picks .entry)) budget (now (graph .entry)) (now (arrays .entry)) (now (handles .entry)) (now (table .entry)) r (now (ledger .entry)) (now (cells .entry)) (now (ledger .exit)) (now (cells .exit)) ⌝ }
+    ensures { λ r. ⌜ Leaves bound (now (picks .entry)) budget (now (graph .entry)) (now (arrays .entry)) (now (handles .entry)) (now (table .entry)) r
+        (now (ledger .entry)) (now (cells .entry)) (now (ledger .exit)) (now (cells .exit)) ⌝ }
 {
     let mut own = [0u8; 57344];
     let mut store = [0u8; 8192];
@@ -460,8 +500,13 @@ fn handled(
     ledger: &mut [u8],
     cells: &mut [u8],
 ) -> Answer
-    requires { ⌜ Lent (now graph) (now arrays) (length (now inputs)) (length (now ledger)) (length (now cells)) × (bound < 65536) × (length (now handles) ≡ ownBytes (length (now inputs))) × (2050 * pairWidth ≤ length (now table)) ⌝ }
-    ensures { λ r. ⌜ RangesRan (withInputs bound (now (picks .entry)) budget (now (graph .entry)) (now (arrays .entry)) (now (inputs .entry)) (length (now (ledger .entry))) (length (now (cells .entry)))) r (now (ledger .entry)) (now (ledger .exit)) (now (cells .entry)) (now (cells .exit)) ⌝ }
+    requires { ⌜ LentToRanges (now graph) (now arrays) (length (now inputs)) (length (now ledger)) (length (now cells))
+        × (bound < 65536)
+        × (length (now handles) ≡ ownBytes (length (now inputs)))
+        × (2050 * pairWidth ≤ length (now table)) ⌝ }
+    ensures { λ r. ⌜ RangesRan
+        (withInputs bound (now (picks .entry)) budget (now (graph .entry)) (now (arrays .entry)) (now (inputs .entry)) (length (now (ledger .entry)))
+        (length (now (cells .entry)))) r (now (ledger .entry)) (now (ledger .exit)) (now (cells .entry)) (now (cells .exit)) ⌝ }
 {
     range_inputs::narrow(inputs, handles, table);
     let capacity = ledger.len() / range_output::TOKEN_WIDTH;
@@ -493,8 +538,10 @@ fn with_inputs(
     ledger: &mut [u8],
     cells: &mut [u8],
 ) -> Answer
-    requires { ⌜ Lent (now graph) (now arrays) (length (now inputs)) (length (now ledger)) (length (now cells)) × (bound < 65536) ⌝ }
-    ensures { λ r. ⌜ RangesRan (withInputs bound (now (picks .entry)) budget (now (graph .entry)) (now (arrays .entry)) (now (inputs .entry)) (length (now (ledger .entry))) (length (now (cells .entry)))) r (now (ledger .entry)) (now (ledger .exit)) (now (cells .entry)) (now (cells .exit)) ⌝ }
+    requires { ⌜ LentToRanges (now graph) (now arrays) (length (now inputs)) (length (now ledger)) (length (now cells)) × (bound < 65536) ⌝ }
+    ensures { λ r. ⌜ RangesRan
+        (withInputs bound (now (picks .entry)) budget (now (graph .entry)) (now (arrays .entry)) (now (inputs .entry)) (length (now (ledger .entry)))
+        (length (now (cells .entry)))) r (now (ledger .entry)) (now (ledger .exit)) (now (cells .entry)) (now (cells .exit)) ⌝ }
 {
     let mut handles = [0u8; 57344];
     let mut table = [0u8; 16400];
@@ -516,10 +563,10 @@ fn with_inputs(
 fn all_whole(inputs: usize, picks: usize, ledger: usize, cells: usize) -> bool
     ensures { λ r. ⌜ r ≡ (Rows.whole rangeTokenWidth 2048 inputs && (Rows.whole pickWidth 2048 picks && (Rows.whole rangeTokenWidth 2048 ledger && Rows.whole rangeCellWidth 1024 cells))) ⌝ }
 {
-    buffer::whole(range_output::TOKEN_WIDTH, 2048, inputs)
-        && (buffer::whole(pick::WIDTH, 2048, picks)
-            && (buffer::whole(range_output::TOKEN_WIDTH, 2048, ledger)
-                && buffer::whole(range_output::CELL_WIDTH, 1024, cells)))
+    buffer::whole(range_output::TOKEN_WIDTH, token::MOST, inputs)
+        && (buffer::whole(pick::WIDTH, token::MOST, picks)
+            && (buffer::whole(range_output::TOKEN_WIDTH, token::MOST, ledger)
+                && buffer::whole(range_output::CELL_WIDTH, cell::MOST, cells)))
 }
 
 // Refusal 7, by the lengths in bytes.
@@ -543,7 +590,7 @@ fn check_lent(
     ledger: usize,
     cells: usize,
 ) -> Checked
-    ensures { λ r. ⌜ r ≡ lentChecked (now (graph .entry)) (now (arrays .entry)) inputs picks bound ledger cells ⌝ }
+    ensures { λ r. ⌜ r ≡ rangesLentChecked (now (graph .entry)) (now (arrays .entry)) inputs picks bound ledger cells ⌝ }
 {
     let of_graph = graph::check(graph);
     let Checked::Passed = of_graph else {
@@ -567,7 +614,8 @@ pub fn run_ranges(
     ledger: &mut [u8],
     cells: &mut [u8],
 ) -> Answer
-    ensures { λ r. ⌜ RangesOn (now (graph .entry)) (now (arrays .entry)) (now (inputs .entry)) budget bound (lentToRun (now (picks .entry)) (now (ledger .entry)) (now (cells .entry))) (leftByRun r (now (ledger .exit)) (now (cells .exit))) ⌝ }
+    ensures { λ r. ⌜ RangesOn (now (graph .entry)) (now (arrays .entry)) (now (inputs .entry)) budget bound
+        (lentToRun (now (picks .entry)) (now (ledger .entry)) (now (cells .entry))) (leftByRun r (now (ledger .exit)) (now (cells .exit))) ⌝ }
 {
     let k = bound as usize;
     let checked = check_lent(

@@ -27,16 +27,16 @@ use Rattle.fire_effect.specs.declared.operate.Action.{Action}
 use Rattle.fire_effect.specs.declared.operate.Operated.the-variants.{Refuse, Act}
 use Rattle.fire_effect.specs.declared.tags.NewTags.{NewTags}
 use Rattle.fire_effect.specs.declared.tags.NewTags.the-variants as Tags
-use Rattle.fire_effect.specs.Effects.{keysOf, actionHeld, Arrives, Makes, newTagsOf, thenTags}
+use Rattle.fire_effect.specs.Effects.{outputKeys, actionHeld, Arrives, Makes, newTagsOf, thenTags}
 use Rattle.fire_effect.proofs.Passed.{in-bytes}
 use Rattle.fire_effect.proofs.Parted.{first-refused, second-refused, both-held}
-use Rattle.fire_operands.specs.Operands.{Both, matchedAt}
+use Rattle.fire_operands.specs.Operands.{byPort, bothAt, matchedAt}
 use Rattle.fire_outputs.specs.Outputs.{cellsIn}
 use Rattle.fire_commit.specs.declared.Fired.{Fired}
 use Rattle.fire_commit.specs.declared.Fired.the-variants.{Refused}
-use Rattle.fire_commit.specs.Commit.{committedOf, CommittedTo, Fitting}
+use Rattle.fire_commit.specs.Commit.{Committed, committedOf, CommittedTo, Fitting}
 use Rattle.fire.specs.Running.{Running, Stepped, Prepared}
-use Rattle.fire.proofs.Steps.{low-ports, sent-keys, on-cells, Done, there, stepped, inside, asks-refusal}
+use Rattle.fire.proofs.Steps.{low-ports, sent-keys, on-cells, Done, there, stepped, inside, asks-refusal, committed-by-port}
 use Rattle.range_table.specs.Table.{tableOf}
 use Rattle.range_effect.specs.declared.Asked.{Asked}
 use Rattle.range_effect.specs.Asked.{askOf, AsksFor}
@@ -69,7 +69,7 @@ module _ (graph : List ℕ) (table : List NamedArray) (cells : ℕ) (τ : Tag) (
 
     pub asked-done : checkGraph graph ≡ Passed → {s : Outputs} → m ≡ Tags.To s → Done (graphOf graph) cells x s (stepIn (graphOf graph) table cells h τ a b .asked)
     asked-done passed {s} e =
-        let held : actionHeld x (keysOf s) ≡ stepIn (graphOf graph) table cells h τ a b .asked = both-held _ _ asked-in-turn operated made e in
+        let held : actionHeld x (outputKeys s) ≡ stepIn (graphOf graph) table cells h τ a b .asked = both-held _ _ asked-in-turn operated made e in
         let fine : Fine (graphOf graph) cells (stepIn (graphOf graph) table cells h τ a b .asked) = asked-fine graph passed table cells τ h a b in
         record {
           held = held;
@@ -82,18 +82,24 @@ module _ (graph : List ℕ) (table : List NamedArray) (cells : ℕ) (τ : Tag) (
 -- what the code's commit requires of them
 pub fitting : (g : List Instruction) (cells : ℕ) (x : Action) (o : Outputs) {e : _} → Done g cells x o e → Fitting cells x o
 fitting g cells x o d =
-    (d .counted, low-ports g (o .count) (o .first) (o .second) (sent-keys (Arrives g) x (keysOf o) (d .arrives)), on-cells cells x (keysOf o) (rw (← d .held) at (d .cellsBelow)))
+    (d .counted, low-ports g (o .count) (o .first) (o .second) (sent-keys (Arrives g) x (outputKeys o) (d .arrives)), on-cells cells x (outputKeys o) (rw (← d .held) at (d .cellsBelow)))
 
 -- ---- what the code does
 
 -- the token read at the place, the operands that matching found, the instruction and its operation, and what the operation over ranges answered
 module _ (graph : List ℕ) {tables links flags ledger cells : List ℕ} {used : ℕ} (ready : Prepared graph tables)
-    (now : Running (graphOf graph) tables links flags ledger cells used) (place : ℕ) (within : place < used) (t : Record.Token) (same : t ≡ tokenAt ledger place) (i j : ℕ) (v w : ℤ)
-    (matched : matchedAt (arityIn (graphOf graph) (tokenAt ledger place .tag)) (tokens used ledger) (tokenAt ledger place .tag) ≡ Both i j v w)
+    (now : Running (graphOf graph) tables links flags ledger cells used) (place : ℕ) (within : place < used) (t : Record.Token) (same : t ≡ tokenAt ledger place) (other : ℕ) (v w : ℤ)
+    (matched : matchedAt (arityIn (graphOf graph) (tokenAt ledger place .tag)) (tokens used ledger) (tokenAt ledger place .tag) ≡ bothAt (tokenAt ledger place .port) place other v w)
     (r : Instruction) (o : Operation) (fetched : r ≡ instructionIn graph (t .tag .instruction)) (decoded : o ≡ operationOf (r .code))
     (table table′ : List ℕ) (count : ℕ) (asked : Asked) (asks : AsksFor asked (askOf o (arraysIn tables) (r .constant) (length cells / cellWidth) (tableOf count table) v w) table table′ count) where
   abbrev τ : Tag
   τ = tokenAt ledger place .tag
+
+  abbrev i : ℕ
+  i = byPort (tokenAt ledger place .port) place other
+
+  abbrev j : ℕ
+  j = byPort (tokenAt ledger place .port) other place
 
   abbrev h : List Range
   h = tableOf count table
@@ -145,8 +151,9 @@ module _ (graph : List ℕ) {tables links flags ledger cells : List ℕ} {used :
 
       -- from matching to output
       pub committed : (links′ flags′ ledger′ cells′ : List ℕ) (f : Fired)
-          → CommittedTo f (committedOf (length ledger / tokenWidth) (tokens used ledger) (cellsIn cells) i j y s) tables links′ flags′ ledger′ cells′ used ledger cells
+          → CommittedTo f (committedOf (length ledger / tokenWidth) (tokens used ledger) (cellsIn cells) place other y s) tables links′ flags′ ledger′ cells′ used ledger cells
           → TriedAs (record { fired = f; count = asked .count }) (graphOf graph) τ x tables links′ flags′ ledger′ cells′ table′ used ledger cells table count
       committed links′ flags′ ledger′ cells′ f left =
           tried f (stepped graph (ready .passed) now τ (arity-small (graphOf graph) τ) i j v w matched y s (x .asked)
-          (subst (Done (graphOf graph) (length cells / cellWidth) y s) (sym asked-found) does) links′ flags′ ledger′ cells′ f left)
+          (subst (Done (graphOf graph) (length cells / cellWidth) y s) (sym asked-found) does) links′ flags′ ledger′ cells′ f
+          (subst (λ (z : Committed). CommittedTo f z tables links′ flags′ ledger′ cells′ used ledger cells) (committed-by-port (tokenAt ledger place .port) place other (length ledger / tokenWidth) (tokens used ledger) (cellsIn cells) y s) left))

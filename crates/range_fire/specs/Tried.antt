@@ -12,7 +12,7 @@ use Rattle.machine.specs.Machine.{refuse, onOption, look, operands}
 use Rattle.rules.specs.declared.answer.Refusal.the-variants.{SecondToken}
 use Rattle.rules.specs.RangeHandles.{StepHere, asIs, stepIn}
 use Rattle.abstraction.specs.Tables.{arraysIn}
-use Rattle.fire.specs.Running.{machineFor, stateIn, Stepped}
+use Rattle.fire.specs.Running.{machineOver, stateIn, Stepped}
 use Rattle.range_table.specs.Table.{pairWidth, tableOf}
 use Rattle.range_fire.specs.declared.Tried.{Tried}
 
@@ -23,7 +23,7 @@ RoomForOne table count = (count * pairWidth + pairWidth ≤ length table) × (co
 -- what the activity asks for by the step over handles, of the operands that it has
 abbrev pub stepAt : List Instruction → (tables ledger cells : List ℕ) → (used : ℕ) → List Range → Tag → StepHere
 stepAt g tables ledger cells used t τ =
-    let M = machineFor g tables ledger cells in
+    let M = machineOver g tables ledger cells in
     onOption (operands M (look M (stateIn ledger cells used)) τ) (asIs (refuse SecondToken)) (λ p. stepIn g (arraysIn tables) (length cells / cellWidth) t τ (p .left) (p .right))
 
 -- the step was made: what is primed is left

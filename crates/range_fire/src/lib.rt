@@ -17,7 +17,7 @@ ghost use mathlib.Core.Path.{_≡_};
 ghost use mathlib.Core.Bool.{true};
 ghost use Rattle.record.specs.GraphRecords.{graphOf};
 ghost use Rattle.record.specs.TokensAndTags.{tokens, tokenAt};
-ghost use Rattle.store_enabled.specs.Enabled.{leads};
+ghost use Rattle.store_enabled.specs.Enabled.{leadsIn};
 ghost use Rattle.fire.specs.Running.{Prepared, Running};
 ghost use Rattle.range_table.specs.Table.{tableOf};
 ghost use Rattle.range_fire.specs.Tried.{RoomForOne, stepAt, TriedAs};
@@ -41,8 +41,15 @@ pub fn fire(
     used: usize,
     place: usize,
 ) -> Tried
-    requires { ⌜ Prepared (now graph) (now tables) × Running (graphOf (now graph)) (now tables) (now links) (now flags) (now ledger) (now cells) used × (place < used) × (leads (now tables) (tokens used (now ledger)) place (tokenAt (now ledger) place) ≡ true) × RoomForOne (now table) count ⌝ }
-    ensures { λ r. ⌜ TriedAs r (graphOf (now (graph .entry))) (tokenAt (now (ledger .entry)) place .tag) (stepAt (graphOf (now (graph .entry))) (now (tables .entry)) (now (ledger .entry)) (now (cells .entry)) used (tableOf count (now (table .entry))) (tokenAt (now (ledger .entry)) place .tag)) (now (tables .entry)) (now (links .exit)) (now (flags .exit)) (now (ledger .exit)) (now (cells .exit)) (now (table .exit)) used (now (ledger .entry)) (now (cells .entry)) (now (table .entry)) count ⌝ }
+    requires { ⌜ Prepared (now graph) (now tables)
+        × Running (graphOf (now graph)) (now tables) (now links) (now flags) (now ledger) (now cells) used
+        × (place < used)
+        × (leadsIn (now tables) (tokens used (now ledger)) place (tokenAt (now ledger) place) ≡ true)
+        × RoomForOne (now table) count ⌝ }
+    ensures { λ r. ⌜ TriedAs r (graphOf (now (graph .entry))) (tokenAt (now (ledger .entry)) place .tag)
+        (stepAt (graphOf (now (graph .entry))) (now (tables .entry)) (now (ledger .entry)) (now (cells .entry)) used
+        (tableOf count (now (table .entry))) (tokenAt (now (ledger .entry)) place .tag)) (now (tables .entry)) (now (links .exit)) (now (flags .exit))
+        (now (ledger .exit)) (now (cells .exit)) (now (table .exit)) used (now (ledger .entry)) (now (cells .entry)) (now (table .entry)) count ⌝ }
 {
     // Matching.
     let t = token::token_at(ledger, place);
@@ -52,8 +59,8 @@ pub fn fire(
     let left = matched.left;
     let right = matched.right;
     let operands = Places {
-        first: matched.first,
-        second: matched.second,
+        place,
+        other: matched.other,
     };
     // Instruction fetch.
     let r = instruction::instruction_at(graph, tag.instruction as usize);

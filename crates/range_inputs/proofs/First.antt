@@ -32,12 +32,12 @@ small h k = rw (fits32 h (omega arith)) (toZ-pos w32 {n = h} (omega arith))
 
 -- a good input, live with its handle
 first-token : (g : List Instruction) (h : ℕ) (l rest : List ℕ) → goodInput g l ≡ true → h < 2147483648
-    → tokenHeld (Tokens.decode (handleBytes h l ++ rest)) ≡ record { key = decodeRange l .key; content = live (pos h) }
-unfolding Tokens.decode decodeRange handleBytes contentOf
+    → tokenHeld (Tokens.decodeToken (handleBytes h l ++ rest)) ≡ record { key = decodeRange l .key; content = live (pos h) }
+unfolding Tokens.decodeToken decodeRange handleBytes contentOf
 first-token g h l rest e k = rw (zero-state g l e, number32-bytes h [], small h k)
 
 first-tokens : (g : List Instruction) (h n : ℕ) (l rest : List ℕ) → Each (λ b. goodInput g b ≡ true) (rows rangeTokenWidth (λ b. b) n l) → h + n < 2147483648
-    → map tokenHeld (rows tokenWidth Tokens.decode n (handlesFrom h n l ++ rest)) ≡ numbered h (rows rangeTokenWidth decodeRange n l)
+    → map tokenHeld (rows tokenWidth Tokens.decodeToken n (handlesFrom h n l ++ rest)) ≡ numbered h (rows rangeTokenWidth decodeRange n l)
 unfolding handlesFrom
 first-tokens g h zero l rest e k = refl
 first-tokens g h (suc n) l rest e k =
@@ -52,6 +52,6 @@ unfolding firstState firstHandles handlesOf
 first-state g capacity cells inputs few e =
     let n = length inputs / rangeTokenWidth in
     let good = good-rows g n 0 inputs (sixth-passed g capacity inputs e) in
-    let all : map tokenHeld (rows tokenWidth Tokens.decode n (handlesFrom 1 n inputs)) ≡ numbered 1 (rows rangeTokenWidth decodeRange n inputs) =
-    ap (λ (l : List ℕ). map tokenHeld (rows tokenWidth Tokens.decode n l)) (sym (append-nil (handlesFrom 1 n inputs))) ∙ first-tokens g 1 n inputs [] good (omega arith) in
+    let all : map tokenHeld (rows tokenWidth Tokens.decodeToken n (handlesFrom 1 n inputs)) ≡ numbered 1 (rows rangeTokenWidth decodeRange n inputs) =
+    ap (λ (l : List ℕ). map tokenHeld (rows tokenWidth Tokens.decodeToken n l)) (sym (append-nil (handlesFrom 1 n inputs))) ∙ first-tokens g 1 n inputs [] good (omega arith) in
     rw (handles-count inputs) (λ i. record { tokens = all i; cells = replicate cells absent })

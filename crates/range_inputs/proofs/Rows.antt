@@ -10,7 +10,7 @@ use lib.ListN.{length, take, drop, length-append}
 use lib.Seq.{take-at, drop-append-add, drop-drop}
 use Rattle.buffer.specs.Rows.{putRow, rows, allRows}
 use Rattle.record.specs.Widths.{tokenWidth, rangeTokenWidth}
-use Rattle.machine.specs.InStep.{Pairwise, noMore, pair}
+use Rattle.machine.specs.InStep.{PlaceByPlace, noMore, pair}
 use Rattle.rules.proofs.Ranges.{SameFields}
 use Rattle.range_inputs.specs.Handles.{handleBytes, handlesFrom, handlesOf}
 
@@ -36,7 +36,7 @@ length-handles h zero l = refl
 length-handles h (suc n) l =
     length-append (handleBytes h l) (handlesFrom (suc h) n (drop rangeTokenWidth l)) ∙ omega (arith, length-row h l, length-handles (suc h) n (drop rangeTokenWidth l))
 
-fields-from : (h n : ℕ) (l rest : List ℕ) → Pairwise SameFields (rows rangeTokenWidth (λ b. b) n l) (rows tokenWidth (λ b. b) n (handlesFrom h n l ++ rest))
+fields-from : (h n : ℕ) (l rest : List ℕ) → PlaceByPlace SameFields (rows rangeTokenWidth (λ b. b) n l) (rows tokenWidth (λ b. b) n (handlesFrom h n l ++ rest))
 unfolding handlesFrom
 fields-from h zero l rest = noMore
 fields-from h (suc n) l rest =
@@ -84,7 +84,7 @@ module _ (inputs : List ℕ) where
   unfolding handlesOf
   handles-count = omega (arith, length-handles 1 n inputs)
 
-  pub fields-each : Pairwise SameFields (allRows rangeTokenWidth (λ b. b) inputs) (allRows tokenWidth (λ b. b) (handlesOf inputs))
+  pub fields-each : PlaceByPlace SameFields (allRows rangeTokenWidth (λ b. b) inputs) (allRows tokenWidth (λ b. b) (handlesOf inputs))
   unfolding handlesOf
   fields-each =
       rw handles-count

@@ -52,20 +52,20 @@ module _ {A : Type 0} (w : ℕ) (enc : A → List ℕ) (len : (a : A) → length
   write-all = (λ j. joined enc (take-all (length xs) xs (omega arith) j) ++ drop (sym (length-joined w enc len xs) j) lent)
 
 pub length-token : (t : Token Tag Range) → length (encodeRange t) ≡ rangeTokenWidth
-unfolding encodeRange Tokens.encode
+unfolding encodeRange Tokens.encodeToken
 length-token t = refl
 
 pub length-cell : (c : Cell Range) → length (encodeRangeCell c) ≡ rangeCellWidth
-unfolding encodeRangeCell Cells.encode
+unfolding encodeRangeCell Cells.encodeCell
 length-cell absent = refl
 length-cell waiting = refl
 length-cell (present r) = refl
 
 -- the bytes of a cell record one by one, and what follows them
 pub cell-elements : (c : RecordCell.Cell) (rest : List ℕ)
-    → byteAt (Cells.encode c) 0 ∷ byteAt (Cells.encode c) 1 ∷ byteAt (Cells.encode c) 2 ∷ byteAt (Cells.encode c) 3 ∷ byteAt (Cells.encode c) 4 ∷ byteAt (Cells.encode c) 5 ∷ byteAt (Cells.encode c) 6 ∷ byteAt (Cells.encode c) 7 ∷ rest
-    ≡ Cells.encode c ++ rest
-unfolding Cells.encode
+    → byteAt (Cells.encodeCell c) 0 ∷ byteAt (Cells.encodeCell c) 1 ∷ byteAt (Cells.encodeCell c) 2 ∷ byteAt (Cells.encodeCell c) 3 ∷ byteAt (Cells.encodeCell c) 4 ∷ byteAt (Cells.encodeCell c) 5 ∷ byteAt (Cells.encodeCell c) 6 ∷ byteAt (Cells.encodeCell c) 7 ∷ rest
+    ≡ Cells.encodeCell c ++ rest
+unfolding Cells.encodeCell
 cell-elements Absent rest = refl
 cell-elements Waiting rest = refl
 cell-elements (Present v) rest = refl

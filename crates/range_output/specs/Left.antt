@@ -10,7 +10,7 @@ use Rattle.record.specs.declared.token.Content.the-variants.{Live, Spent, Defer
 use Rattle.record.specs.declared.cell.Cell as RecordCell
 use Rattle.arithmetic.specs.declared.Range.{Range}
 use Rattle.machine.specs.Machine.{Token, Cell}
-use Rattle.machine.specs.Handles.{changedTo, contentBy, cellBy}
+use Rattle.machine.specs.Handles.{changedTo, meantContent, cellBy}
 use Rattle.rules.specs.Run.{tokenHeld, cellHeld}
 use Rattle.rules.specs.RangeHandles.{meaning}
 use Rattle.range_output.specs.declared.Ends.{Ends}
@@ -23,7 +23,7 @@ endsOf t (Deferred c) = record { low = Deferred c; high = c }
 
 -- what a token, a cell and lists of them stand for
 abbrev pub tokenMeant : List Range → Record.Token → Token Tag Range
-tokenMeant t u = changedTo (contentBy (meaning t)) (tokenHeld u)
+tokenMeant t u = changedTo (meantContent (meaning t)) (tokenHeld u)
 
 abbrev pub cellMeant : List Range → RecordCell.Cell → Cell Range
 cellMeant t c = cellBy (meaning t) (cellHeld c)

@@ -61,7 +61,7 @@ fn ends_of(table: &[u8], count: usize, content: Content) -> Ends
 
 // The plain record of a token, and the high value at its end.
 fn token_row(t: Token, high: u32) -> [u8; TOKEN_WIDTH]
-    ensures { λ r. ⌜ r ≡ (Tokens.encode t ++ bytes32 high) ⌝ }
+    ensures { λ r. ⌜ r ≡ (Tokens.encodeToken t ++ bytes32 high) ⌝ }
 {
     let e = token::encode(t);
     [
@@ -134,7 +134,7 @@ pub fn put_tokens(table: &[u8], count: usize, ledger: &[u8], used: usize, out: &
 
 // The plain record of a cell, and the high value at its end.
 fn cell_row(cell: Cell, high: u32) -> [u8; CELL_WIDTH]
-    ensures { λ r. ⌜ r ≡ (Cells.encode cell ++ bytes32 high) ⌝ }
+    ensures { λ r. ⌜ r ≡ (Cells.encodeCell cell ++ bytes32 high) ⌝ }
 {
     let e = cell::encode(cell);
     [

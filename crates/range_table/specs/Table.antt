@@ -24,7 +24,7 @@ abbrev pub tableOf : (count : ℕ) → List ℕ → List Range
 tableOf n l = rows pairWidth pairIn n l
 
 -- a range was added behind the first n
-pub record Added (table table′ : List ℕ) (n : ℕ) (r : Range) : Type 0 where
+pub record AddedRange (table table′ : List ℕ) (n : ℕ) (r : Range) : Type 0 where
   pub held : tableOf (n + 1) table′ ≡ tableOf n table ++ r ∷ []
   pub size : length table′ ≡ length table
   pub fits : FitsBits r

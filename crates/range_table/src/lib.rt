@@ -8,7 +8,7 @@ ghost use lib.ListN.{length};
 ghost use Rattle.number.specs.Number.{bytes32};
 ghost use Rattle.arithmetic.specs.Ranges.{FitsBits};
 ghost use Rattle.rules.specs.RangeHandles as Handles;
-ghost use Rattle.range_table.specs.Table.{pairWidth, pairIn, pairBytes, tableOf, Added};
+ghost use Rattle.range_table.specs.Table.{pairWidth, pairIn, pairBytes, tableOf, AddedRange};
 
 // The bytes of a pair.
 pub const WIDTH: usize = 8;
@@ -62,7 +62,7 @@ pub fn meaning(table: &[u8], count: usize, handle: i32) -> Range
 // A new pair at the end of a table.
 pub fn add(table: &mut [u8], count: usize, r: Range)
     requires { ⌜ count * pairWidth + pairWidth ≤ length (now table) ⌝ }
-    ensures { λ _. ⌜ Added (now (table .entry)) (now (table .exit)) count r ⌝ }
+    ensures { λ _. ⌜ AddedRange (now (table .entry)) (now (table .exit)) count r ⌝ }
 {
     let bytes = encode(r);
     buffer::put_row(table, WIDTH, count, &bytes);

@@ -5,7 +5,7 @@ use mathlib.Core.Bool.{Bool}
 use Prim.Native.Nat.{ℕ, zero, suc, _<_}
 use lib.Dec.{eqb, eqb→eq}
 use lib.ListN.{getD}
-use Rattle.record.specs.GraphRecords.{rowOf, operandsOf, Counts}
+use Rattle.record.specs.GraphRecords.{rowOf, operandsOf, OperandCounts}
 use Rattle.record.proofs.Computed.{at}
 
 -- n entries v, and then xs
@@ -20,6 +20,6 @@ counts = run 1 0 (run 4 1 (run 2 2 (run 4 1 (run 1 2 (run 4 0 (run 8 2 (run 8 0 
 right : ℕ → ℕ → Bool
 right code n = eqb n (operandsOf code)
 
-pub counted : Counts counts
+pub counted : OperandCounts counts
 unfolding counts right rowOf
 counted code h = eqb→eq (getD counts code 0) (operandsOf code) (at right counts tt code h)

@@ -13,7 +13,7 @@ use Rattle.number.specs.Number.{Bytes, byteAt, number32, number64, signedOf, bi
 use Rattle.buffer.specs.Rows.{rows, joined, All}
 use Rattle.record.specs.GraphRecords as Graph
 use Rattle.record.specs.TokensAndTags as Tokens
-use Rattle.record.specs.TokensAndTags.{pathIn, contentOf, tagBytes, stateOf, valueOf, ContentFits, TokenFits}
+use Rattle.record.specs.TokensAndTags.{pathIn, contentOf, tagBytes, stateOf, valueField, ContentFits, TokenFits}
 use Rattle.record.specs.Paths.{PathFits}
 use Rattle.record.specs.Cells as Cells
 use Rattle.record.specs.Cells.{cellOf, CellFits}
@@ -46,8 +46,8 @@ number64-small l b k = omega (arith, number32-small l b k, number32-small l b (k
 pub path-fits : (l : List ℕ) → Bytes l → PathFits (pathIn l)
 path-fits l b = record { low = number64-small l b 0; high = number64-small l b 8 }
 
-pub token-fits : (l : List ℕ) → Bytes l → TokenFits (Tokens.decode l)
-unfolding Tokens.decode
+pub token-fits : (l : List ℕ) → Bytes l → TokenFits (Tokens.decodeToken l)
+unfolding Tokens.decodeToken
 token-fits l b = record {
   path = path-fits l b;
   iteration = b 16;
@@ -56,8 +56,8 @@ token-fits l b = record {
   content = content-fits (number32 l 20) (byteAt l 24) (number32-small l b 20);
 }
 
-pub cell-fits : (l : List ℕ) → Bytes l → CellFits (Cells.decode l)
-unfolding Cells.decode cellOf
+pub cell-fits : (l : List ℕ) → Bytes l → CellFits (Cells.decodeCell l)
+unfolding Cells.decodeCell cellOf
 cell-fits l b = go (eqb (byteAt l 4) 1) (eqb (byteAt l 4) 2)
   where
     go : (p q : Bool) → CellFits (cond p Waiting (cond q (Present (signedOf (number32 l 0))) Absent))
@@ -65,8 +65,8 @@ cell-fits l b = go (eqb (byteAt l 4) 1) (eqb (byteAt l 4) 2)
     go false true = signed-fits (number32 l 0) (number32-small l b 0)
     go false false = tt
 
-pub instruction-fits : (l : List ℕ) → Bytes l → Graph.InstructionFits (Graph.decode l)
-unfolding Graph.decode
+pub instruction-fits : (l : List ℕ) → Bytes l → Graph.InstructionFits (Graph.decodeInstruction l)
+unfolding Graph.decodeInstruction
 instruction-fits l b = record {
   code = b 0;
   fanout = b 1;
@@ -105,8 +105,8 @@ all-32 n = all-append (bytes16 n) (bytes16 (n / 65536)) (all-16 n) (all-16 (n / 
 all-64 : (n : ℕ) → All IsByte (bytes64 n)
 all-64 n = all-append (bytes32 n) (bytes32 (n / 4294967296)) (all-32 n) (all-32 (n / 4294967296))
 
-all-instruction : (r : Instruction) → Graph.InstructionFits r → All IsByte (Graph.encode r)
-unfolding Graph.encode
+all-instruction : (r : Instruction) → Graph.InstructionFits r → All IsByte (Graph.encodeInstruction r)
+unfolding Graph.encodeInstruction
 all-instruction r f =
     let i = r .first .instruction in
     let j = r .second .instruction in
@@ -115,11 +115,11 @@ all-instruction r f =
     let second = all-append (bytes16 j) (bytes32 c ++ bytes32 (r .zeros)) (all-16 j) numbers in
     (f .code, (f .fanout, (f .port1, (f .port2, all-append (bytes16 i) (bytes16 j ++ (bytes32 c ++ bytes32 (r .zeros))) (all-16 i) second))))
 
-all-token : (t : Token) → TokenFits t → All IsByte (Tokens.encode t)
-unfolding Tokens.encode
+all-token : (t : Token) → TokenFits t → All IsByte (Tokens.encodeToken t)
+unfolding Tokens.encodeToken
 all-token t f =
     let τ = t .tag in
-    let v = valueOf (t .content) in
+    let v = valueField (t .content) in
     let s = stateOf (t .content) in
     let low = τ .path .low in
     let high = τ .path .high in
@@ -137,8 +137,8 @@ all-joined : {A : Type 0} (P : A → Type 0) (write : A → List ℕ) → ((x : 
 all-joined P write h [] f = tt
 all-joined P write h (x ∷ xs) f = all-append (write x) (joined write xs) (h x (f .0)) (all-joined P write h xs (f .1))
 
-pub instructions-written : (rs : List Instruction) → All Graph.InstructionFits rs → Bytes (joined Graph.encode rs)
-instructions-written rs f = all-bytes (joined Graph.encode rs) (all-joined Graph.InstructionFits Graph.encode all-instruction rs f)
+pub instructions-written : (rs : List Instruction) → All Graph.InstructionFits rs → Bytes (joined Graph.encodeInstruction rs)
+instructions-written rs f = all-bytes (joined Graph.encodeInstruction rs) (all-joined Graph.InstructionFits Graph.encodeInstruction all-instruction rs f)
 
-pub tokens-written : (ts : List Token) → All TokenFits ts → Bytes (joined Tokens.encode ts)
-tokens-written ts f = all-bytes (joined Tokens.encode ts) (all-joined TokenFits Tokens.encode all-token ts f)
+pub tokens-written : (ts : List Token) → All TokenFits ts → Bytes (joined Tokens.encodeToken ts)
+tokens-written ts f = all-bytes (joined Tokens.encodeToken ts) (all-joined TokenFits Tokens.encodeToken all-token ts f)

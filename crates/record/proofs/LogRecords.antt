@@ -11,7 +11,7 @@ use borrow.Author.Tests.{le-leb}
 use Rattle.number.proofs.Numbers.{number16-bytes, number64-bytes, fits16, fits64}
 use Rattle.record.specs.declared.tag.Tag.{Tag}
 use Rattle.record.specs.Paths.{PathFits}
-use Rattle.record.specs.Logs.{encode, nameOf}
+use Rattle.record.specs.Logs.{encodeActivity, nameOf}
 use Rattle.record.specs.Widths.{logWidth}
 
 pub record TagFits (τ : Tag) : Type 0 where
@@ -19,15 +19,15 @@ pub record TagFits (τ : Tag) : Type 0 where
   pub iteration : τ .iteration < 2 ^ 8
   pub instruction : τ .instruction < 2 ^ 16
 
-pub length-record : (τ : Tag) → length (encode τ) ≡ logWidth
-unfolding encode
+pub length-record : (τ : Tag) → length (encodeActivity τ) ≡ logWidth
+unfolding encodeActivity
 length-record τ = refl
 
-whole-record : (τ : Tag) (rest : List ℕ) → leb logWidth (length (encode τ ++ rest)) ≡ true
-whole-record τ rest = le-leb logWidth (length (encode τ ++ rest)) (omega (arith, length-append (encode τ) rest, length-record τ))
+whole-record : (τ : Tag) (rest : List ℕ) → leb logWidth (length (encodeActivity τ ++ rest)) ≡ true
+whole-record τ rest = le-leb logWidth (length (encodeActivity τ ++ rest)) (omega (arith, length-append (encodeActivity τ) rest, length-record τ))
 
-pub name-back : (τ : Tag) (rest : List ℕ) → TagFits τ → nameOf (encode τ ++ rest) ≡ some τ
-unfolding encode nameOf
+pub name-back : (τ : Tag) (rest : List ℕ) → TagFits τ → nameOf (encodeActivity τ ++ rest) ≡ some τ
+unfolding encodeActivity nameOf
 name-back τ rest f =
     rw (
       whole-record τ rest,

@@ -12,7 +12,7 @@ use Rattle.number.specs.Number.{byteAt, number32, number64, bitsOf, bytes32, by
 use Rattle.buffer.specs.Rows.{putRow, joined, All}
 use Rattle.record.specs.GraphRecords as Graph
 use Rattle.record.specs.TokensAndTags as Tokens
-use Rattle.record.specs.TokensAndTags.{contentOf, stateOf, valueOf, ContentFits, TokenFits, tokens}
+use Rattle.record.specs.TokensAndTags.{contentOf, stateOf, valueField, ContentFits, TokenFits, tokens}
 use Rattle.record.specs.Cells as Cells
 use Rattle.record.specs.Cells.{cellOf, CellFits, cells}
 use Rattle.record.specs.declared.instruction.Instruction.{Instruction}
@@ -23,7 +23,7 @@ use Rattle.record.specs.declared.cell.Cell.{Cell}
 use Rattle.record.specs.declared.cell.Cell.the-variants.{Absent, Waiting, Present}
 use Rattle.number.proofs.Numbers.{number16-bytes, number32-bytes, number64-bytes, fits16, fits32, fits64, number32-small, bytes16-number, bytes32-number, bytes64-number, bits-fit, signed-bits, bits-signed}
 use Rattle.buffer.proofs.Tables.{rows-put, rows-end, rows-joined}
-use Rattle.record.specs.Codecs.{ProperToken, ProperCell, Codecs}
+use Rattle.record.specs.Codecs.{ProperRecord, ProperCell, Codecs}
 use Rattle.record.specs.Widths.{tokenWidth, cellWidth}
 
 -- ---- a list as its elements
@@ -45,12 +45,12 @@ front w l k t = getD-take w l k 0 (ltb→lt k w t)
 
 -- ---- instructions
 
-pub length-instruction : (r : Instruction) → length (Graph.encode r) ≡ 16
-unfolding Graph.encode
+pub length-instruction : (r : Instruction) → length (Graph.encodeInstruction r) ≡ 16
+unfolding Graph.encodeInstruction
 length-instruction r = refl
 
-pub instruction-back : (r : Instruction) (rest : List ℕ) → Graph.InstructionFits r → Graph.decode (Graph.encode r ++ rest) ≡ r
-unfolding Graph.encode Graph.decode
+pub instruction-back : (r : Instruction) (rest : List ℕ) → Graph.InstructionFits r → Graph.decodeInstruction (Graph.encodeInstruction r ++ rest) ≡ r
+unfolding Graph.encodeInstruction Graph.decodeInstruction
 instruction-back r rest f =
     rw (
       number16-bytes (r .first .instruction) [],
@@ -64,8 +64,8 @@ instruction-back r rest f =
       fits32 _ (f .zeros),
     )
 
-pub instruction-bytes-back : (l : List ℕ) → length l ≡ 16 → ((k : ℕ) → byteAt l k < 256) → Graph.encode (Graph.decode l) ≡ l
-unfolding Graph.encode Graph.decode
+pub instruction-bytes-back : (l : List ℕ) → length l ≡ 16 → ((k : ℕ) → byteAt l k < 256) → Graph.encodeInstruction (Graph.decodeInstruction l) ≡ l
+unfolding Graph.encodeInstruction Graph.decodeInstruction
 instruction-bytes-back l e small =
     let constant = ap (λ (n : ℕ). bytes32 n) (bits-signed (number32 l 8) (number32-small l small 8)) ∙ bytes32-number l small 8 in
     (λ i. byteAt l 0 ∷ byteAt l 1 ∷ byteAt l 2 ∷ byteAt l 3 ∷ bytes16-number l small 4 i ++ bytes16-number l small 6 i ++ constant i ++ bytes32-number l small 12 i)
@@ -73,18 +73,18 @@ instruction-bytes-back l e small =
 
 -- ---- tokens
 
-content-back : (x : Content) → ContentFits x → contentOf (valueOf x % 4294967296) (stateOf x) ≡ x
+content-back : (x : Content) → ContentFits x → contentOf (valueField x % 4294967296) (stateOf x) ≡ x
 unfolding contentOf
 content-back (Live v) f = rw (fits32 _ (bits-fit v f), signed-bits v f)
 content-back (Spent v) f = rw (fits32 _ (bits-fit v f), signed-bits v f)
 content-back (Deferred n) f = rw (fits32 n f)
 
-pub length-token : (t : Token) → length (Tokens.encode t) ≡ tokenWidth
-unfolding Tokens.encode
+pub length-token : (t : Token) → length (Tokens.encodeToken t) ≡ tokenWidth
+unfolding Tokens.encodeToken
 length-token t = refl
 
-pub token-back : (t : Token) (rest : List ℕ) → TokenFits t → Tokens.decode (Tokens.encode t ++ rest) ≡ t
-unfolding Tokens.encode Tokens.decode
+pub token-back : (t : Token) (rest : List ℕ) → TokenFits t → Tokens.decodeToken (Tokens.encodeToken t ++ rest) ≡ t
+unfolding Tokens.encodeToken Tokens.decodeToken
 token-back t rest f =
     rw (
       number64-bytes (t .tag .path .low) [],
@@ -93,7 +93,7 @@ token-back t rest f =
       fits64 _ (f .path .high),
       number16-bytes (t .tag .instruction) [],
       fits16 _ (f .instruction),
-      number32-bytes (valueOf (t .content)) [],
+      number32-bytes (valueField (t .content)) [],
       content-back _ (f .content),
     )
 
@@ -104,15 +104,15 @@ state-back bits (suc zero) h = refl
 state-back bits (suc (suc zero)) h = refl
 state-back bits (suc (suc (suc s))) h = absurd (omega arith)
 
-value-back : (bits s : ℕ) → s < 3 → bits < 2 ^ 32 → valueOf (contentOf bits s) ≡ bits
+value-back : (bits s : ℕ) → s < 3 → bits < 2 ^ 32 → valueField (contentOf bits s) ≡ bits
 unfolding contentOf
 value-back bits zero k h = bits-signed bits h
 value-back bits (suc zero) k h = bits-signed bits h
 value-back bits (suc (suc zero)) k h = refl
 value-back bits (suc (suc (suc s))) k h = absurd (omega arith)
 
-pub token-bytes-back : (l : List ℕ) → ProperToken l → Tokens.encode (Tokens.decode l) ≡ l
-unfolding Tokens.encode Tokens.decode
+pub token-bytes-back : (l : List ℕ) → ProperRecord l → Tokens.encodeToken (Tokens.decodeToken l) ≡ l
+unfolding Tokens.encodeToken Tokens.decodeToken
 token-bytes-back l p =
     let bytes = p .small in
     let z = p .zeros in
@@ -124,27 +124,27 @@ token-bytes-back l p =
 
 -- ---- cells
 
-pub length-cell : (x : Cell) → length (Cells.encode x) ≡ 8
-unfolding Cells.encode
+pub length-cell : (x : Cell) → length (Cells.encodeCell x) ≡ 8
+unfolding Cells.encodeCell
 length-cell Absent = refl
 length-cell Waiting = refl
 length-cell (Present v) = refl
 
-pub cell-back : (x : Cell) (rest : List ℕ) → CellFits x → Cells.decode (Cells.encode x ++ rest) ≡ x
-unfolding Cells.encode Cells.decode Cells.cellOf
+pub cell-back : (x : Cell) (rest : List ℕ) → CellFits x → Cells.decodeCell (Cells.encodeCell x ++ rest) ≡ x
+unfolding Cells.encodeCell Cells.decodeCell Cells.cellOf
 cell-back Absent rest f = refl
 cell-back Waiting rest f = refl
 cell-back (Present v) rest f = rw (number32-bytes (bitsOf v) [], fits32 _ (bits-fit v f), signed-bits v f)
 
-cell-bytes : (bits s : ℕ) → s < 3 → (s < 2 → bits ≡ 0) → bits < 2 ^ 32 → Cells.encode (cellOf bits s) ≡ Cells.cellBytes bits s
-unfolding Cells.encode cellOf
-cell-bytes bits zero k z h = ap (λ (n : ℕ). Cells.cellBytes n 0) (sym (z (omega arith)))
-cell-bytes bits (suc zero) k z h = ap (λ (n : ℕ). Cells.cellBytes n 1) (sym (z (omega arith)))
-cell-bytes bits (suc (suc zero)) k z h = ap (λ (n : ℕ). Cells.cellBytes n 2) (bits-signed bits h)
+cell-bytes : (bits s : ℕ) → s < 3 → (s < 2 → bits ≡ 0) → bits < 2 ^ 32 → Cells.encodeCell (cellOf bits s) ≡ Cells.bytesOfCell bits s
+unfolding Cells.encodeCell cellOf
+cell-bytes bits zero k z h = ap (λ (n : ℕ). Cells.bytesOfCell n 0) (sym (z (omega arith)))
+cell-bytes bits (suc zero) k z h = ap (λ (n : ℕ). Cells.bytesOfCell n 1) (sym (z (omega arith)))
+cell-bytes bits (suc (suc zero)) k z h = ap (λ (n : ℕ). Cells.bytesOfCell n 2) (bits-signed bits h)
 cell-bytes bits (suc (suc (suc s))) k z h = absurd (omega arith)
 
-pub cell-bytes-back : (l : List ℕ) → ProperCell l → Cells.encode (Cells.decode l) ≡ l
-unfolding Cells.decode
+pub cell-bytes-back : (l : List ℕ) → ProperCell l → Cells.encodeCell (Cells.decodeCell l) ≡ l
+unfolding Cells.decodeCell
 cell-bytes-back l p =
     let z = p .zeros in
     cell-bytes (number32 l 0) (byteAt l 4) (p .state) (p .value) (number32-small l (p .small) 0)
@@ -154,8 +154,8 @@ cell-bytes-back l p =
 -- ---- a record is read from its own bytes alone
 
 module _ (l : List ℕ) where
-  pub token-front : Tokens.decode (take tokenWidth l) ≡ Tokens.decode l
-  unfolding Tokens.decode
+  pub token-front : Tokens.decodeToken (take tokenWidth l) ≡ Tokens.decodeToken l
+  unfolding Tokens.decodeToken
   token-front =
       rw (
         front tokenWidth l 0 tt,
@@ -185,8 +185,8 @@ module _ (l : List ℕ) where
         front tokenWidth l 24 tt,
       )
 
-  cell-front : Cells.decode (take 8 l) ≡ Cells.decode l
-  unfolding Cells.decode
+  cell-front : Cells.decodeCell (take 8 l) ≡ Cells.decodeCell l
+  unfolding Cells.decodeCell
   cell-front = rw (front 8 l 0 tt, front 8 l 1 tt, front 8 l 2 tt, front 8 l 3 tt, front 8 l 4 tt)
 
 pub own : {A : Type 0} (w : ℕ) (read : List ℕ → A) → ((l : List ℕ) → read (take w l) ≡ read l) → (l m : List ℕ) → take w l ≡ take w m → read l ≡ read m
@@ -195,20 +195,20 @@ own w read front l m e = sym (front l) ∙ ap read e ∙ front m
 -- ---- tables of tokens and of cells
 
 module _ (t : Token) (f : TokenFits t) where
-  pub tokens-put : (n i : ℕ) (l : List ℕ) → i < n → n * tokenWidth ≤ length l → tokens n (putRow tokenWidth l i (Tokens.encode t)) ≡ set (tokens n l) i t
-  tokens-put = rows-put tokenWidth Tokens.decode (own tokenWidth Tokens.decode token-front) (Tokens.encode t) t (length-token t) (λ r. token-back t r f)
+  pub tokens-put : (n i : ℕ) (l : List ℕ) → i < n → n * tokenWidth ≤ length l → tokens n (putRow tokenWidth l i (Tokens.encodeToken t)) ≡ set (tokens n l) i t
+  tokens-put = rows-put tokenWidth Tokens.decodeToken (own tokenWidth Tokens.decodeToken token-front) (Tokens.encodeToken t) t (length-token t) (λ r. token-back t r f)
 
-  pub tokens-end : (n : ℕ) (l : List ℕ) → suc n * tokenWidth ≤ length l → tokens (suc n) (putRow tokenWidth l n (Tokens.encode t)) ≡ tokens n l ++ t ∷ []
-  tokens-end = rows-end tokenWidth Tokens.decode (own tokenWidth Tokens.decode token-front) (Tokens.encode t) t (length-token t) (λ r. token-back t r f)
+  pub tokens-end : (n : ℕ) (l : List ℕ) → suc n * tokenWidth ≤ length l → tokens (suc n) (putRow tokenWidth l n (Tokens.encodeToken t)) ≡ tokens n l ++ t ∷ []
+  tokens-end = rows-end tokenWidth Tokens.decodeToken (own tokenWidth Tokens.decodeToken token-front) (Tokens.encodeToken t) t (length-token t) (λ r. token-back t r f)
 
-pub tokens-joined : (ts : List Token) (r : List ℕ) → All TokenFits ts → tokens (length ts) (joined Tokens.encode ts ++ r) ≡ ts
-tokens-joined = rows-joined tokenWidth Tokens.encode length-token Tokens.decode TokenFits token-back
+pub tokens-joined : (ts : List Token) (r : List ℕ) → All TokenFits ts → tokens (length ts) (joined Tokens.encodeToken ts ++ r) ≡ ts
+tokens-joined = rows-joined tokenWidth Tokens.encodeToken length-token Tokens.decodeToken TokenFits token-back
 
-pub cells-put : (x : Cell) → CellFits x → (n i : ℕ) (l : List ℕ) → i < n → n * cellWidth ≤ length l → cells n (putRow cellWidth l i (Cells.encode x)) ≡ set (cells n l) i x
-cells-put x f = rows-put cellWidth Cells.decode (own cellWidth Cells.decode cell-front) (Cells.encode x) x (length-cell x) (λ r. cell-back x r f)
+pub cells-put : (x : Cell) → CellFits x → (n i : ℕ) (l : List ℕ) → i < n → n * cellWidth ≤ length l → cells n (putRow cellWidth l i (Cells.encodeCell x)) ≡ set (cells n l) i x
+cells-put x f = rows-put cellWidth Cells.decodeCell (own cellWidth Cells.decodeCell cell-front) (Cells.encodeCell x) x (length-cell x) (λ r. cell-back x r f)
 
-pub cells-joined : (xs : List Cell) (r : List ℕ) → All CellFits xs → cells (length xs) (joined Cells.encode xs ++ r) ≡ xs
-cells-joined = rows-joined cellWidth Cells.encode length-cell Cells.decode CellFits cell-back
+pub cells-joined : (xs : List Cell) (r : List ℕ) → All CellFits xs → cells (length xs) (joined Cells.encodeCell xs ++ r) ≡ xs
+cells-joined = rows-joined cellWidth Cells.encodeCell length-cell Cells.decodeCell CellFits cell-back
 
 -- ---- the statement
 

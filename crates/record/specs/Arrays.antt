@@ -11,12 +11,12 @@ abbrev pub mostArrays : ℕ
 mostArrays = 64
 
 -- the array of the record that l starts with
-unfoldable pub decode : List ℕ → NamedArray
-decode l = record { first = number16 l 0; length = number16 l 2 }
+unfoldable pub decodeArray : List ℕ → NamedArray
+decodeArray l = record { first = number16 l 0; length = number16 l 2 }
 
 -- the array of record i
 abbrev pub arrayIn : List ℕ → ℕ → NamedArray
-arrayIn l i = decode (drop (i * arrayWidth) l)
+arrayIn l i = decodeArray (drop (i * arrayWidth) l)
 
 abbrev pub arraysOf : List ℕ → List NamedArray
-arraysOf l = allRows arrayWidth decode l
+arraysOf l = allRows arrayWidth decodeArray l

@@ -18,16 +18,16 @@ unfoldable pub cellOf : (bits state : ℕ) → Cell
 cellOf bits state = cond (eqb state 1) Waiting (cond (eqb state 2) (Present (signedOf bits)) Absent)
 
 -- the cell of the record that l starts with
-unfoldable pub decode : List ℕ → Cell
-decode l = cellOf (number32 l 0) (byteAt l 4)
+unfoldable pub decodeCell : List ℕ → Cell
+decodeCell l = cellOf (number32 l 0) (byteAt l 4)
 
-abbrev pub cellBytes : (value state : ℕ) → List ℕ
-cellBytes value state = bytes32 value ++ state ∷ 0 ∷ 0 ∷ 0 ∷ []
+abbrev pub bytesOfCell : (value state : ℕ) → List ℕ
+bytesOfCell value state = bytes32 value ++ state ∷ 0 ∷ 0 ∷ 0 ∷ []
 
-unfoldable pub encode : Cell → List ℕ
-encode Absent = cellBytes 0 0
-encode Waiting = cellBytes 0 1
-encode (Present v) = cellBytes (bitsOf v) 2
+unfoldable pub encodeCell : Cell → List ℕ
+encodeCell Absent = bytesOfCell 0 0
+encodeCell Waiting = bytesOfCell 0 1
+encodeCell (Present v) = bytesOfCell (bitsOf v) 2
 
 -- what a record can hold
 abbrev pub CellFits : Cell → Type 0
@@ -36,17 +36,17 @@ CellFits Waiting = Unit {0}
 CellFits (Present v) = SFits w32 v
 
 -- 02, R-13: "fields and states allowed", of the record that l starts with: a state of the three, and zeros behind it
-unfoldable pub stateAllowed : List ℕ → Bool
-stateAllowed l = leb (number32 l 4) 2
+unfoldable pub cellStateAllowed : List ℕ → Bool
+cellStateAllowed l = leb (number32 l 4) 2
 
 -- 02, R-13: "cell values 0 until present"
 unfoldable pub zeroUntilPresent : List ℕ → Bool
 zeroUntilPresent l = eqb (byteAt l 4) 2 || eqb (number32 l 0) 0
 
 -- the cell of record i
-abbrev pub cellAt : List ℕ → ℕ → Cell
-cellAt l i = decode (drop (i * cellWidth) l)
+abbrev pub cellOfRecord : List ℕ → ℕ → Cell
+cellOfRecord l i = decodeCell (drop (i * cellWidth) l)
 
 -- the cells of the first n records
 abbrev pub cells : ℕ → List ℕ → List Cell
-cells n l = rows cellWidth decode n l
+cells n l = rows cellWidth decodeCell n l

@@ -14,7 +14,7 @@ use Rattle.record.specs.Cells as Cells
 use Rattle.record.specs.Widths.{tokenWidth, cellWidth, graphWidth}
 
 -- what a record may hold whose bytes are written back: a state of the three, and zeros
-pub record ProperToken (l : List ℕ) : Type 0 where
+pub record ProperRecord (l : List ℕ) : Type 0 where
   pub size : length l ≡ tokenWidth
   pub small : (k : ℕ) → byteAt l k < 256
   pub state : byteAt l 24 < 3
@@ -30,9 +30,9 @@ pub record ProperCell (l : List ℕ) : Type 0 where
 
 -- whatever stands behind a record's bytes
 pub record Codecs : Type 0 where
-  pub instruction : (r : Instruction) (rest : List ℕ) → Graph.InstructionFits r → Graph.decode (Graph.encode r ++ rest) ≡ r
-  pub token : (t : Token) (rest : List ℕ) → Tokens.TokenFits t → Tokens.decode (Tokens.encode t ++ rest) ≡ t
-  pub cell : (x : Cell) (rest : List ℕ) → Cells.CellFits x → Cells.decode (Cells.encode x ++ rest) ≡ x
-  pub instructionBytes : (l : List ℕ) → length l ≡ graphWidth → ((k : ℕ) → byteAt l k < 256) → Graph.encode (Graph.decode l) ≡ l
-  pub tokenBytes : (l : List ℕ) → ProperToken l → Tokens.encode (Tokens.decode l) ≡ l
-  pub cellBytes : (l : List ℕ) → ProperCell l → Cells.encode (Cells.decode l) ≡ l
+  pub instruction : (r : Instruction) (rest : List ℕ) → Graph.InstructionFits r → Graph.decodeInstruction (Graph.encodeInstruction r ++ rest) ≡ r
+  pub token : (t : Token) (rest : List ℕ) → Tokens.TokenFits t → Tokens.decodeToken (Tokens.encodeToken t ++ rest) ≡ t
+  pub cell : (x : Cell) (rest : List ℕ) → Cells.CellFits x → Cells.decodeCell (Cells.encodeCell x ++ rest) ≡ x
+  pub instructionBytes : (l : List ℕ) → length l ≡ graphWidth → ((k : ℕ) → byteAt l k < 256) → Graph.encodeInstruction (Graph.decodeInstruction l) ≡ l
+  pub tokenBytes : (l : List ℕ) → ProperRecord l → Tokens.encodeToken (Tokens.decodeToken l) ≡ l
+  pub cellBytes : (l : List ℕ) → ProperCell l → Cells.encodeCell (Cells.decodeCell l) ≡ l

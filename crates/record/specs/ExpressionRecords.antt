@@ -9,12 +9,12 @@ use Rattle.record.specs.declared.term.Term.{Term}
 use Rattle.record.specs.Widths.{termWidth}
 
 -- the record that l starts with
-unfoldable pub decode : List ℕ → Term
-decode l = record { kind = byteAt l 0; left = byteAt l 1; right = byteAt l 2; zeros = byteAt l 3 + 256 * number32 l 4 }
+unfoldable pub decodeTerm : List ℕ → Term
+decodeTerm l = record { kind = byteAt l 0; left = byteAt l 1; right = byteAt l 2; zeros = byteAt l 3 + 256 * number32 l 4 }
 
 -- record number i of an expression's bytes
 abbrev pub termIn : List ℕ → ℕ → Term
-termIn l i = decode (drop (i * termWidth) l)
+termIn l i = decodeTerm (drop (i * termWidth) l)
 
 abbrev pub expressionOf : List ℕ → List Term
-expressionOf l = allRows termWidth decode l
+expressionOf l = allRows termWidth decodeTerm l

@@ -27,8 +27,8 @@ isGraphLength n = leb 1 n && whole graphWidth 256 n
 -- Bytes 4-5 and 6-7: their instructions. Bytes 8-11: a constant, signed, 32 bits. Bytes 12-15: zero."
 
 -- the record that l starts with
-unfoldable pub decode : List ℕ → Instruction
-decode l = record {
+unfoldable pub decodeInstruction : List ℕ → Instruction
+decodeInstruction l = record {
   code = byteAt l 0;
   fanout = byteAt l 1;
   first = record { port = byteAt l 2; instruction = number16 l 4 };
@@ -41,8 +41,8 @@ abbrev pub instructionBytes : (code fanOut : ℕ) → (first second : Destinatio
 instructionBytes code fanOut first second constant zeros =
     code ∷ fanOut ∷ first .port ∷ second .port ∷ bytes16 (first .instruction) ++ bytes16 (second .instruction) ++ bytes32 constant ++ bytes32 zeros
 
-unfoldable pub encode : Instruction → List ℕ
-encode r = instructionBytes (r .code) (r .fanout) (r .first) (r .second) (bitsOf (r .constant)) (r .zeros)
+unfoldable pub encodeInstruction : Instruction → List ℕ
+encodeInstruction r = instructionBytes (r .code) (r .fanout) (r .first) (r .second) (bitsOf (r .constant)) (r .zeros)
 
 -- what the fields of a record can hold
 pub record InstructionFits (r : Instruction) : Type 0 where
@@ -57,10 +57,10 @@ pub record InstructionFits (r : Instruction) : Type 0 where
 
 -- instruction number i of a graph's bytes
 abbrev pub instructionIn : List ℕ → ℕ → Instruction
-instructionIn l i = decode (drop (i * graphWidth) l)
+instructionIn l i = decodeInstruction (drop (i * graphWidth) l)
 
 abbrev pub graphOf : List ℕ → List Instruction
-graphOf l = allRows graphWidth decode l
+graphOf l = allRows graphWidth decodeInstruction l
 
 -- the destinations in use
 abbrev pub inUse : (fanOut : ℕ) → (first second : Destination) → List Destination
@@ -118,12 +118,12 @@ table =
     ∷ row 39 (OnConstant Eq) 1 1 2
     ∷ []
 
-abbrev pub lookup : List Row → (code : ℕ) → Row
-lookup [] n = noRow n
-lookup (r ∷ rs) n = cond (eqb n (r .code)) r (lookup rs n)
+abbrev pub rowWith : List Row → (code : ℕ) → Row
+rowWith [] n = noRow n
+rowWith (r ∷ rs) n = cond (eqb n (r .code)) r (rowWith rs n)
 
 unfoldable pub rowOf : (code : ℕ) → Row
-rowOf n = lookup table n
+rowOf n = rowWith table n
 
 abbrev pub operationOf : (code : ℕ) → Operation
 operationOf n = rowOf n .operation
@@ -142,5 +142,5 @@ abbrev pub operandsOf : (code : ℕ) → ℕ
 operandsOf n = rowOf n .operands
 
 -- l is that table
-abbrev pub Counts : List ℕ → Type 0
-Counts l = (code : ℕ) → code < 256 → getD l code 0 ≡ operandsOf code
+abbrev pub OperandCounts : List ℕ → Type 0
+OperandCounts l = (code : ℕ) → code < 256 → getD l code 0 ≡ operandsOf code

@@ -12,8 +12,8 @@ use Rattle.record.specs.TokensAndTags.{tagIn, portIn, tagBytes}
 use Rattle.record.specs.Widths.{logWidth}
 
 -- the zero byte stands where a token record has its port
-unfoldable pub encode : Tag → List ℕ
-encode τ = tagBytes (τ .path) (τ .iteration) 0 (τ .instruction)
+unfoldable pub encodeActivity : Tag → List ℕ
+encodeActivity τ = tagBytes (τ .path) (τ .iteration) 0 (τ .instruction)
 
 -- what the record names that l starts with: nothing if it "lacks its zero byte or isn't whole"
 unfoldable pub nameOf : List ℕ → Option Tag

@@ -1,11 +1,12 @@
 -- 01, "Tokens and tags", in its order. Assumes nothing.
 use Prim.Native.Nat.{ℕ, _+_, _*_, _/_, _^_, _<_}
-use mathlib.Core.Bool.{Bool, _&&_, cond}
+use mathlib.Core.Bool.{Bool, _&&_, cond, true, false}
 use mathlib.Core.List.{List, [], _∷_, _++_}
 use lib.ListN.{length, drop}
 use lib.Dec.{eqb, leb}
 use mir.Syntax.{w32}
 use mir.Val.{SFits}
+use lib.IntN.{ℤ}
 use Rattle.number.specs.Number.{byteAt, number16, number32, number64, signedOf, bitsOf, bytes16, bytes32, bytes64}
 use Rattle.buffer.specs.Rows.{rows, writtenOver}
 use Rattle.record.specs.declared.tag.Path.{Path}
@@ -38,8 +39,8 @@ abbrev pub tagBytes : (path : Path) → (iteration port instruction : ℕ) → L
 tagBytes path iteration port instruction = bytes64 (path .low) ++ bytes64 (path .high) ++ iteration ∷ port ∷ bytes16 instruction
 
 -- the token of the record that l starts with
-unfoldable pub decode : List ℕ → Token
-decode l = record {
+unfoldable pub decodeToken : List ℕ → Token
+decodeToken l = record {
   tag = tagIn l;
   port = portIn l;
   content = contentOf (number32 l valueOffset) (byteAt l stateOffset);
@@ -50,17 +51,28 @@ stateOf (Live v) = 0
 stateOf (Spent v) = 1
 stateOf (Deferred cell) = 2
 
-abbrev pub valueOf : Content → ℕ
-valueOf (Live v) = bitsOf v
-valueOf (Spent v) = bitsOf v
-valueOf (Deferred cell) = cell
+abbrev pub valueField : Content → ℕ
+valueField (Live v) = bitsOf v
+valueField (Spent v) = bitsOf v
+valueField (Deferred cell) = cell
+
+-- the value field, signed: that of a deferred token holds the cell number
+abbrev pub valueIn : Content → ℤ
+valueIn (Live v) = v
+valueIn (Spent v) = v
+valueIn (Deferred cell) = signedOf cell
+
+abbrev pub isSpentRecord : Content → Bool
+isSpentRecord (Live v) = false
+isSpentRecord (Spent v) = true
+isSpentRecord (Deferred cell) = false
 
 abbrev pub tokenBytes : (path : Path) → (iteration port instruction value state : ℕ) → List ℕ
 tokenBytes path iteration port instruction value state =
     tagBytes path iteration port instruction ++ bytes32 value ++ state ∷ 0 ∷ 0 ∷ 0 ∷ []
 
-unfoldable pub encode : Token → List ℕ
-encode t = tokenBytes (t .tag .path) (t .tag .iteration) (t .port) (t .tag .instruction) (valueOf (t .content)) (stateOf (t .content))
+unfoldable pub encodeToken : Token → List ℕ
+encodeToken t = tokenBytes (t .tag .path) (t .tag .iteration) (t .port) (t .tag .instruction) (valueField (t .content)) (stateOf (t .content))
 
 -- what the fields of a record can hold
 abbrev pub ContentFits : Content → Type 0
@@ -96,8 +108,8 @@ isInput l = isRoot (pathIn l) && (eqb (byteAt l 16) 0 && eqb (number32 l stateOf
 -- ---- 02, R-13: "fields and states allowed"
 
 -- of the record that l starts with: a state of the three, and zeros behind it
-unfoldable pub stateAllowed : List ℕ → Bool
-stateAllowed l = leb (number32 l stateOffset) 2
+unfoldable pub tokenStateAllowed : List ℕ → Bool
+tokenStateAllowed l = leb (number32 l stateOffset) 2
 
 -- ---- "In a whole run a tag receives at most one token on each port."
 
@@ -116,12 +128,12 @@ capacityOf n = n / tokenWidth
 
 -- the token of record i
 abbrev pub tokenAt : List ℕ → ℕ → Token
-tokenAt l i = decode (drop (i * tokenWidth) l)
+tokenAt l i = decodeToken (drop (i * tokenWidth) l)
 
 -- the tokens of the first n records
 abbrev pub tokens : ℕ → List ℕ → List Token
-tokens n l = rows tokenWidth decode n l
+tokens n l = rows tokenWidth decodeToken n l
 
 -- a ledger that took these tokens
 abbrev pub ledgerOf : List Token → (lent : List ℕ) → List ℕ
-ledgerOf ts lent = writtenOver encode ts lent
+ledgerOf ts lent = writtenOver encodeToken ts lent

@@ -24,6 +24,10 @@ cellWidth = 8
 abbrev pub pickWidth : ℕ
 pickWidth = 2
 
+-- 02, R-1: "one 4-byte record"
+abbrev pub stepWidth : ℕ
+stepWidth = 4
+
 -- 02, R-7, a record a firing, and R-8: "Log records grow to 20 bytes likewise"
 abbrev pub logWidth : ℕ
 logWidth = 20

@@ -17,7 +17,7 @@ pub struct NamedArray {
 // The array of the record that s starts with.
 pub fn decode(s: &[u8]) -> NamedArray
     requires { ⌜ arrayWidth ≤ length (now s) ⌝ }
-    ensures { λ r. ⌜ r ≡ Arrays.decode (now (s .entry)) ⌝ }
+    ensures { λ r. ⌜ r ≡ Arrays.decodeArray (now (s .entry)) ⌝ }
 {
     NamedArray {
         first: number::u16_at(s, 0),

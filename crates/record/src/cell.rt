@@ -9,6 +9,8 @@ ghost use Rattle.record.specs.Widths.{cellWidth};
 // The bytes of a cell record.
 pub const WIDTH: usize = 8;
 
+pub const MOST: usize = 1024;
+
 // 01, "Firing": a cell is absent, waiting or present.
 pub enum Cell {
     Absent,
@@ -30,14 +32,14 @@ fn cell_of(bits: u32, state: u8) -> Cell
 // The cell of the record that s starts with.
 pub fn decode(s: &[u8]) -> Cell
     requires { ⌜ 8 ≤ length (now s) ⌝ }
-    ensures { λ r. ⌜ r ≡ Cells.decode (now (s .entry)) ⌝ }
+    ensures { λ r. ⌜ r ≡ Cells.decodeCell (now (s .entry)) ⌝ }
 {
     cell_of(number::u32_at(s, 0), s[4])
 }
 
 // The bytes of a record's fields.
 fn bytes_of(value: u32, state: u8) -> [u8; WIDTH]
-    ensures { λ r. ⌜ r ≡ Cells.cellBytes value state ⌝ }
+    ensures { λ r. ⌜ r ≡ Cells.bytesOfCell value state ⌝ }
 {
     [
         (value % 256) as u8,
@@ -52,7 +54,7 @@ fn bytes_of(value: u32, state: u8) -> [u8; WIDTH]
 }
 
 pub fn encode(cell: Cell) -> [u8; WIDTH]
-    ensures { λ r. ⌜ (r ≡ Cells.encode cell) × Cells.CellFits cell ⌝ }
+    ensures { λ r. ⌜ (r ≡ Cells.encodeCell cell) × Cells.CellFits cell ⌝ }
 {
     match cell {
         Cell::Absent => bytes_of(0, 0),
@@ -64,7 +66,7 @@ pub fn encode(cell: Cell) -> [u8; WIDTH]
 // Whether the record that s starts with has a state of the three, and zeros behind it.
 pub fn state_allowed(s: &[u8]) -> bool
     requires { ⌜ 8 ≤ length (now s) ⌝ }
-    ensures { λ r. ⌜ r ≡ Cells.stateAllowed (now (s .entry)) ⌝ }
+    ensures { λ r. ⌜ r ≡ Cells.cellStateAllowed (now (s .entry)) ⌝ }
 {
     number::u32_at(s, 4) <= 2
 }
@@ -80,7 +82,7 @@ pub fn zero_until_present(s: &[u8]) -> bool
 // The cell of record i.
 pub fn cell_at(cells: &[u8], i: usize) -> Cell
     requires { ⌜ i < length (now cells) / cellWidth ⌝ }
-    ensures { λ r. ⌜ r ≡ Cells.cellAt (now (cells .entry)) i ⌝ }
+    ensures { λ r. ⌜ r ≡ Cells.cellOfRecord (now (cells .entry)) i ⌝ }
 {
     decode(buffer::row_at(cells, WIDTH, i))
 }
@@ -88,7 +90,7 @@ pub fn cell_at(cells: &[u8], i: usize) -> Cell
 // Writes a cell as record i; every other byte stays.
 pub fn put_cell(cells: &mut [u8], i: usize, cell: Cell)
     requires { ⌜ i < length (now cells) / cellWidth ⌝ }
-    ensures { λ _. ⌜ (now (cells .exit) ≡ putRow cellWidth (now (cells .entry)) i (Cells.encode cell)) × Cells.CellFits cell ⌝ }
+    ensures { λ _. ⌜ (now (cells .exit) ≡ putRow cellWidth (now (cells .entry)) i (Cells.encodeCell cell)) × Cells.CellFits cell ⌝ }
 {
     let bytes = encode(cell);
     buffer::put_row(cells, WIDTH, i, &bytes);

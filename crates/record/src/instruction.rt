@@ -30,7 +30,7 @@ pub struct Instruction {
 // The instruction of the record that s starts with.
 pub fn decode(s: &[u8]) -> Instruction
     requires { ⌜ 16 ≤ length (now s) ⌝ }
-    ensures { λ r. ⌜ r ≡ Graph.decode (now (s .entry)) ⌝ }
+    ensures { λ r. ⌜ r ≡ Graph.decodeInstruction (now (s .entry)) ⌝ }
 {
     let first = Destination {
         instruction: number::u16_at(s, 4),
@@ -84,7 +84,7 @@ fn bytes_of(
 }
 
 pub fn encode(r: Instruction) -> [u8; WIDTH]
-    ensures { λ b. ⌜ (b ≡ Graph.encode r) × InstructionFits r ⌝ }
+    ensures { λ b. ⌜ (b ≡ Graph.encodeInstruction r) × InstructionFits r ⌝ }
 {
     let first = r.first;
     let second = r.second;
@@ -109,7 +109,7 @@ pub fn instruction_at(graph: &[u8], i: usize) -> Instruction
 // Writes r as instruction i of a graph; every other byte stays.
 pub fn put_instruction(graph: &mut [u8], i: usize, r: Instruction)
     requires { ⌜ i < length (now graph) / graphWidth ⌝ }
-    ensures { λ _. ⌜ (now (graph .exit) ≡ putRow graphWidth (now (graph .entry)) i (Graph.encode r)) × InstructionFits r ⌝ }
+    ensures { λ _. ⌜ (now (graph .exit) ≡ putRow graphWidth (now (graph .entry)) i (Graph.encodeInstruction r)) × InstructionFits r ⌝ }
 {
     let bytes = encode(r);
     buffer::put_row(graph, WIDTH, i, &bytes);

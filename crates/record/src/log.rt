@@ -8,7 +8,7 @@ ghost use mathlib.Core.Path.{_≡_};
 ghost use Prim.Native.Nat.{_*_, _/_, _≤_, _<_};
 ghost use lib.ListN.{length, drop};
 ghost use Rattle.buffer.specs.Rows.{putRow};
-ghost use Rattle.record.specs.Logs.{encode, nameOf, tagNamed};
+ghost use Rattle.record.specs.Logs.{encodeActivity, nameOf, tagNamed};
 ghost use Rattle.record.specs.Widths.{logWidth};
 
 // The bytes of a log record, and where its zero byte stands.
@@ -25,7 +25,7 @@ pub enum Named {
 // Writes the record of a tag, which is the start of a token record on port 0, as record i of a log; every other byte stays.
 pub fn put_tag(log: &mut [u8], i: usize, tag: Tag)
     requires { ⌜ i < length (now log) / logWidth ⌝ }
-    ensures { λ _. ⌜ now (log .exit) ≡ putRow logWidth (now (log .entry)) i (encode tag) ⌝ }
+    ensures { λ _. ⌜ now (log .exit) ≡ putRow logWidth (now (log .entry)) i (encodeActivity tag) ⌝ }
 {
     let bytes = token::encode(Token {
         tag,

@@ -1,6 +1,6 @@
 // The operations: which one a code names, and how many operands each code has.
 ghost use mathlib.Core.Path.{_≡_};
-ghost use Rattle.record.specs.GraphRecords.{operationOf, operandsOf, Counts};
+ghost use Rattle.record.specs.GraphRecords.{operationOf, operandsOf, OperandCounts};
 
 pub enum Arithmetic {
     Add,
@@ -329,14 +329,14 @@ const OPERANDS: [u8; 256] = [
 
 // The table, for callers that look up many codes: `operands` copies it at each.
 pub fn counts() -> [u8; 256]
-    ensures { λ r. ⌜ Counts r ⌝ }
+    ensures { λ r. ⌜ OperandCounts r ⌝ }
 {
     OPERANDS
 }
 
 // The operand count of a code, by the table.
 pub fn count_of(counts: &[u8; 256], code: u8) -> u8
-    requires { ⌜ Counts (now counts) ⌝ }
+    requires { ⌜ OperandCounts (now counts) ⌝ }
     ensures { λ r. ⌜ r ≡ operandsOf code ⌝ }
 {
     counts[code as usize]

@@ -35,7 +35,7 @@ fn wide32(x: u32) -> u64
 // The term of the record that s starts with.
 pub fn decode(s: &[u8]) -> Term
     requires { ⌜ 8 ≤ length (now s) ⌝ }
-    ensures { λ r. ⌜ r ≡ Expression.decode (now (s .entry)) ⌝ }
+    ensures { λ r. ⌜ r ≡ Expression.decodeTerm (now (s .entry)) ⌝ }
 {
     Term {
         kind: s[0],

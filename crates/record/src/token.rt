@@ -7,11 +7,14 @@ ghost use Prim.Native.Nat.{_/_, _≤_, _<_};
 ghost use lib.ListN.{length};
 ghost use Rattle.buffer.specs.Rows.{putRow};
 ghost use Rattle.record.specs.TokensAndTags as Tokens;
-ghost use Rattle.record.specs.TokensAndTags.{contentOf, stateOf, valueOf, tokenBytes, tokenAt, standsAt, ContentFits, TokenFits};
+ghost use Rattle.record.specs.TokensAndTags.{contentOf, stateOf, valueField, tokenBytes, tokenAt, standsAt, ContentFits, TokenFits};
 ghost use Rattle.record.specs.Widths.{tokenWidth};
 
 // The bytes of a token record, and where its port, its instruction and its state stand.
 pub const WIDTH: usize = 28;
+
+// The most that a ledger has (01, "Tokens and tags"), and the most picks of a run.
+pub const MOST: usize = 2048;
 
 pub const PORT: usize = 17;
 
@@ -46,7 +49,7 @@ fn content_of(bits: u32, state: u8) -> Content
 // The token of the record that s starts with.
 pub fn decode(s: &[u8]) -> Token
     requires { ⌜ tokenWidth ≤ length (now s) ⌝ }
-    ensures { λ r. ⌜ r ≡ Tokens.decode (now (s .entry)) ⌝ }
+    ensures { λ r. ⌜ r ≡ Tokens.decodeToken (now (s .entry)) ⌝ }
 {
     let tag = tag::decode(s);
     Token {
@@ -67,7 +70,7 @@ fn state_of(content: Content) -> u8
 }
 
 fn value_of(content: Content) -> u32
-    ensures { λ r. ⌜ (r ≡ valueOf content) × ContentFits content ⌝ }
+    ensures { λ r. ⌜ (r ≡ valueField content) × ContentFits content ⌝ }
 {
     match content {
         Content::Live(v) => number::bits(v),
@@ -124,7 +127,7 @@ fn bytes_of(
 }
 
 pub fn encode(t: Token) -> [u8; WIDTH]
-    ensures { λ r. ⌜ (r ≡ Tokens.encode t) × TokenFits t ⌝ }
+    ensures { λ r. ⌜ (r ≡ Tokens.encodeToken t) × TokenFits t ⌝ }
 {
     let tag = t.tag;
     let path = tag.path;
@@ -142,7 +145,7 @@ pub fn encode(t: Token) -> [u8; WIDTH]
 // Whether the record that s starts with has a state of the three, and zeros behind it.
 pub fn state_allowed(s: &[u8]) -> bool
     requires { ⌜ tokenWidth ≤ length (now s) ⌝ }
-    ensures { λ r. ⌜ r ≡ Tokens.stateAllowed (now (s .entry)) ⌝ }
+    ensures { λ r. ⌜ r ≡ Tokens.tokenStateAllowed (now (s .entry)) ⌝ }
 {
     number::u32_at(s, STATE) <= 2
 }
@@ -158,7 +161,7 @@ pub fn token_at(ledger: &[u8], i: usize) -> Token
 // Writes t as record i of a ledger; every other byte stays.
 pub fn put_token(ledger: &mut [u8], i: usize, t: Token)
     requires { ⌜ i < length (now ledger) / tokenWidth ⌝ }
-    ensures { λ _. ⌜ (now (ledger .exit) ≡ putRow tokenWidth (now (ledger .entry)) i (Tokens.encode t)) × TokenFits t ⌝ }
+    ensures { λ _. ⌜ (now (ledger .exit) ≡ putRow tokenWidth (now (ledger .entry)) i (Tokens.encodeToken t)) × TokenFits t ⌝ }
 {
     let bytes = encode(t);
     buffer::put_row(ledger, WIDTH, i, &bytes);

@@ -25,7 +25,7 @@ use Rattle.rules.specs.InstructionSet.{machineOf}
 use Rattle.rules.specs.Run.{firstState}
 use Rattle.rules.specs.Log.{namesIn}
 use Rattle.abstraction.specs.Tables.{arraysIn}
-use Rattle.fire.specs.Running.{machineFor, stateIn}
+use Rattle.fire.specs.Running.{machineOver, stateIn}
 use Rattle.start.specs.Begun.{machineLent, Begun}
 use Rattle.start.specs.Ended.{EndedAt}
 use Rattle.start.proofs.Starting.{accepted-by, from-start, as-lent}
@@ -47,7 +47,7 @@ module _ (graph arrays inputs log ledger cells : List ℕ) (e : check graph arra
   ends-replay : (budget : ℕ) → budget ≡ (length log + (logWidth - 1)) / logWidth
       → endOf Log log (graphOf graph) tables ledger₁ cells₁ used budget ≡ ends (arraysIn tables) (length ledger₁ / tokenWidth) (length cells₁ / cellWidth) (stateIn ledger₁ cells₁ used)
   ends-replay budget size =
-      let M = machineFor (graphOf graph) tables ledger₁ cells₁ in
+      let M = machineOver (graphOf graph) tables ledger₁ cells₁ in
       let s = stateIn ledger₁ cells₁ used in
       ap (λ (n : ℕ). runFrom M (byName M NotEnabled (namesIn log)) n 0 s) (size ∙ sym (names-count log)) ∙ sym (namesChoose M NotEnabled (namesIn log) s)
 

@@ -14,7 +14,7 @@ use Rattle.record.specs.declared.tag.Tag.{Tag}
 use Rattle.record.specs.GraphRecords.{graphOf}
 use Rattle.record.specs.Arrays.{arraysOf}
 use Rattle.record.specs.TokensAndTags.{capacityOf}
-use Rattle.record.specs.Logs.{encode}
+use Rattle.record.specs.Logs.{encodeActivity}
 use Rattle.record.specs.Widths.{cellWidth, logWidth}
 use Rattle.machine.specs.Machine.{Outcome, completed, hung, budgetSpent, refused, byPicks, run}
 use Rattle.machine.specs.Orders as Ends
@@ -52,18 +52,18 @@ unfolding answer
 refused-there (refusedAtOnce r p) f = absurd f
 refused-there (ranTo e) f = go (e .outcome) f
   where
-    go : (o : Outcome Refusal) → Ends.Refused o → Refused (outcomeOf o)
+    go : (o : Outcome Refusal) → Ends.RefusedEnd o → Refused (outcomeOf o)
     go completed h = h
     go hung h = h
     go budgetSpent h = h
     go (refused r p) h = h
 
-at-rest : (x : Result) → Quiescent (answer x .outcome) → Results.Quiescent x
+at-rest : (x : Result) → Quiescent (answer x .outcome) → Results.QuiescentResult x
 unfolding answer
 at-rest (refusedAtOnce r p) q = q
 at-rest (ranTo e) q = go (e .outcome) q
   where
-    go : (o : Outcome Refusal) → Quiescent (outcomeOf o) → Ends.Quiescent o
+    go : (o : Outcome Refusal) → Quiescent (outcomeOf o) → Ends.QuiescentEnd o
     go completed h = h
     go hung h = h
     go budgetSpent h = h
@@ -90,27 +90,27 @@ log-replays graph arrays inputs graphBytes inputBytes l x h other r ledger′ ce
 -- ---- the records of a log
 
 -- each is that of its tag
-records-back : (τs : List Tag) (r : List ℕ) → rows logWidth (take logWidth) (length τs) (joined encode τs ++ r) ≡ map encode τs
-unfolding encode
+records-back : (τs : List Tag) (r : List ℕ) → rows logWidth (take logWidth) (length τs) (joined encodeActivity τs ++ r) ≡ map encodeActivity τs
+unfolding encodeActivity
 records-back [] r = refl
-records-back (τ ∷ τs) r = λ i. encode τ ∷ records-back τs r i
+records-back (τ ∷ τs) r = λ i. encodeActivity τ ∷ records-back τs r i
 
 some-head : (τ σ : Tag) → map some (τ ∷ []) ≡ map some (σ ∷ []) → τ ≡ σ
 some-head τ σ e = cc
 
 -- tags that fit a record are told by it
-same-tag : (τ σ : Tag) → TagFits τ → TagFits σ → encode τ ≡ encode σ → τ ≡ σ
+same-tag : (τ σ : Tag) → TagFits τ → TagFits σ → encodeActivity τ ≡ encodeActivity σ → τ ≡ σ
 same-tag τ σ f g e = some-head τ σ (sym (names-back (τ ∷ []) (f, tt)) ∙ ap (λ (b : List ℕ). namesIn (b ++ [])) e ∙ names-back (σ ∷ []) (g, tt))
 
-tag-member : (τ : Tag) (τs : List Tag) → TagFits τ → All TagFits τs → List·Memᴰ (encode τ) (map encode τs) → List·Memᴰ τ τs
+tag-member : (τ : Tag) (τs : List Tag) → TagFits τ → All TagFits τs → List·Memᴰ (encodeActivity τ) (map encodeActivity τs) → List·Memᴰ τ τs
 tag-member τ [] f fs m = absurd (List·Memᴰ·not-nil m)
 tag-member τ (σ ∷ τs) f fs m = go (List·Memᴰ·cases-cons m) (λ h. tag-member τ τs f (fs .1) h)
   where
-    go : (encode τ ≡ encode σ) ⊎ List·Memᴰ (encode τ) (map encode τs) → (List·Memᴰ (encode τ) (map encode τs) → List·Memᴰ τ τs) → List·Memᴰ τ (σ ∷ τs)
+    go : (encodeActivity τ ≡ encodeActivity σ) ⊎ List·Memᴰ (encodeActivity τ) (map encodeActivity τs) → (List·Memᴰ (encodeActivity τ) (map encodeActivity τs) → List·Memᴰ τ τs) → List·Memᴰ τ (σ ∷ τs)
     go (inl e) rest = List·Memᴰ·head (same-tag τ σ f (fs .0) e)
     go (inr h) rest = List·Memᴰ·tail (rest h)
 
-once-back : (τs : List Tag) → All TagFits τs → Once τs → Once (map encode τs)
+once-back : (τs : List Tag) → All TagFits τs → Once τs → Once (map encodeActivity τs)
 once-back [] fs o = tt
 once-back (τ ∷ τs) fs o = (λ m. o .0 (tag-member τ τs (fs .0) (fs .1) m), once-back τs (fs .1) (o .1))
 
@@ -150,14 +150,14 @@ module _ (graph arrays inputs : List ℕ) (l : LentToLogged) where
           let h = log-passed graph arrays inputs (l .picks) (l .budget) (length (l .ledger)) (length (l .cells)) (length (l .log)) e in
           tags-fit graph inputs (arraysOf arrays) capacity count (h .start) (whole-bytes cellWidth mostCells (length (l .cells)) (h .stores .wholeCells) .1) graphBytes inputBytes (l .budget) (picksOf (l .picks)) (l .log)
 
-  records-are : (x : LeftByLogged) → LoggedOn graph arrays inputs l x → recordsIn x ≡ map encode (whole .log)
+  records-are : (x : LeftByLogged) → LoggedOn graph arrays inputs l x → recordsIn x ≡ map encodeActivity (whole .log)
   unfolding logAfter
   records-are x h =
       (λ i. rows logWidth (take logWidth) (h .answered i .firings) (h .logLeft i))
       ∙ ap (λ (n : ℕ). rows logWidth (take logWidth) n (logAfter whole (l .log))) log-counted
-      ∙ records-back (whole .log) (drop (length (joined encode (whole .log))) (l .log))
+      ∙ records-back (whole .log) (drop (length (joined encodeActivity (whole .log))) (l .log))
 
-  ends-at-rest : (x : LeftByLogged) → LoggedOn graph arrays inputs l x → Quiescent (x .answer .outcome) → Results.Quiescent (whole .result)
+  ends-at-rest : (x : LeftByLogged) → LoggedOn graph arrays inputs l x → Quiescent (x .answer .outcome) → Results.QuiescentResult (whole .result)
   ends-at-rest x h q = at-rest (whole .result) (subst (λ (a : Answer). Quiescent (a .outcome)) (h .answered) q)
 
 pub logs-agree : LogsAgree
@@ -166,6 +166,6 @@ logs-agree graph arrays inputs graphBytes inputBytes l m c d x y h k p q =
     (ends-at-rest graph arrays inputs l x h p) (ends-at-rest graph arrays inputs m y k q) in
     let a = records-are graph arrays inputs l x h in
     let b = records-are graph arrays inputs m y k in (
-      rw (a, b) (Permᴰ·map encode (both .0)),
+      rw (a, b) (Permᴰ·map encodeActivity (both .0)),
       rw a (once-back (whole graph arrays inputs l .log) (log-fit graph arrays inputs l graphBytes inputBytes) (both .1)),
     )

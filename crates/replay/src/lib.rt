@@ -41,7 +41,10 @@ fn accepted(
     cells: &mut [u8],
 ) -> Answer
     requires { ⌜ check (now graph) (now arrays) (now inputs) [] (length (now ledger)) (length (now cells)) ≡ Passed ⌝ }
-    ensures { λ r. ⌜ EndedAt (Machine·replay (machineLent (now (graph .entry)) (now (arrays .entry)) (now (ledger .entry)) (now (cells .entry))) NotEnabled (namesIn (now (log .entry))) 0 (firstState (now (inputs .entry)) (length (now (cells .entry)) / cellWidth))) r (now (ledger .entry)) (now (cells .entry)) (now (ledger .exit)) (now (cells .exit)) ⌝ }
+    ensures { λ r. ⌜ EndedAt
+        (Machine·replay (machineLent (now (graph .entry)) (now (arrays .entry)) (now (ledger .entry)) (now (cells .entry))) NotEnabled
+        (namesIn (now (log .entry))) 0 (firstState (now (inputs .entry)) (length (now (cells .entry)) / cellWidth))) r (now (ledger .entry))
+        (now (cells .entry)) (now (ledger .exit)) (now (cells .exit)) ⌝ }
 {
     let mut tables = [0u16; store_enabled::TABLES_LENGTH];
     let mut links = [0u16; store_chains::LENGTH];
@@ -83,7 +86,8 @@ pub fn replay(
     ledger: &mut [u8],
     cells: &mut [u8],
 ) -> Answer
-    ensures { λ r. ⌜ ReplayedOn (now (graph .entry)) (now (arrays .entry)) (now (inputs .entry)) (now (log .entry)) (now (ledger .entry)) (now (cells .entry)) r (now (ledger .exit)) (now (cells .exit)) ⌝ }
+    ensures { λ r. ⌜ ReplayedOn (now (graph .entry)) (now (arrays .entry)) (now (inputs .entry)) (now (log .entry)) (now (ledger .entry)) (now (cells .entry)) r
+        (now (ledger .exit)) (now (cells .exit)) ⌝ }
 {
     let checked = checks::check(graph, arrays, inputs, &log[0..0], ledger.len(), cells.len());
     match checked {

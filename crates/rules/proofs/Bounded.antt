@@ -40,14 +40,14 @@ use Rattle.rules.specs.Check.{demand, _andThen_, checkGraph, checkStores
 use Rattle.rules.specs.InstructionSet.{machineOf}
 use Rattle.rules.specs.Run.{firstState, picksOf, Result, refusedAtOnce, ranTo, outcomeOf, unlessFailed, result, answer}
 use Rattle.rules.specs.Log.{logSuffices, checkLogStores, checkLogged, LogResult, logUnlessFailed, logged}
-use Rattle.rules.specs.Saved.{machineSaved, stateSaved, taken, checkSaved, carried}
-use Rattle.rules.specs.Orders.{Quiescent, Refused, Allowed}
+use Rattle.rules.specs.Saved.{machineSaved, stateSaved, stateTaken, checkSaved, carried}
+use Rattle.rules.specs.Orders.{QuiescentResult, RefusedResult, Allowed}
 use Rattle.rules.specs.Fits.{AllFit}
 use Rattle.rules.specs.Invariants.{LawfulResult}
-use Rattle.rules.specs.Small.{Small, Counted}
+use Rattle.rules.specs.Small.{Small, CountsFit}
 use Rattle.rules.specs.Held.{heldIn}
 use Rattle.rules.specs.Bounded.{goodBound, andBound, checkBounded, bounded, checkBoundLogged, boundLogged, checkBoundSaved, boundCarried}
-use Rattle.rules.specs.Bounded.{BoundZero, LeavesNoneHeld, EndsAs, AsEveryOrder, NotRefused, BoundLoggedRuns, BoundLogFits, BoundedInvariants, BoundedFits, BoundedSmall, BoundedCounted}
+use Rattle.rules.specs.Bounded.{BoundZero, LeavesNoneHeld, BoundedEndsAs, BoundedAsEveryOrder, NotRefused, BoundLoggedRuns, BoundLogFits, BoundedInvariants, BoundedFits, BoundedSmall, BoundedCounted}
 use Rattle.rules.proofs.Passed.{demand-passed, andThen-passed}
 use Rattle.rules.proofs.Lawful.{lawful}
 use Rattle.rules.proofs.Accepted.{whole-bytes, Whole, stores-whole, Accepted, accepted, law, good, by-check}
@@ -145,7 +145,7 @@ module _ (graph inputs : List ℕ) (table : List NamedArray) (capacity cells : �
   fires : RanBounded M (heldIn (graphOf graph) k) s budget 0 log e
   fires = boundedLogged M (heldIn (graphOf graph) k) (byPicks M) (byPicksLawful M) budget picks 0 s
 
-  quiet : {X : Type 0} (o : Outcome Refusal) → Ends.Completed o ⊎ (Ends.Hung o × X) → Ends.Quiescent o
+  quiet : {X : Type 0} (o : Outcome Refusal) → Ends.CompletedEnd o ⊎ (Ends.HungEnd o × X) → Ends.QuiescentEnd o
   quiet completed h = tt
   quiet hung h = tt
   quiet budgetSpent (inl h) = h
@@ -153,7 +153,7 @@ module _ (graph inputs : List ℕ) (table : List NamedArray) (capacity cells : �
   quiet (refused r p) (inl h) = h
   quiet (refused r p) (inr h) = h .0
 
-  ends-as : Machines.LeavesNoneHeld M (heldIn (graphOf graph) k) e → (picks′ : List ℕ) → EndsAs (ranTo e) (ranTo (run M 2048 picks′ s))
+  ends-as : Machines.LeavesNoneHeldOfMachine M (heldIn (graphOf graph) k) e → (picks′ : List ℕ) → BoundedEndsAs (ranTo e) (ranTo (run M 2048 picks′ s))
   unfolding answer
   ends-as none picks′ =
       let lawful = law graph inputs table capacity cells a in
@@ -165,7 +165,7 @@ module _ (graph inputs : List ℕ) (table : List NamedArray) (capacity cells : �
         alike = alike-ends (graphOf graph) table capacity cells e (run M 2048 picks′ s) (firesGood M lawful s first log (e .state) (fires .logged .fires) .distinct) z;
       }
 
-  unrefused : (picks′ : List ℕ) → Ends.Quiescent (run M 2048 picks′ s .outcome) → ¬ (Ends.Refused (e .outcome))
+  unrefused : (picks′ : List ℕ) → Ends.QuiescentEnd (run M 2048 picks′ s .outcome) → ¬ (Ends.RefusedEnd (e .outcome))
   unrefused picks′ rests =
       let d = run M 2048 picks′ s in
       let h = ran M (byPicks M) (byPicksLawful M) 2048 picks′ 0 s in
@@ -186,7 +186,7 @@ module _ (graph inputs : List ℕ) (table : List NamedArray) (capacity cells : �
         place = place-small graph inputs table capacity cells few a (e .outcome) (e .state .tokens) (b .place) (lengths .1);
       }
 
-  counted : Counted (answer (ranTo e))
+  counted : CountsFit (answer (ranTo e))
   counted =
       let b = held-bounded M (heldIn (graphOf graph) k) (byPicks M) (byPicksLawful M) budget picks 0 s (good graph inputs table capacity cells a .room) in
       sequence graph inputs table capacity cells few a e log (fires .logged) (λ l m. placed graph table capacity cells (e .outcome) (e .state) (b .place) m)
@@ -206,7 +206,7 @@ module _ (graph arrays inputs picks : List ℕ) (budget k ledger cells : ℕ) wh
   few-in stores = whole-bytes tokenWidth mostTokens ledger (stores-whole (length inputs) (length picks) ledger cells stores .wholeLedger) .1
 
   as-orders : (picks′ : List ℕ) → Allowed picks′ ledger cells → LeavesNoneHeld graph arrays k ledger cells (bounded graph arrays inputs picks budget k ledger cells)
-      → EndsAs (bounded graph arrays inputs picks budget k ledger cells) (result graph arrays inputs picks′ 2048 ledger cells)
+      → BoundedEndsAs (bounded graph arrays inputs picks budget k ledger cells) (result graph arrays inputs picks′ 2048 ledger cells)
   unfolding bounded result unlessFailed goodBound
   as-orders picks′ allowed none =
       let e = begun none in
@@ -214,7 +214,7 @@ module _ (graph arrays inputs picks : List ℕ) (budget k ledger cells : ℕ) wh
       let accepts = both-accept graph arrays inputs picks′ 0 ledger cells allowed refl (stores-whole (length inputs) (length picks) ledger cells (p .stores) .wholeInputs) (p .named) (p .start) .0 in
       rw (e, accepts) (ends-as graph inputs (arraysOf arrays) (capacityOf ledger) (cells / cellWidth) (few-in (p .stores)) (p .start) k budget (picksOf picks) (rw e at none) (picksOf picks′))
 
-pub as-every-order : AsEveryOrder
+pub as-every-order : BoundedAsEveryOrder
 as-every-order graph arrays inputs picks picks′ budget k ledger ledger′ cells cells′ none allowed c d =
     let p = passes graph arrays inputs picks k ledger cells (begun graph arrays inputs picks budget k ledger cells none) in
     let w = stores-whole (length inputs) (length picks) ledger cells (p .stores) in
@@ -226,7 +226,7 @@ pub not-refused : NotRefused
 unfolding bounded result unlessFailed check
 not-refused graph arrays inputs picks picks′ budget k ledger cells bound allowed rests = go (check graph arrays inputs picks′ ledger cells) refl
   where
-    go : (c : Checked) → check graph arrays inputs picks′ ledger cells ≡ c → ¬ (Refused (bounded graph arrays inputs picks budget k ledger cells))
+    go : (c : Checked) → check graph arrays inputs picks′ ledger cells ≡ c → ¬ (RefusedResult (bounded graph arrays inputs picks budget k ledger cells))
     go (Failed r p) e = absurd (rw e at rests)
     go Passed e =
         let (stores, (named, a)) = accepted graph inputs (capacityOf ledger) (checkStores (length inputs) (length picks′) ledger cells) (checkArrays (graphOf graph) (cells / cellWidth) arrays) e in
@@ -279,7 +279,7 @@ module _ (graph arrays inputs picks : List ℕ) (budget k ledger cells lent : �
       (bound-below stores k (then-below (checkStores (length inputs) (length picks) ledger cells) _ (stores-below (length inputs) (length picks) ledger cells) (λ f. demand-below (logSuffices budget lent) _ 0 (λ g. omega arith))))
       (λ e. log-stores (length inputs) (length picks) ledger cells budget lent (bound-passed stores k e) .0 .wholeInputs)
 
-  log-counted : (c : Checked) → checkBoundLogged graph arrays inputs picks budget k ledger cells lent ≡ c → Counted (answer (boundLogged graph arrays inputs picks budget k ledger cells lent .result))
+  log-counted : (c : Checked) → checkBoundLogged graph arrays inputs picks budget k ledger cells lent ≡ c → CountsFit (answer (boundLogged graph arrays inputs picks budget k ledger cells lent .result))
   unfolding boundLogged logUnlessFailed
   log-counted (Failed r p) e = rw e (at-once r p (rw e at log-below))
   log-counted Passed e =
@@ -298,7 +298,7 @@ module _ (graph arrays picks ledger cells : List ℕ) (budget k firings n : ℕ)
   abbrev d : End Refusal Tag ℤ
   d = runBounded N (heldIn (graphOf graph) k) (byPicks N) budget (picksOf picks) firings (stateSaved ledger cells n)
 
-  from-saved : checkGraph graph ≡ Passed → capacityOf (length ledger) ≤ mostTokens → taken graph ledger cells firings n ≡ true → Counted (answer (ranTo d))
+  from-saved : checkGraph graph ≡ Passed → capacityOf (length ledger) ≤ mostTokens → stateTaken graph ledger cells firings n ≡ true → CountsFit (answer (ranTo d))
   unfolding answer
   from-saved passed few t =
       let s = saved-under graph (arraysOf arrays) ledger cells firings n t in
@@ -320,17 +320,17 @@ module _ (graph arrays picks ledger cells : List ℕ) (budget k firings n : ℕ)
       then-below (andBound (checkStores 0 (length picks) (length ledger) (length cells)) k) _
       (bound-below (checkStores 0 (length picks) (length ledger) (length cells)) k (stores-below 0 (length picks) (length ledger) (length cells))) (λ f.
       then-below (checkArrays (graphOf graph) (length cells / cellWidth) arrays) _ (arrays-below graph (length cells / cellWidth) arrays e) (λ g.
-      demand-below (taken graph ledger cells firings n) DamagedState 0 (λ h. omega arith))))
+      demand-below (stateTaken graph ledger cells firings n) DamagedState 0 (λ h. omega arith))))
 
-  counted-carried : Counted (answer (boundCarried graph arrays picks budget k ledger cells firings n))
+  counted-carried : CountsFit (answer (boundCarried graph arrays picks budget k ledger cells firings n))
   unfolding boundCarried checkBoundSaved
   counted-carried =
-      by-check (checkBoundSaved graph arrays picks ledger cells k firings n) _ (λ x. Counted (answer x)) (λ r p h. at-once r p (rw h at saved-below)) (λ h.
+      by-check (checkBoundSaved graph arrays picks ledger cells k firings n) _ (λ x. CountsFit (answer x)) (λ r p h. at-once r p (rw h at saved-below)) (λ h.
       let (g, later) = andThen-passed (checkGraph graph) _ h in
       let (b, last) = andThen-passed (andBound (checkStores 0 (length picks) (length ledger) (length cells)) k) _ later in
       let stores = bound-passed (checkStores 0 (length picks) (length ledger) (length cells)) k b in
       let few = whole-bytes tokenWidth mostTokens (length ledger) (stores-whole 0 (length picks) (length ledger) (length cells) stores .wholeLedger) .1 in
-      from-saved g few (demand-passed (taken graph ledger cells firings n) DamagedState 0 (andThen-passed (checkArrays (graphOf graph) (length cells / cellWidth) arrays) _ last .1)))
+      from-saved g few (demand-passed (stateTaken graph ledger cells firings n) DamagedState 0 (andThen-passed (checkArrays (graphOf graph) (length cells / cellWidth) arrays) _ last .1)))
 
 -- ---- what holds of every result
 

@@ -2,10 +2,10 @@
 use mathlib.Core.Path.{_≡_, refl}
 use mathlib.Core.List.{map}
 use Rattle.rules.specs.Computed.{rules}
-use Rattle.rules.specs.Cases.{written, seenIn}
+use Rattle.rules.specs.CaseRows.{cellsWritten, seenIn}
 use Rattle.rules.specs.SavedCases.{states}
-use Rattle.rules.specs.BoundedCases.{seen, expected, cases}
+use Rattle.rules.specs.BoundedCases.{seenBounded, expectedBounded, boundedCases}
 
-pub bounded-cases-hold : map seen cases ≡ map expected cases
-unfolding rules written seenIn states seen expected
+pub bounded-cases-hold : map seenBounded boundedCases ≡ map expectedBounded boundedCases
+unfolding rules cellsWritten seenIn states seenBounded expectedBounded
 bounded-cases-hold = refl

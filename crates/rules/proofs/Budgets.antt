@@ -19,11 +19,11 @@ use Rattle.rules.specs.declared.answer.Checked.the-variants.{Passed}
 use Rattle.rules.specs.Check.{checkStores, checkArrays, check, mostCells}
 use Rattle.rules.specs.InstructionSet.{machineOf}
 use Rattle.rules.specs.Run.{firstState, picksOf, Result, refusedAtOnce, ranTo, outcomeOf, unlessFailed, result, answer}
-use Rattle.rules.specs.Orders.{Quiescent, Allowed, EndsAlike, AnyTwoBudgets}
+use Rattle.rules.specs.Orders.{QuiescentResult, Allowed, ResultsEndAlike, AnyTwoBudgetsOfResults}
 use Rattle.rules.proofs.Accepted.{whole-bytes, Whole, stores-whole, Accepted, accepted, Begun, begun-passed, law, good}
 use Rattle.rules.proofs.Orders.{same-length, same-cells, alike-ends}
 
-pub quiescent-begun : (x : Result) → Quiescent x → Begun x
+pub quiescent-begun : (x : Result) → QuiescentResult x → Begun x
 quiescent-begun (refusedAtOnce r p) h = h
 quiescent-begun (ranTo e) h = tt
 
@@ -36,8 +36,8 @@ module _ (graph inputs : List ℕ) (table : List NamedArray) (capacity cells : �
   abbrev s : State Tag ℤ
   s = firstState inputs cells
 
-  ends-alike : (budget budget′ : ℕ) (picks picks′ : List ℕ) → Ends.Quiescent (run M budget picks s .outcome) → run M budget picks s .firings ≤ budget′
-      → EndsAlike (ranTo (run M budget picks s)) (ranTo (run M budget′ picks′ s))
+  ends-alike : (budget budget′ : ℕ) (picks picks′ : List ℕ) → Ends.QuiescentEnd (run M budget picks s .outcome) → run M budget picks s .firings ≤ budget′
+      → ResultsEndAlike (ranTo (run M budget picks s)) (ranTo (run M budget′ picks′ s))
   unfolding answer
   ends-alike b b′ ps qs rests enough =
       let lawful = law graph inputs table capacity cells a in
@@ -49,7 +49,7 @@ module _ (graph inputs : List ℕ) (table : List NamedArray) (capacity cells : �
 
 -- ---- whole runs
 
-module _ (graph arrays inputs picks : List ℕ) (budget ledger cells : ℕ) (rests : Quiescent (result graph arrays inputs picks budget ledger cells)) where
+module _ (graph arrays inputs picks : List ℕ) (budget ledger cells : ℕ) (rests : QuiescentResult (result graph arrays inputs picks budget ledger cells)) where
   passed : check graph arrays inputs picks ledger cells ≡ Passed
   passed = begun-passed graph arrays inputs picks budget ledger cells (quiescent-begun (result graph arrays inputs picks budget ledger cells) rests)
 
@@ -65,13 +65,13 @@ module _ (graph arrays inputs picks : List ℕ) (budget ledger cells : ℕ) (res
   also-passed picks′ a = rw (parts .1 .1 .graphPassed, wholes .wholeInputs, a .allowedPicks, a .allowedLedger, a .allowedCells, parts .1 .0) (parts .1 .1 .inputsPassed)
 
   with-lengths : (picks′ : List ℕ) (budget′ : ℕ) → Allowed picks′ ledger cells → answer (result graph arrays inputs picks budget ledger cells) .firings ≤ budget′
-      → EndsAlike (result graph arrays inputs picks budget ledger cells) (result graph arrays inputs picks′ budget′ ledger cells)
+      → ResultsEndAlike (result graph arrays inputs picks budget ledger cells) (result graph arrays inputs picks′ budget′ ledger cells)
   unfolding result unlessFailed answer
   with-lengths picks′ budget′ a enough =
       rw (passed, also-passed picks′ a)
       (ends-alike graph inputs (arraysOf arrays) (capacityOf ledger) (cells / cellWidth) (parts .1 .1) budget budget′ (picksOf picks) (picksOf picks′) (rw passed at rests) (rw passed at enough))
 
-pub any-two-budgets : AnyTwoBudgets
+pub any-two-budgets : AnyTwoBudgetsOfResults
 any-two-budgets graph arrays inputs picks picks′ budget budget′ ledger ledger′ cells cells′ rests a c d enough =
     let w = wholes graph arrays inputs picks budget ledger cells rests in
     let l = same-length ledger ledger′ (whole-bytes tokenWidth mostTokens ledger (w .wholeLedger) .0) (whole-bytes tokenWidth mostTokens ledger′ (a .allowedLedger) .0) c in

@@ -126,8 +126,8 @@ module _ (graph : List ℕ) (passed : checkGraph graph ≡ Passed) where
 
   -- past the graph there is no ENTER
   past-none : (i : ℕ) → ¬ (i < length g) → (site : ℤ) → entersSite site (instructionAt g i) ≡ false
-  unfolding instructionAt Graph.decode entersSite
-  past-none i n site = rw (getD-past g i (Graph.decode []) (omega arith))
+  unfolding instructionAt Graph.decodeInstruction entersSite
+  past-none i n site = rw (getD-past g i (Graph.decodeInstruction []) (omega arith))
 
   pub returns : (site : ℕ) → ReturnsTo g site (returnOf site g)
   unfolding instructionAt entersSite
@@ -138,7 +138,7 @@ module _ (graph : List ℕ) (passed : checkGraph graph ≡ Passed) where
 
       go : Dec (suc k ≤ length g) → r .second .instruction ≡ returnOf site g
       go (no n) = let z : _≡_ {A = ℕ} 0 1 = cc (past-none k n (pos site), e) in absurd (omega arith)
-      go (yes h) = first-returns site (Graph.decode []) r e g k h refl (enter-named (of-graph graph passed k h) (both (eqb (r .code) 8) _ e .0) .1)
+      go (yes h) = first-returns site (Graph.decodeInstruction []) r e g k h refl (enter-named (of-graph graph passed k h) (both (eqb (r .code) 8) _ e .0) .1)
 
   -- an ENTER's own site
   pub enters : (i iteration : ℕ) → iteration < 256 → operationOf (instructionAt g i .code) ≡ Enter → CallIn g (record { site = natAbs (instructionAt g i .constant); iteration = iteration })
@@ -155,7 +155,7 @@ module _ (graph : List ℕ) (passed : checkGraph graph ≡ Passed) where
           let (same, least, most) = between (r .constant) (enter-named good (enter-code good e) .0) in
           record {
             fits = record { some = least; site = most; iteration = low };
-            enter = any-at (entersSite (pos (natAbs (r .constant)))) g (Graph.decode []) i h (rw (enter-code good e) (eq-eqZ same));
+            enter = any-at (entersSite (pos (natAbs (r .constant)))) g (Graph.decodeInstruction []) i h (rw (enter-code good e) (eq-eqZ same));
           }
 
   -- ---- what a run keeps

@@ -29,8 +29,8 @@ use Rattle.rules.specs.declared.answer.Checked.the-variants.{Passed, Fai
 use Rattle.rules.specs.Check.{demand, inTurn, goodInput, checkStores, checkArrays, checkInputs, check}
 use Rattle.rules.specs.InstructionSet.{machineOf}
 use Rattle.rules.specs.Run.{firstState, picksOf, ranTo, unlessFailed, result, answer}
-use Rattle.rules.specs.Orders.{Quiescent, Allowed}
-use Rattle.rules.specs.Capacity.{EnoughRoom, RefusedBy8, TooSmall}
+use Rattle.rules.specs.Orders.{QuiescentResult, Allowed}
+use Rattle.rules.specs.Capacity.{EnoughRoomOfResults, RefusedBy8OfResults, TooSmallOfResults}
 use Rattle.rules.proofs.Passed.{andThen-passed}
 use Rattle.rules.proofs.Inputs.{tokens-first}
 use Rattle.rules.proofs.Accepted.{whole-bytes, Whole, stores-whole, Accepted, accepted, law, good}
@@ -39,25 +39,25 @@ use Rattle.rules.proofs.Accepted.{whole-bytes, Whole, stores-whole, Acc
 
 module _ (g : List Instruction) (capacity n : ℕ) (inputs : List ℕ) (passed : checkInputs g capacity inputs ≡ Passed) where
   -- inputs that fit pass
-  inputs-fit : length (allRows tokenWidth Tokens.decode inputs) ≤ n → checkInputs g n inputs ≡ Passed
+  inputs-fit : length (allRows tokenWidth Tokens.decodeToken inputs) ≤ n → checkInputs g n inputs ≡ Passed
   unfolding checkInputs
   inputs-fit l =
-      let ts = allRows tokenWidth Tokens.decode inputs in
+      let ts = allRows tokenWidth Tokens.decodeToken inputs in
       let parts = andThen-passed (inTurn (λ i ok. demand ok BadInput i) 0 (allRows tokenWidth (goodInput g) inputs)) _ passed in
       let later = andThen-passed (demand (leb (length ts) capacity) LedgerFull capacity) _ (parts .1) in
       rw (parts .0, le-leb (length ts) n l) (later .1)
 
   -- and those that do not are refused by 8
-  inputs-exceed : n < length (allRows tokenWidth Tokens.decode inputs) → checkInputs g n inputs ≡ Failed LedgerFull n
+  inputs-exceed : n < length (allRows tokenWidth Tokens.decodeToken inputs) → checkInputs g n inputs ≡ Failed LedgerFull n
   unfolding checkInputs
   inputs-exceed l =
-      let ts = allRows tokenWidth Tokens.decode inputs in
+      let ts = allRows tokenWidth Tokens.decodeToken inputs in
       let parts = andThen-passed (inTurn (λ i ok. demand ok BadInput i) 0 (allRows tokenWidth (goodInput g) inputs)) _ passed in
       rw (parts .0, lt-leb (length ts) n l)
 
 -- ---- a run that completed or hung
 
-module _ (graph arrays inputs picks : List ℕ) (ledger cells : ℕ) (rests : Quiescent (result graph arrays inputs picks 2048 ledger cells)) where
+module _ (graph arrays inputs picks : List ℕ) (ledger cells : ℕ) (rests : QuiescentResult (result graph arrays inputs picks 2048 ledger cells)) where
   abbrev M : Machine
   M = machineOf (graphOf graph) (arraysOf arrays) (capacityOf ledger) (cells / cellWidth)
 
@@ -82,7 +82,7 @@ module _ (graph arrays inputs picks : List ℕ) (ledger cells : ℕ) (rests : Qu
   wholes : Whole (length inputs) (length picks) ledger cells
   wholes = stores-whole (length inputs) (length picks) ledger cells (parts .0)
 
-  quiet : Ends.Quiescent (e .outcome)
+  quiet : Ends.QuiescentEnd (e .outcome)
   unfolding result unlessFailed
   quiet = rw passes at rests
 
@@ -91,24 +91,24 @@ module _ (graph arrays inputs picks : List ℕ) (ledger cells : ℕ) (rests : Qu
   used = rw passes
 
   -- the inputs are among the tokens
-  inputs-used : length (allRows tokenWidth Tokens.decode inputs) ≤ length (e .state .tokens)
+  inputs-used : length (allRows tokenWidth Tokens.decodeToken inputs) ≤ length (e .state .tokens)
   inputs-used =
       let r = reached-picks M s 2048 (picksOf picks) in
       let c = reached-count M (law graph inputs (arraysOf arrays) (capacityOf ledger) (cells / cellWidth) (parts .1 .1)) s (good graph inputs (arraysOf arrays) (capacityOf ledger) (cells / cellWidth) (parts .1 .1)) (r .done) (r .sent) (e .state) (r .reached) in
       omega (arith, c, tokens-first inputs (cells / cellWidth))
 
   -- with a ledger that has room for the inputs too
-  pub also-passes : (picks′ : List ℕ) (ledger′ : ℕ) → Allowed picks′ ledger′ cells → length (allRows tokenWidth Tokens.decode inputs) ≤ capacityOf ledger′ → check graph arrays inputs picks′ ledger′ cells ≡ Passed
+  pub also-passes : (picks′ : List ℕ) (ledger′ : ℕ) → Allowed picks′ ledger′ cells → length (allRows tokenWidth Tokens.decodeToken inputs) ≤ capacityOf ledger′ → check graph arrays inputs picks′ ledger′ cells ≡ Passed
   unfolding check checkStores
   also-passes picks′ ledger′ a l =
       rw (parts .1 .1 .graphPassed, wholes .wholeInputs, a .allowedPicks, a .allowedLedger, a .allowedCells, parts .1 .0) (inputs-fit (graphOf graph) (capacityOf ledger) (capacityOf ledger′) inputs (parts .1 .1 .inputsPassed) l)
 
-  pub also-exceeds : (picks′ : List ℕ) (ledger′ : ℕ) → Allowed picks′ ledger′ cells → capacityOf ledger′ < length (allRows tokenWidth Tokens.decode inputs) → check graph arrays inputs picks′ ledger′ cells ≡ Failed LedgerFull (capacityOf ledger′)
+  pub also-exceeds : (picks′ : List ℕ) (ledger′ : ℕ) → Allowed picks′ ledger′ cells → capacityOf ledger′ < length (allRows tokenWidth Tokens.decodeToken inputs) → check graph arrays inputs picks′ ledger′ cells ≡ Failed LedgerFull (capacityOf ledger′)
   unfolding check checkStores
   also-exceeds picks′ ledger′ a l =
       rw (parts .1 .1 .graphPassed, wholes .wholeInputs, a .allowedPicks, a .allowedLedger, a .allowedCells, parts .1 .0) (inputs-exceed (graphOf graph) (capacityOf ledger) (capacityOf ledger′) inputs (parts .1 .1 .inputsPassed) l)
 
-pub enough-room : EnoughRoom
+pub enough-room : EnoughRoomOfResults
 unfolding result unlessFailed
 enough-room graph arrays inputs picks ledger ledger′ cells rests fits enough =
     let w = wholes graph arrays inputs picks ledger cells rests in
@@ -117,11 +117,11 @@ enough-room graph arrays inputs picks ledger ledger′ cells rests fits enough =
     rw (passes graph arrays inputs picks ledger cells rests, also-passes graph arrays inputs picks ledger cells rests picks ledger′ allowed (omega (arith, inputs-used graph arrays inputs picks ledger cells rests, enough, used graph arrays inputs picks ledger cells rests)))
     (ap ranTo (Machines.enough-room M (byPicks M) (firstState inputs (cells / cellWidth)) 2048 (picksOf picks) 0 (quiet graph arrays inputs picks ledger cells rests) (capacityOf ledger′) (omega (arith, enough, used graph arrays inputs picks ledger cells rests))))
 
-pub too-small : TooSmall
+pub too-small : TooSmallOfResults
 unfolding result unlessFailed
-too-small graph arrays inputs picks picks′ ledger ledger′ cells rests allowed less = go (decLe (length (allRows tokenWidth Tokens.decode inputs)) (capacityOf ledger′))
+too-small graph arrays inputs picks picks′ ledger ledger′ cells rests allowed less = go (decLe (length (allRows tokenWidth Tokens.decodeToken inputs)) (capacityOf ledger′))
   where
-    go : Dec (length (allRows tokenWidth Tokens.decode inputs) ≤ capacityOf ledger′) → RefusedBy8 (result graph arrays inputs picks′ 2048 ledger′ cells)
+    go : Dec (length (allRows tokenWidth Tokens.decodeToken inputs) ≤ capacityOf ledger′) → RefusedBy8OfResults (result graph arrays inputs picks′ 2048 ledger′ cells)
     go (no n) = rw (also-exceeds graph arrays inputs picks ledger cells rests picks′ ledger′ allowed (omega arith)) refl
     go (yes l) =
         let M = machineOf (graphOf graph) (arraysOf arrays) (capacityOf ledger) (cells / cellWidth) in

@@ -13,7 +13,7 @@ use Rattle.record.specs.declared.array.NamedArray.{NamedArray}
 use Rattle.record.specs.GraphRecords.{graphOf}
 use Rattle.record.specs.Arrays.{arraysOf}
 use Rattle.record.specs.TokensAndTags.{mostTokens, capacityOf}
-use Rattle.record.specs.Widths.{tokenWidth, cellWidth}
+use Rattle.record.specs.Widths.{tokenWidth, cellWidth, stepWidth}
 use Rattle.machine.specs.Machine.{Machine, State, End, Outcome, completed, hung, budgetSpent, refused, byPicks, ending, runBy}
 use Rattle.machine.specs.Sequences.{Logged, logOf}
 use Rattle.machine.specs.Steps as Steps
@@ -36,9 +36,9 @@ use Rattle.rules.specs.Check.{demand, _andThen_, checkGraph, checkStores
 use Rattle.rules.specs.InstructionSet.{machineOf}
 use Rattle.rules.specs.Run.{firstState, picksOf, refusedAtOnce, ranTo, outcomeOf, unlessFailed, answer}
 use Rattle.rules.specs.Log.{namesIn, logSuffices, checkLogStores, checkLogged, logUnlessFailed, logged, replayed}
-use Rattle.rules.specs.Profile.{stepWidth, checkProfileStores, checkProfile, profileUnlessFailed, profiled}
-use Rattle.rules.specs.Saved.{stateSaved, machineSaved, taken, checkSaved, carried}
-use Rattle.rules.specs.Small.{Counted, AllCounted}
+use Rattle.rules.specs.Profile.{checkProfileStores, checkProfile, profileUnlessFailed, profiled}
+use Rattle.rules.specs.Saved.{stateSaved, machineSaved, stateTaken, checkSaved, carried}
+use Rattle.rules.specs.Small.{CountsFit, AllCounted}
 use Rattle.rules.proofs.Passed.{demand-passed, andThen-passed}
 use Rattle.rules.proofs.Lawful.{lawful}
 use Rattle.rules.proofs.Accepted.{whole-bytes, stores-whole, Accepted, accepted, law, good, by-check}
@@ -49,7 +49,7 @@ use Rattle.rules.proofs.Saved.{saved-under}
 
 -- ---- a refusal before any firing
 
-pub at-once : (r : Refusal) (p : ℕ) → p < mostTokens → Counted (answer (refusedAtOnce r p))
+pub at-once : (r : Refusal) (p : ℕ) → p < mostTokens → CountsFit (answer (refusedAtOnce r p))
 unfolding answer
 at-once r p h = record { byTokens = omega arith; tokens = omega arith; place = omega arith }
 
@@ -81,7 +81,7 @@ saved-below graph arrays picks ledger cells firings n =
     then-below (checkGraph graph) _ (graph-below graph) (λ e.
     then-below (checkStores 0 (length picks) (length ledger) (length cells)) _ (stores-below 0 (length picks) (length ledger) (length cells)) (λ f.
     then-below (checkArrays (graphOf graph) (length cells / cellWidth) arrays) _ (arrays-below graph (length cells / cellWidth) arrays e) (λ g.
-    demand-below (taken graph ledger cells firings n) DamagedState 0 (λ h. omega arith))))
+    demand-below (stateTaken graph ledger cells firings n) DamagedState 0 (λ h. omega arith))))
 
 -- ---- where a place is within the ledger
 
@@ -102,7 +102,7 @@ module _ (graph inputs : List ℕ) (table : List NamedArray) (capacity cells : �
   s = firstState inputs cells
 
   -- a firing sequence
-  pub sequence : (e : End Refusal Tag ℤ) (τs : List Tag) → Logged M s 0 τs e → (length τs ≤ mostTokens → length (e .state .tokens) ≤ mostTokens → placeIn (outcomeOf (e .outcome)) ≤ mostTokens) → Counted (answer (ranTo e))
+  pub sequence : (e : End Refusal Tag ℤ) (τs : List Tag) → Logged M s 0 τs e → (length τs ≤ mostTokens → length (e .state .tokens) ≤ mostTokens → placeIn (outcomeOf (e .outcome)) ≤ mostTokens) → CountsFit (answer (ranTo e))
   unfolding answer
   sequence e τs h place =
       let l = noLonger M (law graph inputs table capacity cells a) s (good graph inputs table capacity cells a) τs (e .state) (h .fires) in
@@ -111,7 +111,7 @@ module _ (graph inputs : List ℕ) (table : List NamedArray) (capacity cells : �
   ending-place : (x : State Tag ℤ) → placeIn (outcomeOf (ending M x)) ≤ mostTokens
   ending-place x = ending-cases M x (λ o. placeIn (outcomeOf o) ≤ mostTokens) (λ h. omega arith) (λ h. omega arith)
 
-  by-replay : (log : List ℕ) → Counted (answer (ranTo (Replays.replay M NotEnabled (namesIn log) 0 s)))
+  by-replay : (log : List ℕ) → CountsFit (answer (ranTo (Replays.replay M NotEnabled (namesIn log) 0 s)))
   by-replay log =
       let e = Replays.replay M NotEnabled (namesIn log) 0 s in
       let h = everyReplay M NotEnabled (namesIn log) 0 s in
@@ -123,7 +123,7 @@ module _ (graph inputs : List ℕ) (table : List NamedArray) (capacity cells : �
       go o x left n (Replays.noneNamed name more p q e) l m = rw e (omega arith)
       go o x left n (Replays.oneRefused b more p q r f e) l m = rw e (omega (arith, enabledPlace M x b q))
 
-  by-profile : (left : ℕ) → Counted (answer (ranTo (Steps.profile M ProfileFull left 0 s .ended)))
+  by-profile : (left : ℕ) → CountsFit (answer (ranTo (Steps.profile M ProfileFull left 0 s .ended)))
   by-profile left =
       let p = Steps.profile M ProfileFull left 0 s in
       let h = everyProfile M (law graph inputs table capacity cells a) ProfileFull s (good graph inputs table capacity cells a) left 0 in
@@ -134,7 +134,7 @@ module _ (graph inputs : List ℕ) (table : List NamedArray) (capacity cells : �
       go o x n cut (Steps.full q b i c e) m = rw e (omega arith)
       go o x n cut (Steps.oneRefused b q r f e) m = rw e (omega (arith, enabledPlace M x b q))
 
-  by-run : (budget : ℕ) (picks : List ℕ) → Counted (answer (ranTo (runBy M (byPicks M) budget picks 0 s)))
+  by-run : (budget : ℕ) (picks : List ℕ) → CountsFit (answer (ranTo (runBy M (byPicks M) budget picks 0 s)))
   by-run budget picks =
       let e = runBy M (byPicks M) budget picks 0 s in
       let h = ran M (byPicks M) (byPicksLawful M) budget picks 0 s in
@@ -142,28 +142,28 @@ module _ (graph inputs : List ℕ) (table : List NamedArray) (capacity cells : �
 
 -- ---- whole calls
 
-counted-logged : (graph arrays inputs picks : List ℕ) (budget ledger cells lent : ℕ) → Counted (answer (logged graph arrays inputs picks budget ledger cells lent .result))
+counted-logged : (graph arrays inputs picks : List ℕ) (budget ledger cells lent : ℕ) → CountsFit (answer (logged graph arrays inputs picks budget ledger cells lent .result))
 unfolding logged logUnlessFailed
 counted-logged graph arrays inputs picks budget ledger cells lent = go (checkLogged graph arrays inputs picks budget ledger cells lent) refl
   where
-    go : (c : Checked) → checkLogged graph arrays inputs picks budget ledger cells lent ≡ c → Counted (answer (logged graph arrays inputs picks budget ledger cells lent .result))
+    go : (c : Checked) → checkLogged graph arrays inputs picks budget ledger cells lent ≡ c → CountsFit (answer (logged graph arrays inputs picks budget ledger cells lent .result))
     go (Failed r p) e = rw e (at-once r p (rw e at (logged-below graph arrays inputs picks budget ledger cells lent)))
     go Passed e =
         let h = log-passed graph arrays inputs picks budget ledger cells lent e in
         rw e (by-run graph inputs (arraysOf arrays) (capacityOf ledger) (cells / cellWidth) (whole-bytes tokenWidth mostTokens ledger (h .stores .wholeLedger) .1) (h .start) budget (picksOf picks))
 
-counted-replay : (graph arrays inputs log : List ℕ) (ledger cells : ℕ) → Counted (answer (replayed graph arrays inputs log ledger cells))
+counted-replay : (graph arrays inputs log : List ℕ) (ledger cells : ℕ) → CountsFit (answer (replayed graph arrays inputs log ledger cells))
 unfolding replayed check
 counted-replay graph arrays inputs log ledger cells =
-    by-check (check graph arrays inputs [] ledger cells) _ (λ x. Counted (answer x)) (λ r p e. at-once r p (rw e at (check-below graph arrays inputs [] ledger cells))) (λ e.
+    by-check (check graph arrays inputs [] ledger cells) _ (λ x. CountsFit (answer x)) (λ r p e. at-once r p (rw e at (check-below graph arrays inputs [] ledger cells))) (λ e.
     let (stores, (named, a)) = accepted graph inputs (capacityOf ledger) (checkStores (length inputs) 0 ledger cells) (checkArrays (graphOf graph) (cells / cellWidth) arrays) e in
     by-replay graph inputs (arraysOf arrays) (capacityOf ledger) (cells / cellWidth) (whole-bytes tokenWidth mostTokens ledger (stores-whole (length inputs) 0 ledger cells stores .wholeLedger) .1) a log)
 
-counted-profile : (graph arrays inputs : List ℕ) (ledger cells lent : ℕ) → Counted (answer (profiled graph arrays inputs ledger cells lent .result))
+counted-profile : (graph arrays inputs : List ℕ) (ledger cells lent : ℕ) → CountsFit (answer (profiled graph arrays inputs ledger cells lent .result))
 unfolding profiled profileUnlessFailed
 counted-profile graph arrays inputs ledger cells lent = go (checkProfile graph arrays inputs ledger cells lent) refl
   where
-    go : (c : Checked) → checkProfile graph arrays inputs ledger cells lent ≡ c → Counted (answer (profiled graph arrays inputs ledger cells lent .result))
+    go : (c : Checked) → checkProfile graph arrays inputs ledger cells lent ≡ c → CountsFit (answer (profiled graph arrays inputs ledger cells lent .result))
     go (Failed r p) e = rw e (at-once r p (rw e at (profile-below graph arrays inputs ledger cells lent)))
     go Passed e =
         let (w, (named, a)) = Profiles.wholes graph arrays inputs ledger cells lent e in
@@ -177,7 +177,7 @@ module _ (graph arrays picks ledger cells : List ℕ) (budget firings n : ℕ) w
   abbrev e : End Refusal Tag ℤ
   e = runBy N (byPicks N) budget (picksOf picks) firings (stateSaved ledger cells n)
 
-  from-saved : checkGraph graph ≡ Passed → capacityOf (length ledger) ≤ mostTokens → taken graph ledger cells firings n ≡ true → Counted (answer (ranTo e))
+  from-saved : checkGraph graph ≡ Passed → capacityOf (length ledger) ≤ mostTokens → stateTaken graph ledger cells firings n ≡ true → CountsFit (answer (ranTo e))
   unfolding answer
   from-saved passed few t =
       let s = saved-under graph (arraysOf arrays) ledger cells firings n t in
@@ -189,14 +189,14 @@ module _ (graph arrays picks ledger cells : List ℕ) (budget firings n : ℕ) w
         place = placed graph (arraysOf arrays) (capacityOf (length ledger)) (length cells / cellWidth) (e .outcome) (e .state) (b .place) (omega (arith, left .good .room));
       }
 
-  counted-carried : Counted (answer (carried graph arrays picks budget ledger cells firings n))
+  counted-carried : CountsFit (answer (carried graph arrays picks budget ledger cells firings n))
   unfolding carried checkSaved
   counted-carried =
-      by-check (checkSaved graph arrays picks ledger cells firings n) _ (λ x. Counted (answer x)) (λ r p h. at-once r p (rw h at (saved-below graph arrays picks ledger cells firings n))) (λ h.
+      by-check (checkSaved graph arrays picks ledger cells firings n) _ (λ x. CountsFit (answer x)) (λ r p h. at-once r p (rw h at (saved-below graph arrays picks ledger cells firings n))) (λ h.
       let (g, later) = andThen-passed (checkGraph graph) _ h in
       let (stores, d) = andThen-passed (checkStores 0 (length picks) (length ledger) (length cells)) _ later in
       let few = whole-bytes tokenWidth mostTokens (length ledger) (stores-whole 0 (length picks) (length ledger) (length cells) stores .wholeLedger) .1 in
-      from-saved g few (demand-passed (taken graph ledger cells firings n) DamagedState 0 (andThen-passed (checkArrays (graphOf graph) (length cells / cellWidth) arrays) _ d .1)))
+      from-saved g few (demand-passed (stateTaken graph ledger cells firings n) DamagedState 0 (andThen-passed (checkArrays (graphOf graph) (length cells / cellWidth) arrays) _ d .1)))
 
 pub all-counted : AllCounted
 all-counted = record { byLogged = counted-logged; byReplay = counted-replay; byProfile = counted-profile; byCarried = counted-carried }

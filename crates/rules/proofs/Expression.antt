@@ -17,7 +17,7 @@ use Rattle.record.specs.declared.instruction.Instruction.{Instruction}
 use Rattle.buffer.specs.Rows.{whole}
 use Rattle.record.specs.TokensAndTags.{rootOf, mostTokens, capacityOf}
 use Rattle.record.specs.declared.term.Term.{Term}
-use Rattle.record.specs.ExpressionRecords.{decode, expressionOf}
+use Rattle.record.specs.ExpressionRecords.{decodeTerm, expressionOf}
 use Rattle.record.specs.Widths.{tokenWidth, cellWidth}
 use Rattle.arithmetic.specs.declared.Computed.{Computed}
 use Rattle.arithmetic.specs.declared.Computed.the-variants.{Value, OutOfRange}
@@ -33,7 +33,7 @@ use Rattle.rules.specs.Check.{checkStores, check}
 use Rattle.rules.specs.InstructionSet.{machineOf}
 use Rattle.rules.specs.Run.{tokenHeld, firstState, picksOf, ranTo, unlessFailed, result}
 use Rattle.rules.specs.Orders.{Allowed}
-use Rattle.rules.specs.Expression.{termAt, isVariable, count, variableNumber, valueOf, outFor, graphFor, graphBytes, inputsFor, inputBytes, ValuesFor, machineFor, Evaluates, ExpressionsEvaluateBy, ExpressionsEvaluate}
+use Rattle.rules.specs.Expression.{termAt, isVariable, count, variableNumber, expressionValue, outFor, graphFor, graphBytes, inputsFor, inputBytes, ValuesFor, expressionMachine, EvaluatesExpression, ExpressionsEvaluateBy, ExpressionsEvaluate}
 use Rattle.rules.proofs.Inputs.{start}
 use Rattle.rules.proofs.ExpressionPassed.{Proper, passed}
 use Rattle.rules.proofs.ExpressionGraph.{counted, count-both, variable-number, operation-number, variable-low}
@@ -119,7 +119,7 @@ module _ (ts : List Term) (ok : Proper ts) (values : List ℤ) (fit : ValuesFor 
   only-inputs k x e =
       let (m, low, q) = found-only (graphFor ts) capacity cells 0 values k x (rw tokens-first at e) in
       let many = fit .number in
-      let (i, li, v, c) = counted isVariable (decode []) ts m (omega arith) in
+      let (i, li, v, c) = counted isVariable (decodeTerm []) ts m (omega arith) in
       let inside : ltb i (length ts) ≡ true = lt-ltb i (length ts) li in
       let same : number ts i ≡ 0 + m = rw inside (variable-number ts i v ∙ c ∙ sym (zero-add m)) in
       (i, 0, omega arith, rw (inside, v) (omega arith), q ∙ ap (λ (j : ℕ). at T (rootOf j) 0) (sym same))
@@ -135,17 +135,17 @@ module _ (ts : List Term) (ok : Proper ts) (values : List ℤ) (fit : ValuesFor 
   -- ---- every order
 
   -- the value of the tree is that of the expression
-  value-same : Trees.valueOf T (tree ts ok values capacity cells) ≡ optional (valueOf ts values)
+  value-same : Trees.treeValue T (tree ts ok values capacity cells) ≡ optional (expressionValue ts values)
   value-same = rw (le-ltb (length ts) (length ts) (omega arith))
 
   out-number : number ts (length ts) ≡ outFor ts
   out-number = rw (le-ltb (length ts) (length ts) (omega arith))
 
-  pub evaluates : (c : Choice T) → LawfulChoice T c → (budget : ℕ) → length ts ≤ budget → (picks : List ℕ) → Evaluates ts capacity cells (valueOf ts values) (runBy T c budget picks 0 s)
+  pub evaluates : (c : Choice T) → LawfulChoice T c → (budget : ℕ) → length ts ≤ budget → (picks : List ℕ) → EvaluatesExpression ts capacity cells (expressionValue ts values) (runBy T c budget picks 0 s)
   evaluates c lawful budget enough picks =
-      go (valueOf ts values) (rw value-same at (trees-evaluate T (tree ts ok values capacity cells) (is-tree ts ok values capacity cells) s fed c lawful budget enough picks 0))
+      go (expressionValue ts values) (rw value-same at (trees-evaluate T (tree ts ok values capacity cells) (is-tree ts ok values capacity cells) s fed c lawful budget enough picks 0))
     where
-      go : (v : Computed) → Trees.Evaluates T (tree ts ok values capacity cells) s 0 (optional v) (runBy T c budget picks 0 s) → Evaluates ts capacity cells v (runBy T c budget picks 0 s)
+      go : (v : Computed) → Trees.EvaluatesTree T (tree ts ok values capacity cells) s 0 (optional v) (runBy T c budget picks 0 s) → EvaluatesExpression ts capacity cells v (runBy T c budget picks 0 s)
       go OutOfRange h = h
       go (Value v) h = record {
         outcome = h .outcome;
@@ -176,7 +176,7 @@ expressions-evaluate expression e values fit picks ledger cells allowed enough =
     capacity = capacityOf ledger
 
     T : Machine
-    T = machineFor ts capacity (cells / cellWidth)
+    T = expressionMachine ts capacity (cells / cellWidth)
 
     ok : Proper ts
     ok = passed expression e

@@ -29,7 +29,7 @@ use Rattle.record.specs.TokensAndTags as Tokens
 use Rattle.record.specs.Paths.{isRoot, pathNumber, samePath}
 use Rattle.record.proofs.Paths.{root-fits}
 use Rattle.record.specs.declared.term.Term.{Term}
-use Rattle.record.specs.ExpressionRecords.{decode, expressionOf}
+use Rattle.record.specs.ExpressionRecords.{decodeTerm, expressionOf}
 use Rattle.record.specs.Widths.{graphWidth, tokenWidth}
 use Rattle.record.proofs.Records.{length-instruction, instruction-back, length-token, tokens-joined}
 use Rattle.rules.specs.declared.answer.Refusal.the-variants as Refusals
@@ -71,7 +71,7 @@ module _ (ts : List Term) (ok : Proper ts) where
   each-instruction P h k = all-append P (made ts isVariable 0 ts) _ (all-of isVariable) (all-append P (made ts isOperation 0 ts) (out ∷ []) (all-of isOperation) (k, tt))
     where
       all-of : (f : Term → Bool) → All P (made ts f 0 ts)
-      all-of f = all-made ts f P (decode []) 0 ts (λ j l. subst (λ (m : ℕ). P (sending (codeFor (getD ts j (decode []))) (goesTo ts m))) (sym (zero-add j)) (h j l))
+      all-of f = all-made ts f P (decodeTerm []) 0 ts (λ j l. subst (λ (m : ℕ). P (sending (codeFor (getD ts j (decodeTerm []))) (goesTo ts m))) (sym (zero-add j)) (h j l))
 
   -- ---- the instruction of a record, by its kind
 
@@ -136,14 +136,14 @@ module _ (ts : List Term) (ok : Proper ts) where
 
   length-bytes : length (graphBytes ts) ≡ suc n * graphWidth
   unfolding graphBytes
-  length-bytes = length-joined graphWidth Graph.encode length-instruction (graphFor ts) ∙ ap (λ (m : ℕ). m * graphWidth) (length-graph ts)
+  length-bytes = length-joined graphWidth Graph.encodeInstruction length-instruction (graphFor ts) ∙ ap (λ (m : ℕ). m * graphWidth) (length-graph ts)
 
   pub graph-back : graphOf (graphBytes ts) ≡ graphFor ts
   unfolding graphBytes
   graph-back =
-      let back = rows-joined graphWidth Graph.encode length-instruction Graph.decode InstructionFits instruction-back (graphFor ts) [] fits in
+      let back = rows-joined graphWidth Graph.encodeInstruction length-instruction Graph.decodeInstruction InstructionFits instruction-back (graphFor ts) [] fits in
       let records : length (graphBytes ts) / graphWidth ≡ length (graphFor ts) = let a = length-bytes in let b = length-graph ts in omega arith in
-      ap (λ (m : ℕ). rows graphWidth Graph.decode m (graphBytes ts)) records ∙ ap (λ (l : List ℕ). rows graphWidth Graph.decode (length (graphFor ts)) l) (sym (append-nil (joined Graph.encode (graphFor ts)))) ∙ back
+      ap (λ (m : ℕ). rows graphWidth Graph.decodeInstruction m (graphBytes ts)) records ∙ ap (λ (l : List ℕ). rows graphWidth Graph.decodeInstruction (length (graphFor ts)) l) (sym (append-nil (joined Graph.encodeInstruction (graphFor ts)))) ∙ back
 
   -- ---- the check
 
@@ -230,16 +230,16 @@ input-at i (v ∷ values) d zero l = ap (λ (m : ℕ). record { tag = rootOf m; 
 input-at i (v ∷ values) d (suc k) l = input-at (suc i) values d k (omega arith) ∙ ap (λ (m : ℕ). record { tag = rootOf m; port = 0; content = Live (getD values k (pos 0)) }) (suc-add i k ∙ sym (add-suc i k))
 
 module _ (g : List Instruction) where
-  good-input : (i : ℕ) (v : ℤ) (rest : List ℕ) → i < 2 ^ 16 → 0 < operandsAt g i → goodInput g (Tokens.encode (record { tag = rootOf i; port = 0; content = Live v }) ++ rest) ≡ true
-  unfolding goodInput isInput isRoot pathNumber Tokens.encode
+  good-input : (i : ℕ) (v : ℤ) (rest : List ℕ) → i < 2 ^ 16 → 0 < operandsAt g i → goodInput g (Tokens.encodeToken (record { tag = rootOf i; port = 0; content = Live v }) ++ rest) ≡ true
+  unfolding goodInput isInput isRoot pathNumber Tokens.encodeToken
   good-input i v rest l h = rw (number16-bytes i [], fits16 i l) (lt-ltb 0 (operandsAt g i) h)
 
   good-inputs : (i : ℕ) (values : List ℤ) → i + length values ≤ 2 ^ 16 → ((k : ℕ) → k < length values → 0 < operandsAt g (i + k))
-      → All (λ (b : Bool). b ≡ true) (rows tokenWidth (goodInput g) (length values) (joined Tokens.encode (inputsFor i values)))
+      → All (λ (b : Bool). b ≡ true) (rows tokenWidth (goodInput g) (length values) (joined Tokens.encodeToken (inputsFor i values)))
   good-inputs i [] l h = tt
   good-inputs i (v ∷ values) l h = (
-    good-input i v (joined Tokens.encode (inputsFor (suc i) values)) (omega arith) (subst (λ (m : ℕ). 0 < operandsAt g m) (add-zero i) (h 0 (omega arith))),
-    rw (drop-at (Tokens.encode first) (joined Tokens.encode (inputsFor (suc i) values)) tokenWidth (length-token first))
+    good-input i v (joined Tokens.encodeToken (inputsFor (suc i) values)) (omega arith) (subst (λ (m : ℕ). 0 < operandsAt g m) (add-zero i) (h 0 (omega arith))),
+    rw (drop-at (Tokens.encodeToken first) (joined Tokens.encodeToken (inputsFor (suc i) values)) tokenWidth (length-token first))
         (good-inputs (suc i) values (omega arith) (λ k lk. subst (λ (m : ℕ). 0 < operandsAt g m) (add-suc i k ∙ sym (suc-add i k)) (h (suc k) (omega arith)))),
   )
     where
@@ -252,26 +252,26 @@ module _ (ts : List Term) (ok : Proper ts) (values : List ℤ) (fit : ValuesFor 
 
   pub length-input-bytes : length (inputBytes values) ≡ length values * tokenWidth
   unfolding inputBytes
-  length-input-bytes = length-joined tokenWidth Tokens.encode length-token (inputsFor 0 values) ∙ ap (λ (m : ℕ). m * tokenWidth) (length-inputs 0 values)
+  length-input-bytes = length-joined tokenWidth Tokens.encodeToken length-token (inputsFor 0 values) ∙ ap (λ (m : ℕ). m * tokenWidth) (length-inputs 0 values)
 
   input-records : length (inputBytes values) / tokenWidth ≡ length values
   input-records = let a = length-input-bytes in omega arith
 
-  pub inputs-back : allRows tokenWidth Tokens.decode (inputBytes values) ≡ inputsFor 0 values
+  pub inputs-back : allRows tokenWidth Tokens.decodeToken (inputBytes values) ≡ inputsFor 0 values
   unfolding inputBytes
   inputs-back =
       let few = few-values in
       let back = tokens-joined (inputsFor 0 values) [] (inputs-fit 0 values (omega arith) (fit .each)) in
       let records = input-records ∙ sym (length-inputs 0 values) in
-      ap (λ (m : ℕ). rows tokenWidth Tokens.decode m (inputBytes values)) records
-      ∙ ap (λ (l : List ℕ). rows tokenWidth Tokens.decode (length (inputsFor 0 values)) l) (sym (append-nil (joined Tokens.encode (inputsFor 0 values)))) ∙ back
+      ap (λ (m : ℕ). rows tokenWidth Tokens.decodeToken m (inputBytes values)) records
+      ∙ ap (λ (l : List ℕ). rows tokenWidth Tokens.decodeToken (length (inputsFor 0 values)) l) (sym (append-nil (joined Tokens.encodeToken (inputsFor 0 values)))) ∙ back
 
   -- each variable's number is that of a COPY
   copies : (k : ℕ) → k < length values → 0 < operandsAt (graphFor ts) (0 + k)
   unfolding termAt
   copies k l =
       let number = fit .number in
-      let (i, low, v, e) = counted isVariable (decode []) ts k (omega arith) in
+      let (i, low, v, e) = counted isVariable (decodeTerm []) ts k (omega arith) in
       let same : instructionFor ts i ≡ 0 + k = variable-number ts i v ∙ e ∙ sym (zero-add k) in
       let ports : operandsAt (graphFor ts) (instructionFor ts i) ≡ 1 = rw (lt-ltb i (length ts) low, v) at (operands-number ts ok i (omega arith)) in
       subst (λ (m : ℕ). 0 < operandsAt (graphFor ts) m) same (rw ports (omega arith))
@@ -285,17 +285,17 @@ module _ (ts : List Term) (ok : Proper ts) (values : List ℤ) (fit : ValuesFor 
         back,
         le-leb (length (inputsFor 0 values)) capacity (rw (length-inputs 0 values) room),
       )
-      (turn-passes-at (λ i t. demand (not (secondInput (take i (inputsFor 0 values)) t)) Refusals.SecondToken i) (Tokens.decode []) 0 (inputsFor 0 values) (λ k l. apart k (rw (length-inputs 0 values) at l)))
+      (turn-passes-at (λ i t. demand (not (secondInput (take i (inputsFor 0 values)) t)) Refusals.SecondToken i) (Tokens.decodeToken []) 0 (inputsFor 0 values) (λ k l. apart k (rw (length-inputs 0 values) at l)))
     where
-      back : rows tokenWidth Tokens.decode (length values) (inputBytes values) ≡ inputsFor 0 values
+      back : rows tokenWidth Tokens.decodeToken (length values) (inputBytes values) ≡ inputsFor 0 values
       back = rw input-records at inputs-back
 
       all-true : (bs : List Bool) → All (λ (b : Bool). b ≡ true) bs → All (λ b. (i : ℕ) → demand b Refusals.BadInput i ≡ Passed) bs
       all-true [] h = tt
       all-true (b ∷ bs) h = (λ i. rw (h .0), all-true bs (h .1))
 
-      apart : (k : ℕ) → k < length values → demand (not (secondInput (take (0 + k) (inputsFor 0 values)) (getD (inputsFor 0 values) k (Tokens.decode [])))) Refusals.SecondToken (0 + k) ≡ Passed
-      apart k l = rw (input-at 0 values (Tokens.decode []) k l, alone 0 (0 + k) (0 + k) values (omega arith))
+      apart : (k : ℕ) → k < length values → demand (not (secondInput (take (0 + k) (inputsFor 0 values)) (getD (inputsFor 0 values) k (Tokens.decodeToken [])))) Refusals.SecondToken (0 + k) ≡ Passed
+      apart k l = rw (input-at 0 values (Tokens.decodeToken []) k l, alone 0 (0 + k) (0 + k) values (omega arith))
 
 pub inputs-accepted : InputsAccepted
 inputs-accepted expression e values fit capacity room = inputs-pass (expressionOf expression) (passed expression e) values fit capacity room

@@ -3,8 +3,8 @@ use mathlib.Core.Path.{_≡_, refl}
 use mathlib.Core.List.{map}
 use Rattle.rules.specs.Computed.{rules}
 use Rattle.rules.specs.Expression.{expressions}
-use Rattle.rules.specs.ExpressionCases.{seen, expected, cases}
+use Rattle.rules.specs.ExpressionCases.{seenExpression, expectedExpression, expressionCases}
 
-pub expression-cases-hold : map seen cases ≡ map expected cases
-unfolding rules expressions seen expected
+pub expression-cases-hold : map seenExpression expressionCases ≡ map expectedExpression expressionCases
+unfolding rules expressions seenExpression expectedExpression
 expression-cases-hold = refl

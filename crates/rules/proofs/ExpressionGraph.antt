@@ -13,7 +13,7 @@ use Rattle.record.specs.declared.instruction.Instruction.{Instruction}
 use Rattle.buffer.specs.Rows.{All}
 use Rattle.record.specs.GraphRecords as Graph
 use Rattle.record.specs.declared.term.Term.{Term}
-use Rattle.record.specs.ExpressionRecords.{decode}
+use Rattle.record.specs.ExpressionRecords.{decodeTerm}
 use Rattle.rules.specs.Check.{any, instructionAt}
 use Rattle.rules.specs.Expression.{termAt, isVariable, isOperation, names, count, variableNumber, instructionFor, outFor, feeds, goesTo, codeFor, sending, out, made, graphFor}
 use Rattle.rules.proofs.Lists.{neither}
@@ -104,10 +104,10 @@ module _ (ts : List Term) where
 
   pub at-record : (i : ℕ) → i < length ts → instructionAt (graphFor ts) (instructionFor ts i) ≡ sending (codeFor (termAt ts i)) (goesTo ts i)
   unfolding graphFor instructionAt instructionFor termAt
-  at-record i l = go (isVariable (getD ts i (decode []))) refl
+  at-record i l = go (isVariable (getD ts i (decodeTerm []))) refl
     where
       d : Instruction
-      d = Graph.decode []
+      d = Graph.decodeInstruction []
 
       vs : List Instruction
       vs = made ts isVariable 0 ts
@@ -115,16 +115,16 @@ module _ (ts : List Term) where
       os : List Instruction
       os = made ts isOperation 0 ts
 
-      go : (b : Bool) → isVariable (getD ts i (decode [])) ≡ b
-          → getD (vs ++ (os ++ out ∷ [])) (cond b (variableNumber ts i) (count isVariable ts + count isOperation (take i ts))) d ≡ sending (codeFor (getD ts i (decode []))) (goesTo ts i)
+      go : (b : Bool) → isVariable (getD ts i (decodeTerm [])) ≡ b
+          → getD (vs ++ (os ++ out ∷ [])) (cond b (variableNumber ts i) (count isVariable ts + count isOperation (take i ts))) d ≡ sending (codeFor (getD ts i (decodeTerm []))) (goesTo ts i)
       go true e =
-          List·getD-append vs (os ++ out ∷ []) d (variableNumber ts i) (rw (length-made ts isVariable 0 ts) (count-less isVariable (decode []) ts i l e))
-          ∙ getD-made ts isVariable 0 ts (decode []) d i l e ∙ ap (λ (m : ℕ). sending (codeFor (getD ts i (decode []))) (goesTo ts m)) (zero-add i)
+          List·getD-append vs (os ++ out ∷ []) d (variableNumber ts i) (rw (length-made ts isVariable 0 ts) (count-less isVariable (decodeTerm []) ts i l e))
+          ∙ getD-made ts isVariable 0 ts (decodeTerm []) d i l e ∙ ap (λ (m : ℕ). sending (codeFor (getD ts i (decodeTerm []))) (goesTo ts m)) (zero-add i)
       go false e =
-          let o : isOperation (getD ts i (decode [])) ≡ true = rw e in
+          let o : isOperation (getD ts i (decodeTerm [])) ≡ true = rw e in
           rw (← length-made ts isVariable 0 ts) (getD-append-add vs (os ++ out ∷ []) (count isOperation (take i ts)) d)
-          ∙ List·getD-append os (out ∷ []) d (count isOperation (take i ts)) (rw (length-made ts isOperation 0 ts) (count-less isOperation (decode []) ts i l o))
-          ∙ getD-made ts isOperation 0 ts (decode []) d i l o ∙ ap (λ (m : ℕ). sending (codeFor (getD ts i (decode []))) (goesTo ts m)) (zero-add i)
+          ∙ List·getD-append os (out ∷ []) d (count isOperation (take i ts)) (rw (length-made ts isOperation 0 ts) (count-less isOperation (decodeTerm []) ts i l o))
+          ∙ getD-made ts isOperation 0 ts (decodeTerm []) d i l o ∙ ap (λ (m : ℕ). sending (codeFor (getD ts i (decodeTerm []))) (goesTo ts m)) (zero-add i)
 
   pub at-out : instructionAt (graphFor ts) (outFor ts) ≡ out
   unfolding graphFor instructionAt
@@ -132,7 +132,7 @@ module _ (ts : List Term) where
       let vs = made ts isVariable 0 ts in
       let os = made ts isOperation 0 ts in
       let place : length ts ≡ length vs + length os = omega (arith, length-made ts isVariable 0 ts, length-made ts isOperation 0 ts, count-both ts) in
-      rw place (getD-append-add vs (os ++ out ∷ []) (length os) (Graph.decode []) ∙ getD-at os out [] (Graph.decode []) (length os) refl)
+      rw place (getD-append-add vs (os ++ out ∷ []) (length os) (Graph.decodeInstruction []) ∙ getD-at os out [] (Graph.decodeInstruction []) (length os) refl)
 
   -- ---- numbers
 
@@ -146,7 +146,7 @@ module _ (ts : List Term) where
 
   pub variable-low : (i : ℕ) → i < length ts → isVariable (termAt ts i) ≡ true → instructionFor ts i < count isVariable ts
   unfolding termAt
-  variable-low i l e = rw (variable-number i e) (count-less isVariable (decode []) ts i l e)
+  variable-low i l e = rw (variable-number i e) (count-less isVariable (decodeTerm []) ts i l e)
 
   -- an instruction number below that of OUT
   pub number-low : (i : ℕ) → i < length ts → instructionFor ts i < outFor ts
@@ -155,19 +155,19 @@ module _ (ts : List Term) where
     where
       go : (b : Bool) → isVariable (termAt ts i) ≡ b → instructionFor ts i < outFor ts
       go true e = let z = variable-low i l e in omega (arith, count-both ts)
-      go false e = let o : isOperation (termAt ts i) ≡ true = rw e in let z = count-less isOperation (decode []) ts i l o in rw (operation-number i e) (omega (arith, count-both ts))
+      go false e = let o : isOperation (termAt ts i) ≡ true = rw e in let z = count-less isOperation (decodeTerm []) ts i l o in rw (operation-number i e) (omega (arith, count-both ts))
 
   pub numbers-apart : (i j : ℕ) → i < j → j < length ts → ¬ (instructionFor ts i ≡ instructionFor ts j)
   unfolding termAt
   numbers-apart i j l h q = go (isVariable (termAt ts i)) (isVariable (termAt ts j)) refl refl
     where
       go : (a b : Bool) → isVariable (termAt ts i) ≡ a → isVariable (termAt ts j) ≡ b → ⊥
-      go true true e f = omega (arith, variable-number i e, variable-number j f, count-apart isVariable (decode []) ts i j l (omega arith) e)
+      go true true e f = omega (arith, variable-number i e, variable-number j f, count-apart isVariable (decodeTerm []) ts i j l (omega arith) e)
       go true false e f = omega (arith, variable-low i (omega arith) e, operation-number j f)
       go false true e f = omega (arith, variable-low j h f, operation-number i e)
       go false false e f =
           let o : isOperation (termAt ts i) ≡ true = rw e in
-          omega (arith, operation-number i e, operation-number j f, count-apart isOperation (decode []) ts i j l (omega arith) o)
+          omega (arith, operation-number i e, operation-number j f, count-apart isOperation (decodeTerm []) ts i j l (omega arith) o)
 
   -- ---- where a value goes
 
@@ -188,7 +188,7 @@ module _ (ts : List Term) where
   pub goes-named : (j i : ℕ) → i < length ts → names j (termAt ts i) ≡ true → ((m : ℕ) → m < i → names j (termAt ts m) ≡ false)
       → goesTo ts j ≡ record { instruction = instructionFor ts i; port = cond (eqb (termAt ts i .left) j) 0 1 }
   unfolding termAt
-  goes-named j i l e h = feeds-first j 0 ts (decode []) i l e h ∙ ap (λ (m : ℕ). record { instruction = instructionFor ts m; port = cond (eqb (getD ts i (decode []) .left) j) 0 1 }) (zero-add i)
+  goes-named j i l e h = feeds-first j 0 ts (decodeTerm []) i l e h ∙ ap (λ (m : ℕ). record { instruction = instructionFor ts m; port = cond (eqb (getD ts i (decodeTerm []) .left) j) 0 1 }) (zero-add i)
 
   pub goes-out : (j : ℕ) → any (names j) ts ≡ false → goesTo ts j ≡ record { instruction = outFor ts; port = 0 }
   goes-out j e = feeds-none j 0 ts e

@@ -12,7 +12,7 @@ use borrow.Author.Tests.{leb-true, ltb-true, eqb-true, eqb-false, not-true}
 use Rattle.buffer.specs.Rows.{whole}
 use Rattle.buffer.proofs.Tables.{length-rows}
 use Rattle.record.specs.declared.term.Term.{Term}
-use Rattle.record.specs.ExpressionRecords.{decode, expressionOf}
+use Rattle.record.specs.ExpressionRecords.{decodeTerm, expressionOf}
 use Rattle.record.specs.Widths.{termWidth}
 use Rattle.machine.proofs.View.{falseTrue}
 use Rattle.rules.specs.declared.answer.Refusal.the-variants.{BadExpression}
@@ -79,7 +79,7 @@ module _ (ts : List Term) (e : checkTerms ts ≡ Passed) where
 
   good-at : (i : ℕ) → i < length ts → goodTerm (take i ts) i (termAt ts i) ≡ true
   unfolding termAt
-  good-at i l = demand-passed _ BadExpression i (rw (zero-add i) at (turn-passed (λ i t. demand (goodTerm (take i ts) i t) BadExpression i) (decode []) 0 ts (parts .0) i l))
+  good-at i l = demand-passed _ BadExpression i (rw (zero-add i) at (turn-passed (λ i t. demand (goodTerm (take i ts) i t) BadExpression i) (decodeTerm []) 0 ts (parts .0) i l))
 
   record Good (i : ℕ) : Type 0 where
     operation : OperationAt ts i
@@ -117,18 +117,18 @@ module _ (ts : List Term) (e : checkTerms ts ≡ Passed) where
       go g side
     where
       go : Good i → (termAt ts i .left ≡ j) ⊎ (termAt ts i .right ≡ j) → names j (termAt ts k) ≡ false
-      go g (inl p) = none-at (names j) (decode []) ts i k (subst (λ (m : ℕ). any (names m) (take i ts) ≡ false) p (g .newLeft)) h (omega arith)
-      go g (inr p) = none-at (names j) (decode []) ts i k (subst (λ (m : ℕ). any (names m) (take i ts) ≡ false) p (g .newRight)) h (omega arith)
+      go g (inl p) = none-at (names j) (decodeTerm []) ts i k (subst (λ (m : ℕ). any (names m) (take i ts) ≡ false) p (g .newLeft)) h (omega arith)
+      go g (inr p) = none-at (names j) (decodeTerm []) ts i k (subst (λ (m : ℕ). any (names m) (take i ts) ≡ false) p (g .newRight)) h (omega arith)
 
   named-at : (j : ℕ) → suc j < length ts → (i : ℕ) × (i < length ts) × (names j (termAt ts i) ≡ true)
   unfolding termAt
   named-at j l =
-      let t : (eqb (suc j) (length ts) || any (names j) ts) ≡ true = demand-passed _ BadExpression j (rw (zero-add j) at (turn-passed (λ j t. demand (eqb (suc j) (length ts) || any (names j) ts) BadExpression j) (decode []) 0 ts (parts .1) j (omega arith))) in
+      let t : (eqb (suc j) (length ts) || any (names j) ts) ≡ true = demand-passed _ BadExpression j (rw (zero-add j) at (turn-passed (λ j t. demand (eqb (suc j) (length ts) || any (names j) ts) BadExpression j) (decodeTerm []) 0 ts (parts .1) j (omega arith))) in
       go (either (eqb (suc j) (length ts)) (any (names j) ts) t)
     where
-      go : (eqb (suc j) (length ts) ≡ true) ⊎ (any (names j) ts ≡ true) → (i : ℕ) × (i < length ts) × (names j (getD ts i (decode [])) ≡ true)
+      go : (eqb (suc j) (length ts) ≡ true) ⊎ (any (names j) ts ≡ true) → (i : ℕ) × (i < length ts) × (names j (getD ts i (decodeTerm [])) ≡ true)
       go (inl h) = absurd (omega (arith, eqb-true (suc j) (length ts) h))
-      go (inr h) = found-at (names j) (decode []) ts h
+      go (inr h) = found-at (names j) (decodeTerm []) ts h
 
 pub passed : (expression : List ℕ) → checkExpression expression ≡ Passed → Proper (expressionOf expression)
 unfolding checkExpression
@@ -137,7 +137,7 @@ passed expression e =
     let (l, t) = andThen-passed (demand (isExpressionLength (length expression)) BadExpression 0) _ e in
     let (some, w) = both (leb 1 (length expression)) (whole termWidth mostTerms (length expression)) (demand-passed _ BadExpression 0 l) in
     let (whole, few) = whole-bytes termWidth mostTerms (length expression) w in
-    let many : length ts ≡ length expression / termWidth = length-rows termWidth decode (length expression / termWidth) expression in
+    let many : length ts ≡ length expression / termWidth = length-rows termWidth decodeTerm (length expression / termWidth) expression in
     let one = leb-true 1 (length expression) some in
     record {
       some = omega arith;

@@ -14,7 +14,7 @@ use Rattle.record.specs.declared.instruction.Destination.{Destination}
 use Rattle.record.specs.declared.instruction.Instruction.{Instruction}
 use Rattle.record.specs.GraphRecords as Graph
 use Rattle.record.specs.declared.term.Term.{Term}
-use Rattle.record.specs.ExpressionRecords.{decode, expressionOf}
+use Rattle.record.specs.ExpressionRecords.{decodeTerm, expressionOf}
 use Rattle.rules.specs.Check.{instructionAt}
 use Rattle.rules.specs.Expression.{termAt, isVariable, isOperation, count, instructionFor, outFor, goesTo, codeFor, sending, out, graphFor, putBelow, putAt, putGraph, GraphsPut}
 use Rattle.rules.proofs.ExpressionPassed.{OperationAt, Proper, named-by, passed}
@@ -54,7 +54,7 @@ module _ (ts : List Term) (ok : Proper ts) where
     own-right : Right own (instructionFor ts i)
     unfolding instructionAt
     own-right =
-        getD-set-same g (instructionFor ts i) (sending (codeFor (termAt ts i)) d) (Graph.decode []) (let z = number-low ts i low in omega arith)
+        getD-set-same g (instructionFor ts i) (sending (codeFor (termAt ts i)) d) (Graph.decodeInstruction []) (let z = number-low ts i low in omega arith)
         ∙ ap (sending (codeFor (termAt ts i))) (sym to) ∙ sym (at-record ts i low)
 
     own-keeps : (m : ℕ) → Right g m → Right own m
@@ -63,7 +63,7 @@ module _ (ts : List Term) (ok : Proper ts) where
       where
         go : Dec (m ≡ instructionFor ts i) → Right own m
         go (yes q) = subst (Right own) (sym q) own-right
-        go (no q) = getD-set-other g (instructionFor ts i) m (sending (codeFor (termAt ts i)) d) (Graph.decode []) q ∙ e
+        go (no q) = getD-set-other g (instructionFor ts i) m (sending (codeFor (termAt ts i)) d) (Graph.decodeInstruction []) q ∙ e
 
   -- ---- a greater bound is of no account, so that the laws of `putAt` name none
 
@@ -223,15 +223,15 @@ module _ (ts : List Term) (ok : Proper ts) where
   numbered m l = go (decLe (suc m) (count isVariable ts))
     where
       go : Dec (m < count isVariable ts) → (j : ℕ) × (j < n) × (instructionFor ts j ≡ m)
-      go (yes h) = let (j, low, v, e) = counted isVariable (decode []) ts m h in (j, low, variable-number ts j v ∙ e)
+      go (yes h) = let (j, low, v, e) = counted isVariable (decodeTerm []) ts m h in (j, low, variable-number ts j v ∙ e)
       go (no h) =
-          let (j, low, v, e) = counted isOperation (decode []) ts (m - count isVariable ts) (omega (arith, count-both ts)) in
+          let (j, low, v, e) = counted isOperation (decodeTerm []) ts (m - count isVariable ts) (omega (arith, count-both ts)) in
           let number = operation-number ts j (not-true (isVariable (termAt ts j)) v) in
           (j, low, omega arith)
 
   put-graph : (g : List Instruction) → length g ≡ suc n → putGraph ts g ≡ graphFor ts
   unfolding putGraph instructionAt
-  put-graph g size = ext-getD (Graph.decode []) (putGraph ts g) (graphFor ts) (all .size ∙ sym (length-graph ts)) (λ m l. entry m (let z = all .size in omega arith) (ℕ-discrete m n))
+  put-graph g size = ext-getD (Graph.decodeInstruction []) (putGraph ts g) (graphFor ts) (all .size ∙ sym (length-graph ts)) (λ m l. entry m (let z = all .size in omega arith) (ℕ-discrete m n))
     where
       start : List Instruction
       start = set g (outFor ts) out
@@ -240,7 +240,7 @@ module _ (ts : List Term) (ok : Proper ts) where
       all = let some = ok .some in put (suc (n - 1)) (n - 1) (omega arith) (omega arith) (record { instruction = outFor ts; port = 0 }) (goes-last ts ok) start (length-set g (outFor ts) out ∙ size)
 
       entry : (m : ℕ) → m < suc n → Dec (m ≡ n) → Right (putGraph ts g) m
-      entry m l (yes q) = subst (Right (putGraph ts g)) (sym q) (all .keeps n (getD-set-same g (outFor ts) out (Graph.decode []) (omega arith) ∙ sym (at-out ts)))
+      entry m l (yes q) = subst (Right (putGraph ts g)) (sym q) (all .keeps n (getD-set-same g (outFor ts) out (Graph.decodeInstruction []) (omega arith) ∙ sym (at-out ts)))
       entry m l (no q) =
           let (j, low, e) = numbered m (omega arith) in
           subst (Right (putGraph ts g)) e (all .puts j (all-under n j (omega arith) low))

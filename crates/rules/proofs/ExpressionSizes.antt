@@ -12,7 +12,7 @@ use lib.Seq.{take-suc, take-length, getD-take, length-take-le}
 use lib.Dec.{eqb}
 use borrow.Author.Tests.{eq-eqb, ne-eqb}
 use Rattle.record.specs.declared.term.Term.{Term}
-use Rattle.record.specs.ExpressionRecords.{decode, expressionOf}
+use Rattle.record.specs.ExpressionRecords.{decodeTerm, expressionOf}
 use Rattle.machine.proofs.Sets.{with, with-own, with-other, countBelow, none-below, all-count, same-count, one-more}
 use Rattle.rules.specs.Check.{any}
 use Rattle.rules.specs.Expression.{termAt, isVariable, isOperation, names, count, SizesFollow}
@@ -46,18 +46,18 @@ module _ (ts : List Term) (ok : Proper ts) where
 
   named-next : (k j : ℕ) → k < n → named (suc k) j ≡ named k j || (names j (termAt ts k) || false)
   unfolding termAt
-  named-next k j l = ap (any (names j)) (take-suc ts k (decode []) l) ∙ any-append (names j) (take k ts) (getD ts k (decode []) ∷ [])
+  named-next k j l = ap (any (names j)) (take-suc ts k (decodeTerm []) l) ∙ any-append (names j) (take k ts) (getD ts k (decodeTerm []) ∷ [])
 
   count-next : (k : ℕ) → k < n → count isOperation (take (suc k) ts) ≡ count isOperation (take k ts) + cond (isOperation (termAt ts k)) 1 0
   unfolding termAt
-  count-next k l = ap (count isOperation) (take-suc ts k (decode []) l) ∙ count-append isOperation (take k ts) (getD ts k (decode []) ∷ [])
+  count-next k l = ap (count isOperation) (take-suc ts k (decodeTerm []) l) ∙ count-append isOperation (take k ts) (getD ts k (decodeTerm []) ∷ [])
 
   -- what record k names, none before it does
   new : (k j : ℕ) → k < n → names j (termAt ts k) ≡ true → named k j ≡ false
   unfolding termAt
-  new k j l e = none-of (names j) (decode []) (take k ts) (λ m lm.
+  new k j l e = none-of (names j) (decodeTerm []) (take k ts) (λ m lm.
       let low : m < k = rw (length-take-le k ts (omega arith)) at lm in
-      rw (getD-take k ts m (decode []) low) (ok .once k j m l low e))
+      rw (getD-take k ts m (decodeTerm []) low) (ok .once k j m l low e))
 
   module _ (k : ℕ) (low : k < n) where
     abbrev t : Term
@@ -124,7 +124,7 @@ module _ (ts : List Term) (ok : Proper ts) where
   but-last = go n refl
     where
       is-named : (j : ℕ) → suc j < n → any (names j) ts ≡ true
-      is-named j l = let (i, low, e) = ok .named j l in any-at (names j) ts (decode []) i low e
+      is-named j l = let (i, low, e) = ok .named j l in any-at (names j) ts (decodeTerm []) i low e
 
       before : (i j : ℕ) → i < n → (isVariable (termAt ts i) ≡ false) × ((termAt ts i .left ≡ j) ⊎ (termAt ts i .right ≡ j)) → j < i
       before i j low (v, inl q) = let z = ok .operation i low v .left in omega arith
@@ -134,7 +134,7 @@ module _ (ts : List Term) (ok : Proper ts) where
       not-named j l = by-test (any (names j) ts) refl
         where
           by-test : (b : Bool) → any (names j) ts ≡ b → any (names j) ts ≡ false
-          by-test true e = let (i, low, f) = found-at (names j) (decode []) ts e in let z = before i j low (named-by j (termAt ts i) f) in absurd (omega arith)
+          by-test true e = let (i, low, f) = found-at (names j) (decodeTerm []) ts e in let z = before i j low (named-by j (termAt ts i) f) in absurd (omega arith)
           by-test false e = e
 
       go : (m : ℕ) → n ≡ m → countBelow (λ j. any (names j) ts) m ≡ m - 1

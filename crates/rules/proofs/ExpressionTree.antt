@@ -20,7 +20,7 @@ use Rattle.record.specs.GraphRecords.{Row, row, rowOf, operandsOf}
 use Rattle.record.specs.TokensAndTags.{rootOf}
 use Rattle.record.specs.Paths.{isRoot, pathNumber}
 use Rattle.record.specs.declared.term.Term.{Term}
-use Rattle.record.specs.ExpressionRecords.{decode, expressionOf}
+use Rattle.record.specs.ExpressionRecords.{decodeTerm, expressionOf}
 use Rattle.arithmetic.specs.declared.Computed.{Computed}
 use Rattle.arithmetic.specs.declared.Computed.the-variants.{Value, OutOfRange}
 use Rattle.arithmetic.specs.Arithmetic.{computeOf}
@@ -31,7 +31,7 @@ use Rattle.machine.proofs.Trees.{climbs}
 use Rattle.rules.specs.declared.answer.Refusal.the-variants as Refusals
 use Rattle.rules.specs.Check.{instructionAt, operandsAt}
 use Rattle.rules.specs.InstructionSet.{keyUnder, sendComputed, effectOf, effectIn, isResult, arityIn, machineOf}
-use Rattle.rules.specs.Expression.{termAt, isVariable, names, arithmeticOf, combined, variableNumber, valueBelow, valueAt, valueOf, instructionFor, outFor, goesTo, codeFor, sending, graphFor, OutAt, ValuesTell}
+use Rattle.rules.specs.Expression.{termAt, isVariable, names, arithmeticOf, combined, variableNumber, valueBelow, valueAt, expressionValue, instructionFor, outFor, goesTo, codeFor, sending, graphFor, OutAt, ValuesTell}
 use Rattle.rules.proofs.ExpressionPassed.{none-of, OperationAt, Proper, named-by, passed}
 use Rattle.rules.proofs.ExpressionGraph.{at-record, at-out, number-low, numbers-apart, goes-named, goes-out}
 
@@ -221,7 +221,7 @@ module _ (ts : List Term) (ok : Proper ts) where
   -- nobody names the last: it goes to OUT
   pub goes-last : goesTo ts (n - 1) ≡ record { instruction = outFor ts; port = 0 }
   unfolding termAt
-  goes-last = goes-out ts (n - 1) (none-of (names (n - 1)) (decode []) ts (λ i l. go i l (names (n - 1) (termAt ts i)) refl))
+  goes-last = goes-out ts (n - 1) (none-of (names (n - 1)) (decodeTerm []) ts (λ i l. go i l (names (n - 1) (termAt ts i)) refl))
     where
       before : (i : ℕ) → i < n → (isVariable (termAt ts i) ≡ false) × ((termAt ts i .left ≡ n - 1) ⊎ (termAt ts i .right ≡ n - 1)) → ⊥
       before i l (v, inl q) = let h = ok .operation i l v .left in omega arith
@@ -402,13 +402,13 @@ module _ (ts : List Term) (ok : Proper ts) where
     no-value OutOfRange e = refl
 
     -- and an operation out of range leaves the last record without a value
-    rises : (i : ℕ) → OutAt ts values i → valueOf ts values ≡ OutOfRange
+    rises : (i : ℕ) → OutAt ts values i → expressionValue ts values ≡ OutOfRange
     rises i o =
         let low = o .low in
         let v = not-true (isVariable (termAt ts i)) (o .operation) in
         let own : optional (valueAt ts values i) ≡ none = rw (operation-value ts ok values i low v, o .leftValue, o .rightValue, o .outOfRange) in
         let top = climbs (M values 0 0) (tree values 0 0) (is-tree values 0 0) n i (omega arith) low own in
-        no-value (valueOf ts values) (rw (le-ltb n n (omega arith)) at top)
+        no-value (expressionValue ts values) (rw (le-ltb n n (omega arith)) at top)
 
 pub values-tell : ValuesTell
 values-tell expression e values =

@@ -120,16 +120,16 @@ module _ (graph : List ℕ) (bytes : Bytes graph) (passed : checkGraph graph ≡
   g = graphOf graph
 
   few : length g ≤ 256
-  few = rw (length-rows graphWidth Graph.decode (length graph / graphWidth) graph) (at-most graph passed)
+  few = rw (length-rows graphWidth Graph.decodeInstruction (length graph / graphWidth) graph) (at-most graph passed)
 
-  each-fits : (rs : List Instruction) (i : ℕ) → All InstructionFits rs → InstructionFits (Graph.decode []) → InstructionFits (getD rs i (Graph.decode []))
+  each-fits : (rs : List Instruction) (i : ℕ) → All InstructionFits rs → InstructionFits (Graph.decodeInstruction []) → InstructionFits (getD rs i (Graph.decodeInstruction []))
   each-fits [] i h d = d
   each-fits (r ∷ rs) zero h d = h .0
   each-fits (r ∷ rs) (suc i) h d = each-fits rs i (h .1) d
 
   at-fits : (i : ℕ) → InstructionFits (instructionAt g i)
   unfolding instructionAt
-  at-fits i = each-fits g i (rows-fit InstructionFits Graph.decode instruction-fits 16 (length graph / graphWidth) graph bytes) (instruction-fits [] (λ k. omega arith))
+  at-fits i = each-fits g i (rows-fit InstructionFits Graph.decodeInstruction instruction-fits 16 (length graph / graphWidth) graph bytes) (instruction-fits [] (λ k. omega arith))
 
   enters-site : (i : ℕ) → operationOf (instructionAt g i .code) ≡ Operations.Enter → natAbs (instructionAt g i .constant) < 256
   enters-site i e = go (decLe (suc i) (length g))
@@ -176,7 +176,7 @@ module _ (graph : List ℕ) (bytes : Bytes graph) (passed : checkGraph graph ≡
   pub start-fits : (inputs : List ℕ) → Bytes inputs → Start (machineOf g table capacity cells) (firstState inputs cells) → Fits (firstState inputs cells)
   unfolding firstState
   start-fits inputs b s = record {
-    tokens = inputs-fit (allRows tokenWidth Tokens.decode inputs) (rows-fit TokenFits Tokens.decode token-fits tokenWidth (length inputs / tokenWidth) inputs b) (s .allLive);
+    tokens = inputs-fit (allRows tokenWidth Tokens.decodeToken inputs) (rows-fit TokenFits Tokens.decodeToken token-fits tokenWidth (length inputs / tokenWidth) inputs b) (s .allLive);
     cells = absent-of g table capacity cells KeyFits (SFits w32) (λ c. c < cells) cells;
   }
 

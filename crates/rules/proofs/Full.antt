@@ -12,7 +12,7 @@ use Rattle.record.specs.declared.array.NamedArray.{NamedArray}
 use Rattle.record.specs.GraphRecords.{graphOf}
 use Rattle.record.specs.Arrays.{arraysOf}
 use Rattle.record.specs.TokensAndTags.{mostTokens, capacityOf}
-use Rattle.record.specs.Widths.{tokenWidth, cellWidth}
+use Rattle.record.specs.Widths.{tokenWidth, cellWidth, stepWidth}
 use Rattle.machine.specs.Machine.{Machine, State, End, Outcome, completed, hung, budgetSpent, refused, enabled}
 use Rattle.machine.specs.Orders as Ends
 use Rattle.machine.specs.Steps.{Profile, Profiled, ProfileStopped, noneLeft, full, oneRefused, firingsIn, profile}
@@ -28,7 +28,7 @@ use Rattle.rules.specs.declared.answer.Checked.the-variants.{Passed, Fai
 use Rattle.rules.specs.Answer.{numberOf, wordOf, placeIn}
 use Rattle.rules.specs.InstructionSet.{machineOf}
 use Rattle.rules.specs.Run.{firstState, ranTo, outcomeOf, answer}
-use Rattle.rules.specs.Profile.{stepWidth, checkProfile, ProfileResult, profileUnlessFailed, profiled, NoMoreSteps, Full, WhereFull, NeverFull}
+use Rattle.rules.specs.Profile.{checkProfile, ProfileResult, profileUnlessFailed, profiled, NoMoreSteps, Full, WhereFull, NeverFull}
 use Rattle.rules.proofs.Accepted.{whole-bytes, Accepted, law, good}
 use Rattle.rules.proofs.Profile.{wholes}
 use Rattle.rules.proofs.Refusals.{Common, profile-early, firing-early}
@@ -65,7 +65,7 @@ module _ (graph inputs : List ℕ) (table : List NamedArray) (capacity cells : �
     firings : p .ended .firings ≡ firingsIn (p .records)
     goesOn : length (steps .log) < capacity
 
-  rests-not : (o : Outcome Refusal) → Ends.Quiescent o → ¬ (wordOf (outcomeOf o) ≡ 18)
+  rests-not : (o : Outcome Refusal) → Ends.QuiescentEnd o → ¬ (wordOf (outcomeOf o) ≡ 18)
   rests-not completed q h = omega arith
   rests-not hung q h = omega arith
   rests-not budgetSpent q h = absurd q

@@ -26,8 +26,8 @@ use Rattle.record.specs.Calls.{leaveOf, entered}
 use Rattle.record.specs.GraphRecords.{graphOf, destinations, operationOf}
 use Rattle.record.proofs.Paths.{number-words, same-path}
 use Rattle.record.proofs.Calls.{leave-entered}
-use Rattle.machine.specs.Machine.{Key, Content, live, spent, deferred, Token, State, Activity, refuse, send, read, write, Machine, fired, when, onOption, isProper, changed, output, spend, find, look, sameKey, at, operandOf, fire}
-use Rattle.machine.specs.Orders.{Lawful, Good, keysOf}
+use Rattle.machine.specs.Machine.{Key, Content, live, spent, deferred, Token, State, Activity, refuse, send, read, write, Machine, fired, when, onOption, isProper, changed, output, spend, find, look, sameKey, at, isOperandOf, fire}
+use Rattle.machine.specs.Orders.{Lawful, Good, effectKeys}
 use Rattle.machine.specs.Pending.{pendingIn}
 use Rattle.machine.proofs.View.{noneSome, falseTrue, settle, DeltaOf, change, operandLive, operandZero, operandKey}
 use Rattle.machine.proofs.Kept.{Each, OfEffect}
@@ -37,13 +37,14 @@ use Rattle.rules.specs.declared.answer.Checked.the-variants.{Passed}
 use Rattle.rules.specs.Check.{any, instructionAt, checkGraph}
 use Rattle.rules.specs.InstructionSet.{EffectHere, keyUnder, allUnder, effectOf, effectIn, arityIn, machineOf}
 use Rattle.rules.specs.Saved.{onLeft}
-use Rattle.rules.specs.Held.{standsWithin, standsIn, isPending, holdsBack, heldIn, pendingAt, weightAt, CountsByWeights, StandsStep, FreedByClosing, Entered, HeldAnew}
+use Rattle.rules.specs.Held.{standsWithin, standsIn, isPending, holdsBack, heldIn, pendingAt, weightAt, CountsByWeights, StandsStep, FreedByClosing, EnteredHere, HeldAnew}
 use Rattle.rules.proofs.Passed.{both}
 use Rattle.rules.proofs.PassedGraph.{coded}
 use Rattle.rules.proofs.Lawful.{lawful}
 use Rattle.rules.proofs.Effects.{later, both-sides, Asked, of-operation}
 use Rattle.rules.proofs.Callers.{enters}
 use Rattle.rules.proofs.Held.{not-same, one-holds}
+use Rattle.rules.proofs.Lists.{either, or-right}
 
 -- ---- where a tag stands
 
@@ -220,29 +221,21 @@ module _ (graph : List ℕ) (passed : checkGraph graph ≡ Passed) (table : List
     computed = λ o a b v e. tt;
   }
 
-  of-keys : (e : EffectHere) → OfEffect (machineOf g table capacity cells) P Any Any e → Each P (keysOf (machineOf g table capacity cells) e)
+  of-keys : (e : EffectHere) → OfEffect (machineOf g table capacity cells) P Any Any e → Each P (effectKeys (machineOf g table capacity cells) e)
   of-keys (refuse q) h = tt
   of-keys (send v keys) h = h .1
   of-keys (read c keys) h = h .1
   of-keys (write c v keys) h = h .1
 
-  sent-from : (a b : ℤ) → Each P (keysOf (machineOf g table capacity cells) (effectIn g table cells τ a b))
+  sent-from : (a b : ℤ) → Each P (effectKeys (machineOf g table capacity cells) (effectIn g table cells τ a b))
   unfolding effectIn
   sent-from a b = of-keys (effectOf (operationOf (r .code)) g table cells τ r a b (allUnder τ r)) (of-operation g table capacity cells P Any Any τ r asked (operationOf (r .code)) refl a b tt tt)
 
 -- ---- which tokens hold back
 
-or-cases : (b c : Bool) → (b || c) ≡ true → (b ≡ true) ⊎ (c ≡ true)
-or-cases true c e = inl refl
-or-cases false c e = inr e
-
-or-right : (b c : Bool) → c ≡ true → (b || c) ≡ true
-or-right true c e = refl
-or-right false c e = e
-
 any-append : {A : Type 0} (f : A → Bool) (l m : List A) → any f (l ++ m) ≡ true → (any f l ≡ true) ⊎ (any f m ≡ true)
 any-append f [] m e = inr e
-any-append f (x ∷ l) m e = go (or-cases (f x) (any f (l ++ m)) e) (λ h. any-append f l m h)
+any-append f (x ∷ l) m e = go (either (f x) (any f (l ++ m)) e) (λ h. any-append f l m h)
   where
     later-one : (any f l ≡ true) ⊎ (any f m ≡ true) → (any f (x ∷ l) ≡ true) ⊎ (any f m ≡ true)
     later-one (inl h) = inl (or-right (f x) (any f l) h)
@@ -284,7 +277,7 @@ counts-by-weights g table capacity cells p j (t ∷ ts) =
 -- one that holds back is counted
 any-counted : (g : List Instruction) (k : ℕ) (p : Path) (m : ℕ) (ts : List (Token Tag ℤ)) → any (holdsBack g k p m) ts ≡ true → (j : ℕ) × (j + k ≤ m) × (0 < pendingAt g p j ts)
 any-counted g k p m [] e = falseTrue e
-any-counted g k p m (t ∷ ts) e = go (or-cases (holdsBack g k p m t) (any (holdsBack g k p m) ts) e) (λ h. any-counted g k p m ts h)
+any-counted g k p m (t ∷ ts) e = go (either (holdsBack g k p m t) (any (holdsBack g k p m) ts) e) (λ h. any-counted g k p m ts h)
   where
     go : (holdsBack g k p m t ≡ true) ⊎ (any (holdsBack g k p m) ts ≡ true) → (any (holdsBack g k p m) ts ≡ true → (j : ℕ) × (j + k ≤ m) × (0 < pendingAt g p j ts))
         → (j : ℕ) × (j + k ≤ m) × (0 < pendingAt g p j (t ∷ ts))
@@ -334,11 +327,11 @@ module _ (graph : List ℕ) (passed : checkGraph graph ≡ Passed) (table : List
   unfolding isPending
   older t e =
       let (b, j, h, l) = held-at (graphOf graph) k p m (changed (change M τ (f .delta)) t) e in
-      holds (graphOf graph) k p m t j (still (f .delta .writes) (arityIn (graphOf graph) (t .key .tag)) (operandOf M τ (t .key)) (t .content) b) h l
+      holds (graphOf graph) k p m t j (still (f .delta .writes) (arityIn (graphOf graph) (t .key .tag)) (isOperandOf M τ (t .key)) (t .content) b) h l
 
   olds : (ts : List (Token Tag ℤ)) → any H (map (changed (change M τ (f .delta))) ts) ≡ true → any H ts ≡ true
   olds [] e = e
-  olds (t ∷ ts) e = go (or-cases (H (changed (change M τ (f .delta)) t)) _ e) (λ h. olds ts h)
+  olds (t ∷ ts) e = go (either (H (changed (change M τ (f .delta)) t)) _ e) (λ h. olds ts h)
     where
       go : (H (changed (change M τ (f .delta)) t) ≡ true) ⊎ (any H (map (changed (change M τ (f .delta))) ts) ≡ true) → (any H (map (changed (change M τ (f .delta))) ts) ≡ true → any H ts ≡ true) → (H t || any H ts) ≡ true
       go (inl h) rest = rw (older t h)
@@ -378,7 +371,7 @@ module _ (graph : List ℕ) (passed : checkGraph graph ≡ Passed) (table : List
 
   news : (ks : List (Key Tag)) → Each (P graph passed table capacity cells τ word low) ks → any H (map (output (f .after .sent)) ks) ≡ true → Back ks
   news [] each e = falseTrue e
-  news (key ∷ ks) each e = go (or-cases (H (output (f .after .sent) key)) _ e) (λ h. news ks (each .1) h)
+  news (key ∷ ks) each e = go (either (H (output (f .after .sent) key)) _ e) (λ h. news ks (each .1) h)
     where
       here : (j : ℕ) → j + k ≤ m → SentFrom τ key p j (instructionAt (graphOf graph) (τ .instruction) .code ≡ 8) → Back (key ∷ ks)
       here j l (stood i h n) = inl (i, h, omega arith)
@@ -393,16 +386,16 @@ module _ (graph : List ℕ) (passed : checkGraph graph ≡ Passed) (table : List
       go (inr h) rest = further (rest h)
 
   -- a token holds back after the firing: one held back before it, or the firing has entered the path
-  held-after : any H (x .tokens) ≡ true → (any H (s .tokens) ≡ true) ⊎ Entered (graphOf graph) s τ x p
+  held-after : any H (x .tokens) ≡ true → (any H (s .tokens) ≡ true) ⊎ EnteredHere (graphOf graph) s τ x p
   held-after e = go (any-append H (map (changed (change M τ (f .delta))) (s .tokens)) (map (output (f .after .sent)) (f .delta .keys)) (rw (f .after .listed) at e))
     where
-      keys : keysOf M (M .effect τ (f .ops .left) (f .ops .right)) ≡ f .delta .keys
+      keys : effectKeys M (M .effect τ (f .ops .left) (f .ops .right)) ≡ f .delta .keys
       keys = keysKnown M (M .effect τ (f .ops .left) (f .ops .right)) (f .delta) (f .known)
 
       each : Each (P graph passed table capacity cells τ word low) (f .delta .keys)
       each = subst (Each (P graph passed table capacity cells τ word low)) keys (sent-from graph passed table capacity cells τ word low (f .ops .left) (f .ops .right))
 
-      back : Back (f .delta .keys) → (any H (s .tokens) ≡ true) ⊎ Entered (graphOf graph) s τ x p
+      back : Back (f .delta .keys) → (any H (s .tokens) ≡ true) ⊎ EnteredHere (graphOf graph) s τ x p
       back (inl (i, h, l)) = inl (operand-holds i h l)
       back (inr (c, key, i, z)) = inr (record {
         enter = c;
@@ -412,7 +405,7 @@ module _ (graph : List ℕ) (passed : checkGraph graph ≡ Passed) (table : List
         there = z;
       })
 
-      go : (any H (map (changed (change M τ (f .delta))) (s .tokens)) ≡ true) ⊎ (any H (map (output (f .after .sent)) (f .delta .keys)) ≡ true) → (any H (s .tokens) ≡ true) ⊎ Entered (graphOf graph) s τ x p
+      go : (any H (map (changed (change M τ (f .delta))) (s .tokens)) ≡ true) ⊎ (any H (map (output (f .after .sent)) (f .delta .keys)) ≡ true) → (any H (s .tokens) ≡ true) ⊎ EnteredHere (graphOf graph) s τ x p
       go (inl h) = inl (olds (s .tokens) h)
       go (inr h) = back (news (f .delta .keys) each h)
 
@@ -429,6 +422,6 @@ held-anew graph passed table capacity cells k s good τ word low x fires a free 
     later-part : (eqb (instructionAt (graphOf graph) (a .tag .instruction) .code) 7 ≡ true) × (any (holdsBack (graphOf graph) k (a .tag .path) (a .tag .iteration + 1)) (x .tokens) ≡ true)
     later-part = both (eqb (instructionAt (graphOf graph) (a .tag .instruction) .code) 7) _ (parts .1)
 
-    go : (any (holdsBack (graphOf graph) k (a .tag .path) (a .tag .iteration + 1)) (s .tokens) ≡ true) ⊎ Entered (graphOf graph) s τ x (a .tag .path) → Entered (graphOf graph) s τ x (a .tag .path)
+    go : (any (holdsBack (graphOf graph) k (a .tag .path) (a .tag .iteration + 1)) (s .tokens) ≡ true) ⊎ EnteredHere (graphOf graph) s τ x (a .tag .path) → EnteredHere (graphOf graph) s τ x (a .tag .path)
     go (inl h) = falseTrue (sym free ∙ rw (parts .0, later-part .0) h)
     go (inr h) = h

@@ -34,14 +34,14 @@ use Rattle.rules.specs.Run.{contentHeld, tokenHeld, firstState}
 use Rattle.rules.proofs.Passed.{both, demand-passed, andThen-passed, turn-passed}
 use Rattle.rules.proofs.Lists.{neither, each-both, any-own}
 
-pub tokens-first : (inputs : List ℕ) (cells : ℕ) → length (firstState inputs cells .tokens) ≡ length (allRows tokenWidth Tokens.decode inputs)
+pub tokens-first : (inputs : List ℕ) (cells : ℕ) → length (firstState inputs cells .tokens) ≡ length (allRows tokenWidth Tokens.decodeToken inputs)
 unfolding firstState
-tokens-first inputs cells = length-map (allRows tokenWidth Tokens.decode inputs) tokenHeld
+tokens-first inputs cells = length-map (allRows tokenWidth Tokens.decodeToken inputs) tokenHeld
 
 -- ---- each is live
 
-input-live : (l : List ℕ) → isInput l ≡ true → Live (some (contentHeld (Tokens.decode l .content)))
-unfolding isInput Tokens.decode contentOf
+input-live : (l : List ℕ) → isInput l ≡ true → Live (some (contentHeld (Tokens.decodeToken l .content)))
+unfolding isInput Tokens.decodeToken contentOf
 input-live l e =
     let rest = both (isRoot (pathIn l)) _ e .1 in
     let zeros : number32 l 24 ≡ 0 = eqb-true (number32 l 24) 0 (both (eqb (byteAt l 16) 0) (eqb (number32 l 24) 0) rest .1) in
@@ -49,16 +49,16 @@ input-live l e =
     (signedOf (number32 l 20), rw state)
 
 -- what each good input has, all have
-inputs-each : (g : List Instruction) (P : Token → Type 0) → ((l : List ℕ) → goodInput g l ≡ true → P (Tokens.decode l))
-    → (n i : ℕ) (l : List ℕ) → inTurn (λ k good. demand good Refusals.BadInput k) i (rows tokenWidth (goodInput g) n l) ≡ Passed → Each P (rows tokenWidth Tokens.decode n l)
+inputs-each : (g : List Instruction) (P : Token → Type 0) → ((l : List ℕ) → goodInput g l ≡ true → P (Tokens.decodeToken l))
+    → (n i : ℕ) (l : List ℕ) → inTurn (λ k good. demand good Refusals.BadInput k) i (rows tokenWidth (goodInput g) n l) ≡ Passed → Each P (rows tokenWidth Tokens.decodeToken n l)
 inputs-each g P h zero i l e = tt
 inputs-each g P h (suc n) i l e =
     let parts = andThen-passed (demand (goodInput g l) Refusals.BadInput i) _ e in
     (h l (demand-passed (goodInput g l) Refusals.BadInput i (parts .0)), inputs-each g P h n (suc i) (drop tokenWidth l) (parts .1))
 
 -- "Input tokens carry the root path and iteration"
-input-root : (g : List Instruction) (l : List ℕ) → goodInput g l ≡ true → Tokens.decode l .tag ≡ rootOf (Tokens.decode l .tag .instruction)
-unfolding goodInput isInput Tokens.decode
+input-root : (g : List Instruction) (l : List ℕ) → goodInput g l ≡ true → Tokens.decodeToken l .tag ≡ rootOf (Tokens.decodeToken l .tag .instruction)
+unfolding goodInput isInput Tokens.decodeToken
 input-root g l e =
     let good = both (isInput l) (ltb (portIn l) (operandsAt g (tagIn l .instruction))) e .0 in
     let parts = both (isRoot (pathIn l)) _ good in
@@ -67,8 +67,8 @@ input-root g l e =
     λ j. record { path = path j; iteration = iteration j; instruction = tagIn l .instruction }
 
 -- at a port of an instruction
-input-port : (g : List Instruction) (l : List ℕ) → goodInput g l ≡ true → Tokens.decode l .port < operandsAt g (Tokens.decode l .tag .instruction)
-unfolding goodInput Tokens.decode
+input-port : (g : List Instruction) (l : List ℕ) → goodInput g l ≡ true → Tokens.decodeToken l .port < operandsAt g (Tokens.decodeToken l .tag .instruction)
+unfolding goodInput Tokens.decodeToken
 input-port g l e = ltb-true (portIn l) (operandsAt g (tagIn l .instruction)) (both (isInput l) (ltb (portIn l) (operandsAt g (tagIn l .instruction))) e .1)
 
 -- of one key
@@ -86,7 +86,7 @@ module _ (g : List Instruction) (table : List NamedArray) (capacity cells : ℕ)
   abbrev M : Machine
   M = machineOf g table capacity cells
 
-  inputs-live : (n i : ℕ) (l : List ℕ) → inTurn (λ k good. demand good Refusals.BadInput k) i (rows tokenWidth (goodInput g) n l) ≡ Passed → AllLive M (map tokenHeld (rows tokenWidth Tokens.decode n l))
+  inputs-live : (n i : ℕ) (l : List ℕ) → inTurn (λ k good. demand good Refusals.BadInput k) i (rows tokenWidth (goodInput g) n l) ≡ Passed → AllLive M (map tokenHeld (rows tokenWidth Tokens.decodeToken n l))
   unfolding goodInput
   inputs-live zero i l e = tt
   inputs-live (suc n) i l e =
@@ -100,7 +100,7 @@ module _ (g : List Instruction) (table : List NamedArray) (capacity cells : ℕ)
 
   -- what holds of every key at the root where an input stands, holds of the first state
   pub start-keys : (P : Key Tag → Type 0) (R : ℕ → Type 0) (inputs : List ℕ)
-      → ((t : Token) → t .tag ≡ rootOf (t .tag .instruction) → t .port < operandsAt g (t .tag .instruction) → any (standsAt (t .tag) (t .port)) (allRows tokenWidth Tokens.decode inputs) ≡ true → P (tokenHeld t .key))
+      → ((t : Token) → t .tag ≡ rootOf (t .tag .instruction) → t .port < operandsAt g (t .tag .instruction) → any (standsAt (t .tag) (t .port)) (allRows tokenWidth Tokens.decodeToken inputs) ≡ true → P (tokenHeld t .key))
       → checkInputs g capacity inputs ≡ Passed → OfState M P (λ v. Unit {0}) R (firstState inputs cells)
   unfolding checkInputs firstState goodInput
   start-keys P R inputs h e = record {
@@ -110,15 +110,15 @@ module _ (g : List Instruction) (table : List NamedArray) (capacity cells : ℕ)
   }
     where
       ts : List Token
-      ts = allRows tokenWidth Tokens.decode inputs
+      ts = allRows tokenWidth Tokens.decodeToken inputs
 
       Input : Token → Type 0
       Input t = (t .tag ≡ rootOf (t .tag .instruction)) × (t .port < operandsAt g (t .tag .instruction)) × OfContent M P (λ v. Unit {0}) R (contentHeld (t .content))
 
-      input : (l : List ℕ) → goodInput g l ≡ true → Input (Tokens.decode l)
+      input : (l : List ℕ) → goodInput g l ≡ true → Input (Tokens.decodeToken l)
       input l k =
           let (v, f) = input-live l (both (isInput l) _ k .0) in
-          let z : contentHeld (Tokens.decode l .content) ≡ live v = cc in
+          let z : contentHeld (Tokens.decodeToken l .content) ≡ live v = cc in
           (input-root g l k, input-port g l k, rw z tt)
 
   -- ---- their keys are different
@@ -148,14 +148,14 @@ module _ (g : List Instruction) (table : List NamedArray) (capacity cells : ℕ)
       not-true _ (subst (λ (m : ℕ). not (secondInput (take m ts) (getD ts k d)) ≡ true) (zero-add k) (demand-passed (not (secondInput (take (0 + k) ts) (getD ts k d))) Refusals.SecondToken (0 + k) at)))
     where
       d : Token
-      d = Tokens.decode []
+      d = Tokens.decodeToken []
 
   -- ---- a start
 
   pub start : (inputs : List ℕ) → checkInputs g capacity inputs ≡ Passed → Start M (firstState inputs cells)
   unfolding checkInputs firstState
   start inputs e =
-      let ts = allRows tokenWidth Tokens.decode inputs in
+      let ts = allRows tokenWidth Tokens.decodeToken inputs in
       let parts = andThen-passed (inTurn (λ k good. demand good Refusals.BadInput k) 0 (allRows tokenWidth (goodInput g) inputs)) _ e in
       let later = andThen-passed (demand (leb (length ts) capacity) Refusals.LedgerFull capacity) _ (parts .1) in
       record {

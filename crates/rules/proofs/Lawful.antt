@@ -23,7 +23,7 @@ use Rattle.record.specs.declared.instruction.Destination.{Destination}
 use Rattle.record.specs.declared.instruction.Instruction.{Instruction}
 use Rattle.record.specs.declared.operation.Operation.{Operation}
 use Rattle.record.specs.declared.operation.Operation.the-variants as Operations
-use Rattle.record.specs.GraphRecords.{Row, lookup, rowOf, operationOf, inUse, destinations, graphOf, isGraphLength}
+use Rattle.record.specs.GraphRecords.{Row, rowWith, rowOf, operationOf, inUse, destinations, graphOf, isGraphLength}
 use Rattle.record.specs.GraphRecords as Graph
 use Rattle.record.specs.Calls.{nextOf, enterOf, leaveOf}
 use Rattle.arithmetic.specs.declared.Computed.{Computed}
@@ -43,11 +43,11 @@ abbrev pub Holds : (Row → Bool) → List Row → Type 0
 Holds p [] = Unit {0}
 Holds p (r ∷ rs) = (p r ≡ true) × Holds p rs
 
-looked-up : (p : Row → Bool) (rs : List Row) (n : ℕ) → Holds p rs → p (Graph.noRow n) ≡ true → p (lookup rs n) ≡ true
+looked-up : (p : Row → Bool) (rs : List Row) (n : ℕ) → Holds p rs → p (Graph.noRow n) ≡ true → p (rowWith rs n) ≡ true
 looked-up p [] n h e = e
 looked-up p (r ∷ rs) n h e = go (eqb n (r .code)) (looked-up p rs n (h .1) e)
   where
-    go : (b : Bool) → p (lookup rs n) ≡ true → p (cond b r (lookup rs n)) ≡ true
+    go : (b : Bool) → p (rowWith rs n) ≡ true → p (cond b r (rowWith rs n)) ≡ true
     go true k = h .0
     go false k = k
 
@@ -183,7 +183,7 @@ module _ (graph : List ℕ) (passed : checkGraph graph ≡ Passed) where
   record-passed i h =
       let g = graphOf graph in
       let turns = andThen-passed (demand (isGraphLength (length graph)) Refusals.GraphLength 0) (inTurn (checkRecord g) 0 g) passed .1 in
-      subst (λ (m : ℕ). checkRecord g m (getD g i (Graph.decode [])) ≡ Passed) (zero-add i) (turn-passed (checkRecord g) (Graph.decode []) 0 g turns i h)
+      subst (λ (m : ℕ). checkRecord g m (getD g i (Graph.decodeInstruction [])) ≡ Passed) (zero-add i) (turn-passed (checkRecord g) (Graph.decodeInstruction []) 0 g turns i h)
 
   -- the fan-out of an instruction is at least what the table says
   fan-out-enough : (i : ℕ) → i < length (graphOf graph) → rowOf (instructionAt (graphOf graph) i .code) .leastFanOut ≤ instructionAt (graphOf graph) i .fanout
@@ -209,8 +209,8 @@ module _ (graph : List ℕ) (passed : checkGraph graph ≡ Passed) where
 
     -- past the graph stands an unknown operation
     kind-past : (i : ℕ) → length (graphOf graph) ≤ i → kind (operationOf (instructionAt (graphOf graph) i .code)) ≡ false
-    unfolding instructionAt Graph.decode rowOf
-    kind-past i h = ap (λ (r : Instruction). kind (operationOf (r .code))) (getD-past (graphOf graph) i (Graph.decode []) h) ∙ one .unknown
+    unfolding instructionAt Graph.decodeInstruction rowOf
+    kind-past i h = ap (λ (r : Instruction). kind (operationOf (r .code))) (getD-past (graphOf graph) i (Graph.decodeInstruction []) h) ∙ one .unknown
 
     -- an instruction of the kind has a destination
     pub kind-has-key : (i : ℕ) (τ : Tag) → kind (operationOf (instructionAt (graphOf graph) i .code)) ≡ true → 0 < length (allUnder τ (instructionAt (graphOf graph) i))

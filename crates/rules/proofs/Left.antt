@@ -66,8 +66,8 @@ unfolding answer ledgerAfter
 rest-as-lent (refusedAtOnce r p) ledger = refl
 rest-as-lent (ranTo e) ledger =
     let ts = map tokenRecord (e .state .tokens) in
-    let n : length (joined Tokens.encode ts) ≡ length (e .state .tokens) * tokenWidth = length-joined tokenWidth Tokens.encode length-token ts ∙ ap (λ (k : ℕ). k * tokenWidth) (length-map (e .state .tokens) tokenRecord) in
-    drop-at (joined Tokens.encode ts) _ (length (e .state .tokens) * tokenWidth) n ∙ ap (λ (k : ℕ). drop k ledger) n
+    let n : length (joined Tokens.encodeToken ts) ≡ length (e .state .tokens) * tokenWidth = length-joined tokenWidth Tokens.encodeToken length-token ts ∙ ap (λ (k : ℕ). k * tokenWidth) (length-map (e .state .tokens) tokenRecord) in
+    drop-at (joined Tokens.encodeToken ts) _ (length (e .state .tokens) * tokenWidth) n ∙ ap (λ (k : ℕ). drop k ledger) n
 
 -- ---- a refused firing
 
@@ -96,13 +96,13 @@ refused-firing graph arrays inputs picks budget ledger cells passed r place refu
 -- ---- "An accepted run first sets all cells absent and writes its inputs to the ledger."
 
 -- the record that l starts with, written back
-input-back : (l : List ℕ) → Bytes l → tokenWidth ≤ length l → isInput l ≡ true → Tokens.encode (Tokens.decode l) ≡ take tokenWidth l
+input-back : (l : List ℕ) → Bytes l → tokenWidth ≤ length l → isInput l ≡ true → Tokens.encodeToken (Tokens.decodeToken l) ≡ take tokenWidth l
 unfolding isInput
 input-back l b long good =
     let rest = both (isRoot (pathIn l)) _ good .1 in
     let zeros : number32 l 24 ≡ 0 = eqb-true (number32 l 24) 0 (both (eqb (byteAt l 16) 0) _ rest .1) in
     let front : (k : ℕ) → k < tokenWidth → byteAt (take tokenWidth l) k ≡ byteAt l k = λ k h. getD-take tokenWidth l k 0 h in
-    ap Tokens.encode (sym (token-front l))
+    ap Tokens.encodeToken (sym (token-front l))
     ∙ token-bytes-back (take tokenWidth l) (record {
       size = length-take-le tokenWidth l long;
       small = λ k. small k (decLe (suc k) tokenWidth);
@@ -115,7 +115,7 @@ input-back l b long good =
     small k (no n) = rw (getD-past (take tokenWidth l) k 0 (omega (arith, length-take-le tokenWidth l long))) (omega arith)
 
 inputs-back : (g : List Instruction) (n i : ℕ) (l : List ℕ) → Bytes l → n * tokenWidth ≤ length l → inTurn (λ k good. demand good Refusals.BadInput k) i (rows tokenWidth (goodInput g) n l) ≡ Passed
-    → joined Tokens.encode (rows tokenWidth Tokens.decode n l) ≡ joined (λ (r : List ℕ). r) (rows tokenWidth (take tokenWidth) n l)
+    → joined Tokens.encodeToken (rows tokenWidth Tokens.decodeToken n l) ≡ joined (λ (r : List ℕ). r) (rows tokenWidth (take tokenWidth) n l)
 unfolding goodInput
 inputs-back g zero i l b long e = refl
 inputs-back g (suc n) i l b long e =
@@ -133,8 +133,8 @@ held-back (t ∷ ts) = λ j. record { tag = t .tag; port = t .port; content = co
     content (Spent v) = refl
     content (Deferred c) = refl
 
-absent-bytes : (n : ℕ) → joined Cells.encode (map cellRecord (replicate n absent)) ≡ replicate (n * cellWidth) 0
-unfolding Cells.encode
+absent-bytes : (n : ℕ) → joined Cells.encodeCell (map cellRecord (replicate n absent)) ≡ replicate (n * cellWidth) 0
+unfolding Cells.encodeCell
 absent-bytes zero = refl
 absent-bytes (suc n) = rw (absent-bytes n, suc-mul n 8, add-comm (n * cellWidth) 8) (replicate-append-replicate 8 (n * cellWidth) 0)
 
@@ -147,15 +147,15 @@ first-left g capacity e inputs ledger cells state b wi wc passed =
     let n = length inputs / tokenWidth in
     let s = firstState inputs (length cells / cellWidth) in
     let good = andThen-passed (inTurn (λ k ok. demand ok Refusals.BadInput k) 0 (allRows tokenWidth (goodInput g) inputs)) _ passed .0 in
-    let tokens : joined Tokens.encode (map tokenRecord (s .tokens)) ≡ inputs =
-    ap (joined Tokens.encode) (held-back (allRows tokenWidth Tokens.decode inputs)) ∙ inputs-back g n 0 inputs b (omega arith) good ∙ rows-raw tokenWidth n inputs ∙ take-all (n * tokenWidth) inputs (omega arith) in
+    let tokens : joined Tokens.encodeToken (map tokenRecord (s .tokens)) ≡ inputs =
+    ap (joined Tokens.encodeToken) (held-back (allRows tokenWidth Tokens.decodeToken inputs)) ∙ inputs-back g n 0 inputs b (omega arith) good ∙ rows-raw tokenWidth n inputs ∙ take-all (n * tokenWidth) inputs (omega arith) in
     let none : List ℕ = replicate (length cells) 0 in
     let bytes : length cells / cellWidth * cellWidth ≡ length cells = omega arith in
-    let zeros : joined Cells.encode (map cellRecord (s .cells)) ≡ none = absent-bytes (length cells / cellWidth) ∙ ap (λ (k : ℕ). replicate k 0) bytes in
+    let zeros : joined Cells.encodeCell (map cellRecord (s .cells)) ≡ none = absent-bytes (length cells / cellWidth) ∙ ap (λ (k : ℕ). replicate k 0) bytes in
     let long : length cells ≤ length none = omega (arith, length-replicate {A = ℕ} (length cells) 0) in
     let rest : drop (length none) cells ≡ [] = drop-of-length-le cells long in (
       ap (λ (x : State Tag ℤ). ledgerOf (map tokenRecord (x .tokens)) ledger) state ∙ ap (λ (l : List ℕ). l ++ drop (length l) ledger) tokens,
-      ap (λ (x : State Tag ℤ). writtenOver Cells.encode (map cellRecord (x .cells)) cells) state
+      ap (λ (x : State Tag ℤ). writtenOver Cells.encodeCell (map cellRecord (x .cells)) cells) state
           ∙ ap (λ (l : List ℕ). l ++ drop (length l) cells) zeros
           ∙ ap (λ (l : List ℕ). none ++ l) rest
           ∙ append-nil none,

@@ -22,6 +22,8 @@ pub mod Logged
 pub mod Below
 pub mod Rounds
 pub mod LoopFree
+pub mod RootTokens
+pub mod FiredOnce
 pub mod Needs
 pub mod Capacity
 pub mod NamedArrays

@@ -16,7 +16,7 @@ use Rattle.buffer.proofs.Tables.{length-joined}
 use Rattle.record.specs.GraphRecords.{graphOf}
 use Rattle.record.specs.Arrays.{arraysOf}
 use Rattle.record.specs.TokensAndTags.{mostTokens, capacityOf}
-use Rattle.record.specs.Logs.{encode, nameOf}
+use Rattle.record.specs.Logs.{encodeActivity, nameOf}
 use Rattle.record.specs.Widths.{tokenWidth, cellWidth, logWidth}
 use Rattle.record.proofs.LogRecords.{TagFits, length-record, name-back}
 use Rattle.machine.specs.Machine.{Machine, End, byPicks, run}
@@ -32,23 +32,23 @@ use Rattle.rules.specs.declared.answer.Checked.the-variants.{Passed, Fai
 use Rattle.rules.specs.Check.{_andThen_, checkGraph, checkStores, checkArrays, checkInputs, check}
 use Rattle.rules.specs.InstructionSet.{machineOf}
 use Rattle.rules.specs.Run.{firstState, picksOf, ranTo, unlessFailed, result}
-use Rattle.rules.specs.Orders.{Quiescent}
-use Rattle.rules.specs.Log.{namesIn, logSuffices, checkLogStores, checkLogged, logUnlessFailed, logged, LoggedRuns, LogFits, LogsAgree}
+use Rattle.rules.specs.Orders.{QuiescentResult}
+use Rattle.rules.specs.Log.{namesIn, logSuffices, checkLogStores, checkLogged, logUnlessFailed, logged, LoggedRuns, LogFits, LogsAgreeOfResults}
 use Rattle.rules.proofs.Passed.{both, demand-passed, andThen-passed}
 use Rattle.rules.proofs.Accepted.{whole-bytes, Whole, stores-whole, Accepted, accepted, law, good}
 
 -- ---- records
 
-rows-back : (τs : List Tag) → All TagFits τs → rows logWidth nameOf (length τs) (joined encode τs) ≡ map some τs
-unfolding encode
+rows-back : (τs : List Tag) → All TagFits τs → rows logWidth nameOf (length τs) (joined encodeActivity τs) ≡ map some τs
+unfolding encodeActivity
 rows-back [] f = refl
-rows-back (τ ∷ τs) f = λ i. name-back τ (joined encode τs) (f .0) i ∷ rows-back τs (f .1) i
+rows-back (τ ∷ τs) f = λ i. name-back τ (joined encodeActivity τs) (f .0) i ∷ rows-back τs (f .1) i
 
-pub names-back : (τs : List Tag) → All TagFits τs → namesIn (joined encode τs) ≡ map some τs
+pub names-back : (τs : List Tag) → All TagFits τs → namesIn (joined encodeActivity τs) ≡ map some τs
 unfolding namesIn
 names-back τs f =
-    let n : (length (joined encode τs) + (logWidth - 1)) / logWidth ≡ length τs = let z = length-joined logWidth encode length-record τs in omega arith in
-    ap (λ (k : ℕ). rows logWidth nameOf k (joined encode τs)) n ∙ rows-back τs f
+    let n : (length (joined encodeActivity τs) + (logWidth - 1)) / logWidth ≡ length τs = let z = length-joined logWidth encodeActivity length-record τs in omega arith in
+    ap (λ (k : ℕ). rows logWidth nameOf k (joined encodeActivity τs)) n ∙ rows-back τs f
 
 -- ---- a log that passed
 
@@ -120,7 +120,7 @@ logged-runs graph arrays inputs picks budget ledger cells lent enough = rw enoug
 
 module _ (graph arrays inputs picks : List ℕ) (budget ledger cells lent : ℕ) where
   -- a run that completes or hangs was not refused at once
-  rests-passed : Quiescent (logged graph arrays inputs picks budget ledger cells lent .result) → checkLogged graph arrays inputs picks budget ledger cells lent ≡ Passed
+  rests-passed : QuiescentResult (logged graph arrays inputs picks budget ledger cells lent .result) → checkLogged graph arrays inputs picks budget ledger cells lent ≡ Passed
   unfolding logged logUnlessFailed
   rests-passed q = go (checkLogged graph arrays inputs picks budget ledger cells lent) refl
     where
@@ -128,7 +128,7 @@ module _ (graph arrays inputs picks : List ℕ) (budget ledger cells lent : ℕ)
       go Passed e = refl
       go (Failed r p) e = absurd (rw e at q)
 
-pub logs-agree : LogsAgree
+pub logs-agree : LogsAgreeOfResults
 unfolding logged logUnlessFailed
 logs-agree graph arrays inputs picks picks′ budget budget′ ledger ledger′ cells cells′ lent lent′ c d p q =
     let e = rests-passed graph arrays inputs picks budget ledger cells lent p in

@@ -62,7 +62,7 @@ logged-else graph arrays inputs l x h e =
 
 -- ---- a refused firing has operands
 
-tokens-there : (M : Machine) (o : Outcome (M .Refusal)) (budget n : ℕ) (x : StateOf M) → Says M o budget n x → Ends.Refused o → 0 < length (x .tokens)
+tokens-there : (M : Machine) (o : Outcome (M .Refusal)) (budget n : ℕ) (x : StateOf M) → Says M o budget n x → Ends.RefusedEnd o → 0 < length (x .tokens)
 tokens-there M completed b n x h r = absurd r
 tokens-there M hung b n x h r = absurd r
 tokens-there M budgetSpent b n x h r = absurd r

@@ -20,12 +20,12 @@ use Rattle.arithmetic.specs.declared.Computed.{Computed}
 use Rattle.arithmetic.specs.declared.Computed.the-variants.{Value, OutOfRange}
 use Rattle.arithmetic.specs.Arithmetic.{computeOf}
 use Rattle.machine.specs.Machine.{Key, refuse, read, write, Machine}
-use Rattle.machine.specs.Orders.{keysOf}
+use Rattle.machine.specs.Orders.{effectKeys}
 use Rattle.machine.proofs.View.{falseTrue}
 use Rattle.machine.proofs.Fired.{Done}
 use Rattle.rules.specs.declared.answer.Refusal.the-variants as Refusals
 use Rattle.rules.specs.InstructionSet.{EffectHere, keyUnder, allUnder, sendComputed, onCell, cellNumber, effectOf, machineOf}
-use Rattle.rules.specs.Needs.{outputsOf, loopFree}
+use Rattle.rules.specs.Needs.{outputsNeeded, loopFree}
 use Rattle.rules.proofs.PassedGraph.{Good, coded, most-fan-out}
 
 none-in-use : (n : ℕ) (d e : Destination) → n ≤ 0 → inUse n d e ≡ []
@@ -52,17 +52,17 @@ module _ (g : List Instruction) (table : List NamedArray) (capacity cells : ℕ)
   abbrev M : Machine
   M = machineOf g table capacity cells
 
-  keys-computed : (c : Computed) (keys : List (Key Tag)) → Done M (sendComputed c keys) → keysOf M (sendComputed c keys) ≡ keys
+  keys-computed : (c : Computed) (keys : List (Key Tag)) → Done M (sendComputed c keys) → effectKeys M (sendComputed c keys) ≡ keys
   unfolding sendComputed
   keys-computed (Value v) keys d = refl
   keys-computed OutOfRange keys d = absurd d
 
-  keys-cell : (a : ℤ) (f : ℕ → EffectHere) (keys : List (Key Tag)) → ((c : ℕ) → keysOf M (f c) ≡ keys) → Done M (onCell cells a f) → keysOf M (onCell cells a f) ≡ keys
+  keys-cell : (a : ℤ) (f : ℕ → EffectHere) (keys : List (Key Tag)) → ((c : ℕ) → effectKeys M (f c) ≡ keys) → Done M (onCell cells a f) → effectKeys M (onCell cells a f) ≡ keys
   unfolding onCell
   keys-cell (negsuc c) f keys h d = absurd d
   keys-cell (pos c) f keys h d = go (ltb c cells) d
     where
-      go : (b : Bool) → Done M (cond b (f c) (refuse Refusals.NoSuchCell)) → keysOf M (cond b (f c) (refuse Refusals.NoSuchCell)) ≡ keys
+      go : (b : Bool) → Done M (cond b (f c) (refuse Refusals.NoSuchCell)) → effectKeys M (cond b (f c) (refuse Refusals.NoSuchCell)) ≡ keys
       go true d = h c
       go false d = absurd d
 
@@ -71,7 +71,7 @@ module _ (g : List Instruction) (table : List NamedArray) (capacity cells : ℕ)
     none-under e = ap (map (keyUnder τ)) (sym (no-destinations good e))
 
     pub keys-sent : (o : Operation) → operationOf (r .code) ≡ o → ¬ (o ≡ Operations.Switch) → (a b : ℤ) → Done M (effectOf o g table cells τ r a b (allUnder τ r))
-        → keysOf M (effectOf o g table cells τ r a b (allUnder τ r)) ≡ allUnder τ r
+        → effectKeys M (effectOf o g table cells τ r a b (allUnder τ r)) ≡ allUnder τ r
     unfolding effectOf
     keys-sent Operations.Copy e n a b d = refl
     keys-sent Operations.Sink e n a b d = none-under (coded (r .code) e)
@@ -91,10 +91,10 @@ module _ (g : List Instruction) (table : List NamedArray) (capacity cells : ℕ)
     abbrev effect : (a b : ℤ) → EffectHere
     effect a b = effectOf (operationOf (r .code)) g table cells τ r a b (allUnder τ r)
 
-    pub outputs-counted : (a b : ℤ) → Done M (effect a b) → length (keysOf M (effect a b)) ≡ outputsOf r
-    unfolding outputsOf effectOf
+    pub outputs-counted : (a b : ℤ) → Done M (effect a b) → length (effectKeys M (effect a b)) ≡ outputsNeeded r
+    unfolding outputsNeeded effectOf
     outputs-counted a b d = go (eqb (r .code) 5) refl
       where
-        go : (q : Bool) → eqb (r .code) 5 ≡ q → length (keysOf M (effect a b)) ≡ cond q 1 (length (destinations r))
+        go : (q : Bool) → eqb (r .code) 5 ≡ q → length (effectKeys M (effect a b)) ≡ cond q 1 (length (destinations r))
         go true e = rw (five-switches (r .code) e)
         go false e = ap length (keys-sent (operationOf (r .code)) refl (not-switch (r .code) e) a b d) ∙ length-map (destinations r) (keyUnder τ)

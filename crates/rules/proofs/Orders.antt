@@ -30,7 +30,7 @@ use Rattle.rules.specs.declared.answer.Checked.the-variants.{Passed, Fai
 use Rattle.rules.specs.Check.{checkGraph, checkStores, checkArrays, check, mostCells}
 use Rattle.rules.specs.InstructionSet.{machineOf}
 use Rattle.rules.specs.Run.{tokenRecord, cellRecord, firstState, picksOf, Result, refusedAtOnce, ranTo, unlessFailed, result, answer}
-use Rattle.rules.specs.Orders.{EachOnce, Alike, Agree, Allowed, AnyTwoOrders}
+use Rattle.rules.specs.Orders.{EachOnce, AlikeResults, ResultsAgree, Allowed, AnyTwoOrdersOfResults}
 use Rattle.rules.proofs.Accepted.{whole-bytes, Accepted, accepted, law, good}
 
 -- ---- lists
@@ -74,7 +74,7 @@ module _ (g : List Instruction) (table : List NamedArray) (capacity cells : ℕ)
   once (t ∷ ts) d = (others t ts (d .0), once ts (d .1))
 
   -- of ends that the machine's theorem compares
-  pub alike-ends : (d e : End Refusal Tag ℤ) → Distinct M₀ (d .state .tokens) → Ends.Alike d e → Alike (ranTo d) (ranTo e)
+  pub alike-ends : (d e : End Refusal Tag ℤ) → Distinct M₀ (d .state .tokens) → Ends.AlikeEnds d e → AlikeResults (ranTo d) (ranTo e)
   unfolding answer
   alike-ends d e distinct z = record {
     firings = z .firings;
@@ -98,7 +98,7 @@ module _ (graph inputs : List ℕ) (table : List NamedArray) (capacity cells : �
       let e = reached-picks M s 2048 picks in
       reached-good M (law graph inputs table capacity cells a) s (good graph inputs table capacity cells a) (e .done) (e .sent) _ (e .reached)
 
-  agree : (picks picks′ : List ℕ) → Agree (ranTo (run M 2048 picks s)) (ranTo (run M 2048 picks′ s))
+  agree : (picks picks′ : List ℕ) → ResultsAgree (ranTo (run M 2048 picks s)) (ranTo (run M 2048 picks′ s))
   agree picks picks′ =
       let lawful = law graph inputs table capacity cells a in
       let first = good graph inputs table capacity cells a in
@@ -119,7 +119,7 @@ module _ (graph arrays inputs picks picks′ : List ℕ) (ledger cells : ℕ) (a
   unfolding check checkStores
   same-check = rw (a .allowedPicks, b .allowedPicks)
 
-  unfolded : (c : Checked) → check graph arrays inputs picks ledger cells ≡ c → Agree (result graph arrays inputs picks 2048 ledger cells) (result graph arrays inputs picks′ 2048 ledger cells)
+  unfolded : (c : Checked) → check graph arrays inputs picks ledger cells ≡ c → ResultsAgree (result graph arrays inputs picks 2048 ledger cells) (result graph arrays inputs picks′ 2048 ledger cells)
   unfolding result unlessFailed check
   unfolded (Failed r p) e =
       let e′ = sym same-check ∙ e in
@@ -132,7 +132,7 @@ module _ (graph arrays inputs picks picks′ : List ℕ) (ledger cells : ℕ) (a
 -- with picks, ledger and cells of allowed length
 allowed-orders : (graph arrays inputs picks picks′ : List ℕ) (ledger ledger′ cells cells′ : ℕ) → Allowed picks ledger cells → Allowed picks′ ledger′ cells′
     → capacityOf ledger ≡ capacityOf ledger′ → cells / cellWidth ≡ cells′ / cellWidth
-    → Agree (result graph arrays inputs picks 2048 ledger cells) (result graph arrays inputs picks′ 2048 ledger′ cells′)
+    → ResultsAgree (result graph arrays inputs picks 2048 ledger cells) (result graph arrays inputs picks′ 2048 ledger′ cells′)
 allowed-orders graph arrays inputs picks picks′ ledger ledger′ cells cells′ a b c d =
     let l = same-length ledger ledger′ (whole-bytes tokenWidth mostTokens ledger (a .allowedLedger) .0) (whole-bytes tokenWidth mostTokens ledger′ (b .allowedLedger) .0) c in
     let k = same-cells cells cells′ (whole-bytes cellWidth mostCells cells (a .allowedCells) .0) (whole-bytes cellWidth mostCells cells′ (b .allowedCells) .0) d in
@@ -140,7 +140,7 @@ allowed-orders graph arrays inputs picks picks′ ledger ledger′ cells cells�
     rw (← l, ← k) (unfolded graph arrays inputs picks picks′ ledger cells a b′ (check graph arrays inputs picks ledger cells) refl)
 
 -- two runs that are refused before any firing
-pub both-refused : {x y : Result} (q r : Refusal) (m n : ℕ) → x ≡ refusedAtOnce q m → y ≡ refusedAtOnce r n → Agree x y
+pub both-refused : {x y : Result} (q r : Refusal) (m n : ℕ) → x ≡ refusedAtOnce q m → y ≡ refusedAtOnce r n → ResultsAgree x y
 both-refused q r m n e f = rw (e, f) (record { completes = (λ h. h, λ h. h); hangs = (λ h. h, λ h. h); alike = λ h. absurd h; refused = (λ h. h, λ h. h); neverSpent = λ h. h })
 
 -- a graph that fails its check is refused whatever else is lent, and so are inputs that are not whole records
@@ -152,11 +152,11 @@ inputs-refused : (graph arrays inputs picks : List ℕ) (ledger cells : ℕ) →
 unfolding result check checkStores unlessFailed
 inputs-refused graph arrays inputs picks ledger cells e w = rw (e, w)
 
-pub any-two-orders : AnyTwoOrders
+pub any-two-orders : AnyTwoOrdersOfResults
 any-two-orders graph arrays inputs picks picks′ ledger ledger′ cells cells′ a b c d = go (checkGraph graph) refl (whole tokenWidth mostTokens (length inputs)) refl
   where
     go : (x : Checked) → checkGraph graph ≡ x → (w : Bool) → whole tokenWidth mostTokens (length inputs) ≡ w
-        → Agree (result graph arrays inputs picks 2048 ledger cells) (result graph arrays inputs picks′ 2048 ledger′ cells′)
+        → ResultsAgree (result graph arrays inputs picks 2048 ledger cells) (result graph arrays inputs picks′ 2048 ledger′ cells′)
     go (Failed r p) e w f = both-refused r r p p (graph-refused graph arrays inputs picks ledger cells r p e) (graph-refused graph arrays inputs picks′ ledger′ cells′ r p e)
     go Passed e false f = both-refused BadStore BadStore 0 0 (inputs-refused graph arrays inputs picks ledger cells e f) (inputs-refused graph arrays inputs picks′ ledger′ cells′ e f)
     go Passed e true f = allowed-orders graph arrays inputs picks picks′ ledger ledger′ cells cells′ (a e f) (b e f) c d

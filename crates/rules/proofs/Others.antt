@@ -22,7 +22,7 @@ use Rattle.record.specs.GraphRecords.{graphOf}
 use Rattle.record.specs.Arrays.{arraysOf}
 use Rattle.record.specs.TokensAndTags.{tagIn, portIn, mostTokens, capacityOf}
 use Rattle.record.specs.Logs.{nameOf}
-use Rattle.record.specs.Widths.{tokenWidth, cellWidth, logWidth}
+use Rattle.record.specs.Widths.{tokenWidth, cellWidth, logWidth, stepWidth}
 use Rattle.record.proofs.Records.{front, own}
 use Rattle.machine.specs.Machine.{Machine, State, End, Outcome, completed, hung, budgetSpent, refused, enabled}
 use Rattle.machine.specs.Orders as Ends
@@ -43,7 +43,7 @@ use Rattle.rules.specs.Check.{checkStores, checkArrays, check, mostCells
 use Rattle.rules.specs.InstructionSet.{machineOf}
 use Rattle.rules.specs.Run.{firstState, Result, refusedAtOnce, ranTo, outcomeOf, unlessFailed, answer, ledgerAfter, cellsAfter}
 use Rattle.rules.specs.Log.{namesIn, replayed}
-use Rattle.rules.specs.Profile.{stepWidth, checkProfile, profileUnlessFailed, profiled}
+use Rattle.rules.specs.Profile.{checkProfile, profileUnlessFailed, profiled}
 use Rattle.rules.specs.Demand2.{InputsWritten, OthersStart, StoppedBefore, NotEnabledStops}
 use Rattle.rules.proofs.Accepted.{whole-bytes, Whole, stores-whole, Accepted, accepted, law, good}
 use Rattle.rules.proofs.Left.{first-left}
@@ -155,7 +155,7 @@ module _ (g : List ℕ) (table : List NamedArray) (capacity cells : ℕ) (s : St
   abbrev before : End Refusal Tag ℤ
   before = replay M NotEnabled (namesIn (take (place * logWidth) log)) 0 s
 
-  rests-not : (o : Outcome Refusal) → Ends.Quiescent o → ¬ (wordOf (outcomeOf o) ≡ 20)
+  rests-not : (o : Outcome Refusal) → Ends.QuiescentEnd o → ¬ (wordOf (outcomeOf o) ≡ 20)
   rests-not completed q h = omega arith
   rests-not hung q h = omega arith
   rests-not budgetSpent q h = absurd q

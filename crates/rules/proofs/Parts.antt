@@ -34,9 +34,9 @@ use Rattle.rules.specs.Check.{checkGraph, checkStores, checkArrays, chec
 use Rattle.rules.specs.InstructionSet.{machineOf}
 use Rattle.rules.specs.Run.{tokenRecord, cellRecord, firstState, picksOf, Result, refusedAtOnce, ranTo, unlessFailed, result, outcomeOf, answer, ledgerAfter, cellsAfter}
 use Rattle.rules.specs.Runs.{LeftByRun}
-use Rattle.rules.specs.Saved.{stateSaved, machineSaved, taken, checkSaved, carried}
+use Rattle.rules.specs.Saved.{stateSaved, machineSaved, stateTaken, checkSaved, carried}
 use Rattle.rules.specs.Fits.{AllFit, CarriedFit}
-use Rattle.rules.specs.Parts.{leftBy, nextPart, unlessRefused, laterParts, CutRuns, CutAgain, Began, TakenAfter, LeavesTaken}
+use Rattle.rules.specs.Parts.{leftBy, nextPart, followedUnlessRefused, laterParts, CutRuns, CutAgain, Began, TakenAfter, LeavesTaken}
 use Rattle.rules.proofs.Passed.{demand-passed, andThen-passed}
 use Rattle.rules.proofs.Lawful.{lawful}
 use Rattle.rules.proofs.Accepted.{whole-bytes, Whole, stores-whole, accepted, by-check}
@@ -68,7 +68,7 @@ whole-drop a l e =
 
 -- ---- what follows a part
 
-by-outcome : {A : Type 0} (o : Outcome Refusal) (f : A → LeftByRun) (e z : A) (y : LeftByRun) → y ≡ f z → unlessRefused (outcomeOf o) (f e) y ≡ f (ifRefused o e z)
+by-outcome : {A : Type 0} (o : Outcome Refusal) (f : A → LeftByRun) (e z : A) (y : LeftByRun) → y ≡ f z → followedUnlessRefused (outcomeOf o) (f e) y ≡ f (ifRefused o e z)
 by-outcome completed f e z y h = h
 by-outcome hung f e z y h = h
 by-outcome budgetSpent f e z y h = h
@@ -105,12 +105,12 @@ module _ (graph : List ℕ) (bytes : Bytes graph) (passed : checkGraph graph ≡
     ledger′ = ledgerOf (map tokenRecord (s .tokens)) ledger
 
     abbrev cells′ : List ℕ
-    cells′ = writtenOver Cells.encode (map cellRecord (s .cells)) cells
+    cells′ = writtenOver Cells.encodeCell (map cellRecord (s .cells)) cells
 
     room : Rooms s ledger cells
     room = record { forTokens = h .saved .good .room; forCells = h .saved .good .cellCount }
 
-    pub is-taken : taken graph ledger′ cells′ f (length (s .tokens)) ≡ true
+    pub is-taken : stateTaken graph ledger′ cells′ f (length (s .tokens)) ≡ true
     is-taken = taken-again graph bytes passed (arraysOf arrays) capacity count few f s h ledger cells room refl refl
 
     check-passes : (picks : List ℕ) → whole pickWidth mostTokens (length picks) ≡ true → checkSaved graph arrays picks ledger′ cells′ f (length (s .tokens)) ≡ Passed
@@ -133,8 +133,8 @@ module _ (graph : List ℕ) (bytes : Bytes graph) (passed : checkGraph graph ≡
         let grown = reached-count M (lawful graph passed (arraysOf arrays) capacity count) s (h .saved .good) (e .done) (e .sent) x (e .reached) in
         let k = goes-on b ps f s h .saved .good .cellCount in
         let c = h .saved .good .cellCount in
-        let l = over-over tokenWidth Tokens.encode length-token (map tokenRecord (s .tokens)) (map tokenRecord (x .tokens)) ledger (omega (arith, length-map (s .tokens) tokenRecord, length-map (x .tokens) tokenRecord, grown)) in
-        let m = over-over cellWidth Cells.encode length-cell (map cellRecord (s .cells)) (map cellRecord (x .cells)) cells (omega (arith, length-map (s .cells) cellRecord, length-map (x .cells) cellRecord, k, c)) in
+        let l = over-over tokenWidth Tokens.encodeToken length-token (map tokenRecord (s .tokens)) (map tokenRecord (x .tokens)) ledger (omega (arith, length-map (s .tokens) tokenRecord, length-map (x .tokens) tokenRecord, grown)) in
+        let m = over-over cellWidth Cells.encodeCell length-cell (map cellRecord (s .cells)) (map cellRecord (x .cells)) cells (omega (arith, length-map (s .cells) cellRecord, length-map (x .cells) cellRecord, k, c)) in
         λ i. record { answer = answer (ranTo (goesTo b ps f s)); ledger = l i; cells = m i }
 
   next-part : (picks : List ℕ) (b : ℕ) → whole pickWidth mostTokens (length picks) ≡ true → (e : End Refusal Tag ℤ) → Goes (e .firings) (e .state)
@@ -241,7 +241,7 @@ module _ (graph arrays ledger cells : List ℕ) (graphBytes : Bytes graph) (ledg
       let (s, t) = andThen-passed (checkStores 0 (length picks) (length ledger) (length cells)) _ later in
       let w = stores-whole 0 (length picks) (length ledger) (length cells) s in
       let (named, d) = andThen-passed (checkArrays (graphOf graph) (length cells / cellWidth) arrays) _ t in
-      (passed, w .wholeLedger, w .wholeCells, named, resumable-saved graph ledger cells graphBytes passed (arraysOf arrays) ledgerBytes cellBytes firings n (demand-passed (taken graph ledger cells firings n) DamagedState 0 d))
+      (passed, w .wholeLedger, w .wholeCells, named, resumable-saved graph ledger cells graphBytes passed (arraysOf arrays) ledgerBytes cellBytes firings n (demand-passed (stateTaken graph ledger cells firings n) DamagedState 0 d))
 
 same-saved : (graph arrays picks picks′ ledger cells : List ℕ) (firings n : ℕ) → whole pickWidth mostTokens (length picks) ≡ true → whole pickWidth mostTokens (length picks′) ≡ true
     → checkSaved graph arrays picks ledger cells firings n ≡ checkSaved graph arrays picks′ ledger cells firings n

@@ -12,7 +12,7 @@ use lib.IntN.{ℤ, pos, negsuc}
 use Rattle.record.specs.declared.instruction.Instruction.{Instruction}
 use Rattle.record.specs.declared.operation.Operation.{Operation}
 use Rattle.record.specs.declared.operation.Operation.the-variants.{Copy, Sink, Out, Const, Switch, Gate, Next, Enter, Leave, Fetch, Store, OnTwo, OnConstant, Unknown}
-use Rattle.record.specs.GraphRecords.{Row, noRow, table, lookup, rowOf, operationOf, operandsOf, graphOf, isGraphLength, destinations}
+use Rattle.record.specs.GraphRecords.{Row, noRow, table, rowWith, rowOf, operationOf, operandsOf, graphOf, isGraphLength, destinations}
 use Rattle.record.specs.GraphRecords as Graph
 use Rattle.record.specs.Widths.{graphWidth}
 use Rattle.rules.specs.declared.answer.Refusal.the-variants.{GraphLength, UnknownOperation, FanOut, BadArc, BadSite}
@@ -44,12 +44,12 @@ of-record g i r e =
 
 -- past the graph stands an unknown operation, which has no operands
 pub past-operation : (g : List Instruction) (i : ℕ) → length g ≤ i → operationOf (instructionAt g i .code) ≡ Unknown
-unfolding instructionAt Graph.decode rowOf
-past-operation g i h = rw (getD-past g i (Graph.decode []) h)
+unfolding instructionAt Graph.decodeInstruction rowOf
+past-operation g i h = rw (getD-past g i (Graph.decodeInstruction []) h)
 
 pub past-operands : (g : List Instruction) (i : ℕ) → length g ≤ i → operandsAt g i ≡ 0
-unfolding operandsAt instructionAt Graph.decode rowOf
-past-operands g i h = rw (getD-past g i (Graph.decode []) h)
+unfolding operandsAt instructionAt Graph.decodeInstruction rowOf
+past-operands g i h = rw (getD-past g i (Graph.decodeInstruction []) h)
 
 module _ (graph : List ℕ) (passed : checkGraph graph ≡ Passed) where
   parts : (isGraphLength (length graph) ≡ true) × (inTurn (checkRecord (graphOf graph)) 0 (graphOf graph) ≡ Passed)
@@ -61,7 +61,7 @@ module _ (graph : List ℕ) (passed : checkGraph graph ≡ Passed) where
   pub of-graph : (i : ℕ) → i < length (graphOf graph) → Good (graphOf graph) i (instructionAt (graphOf graph) i)
   unfolding instructionAt
   of-graph i h =
-      of-record (graphOf graph) i _ (rw (zero-add i) at (turn-passed (checkRecord (graphOf graph)) (Graph.decode []) 0 (graphOf graph) (parts .1) i h))
+      of-record (graphOf graph) i _ (rw (zero-add i) at (turn-passed (checkRecord (graphOf graph)) (Graph.decodeInstruction []) 0 (graphOf graph) (parts .1) i h))
 
   pub at-most : length graph / graphWidth ≤ 256
   at-most = leb-true _ _ (both (eqb (length graph % graphWidth) 0) _ (both (leb 1 (length graph)) _ (parts .0) .1) .1)
@@ -88,11 +88,11 @@ abbrev says : ℕ → Row → Bool
 says n r = Said (r .operation) n (r .leastFanOut) && leb (r .operands) 2
 
 -- what each row has, and what stands for no row, every code has
-by-rows : (test : ℕ → Row → Bool) (n : ℕ) → test n (noRow n) ≡ true → (rs : List Row) → all (λ r. test (r .code) r) rs ≡ true → test n (lookup rs n) ≡ true
+by-rows : (test : ℕ → Row → Bool) (n : ℕ) → test n (noRow n) ≡ true → (rs : List Row) → all (λ r. test (r .code) r) rs ≡ true → test n (rowWith rs n) ≡ true
 by-rows test n other [] e = other
 by-rows test n other (r ∷ rs) e = let p = both (test (r .code) r) _ e in go (eqb n (r .code)) refl (p .0) (by-rows test n other rs (p .1))
   where
-    go : (t : Bool) → eqb n (r .code) ≡ t → test (r .code) r ≡ true → test n (lookup rs n) ≡ true → test n (cond t r (lookup rs n)) ≡ true
+    go : (t : Bool) → eqb n (r .code) ≡ t → test (r .code) r ≡ true → test n (rowWith rs n) ≡ true → test n (cond t r (rowWith rs n)) ≡ true
     go true q here later = rw (eqb-true n (r .code) q) here
     go false q here later = later
 

@@ -81,7 +81,7 @@ module _ (graph : List ℕ) (passed : checkGraph graph ≡ Passed) where
   pub some-site : (site : ℕ) → HasEnter g site → 0 < site
   unfolding instructionAt entersSite within
   some-site site e =
-      let (i, l, h) = any-index (entersSite (pos site)) (Graph.decode []) g e in
+      let (i, l, h) = any-index (entersSite (pos site)) (Graph.decodeInstruction []) g e in
       let r = instructionAt g i in
       let (code, same) = both (eqb (r .code) 8) (eqZ (r .constant) (pos site)) h in
       let z : r .constant ≡ pos site = eqZ-true (r .constant) (pos site) same in

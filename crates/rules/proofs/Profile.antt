@@ -13,7 +13,7 @@ use Rattle.record.specs.declared.array.NamedArray.{NamedArray}
 use Rattle.record.specs.GraphRecords.{graphOf}
 use Rattle.record.specs.Arrays.{arraysOf}
 use Rattle.record.specs.TokensAndTags.{mostTokens, capacityOf}
-use Rattle.record.specs.Widths.{tokenWidth, cellWidth}
+use Rattle.record.specs.Widths.{tokenWidth, cellWidth, stepWidth}
 use Rattle.machine.specs.Machine.{Machine, State, byPicks, run}
 use Rattle.machine.specs.Machine as Machine
 use Rattle.machine.specs.Orders as Ends
@@ -28,8 +28,8 @@ use Rattle.rules.specs.declared.answer.Checked.the-variants.{Passed, Fai
 use Rattle.rules.specs.Check.{demand, checkStores, checkArrays, check, mostCells}
 use Rattle.rules.specs.InstructionSet.{machineOf}
 use Rattle.rules.specs.Run.{firstState, picksOf, ranTo, outcomeOf, unlessFailed, result, answer}
-use Rattle.rules.specs.Orders.{Refused, Allowed}
-use Rattle.rules.specs.Profile.{stepWidth, checkProfileStores, checkProfile, profileUnlessFailed, profiled, ProfileFits, EndsAs, AsEveryOrder}
+use Rattle.rules.specs.Orders.{RefusedResult, Allowed}
+use Rattle.rules.specs.Profile.{checkProfileStores, checkProfile, profileUnlessFailed, profiled, ProfileFits, ProfileEndsAs, ProfileAsEveryOrder}
 use Rattle.rules.proofs.Passed.{andThen-passed}
 use Rattle.rules.proofs.Accepted.{whole-bytes, Whole, stores-whole, Accepted, accepted, law, good}
 use Rattle.rules.proofs.Orders.{same-length, same-cells, alike-ends}
@@ -43,8 +43,8 @@ module _ (graph inputs : List ℕ) (table : List NamedArray) (capacity cells : �
   abbrev s : State Tag ℤ
   s = firstState inputs cells
 
-  ends-as : (left : ℕ) → ¬ (Ends.Refused (profile M ProfileFull left 0 s .ended .outcome)) → (picks : List ℕ)
-      → EndsAs (record { result = ranTo (profile M ProfileFull left 0 s .ended); records = profile M ProfileFull left 0 s .records }) (ranTo (run M 2048 picks s))
+  ends-as : (left : ℕ) → ¬ (Ends.RefusedEnd (profile M ProfileFull left 0 s .ended .outcome)) → (picks : List ℕ)
+      → ProfileEndsAs (record { result = ranTo (profile M ProfileFull left 0 s .ended); records = profile M ProfileFull left 0 s .records }) (ranTo (run M 2048 picks s))
   unfolding answer
   ends-as left n picks =
       let lawful = law graph inputs table capacity cells a in
@@ -63,7 +63,7 @@ module _ (graph inputs : List ℕ) (table : List NamedArray) (capacity cells : �
 -- ---- over bytes
 
 module _ (graph arrays inputs : List ℕ) (ledger cells lent : ℕ) where
-  pub passes : ¬ (Refused (profiled graph arrays inputs ledger cells lent .result)) → checkProfile graph arrays inputs ledger cells lent ≡ Passed
+  pub passes : ¬ (RefusedResult (profiled graph arrays inputs ledger cells lent .result)) → checkProfile graph arrays inputs ledger cells lent ≡ Passed
   unfolding profiled profileUnlessFailed
   passes n = go (checkProfile graph arrays inputs ledger cells lent) refl
     where
@@ -82,15 +82,15 @@ module _ (graph arrays inputs : List ℕ) (ledger cells lent : ℕ) where
   unfolding check checkStores
   run-accepts picks allowed named a w = rw (a .graphPassed, w .wholeInputs, allowed .allowedPicks, w .wholeLedger, w .wholeCells, named) (a .inputsPassed)
 
-  as-orders : (picks : List ℕ) → Allowed picks ledger cells → ¬ (Refused (profiled graph arrays inputs ledger cells lent .result))
-      → EndsAs (profiled graph arrays inputs ledger cells lent) (result graph arrays inputs picks 2048 ledger cells)
+  as-orders : (picks : List ℕ) → Allowed picks ledger cells → ¬ (RefusedResult (profiled graph arrays inputs ledger cells lent .result))
+      → ProfileEndsAs (profiled graph arrays inputs ledger cells lent) (result graph arrays inputs picks 2048 ledger cells)
   unfolding profiled profileUnlessFailed result unlessFailed
   as-orders picks allowed n =
       let e = passes n in
       let (w, (named, a)) = wholes e in
       rw (e, run-accepts picks allowed named a w) (ends-as graph inputs (arraysOf arrays) (capacityOf ledger) (cells / cellWidth) (whole-bytes tokenWidth mostTokens ledger (w .wholeLedger) .1) a (lent / stepWidth) (rw e at n) (picksOf picks))
 
-pub as-every-order : AsEveryOrder
+pub as-every-order : ProfileAsEveryOrder
 as-every-order graph arrays inputs picks ledger ledger′ cells cells′ lent n allowed c d =
     let w = wholes graph arrays inputs ledger cells lent (passes graph arrays inputs ledger cells lent n) .0 in
     let l = same-length ledger ledger′ (whole-bytes tokenWidth mostTokens ledger (w .wholeLedger) .0) (whole-bytes tokenWidth mostTokens ledger′ (allowed .allowedLedger) .0) c in

@@ -2,12 +2,12 @@
 use mathlib.Core.Path.{_≡_, refl}
 use mathlib.Core.List.{map}
 use Rattle.rules.specs.Computed.{rules}
-use Rattle.rules.specs.RangeCases.{RangeRecord, records, seenIn, seen, expected, cases}
+use Rattle.rules.specs.RangeCases.{RangeRecord, rangeRecords, seenInRanges, seenRange, expectedRange, rangeCases}
 
-pub range-cases-hold : map seen cases ≡ map expected cases
-unfolding rules seenIn seen expected
+pub range-cases-hold : map seenRange rangeCases ≡ map expectedRange rangeCases
+unfolding rules seenInRanges seenRange expectedRange
 range-cases-hold = refl
 
-pub range-records-hold : map (λ (r : RangeRecord). r .written) records ≡ map (λ (r : RangeRecord). r .bytes) records
+pub range-records-hold : map (λ (r : RangeRecord). r .written) rangeRecords ≡ map (λ (r : RangeRecord). r .bytes) rangeRecords
 unfolding rules
 range-records-hold = refl

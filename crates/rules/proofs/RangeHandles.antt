@@ -25,9 +25,9 @@ use Rattle.machine.specs.Machine.{Key, live, refuse, send, read, write}
 use Rattle.machine.specs.Machine.{Machine, byPicks}
 use Rattle.machine.specs.Choosers.{Chooser, runFrom, byPick}
 use Rattle.machine.specs.Bounded.{runBounded}
-use Rattle.machine.specs.Orders.{keysOf}
-use Rattle.machine.specs.InStep.{Pairwise, noMore, pair, RelatedToken, atKey, bothLive, RelatedState, RelatedEffect, bothRefuse, bothSend, bothRead, bothWrite, EndsAlike}
-use Rattle.machine.specs.Handles.{Stands, stateBy, Tabled, StepsRelated, SameChooser}
+use Rattle.machine.specs.Orders.{effectKeys}
+use Rattle.machine.specs.InStep.{PlaceByPlace, noMore, pair, RelatedToken, atKey, bothLive, RelatedState, RelatedEffect, bothRefuse, bothSend, bothRead, bothWrite, RelatedEnds}
+use Rattle.machine.specs.Handles.{StandsAt, stateBy, Tabled, StepsRelated, SameChooser}
 use Rattle.machine.proofs.Kept.{Each}
 use Rattle.machine.proofs.Choosers.{picksChoose}
 use Rattle.machine.proofs.InStep.{enabledSame, endingSame}
@@ -40,7 +40,7 @@ use Rattle.rules.specs.InstructionSet.{EffectHere, keyUnder, allUnder, s
 use Rattle.rules.specs.Held.{heldIn}
 use Rattle.rules.specs.RangeSet.{RangeEffect, sendRange, isUndecided, sendSide, onSingle, rangeEffectOf, rangeEffectIn, rangeMachineOf}
 use Rattle.rules.specs.RangeRun.{rangeIn, decodeRange, checkRangeInputs, firstRanges}
-use Rattle.rules.specs.RangeHandles.{StepHere, meaning, sendNew, stepOf, stepIn, firstTable, numbered, firstHandles, handleRun}
+use Rattle.rules.specs.RangeHandles.{StepHere, meaning, sendNew, rangeStep, stepIn, firstTable, numbered, firstHandles, handleRun}
 use Rattle.rules.proofs.RangeSet.{next-related, entered-related, left-related, cell-related}
 use Rattle.rules.proofs.Lawful.{ForOne, kind-has-key}
 use Rattle.rules.proofs.Ranges.{all-read, zero-state, good-rows, cells-related, sixth-passed, none-held}
@@ -50,7 +50,7 @@ NoRefusal r = ⊥
 
 -- the step over handles asks for what the effect of ranges does, and what it sends stands in the table that it leaves
 abbrev Right : List Range → RangeEffect → StepHere → Type 0
-Right t e s = RelatedEffect (Stands natAbs (t ++ s .added)) NoRefusal e (s .asked)
+Right t e s = RelatedEffect (StandsAt natAbs (t ++ s .added)) NoRefusal e (s .asked)
 
 -- ---- by operations
 
@@ -61,12 +61,12 @@ new-right t (some r) keys = bothSend (stands-new natAbs t r (pos (length t)) ref
 
 module _ (t : List Range) where
   abbrev R : Range → ℤ → Type 0
-  R = Stands natAbs (t ++ [])
+  R = StandsAt natAbs (t ++ [])
 
-  kept : (x : Range) (a : ℤ) → Stands natAbs t x a → R x a
+  kept : (x : Range) (a : ℤ) → StandsAt natAbs t x a → R x a
   kept x a h = stands-on natAbs t [] x a h
 
-  meant : (x : Range) (a : ℤ) → Stands natAbs t x a → meaning t a ≡ x
+  meant : (x : Range) (a : ℤ) → StandsAt natAbs t x a → meaning t a ≡ x
   meant x a h = stands-at natAbs t x (single (pos 0)) a h
 
   side-right : (x y : Range) (a : ℤ) (τ : Tag) (r : Instruction) → R x a
@@ -87,9 +87,9 @@ module _ (t : List Range) where
       go true = cell-related R NoRefusal cells (number (x .low)) f d h
       go false = bothRefuse
 
-  step-right : (o : Operation) (g : List Instruction) (table : List NamedArray) (cells : ℕ) (τ : Tag) (r : Instruction) (x y : Range) (a b : ℤ) (keys : List (Key Tag)) → Stands natAbs t x a → Stands natAbs t y b
-      → Right t (rangeEffectOf o g table cells τ r x y keys) (stepOf o g table cells t τ r a b keys)
-  unfolding rangeEffectOf stepOf effectOf sendRange
+  step-right : (o : Operation) (g : List Instruction) (table : List NamedArray) (cells : ℕ) (τ : Tag) (r : Instruction) (x y : Range) (a b : ℤ) (keys : List (Key Tag)) → StandsAt natAbs t x a → StandsAt natAbs t y b
+      → Right t (rangeEffectOf o g table cells τ r x y keys) (rangeStep o g table cells t τ r a b keys)
+  unfolding rangeEffectOf rangeStep effectOf sendRange
   step-right Operations.Copy g table cells τ r x y a b keys h k = bothSend (kept x a h)
   step-right Operations.Sink g table cells τ r x y a b keys h k = bothSend (kept x a h)
   step-right Operations.Out g table cells τ r x y a b keys h k = bothSend (kept x a h)
@@ -115,8 +115,8 @@ steps-related g table capacity cells t sig τ x y a b h k =
 
 -- the inputs from the row ls on, whose ranges stand in the table behind those in front
 numbered-related : (g : List Instruction) (front : List Range) (n : ℕ) → n ≡ length front → (ls : List (List ℕ)) → Each (λ l. goodInput g l ≡ true) ls
-    → Pairwise (RelatedToken (Stands natAbs (front ++ map rangeIn ls))) (map decodeRange ls) (numbered n (map decodeRange ls))
-unfolding decodeRange Tokens.decode contentOf
+    → PlaceByPlace (RelatedToken (StandsAt natAbs (front ++ map rangeIn ls))) (map decodeRange ls) (numbered n (map decodeRange ls))
+unfolding decodeRange Tokens.decodeToken contentOf
 numbered-related g front n e [] h = noMore
 numbered-related g front n e (l ∷ ls) h =
     let shifted : (front ++ rangeIn l ∷ []) ++ map rangeIn ls ≡ front ++ rangeIn l ∷ map rangeIn ls = append-assoc front (rangeIn l ∷ []) (map rangeIn ls) in
@@ -125,12 +125,12 @@ numbered-related g front n e (l ∷ ls) h =
     pair (atKey {x = decodeRange l .content} {y = live (pos n)} (rw (zero-state g l (h .0)) (bothLive (rw shifted at here)))) (rw shifted at rest)
 
 first-handled : (g : List Instruction) (capacity cells : ℕ) (inputs : List ℕ) → checkRangeInputs g capacity inputs ≡ Passed
-    → RelatedState (Stands natAbs (firstTable inputs)) (firstRanges inputs cells) (firstHandles inputs cells)
+    → RelatedState (StandsAt natAbs (firstTable inputs)) (firstRanges inputs cells) (firstHandles inputs cells)
 unfolding firstTable firstRanges firstHandles
 first-handled g capacity cells inputs e = record {
   tokens = rw (all-read rangeTokenWidth decodeRange inputs, all-read rangeTokenWidth rangeIn inputs)
       (numbered-related g (single (pos 0) ∷ []) 1 refl (allRows rangeTokenWidth (λ b. b) inputs) (good-rows g (length inputs / rangeTokenWidth) 0 inputs (sixth-passed g capacity inputs e)));
-  cells = cells-related (Stands natAbs (firstTable inputs)) cells;
+  cells = cells-related (StandsAt natAbs (firstTable inputs)) cells;
 }
 
 -- the range run of accepted inputs by any chooser, told by handles and the table
@@ -140,7 +140,7 @@ module _ (g : List Instruction) (table : List NamedArray) (capacity cells : ℕ)
   abbrev x : Tabled Refusal Tag Range ℤ
   x = handleRun g table capacity cells d budget inputs
 
-  pub handle-run : EndsAlike (Stands natAbs (x .table)) (runFrom (rangeMachineOf g table capacity cells) c budget 0 (firstRanges inputs cells)) (x .ended)
+  pub handle-run : RelatedEnds (StandsAt natAbs (x .table)) (runFrom (rangeMachineOf g table capacity cells) c budget 0 (firstRanges inputs cells)) (x .ended)
   unfolding handleRun firstTable
   handle-run =
       handlesInStep (rangeMachineOf g table capacity cells) ℤ (effectIn g table cells) (pos 0) (stepIn g table cells) natAbs (steps-related g table capacity cells) c d same
@@ -148,7 +148,7 @@ module _ (g : List Instruction) (table : List NamedArray) (capacity cells : ℕ)
 
   -- so what a range run leaves is what the run over handles leaves, read through its table
   pub handles-read : runFrom (rangeMachineOf g table capacity cells) c budget 0 (firstRanges inputs cells) .state ≡ stateBy (meaning (x .table)) (x .ended .state)
-  handles-read = stateRead (Stands natAbs (x .table)) (meaning (x .table)) (λ r h k. sym (stands-at natAbs (x .table) r (single (pos 0)) h k)) (handle-run .state)
+  handles-read = stateRead (StandsAt natAbs (x .table)) (meaning (x .table)) (λ r h k. sym (stands-at natAbs (x .table) r (single (pos 0)) h k)) (handle-run .state)
 
 -- ---- by picks
 
@@ -161,7 +161,7 @@ module _ (g : List Instruction) (table : List NamedArray) (capacity cells : ℕ)
 
   -- the same is enabled, and so the same is chosen
   picks-same : SameChooser M ℤ (effectIn g table cells) (pos 0) (stepIn g table cells) natAbs (byPick M (byPicks M) picks) (byPick N (byPicks N) picks)
-  picks-same t f s u h = rw (enabledSame M ℤ (effectIn g table cells) (pos 0) (Stands natAbs t) s u h, endingSame M ℤ (effectIn g table cells) (pos 0) (Stands natAbs t) s u h)
+  picks-same t f s u h = rw (enabledSame M ℤ (effectIn g table cells) (pos 0) (StandsAt natAbs t) s u h, endingSame M ℤ (effectIn g table cells) (pos 0) (StandsAt natAbs t) s u h)
 
   -- the end of a range run without a bound, read through the table of the run over handles
   pub by-handles : (budget : ℕ) (inputs : List ℕ) → checkRangeInputs g capacity inputs ≡ Passed
@@ -202,15 +202,15 @@ adders-for-one = record {
 
 -- no more ranges than outputs
 abbrev Few : StepHere → Type 0
-Few s = length (s .added) ≤ length (keysOf (machineOf [] [] 0 0) (s .asked))
+Few s = length (s .added) ≤ length (effectKeys (machineOf [] [] 0 0) (s .asked))
 
 new-few : (t : List Range) (q : Option Range) (keys : List (Key Tag)) → 0 < length keys → Few (sendNew t q keys)
 unfolding sendNew
 new-few t none keys h = zero-le
 new-few t (some r) keys h = h
 
-few-of : (o : Operation) (g : List Instruction) (table : List NamedArray) (cells : ℕ) (t : List Range) (τ : Tag) (r : Instruction) (a b : ℤ) (keys : List (Key Tag)) → (adds o ≡ true → 0 < length keys) → Few (stepOf o g table cells t τ r a b keys)
-unfolding stepOf
+few-of : (o : Operation) (g : List Instruction) (table : List NamedArray) (cells : ℕ) (t : List Range) (τ : Tag) (r : Instruction) (a b : ℤ) (keys : List (Key Tag)) → (adds o ≡ true → 0 < length keys) → Few (rangeStep o g table cells t τ r a b keys)
+unfolding rangeStep
 few-of Operations.Copy g table cells t τ r a b keys h = zero-le
 few-of Operations.Sink g table cells t τ r a b keys h = zero-le
 few-of Operations.Out g table cells t τ r a b keys h = zero-le
@@ -228,7 +228,7 @@ few-of Operations.Unknown g table cells t τ r a b keys h = zero-le
 
 -- so the table, which starts with one range more than there are inputs, is never longer than the tokens and one; a firing that is refused may add one more
 pub steps-add-few : (graph : List ℕ) → checkGraph graph ≡ Passed → (table : List NamedArray) (cells : ℕ) (t : List Range) (τ : Tag) (a b : ℤ)
-    → length (stepIn (graphOf graph) table cells t τ a b .added) ≤ length (keysOf (machineOf [] [] 0 0) (stepIn (graphOf graph) table cells t τ a b .asked))
+    → length (stepIn (graphOf graph) table cells t τ a b .added) ≤ length (effectKeys (machineOf [] [] 0 0) (stepIn (graphOf graph) table cells t τ a b .asked))
 unfolding stepIn
 steps-add-few graph passed table cells t τ a b =
     let r = instructionAt (graphOf graph) (τ .instruction) in

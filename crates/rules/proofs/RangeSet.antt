@@ -37,7 +37,7 @@ use Rattle.arithmetic.proofs.Rising.{nonzero}
 use Rattle.arithmetic.proofs.Equalities.{same-ends}
 use Rattle.arithmetic.proofs.Ranges.{holds-every}
 use Rattle.machine.specs.Machine.{Key, refuse, send, read, write, Token, State, Activity}
-use Rattle.machine.specs.InStep.{Pairwise, noMore, pair, bothLive, bothSpent, bothDeferred, RelatedToken, atKey, RelatedState, RelatedEffect, refusedAlone, bothRefuse, bothSend, bothRead, bothWrite, Related}
+use Rattle.machine.specs.InStep.{PlaceByPlace, noMore, pair, bothLive, bothSpent, bothDeferred, RelatedToken, atKey, RelatedState, RelatedEffect, refusedAlone, bothRefuse, bothSend, bothRead, bothWrite, Related}
 use Rattle.rules.specs.declared.answer.Refusal.{Refusal}
 use Rattle.rules.specs.declared.answer.Refusal.the-variants as Refusals
 use Rattle.machine.specs.Orders.{Lawful}
@@ -164,7 +164,7 @@ module _ {V₁ V₂ : Type 0} (R : V₁ → V₂ → Type 0) where
   pending-same g (atKey (bothSpent h)) = refl
   pending-same g (atKey bothDeferred) = refl
 
-  holds-same : (g : List Instruction) (k : ℕ) (p : Path) (m : ℕ) {ts : List (Token Tag V₁)} {us : List (Token Tag V₂)} → Pairwise (RelatedToken R) ts us → any (holdsBack g k p m) ts ≡ any (holdsBack g k p m) us
+  holds-same : (g : List Instruction) (k : ℕ) (p : Path) (m : ℕ) {ts : List (Token Tag V₁)} {us : List (Token Tag V₂)} → PlaceByPlace (RelatedToken R) ts us → any (holdsBack g k p m) ts ≡ any (holdsBack g k p m) us
   unfolding holdsBack
   holds-same g k p m noMore = refl
   holds-same g k p m (pair (atKey {k = j} {x = x} {y = y} h) t) = rw (pending-same g (atKey {k = j} h), holds-same g k p m t)

@@ -31,8 +31,8 @@ use Rattle.arithmetic.proofs.Order.{le-test}
 use Rattle.arithmetic.proofs.Corners.{holds-proper}
 use Rattle.machine.specs.Machine.{Key, Content, Token, absent, State, End, Machine, output, byPicks, run}
 use Rattle.machine.specs.Bounded.{runBounded}
-use Rattle.machine.specs.Orders.{Good, Quiescent}
-use Rattle.machine.specs.InStep.{Pairwise, noMore, pair, RelatedContent, bothLive, bothSpent, bothDeferred, RelatedCell, bothAbsent, RelatedToken, atKey, RelatedState, EndsAlike, InStep, alike, stopped}
+use Rattle.machine.specs.Orders.{Good, QuiescentEnd}
+use Rattle.machine.specs.InStep.{PlaceByPlace, noMore, pair, RelatedContent, bothLive, bothSpent, bothDeferred, RelatedCell, bothAbsent, RelatedToken, atKey, RelatedState, RelatedEnds, InStep, alike, stopped}
 use Rattle.machine.proofs.Kept.{Each}
 use Rattle.machine.proofs.InStep.{pairLength, pairMap, pairSame, pairGrows, goodRelated, inStep}
 use Rattle.machine.proofs.Orders.{orders}
@@ -49,7 +49,7 @@ use Rattle.rules.specs.Bounded.{andBound, checkBounded, bounded}
 use Rattle.rules.specs.Run as Plain
 use Rattle.rules.specs.RangeSet.{rangeMachineOf, OfRanges}
 use Rattle.rules.specs.RangeRun.{rangeIn, withHigh, decodeRange, rangeCapacityOf, checkRangeStores, isProperRange, checkRangeInputs, checkRanges, firstRanges, RangeResult, refusedAtOnce, ranTo, rangesUnlessFailed, rangeResult}
-use Rattle.rules.specs.Ranges.{StatesInStep, ChosenFrom, Chosen, AsMany, ResultsInStep, RunsInStep, Promised, RangesPromise, SameEnds, AnyTwoRangeOrders}
+use Rattle.rules.specs.Ranges.{StatesInStep, ChosenFrom, ChosenInputs, AsManyRecords, ResultsInStep, RunsInStep, Promised, RangesPromise, SameEnds, AnyTwoRangeOrders}
 use Rattle.rules.proofs.Passed.{both, demand-passed, andThen-passed}
 use Rattle.rules.proofs.Inputs.{inputs-distinct}
 use Rattle.rules.proofs.RangeSet.{effects-related, held-same, ranges-lawful}
@@ -62,9 +62,9 @@ states-in-step g table capacity cells k s u h budget picks =
     (byPicks (rangeMachineOf g table capacity cells)) (byPicks (machineOf g table capacity cells)) (λ x y r pick a more. refl) (heldIn g k) (heldIn g k) (held-same Holds g k) s u h budget picks 0
 
 -- completed or hung is not refused
-at-rest : (d : End Refusal Tag Range) (e : End Refusal Tag ℤ) → InStep Holds OfRanges d e → Quiescent (d .outcome) → EndsAlike Holds d e
+at-rest : (d : End Refusal Tag Range) (e : End Refusal Tag ℤ) → InStep Holds OfRanges d e → QuiescentEnd (d .outcome) → RelatedEnds Holds d e
 at-rest d e (alike h) q = h
-at-rest d e (stopped r p f a) q = absurd (subst Quiescent f q)
+at-rest d e (stopped r p f a) q = absurd (subst QuiescentEnd f q)
 
 -- ---- rows
 
@@ -83,24 +83,24 @@ map-map f g (x ∷ xs) = ap (λ (ys : List _). g (f x) ∷ ys) (map-map f g xs)
 -- ---- lists, place by place
 
 module _ {A B : Type 0} (R : A → B → Type 0) where
-  same-map : {C : Type 0} (f : A → C) (g : B → C) → ((x : A) (y : B) → R x y → f x ≡ g y) → {xs : List A} {ys : List B} → Pairwise R xs ys → map f xs ≡ map g ys
+  same-map : {C : Type 0} (f : A → C) (g : B → C) → ((x : A) (y : B) → R x y → f x ≡ g y) → {xs : List A} {ys : List B} → PlaceByPlace R xs ys → map f xs ≡ map g ys
   same-map f g h noMore = refl
   same-map f g h (pair {x = x} {y = y} k t) = rw (h x y k, same-map f g h t)
 
-  pair-with : (P : A → Type 0) {xs : List A} {ys : List B} → Each P xs → Pairwise R xs ys → Pairwise (λ x y. P x × R x y) xs ys
+  pair-with : (P : A → Type 0) {xs : List A} {ys : List B} → Each P xs → PlaceByPlace R xs ys → PlaceByPlace (λ x y. P x × R x y) xs ys
   pair-with P e noMore = noMore
   pair-with P e (pair k t) = pair (e .0, k) (pair-with P (e .1) t)
 
-  pair-take : (n : ℕ) {xs : List A} {ys : List B} → Pairwise R xs ys → Pairwise R (take n xs) (take n ys)
+  pair-take : (n : ℕ) {xs : List A} {ys : List B} → PlaceByPlace R xs ys → PlaceByPlace R (take n xs) (take n ys)
   pair-take zero h = noMore
   pair-take (suc n) noMore = noMore
   pair-take (suc n) (pair k t) = pair k (pair-take n t)
 
-  same-any : (f : A → Bool) (g : B → Bool) → ((x : A) (y : B) → R x y → f x ≡ g y) → {xs : List A} {ys : List B} → Pairwise R xs ys → any f xs ≡ any g ys
+  same-any : (f : A → Bool) (g : B → Bool) → ((x : A) (y : B) → R x y → f x ≡ g y) → {xs : List A} {ys : List B} → PlaceByPlace R xs ys → any f xs ≡ any g ys
   same-any f g h noMore = refl
   same-any f g h (pair {x = x} {y = y} k t) = rw (h x y k, same-any f g h t)
 
-  same-turn : (f : ℕ → A → Checked) (g : ℕ → B → Checked) → ((i : ℕ) (x : A) (y : B) → R x y → f i x ≡ g i y) → (i : ℕ) {xs : List A} {ys : List B} → Pairwise R xs ys → inTurn f i xs ≡ inTurn g i ys
+  same-turn : (f : ℕ → A → Checked) (g : ℕ → B → Checked) → ((i : ℕ) (x : A) (y : B) → R x y → f i x ≡ g i y) → (i : ℕ) {xs : List A} {ys : List B} → PlaceByPlace R xs ys → inTurn f i xs ≡ inTurn g i ys
   same-turn f g h i noMore = refl
   same-turn f g h i (pair {x = x} {y = y} k t) = rw (h i x y k, same-turn f g h (suc i) t)
 
@@ -121,8 +121,8 @@ module _ {l m : List ℕ} (c : SameFields l m) where
       ap (λ (τ : Tag). (isRoot (τ .path) && (eqb (τ .iteration) 0 && eqb (number32 l stateOffset) 0)) && ltb (portIn l) (operandsAt g (τ .instruction))) (c .tag)
       ∙ rw (c .state, c .port)
 
-  same-key : tokenHeld (Tokens.decode l) .key ≡ tokenHeld (Tokens.decode m) .key
-  unfolding Tokens.decode
+  same-key : tokenHeld (Tokens.decodeToken l) .key ≡ tokenHeld (Tokens.decodeToken m) .key
+  unfolding Tokens.decodeToken
   same-key = λ i. record { tag = c .tag i; port = c .port i }
 
 -- a good input is live
@@ -137,8 +137,8 @@ zero-state g l e =
 at-same : {R : Range → ℤ → Type 0} {k j : Key Tag} {x : Content Range} {y : Content ℤ} → k ≡ j → RelatedContent R x y → RelatedToken R (output x k) (output y j)
 at-same {R} {k} {j} {x} {y} e h = subst (λ (z : Key Tag). RelatedToken R (output x k) (output y z)) e (atKey h)
 
-chosen-related : (g : List Instruction) (l m : List ℕ) → (goodInput g l ≡ true) × ChosenFrom l m → RelatedToken Holds (decodeRange l) (tokenHeld (Tokens.decode m))
-unfolding decodeRange Tokens.decode contentOf
+chosen-related : (g : List Instruction) (l m : List ℕ) → (goodInput g l ≡ true) × ChosenFrom l m → RelatedToken Holds (decodeRange l) (tokenHeld (Tokens.decodeToken m))
+unfolding decodeRange Tokens.decodeToken contentOf
 chosen-related g l m (e, c) =
     let live-l = zero-state g l e in
     let live-m = zero-state g m (sym (same-good (chosen-fields c) g) ∙ e) in
@@ -154,25 +154,25 @@ good-rows g (suc n) i l e =
     let parts = andThen-passed (demand (goodInput g l) Refusals.BadInput i) _ e in
     (demand-passed (goodInput g l) Refusals.BadInput i (parts .0), good-rows g n (suc i) (drop rangeTokenWidth l) (parts .1))
 
-pub cells-related : (R : Range → ℤ → Type 0) (n : ℕ) → Pairwise (RelatedCell R) (replicate n absent) (replicate n absent)
+pub cells-related : (R : Range → ℤ → Type 0) (n : ℕ) → PlaceByPlace (RelatedCell R) (replicate n absent) (replicate n absent)
 cells-related R zero = noMore
 cells-related R (suc n) = pair bothAbsent (cells-related R n)
 
-module _ (g : List Instruction) (ranges inputs : List ℕ) (c : Chosen ranges inputs) where
+module _ (g : List Instruction) (ranges inputs : List ℕ) (c : ChosenInputs ranges inputs) where
   abbrev Rows : List (List ℕ)
   Rows = allRows rangeTokenWidth (λ b. b) ranges
 
   first-related : (cells : ℕ) → inTurn (λ k good. demand good Refusals.BadInput k) 0 (allRows rangeTokenWidth (goodInput g) ranges) ≡ Passed → RelatedState Holds (firstRanges ranges cells) (firstState inputs cells)
   unfolding firstRanges firstState
   first-related cells e = record {
-    tokens = rw (all-read rangeTokenWidth decodeRange ranges, all-read tokenWidth Tokens.decode inputs, map-map Tokens.decode tokenHeld (allRows tokenWidth (λ b. b) inputs))
-        (pairMap (λ l m. (goodInput g l ≡ true) × ChosenFrom l m) (RelatedToken Holds) decodeRange (λ m. tokenHeld (Tokens.decode m)) (chosen-related g)
+    tokens = rw (all-read rangeTokenWidth decodeRange ranges, all-read tokenWidth Tokens.decodeToken inputs, map-map Tokens.decodeToken tokenHeld (allRows tokenWidth (λ b. b) inputs))
+        (pairMap (λ l m. (goodInput g l ≡ true) × ChosenFrom l m) (RelatedToken Holds) decodeRange (λ m. tokenHeld (Tokens.decodeToken m)) (chosen-related g)
         (pair-with ChosenFrom (λ l. goodInput g l ≡ true) (good-rows g (length ranges / rangeTokenWidth) 0 ranges e) (c .each)));
     cells = cells-related Holds cells;
   }
 
 -- inputs whose fields are the same but for the values
-module _ (ranges inputs : List ℕ) (each : Pairwise SameFields (allRows rangeTokenWidth (λ b. b) ranges) (allRows tokenWidth (λ b. b) inputs)) where
+module _ (ranges inputs : List ℕ) (each : PlaceByPlace SameFields (allRows rangeTokenWidth (λ b. b) ranges) (allRows tokenWidth (λ b. b) inputs)) where
   -- as many inputs
   pub same-count : length ranges / rangeTokenWidth ≡ length inputs / tokenWidth
   same-count = sym (length-rows rangeTokenWidth (λ b. b) (length ranges / rangeTokenWidth) ranges) ∙ pairLength SameFields each ∙ length-rows tokenWidth (λ b. b) (length inputs / tokenWidth) inputs
@@ -181,20 +181,20 @@ module _ (ranges inputs : List ℕ) (each : Pairwise SameFields (allRows rangeTo
   abbrev SamePlace : Record.Token → Record.Token → Type 0
   SamePlace t u = tokenHeld t .key ≡ tokenHeld u .key
 
-  tokens-placed : Pairwise SamePlace (allRows rangeTokenWidth Tokens.decode ranges) (allRows tokenWidth Tokens.decode inputs)
-  tokens-placed = rw (all-read rangeTokenWidth Tokens.decode ranges, all-read tokenWidth Tokens.decode inputs) (pairMap SameFields SamePlace Tokens.decode Tokens.decode (λ l m k. same-key k) each)
+  tokens-placed : PlaceByPlace SamePlace (allRows rangeTokenWidth Tokens.decodeToken ranges) (allRows tokenWidth Tokens.decodeToken inputs)
+  tokens-placed = rw (all-read rangeTokenWidth Tokens.decodeToken ranges, all-read tokenWidth Tokens.decodeToken inputs) (pairMap SameFields SamePlace Tokens.decodeToken Tokens.decodeToken (λ l m k. same-key k) each)
 
   stands-same : (τ : Tag) (p : ℕ) (t u : Record.Token) → SamePlace t u → standsAt τ p t ≡ standsAt τ p u
   unfolding standsAt
   stands-same τ p t u e = ap (λ (k : Key Tag). eqb (k .port) p && sameTag (k .tag) τ) e
 
   second-same : (i : ℕ) (t u : Record.Token) → SamePlace t u
-      → demand (not (secondInput (take i (allRows rangeTokenWidth Tokens.decode ranges)) t)) Refusals.SecondToken i ≡ demand (not (secondInput (take i (allRows tokenWidth Tokens.decode inputs)) u)) Refusals.SecondToken i
+      → demand (not (secondInput (take i (allRows rangeTokenWidth Tokens.decodeToken ranges)) t)) Refusals.SecondToken i ≡ demand (not (secondInput (take i (allRows tokenWidth Tokens.decodeToken inputs)) u)) Refusals.SecondToken i
   unfolding secondInput
   second-same i t u e =
-      let before : any (standsAt (t .tag) (t .port)) (take i (allRows rangeTokenWidth Tokens.decode ranges)) ≡ any (standsAt (t .tag) (t .port)) (take i (allRows tokenWidth Tokens.decode inputs)) =
+      let before : any (standsAt (t .tag) (t .port)) (take i (allRows rangeTokenWidth Tokens.decodeToken ranges)) ≡ any (standsAt (t .tag) (t .port)) (take i (allRows tokenWidth Tokens.decodeToken inputs)) =
       same-any SamePlace (standsAt (t .tag) (t .port)) (standsAt (t .tag) (t .port)) (stands-same (t .tag) (t .port)) (pair-take SamePlace i tokens-placed) in
-      let there = ap (λ (k : Key Tag). any (standsAt (k .tag) (k .port)) (take i (allRows tokenWidth Tokens.decode inputs))) e in
+      let there = ap (λ (k : Key Tag). any (standsAt (k .tag) (k .port)) (take i (allRows tokenWidth Tokens.decodeToken inputs))) e in
       ap (λ (b : Bool). demand (not b) Refusals.SecondToken i) (before ∙ there)
 
   -- 6 looks at no value
@@ -210,12 +210,12 @@ module _ (ranges inputs : List ℕ) (each : Pairwise SameFields (allRows rangeTo
       rw (same-good-rows g, proper, pairLength SamePlace tokens-placed, nine)
 
 -- each range holds its choice, so that none is refused by 23
-all-proper : (i : ℕ) {xs ys : List (List ℕ)} → Pairwise ChosenFrom xs ys → inTurn (λ k r. demand (isProperRange r) Refusals.Undecided k) i (map rangeIn xs) ≡ Passed
+all-proper : (i : ℕ) {xs ys : List (List ℕ)} → PlaceByPlace ChosenFrom xs ys → inTurn (λ k r. demand (isProperRange r) Refusals.Undecided k) i (map rangeIn xs) ≡ Passed
 all-proper i noMore = refl
 all-proper i (pair {x = l} k t) = rw (le-test (rangeIn l .low) (rangeIn l .high) (holds-proper (rangeIn l) _ (k .value))) (all-proper (suc i) t)
 
-module _ (ranges inputs : List ℕ) (c : Chosen ranges inputs) where
-  fields-each : Pairwise SameFields (allRows rangeTokenWidth (λ b. b) ranges) (allRows tokenWidth (λ b. b) inputs)
+module _ (ranges inputs : List ℕ) (c : ChosenInputs ranges inputs) where
+  fields-each : PlaceByPlace SameFields (allRows rangeTokenWidth (λ b. b) ranges) (allRows tokenWidth (λ b. b) inputs)
   fields-each = pairGrows ChosenFrom SameFields (λ l m k. chosen-fields k) (c .each)
 
   same-inputs : (g : List Instruction) (capacity : ℕ) → checkRangeInputs g capacity ranges ≡ checkInputs g capacity inputs
@@ -241,7 +241,7 @@ pub sixth-passed : (g : List Instruction) (capacity : ℕ) (ranges : List ℕ) �
 unfolding checkRangeInputs
 sixth-passed g capacity ranges e = andThen-passed (inTurn (λ k good. demand good Refusals.BadInput k) 0 (allRows rangeTokenWidth (goodInput g) ranges)) _ e .0
 
-module _ (graph arrays ranges inputs picks : List ℕ) (k rangeLedger rangeCells ledger cells : ℕ) (c : Chosen ranges inputs) (m : AsMany rangeLedger rangeCells ledger cells) where
+module _ (graph arrays ranges inputs picks : List ℕ) (k rangeLedger rangeCells ledger cells : ℕ) (c : ChosenInputs ranges inputs) (m : AsManyRecords rangeLedger rangeCells ledger cells) where
   -- as many inputs, the same picks
   same-stores : checkRangeStores (length ranges) (length picks) rangeLedger rangeCells ≡ checkStores (length inputs) (length picks) ledger cells
   unfolding checkRangeStores checkStores
@@ -287,14 +287,14 @@ ranges-promise graph arrays ranges inputs picks budget k rangeLedger rangeCells 
 
 -- the plain state of the low values: it has the same keys
 lows : (ranges : List ℕ) (cells : ℕ) → State Tag ℤ
-lows ranges n = record { tokens = map tokenHeld (allRows rangeTokenWidth Tokens.decode ranges); cells = replicate n absent }
+lows ranges n = record { tokens = map tokenHeld (allRows rangeTokenWidth Tokens.decodeToken ranges); cells = replicate n absent }
 
 Any : Range → ℤ → Type 0
 Any r v = Unit {0}
 
-low-related : (l : List ℕ) → RelatedToken Any (decodeRange l) (tokenHeld (Tokens.decode l))
+low-related : (l : List ℕ) → RelatedToken Any (decodeRange l) (tokenHeld (Tokens.decodeToken l))
 unfolding decodeRange Any
-low-related l = atKey (content (Tokens.decode l .content))
+low-related l = atKey (content (Tokens.decodeToken l .content))
   where
     content : (x : RecordContent.Content) → RelatedContent Any (withHigh (signedOf (number32 l tokenWidth)) x) (contentHeld x)
     content (Live v) = bothLive tt
@@ -304,15 +304,15 @@ low-related l = atKey (content (Tokens.decode l .content))
 lows-related : (ranges : List ℕ) (cells : ℕ) → RelatedState Any (firstRanges ranges cells) (lows ranges cells)
 unfolding firstRanges lows
 lows-related ranges cells = record {
-  tokens = rw (all-read rangeTokenWidth decodeRange ranges, all-read rangeTokenWidth Tokens.decode ranges, map-map Tokens.decode tokenHeld (allRows rangeTokenWidth (λ b. b) ranges))
-      (pairSame (RelatedToken Any) decodeRange (λ l. tokenHeld (Tokens.decode l)) low-related (allRows rangeTokenWidth (λ b. b) ranges));
+  tokens = rw (all-read rangeTokenWidth decodeRange ranges, all-read rangeTokenWidth Tokens.decodeToken ranges, map-map Tokens.decodeToken tokenHeld (allRows rangeTokenWidth (λ b. b) ranges))
+      (pairSame (RelatedToken Any) decodeRange (λ l. tokenHeld (Tokens.decodeToken l)) low-related (allRows rangeTokenWidth (λ b. b) ranges));
   cells = cells-related Any cells;
 }
 
 ranges-good : (g : List Instruction) (table : List NamedArray) (capacity cells : ℕ) (ranges : List ℕ) → checkRangeInputs g capacity ranges ≡ Passed → Good (rangeMachineOf g table capacity cells) (firstRanges ranges cells)
 unfolding checkRangeInputs lows
 ranges-good g table capacity cells ranges e =
-    let ts = allRows rangeTokenWidth Tokens.decode ranges in
+    let ts = allRows rangeTokenWidth Tokens.decodeToken ranges in
     let six = andThen-passed (inTurn (λ k good. demand good Refusals.BadInput k) 0 (allRows rangeTokenWidth (goodInput g) ranges)) _ e in
     let proper = andThen-passed (inTurn (λ i r. demand (isProperRange r) Refusals.Undecided i) 0 (allRows rangeTokenWidth rangeIn ranges)) _ (six .1) in
     let eight = andThen-passed (demand (leb (length ts) capacity) Refusals.LedgerFull capacity) _ (proper .1) in

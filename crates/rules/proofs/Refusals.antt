@@ -28,7 +28,7 @@ use Rattle.record.specs.Arrays.{mostArrays, arraysOf}
 use Rattle.record.specs.TokensAndTags.{mostTokens, capacityOf}
 use Rattle.record.specs.TokensAndTags as Tokens
 use Rattle.record.specs.Calls.{nextOf, enterOf, leaveOf}
-use Rattle.record.specs.Widths.{tokenWidth, cellWidth, pickWidth, arrayWidth}
+use Rattle.record.specs.Widths.{tokenWidth, cellWidth, pickWidth, arrayWidth, stepWidth}
 use Rattle.machine.specs.Machine.{Key, refuse, send, read, write, State, notFired, fire}
 use Rattle.machine.proofs.Refusals.{RefusesOnly, refused-only}
 use Rattle.rules.specs.declared.answer.Refusal.{Refusal}
@@ -38,7 +38,7 @@ use Rattle.rules.specs.declared.answer.Checked.the-variants.{Passed, Fai
 use Rattle.rules.specs.Answer.{numberOf}
 use Rattle.rules.specs.Check.{demand, _andThen_, all, inTurn, instructionAt, fanOutAllowed, unusedAreZero, goodArc, goodSite, checkRecord, checkGraph, checkStores, insideStore, namesGood, checkArrays, goodInput, secondInput, checkInputs, check, mostCells}
 use Rattle.rules.specs.InstructionSet.{EffectHere, allUnder, sendComputed, sendNext, sendEntered, sendReturned, sendLeft, returnOf, onCell, cellNumber, effectOf, effectIn, machineOf}
-use Rattle.rules.specs.Profile.{stepWidth, checkProfileStores, checkProfile}
+use Rattle.rules.specs.Profile.{checkProfileStores, checkProfile}
 
 abbrev pub Below18 : Refusal → Type 0
 Below18 r = numberOf r < 18
@@ -95,7 +95,7 @@ stores-early inputs picks ledger cells =
 inputs-early : (g : List Instruction) (capacity : ℕ) (inputs : List ℕ) → Early (checkInputs g capacity inputs)
 unfolding checkInputs
 inputs-early g capacity inputs =
-    let ts = allRows tokenWidth Tokens.decode inputs in
+    let ts = allRows tokenWidth Tokens.decodeToken inputs in
     let goods = allRows tokenWidth (goodInput g) inputs in
     then-early (inTurn (λ i good. demand good Refusals.BadInput i) 0 goods) _
     (turn-early (λ i good. demand good Refusals.BadInput i) (λ i good. demand-early good Refusals.BadInput i (below-common Refusals.BadInput (omega arith))) 0 goods)

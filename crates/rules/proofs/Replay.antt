@@ -19,10 +19,10 @@ use Rattle.buffer.proofs.Tables.{length-joined}
 use Rattle.record.specs.GraphRecords.{graphOf}
 use Rattle.record.specs.Arrays.{arraysOf}
 use Rattle.record.specs.TokensAndTags.{mostTokens, capacityOf, TokenFits}
-use Rattle.record.specs.Logs.{encode}
+use Rattle.record.specs.Logs.{encodeActivity}
 use Rattle.record.specs.Widths.{tokenWidth, cellWidth, pickWidth, logWidth}
 use Rattle.machine.specs.Machine.{Token, Machine, State, End, byPicks, run}
-use Rattle.machine.specs.Sequences.{isSpentFirst, spentTags, logOf, Ran}
+use Rattle.machine.specs.Sequences.{isSpentFirst, spentTags, logOf, RanBy}
 use Rattle.machine.specs.Replay.{SameAs, replay}
 use Rattle.machine.proofs.Lists.{perm-member}
 use Rattle.machine.proofs.Sequences.{ledgerTells}
@@ -37,7 +37,7 @@ use Rattle.rules.specs.declared.answer.Checked.the-variants.{Passed, Fai
 use Rattle.rules.specs.Check.{demand, _andThen_, checkGraph, checkStores, checkArrays, checkInputs, check, mostCells}
 use Rattle.rules.specs.InstructionSet.{machineOf}
 use Rattle.rules.specs.Run.{tokenRecord, firstState, picksOf, ranTo, unlessFailed, answer, ledgerAfter, cellsAfter}
-use Rattle.rules.specs.Log.{namesIn, logSuffices, checkLogStores, checkLogged, LogResult, logUnlessFailed, logged, logAfter, replayed, NotBy7, Again, LogReplays}
+use Rattle.rules.specs.Log.{namesIn, logSuffices, checkLogStores, checkLogged, LogResult, logUnlessFailed, logged, logAfter, replayed, NotBy7, AgainOfResults, LogReplaysOfResults}
 use Rattle.rules.proofs.Accepted.{whole-bytes, Accepted, law, begins, good}
 use Rattle.rules.proofs.Fits.{ended-fits}
 use Rattle.record.proofs.LogRecords.{TagFits, length-record}
@@ -130,7 +130,7 @@ module _ (graph inputs : List ℕ) (table : List NamedArray) (capacity cells : �
   abbrev τs : List Tag
   τs = logOf (M graph table capacity cells) (byPicks (M graph table capacity cells)) budget picks s
 
-  ranHere : Ran (M graph table capacity cells) s budget 0 τs e
+  ranHere : RanBy (M graph table capacity cells) s budget 0 τs e
   ranHere = ran (M graph table capacity cells) (byPicks (M graph table capacity cells)) (byPicksLawful (M graph table capacity cells)) budget picks 0 s
 
   -- each has a token, and so fits a record
@@ -142,12 +142,12 @@ module _ (graph inputs : List ℕ) (table : List NamedArray) (capacity cells : �
       members-all TagFits τs (λ τ m. spent-fits graph table capacity cells (e .state .tokens) fits τ (perm-member (Permᴰ·symm told) (Memᴰ·append-left (spentTags (M graph table capacity cells) (s .tokens)) m)))
 
   -- the first records are the log
-  first-records : namesIn (take (e .firings * logWidth) (joined encode τs ++ drop (length (joined encode τs)) lent)) ≡ map some τs
+  first-records : namesIn (take (e .firings * logWidth) (joined encodeActivity τs ++ drop (length (joined encodeActivity τs)) lent)) ≡ map some τs
   first-records =
-      let n : length (joined encode τs) ≡ e .firings * logWidth = length-joined logWidth encode length-record τs ∙ ap (λ (k : ℕ). k * logWidth) (sym (ranHere .logged .firings ∙ zero-add (length τs))) in
-      ap namesIn (take-at (joined encode τs) (drop (length (joined encode τs)) lent) (e .firings * logWidth) n) ∙ names-back τs tags-fit
+      let n : length (joined encodeActivity τs) ≡ e .firings * logWidth = length-joined logWidth encodeActivity length-record τs ∙ ap (λ (k : ℕ). k * logWidth) (sym (ranHere .logged .firings ∙ zero-add (length τs))) in
+      ap namesIn (take-at (joined encodeActivity τs) (drop (length (joined encodeActivity τs)) lent) (e .firings * logWidth) n) ∙ names-back τs tags-fit
 
-  again : Again (ranTo e) (ranTo (replay (M graph table capacity cells) NotEnabled (namesIn (take (e .firings * logWidth) (joined encode τs ++ drop (length (joined encode τs)) lent))) 0 s))
+  again : AgainOfResults (ranTo e) (ranTo (replay (M graph table capacity cells) NotEnabled (namesIn (take (e .firings * logWidth) (joined encodeActivity τs ++ drop (length (joined encodeActivity τs)) lent))) 0 s))
   unfolding answer ledgerAfter cellsAfter
   again =
       let h : SameAs (M graph table capacity cells) NotEnabled e (replay (M graph table capacity cells) NotEnabled (map some τs) 0 s) = runReplays (M graph table capacity cells) NotEnabled (byPicks (M graph table capacity cells)) (byPicksLawful (M graph table capacity cells)) budget picks 0 s in
@@ -159,7 +159,7 @@ module _ (graph inputs : List ℕ) (table : List NamedArray) (capacity cells : �
         answered = λ n. rw (h .state, h .firings, h .outcome n);
       })
 
-pub log-replays : LogReplays
+pub log-replays : LogReplaysOfResults
 unfolding logged logUnlessFailed logAfter replayed unlessFailed answer
 log-replays graph arrays inputs picks budget ledger cells lent graphBytes inputBytes = go (checkLogged graph arrays inputs picks budget ledger cells (length lent)) refl
   where
@@ -168,7 +168,7 @@ log-replays graph arrays inputs picks budget ledger cells lent graphBytes inputB
         (logOf (machineOf (graphOf graph) (arraysOf arrays) (capacityOf ledger) (cells / cellWidth)) (byPicks (machineOf (graphOf graph) (arraysOf arrays) (capacityOf ledger) (cells / cellWidth))) budget (picksOf picks) (firstState inputs (cells / cellWidth)))
 
     go : (c : Checked) → checkLogged graph arrays inputs picks budget ledger cells (length lent) ≡ c → NotBy7 (x c .result)
-        → Again (x c .result) (replayed graph arrays inputs (take (answer (x c .result) .firings * logWidth) (logAfter (x c) lent)) ledger cells)
+        → AgainOfResults (x c .result) (replayed graph arrays inputs (take (answer (x c .result) .firings * logWidth) (logAfter (x c) lent)) ledger cells)
     go (Failed r p) f other = rw (replay-fails graph arrays inputs picks budget ledger cells (length lent) r p f other) (record { ledgerLeft = λ l. refl; cellsLeft = λ l. refl; firings = refl; tokens = refl; answered = λ n. refl })
     go Passed f other =
         let h = log-passed graph arrays inputs picks budget ledger cells (length lent) f in

@@ -31,8 +31,8 @@ use Rattle.rules.specs.declared.answer.Checked.the-variants.{Passed, Fai
 use Rattle.rules.specs.Check.{all, demand, _andThen_, checkGraph, checkStores, checkArrays}
 use Rattle.rules.specs.InstructionSet.{machineOf}
 use Rattle.rules.specs.Run.{tokenHeld, cellHeld, picksOf, refusedAtOnce, ranTo, unlessFailed}
-use Rattle.rules.specs.Orders.{Agree, Allowed}
-use Rattle.rules.specs.Saved.{stateSaved, machineSaved, tokenAllowed, cellAllowed, pathMade, taken, checkSaved, carried}
+use Rattle.rules.specs.Orders.{ResultsAgree, Allowed}
+use Rattle.rules.specs.Saved.{stateSaved, machineSaved, tokenAllowed, cellAllowed, pathMade, stateTaken, checkSaved, carried}
 use Rattle.rules.specs.Parts.{AnyTwoOrdersFrom}
 use Rattle.rules.proofs.Passed.{demand-passed, andThen-passed}
 use Rattle.rules.proofs.Lawful.{lawful}
@@ -47,7 +47,7 @@ module _ (graph : List ℕ) (passed : checkGraph graph ≡ Passed) (table : List
   abbrev M : Machine
   M = machineOf (graphOf graph) table capacity cells
 
-  agree-from : (picks picks′ : List ℕ) → Agree (ranTo (runBy M (byPicks M) 2048 picks f s)) (ranTo (runBy M (byPicks M) 2048 picks′ f s))
+  agree-from : (picks picks′ : List ℕ) → ResultsAgree (ranTo (runBy M (byPicks M) 2048 picks f s)) (ranTo (runBy M (byPicks M) 2048 picks′ f s))
   agree-from picks picks′ =
       let law = lawful graph passed table capacity cells in
       let c = byPicks M in
@@ -77,14 +77,14 @@ module _ (graph ledger ledger′ cells : List ℕ) (n : ℕ) (size : length ledg
       ∙ sym (all-rows tokenWidth (tokenAllowed (graphOf graph)) n ledger′)
 
   tokens-same : Tokens.tokens n ledger ≡ Tokens.tokens n ledger′
-  tokens-same = rows-own tokenWidth Tokens.decode (own tokenWidth Tokens.decode token-front) n ledger ledger′ same
+  tokens-same = rows-own tokenWidth Tokens.decodeToken (own tokenWidth Tokens.decodeToken token-front) n ledger ledger′ same
 
   state-same : stateSaved ledger cells n ≡ stateSaved ledger′ cells n
   unfolding stateSaved
-  state-same = λ i. record { tokens = map tokenHeld (tokens-same i); cells = map cellHeld (allRows cellWidth Cells.decode cells) }
+  state-same = λ i. record { tokens = map tokenHeld (tokens-same i); cells = map cellHeld (allRows cellWidth Cells.decodeCell cells) }
 
-  taken-same : (firings : ℕ) → taken graph ledger cells firings n ≡ taken graph ledger′ cells firings n
-  unfolding taken
+  taken-same : (firings : ℕ) → stateTaken graph ledger cells firings n ≡ stateTaken graph ledger′ cells firings n
+  unfolding stateTaken
   taken-same firings = λ i.
       fields-same i
       && (all (λ (t : Record.Token). pathMade (graphOf graph) mostLevels (t .tag)) (tokens-same i)
@@ -106,7 +106,7 @@ module _ (graph arrays ledger cells : List ℕ) (firings n : ℕ) (passed : chec
   named = checkArrays (graphOf graph) (length cells / cellWidth) arrays
 
   abbrev whether : Checked
-  whether = demand (taken graph ledger cells firings n) DamagedState 0
+  whether = demand (stateTaken graph ledger cells firings n) DamagedState 0
 
   after-stores : (picks : List ℕ) → Allowed picks (length ledger) (length cells) → checkSaved graph arrays picks ledger cells firings n ≡ named andThen whether
   unfolding checkSaved checkStores
@@ -124,11 +124,11 @@ module _ (graph arrays ledger cells : List ℕ) (firings n : ℕ) (passed : chec
   goes-on picks a e = rw (after-stores picks a, e)
 
   both-run : (picks picks′ : List ℕ) → Allowed picks (length ledger) (length cells) → Allowed picks′ (length ledger) (length cells) → (c : Checked) → named andThen whether ≡ c
-      → Agree (carried graph arrays picks 2048 ledger cells firings n) (carried graph arrays picks′ 2048 ledger cells firings n)
+      → ResultsAgree (carried graph arrays picks 2048 ledger cells firings n) (carried graph arrays picks′ 2048 ledger cells firings n)
   both-run picks picks′ a a′ (Failed r p) e = both-refused r r p p (refused-so picks r p a e) (refused-so picks′ r p a′ e)
   both-run picks picks′ a a′ Passed e =
       let few = whole-bytes tokenWidth mostTokens (length ledger) (a .allowedLedger) .1 in
-      let t = demand-passed (taken graph ledger cells firings n) DamagedState 0 (andThen-passed named whether e .1) in
+      let t = demand-passed (stateTaken graph ledger cells firings n) DamagedState 0 (andThen-passed named whether e .1) in
       let good = saved-under graph (arraysOf arrays) ledger cells firings n t .good in
       rw (goes-on picks a e, goes-on picks′ a′ e)
       (agree-from graph passed (arraysOf arrays) (capacityOf (length ledger)) (length cells / cellWidth) few firings (stateSaved ledger cells n) good (picksOf picks) (picksOf picks′))
@@ -140,7 +140,7 @@ graph-refused graph arrays picks ledger cells firings n r p e = rw e
 pub orders-from : AnyTwoOrdersFrom
 orders-from graph arrays picks picks′ ledger ledger′ cells firings n a a′ size same = go (checkGraph graph) refl
   where
-    go : (c : Checked) → checkGraph graph ≡ c → Agree (carried graph arrays picks 2048 ledger cells firings n) (carried graph arrays picks′ 2048 ledger′ cells firings n)
+    go : (c : Checked) → checkGraph graph ≡ c → ResultsAgree (carried graph arrays picks 2048 ledger cells firings n) (carried graph arrays picks′ 2048 ledger′ cells firings n)
     go (Failed r p) e = both-refused r r p p (graph-refused graph arrays picks ledger cells firings n r p e) (graph-refused graph arrays picks′ ledger′ cells firings n r p e)
     go Passed e =
         let b : Allowed picks′ (length ledger) (length cells) = rw size (a′ e) in

@@ -21,7 +21,7 @@ use Rattle.rules.specs.declared.answer.Refusal.{Refusal}
 use Rattle.rules.specs.Check.{instructionAt}
 use Rattle.rules.specs.InstructionSet.{effectIn, isResult, arityIn, machineOf}
 use Rattle.rules.specs.Run.{firstState}
-use Rattle.rules.specs.RootLeave.{isRootLeave, arityBefore, effectBefore, machineBefore, NoneAtRootLeave, KeepsAnswer}
+use Rattle.rules.specs.RootLeave.{isRootLeave, arityBefore, effectAtRootLeave, machineAtRootLeave, NoneAtRootLeave, KeepsAnswer}
 use Rattle.rules.proofs.Accepted.{Accepted, law, good}
 
 module _ (word : Refusal) (g : List Instruction) (table : List NamedArray) (capacity cells : ℕ) where
@@ -29,7 +29,7 @@ module _ (word : Refusal) (g : List Instruction) (table : List NamedArray) (capa
   M = machineOf g table capacity cells
 
   abbrev N : Machine
-  N = machineBefore word g table capacity cells
+  N = machineAtRootLeave word g table capacity cells
 
   -- ---- elsewhere the two instruction sets agree
 
@@ -41,11 +41,11 @@ module _ (word : Refusal) (g : List Instruction) (table : List NamedArray) (capa
       go true n = refl
       go false n = refl
 
-  same-effect : (τ : Tag) → isRootLeave g τ ≡ false → (v w : ℤ) → effectBefore word g table cells τ v w ≡ effectIn g table cells τ v w
-  unfolding effectBefore
+  same-effect : (τ : Tag) → isRootLeave g τ ≡ false → (v w : ℤ) → effectAtRootLeave word g table cells τ v w ≡ effectIn g table cells τ v w
+  unfolding effectAtRootLeave
   same-effect τ e v w = rw e
 
-  before-agrees : (τ : Tag) → isRootLeave g τ ≡ false → AgreeAt M (arityBefore g) (effectBefore word g table cells) τ
+  before-agrees : (τ : Tag) → isRootLeave g τ ≡ false → AgreeAt M (arityBefore g) (effectAtRootLeave word g table cells) τ
   before-agrees τ e = record { arities = same-arity τ e; effects = same-effect τ e }
 
   now-agrees : (τ : Tag) → isRootLeave g τ ≡ false → AgreeAt N (arityIn g) (effectIn g table cells) τ
@@ -63,7 +63,7 @@ module _ (word : Refusal) (g : List Instruction) (table : List NamedArray) (capa
   -- ---- what was lawful before
 
   lawful-before : Lawful M → Lawful N
-  unfolding effectBefore
+  unfolding effectAtRootLeave
   lawful-before l = record {
     cellsBelow = λ τ v w. below (isRootLeave g τ) τ v w;
     readsForSome = λ τ v w. reads (isRootLeave g τ) τ v w;
@@ -86,15 +86,15 @@ keeps-answer graph inputs table capacity cells passed accepted word budget picks
     first : Good (machineOf (graphOf graph) table capacity cells) (firstState inputs cells)
     first = good graph inputs table capacity cells a
 
-    go : NoneAtRootLeave (graphOf graph) (run (machineBefore word (graphOf graph) table capacity cells) budget picks (firstState inputs cells) .state .tokens)
+    go : NoneAtRootLeave (graphOf graph) (run (machineAtRootLeave word (graphOf graph) table capacity cells) budget picks (firstState inputs cells) .state .tokens)
         ⊎ NoneAtRootLeave (graphOf graph) (run (machineOf (graphOf graph) table capacity cells) budget picks (firstState inputs cells) .state .tokens)
-        → run (machineOf (graphOf graph) table capacity cells) budget picks (firstState inputs cells) ≡ run (machineBefore word (graphOf graph) table capacity cells) budget picks (firstState inputs cells)
+        → run (machineOf (graphOf graph) table capacity cells) budget picks (firstState inputs cells) ≡ run (machineAtRootLeave word (graphOf graph) table capacity cells) budget picks (firstState inputs cells)
     go (inl h) =
-        let N = machineBefore word (graphOf graph) table capacity cells in
+        let N = machineAtRootLeave word (graphOf graph) table capacity cells in
         sameRun N (arityIn (graphOf graph)) (effectIn (graphOf graph) table cells) (lawful-before word (graphOf graph) table capacity cells (law graph inputs table capacity cells a)) (byPicks N) (byPicksLawful N) (firstState inputs cells)
         (record { distinct = first .distinct; room = first .room; cellCount = first .cellCount }) budget picks 0
         (λ k e. now-agrees word (graphOf graph) table capacity cells (k .tag) (found-none word (graphOf graph) table capacity cells (run N budget picks (firstState inputs cells) .state .tokens) h k e))
     go (inr h) =
         let M = machineOf (graphOf graph) table capacity cells in
-        sym (sameRun M (arityBefore (graphOf graph)) (effectBefore word (graphOf graph) table cells) (law graph inputs table capacity cells a) (byPicks M) (byPicksLawful M) (firstState inputs cells) first budget picks 0
+        sym (sameRun M (arityBefore (graphOf graph)) (effectAtRootLeave word (graphOf graph) table cells) (law graph inputs table capacity cells a) (byPicks M) (byPicksLawful M) (firstState inputs cells) first budget picks 0
         (λ k e. before-agrees word (graphOf graph) table capacity cells (k .tag) (found-none word (graphOf graph) table capacity cells (run M budget picks (firstState inputs cells) .state .tokens) h k e)))

@@ -44,7 +44,7 @@ use Rattle.rules.specs.Check.{all, operandsAt, checkGraph, mostCells}
 use Rattle.rules.specs.InstructionSet.{machineOf}
 use Rattle.rules.specs.Run.{contentHeld, tokenHeld, tokenRecord, cellHeld, cellRecord, firstState}
 use Rattle.rules.specs.Callers.{PathIn}
-use Rattle.rules.specs.Saved.{stateSaved, machineSaved, tokenAllowed, cellAllowed, pathMade, taken, Takes, TakenExactly}
+use Rattle.rules.specs.Saved.{stateSaved, machineSaved, tokenAllowed, cellAllowed, pathMade, stateTaken, TakesState, TakenExactly}
 use Rattle.rules.proofs.Passed.{both}
 use Rattle.rules.proofs.Lists.{each-all}
 use Rattle.rules.proofs.Lawful.{lawful}
@@ -118,14 +118,14 @@ module _ (graph : List ℕ) (bytes : Bytes graph) (passed : checkGraph graph ≡
     module _ (ledger cells : List ℕ) (room : Rooms s ledger cells) (here : capacity ≡ capacityOf (length ledger)) (there : count ≡ length cells / cellWidth) where
       -- the state is what is read back
       pub resumed : {A : Type 0} (P : (capacity count : ℕ) → State Tag ℤ → A)
-          → P (capacityOf (length (ledgerOf (map tokenRecord (s .tokens)) ledger))) (length (writtenOver Cells.encode (map cellRecord (s .cells)) cells) / cellWidth)
-          (stateSaved (ledgerOf (map tokenRecord (s .tokens)) ledger) (writtenOver Cells.encode (map cellRecord (s .cells)) cells) (length (s .tokens))) ≡ P capacity count s
+          → P (capacityOf (length (ledgerOf (map tokenRecord (s .tokens)) ledger))) (length (writtenOver Cells.encodeCell (map cellRecord (s .cells)) cells) / cellWidth)
+          (stateSaved (ledgerOf (map tokenRecord (s .tokens)) ledger) (writtenOver Cells.encodeCell (map cellRecord (s .cells)) cells) (length (s .tokens))) ≡ P capacity count s
       resumed P =
           (λ i. P (capacityOf (ledger-size s ledger cells room i)) (cells-size s ledger cells room i / cellWidth) (state-back s ledger cells room tokens-fit cells-fit i))
           ∙ (λ i. P (sym here i) (sym there i) s)
 
-      pub taken-again : taken graph (ledgerOf (map tokenRecord (s .tokens)) ledger) (writtenOver Cells.encode (map cellRecord (s .cells)) cells) f (length (s .tokens)) ≡ true
-      unfolding taken
+      pub taken-again : stateTaken graph (ledgerOf (map tokenRecord (s .tokens)) ledger) (writtenOver Cells.encodeCell (map cellRecord (s .cells)) cells) f (length (s .tokens)) ≡ true
+      unfolding stateTaken
       taken-again =
           rw (
             tokens-allowed s ledger cells room tokens-fit cells-fit g (at-ports (s .tokens) (h .placed .tokens) tokens-fit),
@@ -151,8 +151,8 @@ pub record Tests (graph ledger cells : List ℕ) (firings n : ℕ) : Type 0 wher
   pub cellFields : all cellAllowed (allRows cellWidth (λ l. l) cells) ≡ true
   pub machine : isSaved (machineSaved graph [] ledger cells) firings (stateSaved ledger cells n) ≡ true
 
-pub tests : (graph ledger cells : List ℕ) (firings n : ℕ) → taken graph ledger cells firings n ≡ true → Tests graph ledger cells firings n
-unfolding taken
+pub tests : (graph ledger cells : List ℕ) (firings n : ℕ) → stateTaken graph ledger cells firings n ≡ true → Tests graph ledger cells firings n
+unfolding stateTaken
 tests graph ledger cells firings n e =
     let (a, e1) = both (all (tokenAllowed (graphOf graph)) (rows tokenWidth (λ l. l) n ledger)) _ e in
     let (b, e2) = both (all (λ (t : Record.Token). pathMade (graphOf graph) mostLevels (t .tag)) (Tokens.tokens n ledger)) _ e1 in
@@ -160,12 +160,12 @@ tests graph ledger cells firings n e =
     record { fields = a; paths = b; cellFields = c; machine = d }
 
 -- whatever the table is
-saved-so : (graph : List ℕ) (table : List NamedArray) (ledger cells : List ℕ) (firings n : ℕ) → taken graph ledger cells firings n ≡ true
+saved-so : (graph : List ℕ) (table : List NamedArray) (ledger cells : List ℕ) (firings n : ℕ) → stateTaken graph ledger cells firings n ≡ true
     → isSaved (machineSaved graph table ledger cells) firings (stateSaved ledger cells n) ≡ true
 saved-so graph table ledger cells firings n e =
     sym (any-table (graphOf graph) table (capacityOf (length ledger)) (length cells / cellWidth) firings (stateSaved ledger cells n)) ∙ tests graph ledger cells firings n e .machine
 
-pub saved-under : (graph : List ℕ) (table : List NamedArray) (ledger cells : List ℕ) (firings n : ℕ) → taken graph ledger cells firings n ≡ true
+pub saved-under : (graph : List ℕ) (table : List NamedArray) (ledger cells : List ℕ) (firings n : ℕ) → stateTaken graph ledger cells firings n ≡ true
     → Saved (machineSaved graph table ledger cells) firings (stateSaved ledger cells n)
 saved-under graph table ledger cells firings n e =
     taken-exactly (machineSaved graph table ledger cells) firings (stateSaved ledger cells n) .0 (saved-so graph table ledger cells firings n e)
@@ -201,29 +201,29 @@ module _ (graph ledger cells : List ℕ) (firings n : ℕ) (passed : checkGraph 
   gs = graphOf graph
 
   abbrev there : List ℕ → Bool
-  there l = ltb (Tokens.decode l .port) (operandsAt gs (Tokens.decode l .tag .instruction))
+  there l = ltb (Tokens.decodeToken l .port) (operandsAt gs (Tokens.decodeToken l .tag .instruction))
 
   ports-exactly : (all there (rows tokenWidth (λ l. l) n ledger) ≡ true) ↔ All (λ (t : Record.Token). t .port < operandsAt gs (t .tag .instruction)) (Tokens.tokens n ledger)
-  ports-exactly = each-row there (λ (t : Record.Token). t .port < operandsAt gs (t .tag .instruction)) Tokens.decode tokenWidth (λ l. l) (λ l. (λ e. ltb-true _ _ e, λ h. lt-ltb _ _ h)) n ledger
+  ports-exactly = each-row there (λ (t : Record.Token). t .port < operandsAt gs (t .tag .instruction)) Tokens.decodeToken tokenWidth (λ l. l) (λ l. (λ e. ltb-true _ _ e, λ h. lt-ltb _ _ h)) n ledger
 
-  states-exactly : (all Tokens.stateAllowed (rows tokenWidth (λ l. l) n ledger) ≡ true) ↔ All (λ l. Tokens.stateAllowed l ≡ true) (rows tokenWidth (λ l. l) n ledger)
-  states-exactly = each-row Tokens.stateAllowed (λ l. Tokens.stateAllowed l ≡ true) (λ l. l) tokenWidth (λ l. l) (λ l. (λ e. e, λ e. e)) n ledger
+  states-exactly : (all Tokens.tokenStateAllowed (rows tokenWidth (λ l. l) n ledger) ≡ true) ↔ All (λ l. Tokens.tokenStateAllowed l ≡ true) (rows tokenWidth (λ l. l) n ledger)
+  states-exactly = each-row Tokens.tokenStateAllowed (λ l. Tokens.tokenStateAllowed l ≡ true) (λ l. l) tokenWidth (λ l. l) (λ l. (λ e. e, λ e. e)) n ledger
 
-  cell-states : (all Cells.stateAllowed (allRows cellWidth (λ l. l) cells) ≡ true) ↔ All (λ l. Cells.stateAllowed l ≡ true) (allRows cellWidth (λ l. l) cells)
-  cell-states = each-row Cells.stateAllowed (λ l. Cells.stateAllowed l ≡ true) (λ l. l) cellWidth (λ l. l) (λ l. (λ e. e, λ e. e)) (length cells / cellWidth) cells
+  cell-states : (all Cells.cellStateAllowed (allRows cellWidth (λ l. l) cells) ≡ true) ↔ All (λ l. Cells.cellStateAllowed l ≡ true) (allRows cellWidth (λ l. l) cells)
+  cell-states = each-row Cells.cellStateAllowed (λ l. Cells.cellStateAllowed l ≡ true) (λ l. l) cellWidth (λ l. l) (λ l. (λ e. e, λ e. e)) (length cells / cellWidth) cells
 
   cell-values : (all Cells.zeroUntilPresent (allRows cellWidth (λ l. l) cells) ≡ true) ↔ All (λ l. Cells.zeroUntilPresent l ≡ true) (allRows cellWidth (λ l. l) cells)
   cell-values = each-row Cells.zeroUntilPresent (λ l. Cells.zeroUntilPresent l ≡ true) (λ l. l) cellWidth (λ l. l) (λ l. (λ e. e, λ e. e)) (length cells / cellWidth) cells
 
   paths-exactly : (all (λ (t : Record.Token). pathMade gs mostLevels (t .tag)) (Tokens.tokens n ledger) ≡ true) ↔ All (λ (t : Record.Token). PathIn gs (pathNumber (t .tag .path))) (Tokens.tokens n ledger)
-  paths-exactly = each-row (λ (t : Record.Token). pathMade gs mostLevels (t .tag)) (λ (t : Record.Token). PathIn gs (pathNumber (t .tag .path))) (λ t. t) tokenWidth Tokens.decode
-      (λ l. (λ e. path-in graph passed (Tokens.decode l .tag) e, λ p. path-made gs (Tokens.decode l .tag) p)) n ledger
+  paths-exactly = each-row (λ (t : Record.Token). pathMade gs mostLevels (t .tag)) (λ (t : Record.Token). PathIn gs (pathNumber (t .tag .path))) (λ t. t) tokenWidth Tokens.decodeToken
+      (λ l. (λ e. path-in graph passed (Tokens.decodeToken l .tag) e, λ p. path-made gs (Tokens.decodeToken l .tag) p)) n ledger
 
-  words : Tests graph ledger cells firings n → Takes graph ledger cells firings n
+  words : Tests graph ledger cells firings n → TakesState graph ledger cells firings n
   unfolding tokenAllowed cellAllowed
   words t =
-      let (a, b) = all-both there Tokens.stateAllowed (rows tokenWidth (λ l. l) n ledger) .0 (t .fields) in
-      let (c, d) = all-both Cells.stateAllowed Cells.zeroUntilPresent (allRows cellWidth (λ l. l) cells) .0 (t .cellFields) in
+      let (a, b) = all-both there Tokens.tokenStateAllowed (rows tokenWidth (λ l. l) n ledger) .0 (t .fields) in
+      let (c, d) = all-both Cells.cellStateAllowed Cells.zeroUntilPresent (allRows cellWidth (λ l. l) cells) .0 (t .cellFields) in
       record {
         ports = ports-exactly .0 a;
         tokenStates = states-exactly .0 b;
@@ -233,13 +233,13 @@ module _ (graph ledger cells : List ℕ) (firings n : ℕ) (passed : checkGraph 
         saved = taken-exactly (machineSaved graph [] ledger cells) firings (stateSaved ledger cells n) .0 (t .machine);
       }
 
-  passes : Takes graph ledger cells firings n → taken graph ledger cells firings n ≡ true
-  unfolding taken tokenAllowed cellAllowed
+  passes : TakesState graph ledger cells firings n → stateTaken graph ledger cells firings n ≡ true
+  unfolding stateTaken tokenAllowed cellAllowed
   passes h =
       rw (
-        all-both there Tokens.stateAllowed (rows tokenWidth (λ l. l) n ledger) .1 (ports-exactly .1 (h .ports), states-exactly .1 (h .tokenStates)),
+        all-both there Tokens.tokenStateAllowed (rows tokenWidth (λ l. l) n ledger) .1 (ports-exactly .1 (h .ports), states-exactly .1 (h .tokenStates)),
         paths-exactly .1 (h .paths),
-        all-both Cells.stateAllowed Cells.zeroUntilPresent (allRows cellWidth (λ l. l) cells) .1 (cell-states .1 (h .cellStates), cell-values .1 (h .cellValues)),
+        all-both Cells.cellStateAllowed Cells.zeroUntilPresent (allRows cellWidth (λ l. l) cells) .1 (cell-states .1 (h .cellStates), cell-values .1 (h .cellValues)),
       )
       (taken-exactly (machineSaved graph [] ledger cells) firings (stateSaved ledger cells n) .1 (h .saved))
 
@@ -248,7 +248,7 @@ saved-exactly graph ledger cells firings n passed = (λ e. words graph ledger ce
 
 -- ---- what is taken goes on
 
-module _ (graph ledger cells : List ℕ) (graphBytes : Bytes graph) (passed : checkGraph graph ≡ Passed) (table : List NamedArray) (ledgerBytes : Bytes ledger) (cellBytes : Bytes cells) (firings n : ℕ) (e : taken graph ledger cells firings n ≡ true) where
+module _ (graph ledger cells : List ℕ) (graphBytes : Bytes graph) (passed : checkGraph graph ≡ Passed) (table : List NamedArray) (ledgerBytes : Bytes ledger) (cellBytes : Bytes cells) (firings n : ℕ) (e : stateTaken graph ledger cells firings n ≡ true) where
   abbrev c₀ : ℕ
   c₀ = capacityOf (length ledger)
 
@@ -261,12 +261,12 @@ module _ (graph ledger cells : List ℕ) (graphBytes : Bytes graph) (passed : ch
   told : Tests graph ledger cells firings n
   told = tests graph ledger cells firings n e
 
-  atPort : (l : List ℕ) → Bytes l → tokenAllowed (graphOf graph) l ≡ true → AtPort (graphOf graph) (tokenHeld (Tokens.decode l) .key)
+  atPort : (l : List ℕ) → Bytes l → tokenAllowed (graphOf graph) l ≡ true → AtPort (graphOf graph) (tokenHeld (Tokens.decodeToken l) .key)
   unfolding tokenAllowed
-  atPort l b h = ltb-true (Tokens.decode l .port) _ (both (ltb (Tokens.decode l .port) (operandsAt (graphOf graph) (Tokens.decode l .tag .instruction))) (Tokens.stateAllowed l) h .0)
+  atPort l b h = ltb-true (Tokens.decodeToken l .port) _ (both (ltb (Tokens.decodeToken l .port) (operandsAt (graphOf graph) (Tokens.decodeToken l .tag .instruction))) (Tokens.tokenStateAllowed l) h .0)
 
   tokensFit : All TokenFits (Tokens.tokens n ledger)
-  tokensFit = rows-fit TokenFits Tokens.decode token-fits tokenWidth n ledger ledgerBytes
+  tokensFit = rows-fit TokenFits Tokens.decodeToken token-fits tokenWidth n ledger ledgerBytes
 
   any-content : (x : Content ℤ) → OfContent N (AtPort (graphOf graph)) (λ v. Unit {0}) (λ d. Unit {0}) x
   any-content (live v) = tt
@@ -314,13 +314,13 @@ module _ (graph ledger cells : List ℕ) (graphBytes : Bytes graph) (passed : ch
   unfolding stateSaved
   resumable-saved = record {
     saved = saved-under graph table ledger cells firings n e;
-    called = record { tokens = called-all (Tokens.tokens n ledger) tokensFit (told .paths); cells = each-all (OfCell N (AtPort (graphOf graph)) (λ v. Unit {0}) (λ d. Unit {0})) any-cell (map cellHeld (allRows cellWidth Cells.decode cells)) };
+    called = record { tokens = called-all (Tokens.tokens n ledger) tokensFit (told .paths); cells = each-all (OfCell N (AtPort (graphOf graph)) (λ v. Unit {0}) (λ d. Unit {0})) any-cell (map cellHeld (allRows cellWidth Cells.decodeCell cells)) };
     placed = record {
-      tokens = placed-all (Tokens.tokens n ledger) (rows-hold (tokenAllowed (graphOf graph)) (λ (t : Record.Token). AtPort (graphOf graph) (tokenHeld t .key)) Tokens.decode tokenWidth atPort n ledger ledgerBytes (told .fields));
-      cells = each-all (OfCell N (AtPort (graphOf graph)) (λ v. Unit {0}) (λ d. Unit {0})) any-cell (map cellHeld (allRows cellWidth Cells.decode cells));
+      tokens = placed-all (Tokens.tokens n ledger) (rows-hold (tokenAllowed (graphOf graph)) (λ (t : Record.Token). AtPort (graphOf graph) (tokenHeld t .key)) Tokens.decodeToken tokenWidth atPort n ledger ledgerBytes (told .fields));
+      cells = each-all (OfCell N (AtPort (graphOf graph)) (λ v. Unit {0}) (λ d. Unit {0})) any-cell (map cellHeld (allRows cellWidth Cells.decodeCell cells));
     };
     fits = record {
       tokens = fits-all (Tokens.tokens n ledger) tokensFit (tested N firings (stateSaved ledger cells n) (saved-so graph table ledger cells firings n e) .named);
-      cells = cells-fit-all (allRows cellWidth Cells.decode cells) (rows-fit CellFits Cells.decode cell-fits cellWidth k₀ cells cellBytes);
+      cells = cells-fit-all (allRows cellWidth Cells.decodeCell cells) (rows-fit CellFits Cells.decodeCell cell-fits cellWidth k₀ cells cellBytes);
     };
   }

@@ -2,9 +2,9 @@
 use mathlib.Core.Path.{_≡_, refl}
 use mathlib.Core.List.{map}
 use Rattle.rules.specs.Computed.{rules}
-use Rattle.rules.specs.Cases.{written, seenIn}
-use Rattle.rules.specs.SavedCases.{states, seen, expected, cases}
+use Rattle.rules.specs.CaseRows.{cellsWritten, seenIn}
+use Rattle.rules.specs.SavedCases.{states, seenSaved, expectedSaved, savedCases}
 
-pub saved-cases-hold : map seen cases ≡ map expected cases
-unfolding rules written seenIn states seen expected
+pub saved-cases-hold : map seenSaved savedCases ≡ map expectedSaved savedCases
+unfolding rules cellsWritten seenIn states seenSaved expectedSaved
 saved-cases-hold = refl

@@ -20,21 +20,21 @@ use Rattle.arithmetic.specs.Ranges.{single, mayBeZero, rangeOf, asRange}
 use Rattle.arithmetic.proofs.Ranged.{eq-eqZ}
 use Rattle.arithmetic.proofs.Singles.{single-exact}
 use Rattle.machine.specs.Machine.{Key, send, read, write, End, byPicks}
-use Rattle.machine.specs.InStep.{RelatedEffect, bothRefuse, bothSend, bothRead, bothWrite, EndsAlike, InStep, alike, stopped, Related}
+use Rattle.machine.specs.InStep.{RelatedEffect, bothRefuse, bothSend, bothRead, bothWrite, RelatedEnds, InStep, alike, stopped, Related}
 use Rattle.machine.proofs.InStep.{inStep}
 use Rattle.rules.specs.declared.answer.Refusal.{Refusal}
 use Rattle.rules.specs.Check.{instructionAt}
 use Rattle.rules.specs.InstructionSet.{EffectHere, keyUnder, allUnder, sideOf, sendComputed, onCell, cellNumber, effectOf, effectIn, machineOf}
 use Rattle.rules.specs.Held.{heldIn}
 use Rattle.rules.specs.RangeSet.{RangeEffect, sendRange, isUndecided, sendSide, onSingle, rangeEffectOf, rangeEffectIn, rangeMachineOf}
-use Rattle.rules.specs.Ranges.{Only, SinglesAlike}
+use Rattle.rules.specs.Ranges.{OnlyValue, SinglesAlike}
 use Rattle.rules.proofs.RangeSet.{next-related, entered-related, left-related, cell-related, held-same}
 
 abbrev NoRefusal : Refusal → Type 0
 NoRefusal r = ⊥
 
 abbrev Exact : RangeEffect → EffectHere → Type 0
-Exact e d = RelatedEffect Only NoRefusal e d
+Exact e d = RelatedEffect OnlyValue NoRefusal e d
 
 -- ---- by operations
 
@@ -52,7 +52,7 @@ side-exact x y τ r = rw (decided y) (bothSend refl)
 
 cell-exact : (cells : ℕ) (number : ℤ → ℤ) (x : ℤ) (f : ℕ → RangeEffect) (d : ℕ → EffectHere) → ((c : ℕ) → Exact (f c) (d c)) → Exact (onSingle cells number (single x) f) (onCell cells (number x) d)
 unfolding onSingle
-cell-exact cells number x f d h = rw (eq-eqZ {a = x} refl) (cell-related Only NoRefusal cells (number x) f d h)
+cell-exact cells number x f d h = rw (eq-eqZ {a = x} refl) (cell-related OnlyValue NoRefusal cells (number x) f d h)
 
 computed-exact : (o : Arithmetic) (x y : ℤ) (keys : List (Key Tag)) → Exact (sendRange (rangeOf o (single x) (single y)) keys) (sendComputed (computeOf o x y) keys)
 unfolding sendRange sendComputed
@@ -71,9 +71,9 @@ operation-exact Operations.Out g table cells τ r x y keys = bothSend refl
 operation-exact Operations.Const g table cells τ r x y keys = bothSend refl
 operation-exact Operations.Switch g table cells τ r x y keys = side-exact x y τ r
 operation-exact Operations.Gate g table cells τ r x y keys = bothSend refl
-operation-exact Operations.Next g table cells τ r x y keys = next-related Only NoRefusal refl (nextOf τ) r
-operation-exact Operations.Enter g table cells τ r x y keys = entered-related Only NoRefusal refl (enterOf τ (natAbs (r .constant))) r
-operation-exact Operations.Leave g table cells τ r x y keys = left-related Only NoRefusal refl g (leaveOf τ) r
+operation-exact Operations.Next g table cells τ r x y keys = next-related OnlyValue NoRefusal refl (nextOf τ) r
+operation-exact Operations.Enter g table cells τ r x y keys = entered-related OnlyValue NoRefusal refl (enterOf τ (natAbs (r .constant))) r
+operation-exact Operations.Leave g table cells τ r x y keys = left-related OnlyValue NoRefusal refl g (leaveOf τ) r
 operation-exact Operations.Fetch g table cells τ r x y keys = cell-exact cells (cellNumber table (r .constant)) x (λ c. read c keys) (λ c. read c keys) (λ c. bothRead)
 operation-exact Operations.Store g table cells τ r x y keys = cell-exact cells (cellNumber table (r .constant)) x (λ c. write c (single y) keys) (λ c. write c y keys) (λ c. bothWrite refl)
 operation-exact (Operations.OnTwo o) g table cells τ r x y keys = computed-exact o x y keys
@@ -82,7 +82,7 @@ operation-exact Operations.Unknown g table cells τ r x y keys = bothSend refl
 
 -- ---- the machines
 
-singles-related : (g : List Instruction) (table : List NamedArray) (capacity cells : ℕ) → Related (rangeMachineOf g table capacity cells) ℤ (effectIn g table cells) (pos 0) Only NoRefusal
+singles-related : (g : List Instruction) (table : List NamedArray) (capacity cells : ℕ) → Related (rangeMachineOf g table capacity cells) ℤ (effectIn g table cells) (pos 0) OnlyValue NoRefusal
 unfolding rangeEffectIn effectIn
 singles-related g table capacity cells = record {
   effects = λ τ a b x y h k. let r = instructionAt g (τ .instruction) in rw (h, k) (operation-exact (operationOf (r .code)) g table cells τ r x y (allUnder τ r));
@@ -91,9 +91,9 @@ singles-related g table capacity cells = record {
 
 pub singles-alike : SinglesAlike
 singles-alike g table capacity cells k s u h budget picks =
-    never-alone (inStep (rangeMachineOf g table capacity cells) ℤ (effectIn g table cells) (pos 0) Only NoRefusal (singles-related g table capacity cells)
-    (byPicks (rangeMachineOf g table capacity cells)) (byPicks (machineOf g table capacity cells)) (λ x y r pick a more. refl) (heldIn g k) (heldIn g k) (held-same Only g k) s u h budget picks 0)
+    never-alone (inStep (rangeMachineOf g table capacity cells) ℤ (effectIn g table cells) (pos 0) OnlyValue NoRefusal (singles-related g table capacity cells)
+    (byPicks (rangeMachineOf g table capacity cells)) (byPicks (machineOf g table capacity cells)) (λ x y r pick a more. refl) (heldIn g k) (heldIn g k) (held-same OnlyValue g k) s u h budget picks 0)
   where
-    never-alone : {d : End Refusal Tag Range} {e : End Refusal Tag ℤ} → InStep Only NoRefusal d e → EndsAlike Only d e
+    never-alone : {d : End Refusal Tag Range} {e : End Refusal Tag ℤ} → InStep OnlyValue NoRefusal d e → RelatedEnds OnlyValue d e
     never-alone (alike k) = k
     never-alone (stopped r p f a) = absurd a

@@ -69,7 +69,7 @@ record-below g i r h =
 graph-few : (graph : List ℕ) → isGraphLength (length graph) ≡ true → length (graphOf graph) ≤ 256
 graph-few graph e =
     let size = whole-bytes graphWidth 256 (length graph) (both (leb 1 (length graph)) (whole graphWidth 256 (length graph)) e .1) .1 in
-    omega (arith, length-rows graphWidth Graph.decode (length graph / graphWidth) graph)
+    omega (arith, length-rows graphWidth Graph.decodeInstruction (length graph / graphWidth) graph)
 
 pub graph-below : (graph : List ℕ) → Below (checkGraph graph)
 unfolding checkGraph
@@ -89,9 +89,9 @@ pub inputs-below : (g : List Instruction) (capacity : ℕ) (inputs : List ℕ) �
 unfolding checkInputs
 inputs-below g capacity inputs few =
     let n = length inputs / tokenWidth in
-    let ts = allRows tokenWidth Tokens.decode inputs in
+    let ts = allRows tokenWidth Tokens.decodeToken inputs in
     let goods = allRows tokenWidth (goodInput g) inputs in
-    let many : length ts ≡ n = length-rows tokenWidth Tokens.decode n inputs in
+    let many : length ts ≡ n = length-rows tokenWidth Tokens.decodeToken n inputs in
     then-below (inTurn (λ i good. demand good BadInput i) 0 goods) _
     (turn-below (λ i good. demand good BadInput i) (λ i good h. demand-below good BadInput i (λ e. h)) 0 goods (omega (arith, length-rows tokenWidth (goodInput g) n inputs)))
     (λ e.

@@ -95,23 +95,23 @@ module _ (s : State Tag ℤ) (ledger cells : List ℕ) (room : Rooms s ledger ce
   ledger′ = ledgerOf ts ledger
 
   abbrev cells′ : List ℕ
-  cells′ = writtenOver Cells.encode xs cells
+  cells′ = writtenOver Cells.encodeCell xs cells
 
   pub ledger-size : length ledger′ ≡ length ledger
-  ledger-size = length-over tokenWidth Tokens.encode length-token ts ledger (omega (arith, length-map (s .tokens) tokenRecord, room .forTokens))
+  ledger-size = length-over tokenWidth Tokens.encodeToken length-token ts ledger (omega (arith, length-map (s .tokens) tokenRecord, room .forTokens))
 
   pub cells-size : length cells′ ≡ length cells
-  cells-size = length-over cellWidth Cells.encode length-cell xs cells (omega (arith, length-map (s .cells) cellRecord, room .forCells))
+  cells-size = length-over cellWidth Cells.encodeCell length-cell xs cells (omega (arith, length-map (s .cells) cellRecord, room .forCells))
 
   count : length cells′ / cellWidth ≡ length xs
   count = ap (λ (n : ℕ). n / cellWidth) cells-size ∙ sym (room .forCells) ∙ sym (length-map (s .cells) cellRecord)
 
   module _ (tokensFit : All TokenFits ts) (cellsFit : All CellFits xs) where
     pub tokens-read : Tokens.tokens (length (s .tokens)) ledger′ ≡ ts
-    tokens-read = ap (λ (n : ℕ). Tokens.tokens n ledger′) (sym (length-map (s .tokens) tokenRecord)) ∙ tokens-joined ts (drop (length (joined Tokens.encode ts)) ledger) tokensFit
+    tokens-read = ap (λ (n : ℕ). Tokens.tokens n ledger′) (sym (length-map (s .tokens) tokenRecord)) ∙ tokens-joined ts (drop (length (joined Tokens.encodeToken ts)) ledger) tokensFit
 
-    cells-read : allRows cellWidth Cells.decode cells′ ≡ xs
-    cells-read = ap (λ (n : ℕ). Cells.cells n cells′) count ∙ cells-joined xs (drop (length (joined Cells.encode xs)) cells) cellsFit
+    cells-read : allRows cellWidth Cells.decodeCell cells′ ≡ xs
+    cells-read = ap (λ (n : ℕ). Cells.cells n cells′) count ∙ cells-joined xs (drop (length (joined Cells.encodeCell xs)) cells) cellsFit
 
     pub state-back : stateSaved ledger′ cells′ (length (s .tokens)) ≡ s
     unfolding stateSaved
@@ -122,14 +122,14 @@ module _ (s : State Tag ℤ) (ledger cells : List ℕ) (room : Rooms s ledger ce
     unfolding tokenAllowed
     tokens-allowed g h =
         ap (λ (n : ℕ). all (tokenAllowed g) (rows tokenWidth (λ l. l) n ledger′)) (sym (length-map (s .tokens) tokenRecord))
-        ∙ all-written tokenWidth Tokens.encode length-token (tokenAllowed g) (λ (t : Record.Token). TokenFits t × (t .port < operandsAt g (t .tag .instruction)))
-        (λ t r (f, p). rw (token-back t r f, lt-ltb (t .port) (operandsAt g (t .tag .instruction)) p) (token-allowed t r)) ts (drop (length (joined Tokens.encode ts)) ledger) h
+        ∙ all-written tokenWidth Tokens.encodeToken length-token (tokenAllowed g) (λ (t : Record.Token). TokenFits t × (t .port < operandsAt g (t .tag .instruction)))
+        (λ t r (f, p). rw (token-back t r f, lt-ltb (t .port) (operandsAt g (t .tag .instruction)) p) (token-allowed t r)) ts (drop (length (joined Tokens.encodeToken ts)) ledger) h
 
   pub cells-allowed : all cellAllowed (allRows cellWidth (λ l. l) cells′) ≡ true
   unfolding cellAllowed
   cells-allowed =
       ap (λ (n : ℕ). all cellAllowed (rows cellWidth (λ l. l) n cells′)) count
-      ∙ all-written cellWidth Cells.encode length-cell cellAllowed (λ x. Unit {0}) (λ x r f. rw (cell-allowed x r) (cell-zero x r)) xs (drop (length (joined Cells.encode xs)) cells) (each xs)
+      ∙ all-written cellWidth Cells.encodeCell length-cell cellAllowed (λ x. Unit {0}) (λ x r f. rw (cell-allowed x r) (cell-zero x r)) xs (drop (length (joined Cells.encodeCell xs)) cells) (each xs)
     where
       each : (ys : List RecordCell.Cell) → All (λ x. Unit {0}) ys
       each [] = tt

@@ -17,15 +17,15 @@ use Rattle.machine.specs.Bounded.{runBounded, logBounded}
 use Rattle.rules.specs.declared.answer.Refusal.the-variants.{BadBound, DamagedState}
 use Rattle.rules.specs.declared.answer.Checked.{Checked}
 use Rattle.rules.specs.declared.answer.Answer.{Answer}
-use Rattle.rules.specs.Check.{demand, _andThen_, checkGraph, checkStores, checkArrays, checkInputs}
+use Rattle.rules.specs.Check.{demand, _andThen_, checkStores, checkInputs, checkWith}
 use Rattle.rules.specs.InstructionSet.{machineOf}
 use Rattle.rules.specs.Run.{firstState, picksOf, Result, refusedAtOnce, ranTo, unlessFailed, result, answer, Ran}
 use Rattle.rules.specs.Log.{logSuffices, checkLogStores, LogResult, logUnlessFailed, logged, LogRan}
-use Rattle.rules.specs.Saved.{machineSaved, stateSaved, taken, carried}
+use Rattle.rules.specs.Saved.{machineSaved, stateSaved, stateTaken, carried}
 use Rattle.rules.specs.Runs.{LentToRun, LeftByRun, LentToLogged, LeftByLogged}
-use Rattle.rules.specs.Orders.{Quiescent, Refused, Alike, Allowed}
+use Rattle.rules.specs.Orders.{QuiescentResult, RefusedResult, AlikeResults, Allowed}
 use Rattle.rules.specs.Invariants.{LawfulResult}
-use Rattle.rules.specs.Small.{Small, Counted}
+use Rattle.rules.specs.Small.{Small, CountsFit}
 use Rattle.rules.specs.Fits.{AllFit}
 use Rattle.rules.specs.Held.{heldIn}
 
@@ -42,10 +42,9 @@ andBound stores k = stores andThen demand (goodBound k) BadBound 0
 -- R-10: 22 "after 21 and before inputs"
 unfoldable pub checkBounded : (graph arrays inputs picks : List ℕ) → (bound ledger cells : ℕ) → Checked
 checkBounded graph arrays inputs picks k ledger cells =
-    checkGraph graph
-    andThen andBound (checkStores (length inputs) (length picks) ledger cells) k
-    andThen checkArrays (graphOf graph) (cells / cellWidth) arrays
-    andThen checkInputs (graphOf graph) (capacityOf ledger) inputs
+    checkWith graph arrays (cells / cellWidth)
+    (andBound (checkStores (length inputs) (length picks) ledger cells) k)
+    (checkInputs (graphOf graph) (capacityOf ledger) inputs)
 
 -- "Picks count without held activities. If only held ones remain, the answer is hung, at a used-up budget too."
 unfoldable pub bounded : (graph arrays inputs picks : List ℕ) → (budget bound ledger cells : ℕ) → Result
@@ -63,10 +62,9 @@ BoundedOn graph arrays inputs budget k l x =
 
 unfoldable pub checkBoundLogged : (graph arrays inputs picks : List ℕ) → (budget bound ledger cells lent : ℕ) → Checked
 checkBoundLogged graph arrays inputs picks budget k ledger cells lent =
-    checkGraph graph
-    andThen andBound (checkLogStores (length inputs) (length picks) ledger cells budget lent) k
-    andThen checkArrays (graphOf graph) (cells / cellWidth) arrays
-    andThen checkInputs (graphOf graph) (capacityOf ledger) inputs
+    checkWith graph arrays (cells / cellWidth)
+    (andBound (checkLogStores (length inputs) (length picks) ledger cells budget lent) k)
+    (checkInputs (graphOf graph) (capacityOf ledger) inputs)
 
 unfoldable pub boundLogged : (graph arrays inputs picks : List ℕ) → (budget bound ledger cells lent : ℕ) → LogResult
 boundLogged graph arrays inputs picks budget k ledger cells lent =
@@ -83,10 +81,9 @@ BoundLoggedOn graph arrays inputs k l x = LogRan (boundLogged graph arrays input
 
 unfoldable pub checkBoundSaved : (graph arrays picks ledger cells : List ℕ) → (bound firings tokens : ℕ) → Checked
 checkBoundSaved graph arrays picks ledger cells k firings n =
-    checkGraph graph
-    andThen andBound (checkStores 0 (length picks) (length ledger) (length cells)) k
-    andThen checkArrays (graphOf graph) (length cells / cellWidth) arrays
-    andThen demand (taken graph ledger cells firings n) DamagedState 0
+    checkWith graph arrays (length cells / cellWidth)
+    (andBound (checkStores 0 (length picks) (length ledger) (length cells)) k)
+    (demand (stateTaken graph ledger cells firings n) DamagedState 0)
 
 unfoldable pub boundCarried : (graph arrays picks : List ℕ) → (budget bound : ℕ) → (ledger cells : List ℕ) → (firings tokens : ℕ) → Result
 boundCarried graph arrays picks budget k ledger cells firings n =
@@ -108,26 +105,26 @@ pub record BoundZero : Type 0 where
 -- "completes, or hangs with no held activity left"
 abbrev pub LeavesNoneHeld : (graph arrays : List ℕ) → (bound ledger cells : ℕ) → Result → Type 0
 LeavesNoneHeld graph arrays k ledger cells (refusedAtOnce r p) = ⊥
-LeavesNoneHeld graph arrays k ledger cells (ranTo e) = Machines.LeavesNoneHeld (machineOf (graphOf graph) (arraysOf arrays) (capacityOf ledger) (cells / cellWidth)) (heldIn (graphOf graph) k) e
+LeavesNoneHeld graph arrays k ledger cells (ranTo e) = Machines.LeavesNoneHeldOfMachine (machineOf (graphOf graph) (arraysOf arrays) (capacityOf ledger) (cells / cellWidth)) (heldIn (graphOf graph) k) e
 
 -- "must equal the end of every unbounded order [..] as demand 3 compares them"
-pub record EndsAs (x y : Result) : Type 0 where
-  pub rests : Quiescent x
+pub record BoundedEndsAs (x y : Result) : Type 0 where
+  pub rests : QuiescentResult x
   -- completed or hung
   pub outcome : answer x .outcome ≡ answer y .outcome
-  pub alike : Alike x y
+  pub alike : AlikeResults x y
 
 -- "At any budget, a bounded run that completes, or hangs with no held activity left, must equal the end of every unbounded order at budget 2,048"
-abbrev pub AsEveryOrder : Type 0
-AsEveryOrder = (graph arrays inputs picks picks′ : List ℕ) (budget k ledger ledger′ cells cells′ : ℕ)
+abbrev pub BoundedAsEveryOrder : Type 0
+BoundedAsEveryOrder = (graph arrays inputs picks picks′ : List ℕ) (budget k ledger ledger′ cells cells′ : ℕ)
     → LeavesNoneHeld graph arrays k ledger cells (bounded graph arrays inputs picks budget k ledger cells)
     → Allowed picks′ ledger′ cells′ → capacityOf ledger ≡ capacityOf ledger′ → cells / cellWidth ≡ cells′ / cellWidth
-    → EndsAs (bounded graph arrays inputs picks budget k ledger cells) (result graph arrays inputs picks′ 2048 ledger′ cells′)
+    → BoundedEndsAs (bounded graph arrays inputs picks budget k ledger cells) (result graph arrays inputs picks′ 2048 ledger′ cells′)
 
 -- where one order completes or hangs, a run with a bound is not refused: what it may still do is spend its budget or hang on held activities
 abbrev pub NotRefused : Type 0
 NotRefused = (graph arrays inputs picks picks′ : List ℕ) (budget k ledger cells : ℕ) → goodBound k ≡ true → Allowed picks ledger cells
-    → Quiescent (result graph arrays inputs picks′ 2048 ledger cells) → ¬ (Refused (bounded graph arrays inputs picks budget k ledger cells))
+    → QuiescentResult (result graph arrays inputs picks′ 2048 ledger cells) → ¬ (RefusedResult (bounded graph arrays inputs picks budget k ledger cells))
 
 -- a run that writes a log is the run, if the log suffices, and the log has room in what is lent
 abbrev pub BoundLoggedRuns : Type 0
@@ -150,5 +147,5 @@ BoundedSmall = (graph arrays inputs picks : List ℕ) (budget k ledger cells : �
 
 -- 16 bits are enough for each number of an answer
 pub record BoundedCounted : Type 0 where
-  pub byLogged : (graph arrays inputs picks : List ℕ) (budget k ledger cells lent : ℕ) → Counted (answer (boundLogged graph arrays inputs picks budget k ledger cells lent .result))
-  pub byCarried : (graph arrays picks ledger cells : List ℕ) (budget k firings tokens : ℕ) → Counted (answer (boundCarried graph arrays picks budget k ledger cells firings tokens))
+  pub byLogged : (graph arrays inputs picks : List ℕ) (budget k ledger cells lent : ℕ) → CountsFit (answer (boundLogged graph arrays inputs picks budget k ledger cells lent .result))
+  pub byCarried : (graph arrays picks ledger cells : List ℕ) (budget k firings tokens : ℕ) → CountsFit (answer (boundCarried graph arrays picks budget k ledger cells firings tokens))

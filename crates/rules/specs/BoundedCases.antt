@@ -17,44 +17,44 @@ use Rattle.rules.specs.Run.{answer}
 use Rattle.rules.specs.Log.{logAfter}
 use Rattle.rules.specs.Held.{heldIn}
 use Rattle.rules.specs.Bounded.{bounded, boundLogged, boundCarried}
-use Rattle.rules.specs.Cases.{to0, to1, to2, token, root, input, values, completed, spentWord, hung, Seen, ran, again, wrote, seenIn}
+use Rattle.rules.specs.CaseRows.{to0, to1, to2, token, root, input, values, completed, spentWord, hung, Seen, ran, again, wrote, seenIn}
 use Rattle.rules.specs.SavedCases.{ledgerFrom}
 
 -- ---- a case
 
-pub data Case : Type 0 where
+pub data BoundedCase : Type 0 where
   -- an activity under a bound, among these tokens: whether it is held back
-  holding : (graph : List ℕ) → (bound : ℕ) → Tag → List (Token Tag ℤ) → Bool → Case
+  holding : (graph : List ℕ) → (bound : ℕ) → Tag → List (Token Tag ℤ) → Bool → BoundedCase
   -- a run with a bound: what is lent; the answer, the tokens
-  bounding : (graph arrays inputs picks : List ℕ) → (budget bound : ℕ) → Values → List (Token Tag ℤ) → Case
+  bounding : (graph arrays inputs picks : List ℕ) → (budget bound : ℕ) → Values → List (Token Tag ℤ) → BoundedCase
   -- the answer alone
-  answering : (graph inputs picks : List ℕ) → (budget bound : ℕ) → Values → Case
+  answering : (graph inputs picks : List ℕ) → (budget bound : ℕ) → Values → BoundedCase
   -- one with a log of `lent` bytes: the answer, the log's bytes
-  logging : (graph inputs : List ℕ) → (budget bound lent : ℕ) → Values → List ℕ → Case
+  logging : (graph inputs : List ℕ) → (budget bound lent : ℕ) → Values → List ℕ → BoundedCase
   -- one from a saved state of tokens without a cell, with a table of arrays: the answer, the tokens
-  carrying : (graph arrays : List ℕ) → (budget bound firings : ℕ) → (saved : List (Token Tag ℤ)) → Values → List (Token Tag ℤ) → Case
+  carrying : (graph arrays : List ℕ) → (budget bound firings : ℕ) → (saved : List (Token Tag ℤ)) → Values → List (Token Tag ℤ) → BoundedCase
 
 pub data Told : Type 0 where
   held : Bool → Told
   saw : Seen → Told
 
 -- by the rules
-unfoldable pub seen : Case → Told
-seen (holding graph k τ ts b) = held (heldIn (graphOf graph) k (record { tokens = ts; cells = [] }) (record { place = 0; tag = τ }))
-seen (bounding graph arrays inputs picks budget k a ts) = saw (seenIn (bounded graph arrays inputs picks budget k (tokenWidth * 2048) 64))
-seen (answering graph inputs picks budget k a) = saw (again (valuesOf (answer (bounded graph [] inputs picks budget k (tokenWidth * 2048) 80))))
-seen (logging graph inputs budget k lent a l) =
+unfoldable pub seenBounded : BoundedCase → Told
+seenBounded (holding graph k τ ts b) = held (heldIn (graphOf graph) k (record { tokens = ts; cells = [] }) (record { place = 0; tag = τ }))
+seenBounded (bounding graph arrays inputs picks budget k a ts) = saw (seenIn (bounded graph arrays inputs picks budget k (tokenWidth * 2048) 64))
+seenBounded (answering graph inputs picks budget k a) = saw (again (valuesOf (answer (bounded graph [] inputs picks budget k (tokenWidth * 2048) 80))))
+seenBounded (logging graph inputs budget k lent a l) =
     let x = boundLogged graph [] inputs [] budget k (tokenWidth * 2048) 64 lent in
     saw (wrote (valuesOf (answer (x .result))) (logAfter x []))
-seen (carrying graph arrays budget k firings saved a ts) = saw (seenIn (boundCarried graph arrays [] budget k (ledgerFrom saved ++ replicate 280 0) [] firings (length saved)))
+seenBounded (carrying graph arrays budget k firings saved a ts) = saw (seenIn (boundCarried graph arrays [] budget k (ledgerFrom saved ++ replicate 280 0) [] firings (length saved)))
 
 -- by the table
-unfoldable pub expected : Case → Told
-expected (holding graph k τ ts b) = held b
-expected (bounding graph arrays inputs picks budget k a ts) = saw (ran a ts [])
-expected (answering graph inputs picks budget k a) = saw (again a)
-expected (logging graph inputs budget k lent a l) = saw (wrote a l)
-expected (carrying graph arrays budget k firings saved a ts) = saw (ran a ts [])
+unfoldable pub expectedBounded : BoundedCase → Told
+expectedBounded (holding graph k τ ts b) = held b
+expectedBounded (bounding graph arrays inputs picks budget k a ts) = saw (ran a ts [])
+expectedBounded (answering graph inputs picks budget k a) = saw (again a)
+expectedBounded (logging graph inputs budget k lent a l) = saw (wrote a l)
+expectedBounded (carrying graph arrays budget k firings saved a ts) = saw (ran a ts [])
 
 -- ---- which tokens hold a NEXT back
 
@@ -63,13 +63,13 @@ abbrev pub endless : List ℕ
 endless = to1 7 (pos 0) 0 0 ++ to1 16 (pos 0) 0 2 ++ to0 3 (pos 0) ++ to0 9 (pos 0)
 
 -- NEXT at iteration n of a path, among these tokens
-abbrev pub nextAt : (bound path n : ℕ) → List (Token Tag ℤ) → Bool → Case
+abbrev pub nextAt : (bound path n : ℕ) → List (Token Tag ℤ) → Bool → BoundedCase
 nextAt k path n ts b = holding endless k (record { path = pathWords path; iteration = n; instruction = 0 }) ts b
 
 abbrev pub waiting1 : (path iteration : ℕ) → List (Token Tag ℤ)
 waiting1 path n = token path n 1 0 (live (pos 7)) ∷ []
 
-abbrev pub holds : List Case
+abbrev pub holds : List BoundedCase
 holds =
     -- NEXT at iteration 3 would make 4: with bound 2 a token at iteration 2 or less holds it back, one at 3 does not
     nextAt 2 0 3 (waiting1 0 2) true
@@ -102,7 +102,7 @@ holds =
 
 -- ---- runs
 
-abbrev pub boundedLoop : (budget bound : ℕ) → Values → List (Token Tag ℤ) → Case
+abbrev pub boundedLoop : (budget bound : ℕ) → Values → List (Token Tag ℤ) → BoundedCase
 boundedLoop budget k a ts = bounding endless [] (input 0 0 (pos 7) ++ input 1 0 (pos 8)) [] budget k a ts
 
 -- NEXT has fired once, ADD waits
@@ -123,10 +123,10 @@ lateEntry =
 abbrev pub countFirst : List ℕ
 countFirst = bytes16 0 ++ joined (λ p. bytes16 p) (replicate 23 1)
 
-abbrev pub late : (picks : List ℕ) → (bound : ℕ) → Values → Case
+abbrev pub late : (picks : List ℕ) → (bound : ℕ) → Values → BoundedCase
 late picks k a = answering lateEntry (input 0 0 (pos 0) ++ input 1 0 (pos 9)) picks 2048 k a
 
-abbrev pub runs : List Case
+abbrev pub runs : List BoundedCase
 runs =
     -- ADD waits at iteration 0: with bound 2 NEXT fires once, at a budget of 1 too, and with bound 3 twice; one that is free and may not fire is spent
     boundedLoop 2048 2 (values hung 1 3 0) onceAround
@@ -152,10 +152,10 @@ runs =
 
 -- ---- refused by 21: 1 and 257, after 7 and before 22, 6 and 24
 
-abbrev pub badBound : (graph arrays inputs : List ℕ) → (bound word place : ℕ) → Case
+abbrev pub badBound : (graph arrays inputs : List ℕ) → (bound word place : ℕ) → BoundedCase
 badBound graph arrays inputs k word place = bounding graph arrays inputs [] 2048 k (values word 0 0 place) []
 
-abbrev pub bad : List Case
+abbrev pub bad : List BoundedCase
 bad =
     badBound endless [] [] 1 21 0
     ∷ badBound endless [] [] 257 21 0
@@ -175,5 +175,5 @@ bad =
     ∷ carrying endless [] 2048 2 1 (root 2 0 (spent (pos 7)) ∷ []) (values 24 0 0 0) []
     ∷ []
 
-abbrev pub cases : List Case
-cases = holds ++ runs ++ bad
+abbrev pub boundedCases : List BoundedCase
+boundedCases = holds ++ runs ++ bad

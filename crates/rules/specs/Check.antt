@@ -54,7 +54,7 @@ module _ {A : Type 0} where
 
 -- a record's position is its instruction number; past the graph stands an unknown operation, which has no operands
 unfoldable pub instructionAt : List Instruction → ℕ → Instruction
-instructionAt g i = getD g i (Graph.decode [])
+instructionAt g i = getD g i (Graph.decodeInstruction [])
 
 unfoldable pub operandsAt : List Instruction → ℕ → ℕ
 operandsAt g i = operandsOf (instructionAt g i .code)
@@ -145,16 +145,20 @@ secondInput earlier t = any (standsAt (t .tag) (t .port)) earlier
 
 unfoldable pub checkInputs : List Instruction → (capacity : ℕ) → (inputs : List ℕ) → Checked
 checkInputs g capacity inputs =
-    let ts = allRows tokenWidth Tokens.decode inputs in
+    let ts = allRows tokenWidth Tokens.decodeToken inputs in
     inTurn (λ i good. demand good BadInput i) 0 (allRows tokenWidth (goodInput g) inputs)
     andThen demand (leb (length ts) capacity) LedgerFull capacity
     andThen inTurn (λ i t. demand (not (secondInput (take i ts) t)) SecondToken i) 0 ts
 
 -- ---- all of it; ledger and cells by their lengths in bytes
 
+-- the order of the checks: the graph, what is lent, the named arrays for this number of cells, and last the inputs or a saved state. A run, one with a log or a bound, a
+-- replay, a profile, a range run and a run from a saved state differ in what is lent and in what is last
+abbrev pub checkWith : (graph arrays : List ℕ) → (cells : ℕ) → (lent last : Checked) → Checked
+checkWith graph arrays cells lent last = checkGraph graph andThen lent andThen checkArrays (graphOf graph) cells arrays andThen last
+
 unfoldable pub check : (graph arrays inputs picks : List ℕ) → (ledger cells : ℕ) → Checked
 check graph arrays inputs picks ledger cells =
-    checkGraph graph
-    andThen checkStores (length inputs) (length picks) ledger cells
-    andThen checkArrays (graphOf graph) (cells / cellWidth) arrays
-    andThen checkInputs (graphOf graph) (capacityOf ledger) inputs
+    checkWith graph arrays (cells / cellWidth)
+    (checkStores (length inputs) (length picks) ledger cells)
+    (checkInputs (graphOf graph) (capacityOf ledger) inputs)

@@ -17,7 +17,7 @@ use Rattle.rules.specs.Check.{instructionAt, operandsAt, fanOutAllowed, 
 use Rattle.rules.specs.InstructionSet.{sendComputed, sideOf, sendNext, sendEntered, returnOf, sendReturned, sendLeft, onCell, numberIn, arrayAt, cellNumber, effectOf, effectIn, isResult, arityIn, decideTag}
 use Rattle.rules.specs.Profile.{checkProfileStores, checkProfile, profileUnlessFailed, profiled}
 use Rattle.rules.specs.Log.{namesIn, checkLogStores, checkLogged, logUnlessFailed, logged, logAfter, replayed}
-use Rattle.rules.specs.Needs.{sendsTo, portReached, allReached, rounds, reached, firingsOf, outputsOf, total, loopFree, checkNeeds, needs}
+use Rattle.rules.specs.Needs.{sendsTo, portReached, allReached, rounds, reached, firingsNeeded, outputsNeeded, total, loopFree, checkNeeds, needs}
 use Rattle.machine.specs.Sequences.{logOf}
 use Rattle.machine.specs.Steps.{profile}
 use Rattle.machine.specs.Replay.{replay}
@@ -29,5 +29,5 @@ use Rattle.rules.specs.RangeSet.{sendRange, isUndecided, sendSide, onSin
 use Rattle.rules.specs.RangeRun.{decodeRange, encodeRange, encodeRangeCell, checkRangeStores, checkRangeInputs, checkRanges, firstRanges, rangesUnlessFailed, rangeResult, rangeAnswer, rangeLedgerAfter, rangeCellsAfter}
 
 unfoldable pub rules : Unit {0}
-unfolding signedOf bitsOf rowOf namesArray usesConstant Graph.decode Graph.encode pathNumber pathWords isRoot samePath contentOf isInput sameTag standsAt Tokens.decode Tokens.encode nextOf enterWithin leaveOf Cells.cellOf Cells.decode Cells.encode Arrays.decode ranged divided computeOf machine instructionAt operandsAt fanOutAllowed isZero unusedAreZero goodArc within entersSite otherReturn goodSite checkRecord checkGraph checkStores insideStore namesGood checkArrays goodInput secondInput checkInputs check sendComputed sideOf sendNext sendEntered returnOf sendReturned sendLeft onCell numberIn arrayAt cellNumber effectOf effectIn isResult arityIn decideWords decidePath decideTag firstState picksOf unlessFailed result answer ledgerAfter cellsAfter profile checkProfileStores checkProfile profileUnlessFailed profiled logOf replay Logs.encode Logs.nameOf namesIn checkLogStores checkLogged logUnlessFailed logged logAfter replayed sendsTo portReached allReached rounds reached firingsOf outputsOf total loopFree checkNeeds needs runFrom logFrom standsIn isPending holdsBack heldIn goodBound andBound checkBounded bounded checkBoundLogged boundLogged checkBoundSaved boundCarried outcome equalities remainders outcomes rangeOf sendRange isUndecided sendSide onSingle rangeEffectOf rangeEffectIn decodeRange encodeRange encodeRangeCell checkRangeStores checkRangeInputs checkRanges firstRanges rangesUnlessFailed rangeResult rangeAnswer rangeLedgerAfter rangeCellsAfter
+unfolding signedOf bitsOf rowOf namesArray usesConstant Graph.decodeInstruction Graph.encodeInstruction pathNumber pathWords isRoot samePath contentOf isInput sameTag standsAt Tokens.decodeToken Tokens.encodeToken nextOf enterWithin leaveOf Cells.cellOf Cells.decodeCell Cells.encodeCell Arrays.decodeArray ranged divided computeOf machine instructionAt operandsAt fanOutAllowed isZero unusedAreZero goodArc within entersSite otherReturn goodSite checkRecord checkGraph checkStores insideStore namesGood checkArrays goodInput secondInput checkInputs check sendComputed sideOf sendNext sendEntered returnOf sendReturned sendLeft onCell numberIn arrayAt cellNumber effectOf effectIn isResult arityIn decideWords decidePath decideTag firstState picksOf unlessFailed result answer ledgerAfter cellsAfter profile checkProfileStores checkProfile profileUnlessFailed profiled logOf replay Logs.encodeActivity Logs.nameOf namesIn checkLogStores checkLogged logUnlessFailed logged logAfter replayed sendsTo portReached allReached rounds reached firingsNeeded outputsNeeded total loopFree checkNeeds needs runFrom logFrom standsIn isPending holdsBack heldIn goodBound andBound checkBounded bounded checkBoundLogged boundLogged checkBoundSaved boundCarried outcome equalities remainders outcomes rangeOf sendRange isUndecided sendSide onSingle rangeEffectOf rangeEffectIn decodeRange encodeRange encodeRangeCell checkRangeStores checkRangeInputs checkRanges firstRanges rangesUnlessFailed rangeResult rangeAnswer rangeLedgerAfter rangeCellsAfter
 rules = tt

@@ -21,7 +21,7 @@ use Rattle.record.specs.declared.operation.Arithmetic.{Arithmetic}
 use Rattle.record.specs.declared.operation.Arithmetic.the-variants.{Add, Sub, Mul, Div, Rem, Lt, Le, Eq}
 use Rattle.number.specs.Number.{number32, signedOf}
 use Rattle.buffer.specs.Rows.{whole, allRows, joined, writtenOver, All}
-use Rattle.record.specs.ExpressionRecords.{decode, expressionOf}
+use Rattle.record.specs.ExpressionRecords.{decodeTerm, expressionOf}
 use Rattle.record.specs.GraphRecords as Graph
 use Rattle.record.specs.TokensAndTags.{rootOf, capacityOf}
 use Rattle.record.specs.TokensAndTags as Tokens
@@ -55,7 +55,7 @@ isExpressionLength n = leb 1 n && whole termWidth mostTerms n
 
 -- past the expression stands a variable
 unfoldable pub termAt : List Term → ℕ → Term
-termAt ts i = getD ts i (decode [])
+termAt ts i = getD ts i (decodeTerm [])
 
 abbrev pub isVariable : Term → Bool
 isVariable t = eqb (t .kind) 0
@@ -86,10 +86,16 @@ goodTerm earlier i t = eqb (t .zeros) 0 && cond (isVariable t) (eqb (t .left) 0 
 -- ---- "Refused: 25, bad expression, with place 0 for a wrong length, else at the first record with a bad field or naming one already named, else at the first
 -- never named; then 26, graph too long for the lent output."
 
+-- "at the first record with a bad field or naming one already named"
+abbrev pub checkGoodTerms : List Term → Checked
+checkGoodTerms ts = inTurn (λ i t. demand (goodTerm (take i ts) i t) Refusals.BadExpression i) 0 ts
+
+-- "at the first never named"; the last is named by none
+abbrev pub checkNamed : List Term → Checked
+checkNamed ts = inTurn (λ j t. demand (eqb (suc j) (length ts) || any (names j) ts) Refusals.BadExpression j) 0 ts
+
 unfoldable pub checkTerms : List Term → Checked
-checkTerms ts =
-    inTurn (λ i t. demand (goodTerm (take i ts) i t) Refusals.BadExpression i) 0 ts
-    andThen inTurn (λ j t. demand (eqb (suc j) (length ts) || any (names j) ts) Refusals.BadExpression j) 0 ts
+checkTerms ts = checkGoodTerms ts andThen checkNamed ts
 
 unfoldable pub checkExpression : (expression : List ℕ) → Checked
 checkExpression expression = demand (isExpressionLength (length expression)) Refusals.BadExpression 0 andThen checkTerms (expressionOf expression)
@@ -126,8 +132,8 @@ abbrev pub valueAt : List Term → List ℤ → (i : ℕ) → Computed
 valueAt ts values i = valueBelow (suc i) ts values i
 
 -- that of the last record
-abbrev pub valueOf : List Term → List ℤ → Computed
-valueOf ts values = valueAt ts values (length ts - 1)
+abbrev pub expressionValue : List Term → List ℤ → Computed
+expressionValue ts values = valueAt ts values (length ts - 1)
 
 -- ---- "The graph is a COPY for each variable, then the operations, both in record order, then one OUT; left goes to port 0"
 
@@ -189,7 +195,7 @@ unfoldable pub putGraph : List Term → List Instruction → List Instruction
 putGraph ts g = putAt ts (length ts - 1) (record { instruction = outFor ts; port = 0 }) (set g (outFor ts) out)
 
 unfoldable pub graphBytes : List Term → List ℕ
-graphBytes ts = joined Graph.encode (graphFor ts)
+graphBytes ts = joined Graph.encodeInstruction (graphFor ts)
 
 -- ---- "each COPY is fed its variable"
 
@@ -199,7 +205,7 @@ inputsFor i [] = []
 inputsFor i (v ∷ values) = record { tag = rootOf i; port = 0; content = Live v } ∷ inputsFor (suc i) values
 
 unfoldable pub inputBytes : List ℤ → List ℕ
-inputBytes values = joined Tokens.encode (inputsFor 0 values)
+inputBytes values = joined Tokens.encodeToken (inputsFor 0 values)
 
 -- ---- the answer, and what is left: 25 and 26 "leave the output unwritten"
 
@@ -213,7 +219,7 @@ madeOf Passed n = Records n
 madeOf (Failed r place) n = Refused r place
 
 abbrev pub outputOf : Checked → (graph : List Instruction) → (lent : List ℕ) → List ℕ
-outputOf Passed g lent = writtenOver Graph.encode g lent
+outputOf Passed g lent = writtenOver Graph.encodeInstruction g lent
 outputOf (Failed r place) g lent = lent
 
 -- what a function promises that makes the graph of an expression
@@ -239,7 +245,7 @@ evaluatedOf (Failed r place) x = Evaluations.Refused r place
 
 -- what a function promises that gives the value of an expression
 unfoldable pub evaluated : (expression values : List ℕ) → Evaluated
-evaluated expression values = evaluatedOf (checkValues expression (length values)) (valueOf (expressionOf expression) (variablesOf values))
+evaluated expression values = evaluatedOf (checkValues expression (length values)) (expressionValue (expressionOf expression) (variablesOf values))
 
 -- ---- the claims
 
@@ -263,7 +269,7 @@ pub record OutAt (ts : List Term) (values : List ℤ) (i : ℕ) : Type 0 where
 
 -- an expression has no value exactly if an operation is: "each operation in it" is each of its records
 abbrev pub ValuesTell : Type 0
-ValuesTell = OfEvery (λ ts. (values : List ℤ) → (valueOf ts values ≡ OutOfRange) ↔ ((i : ℕ) × OutAt ts values i))
+ValuesTell = OfEvery (λ ts. (values : List ℤ) → (expressionValue ts values ≡ OutOfRange) ↔ ((i : ℕ) × OutAt ts values i))
 
 -- put into whatever has as many records, it is the whole graph
 abbrev pub GraphsPut : Type 0
@@ -287,37 +293,37 @@ abbrev pub InputsAccepted : Type 0
 InputsAccepted = OfEvery (λ ts. (values : List ℤ) → ValuesFor ts values → (capacity : ℕ) → length values ≤ capacity → checkInputs (graphFor ts) capacity (inputBytes values) ≡ Passed)
 
 module _ (ts : List Term) (capacity cells : ℕ) where
-  abbrev pub machineFor : Machine
-  machineFor = machineOf (graphFor ts) [] capacity cells
+  abbrev pub expressionMachine : Machine
+  expressionMachine = machineOf (graphFor ts) [] capacity cells
 
   -- "OUT receives the expression's value": each record has fired, and no token came but one for each variable and one from each record
   pub record Received (v : ℤ) (e : End Refusal Tag ℤ) : Type 0 where
     pub outcome : e .outcome ≡ completed
-    pub received : look machineFor (e .state) (at machineFor (rootOf (outFor ts)) 0) ≡ some (live v)
+    pub received : look expressionMachine (e .state) (at expressionMachine (rootOf (outFor ts)) 0) ≡ some (live v)
     pub firings : e .firings ≡ length ts
     pub tokens : length (e .state .tokens) ≡ count isVariable ts + length ts
 
   -- "if each operation in it is in range and no divisor is 0, and otherwise the run is refused by 12"
-  abbrev pub Evaluates : Computed → End Refusal Tag ℤ → Type 0
-  Evaluates (Value v) e = Received v e
-  Evaluates OutOfRange e = (place : ℕ) × (e .outcome ≡ refused Refusals.OutOfRange place)
+  abbrev pub EvaluatesExpression : Computed → End Refusal Tag ℤ → Type 0
+  EvaluatesExpression (Value v) e = Received v e
+  EvaluatesExpression OutOfRange e = (place : ℕ) × (e .outcome ≡ refused Refusals.OutOfRange place)
 
 -- "For all variable values and every firing order": with any choice that takes one of the enabled, and room for the tokens and the firings that it takes
 abbrev pub ExpressionsEvaluateBy : Type 0
 ExpressionsEvaluateBy = OfEvery (λ ts. (values : List ℤ) → ValuesFor ts values
     → (capacity cells : ℕ) → count isVariable ts + length ts ≤ capacity
-    → (c : Choice (machineFor ts capacity cells)) → LawfulChoice (machineFor ts capacity cells) c
+    → (c : Choice (expressionMachine ts capacity cells)) → LawfulChoice (expressionMachine ts capacity cells) c
     → (budget : ℕ) → length ts ≤ budget → (picks : List ℕ)
-    → Evaluates ts capacity cells (valueOf ts values) (runBy (machineFor ts capacity cells) c budget picks 0 (firstState (inputBytes values) cells)))
+    → EvaluatesExpression ts capacity cells (expressionValue ts values) (runBy (expressionMachine ts capacity cells) c budget picks 0 (firstState (inputBytes values) cells)))
 
 -- of whole runs, by picks and without named arrays: "budget 2,048", and "A ledger of 300 records is enough."
 abbrev pub ExpressionsEvaluate : Type 0
 ExpressionsEvaluate = OfEvery (λ ts. (values : List ℤ) → ValuesFor ts values
     → (picks : List ℕ) (ledger cells : ℕ) → Allowed picks ledger cells → 300 ≤ capacityOf ledger
     → (e : End Refusal Tag ℤ) × (result (graphBytes ts) [] (inputBytes values) picks 2048 ledger cells ≡ ranTo e)
-    × Evaluates ts (capacityOf ledger) (cells / cellWidth) (valueOf ts values) e)
+    × EvaluatesExpression ts (capacityOf ledger) (cells / cellWidth) (expressionValue ts values) e)
 
 -- a computed proof with the line `unfolding expressions` computes with all of this
 unfoldable pub expressions : Unit {0}
-unfolding decode termAt goodOperation goodTerm checkTerms checkExpression valueBelow instructionFor feeds made graphFor putBelow putGraph graphBytes inputBytes checkMade checkValues evaluated
+unfolding decodeTerm termAt goodOperation goodTerm checkTerms checkExpression valueBelow instructionFor feeds made graphFor putBelow putGraph graphBytes inputBytes checkMade checkValues evaluated
 expressions = tt

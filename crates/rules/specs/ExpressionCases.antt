@@ -13,8 +13,8 @@ use Rattle.rules.specs.Answer.{Values, valuesOf}
 use Rattle.rules.specs.Run.{result, answer}
 use Rattle.record.specs.ExpressionRecords.{expressionOf}
 use Rattle.record.specs.Widths.{tokenWidth}
-use Rattle.rules.specs.Expression.{valueOf, checkMade, madeOf, graphFor, graphBytes, inputBytes, outputOf}
-use Rattle.rules.specs.Cases.{to0, to1, values}
+use Rattle.rules.specs.Expression.{expressionValue, checkMade, madeOf, graphFor, graphBytes, inputBytes, outputOf}
+use Rattle.rules.specs.CaseRows.{to0, to1, values}
 
 -- ---- how the rows are written
 
@@ -24,30 +24,30 @@ term kind left right = kind ∷ left ∷ right ∷ 0 ∷ 0 ∷ 0 ∷ 0 ∷ 0 ∷
 abbrev pub variable : List ℕ
 variable = term 0 0 0
 
-pub data Case : Type 0 where
+pub data ExpressionCase : Type 0 where
   -- of an expression and the length of an output: the answer
-  making : (expression : List ℕ) → (output : ℕ) → Made → Case
+  making : (expression : List ℕ) → (output : ℕ) → Made → ExpressionCase
   -- of an expression and an output: what is left there
-  writing : (expression output : List ℕ) → (left : List ℕ) → Case
+  writing : (expression output : List ℕ) → (left : List ℕ) → ExpressionCase
   -- of an expression, the values of its variables and the picks: its value, and the answer of its run
-  running : (expression : List ℕ) → List ℤ → (picks : List ℕ) → Computed → Values → Case
+  running : (expression : List ℕ) → List ℤ → (picks : List ℕ) → Computed → Values → ExpressionCase
 
-pub data Seen : Type 0 where
-  answered : Made → Seen
-  wrote : List ℕ → Seen
-  ran : Computed → Values → Seen
+pub data SeenExpression : Type 0 where
+  answered : Made → SeenExpression
+  wrote : List ℕ → SeenExpression
+  ran : Computed → Values → SeenExpression
 
 -- by the definitions
-unfoldable pub seen : Case → Seen
-seen (making e n a) = answered (madeOf (checkMade e n) (length (graphFor (expressionOf e))))
-seen (writing e lent left) = wrote (outputOf (checkMade e (length lent)) (graphFor (expressionOf e)) lent)
-seen (running e vs picks v a) = ran (valueOf (expressionOf e) vs) (valuesOf (answer (result (graphBytes (expressionOf e)) [] (inputBytes vs) picks 2048 (tokenWidth * 300) 0)))
+unfoldable pub seenExpression : ExpressionCase → SeenExpression
+seenExpression (making e n a) = answered (madeOf (checkMade e n) (length (graphFor (expressionOf e))))
+seenExpression (writing e lent left) = wrote (outputOf (checkMade e (length lent)) (graphFor (expressionOf e)) lent)
+seenExpression (running e vs picks v a) = ran (expressionValue (expressionOf e) vs) (valuesOf (answer (result (graphBytes (expressionOf e)) [] (inputBytes vs) picks 2048 (tokenWidth * 300) 0)))
 
 -- by the table
-unfoldable pub expected : Case → Seen
-expected (making e n a) = answered a
-expected (writing e lent left) = wrote left
-expected (running e vs picks v a) = ran v a
+unfoldable pub expectedExpression : ExpressionCase → SeenExpression
+expectedExpression (making e n a) = answered a
+expectedExpression (writing e lent left) = wrote left
+expectedExpression (running e vs picks v a) = ran v a
 
 -- ---- the rows
 
@@ -59,8 +59,8 @@ difference = variable ++ variable ++ term 17 0 1
 abbrev pub quotient : List ℕ
 quotient = variable ++ variable ++ variable ++ term 17 0 2 ++ term 19 3 1
 
-abbrev pub cases : List Case
-cases =
+abbrev pub expressionCases : List ExpressionCase
+expressionCases =
     -- "with place 0 for a wrong length"
     making [] 800 (Refused BadExpression 0)
     ∷ making (variable ++ 0 ∷ []) 800 (Refused BadExpression 0)

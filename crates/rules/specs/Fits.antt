@@ -10,18 +10,18 @@ use Rattle.record.specs.TokensAndTags.{TokenFits, capacityOf}
 use Rattle.record.specs.Cells.{CellFits}
 use Rattle.record.specs.Widths.{cellWidth}
 use Rattle.rules.specs.Run.{Result, refusedAtOnce, ranTo, result}
-use Rattle.rules.specs.Orders.{tokensOf, cellsOf}
+use Rattle.rules.specs.Orders.{resultTokens, resultCells}
 use Rattle.rules.specs.Saved.{carried}
 
 -- a run that was not refused at once leaves as many cells as there are
 abbrev pub CellCount : Result → ℕ → Type 0
 CellCount (refusedAtOnce r p) n = Unit {0}
-CellCount (ranTo e) n = length (cellsOf (ranTo e)) ≡ n
+CellCount (ranTo e) n = length (resultCells (ranTo e)) ≡ n
 
 pub record AllFit (x : Result) (capacity count : ℕ) : Type 0 where
-  pub tokens : All TokenFits (tokensOf x)
-  pub cells : All CellFits (cellsOf x)
-  pub room : length (tokensOf x) ≤ capacity
+  pub tokens : All TokenFits (resultTokens x)
+  pub cells : All CellFits (resultCells x)
+  pub room : length (resultTokens x) ≤ capacity
   pub cellCount : CellCount x count
 
 -- of every run, where graph and inputs are bytes

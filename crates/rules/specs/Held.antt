@@ -103,7 +103,7 @@ FreedByClosing = (g : List Instruction) (k : ℕ) (s x : State Tag ℤ) (a : Act
     → (j : ℕ) × (0 < pendingAt g (a .tag .path) j (s .tokens)) × (pendingAt g (a .tag .path) j (x .tokens) ≡ 0)
 
 -- and one that was free is held only if the firing was of an ENTER (code 8) and sent into its path
-pub record Entered (g : List Instruction) (s : State Tag ℤ) (τ : Tag) (x : State Tag ℤ) (path : Path) : Type 0 where
+pub record EnteredHere (g : List Instruction) (s : State Tag ℤ) (τ : Tag) (x : State Tag ℤ) (path : Path) : Type 0 where
   pub enter : instructionAt g (τ .instruction) .code ≡ 8
   pub key : Key Tag
   pub content : Content ℤ
@@ -113,7 +113,7 @@ pub record Entered (g : List Instruction) (s : State Tag ℤ) (τ : Tag) (x : St
 abbrev pub HeldAnew : Type 0
 HeldAnew = (graph : List ℕ) → checkGraph graph ≡ Passed → (table : List NamedArray) (capacity cells k : ℕ) (s : State Tag ℤ) → Good (machineOf (graphOf graph) table capacity cells) s
     → (τ : Tag) → PathFits (τ .path) → τ .iteration < 256 → (x : State Tag ℤ) → fire (machineOf (graphOf graph) table capacity cells) s τ ≡ fired x
-    → (a : Activity Tag) → heldIn (graphOf graph) k s a ≡ false → heldIn (graphOf graph) k x a ≡ true → Entered (graphOf graph) s τ x (a .tag .path)
+    → (a : Activity Tag) → heldIn (graphOf graph) k s a ≡ false → heldIn (graphOf graph) k x a ≡ true → EnteredHere (graphOf graph) s τ x (a .tag .path)
 
 -- an activity at another instruction is never held
 abbrev pub OnlyNextHeld : Type 0

@@ -5,6 +5,8 @@ pub mod InstructionSet
 pub mod Run
 pub mod Runs
 pub mod Computed
+pub mod CaseRows
+pub mod RequestCases
 pub mod Cases
 pub mod Orders
 pub mod Invariants

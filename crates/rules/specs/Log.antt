@@ -14,7 +14,7 @@ use Rattle.buffer.specs.Rows.{rows, writtenOver}
 use Rattle.record.specs.GraphRecords.{graphOf}
 use Rattle.record.specs.Arrays.{arraysOf}
 use Rattle.record.specs.TokensAndTags.{mostTokens, capacityOf}
-use Rattle.record.specs.Logs.{encode, nameOf}
+use Rattle.record.specs.Logs.{encodeActivity, nameOf}
 use Rattle.record.specs.Widths.{cellWidth, logWidth}
 use Rattle.machine.specs.Machine.{End, byPicks, run}
 use Rattle.machine.specs.Orders as Ends
@@ -26,12 +26,12 @@ use Rattle.rules.specs.declared.answer.Answer.{Answer}
 use Rattle.rules.specs.declared.answer.Checked.{Checked}
 use Rattle.rules.specs.declared.answer.Checked.the-variants.{Passed, Failed}
 use Rattle.rules.specs.Answer.{valuesOf}
-use Rattle.rules.specs.Check.{demand, _andThen_, checkGraph, checkStores, checkArrays, checkInputs, check}
+use Rattle.rules.specs.Check.{demand, _andThen_, checkStores, checkInputs, check, checkWith}
 use Rattle.rules.specs.InstructionSet.{machineOf}
 use Rattle.rules.specs.Run.{firstState, picksOf, Result, refusedAtOnce, ranTo, unlessFailed, result, answer, ledgerAfter, cellsAfter}
-use Rattle.rules.specs.Orders.{Quiescent}
+use Rattle.rules.specs.Orders.{QuiescentResult}
 
--- ---- records (`encode`, `nameOf`: specs/Logs of `record`)
+-- ---- records (`encodeActivity`, `nameOf`: specs/Logs of `record`)
 
 -- what all records of a log name, with a last one that is not whole
 unfoldable pub namesIn : List ℕ → List (Option Tag)
@@ -49,10 +49,9 @@ checkLogStores inputs picks ledger cells budget lent =
 
 unfoldable pub checkLogged : (graph arrays inputs picks : List ℕ) → (budget ledger cells lent : ℕ) → Checked
 checkLogged graph arrays inputs picks budget ledger cells lent =
-    checkGraph graph
-    andThen checkLogStores (length inputs) (length picks) ledger cells budget lent
-    andThen checkArrays (graphOf graph) (cells / cellWidth) arrays
-    andThen checkInputs (graphOf graph) (capacityOf ledger) inputs
+    checkWith graph arrays (cells / cellWidth)
+    (checkLogStores (length inputs) (length picks) ledger cells budget lent)
+    (checkInputs (graphOf graph) (capacityOf ledger) inputs)
 
 -- a run's result, and the tags of its firings in turn
 pub record LogResult : Type 0 where
@@ -71,7 +70,7 @@ logged graph arrays inputs picks budget ledger cells lent =
     logUnlessFailed (checkLogged graph arrays inputs picks budget ledger cells lent) (run M budget (picksOf picks) s) (logOf M (byPicks M) budget (picksOf picks) s)
 
 unfoldable pub logAfter : LogResult → (lent : List ℕ) → List ℕ
-logAfter x lent = writtenOver encode (x .log) lent
+logAfter x lent = writtenOver encodeActivity (x .log) lent
 
 -- what such a run promises: its answer, also in 01's numbers, and the end contents of ledger, cells and log
 pub record LogRan (x : LogResult) (r : Answer) (ledger ledger′ cells cells′ log log′ : List ℕ) : Type 0 where
@@ -105,10 +104,10 @@ NotBy7 (ranTo e) = Unit {0}
 
 abbrev pub InFiring : Result → Type 0
 InFiring (refusedAtOnce r place) = ⊥
-InFiring (ranTo e) = Ends.Refused (e .outcome)
+InFiring (ranTo e) = Ends.RefusedEnd (e .outcome)
 
 -- "the same ledger, cells and counts in every byte"; the answer too, unless a firing was refused
-pub record Again (x y : Result) : Type 0 where
+pub record AgainOfResults (x y : Result) : Type 0 where
   pub ledgerLeft : (lent : List ℕ) → ledgerAfter y lent ≡ ledgerAfter x lent
   pub cellsLeft : (lent : List ℕ) → cellsAfter y lent ≡ cellsAfter x lent
   pub firings : answer y .firings ≡ answer x .firings
@@ -116,15 +115,15 @@ pub record Again (x y : Result) : Type 0 where
   pub answered : ¬ (InFiring x) → answer y ≡ answer x
 
 -- "Replaying the log of a run not refused by 7, buffers lent alike": the log of a run is its first records, as many as it has firings
-abbrev pub LogReplays : Type 0
-LogReplays = (graph arrays inputs picks : List ℕ) (budget ledger cells : ℕ) (lent : List ℕ) → Bytes graph → Bytes inputs
+abbrev pub LogReplaysOfResults : Type 0
+LogReplaysOfResults = (graph arrays inputs picks : List ℕ) (budget ledger cells : ℕ) (lent : List ℕ) → Bytes graph → Bytes inputs
     → NotBy7 (logged graph arrays inputs picks budget ledger cells (length lent) .result)
-    → Again (logged graph arrays inputs picks budget ledger cells (length lent) .result)
+    → AgainOfResults (logged graph arrays inputs picks budget ledger cells (length lent) .result)
     (replayed graph arrays inputs (take (answer (logged graph arrays inputs picks budget ledger cells (length lent) .result) .firings * logWidth) (logAfter (logged graph arrays inputs picks budget ledger cells (length lent)) lent)) ledger cells)
 
 -- "The logs of two completed runs of one graph with equal inputs, capacity and cell count hold the same records, each once.": and of two that hang
-abbrev pub LogsAgree : Type 0
-LogsAgree = (graph arrays inputs picks picks′ : List ℕ) (budget budget′ ledger ledger′ cells cells′ lent lent′ : ℕ)
+abbrev pub LogsAgreeOfResults : Type 0
+LogsAgreeOfResults = (graph arrays inputs picks picks′ : List ℕ) (budget budget′ ledger ledger′ cells cells′ lent lent′ : ℕ)
     → capacityOf ledger ≡ capacityOf ledger′ → cells / cellWidth ≡ cells′ / cellWidth
-    → Quiescent (logged graph arrays inputs picks budget ledger cells lent .result) → Quiescent (logged graph arrays inputs picks′ budget′ ledger′ cells′ lent′ .result)
+    → QuiescentResult (logged graph arrays inputs picks budget ledger cells lent .result) → QuiescentResult (logged graph arrays inputs picks′ budget′ ledger′ cells′ lent′ .result)
     → List·Permᴰ (logged graph arrays inputs picks budget ledger cells lent .log) (logged graph arrays inputs picks′ budget′ ledger′ cells′ lent′ .log) × Once (logged graph arrays inputs picks budget ledger cells lent .log)

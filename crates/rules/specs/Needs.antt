@@ -27,7 +27,7 @@ use Rattle.rules.specs.Answer.{valuesNeeded}
 use Rattle.rules.specs.Check.{demand, _andThen_, any, inTurn, instructionAt, operandsAt, checkGraph, checkStores, goodInput, checkInputs}
 use Rattle.rules.specs.InstructionSet.{machineOf}
 use Rattle.rules.specs.Run.{firstState, result, answer}
-use Rattle.rules.specs.Orders.{Quiescent}
+use Rattle.rules.specs.Orders.{QuiescentResult}
 
 -- ---- over the numbers below n
 
@@ -86,12 +86,12 @@ ReachedLeast = (inputs : List Token) (g : List Instruction) → Least inputs g (
 -- ---- "The bounds are the number of reached instructions that can fire, and inputs plus their outputs."
 
 -- "OUT, a result; never fires" (code 3)
-unfoldable pub firingsOf : Instruction → ℕ
-firingsOf r = cond (eqb (r .code) 3) 0 1
+unfoldable pub firingsNeeded : Instruction → ℕ
+firingsNeeded r = cond (eqb (r .code) 3) 0 1
 
 -- "a SWITCH reaches both sides and counts one output" (code 5); an OUT has no destinations
-unfoldable pub outputsOf : Instruction → ℕ
-outputsOf r = cond (eqb (r .code) 5) 1 (length (destinations r))
+unfoldable pub outputsNeeded : Instruction → ℕ
+outputsNeeded r = cond (eqb (r .code) 5) 1 (length (destinations r))
 
 -- over the reached instructions
 unfoldable pub total : List Token → List Instruction → (Instruction → ℕ) → ℕ
@@ -112,17 +112,17 @@ checkNeeds graph inputs =
     andThen inTurn (λ i r. demand (loopFree r) NotLoopFree i) 0 (graphOf graph)
 
 abbrev pub inputsOf : List ℕ → List Token
-inputsOf inputs = allRows tokenWidth Tokens.decode inputs
+inputsOf inputs = allRows tokenWidth Tokens.decodeToken inputs
 
-abbrev pub unlessRefused : Checked → Needs → Needs
-unlessRefused Passed x = x
-unlessRefused (Failed r p) x = Refused r p
+abbrev pub needsUnlessRefused : Checked → Needs → Needs
+needsUnlessRefused Passed x = x
+needsUnlessRefused (Failed r p) x = Refused r p
 
 unfoldable pub needs : (graph inputs : List ℕ) → Needs
 needs graph inputs =
     let ts = inputsOf inputs in
     let g = graphOf graph in
-    unlessRefused (checkNeeds graph inputs) (AtMost (total ts g firingsOf) (length ts + total ts g outputsOf))
+    needsUnlessRefused (checkNeeds graph inputs) (AtMost (total ts g firingsNeeded) (length ts + total ts g outputsNeeded))
 
 -- what `bounds` promises: its answer, also in 01's numbers
 pub record Bounded (x r : Needs) : Type 0 where
@@ -157,5 +157,5 @@ NeverExceeded = (graph arrays inputs picks : List ℕ) (budget ledger cells firi
 -- "and both are exact where no SWITCH or FETCH is reached"
 abbrev pub Exact : Type 0
 Exact = (graph arrays inputs picks : List ℕ) (budget ledger cells firings tokens : ℕ) → needs graph inputs ≡ AtMost firings tokens → NoSwitchOrFetch graph inputs
-    → Quiescent (result graph arrays inputs picks budget ledger cells)
+    → QuiescentResult (result graph arrays inputs picks budget ledger cells)
     → (answer (result graph arrays inputs picks budget ledger cells) .firings ≡ firings) × (answer (result graph arrays inputs picks budget ledger cells) .tokens ≡ tokens)

@@ -18,35 +18,35 @@ use Rattle.rules.specs.Run.{tokenRecord, cellRecord, Result, refusedAtOn
 
 -- ---- how a run ended
 
-abbrev pub Completed : Result → Type 0
-Completed (refusedAtOnce r p) = ⊥
-Completed (ranTo e) = Ends.Completed (e .outcome)
+abbrev pub CompletedResult : Result → Type 0
+CompletedResult (refusedAtOnce r p) = ⊥
+CompletedResult (ranTo e) = Ends.CompletedEnd (e .outcome)
 
-abbrev pub Hung : Result → Type 0
-Hung (refusedAtOnce r p) = ⊥
-Hung (ranTo e) = Ends.Hung (e .outcome)
+abbrev pub HungResult : Result → Type 0
+HungResult (refusedAtOnce r p) = ⊥
+HungResult (ranTo e) = Ends.HungEnd (e .outcome)
 
 -- completed or hung: nothing is enabled
-abbrev pub Quiescent : Result → Type 0
-Quiescent (refusedAtOnce r p) = ⊥
-Quiescent (ranTo e) = Ends.Quiescent (e .outcome)
+abbrev pub QuiescentResult : Result → Type 0
+QuiescentResult (refusedAtOnce r p) = ⊥
+QuiescentResult (ranTo e) = Ends.QuiescentEnd (e .outcome)
 
-abbrev pub Spent : Result → Type 0
-Spent (refusedAtOnce r p) = ⊥
-Spent (ranTo e) = Ends.BudgetSpent (e .outcome)
+abbrev pub SpentResult : Result → Type 0
+SpentResult (refusedAtOnce r p) = ⊥
+SpentResult (ranTo e) = Ends.BudgetSpent (e .outcome)
 
-abbrev pub Refused : Result → Type 0
-Refused (refusedAtOnce r p) = Unit {0}
-Refused (ranTo e) = Ends.Refused (e .outcome)
+abbrev pub RefusedResult : Result → Type 0
+RefusedResult (refusedAtOnce r p) = Unit {0}
+RefusedResult (ranTo e) = Ends.RefusedEnd (e .outcome)
 
 -- the tokens of the ledger in order of arrival, and the cells, as their records
-abbrev pub tokensOf : Result → List Token
-tokensOf (refusedAtOnce r p) = []
-tokensOf (ranTo e) = map tokenRecord (e .state .tokens)
+abbrev pub resultTokens : Result → List Token
+resultTokens (refusedAtOnce r p) = []
+resultTokens (ranTo e) = map tokenRecord (e .state .tokens)
 
-abbrev pub cellsOf : Result → List Cell
-cellsOf (refusedAtOnce r p) = []
-cellsOf (ranTo e) = map cellRecord (e .state .cells)
+abbrev pub resultCells : Result → List Cell
+resultCells (refusedAtOnce r p) = []
+resultCells (ranTo e) = map cellRecord (e .state .cells)
 
 -- "each once": no two tokens stand at one port of one tag
 abbrev pub EachOnce : List Token → Type 0
@@ -56,25 +56,25 @@ EachOnce (t ∷ ts) = All (λ u. t .tag ≡ u .tag → t .port ≡ u .port → �
 -- ---- the claim
 
 -- of two runs that complete or hang
-pub record Alike (x y : Result) : Type 0 where
+pub record AlikeResults (x y : Result) : Type 0 where
   -- "the numbers of firings and of tokens are the same"
   pub firings : answer x .firings ≡ answer y .firings
   pub tokens : answer x .tokens ≡ answer y .tokens
   -- "the cells are equal"
-  pub cells : cellsOf x ≡ cellsOf y
+  pub cells : resultCells x ≡ resultCells y
   -- "both ledgers hold the same tokens, each once, in whatever order they came"
-  pub sameTokens : List·Permᴰ (tokensOf x) (tokensOf y)
-  pub eachOnce : EachOnce (tokensOf x)
+  pub sameTokens : List·Permᴰ (resultTokens x) (resultTokens y)
+  pub eachOnce : EachOnce (resultTokens x)
 
-pub record Agree (x y : Result) : Type 0 where
+pub record ResultsAgree (x y : Result) : Type 0 where
   -- "one run completes exactly when the other does"; R-2: "completed or hung alike in all, with everything else equal"
-  pub completes : Completed x ↔ Completed y
-  pub hangs : Hung x ↔ Hung y
-  pub alike : Quiescent x → Alike x y
+  pub completes : CompletedResult x ↔ CompletedResult y
+  pub hangs : HungResult x ↔ HungResult y
+  pub alike : QuiescentResult x → AlikeResults x y
   -- "If one order is refused, every order is"
-  pub refused : Refused x ↔ Refused y
+  pub refused : RefusedResult x ↔ RefusedResult y
   -- a budget of 2,048 is never spent
-  pub neverSpent : ¬ (Spent x)
+  pub neverSpent : ¬ (SpentResult x)
 
 -- demand 3: "picks, ledger and cells of allowed length", the last two by their lengths in bytes
 pub record Allowed (picks : List ℕ) (ledger cells : ℕ) : Type 0 where
@@ -88,22 +88,22 @@ abbrev pub NotForOtherBuffers : (graph inputs picks : List ℕ) (ledger cells : 
 NotForOtherBuffers graph inputs picks ledger cells = checkGraph graph ≡ Passed → whole tokenWidth mostTokens (length inputs) ≡ true → Allowed picks ledger cells
 
 -- R-10: "Orders are compared [..] under one table." "Whatever graph and inputs are lent, and whichever two lists of picks order the firings, with equal ledger capacity and cell count, a budget of 2,048"
-abbrev pub AnyTwoOrders : Type 0
-AnyTwoOrders = (graph arrays inputs picks picks′ : List ℕ) (ledger ledger′ cells cells′ : ℕ)
+abbrev pub AnyTwoOrdersOfResults : Type 0
+AnyTwoOrdersOfResults = (graph arrays inputs picks picks′ : List ℕ) (ledger ledger′ cells cells′ : ℕ)
     → NotForOtherBuffers graph inputs picks ledger cells → NotForOtherBuffers graph inputs picks′ ledger′ cells′
     → capacityOf ledger ≡ capacityOf ledger′ → cells / cellWidth ≡ cells′ / cellWidth
-    → Agree (result graph arrays inputs picks 2048 ledger cells) (result graph arrays inputs picks′ 2048 ledger′ cells′)
+    → ResultsAgree (result graph arrays inputs picks 2048 ledger cells) (result graph arrays inputs picks′ 2048 ledger′ cells′)
 
 -- ---- two budgets
 
 -- both complete or both hang, and they are alike
-pub record EndsAlike (x y : Result) : Type 0 where
+pub record ResultsEndAlike (x y : Result) : Type 0 where
   pub outcomes : answer x .outcome ≡ answer y .outcome
-  pub alike : Alike x y
+  pub alike : AlikeResults x y
 
 -- demand 3 with any two budgets that are each enough: if a run completes or hangs, so does every order that may do as many firings
-abbrev pub AnyTwoBudgets : Type 0
-AnyTwoBudgets = (graph arrays inputs picks picks′ : List ℕ) (budget budget′ ledger ledger′ cells cells′ : ℕ) → Quiescent (result graph arrays inputs picks budget ledger cells)
+abbrev pub AnyTwoBudgetsOfResults : Type 0
+AnyTwoBudgetsOfResults = (graph arrays inputs picks picks′ : List ℕ) (budget budget′ ledger ledger′ cells cells′ : ℕ) → QuiescentResult (result graph arrays inputs picks budget ledger cells)
     → Allowed picks′ ledger′ cells′ → capacityOf ledger ≡ capacityOf ledger′ → cells / cellWidth ≡ cells′ / cellWidth
     → answer (result graph arrays inputs picks budget ledger cells) .firings ≤ budget′
-    → EndsAlike (result graph arrays inputs picks budget ledger cells) (result graph arrays inputs picks′ budget′ ledger′ cells′)
+    → ResultsEndAlike (result graph arrays inputs picks budget ledger cells) (result graph arrays inputs picks′ budget′ ledger′ cells′)

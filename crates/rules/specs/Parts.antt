@@ -15,8 +15,8 @@ use Rattle.rules.specs.declared.answer.Checked.the-variants.{Passed}
 use Rattle.rules.specs.Check.{checkGraph}
 use Rattle.rules.specs.Run.{Result, refusedAtOnce, ranTo, result, answer, ledgerAfter, cellsAfter}
 use Rattle.rules.specs.Runs.{LeftByRun}
-use Rattle.rules.specs.Orders.{Agree, Allowed}
-use Rattle.rules.specs.Saved.{taken, carried}
+use Rattle.rules.specs.Orders.{ResultsAgree, Allowed}
+use Rattle.rules.specs.Saved.{stateTaken, carried}
 
 -- ---- a run in parts
 
@@ -28,17 +28,17 @@ abbrev pub nextPart : (graph arrays picks : List ℕ) → (budget : ℕ) → Lef
 nextPart graph arrays picks budget x = leftBy (carried graph arrays picks budget (x .ledger) (x .cells) (x .answer .firings) (x .answer .tokens)) (x .ledger) (x .cells)
 
 -- a refused part is no cut by a budget: none follows it
-abbrev pub unlessRefused : {A : Type 0} → Outcome → A → A → A
-unlessRefused Outcomes.Completed a b = b
-unlessRefused Outcomes.Hung a b = b
-unlessRefused Outcomes.Spent a b = b
-unlessRefused (Outcomes.Refused r place) a b = a
+abbrev pub followedUnlessRefused : {A : Type 0} → Outcome → A → A → A
+followedUnlessRefused Outcomes.Completed a b = b
+followedUnlessRefused Outcomes.Hung a b = b
+followedUnlessRefused Outcomes.Spent a b = b
+followedUnlessRefused (Outcomes.Refused r place) a b = a
 
 -- the parts that follow, by their budgets: "its picks divided alike", to each part those of its own firings
 abbrev pub laterParts : (graph arrays : List ℕ) → (budgets : List ℕ) → (picks : List ℕ) → LeftByRun → LeftByRun
 laterParts graph arrays [] picks x = x
 laterParts graph arrays (b ∷ bs) picks x =
-    unlessRefused (x .answer .outcome) x (laterParts graph arrays bs (drop (b * pickWidth) picks) (nextPart graph arrays (take (b * pickWidth) picks) b x))
+    followedUnlessRefused (x .answer .outcome) x (laterParts graph arrays bs (drop (b * pickWidth) picks) (nextPart graph arrays (take (b * pickWidth) picks) b x))
 
 -- "A run cut by budgets at any firings, its picks divided alike and all else equal, ends as the uncut run in every byte of answer, ledger and cells.", "and the uncut budget
 -- is their sum", which may be any number here
@@ -61,7 +61,7 @@ Began (refusedAtOnce r p) = ⊥
 Began (ranTo e) = Unit {0}
 
 abbrev pub TakenAfter : (graph : List ℕ) → LeftByRun → Type 0
-TakenAfter graph x = taken graph (x .ledger) (x .cells) (x .answer .firings) (x .answer .tokens) ≡ true
+TakenAfter graph x = stateTaken graph (x .ledger) (x .cells) (x .answer .firings) (x .answer .tokens) ≡ true
 
 -- whatever its answer is: completed, hung, spent, or refused in a firing
 pub record LeavesTaken : Type 0 where
@@ -78,4 +78,4 @@ abbrev pub AnyTwoOrdersFrom : Type 0
 AnyTwoOrdersFrom = (graph arrays picks picks′ ledger ledger′ cells : List ℕ) (firings tokens : ℕ)
     → (checkGraph graph ≡ Passed → Allowed picks (length ledger) (length cells)) → (checkGraph graph ≡ Passed → Allowed picks′ (length ledger′) (length cells))
     → length ledger ≡ length ledger′ → take (tokens * tokenWidth) ledger ≡ take (tokens * tokenWidth) ledger′
-    → Agree (carried graph arrays picks 2048 ledger cells firings tokens) (carried graph arrays picks′ 2048 ledger′ cells firings tokens)
+    → ResultsAgree (carried graph arrays picks 2048 ledger cells firings tokens) (carried graph arrays picks′ 2048 ledger′ cells firings tokens)

@@ -12,7 +12,7 @@ use Rattle.buffer.specs.Rows.{writtenOver}
 use Rattle.record.specs.GraphRecords.{graphOf}
 use Rattle.record.specs.Arrays.{arraysOf}
 use Rattle.record.specs.TokensAndTags.{mostTokens, capacityOf}
-use Rattle.record.specs.Widths.{cellWidth}
+use Rattle.record.specs.Widths.{cellWidth, stepWidth}
 use Rattle.machine.specs.Steps.{StepRecord, Profile, firingsIn, EachFires, profile}
 use Rattle.rules.specs.declared.answer.Refusal.{Refusal}
 use Rattle.rules.specs.declared.answer.Refusal.the-variants.{BadStore, ProfileFull}
@@ -21,16 +21,12 @@ use Rattle.rules.specs.declared.answer.Profiled.{Profiled}
 use Rattle.rules.specs.declared.answer.Checked.{Checked}
 use Rattle.rules.specs.declared.answer.Checked.the-variants.{Passed, Failed}
 use Rattle.rules.specs.Answer.{valuesOf}
-use Rattle.rules.specs.Check.{demand, _andThen_, checkGraph, checkStores, checkArrays, checkInputs}
+use Rattle.rules.specs.Check.{demand, _andThen_, checkStores, checkInputs, checkWith}
 use Rattle.rules.specs.InstructionSet.{machineOf}
 use Rattle.rules.specs.Run.{firstState, Result, refusedAtOnce, ranTo, result, answer, ledgerAfter, cellsAfter}
-use Rattle.rules.specs.Orders.{Quiescent, Refused, Alike, Allowed}
+use Rattle.rules.specs.Orders.{QuiescentResult, RefusedResult, AlikeResults, Allowed}
 
 -- ---- a profile
-
--- "one 4-byte record"
-abbrev pub stepWidth : ℕ
-stepWidth = 4
 
 -- "It takes no picks"; "A profile not in whole records is refused by 7."
 unfoldable pub checkProfileStores : (inputs ledger cells profile : ℕ) → Checked
@@ -38,10 +34,9 @@ checkProfileStores inputs ledger cells profile = checkStores inputs 0 ledger cel
 
 unfoldable pub checkProfile : (graph arrays inputs : List ℕ) → (ledger cells profile : ℕ) → Checked
 checkProfile graph arrays inputs ledger cells profile =
-    checkGraph graph
-    andThen checkProfileStores (length inputs) ledger cells profile
-    andThen checkArrays (graphOf graph) (cells / cellWidth) arrays
-    andThen checkInputs (graphOf graph) (capacityOf ledger) inputs
+    checkWith graph arrays (cells / cellWidth)
+    (checkProfileStores (length inputs) ledger cells profile)
+    (checkInputs (graphOf graph) (capacityOf ledger) inputs)
 
 -- a result as a run has it, and the records of the whole steps
 pub record ProfileResult : Type 0 where
@@ -65,11 +60,11 @@ unfoldable pub profileAnswer : ProfileResult → Profiled
 profileAnswer x = record { answer = answer (x .result); records = length (x .records) }
 
 -- "one 4-byte record: firings in it, and live plus deferred tokens after it, 16 bits each"
-unfoldable pub encode : StepRecord → List ℕ
-encode r = bytes16 (r .firings) ++ bytes16 (r .unspent)
+unfoldable pub encodeStep : StepRecord → List ℕ
+encodeStep r = bytes16 (r .firings) ++ bytes16 (r .unspent)
 
 unfoldable pub profileAfter : ProfileResult → (lent : List ℕ) → List ℕ
-profileAfter x lent = writtenOver encode (x .records) lent
+profileAfter x lent = writtenOver encodeStep (x .records) lent
 
 -- what a profile promises: its answer, also in 01's numbers, and the end contents of ledger, cells and profile
 pub record ProfileRan (x : ProfileResult) (r : Profiled) (ledger ledger′ cells cells′ profile profile′ : List ℕ) : Type 0 where
@@ -108,16 +103,16 @@ NeverFull = (graph arrays inputs : List ℕ) (ledger cells lent place : ℕ) →
 
 -- ---- "if it isn't refused, its end must equal every order's as demand 3 compares them"
 
-pub record EndsAs (x : ProfileResult) (y : Result) : Type 0 where
-  pub rests : Quiescent (x .result)
+pub record ProfileEndsAs (x : ProfileResult) (y : Result) : Type 0 where
+  pub rests : QuiescentResult (x .result)
   -- completed or hung
   pub outcome : answer (x .result) .outcome ≡ answer y .outcome
-  pub alike : Alike (x .result) y
+  pub alike : AlikeResults (x .result) y
   -- and its records tell its firings, each one at least
   pub firings : answer (x .result) .firings ≡ firingsIn (x .records)
   pub eachFires : EachFires (x .records)
 
-abbrev pub AsEveryOrder : Type 0
-AsEveryOrder = (graph arrays inputs picks : List ℕ) (ledger ledger′ cells cells′ lent : ℕ) → ¬ (Refused (profiled graph arrays inputs ledger cells lent .result))
+abbrev pub ProfileAsEveryOrder : Type 0
+ProfileAsEveryOrder = (graph arrays inputs picks : List ℕ) (ledger ledger′ cells cells′ lent : ℕ) → ¬ (RefusedResult (profiled graph arrays inputs ledger cells lent .result))
     → Allowed picks ledger′ cells′ → capacityOf ledger ≡ capacityOf ledger′ → cells / cellWidth ≡ cells′ / cellWidth
-    → EndsAs (profiled graph arrays inputs ledger cells lent) (result graph arrays inputs picks 2048 ledger′ cells′)
+    → ProfileEndsAs (profiled graph arrays inputs ledger cells lent) (result graph arrays inputs picks 2048 ledger′ cells′)

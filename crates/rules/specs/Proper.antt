@@ -13,7 +13,7 @@ use Rattle.record.specs.GraphRecords.{graphOf}
 use Rattle.rules.specs.Check.{instructionAt}
 use Rattle.rules.specs.InstructionSet.{isResult}
 use Rattle.rules.specs.Run.{result}
-use Rattle.rules.specs.Orders.{Completed, Quiescent, tokensOf}
+use Rattle.rules.specs.Orders.{CompletedResult, QuiescentResult, resultTokens}
 
 -- "every live token is at an OUT and none is deferred"; a token at a LEAVE under path 0 is a result too
 abbrev pub ProperContent : (atResult : Bool) → Content → Type 0
@@ -26,5 +26,5 @@ ProperToken g t = ProperContent (isResult (instructionAt g (t .tag .instruction)
 
 -- "a run with nothing enabled is completed only if" all are proper. "Otherwise the answer is hung"
 abbrev pub CompletedExactly : Type 0
-CompletedExactly = (graph arrays inputs picks : List ℕ) (budget ledger cells : ℕ) → Quiescent (result graph arrays inputs picks budget ledger cells)
-    → Completed (result graph arrays inputs picks budget ledger cells) ↔ All (ProperToken (graphOf graph)) (tokensOf (result graph arrays inputs picks budget ledger cells))
+CompletedExactly = (graph arrays inputs picks : List ℕ) (budget ledger cells : ℕ) → QuiescentResult (result graph arrays inputs picks budget ledger cells)
+    → CompletedResult (result graph arrays inputs picks budget ledger cells) ↔ All (ProperToken (graphOf graph)) (resultTokens (result graph arrays inputs picks budget ledger cells))

@@ -10,7 +10,7 @@ use Rattle.arithmetic.specs.declared.Range.{Range}
 use Rattle.machine.specs.Machine.{Content, live, spent, deferred, Token, Cell, absent, waiting, present}
 use Rattle.rules.specs.Answer.{Values, valuesOf}
 use Rattle.rules.specs.RangeRun.{encodeRange, encodeRangeCell, RangeResult, refusedAtOnce, ranTo, rangeResult, rangeAnswer}
-use Rattle.rules.specs.Cases.{to0, to1, to2, key, values, completed, hung}
+use Rattle.rules.specs.CaseRows.{to0, to1, to2, key, values, completed, hung}
 
 abbrev between : ℤ → ℤ → Range
 between l h = record { low = l; high = h }
@@ -32,8 +32,8 @@ pub record RangeRecord : Type 0 where
 abbrev atThree : List ℕ
 atThree = 0 ∷ 0 ∷ 0 ∷ 0 ∷ 0 ∷ 0 ∷ 0 ∷ 0 ∷ 0 ∷ 0 ∷ 0 ∷ 0 ∷ 0 ∷ 0 ∷ 0 ∷ 0 ∷ 0 ∷ 1 ∷ 3 ∷ 0 ∷ []
 
-abbrev pub records : List RangeRecord
-records =
+abbrev pub rangeRecords : List RangeRecord
+rangeRecords =
     record { written = encodeRange (rangeRoot 3 1 (live (between (pos 5) (pos 258)))); bytes = atThree ++ 5 ∷ 0 ∷ 0 ∷ 0 ∷ 0 ∷ 0 ∷ 0 ∷ 0 ∷ 2 ∷ 1 ∷ 0 ∷ 0 ∷ [] }
     ∷ record { written = encodeRange (rangeRoot 3 1 (spent (between (negsuc 1) (pos 7)))); bytes = atThree ++ 254 ∷ 255 ∷ 255 ∷ 255 ∷ 1 ∷ 0 ∷ 0 ∷ 0 ∷ 7 ∷ 0 ∷ 0 ∷ 0 ∷ [] }
     ∷ record { written = encodeRange (rangeRoot 3 1 (deferred 258)); bytes = atThree ++ 2 ∷ 1 ∷ 0 ∷ 0 ∷ 2 ∷ 0 ∷ 0 ∷ 0 ∷ 2 ∷ 1 ∷ 0 ∷ 0 ∷ [] }
@@ -56,23 +56,23 @@ pub record RangeCase : Type 0 where
   pub tokens : List (Token Tag Range)
   pub left : List (Cell Range)
 
-pub data Seen : Type 0 where
-  ran : Values → List (Token Tag Range) → List (Cell Range) → Seen
+pub data SeenRange : Type 0 where
+  ran : Values → List (Token Tag Range) → List (Cell Range) → SeenRange
 
-unfoldable pub seenIn : RangeResult → Seen
-seenIn (refusedAtOnce r p) = ran (valuesOf (rangeAnswer (refusedAtOnce r p))) [] []
-seenIn (ranTo e) = ran (valuesOf (rangeAnswer (ranTo e))) (e .state .tokens) (e .state .cells)
+unfoldable pub seenInRanges : RangeResult → SeenRange
+seenInRanges (refusedAtOnce r p) = ran (valuesOf (rangeAnswer (refusedAtOnce r p))) [] []
+seenInRanges (ranTo e) = ran (valuesOf (rangeAnswer (ranTo e))) (e .state .tokens) (e .state .cells)
 
 -- by the rules
-unfoldable pub seen : RangeCase → Seen
-seen c = seenIn (rangeResult (c .graph) (c .arrays) (c .inputs) (c .picks) 20 (c .bound) (8 * rangeTokenWidth) (rangeCellWidth * c .cells))
+unfoldable pub seenRange : RangeCase → SeenRange
+seenRange c = seenInRanges (rangeResult (c .graph) (c .arrays) (c .inputs) (c .picks) 20 (c .bound) (8 * rangeTokenWidth) (rangeCellWidth * c .cells))
 
 -- by the table
-unfoldable pub expected : RangeCase → Seen
-expected c = ran (c .answers) (c .tokens) (c .left)
+unfoldable pub expectedRange : RangeCase → SeenRange
+expectedRange c = ran (c .answers) (c .tokens) (c .left)
 
-abbrev pub cases : List RangeCase
-cases =
+abbrev pub rangeCases : List RangeCase
+rangeCases =
     -- a sum
     record {
       graph = to1 16 (pos 0) 0 1 ++ to0 3 (pos 0);

@@ -44,26 +44,26 @@ unfoldable pub sendNew : List Range → Option Range → List (Key Tag) → Step
 sendNew table (some r) keys = record { added = r ∷ []; asked = send (pos (length table)) keys }
 sendNew table none keys = asIs (refuse Refusals.OutOfRange)
 
-unfoldable pub stepOf : Operation → List Instruction → List NamedArray → (cells : ℕ) → List Range → Tag → Instruction → (a b : ℤ) → (keys : List (Key Tag)) → StepHere
-stepOf Operations.Copy g table cells t τ r a b keys = asIs (effectOf Operations.Copy g table cells τ r a b keys)
-stepOf Operations.Sink g table cells t τ r a b keys = asIs (effectOf Operations.Sink g table cells τ r a b keys)
-stepOf Operations.Out g table cells t τ r a b keys = asIs (effectOf Operations.Out g table cells τ r a b keys)
-stepOf Operations.Const g table cells t τ r a b keys = sendNew t (some (single (r .constant))) keys
-stepOf Operations.Switch g table cells t τ r a b keys = asIs (cond (isUndecided (meaning t b)) (refuse Refusals.Undecided) (effectOf Operations.Switch g table cells τ r a (meaning t b .low) keys))
-stepOf Operations.Gate g table cells t τ r a b keys = asIs (effectOf Operations.Gate g table cells τ r a b keys)
-stepOf Operations.Next g table cells t τ r a b keys = asIs (effectOf Operations.Next g table cells τ r a b keys)
-stepOf Operations.Enter g table cells t τ r a b keys = asIs (effectOf Operations.Enter g table cells τ r a b keys)
-stepOf Operations.Leave g table cells t τ r a b keys = asIs (effectOf Operations.Leave g table cells τ r a b keys)
-stepOf Operations.Fetch g table cells t τ r a b keys = asIs (cond (isSingle (meaning t a)) (effectOf Operations.Fetch g table cells τ r (meaning t a .low) b keys) (refuse Refusals.Undecided))
-stepOf Operations.Store g table cells t τ r a b keys = asIs (cond (isSingle (meaning t a)) (effectOf Operations.Store g table cells τ r (meaning t a .low) b keys) (refuse Refusals.Undecided))
-stepOf (Operations.OnTwo o) g table cells t τ r a b keys = sendNew t (rangeOf o (meaning t a) (meaning t b)) keys
-stepOf (Operations.OnConstant o) g table cells t τ r a b keys = sendNew t (rangeOf o (meaning t a) (single (r .constant))) keys
-stepOf Operations.Unknown g table cells t τ r a b keys = asIs (effectOf Operations.Unknown g table cells τ r a b keys)
+unfoldable pub rangeStep : Operation → List Instruction → List NamedArray → (cells : ℕ) → List Range → Tag → Instruction → (a b : ℤ) → (keys : List (Key Tag)) → StepHere
+rangeStep Operations.Copy g table cells t τ r a b keys = asIs (effectOf Operations.Copy g table cells τ r a b keys)
+rangeStep Operations.Sink g table cells t τ r a b keys = asIs (effectOf Operations.Sink g table cells τ r a b keys)
+rangeStep Operations.Out g table cells t τ r a b keys = asIs (effectOf Operations.Out g table cells τ r a b keys)
+rangeStep Operations.Const g table cells t τ r a b keys = sendNew t (some (single (r .constant))) keys
+rangeStep Operations.Switch g table cells t τ r a b keys = asIs (cond (isUndecided (meaning t b)) (refuse Refusals.Undecided) (effectOf Operations.Switch g table cells τ r a (meaning t b .low) keys))
+rangeStep Operations.Gate g table cells t τ r a b keys = asIs (effectOf Operations.Gate g table cells τ r a b keys)
+rangeStep Operations.Next g table cells t τ r a b keys = asIs (effectOf Operations.Next g table cells τ r a b keys)
+rangeStep Operations.Enter g table cells t τ r a b keys = asIs (effectOf Operations.Enter g table cells τ r a b keys)
+rangeStep Operations.Leave g table cells t τ r a b keys = asIs (effectOf Operations.Leave g table cells τ r a b keys)
+rangeStep Operations.Fetch g table cells t τ r a b keys = asIs (cond (isSingle (meaning t a)) (effectOf Operations.Fetch g table cells τ r (meaning t a .low) b keys) (refuse Refusals.Undecided))
+rangeStep Operations.Store g table cells t τ r a b keys = asIs (cond (isSingle (meaning t a)) (effectOf Operations.Store g table cells τ r (meaning t a .low) b keys) (refuse Refusals.Undecided))
+rangeStep (Operations.OnTwo o) g table cells t τ r a b keys = sendNew t (rangeOf o (meaning t a) (meaning t b)) keys
+rangeStep (Operations.OnConstant o) g table cells t τ r a b keys = sendNew t (rangeOf o (meaning t a) (single (r .constant))) keys
+rangeStep Operations.Unknown g table cells t τ r a b keys = asIs (effectOf Operations.Unknown g table cells τ r a b keys)
 
 unfoldable pub stepIn : List Instruction → List NamedArray → (cells : ℕ) → List Range → Tag → (a b : ℤ) → StepHere
 stepIn g table cells t τ a b =
     let r = instructionAt g (τ .instruction) in
-    stepOf (operationOf (r .code)) g table cells t τ r a b (allUnder τ r)
+    rangeStep (operationOf (r .code)) g table cells t τ r a b (allUnder τ r)
 
 -- ---- a run
 

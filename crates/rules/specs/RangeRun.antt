@@ -32,7 +32,7 @@ use Rattle.rules.specs.declared.answer.Answer.{Answer}
 use Rattle.rules.specs.declared.answer.Checked.{Checked}
 use Rattle.rules.specs.declared.answer.Checked.the-variants.{Passed, Failed}
 use Rattle.rules.specs.Answer.{valuesOf}
-use Rattle.rules.specs.Check.{demand, _andThen_, inTurn, checkGraph, checkArrays, goodInput, secondInput, mostCells}
+use Rattle.rules.specs.Check.{demand, _andThen_, inTurn, goodInput, secondInput, mostCells, checkWith}
 use Rattle.rules.specs.Run.{picksOf, outcomeOf}
 use Rattle.rules.specs.Held.{heldIn}
 use Rattle.rules.specs.Bounded.{andBound}
@@ -51,7 +51,7 @@ withHigh high (Deferred c) = deferred c
 
 unfoldable pub decodeRange : List ℕ → Token Tag Range
 decodeRange l =
-    let t = Tokens.decode l in
+    let t = Tokens.decodeToken l in
     record { key = record { tag = t .tag; port = t .port }; content = withHigh (signedOf (number32 l tokenWidth)) (t .content) }
 
 -- the plain record of the low value
@@ -69,13 +69,13 @@ highBits (spent r) = bitsOf (r .high)
 highBits (deferred c) = c
 
 unfoldable pub encodeRange : Token Tag Range → List ℕ
-encodeRange t = Tokens.encode (lowToken t) ++ bytes32 (highBits (t .content))
+encodeRange t = Tokens.encodeToken (lowToken t) ++ bytes32 (highBits (t .content))
 
 -- "The value is 0 until present.", the high one too
 unfoldable pub encodeRangeCell : Cell Range → List ℕ
-encodeRangeCell absent = Cells.encode Absent ++ bytes32 0
-encodeRangeCell waiting = Cells.encode Waiting ++ bytes32 0
-encodeRangeCell (present r) = Cells.encode (Present (r .low)) ++ bytes32 (bitsOf (r .high))
+encodeRangeCell absent = Cells.encodeCell Absent ++ bytes32 0
+encodeRangeCell waiting = Cells.encodeCell Waiting ++ bytes32 0
+encodeRangeCell (present r) = Cells.encodeCell (Present (r .low)) ++ bytes32 (bitsOf (r .high))
 
 abbrev pub rangeCapacityOf : (length : ℕ) → ℕ
 rangeCapacityOf n = n / rangeTokenWidth
@@ -92,7 +92,7 @@ isProperRange r = leZ (r .low) (r .high)
 -- 23: "also, after 6 of all inputs, an input whose low exceeds its high"
 unfoldable pub checkRangeInputs : List Instruction → (capacity : ℕ) → (inputs : List ℕ) → Checked
 checkRangeInputs g capacity inputs =
-    let ts = allRows rangeTokenWidth Tokens.decode inputs in
+    let ts = allRows rangeTokenWidth Tokens.decodeToken inputs in
     inTurn (λ i good. demand good BadInput i) 0 (allRows rangeTokenWidth (goodInput g) inputs)
     andThen inTurn (λ i r. demand (isProperRange r) Undecided i) 0 (allRows rangeTokenWidth rangeIn inputs)
     andThen demand (leb (length ts) capacity) LedgerFull capacity
@@ -101,10 +101,9 @@ checkRangeInputs g capacity inputs =
 -- 21 and 22 stand where they do for a run with a bound and a table
 unfoldable pub checkRanges : (graph arrays inputs picks : List ℕ) → (bound ledger cells : ℕ) → Checked
 checkRanges graph arrays inputs picks k ledger cells =
-    checkGraph graph
-    andThen andBound (checkRangeStores (length inputs) (length picks) ledger cells) k
-    andThen checkArrays (graphOf graph) (cells / rangeCellWidth) arrays
-    andThen checkRangeInputs (graphOf graph) (rangeCapacityOf ledger) inputs
+    checkWith graph arrays (cells / rangeCellWidth)
+    (andBound (checkRangeStores (length inputs) (length picks) ledger cells) k)
+    (checkRangeInputs (graphOf graph) (rangeCapacityOf ledger) inputs)
 
 -- ---- a run
 

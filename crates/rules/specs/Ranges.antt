@@ -18,8 +18,8 @@ use Rattle.arithmetic.specs.declared.Range.{Range}
 use Rattle.arithmetic.specs.Ranges.{Holds, single}
 use Rattle.machine.specs.Machine.{State, byPicks}
 use Rattle.machine.specs.Bounded.{runBounded}
-use Rattle.machine.specs.Orders.{Quiescent, Same}
-use Rattle.machine.specs.InStep.{Pairwise, RelatedState, EndsAlike, InStep}
+use Rattle.machine.specs.Orders.{QuiescentEnd, EndsAgree}
+use Rattle.machine.specs.InStep.{PlaceByPlace, RelatedState, RelatedEnds, InStep}
 use Rattle.rules.specs.Check.{mostCells}
 use Rattle.rules.specs.InstructionSet.{machineOf}
 use Rattle.rules.specs.Run as Plain
@@ -40,15 +40,15 @@ StatesInStep = (g : List Instruction) (table : List NamedArray) (capacity cells 
 
 -- ---- from single values
 
-abbrev pub Only : Range → ℤ → Type 0
-Only r v = r ≡ single v
+abbrev pub OnlyValue : Range → ℤ → Type 0
+OnlyValue r v = r ≡ single v
 
 -- a range run of single values ends as the plain run, whatever its outcome
 abbrev pub SinglesAlike : Type 0
-SinglesAlike = (g : List Instruction) (table : List NamedArray) (capacity cells k : ℕ) (s : State Tag Range) (u : State Tag ℤ) → RelatedState Only s u → (budget : ℕ) (picks : List ℕ)
+SinglesAlike = (g : List Instruction) (table : List NamedArray) (capacity cells k : ℕ) (s : State Tag Range) (u : State Tag ℤ) → RelatedState OnlyValue s u → (budget : ℕ) (picks : List ℕ)
     → let M = rangeMachineOf g table capacity cells in
     let N = machineOf g table capacity cells in
-    EndsAlike Only (runBounded M (heldIn g k) (byPicks M) budget picks 0 s) (runBounded N (heldIn g k) (byPicks N) budget picks 0 u)
+    RelatedEnds OnlyValue (runBounded M (heldIn g k) (byPicks M) budget picks 0 s) (runBounded N (heldIn g k) (byPicks N) budget picks 0 u)
 
 -- ---- from inputs
 
@@ -60,13 +60,13 @@ pub record ChosenFrom (range input : List ℕ) : Type 0 where
   pub value : Holds (rangeIn range) (signedOf (number32 input valueOffset))
 
 -- "choices of inputs within their ranges", both in whole records
-pub record Chosen (ranges inputs : List ℕ) : Type 0 where
+pub record ChosenInputs (ranges inputs : List ℕ) : Type 0 where
   pub wholeRanges : length ranges % rangeTokenWidth ≡ 0
   pub wholeInputs : length inputs % tokenWidth ≡ 0
-  pub each : Pairwise ChosenFrom (allRows rangeTokenWidth (λ l. l) ranges) (allRows tokenWidth (λ l. l) inputs)
+  pub each : PlaceByPlace ChosenFrom (allRows rangeTokenWidth (λ l. l) ranges) (allRows tokenWidth (λ l. l) inputs)
 
 -- "with equal capacity, cell count": ledgers and cells of as many records, by their lengths in bytes
-pub record AsMany (rangeLedger rangeCells ledger cells : ℕ) : Type 0 where
+pub record AsManyRecords (rangeLedger rangeCells ledger cells : ℕ) : Type 0 where
   pub wholeRangeLedger : whole rangeTokenWidth mostTokens rangeLedger ≡ true
   pub wholeRangeCells : whole rangeCellWidth mostCells rangeCells ≡ true
   pub wholeLedger : whole tokenWidth mostTokens ledger ≡ true
@@ -83,18 +83,18 @@ ResultsInStep (ranTo d) (Plain.ranTo e) = InStep Holds OfRanges d e
 
 -- so the plain run answers as the range run does, with the same number and place if refused, unless that is refused by 12 or 23 in a firing
 abbrev pub RunsInStep : Type 0
-RunsInStep = (graph arrays ranges inputs picks : List ℕ) (budget k rangeLedger rangeCells ledger cells : ℕ) → Chosen ranges inputs → AsMany rangeLedger rangeCells ledger cells
+RunsInStep = (graph arrays ranges inputs picks : List ℕ) (budget k rangeLedger rangeCells ledger cells : ℕ) → ChosenInputs ranges inputs → AsManyRecords rangeLedger rangeCells ledger cells
     → ResultsInStep (rangeResult graph arrays ranges picks budget k rangeLedger rangeCells) (bounded graph arrays inputs picks budget k ledger cells)
 
 -- of a range run that completes or hangs: the plain run completes or hangs as it does, with as many firings, and what it leaves is within
 abbrev pub Promised : RangeResult → Plain.Result → Type 0
 Promised (refusedAtOnce r p) y = Unit {0}
 Promised (ranTo d) (Plain.refusedAtOnce r p) = ⊥
-Promised (ranTo d) (Plain.ranTo e) = Quiescent (d .outcome) → EndsAlike Holds d e
+Promised (ranTo d) (Plain.ranTo e) = QuiescentEnd (d .outcome) → RelatedEnds Holds d e
 
 -- "and all else": the table of named arrays, the picks, the budget and the bound; bound 0 is none (`BoundZero` of Bounded)
 abbrev pub RangesPromise : Type 0
-RangesPromise = (graph arrays ranges inputs picks : List ℕ) (budget k rangeLedger rangeCells ledger cells : ℕ) → Chosen ranges inputs → AsMany rangeLedger rangeCells ledger cells
+RangesPromise = (graph arrays ranges inputs picks : List ℕ) (budget k rangeLedger rangeCells ledger cells : ℕ) → ChosenInputs ranges inputs → AsManyRecords rangeLedger rangeCells ledger cells
     → Promised (rangeResult graph arrays ranges picks budget k rangeLedger rangeCells) (bounded graph arrays inputs picks budget k ledger cells)
 
 -- ---- any two orders of range runs, without a bound
@@ -103,7 +103,7 @@ abbrev pub SameEnds : RangeResult → RangeResult → Type 0
 SameEnds (refusedAtOnce r p) (refusedAtOnce q o) = (r ≡ q) × (p ≡ o)
 SameEnds (refusedAtOnce r p) (ranTo e) = ⊥
 SameEnds (ranTo d) (refusedAtOnce q o) = ⊥
-SameEnds (ranTo d) (ranTo e) = Same d e
+SameEnds (ranTo d) (ranTo e) = EndsAgree d e
 
 abbrev pub AnyTwoRangeOrders : Type 0
 AnyTwoRangeOrders = (graph arrays ranges picks picks′ : List ℕ) (budget ledger cells : ℕ) → whole pickWidth mostTokens (length picks) ≡ true → whole pickWidth mostTokens (length picks′) ≡ true

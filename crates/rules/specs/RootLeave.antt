@@ -30,11 +30,11 @@ isRootLeave g τ = eqb (instructionAt g (τ .instruction) .code) 9 && isRoot (τ
 unfoldable pub arityBefore : List Instruction → Tag → ℕ
 arityBefore g τ = let r = instructionAt g (τ .instruction) in cond (eqb (r .code) 3) 0 (operandsOf (r .code))
 
-unfoldable pub effectBefore : Refusal → List Instruction → List NamedArray → (cells : ℕ) → Tag → (a b : ℤ) → EffectHere
-effectBefore word g table cells τ a b = cond (isRootLeave g τ) (refuse word) (effectIn g table cells τ a b)
+unfoldable pub effectAtRootLeave : Refusal → List Instruction → List NamedArray → (cells : ℕ) → Tag → (a b : ℤ) → EffectHere
+effectAtRootLeave word g table cells τ a b = cond (isRootLeave g τ) (refuse word) (effectIn g table cells τ a b)
 
-abbrev pub machineBefore : Refusal → List Instruction → List NamedArray → (capacity cells : ℕ) → Machine
-machineBefore word g table capacity cells = withInstructions (machineOf g table capacity cells) (arityBefore g) (effectBefore word g table cells)
+abbrev pub machineAtRootLeave : Refusal → List Instruction → List NamedArray → (capacity cells : ℕ) → Machine
+machineAtRootLeave word g table capacity cells = withInstructions (machineOf g table capacity cells) (arityBefore g) (effectAtRootLeave word g table cells)
 
 -- ---- the claim
 
@@ -46,6 +46,6 @@ NoneAtRootLeave g ts = All (λ t. isRootLeave g (t .key .tag) ≡ false) ts
 abbrev pub KeepsAnswer : Type 0
 KeepsAnswer = (graph inputs : List ℕ) (table : List NamedArray) (capacity cells : ℕ) → checkGraph graph ≡ Passed → checkInputs (graphOf graph) capacity inputs ≡ Passed
     → (word : Refusal) (budget : ℕ) (picks : List ℕ)
-    → NoneAtRootLeave (graphOf graph) (run (machineBefore word (graphOf graph) table capacity cells) budget picks (firstState inputs cells) .state .tokens)
+    → NoneAtRootLeave (graphOf graph) (run (machineAtRootLeave word (graphOf graph) table capacity cells) budget picks (firstState inputs cells) .state .tokens)
     ⊎ NoneAtRootLeave (graphOf graph) (run (machineOf (graphOf graph) table capacity cells) budget picks (firstState inputs cells) .state .tokens)
-    → run (machineOf (graphOf graph) table capacity cells) budget picks (firstState inputs cells) ≡ run (machineBefore word (graphOf graph) table capacity cells) budget picks (firstState inputs cells)
+    → run (machineOf (graphOf graph) table capacity cells) budget picks (firstState inputs cells) ≡ run (machineAtRootLeave word (graphOf graph) table capacity cells) budget picks (firstState inputs cells)

@@ -61,7 +61,7 @@ cellRecord (present v) = Present v
 
 -- "An accepted run first sets all cells absent and writes its inputs to the ledger."
 unfoldable pub firstState : (inputs : List ℕ) → (cells : ℕ) → State Tag ℤ
-firstState inputs n = record { tokens = map tokenHeld (allRows tokenWidth Tokens.decode inputs); cells = replicate n absent }
+firstState inputs n = record { tokens = map tokenHeld (allRows tokenWidth Tokens.decodeToken inputs); cells = replicate n absent }
 
 -- "each pick [is an] unsigned 16-bit number"
 unfoldable pub picksOf : List ℕ → List ℕ
@@ -103,7 +103,7 @@ ledgerAfter (ranTo e) lent = ledgerOf (map tokenRecord (e .state .tokens)) lent
 
 unfoldable pub cellsAfter : Result → (lent : List ℕ) → List ℕ
 cellsAfter (refusedAtOnce r p) lent = lent
-cellsAfter (ranTo e) lent = writtenOver Cells.encode (map cellRecord (e .state .cells)) lent
+cellsAfter (ranTo e) lent = writtenOver Cells.encodeCell (map cellRecord (e .state .cells)) lent
 
 -- what a run promises: its answer, also in 01's numbers, and the end contents of ledger and cells
 pub record Ran (x : Result) (r : Answer) (ledger ledger′ cells cells′ : List ℕ) : Type 0 where

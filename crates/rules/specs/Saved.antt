@@ -27,7 +27,7 @@ use Rattle.rules.specs.declared.answer.Refusal.the-variants.{DamagedStat
 use Rattle.rules.specs.declared.answer.Checked.{Checked}
 use Rattle.rules.specs.declared.answer.Checked.the-variants.{Passed}
 use Rattle.rules.specs.declared.answer.Answer.{Answer}
-use Rattle.rules.specs.Check.{demand, _andThen_, all, any, operandsAt, entersSite, checkGraph, checkStores, checkArrays}
+use Rattle.rules.specs.Check.{demand, all, any, operandsAt, entersSite, checkGraph, checkStores, checkWith}
 use Rattle.rules.specs.InstructionSet.{machineOf}
 use Rattle.rules.specs.Callers.{PathIn}
 use Rattle.rules.specs.Run.{tokenHeld, cellHeld, picksOf, Result, ranTo, unlessFailed, Ran}
@@ -35,7 +35,7 @@ use Rattle.rules.specs.Run.{tokenHeld, cellHeld, picksOf, Result, ranTo,
 -- ---- "the saved ledger, cells and counts": the first records of the ledger are the state's tokens, bytes behind them are not looked at, and each count is of 16 bits
 
 unfoldable pub stateSaved : (ledger cells : List ℕ) → (tokens : ℕ) → State Tag ℤ
-stateSaved ledger cells n = record { tokens = map tokenHeld (Tokens.tokens n ledger); cells = map cellHeld (allRows cellWidth Cells.decode cells) }
+stateSaved ledger cells n = record { tokens = map tokenHeld (Tokens.tokens n ledger); cells = map cellHeld (allRows cellWidth Cells.decodeCell cells) }
 
 abbrev pub machineSaved : (graph : List ℕ) → List NamedArray → (ledger cells : List ℕ) → Machine
 machineSaved graph table ledger cells = machineOf (graphOf graph) table (capacityOf (length ledger)) (length cells / cellWidth)
@@ -44,11 +44,11 @@ machineSaved graph table ledger cells = machineOf (graphOf graph) table (capacit
 
 -- "fields and states allowed", of the token record that l starts with: it stands at a port of an instruction of the graph, and its state and its zeros are allowed
 unfoldable pub tokenAllowed : List Instruction → List ℕ → Bool
-tokenAllowed g l = ltb (Tokens.decode l .port) (operandsAt g (Tokens.decode l .tag .instruction)) && Tokens.stateAllowed l
+tokenAllowed g l = ltb (Tokens.decodeToken l .port) (operandsAt g (Tokens.decodeToken l .tag .instruction)) && Tokens.tokenStateAllowed l
 
 -- of the cell record that l starts with, and "cell values 0 until present"
 unfoldable pub cellAllowed : List ℕ → Bool
-cellAllowed l = Cells.stateAllowed l && Cells.zeroUntilPresent l
+cellAllowed l = Cells.cellStateAllowed l && Cells.zeroUntilPresent l
 
 -- what LEAVE finds
 abbrev pub onLeft : {A : Type 0} → Left → A → ((site : ℕ) → Tag → A) → A
@@ -64,19 +64,19 @@ pathMade g (suc n) τ = onLeft (leaveOf τ) true (λ site caller. any (entersSit
 -- and spent or none spent", "results never spent", "each deferred token naming a cell of the store", "cells waiting exactly where one is deferred on them", "tokens within
 -- the capacity", "the firings as many as the tags with spent operands". The table of named arrays is no part of the state, and none of this looks at one: it is said with
 -- the empty table
-unfoldable pub taken : (graph ledger cells : List ℕ) → (firings tokens : ℕ) → Bool
-taken graph ledger cells firings n =
+unfoldable pub stateTaken : (graph ledger cells : List ℕ) → (firings tokens : ℕ) → Bool
+stateTaken graph ledger cells firings n =
     all (tokenAllowed (graphOf graph)) (rows tokenWidth (λ l. l) n ledger)
     && (all (λ t. pathMade (graphOf graph) mostLevels (t .tag)) (Tokens.tokens n ledger)
     && (all cellAllowed (allRows cellWidth (λ l. l) cells)
     && isSaved (machineSaved graph [] ledger cells) firings (stateSaved ledger cells n)))
 
 -- the same in 02's words, where the graph passed its check
-pub record Takes (graph ledger cells : List ℕ) (firings n : ℕ) : Type 0 where
+pub record TakesState (graph ledger cells : List ℕ) (firings n : ℕ) : Type 0 where
   -- "fields and states allowed": instruction and port are there, states are of the three, zeros are zero
   pub ports : All (λ t. t .port < operandsAt (graphOf graph) (t .tag .instruction)) (Tokens.tokens n ledger)
-  pub tokenStates : All (λ l. Tokens.stateAllowed l ≡ true) (rows tokenWidth (λ l. l) n ledger)
-  pub cellStates : All (λ l. Cells.stateAllowed l ≡ true) (allRows cellWidth (λ l. l) cells)
+  pub tokenStates : All (λ l. Tokens.tokenStateAllowed l ≡ true) (rows tokenWidth (λ l. l) n ledger)
+  pub cellStates : All (λ l. Cells.cellStateAllowed l ≡ true) (allRows cellWidth (λ l. l) cells)
   -- "each path made of sites that have an ENTER with its levels unbroken"
   pub paths : All (λ t. PathIn (graphOf graph) (pathNumber (t .tag .path))) (Tokens.tokens n ledger)
   -- "cell values 0 until present"
@@ -85,17 +85,16 @@ pub record Takes (graph ledger cells : List ℕ) (firings n : ℕ) : Type 0 wher
   pub saved : Saved (machineSaved graph [] ledger cells) firings (stateSaved ledger cells n)
 
 abbrev pub TakenExactly : Type 0
-TakenExactly = (graph ledger cells : List ℕ) (firings n : ℕ) → checkGraph graph ≡ Passed → (taken graph ledger cells firings n ≡ true) ↔ Takes graph ledger cells firings n
+TakenExactly = (graph ledger cells : List ℕ) (firings n : ℕ) → checkGraph graph ≡ Passed → (stateTaken graph ledger cells firings n ≡ true) ↔ TakesState graph ledger cells firings n
 
 -- ---- a run from there
 
 -- "Refused: 24, damaged state, after 7 and in the place of 6, with place 0."; no inputs are lent. R-10: 22 "before inputs"
 unfoldable pub checkSaved : (graph arrays picks ledger cells : List ℕ) → (firings tokens : ℕ) → Checked
 checkSaved graph arrays picks ledger cells firings n =
-    checkGraph graph
-    andThen checkStores 0 (length picks) (length ledger) (length cells)
-    andThen checkArrays (graphOf graph) (length cells / cellWidth) arrays
-    andThen demand (taken graph ledger cells firings n) DamagedState 0
+    checkWith graph arrays (length cells / cellWidth)
+    (checkStores 0 (length picks) (length ledger) (length cells))
+    (demand (stateTaken graph ledger cells firings n) DamagedState 0)
 
 -- "Each part's budget counts its own firings", and the answer counts those before too
 unfoldable pub carried : (graph arrays picks : List ℕ) → (budget : ℕ) → (ledger cells : List ℕ) → (firings tokens : ℕ) → Result

@@ -13,32 +13,33 @@ use Rattle.machine.specs.Machine.{live, spent, deferred, Token, Cell, absent, w
 use Rattle.rules.specs.Answer.{Values}
 use Rattle.rules.specs.Run.{tokenRecord, cellRecord}
 use Rattle.machine.specs.Saved.{isSaved}
-use Rattle.rules.specs.Saved.{stateSaved, tokenAllowed, cellAllowed, taken, checkSaved, carried}
-use Rattle.rules.specs.Cases.{array, to0, to1, to2, token, root, values, completed, spentWord, hung, binary, Numbered, cell, Seen, ran, seenIn}
+use Rattle.rules.specs.Saved.{stateSaved, tokenAllowed, cellAllowed, stateTaken, checkSaved, carried}
+use Rattle.rules.specs.CaseRows.{to0, to1, to2, token, root, values, completed, spentWord, hung, binary, NumberedCell, cell, Seen, ran, seenIn}
+use Rattle.rules.specs.RequestCases.{array}
 
 -- ---- how the rows are written
 
 abbrev pub ledgerFrom : List (Token Tag ℤ) → List ℕ
-ledgerFrom ts = joined (λ (t : Token Tag ℤ). Tokens.encode (tokenRecord t)) ts
+ledgerFrom ts = joined (λ (t : Token Tag ℤ). Tokens.encodeToken (tokenRecord t)) ts
 
 abbrev pub cellsFrom : List (Cell ℤ) → List ℕ
-cellsFrom cs = joined (λ (c : Cell ℤ). Cells.encode (cellRecord c)) cs
+cellsFrom cs = joined (λ (c : Cell ℤ). Cells.encodeCell (cellRecord c)) cs
 
 -- a run from a saved state: what is lent; the answer, the tokens of the ledger, the cells that are not absent
-pub data Case : Type 0 where
-  carrying : (graph picks : List ℕ) → (budget firings tokens : ℕ) → (ledger cells : List ℕ) → Values → List (Token Tag ℤ) → List Numbered → Case
+pub data SavedCase : Type 0 where
+  carrying : (graph picks : List ℕ) → (budget firings tokens : ℕ) → (ledger cells : List ℕ) → Values → List (Token Tag ℤ) → List NumberedCell → SavedCase
   -- with a table of named arrays too, budget 2,048 and no firing before
-  naming : (graph arrays picks : List ℕ) → (tokens : ℕ) → (ledger cells : List ℕ) → Values → List (Token Tag ℤ) → List Numbered → Case
+  naming : (graph arrays picks : List ℕ) → (tokens : ℕ) → (ledger cells : List ℕ) → Values → List (Token Tag ℤ) → List NumberedCell → SavedCase
 
 -- by the rules
-unfoldable pub seen : Case → Seen
-seen (carrying graph picks budget firings n ledger cells a ts cs) = seenIn (carried graph [] picks budget ledger cells firings n)
-seen (naming graph arrays picks n ledger cells a ts cs) = seenIn (carried graph arrays picks 2048 ledger cells 0 n)
+unfoldable pub seenSaved : SavedCase → Seen
+seenSaved (carrying graph picks budget firings n ledger cells a ts cs) = seenIn (carried graph [] picks budget ledger cells firings n)
+seenSaved (naming graph arrays picks n ledger cells a ts cs) = seenIn (carried graph arrays picks 2048 ledger cells 0 n)
 
 -- by the table
-unfoldable pub expected : Case → Seen
-expected (carrying graph picks budget firings n ledger cells a ts cs) = ran a ts cs
-expected (naming graph arrays picks n ledger cells a ts cs) = ran a ts cs
+unfoldable pub expectedSaved : SavedCase → Seen
+expectedSaved (carrying graph picks budget firings n ledger cells a ts cs) = ran a ts cs
+expectedSaved (naming graph arrays picks n ledger cells a ts cs) = ran a ts cs
 
 -- ---- a state with each thing that 02 lists
 
@@ -51,39 +52,39 @@ abbrev pub called : ℕ
 called = 1792
 
 -- the addition is done, the fetch waits for cell 1, and the call has not returned
-abbrev pub added : List (Token Tag ℤ)
-added = root 0 0 (spent (pos 7)) ∷ root 0 1 (spent (negsuc 8)) ∷ root 1 0 (live (negsuc 1)) ∷ []
+abbrev pub addedSaved : List (Token Tag ℤ)
+addedSaved = root 0 0 (spent (pos 7)) ∷ root 0 1 (spent (negsuc 8)) ∷ root 1 0 (live (negsuc 1)) ∷ []
 
 abbrev pub fetched : List (Token Tag ℤ)
 fetched = root 2 0 (spent (pos 1)) ∷ root 3 0 (deferred 1) ∷ []
 
-abbrev pub entered : List (Token Tag ℤ)
-entered = root 4 0 (spent (pos 5)) ∷ token called 0 5 0 (live (pos 5)) ∷ []
+abbrev pub enteredSaved : List (Token Tag ℤ)
+enteredSaved = root 4 0 (spent (pos 5)) ∷ token called 0 5 0 (live (pos 5)) ∷ []
 
 abbrev pub state : List (Token Tag ℤ)
-state = added ++ fetched ++ entered
+state = addedSaved ++ fetched ++ enteredSaved
 
-abbrev pub cells : List ℕ
-cells = cellsFrom (absent ∷ waiting ∷ [])
+abbrev pub twoCells : List ℕ
+twoCells = cellsFrom (absent ∷ waiting ∷ [])
 
 -- bytes behind the state's records, which are not looked at: a record in no allowed state
 abbrev pub behind : List ℕ
 behind = bytes32 4294967295 ++ bytes32 4294967295 ++ bytes32 4294967295 ++ bytes32 4294967295 ++ bytes32 4294967295 ++ bytes32 4294967295 ++ bytes32 4294967295
 
 -- it goes on: the call returns, and the fetch waits for ever
-abbrev pub good : List Case
+abbrev pub good : List SavedCase
 good =
-    carrying graph [] 2048 3 7 (ledgerFrom state ++ behind) cells (values hung 4 8 0)
-    (added ++ fetched ++ root 4 0 (spent (pos 5)) ∷ token called 0 5 0 (spent (pos 5)) ∷ root 6 0 (live (pos 5)) ∷ [])
+    carrying graph [] 2048 3 7 (ledgerFrom state ++ behind) twoCells (values hung 4 8 0)
+    (addedSaved ++ fetched ++ root 4 0 (spent (pos 5)) ∷ token called 0 5 0 (spent (pos 5)) ∷ root 6 0 (live (pos 5)) ∷ [])
     (cell 1 waiting ∷ [])
     -- the budget is that of the part
-    ∷ carrying graph [] 0 3 7 (ledgerFrom state ++ behind) cells (values spentWord 3 7 0) state (cell 1 waiting ∷ [])
+    ∷ carrying graph [] 0 3 7 (ledgerFrom state ++ behind) twoCells (values spentWord 3 7 0) state (cell 1 waiting ∷ [])
     -- what completed completes again
-    ∷ carrying (binary 16) [] 2048 1 3 (ledgerFrom added) [] (values completed 1 3 0) added []
+    ∷ carrying (binary 16) [] 2048 1 3 (ledgerFrom addedSaved) [] (values completed 1 3 0) addedSaved []
     -- so does an empty state
     ∷ carrying graph [] 2048 0 0 [] [] (values completed 0 0 0) [] []
     -- states that no run left: the order is no condition, nor that somebody sent a token, nor that a FETCH sends to where one is deferred
-    ∷ carrying graph [] 0 3 7 (ledgerFrom (entered ++ added ++ fetched)) cells (values spentWord 3 7 0) (entered ++ added ++ fetched) (cell 1 waiting ∷ [])
+    ∷ carrying graph [] 0 3 7 (ledgerFrom (enteredSaved ++ addedSaved ++ fetched)) twoCells (values spentWord 3 7 0) (enteredSaved ++ addedSaved ++ fetched) (cell 1 waiting ∷ [])
     ∷ carrying graph [] 2048 0 1 (ledgerFrom (root 6 0 (live (pos 1)) ∷ [])) [] (values completed 0 1 0) (root 6 0 (live (pos 1)) ∷ []) []
     ∷ carrying graph [] 2048 0 1 (ledgerFrom (root 6 0 (deferred 0) ∷ [])) (cellsFrom (waiting ∷ [])) (values hung 0 1 0) (root 6 0 (deferred 0) ∷ []) (cell 0 waiting ∷ [])
     -- two levels, and a present cell with a value
@@ -97,14 +98,14 @@ good =
 -- ---- each condition broken by itself
 
 -- refused by 24: nothing is counted, and nothing written
-abbrev pub damaged : (firings tokens : ℕ) → (ledger cells : List ℕ) → Case
+abbrev pub damaged : (firings tokens : ℕ) → (ledger cells : List ℕ) → SavedCase
 damaged firings n ledger cells = carrying graph [] 2048 firings n ledger cells (values 24 0 0 0) [] []
 
-abbrev pub damagedTokens : (firings : ℕ) → List (Token Tag ℤ) → (cells : List ℕ) → Case
+abbrev pub damagedTokens : (firings : ℕ) → List (Token Tag ℤ) → (cells : List ℕ) → SavedCase
 damagedTokens firings ts cells = damaged firings (length ts) (ledgerFrom ts) cells
 
-abbrev pub bad : List Case
-bad =
+abbrev pub badSaved : List SavedCase
+badSaved =
     -- "fields and states allowed": no such instruction, no such port, no such state, zeros that are not zero; and of a cell
     damagedTokens 0 (root 7 0 (live (pos 5)) ∷ []) []
     ∷ damagedTokens 0 (root 1 1 (live (pos 5)) ∷ []) []
@@ -136,13 +137,13 @@ bad =
     -- "tokens within the capacity"
     ∷ damaged 0 1 [] []
     -- "the firings as many as the tags with spent operands"
-    ∷ damaged 2 7 (ledgerFrom state) cells
-    ∷ damaged 4 7 (ledgerFrom state) cells
+    ∷ damaged 2 7 (ledgerFrom state) twoCells
+    ∷ damaged 4 7 (ledgerFrom state) twoCells
     ∷ []
 
 -- ---- "after 7 and in the place of 6"
 
-abbrev pub turn : List Case
+abbrev pub turn : List SavedCase
 turn =
     -- 1 and 7 come before 24
     carrying [] [] 2048 1 0 [] [] (values 1 0 0 0) [] []
@@ -155,8 +156,8 @@ turn =
 abbrev pub fetching : List ℕ
 fetching = to1 10 (pos 1) 0 1 ++ to0 3 (pos 0)
 
-abbrev pub named : List Case
-named =
+abbrev pub namedSaved : List SavedCase
+namedSaved =
     -- index 2 of the array that has cells 1 and 2
     naming fetching (array 1 2) [] 1 (ledgerFrom (root 0 0 (live (pos 2)) ∷ []) ++ behind) (cellsFrom (absent ∷ absent ∷ present (pos 9) ∷ [])) (values completed 1 2 0)
     (root 0 0 (spent (pos 2)) ∷ root 1 0 (live (pos 9)) ∷ []) (cell 2 (present (pos 9)) ∷ [])
@@ -166,10 +167,10 @@ named =
     ∷ naming fetching [] [] 0 [] [] (values 22 0 0 0) [] []
     ∷ []
 
-abbrev pub cases : List Case
-cases = good ++ bad ++ turn ++ named
+abbrev pub savedCases : List SavedCase
+savedCases = good ++ badSaved ++ turn ++ namedSaved
 
 -- a computed proof with the line `unfolding states` computes with all of R-13, beside `rules`
 unfoldable pub states : Unit {0}
-unfolding Tokens.stateAllowed Cells.stateAllowed Cells.zeroUntilPresent isSaved stateSaved tokenAllowed cellAllowed taken checkSaved carried
+unfolding Tokens.tokenStateAllowed Cells.cellStateAllowed Cells.zeroUntilPresent isSaved stateSaved tokenAllowed cellAllowed stateTaken checkSaved carried
 states = tt

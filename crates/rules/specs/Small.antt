@@ -27,14 +27,14 @@ abbrev pub AnswersSmall : Type 0
 AnswersSmall = (graph arrays inputs picks : List ℕ) (budget ledger cells : ℕ) → Small budget (answer (result graph arrays inputs picks budget ledger cells))
 
 -- of the answer of any call that runs a graph: 16 bits are enough for each number. The place of 20 is a record's number, which is at most that of the firings
-pub record Counted (a : Answer) : Type 0 where
+pub record CountsFit (a : Answer) : Type 0 where
   pub byTokens : a .firings ≤ a .tokens
   pub tokens : a .tokens ≤ mostTokens
   pub place : placeIn (a .outcome) ≤ mostTokens
 
 -- of a run that writes a log, a replay, a profile, and a run from a saved state
 pub record AllCounted : Type 0 where
-  pub byLogged : (graph arrays inputs picks : List ℕ) (budget ledger cells lent : ℕ) → Counted (answer (logged graph arrays inputs picks budget ledger cells lent .result))
-  pub byReplay : (graph arrays inputs log : List ℕ) (ledger cells : ℕ) → Counted (answer (replayed graph arrays inputs log ledger cells))
-  pub byProfile : (graph arrays inputs : List ℕ) (ledger cells lent : ℕ) → Counted (answer (profiled graph arrays inputs ledger cells lent .result))
-  pub byCarried : (graph arrays picks ledger cells : List ℕ) (budget firings tokens : ℕ) → Counted (answer (carried graph arrays picks budget ledger cells firings tokens))
+  pub byLogged : (graph arrays inputs picks : List ℕ) (budget ledger cells lent : ℕ) → CountsFit (answer (logged graph arrays inputs picks budget ledger cells lent .result))
+  pub byReplay : (graph arrays inputs log : List ℕ) (ledger cells : ℕ) → CountsFit (answer (replayed graph arrays inputs log ledger cells))
+  pub byProfile : (graph arrays inputs : List ℕ) (ledger cells lent : ℕ) → CountsFit (answer (profiled graph arrays inputs ledger cells lent .result))
+  pub byCarried : (graph arrays picks ledger cells : List ℕ) (budget firings tokens : ℕ) → CountsFit (answer (carried graph arrays picks budget ledger cells firings tokens))

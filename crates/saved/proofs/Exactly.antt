@@ -24,11 +24,11 @@ use Rattle.buffer.specs.Rows.{rows, allRows}
 use Rattle.buffer.proofs.Tables.{length-rows, getD-rows}
 use Rattle.record.specs.GraphRecords.{graphOf}
 use Rattle.record.specs.TokensAndTags as Tokens
-use Rattle.record.specs.TokensAndTags.{tokens, tokenAt, standsAt, capacityOf}
+use Rattle.record.specs.TokensAndTags.{tokens, tokenAt, standsAt, capacityOf, isSpentRecord}
 use Rattle.record.specs.Calls.{mostLevels}
 use Rattle.record.specs.Cells as Cells
 use Rattle.record.specs.Widths.{tokenWidth, cellWidth}
-use Rattle.machine.specs.Machine.{Key, Content, spent, Token, Cell, Machine, when, cellAt, at, find, sameKey, operandOf}
+use Rattle.machine.specs.Machine.{Key, Content, spent, Token, Cell, Machine, when, cellAt, at, find, sameKey, isOperandOf}
 use Rattle.machine.specs.Orders.{Distinct}
 use Rattle.machine.specs.Sequences.{isSpentThere, isSpentFirst, spentTags}
 use Rattle.machine.specs.Sequences as Sequences
@@ -40,21 +40,21 @@ use Rattle.machine.proofs.Taken as Taken
 use Rattle.rules.specs.Check.{all, any}
 use Rattle.rules.specs.InstructionSet.{arityIn}
 use Rattle.rules.specs.Run.{contentHeld, tokenHeld, cellHeld}
-use Rattle.rules.specs.Saved.{stateSaved, machineSaved, tokenAllowed, cellAllowed, pathMade, taken}
+use Rattle.rules.specs.Saved.{stateSaved, machineSaved, tokenAllowed, cellAllowed, pathMade, stateTaken}
 use Rattle.rules.proofs.Passed.{both}
 use Rattle.rules.proofs.Inputs.{all-different}
 use Rattle.rules.proofs.Saved.{tests}
 use Rattle.store_chains.specs.declared.Found.{Found}
 use Rattle.store_chains.specs.declared.Found.the-variants.{At, Nothing}
 use Rattle.store_chains.specs.Search.{firstFrom}
-use Rattle.store_chains.specs.Deferred.{keyOf, anyOn}
+use Rattle.store_chains.specs.Deferred.{chainOf, anyOn}
 use Rattle.store_enabled.specs.Enabled.{arityOf}
 use Rattle.abstraction.specs.Tables.{Arities}
 use Rattle.abstraction.specs.States.{noToken}
 use Rattle.abstraction.proofs.Arities.{arity-small}
 use Rattle.abstraction.proofs.Keys.{stands, any-nothing, foundContent, held-find, search-at, search-nothing}
 use Rattle.fire_outputs.proofs.AsMachine.{cell-held}
-use Rattle.saved.specs.Passes.{contentOn, contentAllowed, isNothing, arrivesAt, isSpent, spentFound, partneredAt, countUpTo, firstSpent, isWaiting, cellRight, Passes}
+use Rattle.saved.specs.Passes.{contentOn, contentAllowed, isNothing, arrivesAt, spentFound, partneredAt, countUpTo, firstSpent, isWaitingRecord, cellRight, Passes}
 
 -- ---- tests of all
 
@@ -78,12 +78,12 @@ module _ {A : Type 0} (test : A → Bool) (d : A) where
 
 -- ---- contents
 
-held-spent : (x : RecordContent.Content) → Sequences.isSpent (contentHeld x) ≡ isSpent x
+held-spent : (x : RecordContent.Content) → Sequences.isSpent (contentHeld x) ≡ isSpentRecord x
 held-spent (Live v) = refl
 held-spent (Spent v) = refl
 held-spent (Deferred c) = refl
 
-held-on : (c : ℕ) (x : RecordContent.Content) → isDeferredOn c (contentHeld x) ≡ eqb (keyOf x) (suc c)
+held-on : (c : ℕ) (x : RecordContent.Content) → isDeferredOn c (contentHeld x) ≡ eqb (chainOf x) (suc c)
 held-on c (Live v) = sym (ne-eqb 0 (suc c) (λ e. omega arith))
 held-on c (Spent v) = sym (ne-eqb 0 (suc c) (λ e. omega arith))
 held-on c (Deferred d) = go (ℕ-discrete d c)
@@ -92,7 +92,7 @@ held-on c (Deferred d) = go (ℕ-discrete d c)
     go (yes e) = eq-eqb d c e ∙ sym (eq-eqb (suc d) (suc c) (ap suc e))
     go (no n) = ne-eqb d c n ∙ sym (ne-eqb (suc d) (suc c) (λ e. n (omega arith)))
 
-held-waiting : (x : RecordCell.Cell) → Saved.isWaiting (cellHeld x) ≡ isWaiting x
+held-waiting : (x : RecordCell.Cell) → Saved.isWaiting (cellHeld x) ≡ isWaitingRecord x
 held-waiting Absent = refl
 held-waiting Waiting = refl
 held-waiting (Present v) = refl
@@ -117,10 +117,10 @@ module _ (graph ledger cells tables : List ℕ) (used : ℕ) (right : Arities (g
   tok i = tokenAt ledger i
 
   size : length ts ≡ used
-  size = length-rows tokenWidth Tokens.decode used ledger
+  size = length-rows tokenWidth Tokens.decodeToken used ledger
 
   here : (i : ℕ) (d : Record.Token) → i < used → getD ts i d ≡ tok i
-  here i d h = getD-rows tokenWidth Tokens.decode used i ledger d h
+  here i d h = getD-rows tokenWidth Tokens.decodeToken used i ledger d h
 
   -- a test of all tokens of the machine
   all-held : (test : Key Tag → Content ℤ → Bool) (us : List Record.Token) → allTokens M test (map tokenHeld us) ≡ all (λ (t : Record.Token). test (tokenHeld t .key) (contentHeld (t .content))) us
@@ -128,10 +128,10 @@ module _ (graph ledger cells tables : List ℕ) (used : ℕ) (right : Arities (g
   all-held test (t ∷ us) = rw (all-held test us)
 
   held-at : (test : Key Tag → Content ℤ → Bool) → allTokens M test hs ≡ true → (i : ℕ) → i < used → test (tokenHeld (tok i) .key) (contentHeld (tok i .content)) ≡ true
-  held-at test e i h = rows-at (λ (t : Record.Token). test (tokenHeld t .key) (contentHeld (t .content))) noToken tokenWidth Tokens.decode used ledger (sym (all-held test ts) ∙ e) i h
+  held-at test e i h = rows-at (λ (t : Record.Token). test (tokenHeld t .key) (contentHeld (t .content))) noToken tokenWidth Tokens.decodeToken used ledger (sym (all-held test ts) ∙ e) i h
 
   at-held : (test : Key Tag → Content ℤ → Bool) → ((i : ℕ) → i < used → test (tokenHeld (tok i) .key) (contentHeld (tok i .content)) ≡ true) → allTokens M test hs ≡ true
-  at-held test h = all-held test ts ∙ at-rows (λ (t : Record.Token). test (tokenHeld t .key) (contentHeld (t .content))) noToken tokenWidth Tokens.decode used ledger h
+  at-held test h = all-held test ts ∙ at-rows (λ (t : Record.Token). test (tokenHeld t .key) (contentHeld (t .content))) noToken tokenWidth Tokens.decodeToken used ledger h
 
   -- ---- keys are different
 
@@ -155,7 +155,7 @@ module _ (graph ledger cells tables : List ℕ) (used : ℕ) (right : Arities (g
   tokens-take : (i n : ℕ) (l : List ℕ) → i ≤ n → take i (tokens n l) ≡ tokens i l
   tokens-take zero n l h = refl
   tokens-take (suc i) zero l h = absurd (omega arith)
-  tokens-take (suc i) (suc n) l h = ap (λ (us : List Record.Token). Tokens.decode l ∷ us) (tokens-take i n (drop tokenWidth l) (le-of-suc-le-suc h))
+  tokens-take (suc i) (suc n) l h = ap (λ (us : List Record.Token). Tokens.decodeToken l ∷ us) (tokens-take i n (drop tokenWidth l) (le-of-suc-le-suc h))
 
   free-nothing : (f : Found) → isNothing f ≡ true → f ≡ Nothing
   free-nothing (At i) e = falseTrue e
@@ -168,8 +168,8 @@ module _ (graph ledger cells tables : List ℕ) (used : ℕ) (right : Arities (g
   free-before : Distinct M hs → (i : ℕ) → i < used → firstFrom (standsAt (tok i .tag) (tok i .port)) 0 (tokens i ledger) ≡ Nothing
   free-before ds i h =
       any-nothing (standsAt (tok i .tag) (tok i .port)) 0 (tokens i ledger) (any-none (standsAt (tok i .tag) (tok i .port)) (tokens i ledger) (λ j l.
-      let k : j < i = rw (← length-rows tokenWidth Tokens.decode i ledger) l in
-      let e : getD (tokens i ledger) j noToken ≡ tok j = getD-rows tokenWidth Tokens.decode i j ledger noToken k in
+      let k : j < i = rw (← length-rows tokenWidth Tokens.decodeToken i ledger) l in
+      let e : getD (tokens i ledger) j noToken ≡ tok j = getD-rows tokenWidth Tokens.decodeToken i j ledger noToken k in
       no-stand (standsAt (tok i .tag) (tok i .port) (getD (tokens i ledger) j noToken)) refl (λ z.
       apart ts ds i j noToken k (rw size h) (rw (here j noToken (omega arith), here i noToken h) (stands (tok i .tag) (tok i .port) (tok j) (rw e at z))))))
     where
@@ -185,7 +185,7 @@ module _ (graph ledger cells tables : List ℕ) (used : ℕ) (right : Arities (g
 
   -- ---- contents
 
-  operand-held : (i : ℕ) → operandOf M (tok i .tag) (tokenHeld (tok i) .key) ≡ ltb (tok i .port) (arityOf tables (tok i .tag))
+  operand-held : (i : ℕ) → isOperandOf M (tok i .tag) (tokenHeld (tok i) .key) ≡ ltb (tok i .port) (arityOf tables (tok i .tag))
   operand-held i = when-yes (M .same (tok i .tag) (tok i .tag)) _ _ refl ∙ ap (ltb (tok i .port)) (sym (right (tok i .tag)))
 
   content-at : (i : ℕ) → (operandIfSpent M (tokenHeld (tok i) .key) (contentHeld (tok i .content)) ≡ true) × (namesCell M (tokenHeld (tok i) .key) (contentHeld (tok i .content)) ≡ true)
@@ -225,7 +225,7 @@ module _ (graph ledger cells tables : List ℕ) (used : ℕ) (right : Arities (g
       go : (us : List Record.Token) → Distinct M (map tokenHeld us) → (j : ℕ) → j < length us → find M (at M (tok i .tag) (tok i .port)) hs ≡ some (contentHeld (getD ts i noToken .content))
       go us d j l = subst (λ (t : Record.Token). find M (tokenHeld t .key) hs ≡ some (contentHeld (getD ts i noToken .content))) (here i noToken h) (found ts ds i (rw size h))
 
-  spent-own : Distinct M hs → (i : ℕ) → i < used → isSpent (tok i .content) ≡ true → isSpentThere (find M (at M (tok i .tag) (tok i .port)) hs) ≡ true
+  spent-own : Distinct M hs → (i : ℕ) → i < used → isSpentRecord (tok i .content) ≡ true → isSpentThere (find M (at M (tok i .tag) (tok i .port)) hs) ≡ true
   spent-own ds i h e = ap isSpentThere (own-port ds i h) ∙ held-spent (tok i .content) ∙ e
 
   -- of a token on a port below 2, of n operands with 2 at most
@@ -246,17 +246,17 @@ module _ (graph ledger cells tables : List ℕ) (used : ℕ) (right : Arities (g
   partner-at : Distinct M hs → (i : ℕ) → i < used → contentAllowed tables count (tok i) ≡ true
       → (together M hs (tokenHeld (tok i) .key) (contentHeld (tok i .content)) ≡ true) ↔ (partneredAt tables ledger used i ≡ true)
   unfolding contentAllowed partneredAt
-  partner-at ds i h allowed = rw (held-spent (tok i .content)) (go (isSpent (tok i .content)) refl)
+  partner-at ds i h allowed = rw (held-spent (tok i .content)) (go (isSpentRecord (tok i .content)) refl)
     where
-      ports : isSpent (tok i .content) ≡ true → tok i .port < arityIn g (tok i .tag)
+      ports : isSpentRecord (tok i .content) ≡ true → tok i .port < arityIn g (tok i .tag)
       ports e = is (tok i .content) e allowed
         where
-          is : (x : RecordContent.Content) → isSpent x ≡ true → contentOn (ltb (tok i .port) (arityOf tables (tok i .tag))) count x ≡ true → tok i .port < arityIn g (tok i .tag)
+          is : (x : RecordContent.Content) → isSpentRecord x ≡ true → contentOn (ltb (tok i .port) (arityOf tables (tok i .tag))) count x ≡ true → tok i .port < arityIn g (tok i .tag)
           is (Live v) q z = falseTrue q
           is (Spent v) q z = ltb-true (tok i .port) (arityIn g (tok i .tag)) (rw (right (tok i .tag)) at z)
           is (Deferred c) q z = falseTrue q
 
-      go : (b : Bool) → isSpent (tok i .content) ≡ b
+      go : (b : Bool) → isSpentRecord (tok i .content) ≡ b
           → ((not b || allSpent M hs (tok i .tag)) ≡ true)
           ↔ ((not b || (not (eqb (arityOf tables (tok i .tag)) 2) || spentFound tok (firstFrom (standsAt (tok i .tag) (1 - tok i .port)) 0 ts))) ≡ true)
       go false e = (λ z. refl, λ z. refl)
@@ -269,7 +269,7 @@ module _ (graph ledger cells tables : List ℕ) (used : ℕ) (right : Arities (g
   tokens-more : (n : ℕ) (l : List ℕ) → tokens (suc n) l ≡ tokens n l ++ tokenAt l n ∷ []
   tokens-more zero l = refl
   tokens-more (suc n) l =
-      ap (λ (us : List Record.Token). Tokens.decode l ∷ us) (tokens-more n (drop tokenWidth l))
+      ap (λ (us : List Record.Token). Tokens.decodeToken l ∷ us) (tokens-more n (drop tokenWidth l))
       ∙ rw (drop-drop (n * tokenWidth) tokenWidth l, suc-mul n tokenWidth, add-comm (n * tokenWidth) tokenWidth)
 
   tags-more : (us : List (Token Tag ℤ)) (t : Token Tag ℤ) → length (spentTags M (us ++ t ∷ [])) ≡ cond (isSpentFirst t) (suc (length (spentTags M us))) (length (spentTags M us))
@@ -302,17 +302,17 @@ module _ (graph ledger cells tables : List ℕ) (used : ℕ) (right : Arities (g
   any-held c [] = refl
   any-held c (u ∷ us) = rw (held-on c (u .content), any-held c us)
 
-  cell-at : (c : ℕ) → c < count → cellAt (map cellHeld (allRows cellWidth Cells.decode cells)) c ≡ cellHeld (Cells.cellAt cells c)
-  cell-at c h = cell-held (allRows cellWidth Cells.decode cells) c ∙ ap cellHeld (getD-rows cellWidth Cells.decode count c cells Absent h)
+  cell-at : (c : ℕ) → c < count → cellAt (map cellHeld (allRows cellWidth Cells.decodeCell cells)) c ≡ cellHeld (Cells.cellOfRecord cells c)
+  cell-at c h = cell-held (allRows cellWidth Cells.decodeCell cells) c ∙ ap cellHeld (getD-rows cellWidth Cells.decodeCell count c cells Absent h)
 
-  waits-at : (c : ℕ) → c < count → waitsRight M (stateSaved ledger cells used) c ≡ cond (isWaiting (Cells.cellAt cells c)) (anyOn c ts) (not (anyOn c ts))
+  waits-at : (c : ℕ) → c < count → waitsRight M (stateSaved ledger cells used) c ≡ cond (isWaitingRecord (Cells.cellOfRecord cells c)) (anyOn c ts) (not (anyOn c ts))
   unfolding stateSaved
-  waits-at c h = rw (cell-at c h, held-waiting (Cells.cellAt cells c), any-held c ts)
+  waits-at c h = rw (cell-at c h, held-waiting (Cells.cellOfRecord cells c), any-held c ts)
 
   -- ---- all of it
 
   module _ (firings : ℕ) where
-    pub taken-passes : taken graph ledger cells firings used ≡ true → Passes g tables ledger cells firings used
+    pub taken-passes : stateTaken graph ledger cells firings used ≡ true → Passes g tables ledger cells firings used
     unfolding stateSaved arrivesAt cellRight
     taken-passes e =
         let t = tests graph ledger cells firings used e in
@@ -323,7 +323,7 @@ module _ (graph ledger cells tables : List ℕ) (used : ℕ) (right : Arities (g
           arrive = allOf (arrivesAt g tables ledger count) used (λ i h.
               rw (
                 rows-at (tokenAllowed g) [] tokenWidth (λ l. l) used ledger (t .fields) i h,
-                rows-at (λ (u : Record.Token). pathMade g mostLevels (u .tag)) noToken tokenWidth Tokens.decode used ledger (t .paths) i h,
+                rows-at (λ (u : Record.Token). pathMade g mostLevels (u .tag)) noToken tokenWidth Tokens.decodeToken used ledger (t .paths) i h,
                 content i h,
                 free-before ds i h,
               ));
@@ -333,8 +333,8 @@ module _ (graph ledger cells tables : List ℕ) (used : ℕ) (right : Arities (g
               rw (rows-at cellAllowed [] cellWidth (λ l. l) count cells (t .cellFields) c h) (sym (waits-at c h) ∙ upTo (waitsRight M (stateSaved ledger cells used)) count c (m .waits) h));
         }
 
-    pub passes-taken : used ≤ capacityOf (length ledger) → Passes g tables ledger cells firings used → taken graph ledger cells firings used ≡ true
-    unfolding taken stateSaved arrivesAt cellRight
+    pub passes-taken : used ≤ capacityOf (length ledger) → Passes g tables ledger cells firings used → stateTaken graph ledger cells firings used ≡ true
+    unfolding stateTaken stateSaved arrivesAt cellRight
     passes-taken room p =
         let arrive : (i : ℕ) → i < used → arrivesAt g tables ledger count i ≡ true = λ i h. upTo (arrivesAt g tables ledger count) used i (p .arrive) h in
         let fields : (i : ℕ) → i < used → tokenAllowed g (drop (i * tokenWidth) ledger) ≡ true = λ i h. both (tokenAllowed g (drop (i * tokenWidth) ledger)) _ (arrive i h) .0 in
@@ -348,7 +348,7 @@ module _ (graph ledger cells tables : List ℕ) (used : ℕ) (right : Arities (g
         let rightCells : (c : ℕ) → c < count → cellRight ts cells c ≡ true = λ c h. upTo (cellRight ts cells) count c (p .cellsRight) h in
         rw (
           at-rows (tokenAllowed g) [] tokenWidth (λ l. l) used ledger fields,
-          at-rows (λ (u : Record.Token). pathMade g mostLevels (u .tag)) noToken tokenWidth Tokens.decode used ledger paths,
+          at-rows (λ (u : Record.Token). pathMade g mostLevels (u .tag)) noToken tokenWidth Tokens.decodeToken used ledger paths,
           at-rows cellAllowed [] cellWidth (λ l. l) count cells (λ c h. both (cellAllowed (drop (c * cellWidth) cells)) _ (rightCells c h) .0),
         )
         (Taken.passed M firings (stateSaved ledger cells used) (record {
@@ -358,6 +358,6 @@ module _ (graph ledger cells tables : List ℕ) (used : ℕ) (right : Arities (g
           named = at-held (namesCell M) (λ i h. content-at i .1 (content i h) .1);
           waits = allOf (waitsRight M (stateSaved ledger cells used)) count (λ c h. waits-at c h ∙ both (cellAllowed (drop (c * cellWidth) cells)) _ (rightCells c h) .1);
           room = omega (arith, length-map ts tokenHeld, size, room);
-          cells = length-map (allRows cellWidth Cells.decode cells) cellHeld ∙ length-rows cellWidth Cells.decode count cells;
+          cells = length-map (allRows cellWidth Cells.decodeCell cells) cellHeld ∙ length-rows cellWidth Cells.decodeCell count cells;
           firings = sym (p .counted) ∙ sym (counts used);
         }))

@@ -45,7 +45,7 @@ use Rattle.store_chains.specs.declared.Found.the-variants.{At, Nothing}
 use Rattle.store_chains.specs.Search.{firstFrom, Free}
 use Rattle.store_chains.specs.Deferred.{LowCell}
 use Rattle.store_enabled.specs.Enabled.{arityOf}
-use Rattle.saved.specs.Passes.{Entered, contentOn, contentAllowed, isNothing, arrivesAt, countUpTo}
+use Rattle.saved.specs.Passes.{EnteredSites, contentOn, contentAllowed, isNothing, arrivesAt, countUpTo}
 
 -- ---- records
 
@@ -55,30 +55,30 @@ bytes-take (suc n) [] b k = omega arith
 bytes-take (suc n) (x ∷ l) b zero = b 0
 bytes-take (suc n) (x ∷ l) b (suc k) = bytes-take n l (λ j. b (suc j)) k
 
-pub token-own : (g : List Instruction) (l : List ℕ) → tokenWidth ≤ length l → Bytes l → tokenAllowed g l ≡ true → Tokens.encode (Tokens.decode l) ≡ take tokenWidth l
+pub token-own : (g : List Instruction) (l : List ℕ) → tokenWidth ≤ length l → Bytes l → tokenAllowed g l ≡ true → Tokens.encodeToken (Tokens.decodeToken l) ≡ take tokenWidth l
 unfolding tokenAllowed
 token-own g l h b e =
-    ap Tokens.encode (sym (token-front l))
-    ∙ token-bytes-back (take tokenWidth l) (token-proper (take tokenWidth l) (length-take-le tokenWidth l h) (bytes-take tokenWidth l b) (allowed-front l ∙ both (ltb (Tokens.decode l .port) (operandsAt g (Tokens.decode l .tag .instruction))) (Tokens.stateAllowed l) e .1))
+    ap Tokens.encodeToken (sym (token-front l))
+    ∙ token-bytes-back (take tokenWidth l) (token-proper (take tokenWidth l) (length-take-le tokenWidth l h) (bytes-take tokenWidth l b) (allowed-front l ∙ both (ltb (Tokens.decodeToken l .port) (operandsAt g (Tokens.decodeToken l .tag .instruction))) (Tokens.tokenStateAllowed l) e .1))
 
 module _ (l : List ℕ) where
-  cell-front : Cells.decode (take cellWidth l) ≡ Cells.decode l
-  unfolding Cells.decode
+  cell-front : Cells.decodeCell (take cellWidth l) ≡ Cells.decodeCell l
+  unfolding Cells.decodeCell
   cell-front = rw (front cellWidth l 0 tt, front cellWidth l 1 tt, front cellWidth l 2 tt, front cellWidth l 3 tt, front cellWidth l 4 tt)
 
-  state-front : Cells.stateAllowed (take cellWidth l) ≡ Cells.stateAllowed l
-  unfolding Cells.stateAllowed
+  state-front : Cells.cellStateAllowed (take cellWidth l) ≡ Cells.cellStateAllowed l
+  unfolding Cells.cellStateAllowed
   state-front = rw (front cellWidth l 4 tt, front cellWidth l 5 tt, front cellWidth l 6 tt, front cellWidth l 7 tt)
 
   zero-front : Cells.zeroUntilPresent (take cellWidth l) ≡ Cells.zeroUntilPresent l
   unfolding Cells.zeroUntilPresent
   zero-front = rw (front cellWidth l 0 tt, front cellWidth l 1 tt, front cellWidth l 2 tt, front cellWidth l 3 tt, front cellWidth l 4 tt)
 
-pub cell-own : (l : List ℕ) → cellWidth ≤ length l → Bytes l → cellAllowed l ≡ true → (Cells.encode (Cells.decode l) ≡ take cellWidth l) × Cells.CellFits (Cells.decode l)
+pub cell-own : (l : List ℕ) → cellWidth ≤ length l → Bytes l → cellAllowed l ≡ true → (Cells.encodeCell (Cells.decodeCell l) ≡ take cellWidth l) × Cells.CellFits (Cells.decodeCell l)
 unfolding cellAllowed
 cell-own l h b e =
-    let (s, z) = both (Cells.stateAllowed l) (Cells.zeroUntilPresent l) e in (
-      ap Cells.encode (sym (cell-front l))
+    let (s, z) = both (Cells.cellStateAllowed l) (Cells.zeroUntilPresent l) e in (
+      ap Cells.encodeCell (sym (cell-front l))
           ∙ cell-bytes-back (take cellWidth l) (cell-proper (take cellWidth l) (length-take-le cellWidth l h) (bytes-take cellWidth l b) (state-front l ∙ s) (zero-front l ∙ z)),
       cell-fits l b,
     )
@@ -101,10 +101,10 @@ told y f e = (e, λ h. f (sym e ∙ h))
 
 -- ---- a table of sites
 
-pub no-sites : Entered [] (replicate 256 0)
+pub no-sites : EnteredSites [] (replicate 256 0)
 no-sites site h = rw (getD-replicate {A = ℕ} 256 site 0 0 h)
 
-pub one-site : (rs : List Instruction) (sites : List ℕ) (r : Instruction) (v : ℕ) → 256 ≤ length sites → Entered rs sites → Entered (rs ++ r ∷ []) (atSite sites r (suc v))
+pub one-site : (rs : List Instruction) (sites : List ℕ) (r : Instruction) (v : ℕ) → 256 ≤ length sites → EnteredSites rs sites → EnteredSites (rs ++ r ∷ []) (atSite sites r (suc v))
 one-site rs sites r v n h site l =
     any-append (entersSite (pos site)) rs (r ∷ [])
     ∙ rw (h site l, at-site sites r (suc v) site n l) (go (entersSite (pos site) r) (getD sites site 0))
@@ -124,7 +124,7 @@ one-site rs sites r v n h site l =
 
 -- ---- a path, level by level
 
-module _ (g : List Instruction) (sites : List ℕ) (entered : Entered g sites) where
+module _ (g : List Instruction) (sites : List ℕ) (entered : EnteredSites g sites) where
   pub no-level : (n : ℕ) (τ : Tag) → leaveOf τ ≡ NoCaller → pathMade g n τ ≡ true
   no-level zero τ e = rw e
   no-level (suc n) τ e = rw e
@@ -163,7 +163,7 @@ arrives-parts g tables ledger count i h e =
     let (fields, e1) = both (tokenAllowed g (drop (i * tokenWidth) ledger)) _ e in
     let (path, e2) = both (pathMade g mostLevels (t .tag)) _ e1 in
     let (content, free) = both (contentAllowed tables count t) (isNothing (firstFrom (standsAt (t .tag) (t .port)) 0 (Tokens.tokens i ledger))) e2 in
-    let port = ltb-true (t .port) (operandsAt g (t .tag .instruction)) (both (ltb (t .port) (operandsAt g (t .tag .instruction))) (Tokens.stateAllowed (drop (i * tokenWidth) ledger)) fields .0) in
+    let port = ltb-true (t .port) (operandsAt g (t .tag .instruction)) (both (ltb (t .port) (operandsAt g (t .tag .instruction))) (Tokens.tokenStateAllowed (drop (i * tokenWidth) ledger)) fields .0) in
     (omega (arith, two-operands (instructionAt g (t .tag .instruction) .code)), low-content (ltb (t .port) (arityOf tables (t .tag))) count (t .content) h content, nothing-free _ free)
 
 -- ---- the port of a token
@@ -185,7 +185,7 @@ unfolding arrivesAt tokenAllowed
 arrives-alone g tables ledger count i right e one =
     let t = Tokens.tokenAt ledger i in
     let fields = both (tokenAllowed g (drop (i * tokenWidth) ledger)) _ e .0 in
-    let port = ltb-true (t .port) (operandsAt g (t .tag .instruction)) (both (ltb (t .port) (operandsAt g (t .tag .instruction))) (Tokens.stateAllowed (drop (i * tokenWidth) ledger)) fields .0) in
+    let port = ltb-true (t .port) (operandsAt g (t .tag .instruction)) (both (ltb (t .port) (operandsAt g (t .tag .instruction))) (Tokens.tokenStateAllowed (drop (i * tokenWidth) ledger)) fields .0) in
     omega (arith, operands-of g tables right (t .tag) (λ z. omega (arith, one)))
 
 -- ---- counts

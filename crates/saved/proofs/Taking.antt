@@ -24,7 +24,7 @@ use Rattle.machine.proofs.Taken as Taken
 use Rattle.machine.proofs.Taken.{upTo}
 use Rattle.rules.specs.Check.{operandsAt}
 use Rattle.rules.specs.Run.{tokenHeld}
-use Rattle.rules.specs.Saved.{stateSaved, machineSaved, tokenAllowed, taken}
+use Rattle.rules.specs.Saved.{stateSaved, machineSaved, tokenAllowed, stateTaken}
 use Rattle.rules.proofs.Passed.{both}
 use Rattle.rules.proofs.Saved.{tests, saved-under}
 use Rattle.abstraction.specs.Tables.{Arities, arraysIn}
@@ -47,10 +47,10 @@ module _ {A : Type 0} (P : A → Type 0) (w : ℕ) (read : List ℕ → A) where
   )
 
 -- cells that are written as they stand
-cells-own : (n : ℕ) (l : List ℕ) → ((c : ℕ) → c < n → Cells.encode (Cells.cellAt l c) ≡ take cellWidth (drop (c * cellWidth) l)) → joined Cells.encode (Cells.cells n l) ≡ joined (λ (b : List ℕ). b) (rows cellWidth (take cellWidth) n l)
+cells-own : (n : ℕ) (l : List ℕ) → ((c : ℕ) → c < n → Cells.encodeCell (Cells.cellOfRecord l c) ≡ take cellWidth (drop (c * cellWidth) l)) → joined Cells.encodeCell (Cells.cells n l) ≡ joined (λ (b : List ℕ). b) (rows cellWidth (take cellWidth) n l)
 cells-own zero l h = refl
 cells-own (suc n) l h =
-    let later : (c : ℕ) → c < n → Cells.encode (Cells.cellAt (drop cellWidth l) c) ≡ take cellWidth (drop (c * cellWidth) (drop cellWidth l)) = λ c k.
+    let later : (c : ℕ) → c < n → Cells.encodeCell (Cells.cellOfRecord (drop cellWidth l) c) ≡ take cellWidth (drop (c * cellWidth) (drop cellWidth l)) = λ c k.
     let n : cellWidth + c * cellWidth ≡ suc c * cellWidth = omega arith in
     let m : drop (c * cellWidth) (drop cellWidth l) ≡ drop (suc c * cellWidth) l = drop-drop (c * cellWidth) cellWidth l ∙ ap (λ (j : ℕ). drop j l) n in
     rw m (h (suc c) (omega arith)) in
@@ -63,39 +63,39 @@ module _ (graph ledger cells tables : List ℕ) (firings used : ℕ) (right : Ar
   abbrev count : ℕ
   count = length cells / cellWidth
 
-  by-taken : (taken graph ledger cells firings used ≡ true → ⊥) → false ≡ taken graph ledger cells firings used
-  by-taken h = go (taken graph ledger cells firings used) refl
+  by-taken : (stateTaken graph ledger cells firings used ≡ true → ⊥) → false ≡ stateTaken graph ledger cells firings used
+  by-taken h = go (stateTaken graph ledger cells firings used) refl
     where
-      go : (b : Bool) → taken graph ledger cells firings used ≡ b → false ≡ b
+      go : (b : Bool) → stateTaken graph ledger cells firings used ≡ b → false ≡ b
       go true e = absurd (h e)
       go false e = refl
 
   -- more tokens than there are records
-  pub too-many : length ledger / tokenWidth < used → false ≡ taken graph ledger cells firings used
+  pub too-many : length ledger / tokenWidth < used → false ≡ stateTaken graph ledger cells firings used
   unfolding stateSaved
   too-many h = by-taken (λ e.
       let r = Taken.tested (machineSaved graph [] ledger cells) firings (stateSaved ledger cells used) (tests graph ledger cells firings used e .machine) .room in
-      omega (arith, length-map (tokens used ledger) tokenHeld, length-rows tokenWidth Tokens.decode used ledger))
+      omega (arith, length-map (tokens used ledger) tokenHeld, length-rows tokenWidth Tokens.decodeToken used ledger))
 
-  pub not-taken : (Passes g tables ledger cells firings used → ⊥) → false ≡ taken graph ledger cells firings used
+  pub not-taken : (Passes g tables ledger cells firings used → ⊥) → false ≡ stateTaken graph ledger cells firings used
   not-taken h = by-taken (λ e. h (taken-passes graph ledger cells tables used right firings e))
 
   module _ (room : used ≤ length ledger / tokenWidth) (p : Passes g tables ledger cells firings used) where
-    pub is-taken : true ≡ taken graph ledger cells firings used
+    pub is-taken : true ≡ stateTaken graph ledger cells firings used
     is-taken = sym (passes-taken graph ledger cells tables used right firings room p)
 
     arrived : Arrived g (tokens used ledger)
     unfolding arrivesAt tokenAllowed
-    arrived = rows-each (λ (t : Record.Token). t .port < operandsAt g (t .tag .instruction)) tokenWidth Tokens.decode used ledger (λ i h.
+    arrived = rows-each (λ (t : Record.Token). t .port < operandsAt g (t .tag .instruction)) tokenWidth Tokens.decodeToken used ledger (λ i h.
         let a = both (tokenAllowed g (drop (i * tokenWidth) ledger)) _ (upTo (arrivesAt g tables ledger count) used i (p .arrive) h) .0 in
-        ltb-true _ _ (both (ltb (tokenAt ledger i .port) (operandsAt g (tokenAt ledger i .tag .instruction))) (Tokens.stateAllowed (drop (i * tokenWidth) ledger)) a .0))
+        ltb-true _ _ (both (ltb (tokenAt ledger i .port) (operandsAt g (tokenAt ledger i .tag .instruction))) (Tokens.tokenStateAllowed (drop (i * tokenWidth) ledger)) a .0))
 
     module _ (links flags : List ℕ) (matching : Matching tables links flags ledger used) (few : length ledger / tokenWidth ≤ 2048) (whole : length cells % cellWidth ≡ 0) (fewCells : length cells / cellWidth ≤ 1024)
         (bytes : (c : ℕ) → c < length cells / cellWidth → CellBytes cells c) where
       store : CellStore cells
       store = record {
         bytes = sym (take-all (count * cellWidth) cells (omega arith)) ∙ sym (rows-raw cellWidth count cells) ∙ sym (cells-own count cells (λ c h. bytes c h .0));
-        fits = rows-each Cells.CellFits cellWidth Cells.decode count cells (λ c h. bytes c h .1);
+        fits = rows-each Cells.CellFits cellWidth Cells.decodeCell count cells (λ c h. bytes c h .1);
         few = fewCells;
       }
 
@@ -115,6 +115,6 @@ module _ (graph ledger cells tables : List ℕ) (firings used : ℕ) (right : Ar
     pub passes : allUpTo (cellRight (tokens used ledger) cells) count ≡ true → Passes g tables ledger cells firings used
     passes e = record { arrive = arrive; partnered = partnered; counted = counted; cellsRight = e }
 
-    pub decides : (b : Bool) → b ≡ allUpTo (cellRight (tokens used ledger) cells) count → b ≡ taken graph ledger cells firings used
+    pub decides : (b : Bool) → b ≡ allUpTo (cellRight (tokens used ledger) cells) count → b ≡ stateTaken graph ledger cells firings used
     decides true e = is-taken room (passes (sym e))
     decides false e = not-taken (λ p. falseTrue (e ∙ p .cellsRight))

@@ -13,7 +13,7 @@ use Rattle.record.specs.declared.tag.Tag.{Tag}
 use Rattle.record.specs.declared.token.Token.{Token}
 use Rattle.record.specs.declared.instruction.Instruction.{Instruction}
 use Rattle.buffer.proofs.Tables.{length-rows, getD-rows}
-use Rattle.record.specs.TokensAndTags.{tokens, tokenAt, decode, standsAt}
+use Rattle.record.specs.TokensAndTags.{tokens, tokenAt, decodeToken, standsAt, isSpentRecord}
 use Rattle.record.specs.Widths.{tokenWidth}
 use Rattle.machine.specs.Saved.{allUpTo}
 use Rattle.machine.proofs.View.{falseTrue}
@@ -26,7 +26,7 @@ use Rattle.store_enabled.specs.Enabled.{arityOf}
 use Rattle.store_enabled.proofs.Right.{tag-own}
 use Rattle.abstraction.specs.States.{noToken}
 use Rattle.abstraction.proofs.Keys.{stands-tag, stands-port, search-at, search-nothing}
-use Rattle.saved.specs.Passes.{arrivesAt, isSpent, spentFound, partneredAt, spentOfTwo, closesAt, countUpTo, firstSpent, entersAll}
+use Rattle.saved.specs.Passes.{arrivesAt, spentFound, partneredAt, spentOfTwo, closesAt, countUpTo, firstSpent, entersAll}
 use Rattle.saved.proofs.Laws.{arrives-parts}
 use Rattle.saved.proofs.Pairs.{count-same, met, closes, lone, met-not, met-yes, pairs-all, all-pairs}
 
@@ -59,11 +59,11 @@ module _ (tables ledger : List ℕ) (used : ℕ) (low : (i : ℕ) → i < used �
   -- of two with one key the later could not arrive
   apart : (k i j : ℕ) → j < used → partner k i ≡ true → partner k j ≡ true → i < j → ⊥
   apart k i j h p q l =
-      let n : i < length (tokens j ledger) = rw (length-rows tokenWidth decode j ledger) l in
+      let n : i < length (tokens j ledger) = rw (length-rows tokenWidth decodeToken j ledger) l in
       let tag : tok j .tag ≡ tok k .tag = stands-tag (tok k .tag) (1 - tok k .port) (tok j) q in
       let port : tok j .port ≡ 1 - tok k .port = stands-port (tok k .tag) (1 - tok k .port) (tok j) q in
       let gone = search-nothing (standsAt (tok j .tag) (tok j .port)) noToken (tokens j ledger) (free j h) i n in
-      falseTrue (sym (rw (getD-rows tokenWidth decode j i ledger noToken l, tag, port) at gone) ∙ p)
+      falseTrue (sym (rw (getD-rows tokenWidth decodeToken j i ledger noToken l, tag, port) at gone) ∙ p)
 
   one : (k i j : ℕ) → k < used → i < used → j < used → partner k i ≡ true → partner k j ≡ true → i ≡ j
   one k i j h a b p q = go (decLe (suc i) j) (decLe (suc j) i)
@@ -77,13 +77,13 @@ module _ (tables ledger : List ℕ) (used : ℕ) (low : (i : ℕ) → i < used �
 
   two : (k : ℕ) → marked k ≡ true → eqb (arityOf tables (tok k .tag)) 2 ≡ true
   unfolding spentOfTwo
-  two k m = both (isSpent (tok k .content)) _ m .1
+  two k m = both (isSpentRecord (tok k .content)) _ m .1
 
-  spent : (k : ℕ) → marked k ≡ true → isSpent (tok k .content) ≡ true
+  spent : (k : ℕ) → marked k ≡ true → isSpentRecord (tok k .content) ≡ true
   unfolding spentOfTwo
-  spent k m = both (isSpent (tok k .content)) _ m .0
+  spent k m = both (isSpentRecord (tok k .content)) _ m .0
 
-  mark : (k j : ℕ) → marked k ≡ true → partner k j ≡ true → isSpent (tok j .content) ≡ true → marked j ≡ true
+  mark : (k j : ℕ) → marked k ≡ true → partner k j ≡ true → isSpentRecord (tok j .content) ≡ true → marked j ≡ true
   unfolding spentOfTwo
   mark k j m p s = rw (s, stands-tag (tok k .tag) (1 - tok k .port) (tok j) p) (two k m)
 
@@ -91,12 +91,12 @@ module _ (tables ledger : List ℕ) (used : ℕ) (low : (i : ℕ) → i < used �
   met-found k n h r m = go (firstFrom (standsAt (tok k .tag) (1 - tok k .port)) 0 (tokens n ledger)) refl
     where
       size : length (tokens n ledger) ≡ n
-      size = length-rows tokenWidth decode n ledger
+      size = length-rows tokenWidth decodeToken n ledger
 
       here : (j : ℕ) → j < n → getD (tokens n ledger) j noToken ≡ tok j
-      here j l = getD-rows tokenWidth decode n j ledger noToken l
+      here j l = getD-rows tokenWidth decodeToken n j ledger noToken l
 
-      at : (j : ℕ) → j < n → partner k j ≡ true → (b : Bool) → isSpent (tok j .content) ≡ b → met marked partner k n ≡ b
+      at : (j : ℕ) → j < n → partner k j ≡ true → (b : Bool) → isSpentRecord (tok j .content) ≡ b → met marked partner k n ≡ b
       at j l p true s = met-yes marked partner k n j l p (mark k j m p s)
       at j l p false s = met-not marked partner k n (λ i a q z.
           let e : i ≡ j = one k i j h (omega arith) (omega arith) q p in
@@ -108,7 +108,7 @@ module _ (tables ledger : List ℕ) (used : ℕ) (low : (i : ℕ) → i < used �
       go (At j) e =
           let w = search-at (standsAt (tok k .tag) (1 - tok k .port)) noToken j (tokens n ledger) e in
           let l : j < n = rw (← size) (w .within) in
-          at j l (rw (here j l) at (w .passes)) (isSpent (tok j .content)) refl
+          at j l (rw (here j l) at (w .passes)) (isSpentRecord (tok j .content)) refl
 
   -- ---- record by record
 
@@ -132,9 +132,9 @@ module _ (tables ledger : List ℕ) (used : ℕ) (low : (i : ℕ) → i < used �
       off true false e = refl
       off false b e = refl
 
-      go : (b : Bool) → marked k ≡ b → (b && not (met marked partner k used)) ≡ not (not (isSpent (tok k .content)) || (not (eqb (arityOf tables (tok k .tag)) 2) || found))
+      go : (b : Bool) → marked k ≡ b → (b && not (met marked partner k used)) ≡ not (not (isSpentRecord (tok k .content)) || (not (eqb (arityOf tables (tok k .tag)) 2) || found))
       go true m = rw (spent k m, two k m, met-found k used h (omega arith) m)
-      go false m = off (isSpent (tok k .content)) (eqb (arityOf tables (tok k .tag)) 2) m
+      go false m = off (isSpentRecord (tok k .content)) (eqb (arityOf tables (tok k .tag)) 2) m
 
   -- ---- together
 

@@ -13,9 +13,9 @@ use Rattle.record.specs.declared.token.Content.the-variants.{Live, Spent, Defer
 use Rattle.record.specs.declared.cell.Cell.{Cell}
 use Rattle.record.specs.declared.cell.Cell.the-variants.{Absent, Waiting, Present}
 use Rattle.record.specs.declared.instruction.Instruction.{Instruction}
-use Rattle.record.specs.TokensAndTags.{tokens, tokenAt, standsAt}
+use Rattle.record.specs.TokensAndTags.{tokens, tokenAt, standsAt, isSpentRecord}
 use Rattle.record.specs.Calls.{mostLevels}
-use Rattle.record.specs.Cells.{cellAt}
+use Rattle.record.specs.Cells.{cellOfRecord}
 use Rattle.record.specs.Cells as Cells
 use Rattle.record.specs.Widths.{tokenWidth, cellWidth}
 use Rattle.machine.specs.Saved.{allUpTo}
@@ -28,8 +28,8 @@ use Rattle.store_chains.specs.Deferred.{anyOn}
 use Rattle.store_enabled.specs.Enabled.{arityOf}
 
 -- a table by site is 0 where no ENTER has the site
-abbrev pub Entered : List Instruction → (sites : List ℕ) → Type 0
-Entered g sites = (site : ℕ) → site < 256 → any (entersSite (pos site)) g ≡ not (eqb (getD sites site 0) 0)
+abbrev pub EnteredSites : List Instruction → (sites : List ℕ) → Type 0
+EnteredSites g sites = (site : ℕ) → site < 256 → any (entersSite (pos site)) g ≡ not (eqb (getD sites site 0) 0)
 
 -- ---- each token as it arrives
 
@@ -56,25 +56,20 @@ arrivesAt g tables ledger count i =
 
 -- ---- operands spent together, and the firings
 
-abbrev pub isSpent : Content → Bool
-isSpent (Live v) = false
-isSpent (Spent v) = true
-isSpent (Deferred c) = false
-
 abbrev pub spentFound : (ℕ → Token) → Found → Bool
-spentFound at (At i) = isSpent (at i .content)
+spentFound at (At i) = isSpentRecord (at i .content)
 spentFound at Nothing = false
 
 -- record i: "a tag's operands all present and spent or none spent", which is asked of the other port where there are two
 unfoldable pub partneredAt : (tables ledger : List ℕ) → (used i : ℕ) → Bool
 partneredAt tables ledger used i =
-    not (isSpent (tokenAt ledger i .content))
+    not (isSpentRecord (tokenAt ledger i .content))
     || (not (eqb (arityOf tables (tokenAt ledger i .tag)) 2)
     || spentFound (tokenAt ledger) (firstFrom (standsAt (tokenAt ledger i .tag) (1 - tokenAt ledger i .port)) 0 (tokens used ledger)))
 
 -- record i is a spent operand of a tag that waits for two
 unfoldable pub spentOfTwo : (tables ledger : List ℕ) → (i : ℕ) → Bool
-spentOfTwo tables ledger i = isSpent (tokenAt ledger i .content) && eqb (arityOf tables (tokenAt ledger i .tag)) 2
+spentOfTwo tables ledger i = isSpentRecord (tokenAt ledger i .content) && eqb (arityOf tables (tokenAt ledger i .tag)) 2
 
 -- and the other one came before it, and is spent too. Operands are spent together exactly if half of those above are such
 unfoldable pub closesAt : (tables ledger : List ℕ) → (i : ℕ) → Bool
@@ -88,7 +83,7 @@ countUpTo test (suc n) = cond (test n) (suc (countUpTo test n)) (countUpTo test 
 
 -- a spent token on port 0 stands for its tag's firing
 abbrev pub firstSpent : (ledger : List ℕ) → (i : ℕ) → Bool
-firstSpent ledger i = eqb (tokenAt ledger i .port) 0 && isSpent (tokenAt ledger i .content)
+firstSpent ledger i = eqb (tokenAt ledger i .port) 0 && isSpentRecord (tokenAt ledger i .content)
 
 -- all that one pass over the tokens asks
 unfoldable pub entersAll : List Instruction → (tables ledger : List ℕ) → (count firings used : ℕ) → Bool
@@ -99,18 +94,18 @@ entersAll g tables ledger count firings used =
 
 -- ---- the cells
 
-abbrev pub isWaiting : Cell → Bool
-isWaiting Absent = false
-isWaiting Waiting = true
-isWaiting (Present v) = false
+abbrev pub isWaitingRecord : Cell → Bool
+isWaitingRecord Absent = false
+isWaitingRecord Waiting = true
+isWaitingRecord (Present v) = false
 
 -- cell c: "fields and states allowed", "cell values 0 until present", "cells waiting exactly where one is deferred on them"
 unfoldable pub cellRight : (ts : List Token) → (cells : List ℕ) → (c : ℕ) → Bool
-cellRight ts cells c = cellAllowed (drop (c * cellWidth) cells) && cond (isWaiting (cellAt cells c)) (anyOn c ts) (not (anyOn c ts))
+cellRight ts cells c = cellAllowed (drop (c * cellWidth) cells) && cond (isWaitingRecord (cellOfRecord cells c)) (anyOn c ts) (not (anyOn c ts))
 
 -- the bytes of cell record c are those of its cell
 abbrev pub CellBytes : (cells : List ℕ) → (c : ℕ) → Type 0
-CellBytes cells c = (Cells.encode (Cells.cellAt cells c) ≡ take cellWidth (drop (c * cellWidth) cells)) × Cells.CellFits (Cells.cellAt cells c)
+CellBytes cells c = (Cells.encodeCell (Cells.cellOfRecord cells c) ≡ take cellWidth (drop (c * cellWidth) cells)) × Cells.CellFits (Cells.cellOfRecord cells c)
 
 -- ---- all of it; more tokens than the ledger has records are none of it
 

@@ -24,26 +24,26 @@ ghost use lib.ListN.{length, take, drop, replicate};
 ghost use lib.Dec.{eqb, ltb};
 ghost use Rattle.record.specs.declared.instruction.Instruction.{Instruction};
 ghost use Rattle.record.specs.GraphRecords.{graphOf};
-ghost use Rattle.record.specs.TokensAndTags.{encode, decode, tokens, tokenAt, TokenFits};
+ghost use Rattle.record.specs.TokensAndTags.{encodeToken, decodeToken, tokens, tokenAt, TokenFits, isSpentRecord};
 ghost use Rattle.record.specs.Calls.{mostLevels};
 ghost use Rattle.record.specs.Cells as Cells;
 ghost use Rattle.record.specs.Widths.{tokenWidth, cellWidth};
 ghost use Rattle.machine.specs.Saved.{allUpTo};
 ghost use Rattle.abstraction.specs.Tables.{Arities};
 ghost use Rattle.rules.specs.Check.{operandsAt};
-ghost use Rattle.rules.specs.Saved.{tokenAllowed, cellAllowed, pathMade, taken};
-ghost use Rattle.store_chains.specs.Search.{Within};
+ghost use Rattle.rules.specs.Saved.{tokenAllowed, cellAllowed, pathMade, stateTaken};
+ghost use Rattle.store_chains.specs.Search.{FoundWithin};
 ghost use Rattle.store_enabled.specs.Store.{Known};
 ghost use Rattle.store.specs.Matching.{Matching};
 ghost use Rattle.fire.specs.Running.{Prepared, Running};
-ghost use Rattle.saved.specs.Passes.{Entered, contentAllowed, isNothing, arrivesAt, isSpent, spentFound, spentOfTwo, closesAt, firstSpent, entersAll, isWaiting, CellBytes, cellRight};
+ghost use Rattle.saved.specs.Passes.{EnteredSites, contentAllowed, isNothing, arrivesAt, spentFound, spentOfTwo, closesAt, firstSpent, entersAll, isWaitingRecord, CellBytes, cellRight};
 
 // The most levels of calls.
 const LEVELS: usize = 8;
 
 // A table by site of the returns of ENTERs: 0 where no ENTER has the site.
 fn find_sites(graph: &[u8], sites: &mut [u32; 256])
-    ensures { λ _. ⌜ Entered (graphOf (now (graph .entry))) (now (sites .exit)) ⌝ }
+    ensures { λ _. ⌜ EnteredSites (graphOf (now (graph .entry))) (now (sites .exit)) ⌝ }
 {
     *sites = [0u32; 256];
     let mut i = 0;
@@ -61,7 +61,7 @@ fn wide(x: u8) -> usize
 
 // Whether a path is made of sites that have an ENTER, with its levels unbroken: LEAVE finds one after the other.
 fn path_made(sites: &[u32; 256], tag: Tag) -> bool
-    ensures { λ r. ⌜ ((g : List Instruction) → Entered g (now (sites .entry)) → r ≡ pathMade g mostLevels tag) ⌝ }
+    ensures { λ r. ⌜ ((g : List Instruction) → EnteredSites g (now (sites .entry)) → r ≡ pathMade g mostLevels tag) ⌝ }
 {
     let mut at = tag;
     let mut more = LEVELS;
@@ -123,7 +123,7 @@ fn port_allowed(graph: &[u8], tables: &Tables, t: Token) -> bool
 fn token_allowed(graph: &[u8], tables: &Tables, s: &[u8]) -> bool
     requires { ⌜ (tokenWidth ≤ length (now s)) × Arities (graphOf (now graph)) (now tables) ⌝ }
     ensures { λ r. ⌜ r ≡ tokenAllowed (graphOf (now (graph .entry))) (now (s .entry)) ⌝ }
-    ensures { λ r. ⌜ (r ≡ true → (encode (decode (now (s .entry))) ≡ take tokenWidth (now (s .entry))) × TokenFits (decode (now (s .entry)))) ⌝ }
+    ensures { λ r. ⌜ (r ≡ true → (encodeToken (decodeToken (now (s .entry))) ≡ take tokenWidth (now (s .entry))) × TokenFits (decodeToken (now (s .entry)))) ⌝ }
 {
     port_allowed(graph, tables, token::decode(s)) && token::state_allowed(s)
 }
@@ -147,9 +147,9 @@ fn arrives(
     count: usize,
     i: usize,
 ) -> bool
-    requires { ⌜ (i < length (now ledger) / tokenWidth) × Known (now links) (now ledger) i × Entered (graphOf (now graph)) (now sites) × Arities (graphOf (now graph)) (now tables) ⌝ }
+    requires { ⌜ (i < length (now ledger) / tokenWidth) × Known (now links) (now ledger) i × EnteredSites (graphOf (now graph)) (now sites) × Arities (graphOf (now graph)) (now tables) ⌝ }
     ensures { λ r. ⌜ r ≡ arrivesAt (graphOf (now (graph .entry))) (now (tables .entry)) (now (ledger .entry)) count i ⌝ }
-    ensures { λ r. ⌜ (r ≡ true → (encode (tokenAt (now (ledger .entry)) i) ≡ take tokenWidth (drop (i * tokenWidth) (now (ledger .entry)))) × TokenFits (tokenAt (now (ledger .entry)) i)) ⌝ }
+    ensures { λ r. ⌜ (r ≡ true → (encodeToken (tokenAt (now (ledger .entry)) i) ≡ take tokenWidth (drop (i * tokenWidth) (now (ledger .entry)))) × TokenFits (tokenAt (now (ledger .entry)) i)) ⌝ }
 {
     if !token_allowed(graph, tables, buffer::row_at(ledger, token::WIDTH, i)) {
         return false;
@@ -166,7 +166,7 @@ fn arrives(
 }
 
 fn is_spent(content: Content) -> bool
-    ensures { λ r. ⌜ r ≡ isSpent content ⌝ }
+    ensures { λ r. ⌜ r ≡ isSpentRecord content ⌝ }
 {
     match content {
         Content::Live(_) => false,
@@ -176,7 +176,7 @@ fn is_spent(content: Content) -> bool
 }
 
 fn spent_found(ledger: &[u8], used: usize, f: Found) -> bool
-    requires { ⌜ Within f used × (used ≤ length (now ledger) / tokenWidth) ⌝ }
+    requires { ⌜ FoundWithin f used × (used ≤ length (now ledger) / tokenWidth) ⌝ }
     ensures { λ r. ⌜ r ≡ spentFound (tokenAt (now (ledger .entry))) f ⌝ }
 {
     match f {
@@ -243,7 +243,9 @@ fn enter(
     firings: usize,
     used: usize,
 ) -> bool
-    requires { ⌜ Matching (now tables) (now links) (now flags) (now ledger) 0 × (used ≤ length (now ledger) / tokenWidth) × (length (now ledger) / tokenWidth ≤ 2048) × (count ≤ 1024) × Entered (graphOf (now graph)) (now sites) × Arities (graphOf (now graph)) (now tables) ⌝ }
+    requires { ⌜ Matching (now tables) (now links) (now flags) (now ledger) 0
+        × (used ≤ length (now ledger) / tokenWidth) × (length (now ledger) / tokenWidth ≤ 2048) × (count ≤ 1024)
+        × EnteredSites (graphOf (now graph)) (now sites) × Arities (graphOf (now graph)) (now tables) ⌝ }
     ensures { λ r. ⌜ r ≡ entersAll (graphOf (now (graph .entry))) (now (tables .entry)) (now (ledger .entry)) count firings used ⌝ }
     ensures { λ r. ⌜ (r ≡ true → Matching (now (tables .entry)) (now (links .exit)) (now (flags .exit)) (now (ledger .entry)) used) ⌝ }
 {
@@ -271,7 +273,7 @@ fn enter(
 }
 
 fn is_waiting(cell: Cell) -> bool
-    ensures { λ r. ⌜ r ≡ isWaiting cell ⌝ }
+    ensures { λ r. ⌜ r ≡ isWaitingRecord cell ⌝ }
 {
     match cell {
         Cell::Absent => false,
@@ -284,7 +286,7 @@ fn is_waiting(cell: Cell) -> bool
 fn cell_allowed(s: &[u8]) -> bool
     requires { ⌜ cellWidth ≤ length (now s) ⌝ }
     ensures { λ r. ⌜ r ≡ cellAllowed (now (s .entry)) ⌝ }
-    ensures { λ r. ⌜ (r ≡ true → (Cells.encode (Cells.decode (now (s .entry))) ≡ take cellWidth (now (s .entry))) × Cells.CellFits (Cells.decode (now (s .entry)))) ⌝ }
+    ensures { λ r. ⌜ (r ≡ true → (Cells.encodeCell (Cells.decodeCell (now (s .entry))) ≡ take cellWidth (now (s .entry))) × Cells.CellFits (Cells.decodeCell (now (s .entry)))) ⌝ }
 {
     cell::state_allowed(s) && cell::zero_until_present(s)
 }
@@ -309,7 +311,8 @@ fn cell_right(links: &Links, cells: &[u8], c: usize) -> bool
 // The pass over the cells.
 fn cells_right(links: &Links, cells: &[u8]) -> bool
     requires { ⌜ length (now cells) / cellWidth ≤ 1024 ⌝ }
-    ensures { λ r. ⌜ ((tables flags ledger : List ℕ) (used : ℕ) → Matching tables (now (links .entry)) flags ledger used → r ≡ allUpTo (cellRight (tokens used ledger) (now (cells .entry))) (length (now (cells .entry)) / cellWidth)) ⌝ }
+    ensures { λ r. ⌜ ((tables flags ledger : List ℕ) (used : ℕ) → Matching tables (now (links .entry)) flags ledger used
+        → r ≡ allUpTo (cellRight (tokens used ledger) (now (cells .entry))) (length (now (cells .entry)) / cellWidth)) ⌝ }
     ensures { λ r. ⌜ (r ≡ true → (c : ℕ) → c < length (now (cells .entry)) / cellWidth → CellBytes (now (cells .entry)) c) ⌝ }
 {
     let mut c = 0;
@@ -333,8 +336,10 @@ pub fn take(
     firings: usize,
     used: usize,
 ) -> bool
-    requires { ⌜ Prepared (now graph) (now tables) × (length (now ledger) / tokenWidth ≤ 2048) × (length (now cells) % cellWidth ≡ 0) × (length (now cells) / cellWidth ≤ 1024) × (now links ≡ replicate 9216 0) × (now flags ≡ replicate 69 0) ⌝ }
-    ensures { λ r. ⌜ r ≡ taken (now (graph .entry)) (now (ledger .entry)) (now (cells .entry)) firings used ⌝ }
+    requires { ⌜ Prepared (now graph) (now tables)
+        × (length (now ledger) / tokenWidth ≤ 2048) × (length (now cells) % cellWidth ≡ 0) × (length (now cells) / cellWidth ≤ 1024)
+        × (now links ≡ replicate 9216 0) × (now flags ≡ replicate 69 0) ⌝ }
+    ensures { λ r. ⌜ r ≡ stateTaken (now (graph .entry)) (now (ledger .entry)) (now (cells .entry)) firings used ⌝ }
     ensures { λ r. ⌜ (r ≡ true → Running (graphOf (now (graph .entry))) (now (tables .entry)) (now (links .exit)) (now (flags .exit)) (now (ledger .entry)) (now (cells .entry)) used) ⌝ }
 {
     if ledger.len() / token::WIDTH < used {

@@ -23,7 +23,7 @@ use Rattle.rules.specs.declared.answer.Refusal.{Refusal}
 use Rattle.rules.specs.Run.{contentHeld, contentRecord, tokenHeld, tokenRecord, cellRecord, outcomeOf}
 use Rattle.abstraction.specs.States.{cellHeld}
 use Rattle.fire_outputs.specs.Outputs.{cellsIn}
-use Rattle.fire.specs.Running.{machineFor, stateIn, Running}
+use Rattle.fire.specs.Running.{machineOver, stateIn, Running}
 use Rattle.start.specs.Ended.{EndedAt}
 
 -- ---- records and the machine's tokens and cells, there and back
@@ -52,26 +52,26 @@ module _ (g : List Instruction) {tables links flags ledger′ cells′ : List �
     (last : Running g tables links flags ledger′ cells′ n) (ledger cells : List ℕ)
     (rest : drop (n * tokenWidth) ledger′ ≡ drop (n * tokenWidth) ledger) (cellSize : length cells′ ≡ length cells) where
   size : length (tokens n ledger′) ≡ n
-  size = length-rows tokenWidth Tokens.decode n ledger′
+  size = length-rows tokenWidth Tokens.decodeToken n ledger′
 
   ledger-left : ledger′ ≡ ledgerOf (map tokenRecord (map tokenHeld (tokens n ledger′))) ledger
   ledger-left =
-      let bytes : length (joined Tokens.encode (tokens n ledger′)) ≡ n * tokenWidth = length-joined tokenWidth Tokens.encode length-token (tokens n ledger′) ∙ ap (λ (k : ℕ). k * tokenWidth) size in
+      let bytes : length (joined Tokens.encodeToken (tokens n ledger′)) ≡ n * tokenWidth = length-joined tokenWidth Tokens.encodeToken length-token (tokens n ledger′) ∙ ap (λ (k : ℕ). k * tokenWidth) size in
       matching-ledger (last .matching)
-      ∙ ap (λ (l : List ℕ). joined Tokens.encode (tokens n ledger′) ++ l) (rest ∙ ap (λ (k : ℕ). drop k ledger) (sym bytes))
+      ∙ ap (λ (l : List ℕ). joined Tokens.encodeToken (tokens n ledger′) ++ l) (rest ∙ ap (λ (k : ℕ). drop k ledger) (sym bytes))
       ∙ sym (ap (λ (ts : List Record.Token). ledgerOf ts ledger) (tokens-back (tokens n ledger′)))
 
-  cells-left : cells′ ≡ writtenOver Cells.encode (map cellRecord (map cellHeld (cellsIn cells′))) cells
+  cells-left : cells′ ≡ writtenOver Cells.encodeCell (map cellRecord (map cellHeld (cellsIn cells′))) cells
   cells-left =
       let b = last .store .bytes in
-      let short : length cells ≤ length (joined Cells.encode (cellsIn cells′)) = omega (arith, ap length b, cellSize) in
-      let none : drop (length (joined Cells.encode (cellsIn cells′))) cells ≡ [] = drop-of-length-le cells short in
+      let short : length cells ≤ length (joined Cells.encodeCell (cellsIn cells′)) = omega (arith, ap length b, cellSize) in
+      let none : drop (length (joined Cells.encodeCell (cellsIn cells′))) cells ≡ [] = drop-of-length-le cells short in
       b
-      ∙ sym (append-nil (joined Cells.encode (cellsIn cells′)))
-      ∙ ap (λ (l : List ℕ). joined Cells.encode (cellsIn cells′) ++ l) (sym none)
-      ∙ sym (ap (λ (cs : List RecordCell.Cell). writtenOver Cells.encode cs cells) (cells-back (cellsIn cells′)))
+      ∙ sym (append-nil (joined Cells.encodeCell (cellsIn cells′)))
+      ∙ ap (λ (l : List ℕ). joined Cells.encodeCell (cellsIn cells′) ++ l) (sym none)
+      ∙ sym (ap (λ (cs : List RecordCell.Cell). writtenOver Cells.encodeCell cs cells) (cells-back (cellsIn cells′)))
 
-  pub left : (o : Outcome Refusal) (f : ℕ) → EndedAt (end (machineFor g tables ledger cells) o f (stateIn ledger′ cells′ n)) (record { outcome = outcomeOf o; firings = f; tokens = n }) ledger cells ledger′ cells′
+  pub left : (o : Outcome Refusal) (f : ℕ) → EndedAt (end (machineOver g tables ledger cells) o f (stateIn ledger′ cells′ n)) (record { outcome = outcomeOf o; firings = f; tokens = n }) ledger cells ledger′ cells′
   left o f = record {
     answered = λ i. record { outcome = outcomeOf o; firings = f; tokens = sym (length-map (tokens n ledger′) tokenHeld ∙ size) i };
     ledgerLeft = ledger-left;

@@ -46,7 +46,7 @@ use Rattle.abstraction.specs.Tables.{Arities, arraysIn, TablesOf}
 use Rattle.abstraction.proofs.Keys.{alone-free}
 use Rattle.fire_outputs.specs.Outputs.{cellsIn, CellStore}
 use Rattle.fire_outputs.proofs.Laws.{rest-on}
-use Rattle.load.specs.Loaded.{Proper, Alone, Loaded}
+use Rattle.load.specs.Loaded.{ProperArrival, Alone, Loaded}
 use Rattle.load.proofs.Laws.{zeros-joined, absent-fit, zeros-cells}
 use Rattle.fire.specs.Running.{stateIn, Arrived, Running}
 use Rattle.fire.proofs.Place.{on-ports}
@@ -55,13 +55,13 @@ use Rattle.start.specs.Ended.{EndedAt}
 
 -- ---- the inputs
 
-rows-all : (P : Record.Token → Type 0) (n : ℕ) (l : List ℕ) → ((i : ℕ) → i < n → P (Tokens.decode (drop (i * tokenWidth) l))) → All P (rows tokenWidth Tokens.decode n l)
+rows-all : (P : Record.Token → Type 0) (n : ℕ) (l : List ℕ) → ((i : ℕ) → i < n → P (Tokens.decodeToken (drop (i * tokenWidth) l))) → All P (rows tokenWidth Tokens.decodeToken n l)
 rows-all P zero l h = tt
 rows-all P (suc n) l h = (
   h 0 (omega arith),
   rows-all P n (drop tokenWidth l) (λ i k.
       let m : suc i * tokenWidth ≡ tokenWidth + i * tokenWidth = omega arith in
-      subst (λ (b : List ℕ). P (Tokens.decode b)) (ap (λ (j : ℕ). drop j l) m ∙ sym (drop-drop (i * tokenWidth) tokenWidth l)) (h (suc i) (omega arith))),
+      subst (λ (b : List ℕ). P (Tokens.decodeToken b)) (ap (λ (j : ℕ). drop j l) m ∙ sym (drop-drop (i * tokenWidth) tokenWidth l)) (h (suc i) (omega arith))),
 )
 
 low-live : (x : RecordContent.Content) → Orders.Live (some (contentHeld x)) → LowCell x
@@ -73,8 +73,8 @@ module _ (graph inputs : List ℕ) (capacity count : ℕ) (accepted : checkInput
   inputs-good : GoodInputs (graphOf graph) capacity inputs
   inputs-good = passed-inputs (graphOf graph) capacity inputs accepted
 
-  inputs-arrive : Arrived (graphOf graph) (allRows tokenWidth Tokens.decode inputs)
-  unfolding Tokens.decode
+  inputs-arrive : Arrived (graphOf graph) (allRows tokenWidth Tokens.decodeToken inputs)
+  unfolding Tokens.decodeToken
   inputs-arrive = rows-all (λ (t : Record.Token). t .port < operandsAt (graphOf graph) (t .tag .instruction)) (length inputs / tokenWidth) inputs
       (λ i h. passed-input (graphOf graph) (drop (i * tokenWidth) inputs) (inputs-good .good i h) .port)
 
@@ -84,28 +84,28 @@ module _ (graph inputs : List ℕ) (capacity count : ℕ) (accepted : checkInput
 
   module _ (tables : List ℕ) (arities : Arities (graphOf graph) tables) where
     -- where one operand is waited for, a token is on port 0
-    proper-one : (t : Record.Token) → t .port < operandsAt (graphOf graph) (t .tag .instruction) → (0 < arityIn (graphOf graph) (t .tag) → t .port < arityIn (graphOf graph) (t .tag)) → LowCell (t .content) → Proper tables t
+    proper-one : (t : Record.Token) → t .port < operandsAt (graphOf graph) (t .tag .instruction) → (0 < arityIn (graphOf graph) (t .tag) → t .port < arityIn (graphOf graph) (t .tag)) → LowCell (t .content) → ProperArrival tables t
     proper-one t a b c = record {
       low = arrives-port (graphOf graph) (record { tag = t .tag; port = t .port }) a;
       cell = c;
       alone = λ e. let one : arityIn (graphOf graph) (t .tag) ≡ 1 = sym (arities (t .tag)) ∙ e in omega (arith, one, b (omega (arith, one)));
     }
 
-    proper-all : (ts : List Record.Token) → Arrived (graphOf graph) ts → OnPorts (graphOf graph) ts → All (λ (t : Record.Token). LowCell (t .content)) ts → All (Proper tables) ts
+    proper-all : (ts : List Record.Token) → Arrived (graphOf graph) ts → OnPorts (graphOf graph) ts → All (λ (t : Record.Token). LowCell (t .content)) ts → All (ProperArrival tables) ts
     proper-all [] a b c = tt
     proper-all (t ∷ ts) a b c = (proper-one t (a .0) (b .0) (c .0), proper-all ts (a .1) (b .1) (c .1))
 
-    pub inputs-proper : All (Proper tables) (allRows tokenWidth Tokens.decode inputs)
+    pub inputs-proper : All (ProperArrival tables) (allRows tokenWidth Tokens.decodeToken inputs)
     unfolding firstState
     inputs-proper =
-        let ts = allRows tokenWidth Tokens.decode inputs in
+        let ts = allRows tokenWidth Tokens.decodeToken inputs in
         proper-all ts inputs-arrive (on-ports (graphOf graph) ts inputs-arrive) (low-cells ts (start (graphOf graph) [] capacity count inputs accepted .allLive))
 
   pub inputs-alone : Alone inputs
-  inputs-alone i h = alone-free (take i (allRows tokenWidth Tokens.decode inputs)) (Tokens.tokenAt inputs i) (inputs-good .alone i h)
+  inputs-alone i h = alone-free (take i (allRows tokenWidth Tokens.decodeToken inputs)) (Tokens.tokenAt inputs i) (inputs-good .alone i h)
 
   pub inputs-fit : length inputs / tokenWidth ≤ capacity
-  inputs-fit = omega (arith, inputs-good .fit, length-rows tokenWidth Tokens.decode (length inputs / tokenWidth) inputs)
+  inputs-fit = omega (arith, inputs-good .fit, length-rows tokenWidth Tokens.decodeToken (length inputs / tokenWidth) inputs)
 
 -- ---- the state
 
@@ -122,7 +122,7 @@ zeros-store : (l : List ℕ) (n : ℕ) → l ≡ replicate (n * cellWidth) 0 →
 zeros-store l n e h =
     let inside = zeros-in l n e in
     record {
-      bytes = e ∙ zeros-joined n ∙ sym (ap (joined Cells.encode) inside);
+      bytes = e ∙ zeros-joined n ∙ sym (ap (joined Cells.encodeCell) inside);
       fits = subst (λ cs. All Cells.CellFits cs) (sym inside) (absent-fit n);
       few = omega (arith, ap length e, length-replicate {A = ℕ} (n * cellWidth) 0);
     }
@@ -204,7 +204,7 @@ module _ (graph arrays inputs ledger cells : List ℕ) (accepted : Accepted grap
     unfolding firstState
     token-count =
         let n = reached-count N (lawful graph (accepted .graphPassed) (arraysOf arrays) (length ledger / tokenWidth) (length cells / cellWidth)) s₀ (good-start graph arrays inputs ledger cells accepted) (length τs) (reached .0) (e .state) (reached .1) in
-        omega (arith, n, ap (λ (x : State Tag ℤ). length (x .tokens)) (b .state), length-map (tokens used ledger₁) tokenHeld, length-rows tokenWidth Tokens.decode used ledger₁)
+        omega (arith, n, ap (λ (x : State Tag ℤ). length (x .tokens)) (b .state), length-map (tokens used ledger₁) tokenHeld, length-rows tokenWidth Tokens.decodeToken used ledger₁)
 
     cell-count : length (e .state .cells) ≡ length cells / cellWidth
     cell-count = reached-good N (lawful graph (accepted .graphPassed) (arraysOf arrays) (length ledger / tokenWidth) (length cells / cellWidth)) s₀ (good-start graph arrays inputs ledger cells accepted) (length τs) (reached .0) (e .state) (reached .1) .cellCount
@@ -213,14 +213,14 @@ module _ (graph arrays inputs ledger cells : List ℕ) (accepted : Accepted grap
     as-lent r ledger′ cells′ h =
         let ts = map tokenRecord (e .state .tokens) in
         let cs = map cellRecord (e .state .cells) in
-        let tokenBytes : length (joined Tokens.encode ts) ≡ length (e .state .tokens) * tokenWidth = length-joined tokenWidth Tokens.encode length-token ts ∙ ap (λ (n : ℕ). n * tokenWidth) (length-map (e .state .tokens) tokenRecord) in
-        let cellBytes : length (joined Cells.encode cs) ≡ length cells = length-joined cellWidth Cells.encode length-cell cs ∙ ap (λ (n : ℕ). n * cellWidth) (length-map (e .state .cells) cellRecord ∙ cell-count) ∙ sym (bytes graph arrays inputs ledger cells accepted) in
-        let rest : drop (length (joined Tokens.encode ts)) ledger₁ ≡ drop (length (joined Tokens.encode ts)) ledger =
+        let tokenBytes : length (joined Tokens.encodeToken ts) ≡ length (e .state .tokens) * tokenWidth = length-joined tokenWidth Tokens.encodeToken length-token ts ∙ ap (λ (n : ℕ). n * tokenWidth) (length-map (e .state .tokens) tokenRecord) in
+        let cellBytes : length (joined Cells.encodeCell cs) ≡ length cells = length-joined cellWidth Cells.encodeCell length-cell cs ∙ ap (λ (n : ℕ). n * cellWidth) (length-map (e .state .cells) cellRecord ∙ cell-count) ∙ sym (bytes graph arrays inputs ledger cells accepted) in
+        let rest : drop (length (joined Tokens.encodeToken ts)) ledger₁ ≡ drop (length (joined Tokens.encodeToken ts)) ledger =
         ap (λ (n : ℕ). drop n ledger₁) tokenBytes ∙ rest-on ledger₁ ledger used (length (e .state .tokens)) token-count (b .rest) ∙ sym (ap (λ (n : ℕ). drop n ledger) tokenBytes) in
-        let short₁ : length cells₁ ≤ length (joined Cells.encode cs) = omega (arith, cellBytes, b .cellSize) in
-        let short : length cells ≤ length (joined Cells.encode cs) = omega (arith, cellBytes) in
+        let short₁ : length cells₁ ≤ length (joined Cells.encodeCell cs) = omega (arith, cellBytes, b .cellSize) in
+        let short : length cells ≤ length (joined Cells.encodeCell cs) = omega (arith, cellBytes) in
         record {
           answered = h .answered;
-          ledgerLeft = h .ledgerLeft ∙ ap (λ (l : List ℕ). joined Tokens.encode ts ++ l) rest;
-          cellsLeft = h .cellsLeft ∙ ap (λ (l : List ℕ). joined Cells.encode cs ++ l) (drop-of-length-le cells₁ short₁ ∙ sym (drop-of-length-le cells short));
+          ledgerLeft = h .ledgerLeft ∙ ap (λ (l : List ℕ). joined Tokens.encodeToken ts ++ l) rest;
+          cellsLeft = h .cellsLeft ∙ ap (λ (l : List ℕ). joined Cells.encodeCell cs ++ l) (drop-of-length-le cells₁ short₁ ∙ sym (drop-of-length-le cells short));
         }

@@ -17,4 +17,4 @@ use Rattle.rules.specs.Run.{tokenRecord, cellRecord, outcomeOf}
 pub record EndedAt (e : End Refusal Tag ℤ) (r : Answer) (ledger cells ledger′ cells′ : List ℕ) : Type 0 where
   pub answered : r ≡ record { outcome = outcomeOf (e .outcome); firings = e .firings; tokens = length (e .state .tokens) }
   pub ledgerLeft : ledger′ ≡ ledgerOf (map tokenRecord (e .state .tokens)) ledger
-  pub cellsLeft : cells′ ≡ writtenOver Cells.encode (map cellRecord (e .state .cells)) cells
+  pub cellsLeft : cells′ ≡ writtenOver Cells.encodeCell (map cellRecord (e .state .cells)) cells

@@ -9,20 +9,20 @@ use lib.IntN.{ℤ}
 use lib.ListN.{length, getD, set, drop, List·getD-map}
 use lib.Seq.{map-set-same}
 use Rattle.buffer.specs.Rows.{putRow, joined, All}
-use Rattle.record.specs.TokensAndTags.{tokens, tokenAt, decode, encode}
+use Rattle.record.specs.TokensAndTags.{tokens, tokenAt, decodeToken, encodeToken}
 use Rattle.buffer.proofs.Tables.{length-rows, getD-rows}
 use Rattle.record.specs.declared.token.Token.{Token}
 use Rattle.record.specs.declared.token.Content.{Content}
 use Rattle.record.specs.declared.token.Content.the-variants.{Live, Spent, Deferred}
 use Rattle.record.specs.Widths.{tokenWidth}
 use Rattle.store_chains.specs.Chains.{bucketKey}
-use Rattle.store_chains.specs.Deferred.{LowCell, keyOf, cellKey, Waiting, contentWoken, woken}
+use Rattle.store_chains.specs.Deferred.{LowCell, chainOf, cellKey, Waiting, contentWoken, woken}
 use Rattle.store_chains.proofs.Chains.{chained-same, chained-past}
 use Rattle.store_chains.proofs.Deferred.{Walk, walk-start, walk-own, walk-step, walk-end, waiting-woken}
 use Rattle.store_enabled.specs.Store.{Stored, tokensSpent}
 use Rattle.store_enabled.proofs.Bytes.{split, rest-put}
 use Rattle.store_enabled.proofs.Store.{stored-links, all-append, all-set, all-at}
-use Rattle.store.specs.Matching.{contentSpent, spentToken, Inside, Matching}
+use Rattle.store.specs.Matching.{contentSpent, spentToken, StoreInside, Matching}
 
 abbrev Low : Token → Type 0
 Low t = LowCell (t .content)
@@ -35,7 +35,7 @@ pub arrived : (tables links flags l : List ℕ) (used : ℕ) (t : Token) → Low
     → Stored tables links′ flags′ m (used + 1)
     → (Waiting links (tokens used l) → Waiting links′ (tokens (used + 1) m))
     → Matching tables links′ flags′ m (used + 1)
-unfolding Inside
+unfolding StoreInside
 arrived tables links flags l used t low w links′ flags′ m e s deferred = record {
   inside = record {
     store = s;
@@ -46,7 +46,7 @@ arrived tables links flags l used t low w links′ flags′ m e s deferred = rec
 
 -- ---- operands are spent
 
-spent-key : (x : Content) → keyOf (contentSpent x) ≡ keyOf x
+spent-key : (x : Content) → chainOf (contentSpent x) ≡ chainOf x
 spent-key (Live v) = refl
 spent-key (Spent v) = refl
 spent-key (Deferred n) = refl
@@ -65,7 +65,7 @@ keys-kept ts us i u d e h =
 pub spent-kept : (tables links flags l : List ℕ) (used i j : ℕ) → Matching tables links flags l used → i < used → j < used
     → (flags′ m : List ℕ) → tokens used m ≡ tokensSpent used l i j → Stored tables links flags′ m used
     → Matching tables links flags′ m used
-unfolding Inside
+unfolding StoreInside
 spent-kept tables links flags l used i j w a b flags′ m e s =
     let us = set ts i (spentToken (tokenAt l i)) in
     let keys = keys-kept ts us j (spentToken (tokenAt l j)) (tokenAt l j) (keys-kept ts ts i (spentToken (tokenAt l i)) (tokenAt l i) refl (key i a)) (key j b) in
@@ -81,13 +81,13 @@ spent-kept tables links flags l used i j w a b flags′ m e s =
     ts = tokens used l
 
     held : (k : ℕ) → k < used → getD ts k (tokenAt l k) ≡ tokenAt l k
-    held k h = getD-rows tokenWidth decode used k l (tokenAt l k) h
+    held k h = getD-rows tokenWidth decodeToken used k l (tokenAt l k) h
 
     key : (k : ℕ) → k < used → cellKey (spentToken (tokenAt l k)) ≡ cellKey (getD ts k (tokenAt l k))
     key k h = rw (held k h) (spent-key (tokenAt l k .content))
 
     low : (k : ℕ) → k < used → LowCell (spentToken (tokenAt l k) .content)
-    low k h = spent-low (tokenAt l k .content) (rw (held k h) at (all-at Low ts k (tokenAt l k) (omega (arith, length-rows tokenWidth decode used l)) (w .inside .cells)))
+    low k h = spent-low (tokenAt l k .content) (rw (held k h) at (all-at Low ts k (tokenAt l k) (omega (arith, length-rows tokenWidth decodeToken used l)) (w .inside .cells)))
 
 -- ---- tokens are woken: the ledger was l at the start of the walk
 
@@ -113,7 +113,7 @@ module _ (cell : ℕ) (v : ℤ) where
 
   module _ (tables links flags l : List ℕ) (used : ℕ) (w : Matching tables links flags l used) (small : cell < 1024) where
     pub waking-start : Waking tables links l used flags l (getD links (cell + 6144) 0)
-    unfolding Inside
+    unfolding StoreInside
     waking-start = record {
       size = refl;
       rest = refl;
@@ -123,31 +123,31 @@ module _ (cell : ℕ) (v : ℤ) where
 
     module _ (flags₁ m : List ℕ) (at : ℕ) (g : Waking tables links l used flags₁ m at) where
       pub waking-low : at ≤ used
-      waking-low = omega (arith, g .walk .low, length-rows tokenWidth decode used l)
+      waking-low = omega (arith, g .walk .low, length-rows tokenWidth decodeToken used l)
 
       -- the next one gets the value
       pub waking-own : (at ≡ 0 → ⊥) → contentWoken cell v (tokenAt m (at - 1) .content) ≡ Live v
-      unfolding Inside
+      unfolding StoreInside
       waking-own z =
           let d = tokenAt m (at - 1) in
           let low = waking-low in
-          let here : getD (tokens used m) (at - 1) d ≡ d = getD-rows tokenWidth decode used (at - 1) m d (omega arith) in
+          let here : getD (tokens used m) (at - 1) d ≡ d = getD-rows tokenWidth decodeToken used (at - 1) m d (omega arith) in
           rw here at (walk-own cell v links (tokens used l) d (w .inside .deferred) small (tokens used m) at z (g .walk))
 
       -- one more is woken
       pub waking-step : (at ≡ 0 → ⊥) → (flags₂ m₂ : List ℕ) → length m₂ ≡ length m
-          → m₂ ≡ putRow tokenWidth m (at - 1) (encode (woken cell v (tokenAt m (at - 1))))
+          → m₂ ≡ putRow tokenWidth m (at - 1) (encodeToken (woken cell v (tokenAt m (at - 1))))
           → tokens used m₂ ≡ set (tokens used m) (at - 1) (woken cell v (tokenAt m (at - 1)))
           → Stored tables links flags₂ m₂ used
           → (getD links (at - 1 + 7168) 0 < at) × Waking tables links l used flags₂ m₂ (getD links (at - 1 + 7168) 0)
-      unfolding Inside
+      unfolding StoreInside
       waking-step z flags₂ m₂ len put e s =
           let us = tokens used m in
           let i = at - 1 in
           let d = tokenAt m i in
           let low = waking-low in
           let below : i < used = omega arith in
-          let here : getD us i d ≡ d = getD-rows tokenWidth decode used i m d below in
+          let here : getD us i d ≡ d = getD-rows tokenWidth decodeToken used i m d below in
           let same : tokens used m₂ ≡ set us i (woken cell v (getD us i d)) = rw here e in
           let next-step = walk-step cell v links (tokens used l) d (w .inside .deferred) small us at z (g .walk) in (
             next-step .0,
@@ -162,14 +162,14 @@ module _ (cell : ℕ) (v : ℤ) where
     -- all are woken
     module _ (flags₁ m : List ℕ) (g : Waking tables links l used flags₁ m 0) where
       pub waking-tokens : tokens used m ≡ map (woken cell v) (tokens used l)
-      unfolding Inside
+      unfolding StoreInside
       waking-tokens = walk-end cell v links (tokens used l) (tokenAt l 0) (w .inside .deferred) small (tokens used m) (g .walk)
 
-      pub waking-ledger : m ≡ joined encode (map (woken cell v) (tokens used l)) ++ drop (used * tokenWidth) l
-      waking-ledger = split used m (g .store .bytes) ∙ (λ k. joined encode (waking-tokens k) ++ g .rest k)
+      pub waking-ledger : m ≡ joined encodeToken (map (woken cell v) (tokens used l)) ++ drop (used * tokenWidth) l
+      waking-ledger = split used m (g .store .bytes) ∙ (λ k. joined encodeToken (waking-tokens k) ++ g .rest k)
 
       pub waking-end : Matching tables (set links (cell + 6144) 0) flags₁ m used
-      unfolding Inside
+      unfolding StoreInside
       waking-end = record {
         inside = record {
           store = stored-links tables links flags₁ m used (g .store) (set links (cell + 6144) 0) (chained-past 0 4096 bucketKey links (tokens used m) (g .store .known .index) (cell + 6144) 0 (omega arith));

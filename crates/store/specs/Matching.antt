@@ -15,9 +15,9 @@ pub record StoreParts (tables links flags ledger : List ℕ) (used : ℕ) : Type
   pub cells : All (λ (t : Token). LowCell (t .content)) (tokens used ledger)
 
 -- opaque to callers
-unfoldable pub Inside : (tables links flags ledger : List ℕ) → (used : ℕ) → Type 0
-Inside tables links flags ledger used = StoreParts tables links flags ledger used
+unfoldable pub StoreInside : (tables links flags ledger : List ℕ) → (used : ℕ) → Type 0
+StoreInside tables links flags ledger used = StoreParts tables links flags ledger used
 
 -- the invariant: the arrays are right for the used records of the ledger. Callers use it by the laws `matching-..` of proofs/Laws alone
 pub record Matching (tables links flags ledger : List ℕ) (used : ℕ) : Type 0 where
-  pub inside : Inside tables links flags ledger used
+  pub inside : StoreInside tables links flags ledger used

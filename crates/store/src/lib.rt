@@ -16,20 +16,20 @@ ghost use mathlib.Core.List.{List, [], _∷_, _++_, map};
 ghost use Prim.Native.Nat.{ℕ, _+_, _*_, _/_, _<_};
 ghost use lib.ListN.{length, getD, drop};
 ghost use Rattle.buffer.specs.Rows.{putRow, joined};
-ghost use Rattle.record.specs.TokensAndTags.{encode, tokens, standsAt};
+ghost use Rattle.record.specs.TokensAndTags.{encodeToken, tokens, standsAt};
 ghost use Rattle.record.specs.Widths.{tokenWidth};
 ghost use Rattle.record.specs.declared.token.Content.the-variants.{Live};
 ghost use Rattle.store_flags.specs.Flags.{places, flagsOf, Counted};
-ghost use Rattle.store_chains.specs.Search.{firstFrom, Within};
+ghost use Rattle.store_chains.specs.Search.{firstFrom, FoundWithin};
 ghost use Rattle.store_chains.specs.Slots.{Open, SoughtAt};
 ghost use Rattle.store_chains.specs.Deferred as Deferred;
-ghost use Rattle.store_enabled.specs.Store.{Known, lower, enabledAt, Standing, Operands, statesSpent, tokensSpent};
+ghost use Rattle.store_enabled.specs.Store.{Known, enabledAt, StandingRecord, Spendable, statesSpent, tokensSpent};
 ghost use Rattle.store.specs.Matching.{Matching};
 
 // The token that stands at a port of a tag.
 pub fn find(links: &Links, ledger: &[u8], used: usize, tag: Tag, port: u8) -> Found
     requires { ⌜ Known (now links) (now ledger) used ⌝ }
-    ensures { λ r. ⌜ (r ≡ firstFrom (standsAt tag port) 0 (tokens used (now (ledger .entry)))) × Within r used ⌝ }
+    ensures { λ r. ⌜ (r ≡ firstFrom (standsAt tag port) 0 (tokens used (now (ledger .entry)))) × FoundWithin r used ⌝ }
 {
     store_chains::find(links, ledger, used, tag, port)
 }
@@ -61,7 +61,7 @@ pub fn enabled_at(flags: &Flags, k: usize) -> usize
 // The place of the activity of a tag, if it is enabled.
 pub fn enabled_by_tag(tables: &Tables, links: &Links, ledger: &[u8], used: usize, tag: Tag) -> Found
     requires { ⌜ Known (now links) (now ledger) used ⌝ }
-    ensures { λ r. ⌜ (r ≡ enabledAt (now (tables .entry)) (tokens used (now (ledger .entry))) tag) × Within r used ⌝ }
+    ensures { λ r. ⌜ (r ≡ enabledAt (now (tables .entry)) (tokens used (now (ledger .entry))) tag) × FoundWithin r used ⌝ }
 {
     store_enabled::enabled_by_tag(tables, links, ledger, used, tag)
 }
@@ -76,8 +76,13 @@ pub fn arrive(
     t: Token,
     slot: Slot,
 )
-    requires { ⌜ Matching (now tables) (now links) (now flags) (now ledger) used × (used < length (now ledger) / tokenWidth) × (used < 2048) × (t .port < 2) × Deferred.LowCell (t .content) × Open (tokens used (now ledger)) (t .tag) (t .port) slot ⌝ }
-    ensures { λ _. ⌜ now (ledger .exit) ≡ putRow tokenWidth (now (ledger .entry)) used (encode t) ⌝ }
+    requires { ⌜ Matching (now tables) (now links) (now flags) (now ledger) used
+        × (used < length (now ledger) / tokenWidth)
+        × (used < 2048)
+        × (t .port < 2)
+        × Deferred.LowCell (t .content)
+        × Open (tokens used (now ledger)) (t .tag) (t .port) slot ⌝ }
+    ensures { λ _. ⌜ now (ledger .exit) ≡ putRow tokenWidth (now (ledger .entry)) used (encodeToken t) ⌝ }
     ensures { λ _. ⌜ tokens (used + 1) (now (ledger .exit)) ≡ tokens used (now (ledger .entry)) ++ t ∷ [] ⌝ }
     ensures { λ _. ⌜ Matching (now (tables .entry)) (now (links .exit)) (now (flags .exit)) (now (ledger .exit)) (used + 1) ⌝ }
 {
@@ -94,21 +99,26 @@ pub fn enter(
     t: Token,
     slot: Slot,
 )
-    requires { ⌜ Matching (now tables) (now links) (now flags) (now ledger) used × (used < length (now ledger) / tokenWidth) × (used < 2048) × Standing (now tables) (now ledger) used t × Deferred.LowCell (t .content) × Open (tokens used (now ledger)) (t .tag) (t .port) slot ⌝ }
+    requires { ⌜ Matching (now tables) (now links) (now flags) (now ledger) used
+        × (used < length (now ledger) / tokenWidth)
+        × (used < 2048)
+        × StandingRecord (now tables) (now ledger) used t
+        × Deferred.LowCell (t .content)
+        × Open (tokens used (now ledger)) (t .tag) (t .port) slot ⌝ }
     ensures { λ _. ⌜ Matching (now (tables .entry)) (now (links .exit)) (now (flags .exit)) (now (ledger .entry)) (used + 1) ⌝ }
 {
     store_enabled::enter(tables, links, flags, ledger, used, t, slot);
 }
 
-// The operands of an enabled activity are spent; where one is waited for, both places are its place. They were live, so
-// the chains of deferred tokens stay right.
-pub fn spend_operands(flags: &mut Flags, ledger: &mut [u8], first: usize, second: usize)
-    requires { ⌜ Counted (now flags) × (getD (flagsOf (now flags)) (lower first second) 0 ≡ 1) × (first < 2048) × (second < 2048) × (first < length (now ledger) / tokenWidth) × (second < length (now ledger) / tokenWidth) ⌝ }
-    ensures { λ _. ⌜ now (ledger .exit) ≡ statesSpent (now (ledger .entry)) first second ⌝ }
-    ensures { λ _. ⌜ ((tables links : List ℕ) (used : ℕ) → Matching tables links (now (flags .entry)) (now (ledger .entry)) used → Operands (now (ledger .entry)) used first second
-        → (tokens used (now (ledger .exit)) ≡ tokensSpent used (now (ledger .entry)) first second) × Matching tables links (now (flags .exit)) (now (ledger .exit)) used) ⌝ }
+// The operands of an enabled activity, at its place and at another, are spent; where one is waited for, both are its place. They were
+// live, so the chains of deferred tokens stay right.
+pub fn spend_operands(flags: &mut Flags, ledger: &mut [u8], place: usize, other: usize)
+    requires { ⌜ Counted (now flags) × (getD (flagsOf (now flags)) place 0 ≡ 1) × (place < 2048) × (place < length (now ledger) / tokenWidth) × (other < length (now ledger) / tokenWidth) ⌝ }
+    ensures { λ _. ⌜ now (ledger .exit) ≡ statesSpent (now (ledger .entry)) place other ⌝ }
+    ensures { λ _. ⌜ ((tables links : List ℕ) (used : ℕ) → Matching tables links (now (flags .entry)) (now (ledger .entry)) used → Spendable (now (ledger .entry)) used place other
+        → (tokens used (now (ledger .exit)) ≡ tokensSpent used (now (ledger .entry)) place other) × Matching tables links (now (flags .exit)) (now (ledger .exit)) used) ⌝ }
 {
-    store_enabled::spend_operands(flags, ledger, first, second);
+    store_enabled::spend_operands(flags, ledger, place, other);
 }
 
 // A deferred token with the value that it waited for.
@@ -134,7 +144,7 @@ pub fn wake(
     v: i32,
 )
     requires { ⌜ Matching (now tables) (now links) (now flags) (now ledger) used × (cell < 1024) ⌝ }
-    ensures { λ _. ⌜ now (ledger .exit) ≡ joined encode (map (Deferred.woken cell v) (tokens used (now (ledger .entry)))) ++ drop (used * tokenWidth) (now (ledger .entry)) ⌝ }
+    ensures { λ _. ⌜ now (ledger .exit) ≡ joined encodeToken (map (Deferred.woken cell v) (tokens used (now (ledger .entry)))) ++ drop (used * tokenWidth) (now (ledger .entry)) ⌝ }
     ensures { λ _. ⌜ tokens used (now (ledger .exit)) ≡ map (Deferred.woken cell v) (tokens used (now (ledger .entry))) ⌝ }
     ensures { λ _. ⌜ Matching (now (tables .entry)) (now (links .exit)) (now (flags .exit)) (now (ledger .exit)) used ⌝ }
 {

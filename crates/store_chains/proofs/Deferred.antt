@@ -14,7 +14,7 @@ use Rattle.record.specs.declared.token.Token.{Token}
 use Rattle.record.specs.declared.token.Content.{Content}
 use Rattle.record.specs.declared.token.Content.the-variants.{Live, Spent, Deferred}
 use Rattle.store_chains.specs.Chains.{lastBelow, part, Linked, Chained}
-use Rattle.store_chains.specs.Deferred.{keyOf, cellKey, anyOn, Waiting, contentWoken, woken}
+use Rattle.store_chains.specs.Deferred.{chainOf, cellKey, anyOn, Waiting, contentWoken, woken}
 use Rattle.store_chains.proofs.Parts.{part-set, part-before}
 use Rattle.store_chains.proofs.Chains.{last-same, last-none, key-at, walk-first, on-first, on-key, walk-next, next-below, on-next}
 use Rattle.store_chains.proofs.Walks.{On}
@@ -65,7 +65,7 @@ module _ (f : Token → Token) (ts : List Token) where
 -- ---- keys
 
 module _ (cell : ℕ) (v : ℤ) where
-  content-other : (x : Content) → (keyOf x ≡ suc cell → ⊥) → contentWoken cell v x ≡ x
+  content-other : (x : Content) → (chainOf x ≡ suc cell → ⊥) → contentWoken cell v x ≡ x
   content-other (Live w) h = refl
   content-other (Spent w) h = refl
   content-other (Deferred n) h = rw (ne-eqb n cell (λ e. h (ap suc e)))
@@ -74,12 +74,12 @@ module _ (cell : ℕ) (v : ℤ) where
   woken-other : (t : Token) → (cellKey t ≡ suc cell → ⊥) → woken cell v t ≡ t
   woken-other t h = rw (content-other (t .content) h)
 
-  content-own : (x : Content) → keyOf x ≡ suc cell → contentWoken cell v x ≡ Live v
+  content-own : (x : Content) → chainOf x ≡ suc cell → contentWoken cell v x ≡ Live v
   content-own (Live w) e = absurd (omega arith)
   content-own (Spent w) e = absurd (omega arith)
   content-own (Deferred n) e = rw (eq-eqb n cell (omega arith))
 
-  key-own : (x : Content) → keyOf x ≡ suc cell → keyOf (contentWoken cell v x) ≡ 0
+  key-own : (x : Content) → chainOf x ≡ suc cell → chainOf (contentWoken cell v x) ≡ 0
   key-own (Live w) e = refl
   key-own (Spent w) e = refl
   key-own (Deferred n) e = rw (eq-eqb n cell (omega arith))
@@ -91,7 +91,7 @@ module _ (cell : ℕ) (v : ℤ) where
 
   key-kept : (ts : List Token) (i : ℕ) → i < length ts → (getD (map cellKey ts) i 0 ≡ suc cell → ⊥) → getD (map cellKey (map (woken cell v) ts)) i 0 ≡ getD (map cellKey ts) i 0
   key-kept [] i h e = absurd (not-suc-le-zero h)
-  key-kept (t ∷ ts) zero h e = ap keyOf (content-other (t .content) e)
+  key-kept (t ∷ ts) zero h e = ap chainOf (content-other (t .content) e)
   key-kept (t ∷ ts) (suc i) h e = key-kept ts i (le-of-suc-le-suc h) e
 
   -- ---- the walk: ts are the tokens at its start, us those now

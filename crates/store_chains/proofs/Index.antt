@@ -1,14 +1,14 @@
 -- Laws of the chains by tag: a walk along one finds what a scan of the ledger finds. Assumes nothing.
 use Prim.Native.Nat.{ℕ, zero, suc, _+_, _-_, _≤_, _<_}
 use mathlib.Core.Path.{_≡_, refl, sym, ap, _∙_}
-use mathlib.Core.Bool.{Bool, true, false, _&&_, cond}
+use mathlib.Core.Bool.{Bool, true, false, _&&_, cond, and-false}
 use mathlib.Core.List.{List, map}
 use native.Mathlib.Omega.{arith}
 use lib.Dec.{eqb}
 use lib.ListN.{length, getD, drop, length-map}
 use borrow.Author.Tests.{eqb-true, eqb-false, eq-eqb, ne-eqb}
 use Rattle.record.specs.Paths.{samePath}
-use Rattle.record.specs.TokensAndTags.{tokens, tokenAt, decode, standsAt, sameTag}
+use Rattle.record.specs.TokensAndTags.{tokens, tokenAt, decodeToken, standsAt, sameTag}
 use Rattle.buffer.specs.Rows.{All}
 use Rattle.buffer.proofs.Tables.{getD-rows, length-rows}
 use Rattle.record.specs.declared.tag.Tag.{Tag}
@@ -16,7 +16,7 @@ use Rattle.record.specs.declared.token.Token.{Token}
 use Rattle.record.proofs.Paths.{same-path}
 use Rattle.record.specs.Widths.{tokenWidth}
 use Rattle.store_chains.specs.declared.Found.the-variants.{At, Nothing}
-use Rattle.store_chains.specs.Search.{firstFrom, foundOf, isFound, Within, Single}
+use Rattle.store_chains.specs.Search.{firstFrom, foundOf, isFound, FoundWithin, Single}
 use Rattle.store_chains.specs.Chains.{bucketOf, bucketKey, lastBelow, Indexed}
 use Rattle.store_chains.proofs.Walks.{On, Walk, earliest, stands}
 use Rattle.store_chains.proofs.Search.{first-step, first-end, first-within, first-some, all-at}
@@ -42,14 +42,14 @@ module _ (p : Token → Bool) (n : ℕ) (l : List ℕ) where
   earliest-scan (suc i) best h e = earliest-scan i (cond (p (tokenAt l i)) (suc i) best) (omega arith) (go (p (tokenAt l i)) refl)
     where
       go : (t : Bool) → p (tokenAt l i) ≡ t → foundOf (cond t (suc i) best) ≡ firstFrom p i (drop i (tokens n l))
-      go true d = sym (first-step tokenWidth decode p n i l h ∙ rw d)
-      go false d = e ∙ sym (first-step tokenWidth decode p n i l h ∙ rw d)
+      go true d = sym (first-step tokenWidth decodeToken p n i l h ∙ rw d)
+      go false d = e ∙ sym (first-step tokenWidth decodeToken p n i l h ∙ rw d)
 
   scan-found : foundOf (earliest (λ j. p (tokenAt l j)) n 0) ≡ firstFrom p 0 (tokens n l)
-  scan-found = earliest-scan n 0 (omega arith) (sym (first-end tokenWidth decode p n n l (omega arith)))
+  scan-found = earliest-scan n 0 (omega arith) (sym (first-end tokenWidth decodeToken p n n l (omega arith)))
 
-  pub found-within : Within (firstFrom p 0 (tokens n l)) n
-  found-within = rw (length-rows tokenWidth decode n l) at (first-within p (tokens n l))
+  pub found-within : FoundWithin (firstFrom p 0 (tokens n l)) n
+  found-within = rw (length-rows tokenWidth decodeToken n l) at (first-within p (tokens n l))
 
 -- ---- tokens of one tag are in one chain
 
@@ -61,10 +61,6 @@ pub and-right : (a b : Bool) → a && b ≡ true → b ≡ true
 and-right true b e = e
 and-right false true e = refl
 and-right false false e = e
-
-and-false : (a : Bool) → a && false ≡ false
-and-false true = refl
-and-false false = refl
 
 tag-same : (a b : Tag) → sameTag a b ≡ true → a ≡ b
 unfolding sameTag
@@ -116,11 +112,11 @@ module _ (l : List ℕ) (n : ℕ) (tag : Tag) (port : ℕ) where
   in-bucket m g i h q =
       let d = tokenAt l i in
       let k : i < n = omega arith in
-      key-at bucketKey (tokens n l) i d (rw (length-rows tokenWidth decode n l) k) ∙ ap bucketKey (getD-rows tokenWidth decode n i l d k) ∙ stands-key tag port d q
+      key-at bucketKey (tokens n l) i d (rw (length-rows tokenWidth decodeToken n l) k) ∙ ap bucketKey (getD-rows tokenWidth decodeToken n i l d k) ∙ stands-key tag port d q
 
   module _ (links : List ℕ) (w : Indexed links (tokens n l)) where
     keys : length keys-of ≡ n
-    keys = length-map (tokens n l) bucketKey ∙ length-rows tokenWidth decode n l
+    keys = length-map (tokens n l) bucketKey ∙ length-rows tokenWidth decodeToken n l
 
     -- from the head of the tag's chain
     pub walk-start : Walk l n tag port (getD links (bucketOf tag) 0) 0
@@ -129,7 +125,7 @@ module _ (l : List ℕ) (n : ℕ) (tag : Tag) (port : ℕ) where
         let small = bucket-low tag in
         let here : b + 0 ≡ b = omega arith in
         let on = rw here at (on-first 0 4096 bucketKey links (tokens n l) w b small) in
-        let h : getD links b 0 ≡ lastBelow (suc b) keys-of n = (rw here at (walk-first 0 4096 bucketKey links (tokens n l) w b small)) ∙ rw (length-rows tokenWidth decode n l) in
+        let h : getD links b 0 ≡ lastBelow (suc b) keys-of n = (rw here at (walk-first 0 4096 bucketKey links (tokens n l) w b small)) ∙ rw (length-rows tokenWidth decodeToken n l) in
         record { on = on; low = omega (arith, on .below, keys); same = rw h (earliest-skip (stands l tag port) (suc b) keys-of n 0 (in-bucket n (omega arith))) }
 
     pub walk-step : (at best : ℕ) → (at ≡ 0 → ⊥) → Walk l n tag port at best
@@ -163,8 +159,8 @@ module _ (l : List ℕ) (n : ℕ) (tag : Tag) (port : ℕ) where
   unfolding Single
   walk-met single i h e =
       let d = tokenAt l i in
-      let at : getD (tokens n l) i d ≡ d = getD-rows tokenWidth decode n i l d h in
-      let k : i < length (tokens n l) = rw (length-rows tokenWidth decode n l) h in
+      let at : getD (tokens n l) i d ≡ d = getD-rows tokenWidth decodeToken n i l d h in
+      let k : i < length (tokens n l) = rw (length-rows tokenWidth decodeToken n l) h in
       let own = stands-is tag port d e in
       rw (at, own .0, own .1) at (single i d k)
 
@@ -196,13 +192,13 @@ pub seek-taken : (l : List ℕ) (n : ℕ) (tag : Tag) (port i : ℕ) → i < n �
 unfolding standsAt
 seek-taken l n tag port i h e p =
     let d = tokenAt l i in
-    let at : getD (tokens n l) i d ≡ d = getD-rows tokenWidth decode n i l d h in
-    let k : i < length (tokens n l) = rw (length-rows tokenWidth decode n l) h in
+    let at : getD (tokens n l) i d ≡ d = getD-rows tokenWidth decodeToken n i l d h in
+    let k : i < length (tokens n l) = rw (length-rows tokenWidth decodeToken n l) h in
     let there : standsAt tag port d ≡ true = rw (eq-eqb (d .port) port p) e in
     first-some (standsAt tag port) d (tokens n l) i k (rw at there)
 
 pub record-port : (l : List ℕ) (n i : ℕ) → i < n → All (λ (t : Token). t .port < 2) (tokens n l) → tokenAt l i .port < 2
 record-port l n i h ports =
     let d = tokenAt l i in
-    let k : i < length (tokens n l) = rw (length-rows tokenWidth decode n l) h in
-    rw (getD-rows tokenWidth decode n i l d h) at (all-at (λ (t : Token). t .port < 2) (tokens n l) i d k ports)
+    let k : i < length (tokens n l) = rw (length-rows tokenWidth decodeToken n l) h in
+    rw (getD-rows tokenWidth decodeToken n i l d h) at (all-at (λ (t : Token). t .port < 2) (tokens n l) i d k ports)

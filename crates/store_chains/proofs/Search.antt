@@ -11,7 +11,7 @@ use Rattle.buffer.specs.Rows.{rows, All}
 use Rattle.buffer.proofs.Tables.{getD-rows, length-rows}
 use Rattle.store_chains.specs.declared.Found.{Found}
 use Rattle.store_chains.specs.declared.Found.the-variants.{At, Nothing}
-use Rattle.store_chains.specs.Search.{firstFrom, foundOf, isFound, Within}
+use Rattle.store_chains.specs.Search.{firstFrom, foundOf, isFound, FoundWithin}
 
 pub found-some : (n : ℕ) → (n ≡ 0 → ⊥) → At (n - 1) ≡ foundOf n
 found-some zero h = absurd (h refl)
@@ -36,11 +36,11 @@ module _ {A : Type 0} (p : A → Bool) where
   pub first-cons : (t : A) (ts : List A) → firstFrom p 0 (t ∷ ts) ≡ cond (p t) (At 0) (shift (firstFrom p 0 ts))
   first-cons t ts = rw (first-shift 0 ts)
 
-  pub first-within : (ts : List A) → Within (firstFrom p 0 ts) (length ts)
+  pub first-within : (ts : List A) → FoundWithin (firstFrom p 0 ts) (length ts)
   first-within [] = tt
   first-within (t ∷ ts) = rw (first-cons t ts) (go (p t) (firstFrom p 0 ts) (first-within ts))
     where
-      go : (b : Bool) (f : Found) → Within f (length ts) → Within (cond b (At 0) (shift f)) (suc (length ts))
+      go : (b : Bool) (f : Found) → FoundWithin f (length ts) → FoundWithin (cond b (At 0) (shift f)) (suc (length ts))
       go true f w = omega arith
       go false (At i) w = omega arith
       go false Nothing w = tt
@@ -76,7 +76,7 @@ module _ {A : Type 0} (p : A → Bool) where
       go false (At j) ih e = let z : _≡_ {A = ℕ} 0 1 = cc in absurd (omega arith)
       go false Nothing ih e = ap shift (ih refl)
 
-pub within-more : (f : Found) (m n : ℕ) → m ≤ n → Within f m → Within f n
+pub within-more : (f : Found) (m n : ℕ) → m ≤ n → FoundWithin f m → FoundWithin f n
 within-more (At i) m n h w = omega arith
 within-more Nothing m n h w = tt
 

@@ -27,13 +27,13 @@ woken cell v t = record { tag = t .tag; port = t .port; content = contentWoken c
 
 -- ---- the chains: a deferred token is in that of its cell
 
-abbrev pub keyOf : Content → ℕ
-keyOf (Live v) = 0
-keyOf (Spent v) = 0
-keyOf (Deferred cell) = suc cell
+abbrev pub chainOf : Content → ℕ
+chainOf (Live v) = 0
+chainOf (Spent v) = 0
+chainOf (Deferred cell) = suc cell
 
 abbrev pub cellKey : Token → ℕ
-cellKey t = keyOf (t .content)
+cellKey t = chainOf (t .content)
 
 -- a token is deferred on the cell
 abbrev pub anyOn : (cell : ℕ) → List Token → Bool

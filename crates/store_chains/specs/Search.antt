@@ -22,9 +22,9 @@ foundOf zero = Nothing
 foundOf (suc i) = At i
 
 -- what was found is below n
-abbrev pub Within : Found → ℕ → Type 0
-Within (At i) n = i < n
-Within Nothing n = Unit {0}
+abbrev pub FoundWithin : Found → ℕ → Type 0
+FoundWithin (At i) n = i < n
+FoundWithin Nothing n = Unit {0}
 
 -- no token stands at a port of a tag: one that arrives there is no second
 abbrev pub Free : List Token → Tag → (port : ℕ) → Type 0

@@ -11,7 +11,7 @@ ghost use lib.ListN.{length, getD, set};
 ghost use Rattle.buffer.specs.Rows.{All};
 ghost use Rattle.record.specs.TokensAndTags.{tokens, sameTag, standsAt};
 ghost use Rattle.record.specs.Widths.{tokenWidth};
-ghost use Rattle.store_chains.specs.Search.{firstFrom, foundOf, Within, Single};
+ghost use Rattle.store_chains.specs.Search.{firstFrom, foundOf, FoundWithin, Single};
 ghost use Rattle.store_chains.specs.Chains.{mix, bucketOf, Indexed};
 ghost use Rattle.store_chains.specs.Slots.{SoughtAt};
 ghost use Rattle.store_chains.specs.Deferred.{LowCell, Waiting};
@@ -90,7 +90,7 @@ fn found_of(best: usize) -> Found
 // The used record that stands at a port of a tag. No two do, so the walk along the tag's chain ends with the first that it meets.
 pub fn find(links: &Links, ledger: &[u8], used: usize, tag: Tag, port: u8) -> Found
     requires { ⌜ (used ≤ length (now ledger) / tokenWidth) × Indexed (now links) (tokens used (now ledger)) × Single (tokens used (now ledger)) ⌝ }
-    ensures { λ r. ⌜ (r ≡ firstFrom (standsAt tag port) 0 (tokens used (now (ledger .entry)))) × Within r used ⌝ }
+    ensures { λ r. ⌜ (r ≡ firstFrom (standsAt tag port) 0 (tokens used (now (ledger .entry)))) × FoundWithin r used ⌝ }
 {
     let mut at = wide(links[bucket(tag)]);
     while at != 0 {

@@ -1,8 +1,8 @@
--- Laws of the answers of searches: a record's state says whether its token is live, the token that was found is the one that `liveAt` asks, and the lower of two places is the earliest of a tag.
+-- Laws of the answers of searches: a record's state says whether its token is live, the token that was found is the one that `liveOn` asks, and the lower of two places is the earliest of a tag.
 -- Assumes nothing.
 use Prim.Native.Nat.{ℕ, zero, suc, _+_, _*_, _≤_, _<_}
 use mathlib.Core.Path.{_≡_, refl, sym, ap, _∙_}
-use mathlib.Core.Bool.{Bool, true, false, _&&_, cond}
+use mathlib.Core.Bool.{Bool, true, false, _&&_, cond, and-false}
 use mathlib.Core.List.{List, [], _∷_}
 use native.Mathlib.Omega.{arith}
 use lib.Dec.{ltb, eqb}
@@ -11,7 +11,7 @@ use lib.Seq.{getD-drop}
 use borrow.Author.Tests.{eqb-true, eqb-false, eq-eqb, lt-ltb, le-ltb, ltb-true, ltb-false}
 use Rattle.buffer.specs.Rows.{All}
 use Rattle.number.specs.Number.{byteAt, number32, signedOf}
-use Rattle.record.specs.TokensAndTags.{contentOf, tokens, tokenAt, decode, sameTag, standsAt}
+use Rattle.record.specs.TokensAndTags.{contentOf, tokens, tokenAt, decodeToken, sameTag, standsAt}
 use Rattle.buffer.proofs.Tables.{getD-rows, length-rows}
 use Rattle.record.specs.declared.tag.Tag.{Tag}
 use Rattle.record.specs.declared.token.Token.{Token}
@@ -19,25 +19,25 @@ use Rattle.record.specs.declared.token.Content.the-variants.{Live, Spent, Defer
 use Rattle.record.specs.Widths.{tokenWidth, stateOffset, valueOffset}
 use Rattle.store_chains.specs.declared.Found.{Found}
 use Rattle.store_chains.specs.declared.Found.the-variants.{At, Nothing}
-use Rattle.store_chains.specs.Search.{firstFrom, Within}
+use Rattle.store_chains.specs.Search.{firstFrom, FoundWithin}
 use Rattle.store_chains.proofs.Search.{shift, first-cons}
 use Rattle.store_chains.proofs.Index.{found-within}
-use Rattle.store_enabled.specs.Enabled.{isLive, liveAt, placeOf}
+use Rattle.store_enabled.specs.Enabled.{isLiveRecord, liveOn, earliestOf}
 use Rattle.store_enabled.specs.Store.{placeOr, lower, liveFound}
 
 -- ---- the state of a record
 
-live-content : (bits state : ℕ) → isLive (contentOf bits state) ≡ eqb state 0
+live-content : (bits state : ℕ) → isLiveRecord (contentOf bits state) ≡ eqb state 0
 unfolding contentOf
 live-content bits state = go (eqb state 0) (eqb state 1)
   where
-    go : (a b : Bool) → isLive (cond a (Live (signedOf bits)) (cond b (Spent (signedOf bits)) (Deferred bits))) ≡ a
+    go : (a b : Bool) → isLiveRecord (cond a (Live (signedOf bits)) (cond b (Spent (signedOf bits)) (Deferred bits))) ≡ a
     go true b = refl
     go false true = refl
     go false false = refl
 
-pub live-state : (l : List ℕ) (i : ℕ) → isLive (tokenAt l i .content) ≡ eqb (getD l (i * tokenWidth + stateOffset) 0) 0
-unfolding decode
+pub live-state : (l : List ℕ) (i : ℕ) → isLiveRecord (tokenAt l i .content) ≡ eqb (getD l (i * tokenWidth + stateOffset) 0) 0
+unfolding decodeToken
 live-state l i = live-content (number32 (drop (i * tokenWidth) l) valueOffset) (byteAt (drop (i * tokenWidth) l) stateOffset) ∙ rw (getD-drop (i * tokenWidth) l stateOffset 0)
 
 -- ---- the token at a port of a tag
@@ -46,25 +46,25 @@ live-cons : (t d : Token) (ts : List Token) (f : Found) → liveFound (λ i. get
 live-cons t d ts (At i) = refl
 live-cons t d ts Nothing = refl
 
-live-list : (tag : Tag) (port : ℕ) (d : Token) (ts : List Token) → liveFound (λ i. getD ts i d) (firstFrom (standsAt tag port) 0 ts) ≡ liveAt ts tag port
+live-list : (tag : Tag) (port : ℕ) (d : Token) (ts : List Token) → liveFound (λ i. getD ts i d) (firstFrom (standsAt tag port) 0 ts) ≡ liveOn ts tag port
 live-list tag port d [] = refl
 live-list tag port d (t ∷ ts) = rw (first-cons (standsAt tag port) t ts) (go (standsAt tag port t) (live-list tag port d ts))
   where
-    go : (b : Bool) → liveFound (λ i. getD ts i d) (firstFrom (standsAt tag port) 0 ts) ≡ liveAt ts tag port
-        → liveFound (λ i. getD (t ∷ ts) i d) (cond b (At 0) (shift (firstFrom (standsAt tag port) 0 ts))) ≡ cond b (isLive (t .content)) (liveAt ts tag port)
+    go : (b : Bool) → liveFound (λ i. getD ts i d) (firstFrom (standsAt tag port) 0 ts) ≡ liveOn ts tag port
+        → liveFound (λ i. getD (t ∷ ts) i d) (cond b (At 0) (shift (firstFrom (standsAt tag port) 0 ts))) ≡ cond b (isLiveRecord (t .content)) (liveOn ts tag port)
     go true ih = refl
     go false ih = live-cons t d ts (firstFrom (standsAt tag port) 0 ts) ∙ ih
 
-live-rows : (n : ℕ) (l : List ℕ) (d : Token) (f : Found) → Within f n → liveFound (tokenAt l) f ≡ liveFound (λ i. getD (tokens n l) i d) f
-live-rows n l d (At i) w = rw (getD-rows tokenWidth decode n i l d w)
+live-rows : (n : ℕ) (l : List ℕ) (d : Token) (f : Found) → FoundWithin f n → liveFound (tokenAt l) f ≡ liveFound (λ i. getD (tokens n l) i d) f
+live-rows n l d (At i) w = rw (getD-rows tokenWidth decodeToken n i l d w)
 live-rows n l d Nothing w = refl
 
 -- the first at a port of a tag is not live
-pub live-off : (tag : Tag) (port : ℕ) (d : Token) (ts : List Token) (i : ℕ) → firstFrom (standsAt tag port) 0 ts ≡ At i → isLive (getD ts i d .content) ≡ false
-    → liveAt ts tag port ≡ false
+pub live-off : (tag : Tag) (port : ℕ) (d : Token) (ts : List Token) (i : ℕ) → firstFrom (standsAt tag port) 0 ts ≡ At i → isLiveRecord (getD ts i d .content) ≡ false
+    → liveOn ts tag port ≡ false
 live-off tag port d ts i e n = sym (live-list tag port d ts) ∙ ap (liveFound (λ k. getD ts k d)) e ∙ n
 
-pub live-found : (tag : Tag) (port n : ℕ) (l : List ℕ) → liveFound (tokenAt l) (firstFrom (standsAt tag port) 0 (tokens n l)) ≡ liveAt (tokens n l) tag port
+pub live-found : (tag : Tag) (port n : ℕ) (l : List ℕ) → liveFound (tokenAt l) (firstFrom (standsAt tag port) 0 (tokens n l)) ≡ liveOn (tokens n l) tag port
 live-found tag port n l =
     let d = tokenAt l 0 in
     live-rows n l d (firstFrom (standsAt tag port) 0 (tokens n l)) (found-within (standsAt tag port) n l) ∙ live-list tag port d (tokens n l)
@@ -103,10 +103,6 @@ place-shift : (f : Found) (n : ℕ) → placeOr (shift f) (suc n) ≡ suc (place
 place-shift (At i) n = refl
 place-shift Nothing n = refl
 
-and-false : (a : Bool) → a && false ≡ false
-and-false true = refl
-and-false false = refl
-
 module _ (tag : Tag) where
   abbrev seek : ℕ → List Token → ℕ
   seek port ts = placeOr (firstFrom (standsAt tag port) 0 ts) (length ts)
@@ -125,18 +121,18 @@ module _ (tag : Tag) where
   unfolding standsAt
   stands-other port t s = rw s (and-false (eqb (t .port) port))
 
-  first-tag : (ts : List Token) → All (λ (t : Token). t .port < 2) ts → placeOf ts tag ≡ lower (seek 0 ts) (seek 1 ts)
+  first-tag : (ts : List Token) → All (λ (t : Token). t .port < 2) ts → earliestOf ts tag ≡ lower (seek 0 ts) (seek 1 ts)
   first-tag [] w = refl
   first-tag (t ∷ ts) w = go (sameTag (t .tag) tag) refl (eqb (t .port) 0) refl (first-tag ts (w .1))
     where
-      go : (s : Bool) → sameTag (t .tag) tag ≡ s → (z : Bool) → eqb (t .port) 0 ≡ z → placeOf ts tag ≡ lower (seek 0 ts) (seek 1 ts)
-          → cond s 0 (suc (placeOf ts tag)) ≡ lower (seek 0 (t ∷ ts)) (seek 1 (t ∷ ts))
+      go : (s : Bool) → sameTag (t .tag) tag ≡ s → (z : Bool) → eqb (t .port) 0 ≡ z → earliestOf ts tag ≡ lower (seek 0 ts) (seek 1 ts)
+          → cond s 0 (suc (earliestOf ts tag)) ≡ lower (seek 0 (t ∷ ts)) (seek 1 (t ∷ ts))
       go true e true d ih = rw (seek-here 0 t ts (stands-tag 0 t (eqb-true (t .port) 0 d) e)) (sym (lower-left (seek 1 (t ∷ ts))))
       go true e false d ih = rw (seek-here 1 t ts (stands-tag 1 t (omega (arith, eqb-false (t .port) 0 d, w .0)) e)) (sym (lower-right (seek 0 (t ∷ ts))))
       go false e z d ih = rw (seek-later 0 t ts (stands-other 0 t e), seek-later 1 t ts (stands-other 1 t e)) (ap suc ih ∙ sym (lower-suc (seek 0 ts) (seek 1 ts)))
 
   -- the same over a ledger
   pub first-place : (n : ℕ) (l : List ℕ) → All (λ (t : Token). t .port < 2) (tokens n l)
-      → placeOf (tokens n l) tag
+      → earliestOf (tokens n l) tag
       ≡ lower (placeOr (firstFrom (standsAt tag 0) 0 (tokens n l)) n) (placeOr (firstFrom (standsAt tag 1) 0 (tokens n l)) n)
-  first-place n l w = rw (length-rows tokenWidth decode n l) at (first-tag (tokens n l) w)
+  first-place n l w = rw (length-rows tokenWidth decodeToken n l) at (first-tag (tokens n l) w)

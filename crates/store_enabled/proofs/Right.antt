@@ -19,7 +19,7 @@ use Rattle.store_flags.specs.Marks.{bit, firstOf, placesWhere}
 use Rattle.store_flags.specs.Marks as Marks
 use Rattle.store_flags.proofs.Marks.{first-le, where-map, where-passes, where-below, marked-none, marked-places, marked-append, marked-change, marked-first}
 use Rattle.store_chains.proofs.Index.{and-left, and-right}
-use Rattle.store_enabled.specs.Enabled.{liveAt, allLive, arityOf, isEnabled, tagOf, tagsOf, tagSame, placeOf, leads, enabledPlaces}
+use Rattle.store_enabled.specs.Enabled.{liveOn, operandsLive, arityOf, isEnabled, tagOf, tagsIn, tagSame, earliestOf, leadsIn, enabledPlaces}
 use Rattle.store_enabled.specs.Store.{Right}
 use Rattle.store_enabled.proofs.Places.{stands-other}
 
@@ -50,17 +50,17 @@ tag-apart a b e = go (tagSame b a) refl
 
 -- ---- where nothing changes for a tag
 
-all-same : (n : ℕ) (us ts : List Token) (y : Tag) → ((port : ℕ) → liveAt us y port ≡ liveAt ts y port) → allLive n us y ≡ allLive n ts y
-unfolding allLive
+all-same : (n : ℕ) (us ts : List Token) (y : Tag) → ((port : ℕ) → liveOn us y port ≡ liveOn ts y port) → operandsLive n us y ≡ operandsLive n ts y
+unfolding operandsLive
 all-same n us ts y e = rw (e 0, e 1)
 
-live-append : (y : Tag) (port : ℕ) (t : Token) → tagSame y (t .tag) ≡ false → (ts : List Token) → liveAt (ts ++ t ∷ []) y port ≡ liveAt ts y port
+live-append : (y : Tag) (port : ℕ) (t : Token) → tagSame y (t .tag) ≡ false → (ts : List Token) → liveOn (ts ++ t ∷ []) y port ≡ liveOn ts y port
 live-append y port t e [] = rw (stands-other y port t e)
 live-append y port t e (x ∷ ts) = rw (live-append y port t e ts)
 
 -- a token is replaced by one of its tag
 live-set : (y : Tag) (port : ℕ) (u d : Token) (ts : List Token) (i : ℕ) → u .tag ≡ getD ts i d .tag → tagSame (u .tag) y ≡ false
-    → liveAt (set ts i u) y port ≡ liveAt ts y port
+    → liveOn (set ts i u) y port ≡ liveOn ts y port
 live-set y port u d [] i e f = refl
 live-set y port u d (t ∷ ts) zero e f =
     let a = tag-apart (u .tag) y f in
@@ -70,8 +70,8 @@ live-set y port u d (t ∷ ts) (suc i) e f = rw (live-set y port u d ts i e f)
 -- ---- where a tag is not enabled
 
 -- every activity waits for port 0
-pub all-off : (n : ℕ) (ts : List Token) (y : Tag) → liveAt ts y 0 ≡ false → allLive n ts y ≡ false
-unfolding allLive
+pub all-off : (n : ℕ) (ts : List Token) (y : Tag) → liveOn ts y 0 ≡ false → operandsLive n ts y ≡ false
+unfolding operandsLive
 all-off n ts y e = rw e (go (eqb n 1) (eqb n 2))
   where
     go : (a b : Bool) → cond a false (cond b false false) ≡ false
@@ -94,24 +94,24 @@ first-below (x ∷ l) k d (suc i) h e = go (tagSame k x) (first-below l k d i (l
     go true ih = omega arith
     go false ih = omega arith
 
-tag-at : (ts : List Token) (i : ℕ) (d : Token) → getD (tagsOf ts) i (d .tag) ≡ getD ts i d .tag
+tag-at : (ts : List Token) (i : ℕ) (d : Token) → getD (tagsIn ts) i (d .tag) ≡ getD ts i d .tag
 tag-at [] i d = refl
 tag-at (t ∷ ts) zero d = refl
 tag-at (t ∷ ts) (suc i) d = tag-at ts i d
 
-pub tags-append : (ts : List Token) (t : Token) → tagsOf (ts ++ t ∷ []) ≡ tagsOf ts ++ t .tag ∷ []
+pub tags-append : (ts : List Token) (t : Token) → tagsIn (ts ++ t ∷ []) ≡ tagsIn ts ++ t .tag ∷ []
 tags-append ts t = map-append tagOf ts (t ∷ [])
 
 -- the place of a token's tag, once the token is there
-pub place-append : (ts : List Token) (t : Token) → placeOf (ts ++ t ∷ []) (t .tag) < length ts + 1
-place-append ts t = rw (tags-append ts t, first-append (t .tag) (tagsOf ts)) (omega (arith, first-le tagSame (t .tag) (tagsOf ts), length-map ts tagOf))
+pub place-append : (ts : List Token) (t : Token) → earliestOf (ts ++ t ∷ []) (t .tag) < length ts + 1
+place-append ts t = rw (tags-append ts t, first-append (t .tag) (tagsIn ts)) (omega (arith, first-le tagSame (t .tag) (tagsIn ts), length-map ts tagOf))
 
-pub place-set : (ts : List Token) (i : ℕ) (u d : Token) → i < length ts → u .tag ≡ getD ts i d .tag → placeOf (set ts i u) (u .tag) < length ts
+pub place-set : (ts : List Token) (i : ℕ) (u d : Token) → i < length ts → u .tag ≡ getD ts i d .tag → earliestOf (set ts i u) (u .tag) < length ts
 place-set ts i u d h e =
-    let f = first-below (tagsOf ts) (u .tag) (d .tag) i (omega (arith, length-map ts tagOf)) (tag-at ts i d ∙ sym e) in
+    let f = first-below (tagsIn ts) (u .tag) (d .tag) i (omega (arith, length-map ts tagOf)) (tag-at ts i d ∙ sym e) in
     rw (map-set-same tagOf ts i u d e) (omega arith)
 
-pub place-kept : (ts : List Token) (i : ℕ) (u d : Token) → u .tag ≡ getD ts i d .tag → (tag : Tag) → placeOf (set ts i u) tag ≡ placeOf ts tag
+pub place-kept : (ts : List Token) (i : ℕ) (u d : Token) → u .tag ≡ getD ts i d .tag → (tag : Tag) → earliestOf (set ts i u) tag ≡ earliestOf ts tag
 place-kept ts i u d e tag = ap (firstOf tagSame tag) (map-set-same tagOf ts i u d e)
 
 -- ---- the flags
@@ -129,8 +129,8 @@ module _ (tables : List ℕ) where
   pub right-places : (ts : List Token) (flags : List ℕ) → Right tables ts flags → places flags ≡ enabledPlaces tables ts
   unfolding Right enabledPlaces
   right-places ts flags w =
-      marked-places tagSame tag-equal tag-own (isEnabled tables ts) (tagsOf ts) flags w
-      ∙ where-map tagOf (Marks.leads tagSame (isEnabled tables ts) (tagsOf ts)) 0 ts
+      marked-places tagSame tag-equal tag-own (isEnabled tables ts) (tagsIn ts) flags w
+      ∙ where-map tagOf (Marks.leads tagSame (isEnabled tables ts) (tagsIn ts)) 0 ts
 
   pub enabled-below : (ts : List Token) (k : ℕ) → k < length (enabledPlaces tables ts) → getD (enabledPlaces tables ts) k 0 < length ts
   unfolding enabledPlaces
@@ -139,41 +139,41 @@ module _ (tables : List ℕ) where
   -- the token at the place of an enabled activity is the earliest of its tag, and its tag is enabled
   pub enabled-leads : (ts : List Token) (d : Token) (k : ℕ) → k < length (enabledPlaces tables ts)
       → let i = getD (enabledPlaces tables ts) k 0 in
-      (placeOf ts (getD ts i d .tag) ≡ i) × (isEnabled tables ts (getD ts i d .tag) ≡ true)
+      (earliestOf ts (getD ts i d .tag) ≡ i) × (isEnabled tables ts (getD ts i d .tag) ≡ true)
   unfolding enabledPlaces
   enabled-leads ts d k h =
-      let i = getD (placesWhere (leads tables ts) 0 ts) k 0 in
+      let i = getD (placesWhere (leadsIn tables ts) 0 ts) k 0 in
       let z : i - 0 ≡ i = omega arith in
-      let w : leads tables ts i (getD ts i d) ≡ true = rw z at (where-passes (leads tables ts) 0 ts d k h .1) in
-      let a = eqb (placeOf ts (getD ts i d .tag)) i in
+      let w : leadsIn tables ts i (getD ts i d) ≡ true = rw z at (where-passes (leadsIn tables ts) 0 ts d k h .1) in
+      let a = eqb (earliestOf ts (getD ts i d .tag)) i in
       let b = isEnabled tables ts (getD ts i d .tag) in
-      (eqb-true (placeOf ts (getD ts i d .tag)) i (and-left a b w), and-right a b w)
+      (eqb-true (earliestOf ts (getD ts i d .tag)) i (and-left a b w), and-right a b w)
 
   -- a token arrives, and the flag of its tag is put
   pub right-append : (ts : List Token) (t : Token) (flags : List ℕ) → length ts < 2048 → Right tables ts flags
-      → let us = ts ++ t ∷ [] in Right tables us (set flags (placeOf us (t .tag)) (bit (isEnabled tables us (t .tag))))
+      → let us = ts ++ t ∷ [] in Right tables us (set flags (earliestOf us (t .tag)) (bit (isEnabled tables us (t .tag))))
   unfolding Right
   right-append ts t flags h w =
       let us = ts ++ t ∷ [] in
-      rw (tags-append ts t, first-append (t .tag) (tagsOf ts))
+      rw (tags-append ts t, first-append (t .tag) (tagsIn ts))
       (marked-append tagSame tag-equal tag-own (isEnabled tables ts) (isEnabled tables us) (t .tag)
       (λ y d. all-same (arityOf tables y) us ts y (λ port. live-append y port t (tag-apart (t .tag) y d) ts))
-      (tagsOf ts) flags (omega (arith, length-map ts tagOf)) w)
+      (tagsIn ts) flags (omega (arith, length-map ts tagOf)) w)
 
   -- a token is replaced by one of its tag, and the flag of the tag is put
   pub right-set : (ts : List Token) (i : ℕ) (u d : Token) (flags : List ℕ) → i < length ts → u .tag ≡ getD ts i d .tag → Right tables ts flags
-      → let us = set ts i u in Right tables us (set flags (placeOf us (u .tag)) (bit (isEnabled tables us (u .tag))))
+      → let us = set ts i u in Right tables us (set flags (earliestOf us (u .tag)) (bit (isEnabled tables us (u .tag))))
   unfolding Right
   right-set ts i u d flags h e w =
       let us = set ts i u in
-      let q : firstOf tagSame (u .tag) (tagsOf ts) < length ts = rw (map-set-same tagOf ts i u d e) at (place-set ts i u d h e) in
-      let p : firstOf tagSame (u .tag) (tagsOf ts) < length (tagsOf ts) = omega (arith, length-map ts tagOf) in
+      let q : firstOf tagSame (u .tag) (tagsIn ts) < length ts = rw (map-set-same tagOf ts i u d e) at (place-set ts i u d h e) in
+      let p : firstOf tagSame (u .tag) (tagsIn ts) < length (tagsIn ts) = omega (arith, length-map ts tagOf) in
       rw (map-set-same tagOf ts i u d e)
       (marked-change tagSame tag-equal tag-own (isEnabled tables ts) (isEnabled tables us) (u .tag)
       (λ y f. all-same (arityOf tables y) us ts y (λ port. live-set y port u d ts i e f))
-      (tagsOf ts) flags p w)
+      (tagsIn ts) flags p w)
 
-  pub right-flag : (ts : List Token) (flags : List ℕ) (tag : Tag) → placeOf ts tag < length ts → Right tables ts flags
-      → getD flags (placeOf ts tag) 0 ≡ bit (isEnabled tables ts tag)
+  pub right-flag : (ts : List Token) (flags : List ℕ) (tag : Tag) → earliestOf ts tag < length ts → Right tables ts flags
+      → getD flags (earliestOf ts tag) 0 ≡ bit (isEnabled tables ts tag)
   unfolding Right
-  right-flag ts flags tag h w = marked-first tagSame tag-equal tag-own (isEnabled tables ts) (tagsOf ts) flags tag (omega (arith, length-map ts tagOf)) w
+  right-flag ts flags tag h w = marked-first tagSame tag-equal tag-own (isEnabled tables ts) (tagsIn ts) flags tag (omega (arith, length-map ts tagOf)) w

@@ -8,7 +8,7 @@ use native.Mathlib.Nat.{le-of-suc-le-suc}
 use lib.ListN.{length, getD, set}
 use lib.Seq.{map-set-same, getD-append-add}
 use Rattle.buffer.specs.Rows.{putRow, All}
-use Rattle.record.specs.TokensAndTags.{tokens, tokenAt, decode, encode, standsAt, TokenFits}
+use Rattle.record.specs.TokensAndTags.{tokens, tokenAt, decodeToken, encodeToken, standsAt, TokenFits}
 use Rattle.buffer.proofs.Tables.{length-rows, getD-rows}
 use Rattle.record.proofs.Records.{tokens-put, tokens-end}
 use Rattle.record.specs.declared.token.Token.{Token}
@@ -23,7 +23,7 @@ use Rattle.store_chains.specs.declared.Slot.{Slot}
 use Rattle.store_chains.proofs.Chains.{chained-few, chained-same}
 use Rattle.store_chains.proofs.Search.{first-added, first-set, first-past}
 use Rattle.store_chains.proofs.Index.{stands-once}
-use Rattle.store_enabled.specs.Enabled.{isEnabled, placeOf}
+use Rattle.store_enabled.specs.Enabled.{isEnabled, earliestOf}
 use Rattle.store_enabled.specs.Store.{Known, Stored, Last}
 use Rattle.store_enabled.proofs.Right.{tag-own, place-append, place-set, right-append, right-set}
 use Rattle.store_enabled.proofs.Places.{stands-tag}
@@ -48,7 +48,7 @@ module _ (P : Token → Type 0) where
   all-at (x ∷ ts) (suc i) d h w = all-at ts i d (le-of-suc-le-suc h) (w .1)
 
 pub known-few : (links l : List ℕ) (used : ℕ) → Known links l used → used ≤ 2048
-known-few links l used w = omega (arith, chained-few 0 4096 bucketKey links (tokens used l) (w .index), length-rows tokenWidth decode used l)
+known-few links l used w = omega (arith, chained-few 0 4096 bucketKey links (tokens used l) (w .index), length-rows tokenWidth decodeToken used l)
 
 -- a store of links that leaves the chains by tag
 pub stored-links : (tables links flags l : List ℕ) (used : ℕ) → Stored tables links flags l used → (links′ : List ℕ) → Indexed links′ (tokens used l) → Stored tables links′ flags l used
@@ -65,17 +65,17 @@ stored-links tables links flags l used w links′ index = record {
 pub record Moved (tables links flags m : List ℕ) (used at : ℕ) (us : List Token) (t : Token) : Type 0 where
   pub more : tokens used m ≡ us
   pub known : Known links m used
-  pub place : placeOf (tokens used m) (t .tag) < used
+  pub place : earliestOf (tokens used m) (t .tag) < used
   pub own : firstFrom (standsAt (t .tag) (t .port)) 0 (tokens used m) ≡ At at
-  pub stored : (flags′ : List ℕ) → flagsOf flags′ ≡ set (flagsOf flags) (placeOf (tokens used m) (t .tag)) (bit (isEnabled tables (tokens used m) (t .tag)))
+  pub stored : (flags′ : List ℕ) → flagsOf flags′ ≡ set (flagsOf flags) (earliestOf (tokens used m) (t .tag)) (bit (isEnabled tables (tokens used m) (t .tag)))
       → Counted flags′ → Stored tables links flags′ m used
 
 -- a token is added
-module _ (tables links flags l : List ℕ) (used : ℕ) (t : Token) (w : Stored tables links flags l used) (room : used < length l / tokenWidth) (few : used < 2048) (low : t .port < 2) (free : Free (tokens used l) (t .tag) (t .port)) (fits : TokenFits t) (m : List ℕ) (put : m ≡ putRow tokenWidth l used (encode t)) (len : length m ≡ length l) (links′ : List ℕ) (index : Indexed links′ (tokens used l ++ t ∷ [])) where
+module _ (tables links flags l : List ℕ) (used : ℕ) (t : Token) (w : Stored tables links flags l used) (room : used < length l / tokenWidth) (few : used < 2048) (low : t .port < 2) (free : Free (tokens used l) (t .tag) (t .port)) (fits : TokenFits t) (m : List ℕ) (put : m ≡ putRow tokenWidth l used (encodeToken t)) (len : length m ≡ length l) (links′ : List ℕ) (index : Indexed links′ (tokens used l ++ t ∷ [])) where
   pub added : Moved tables links′ flags m (used + 1) used (tokens used l ++ t ∷ []) t
   added =
       let ts = tokens used l in
-      let n : length ts ≡ used = length-rows tokenWidth decode used l in
+      let n : length ts ≡ used = length-rows tokenWidth decodeToken used l in
       let e : tokens (used + 1) m ≡ ts ++ t ∷ [] = rw (put, add-one) (tokens-end t fits used l (omega arith)) in
       let known : Known links′ m (used + 1) = record {
         room = rw len (omega arith);
@@ -101,9 +101,9 @@ module _ (tables links flags l : List ℕ) (used : ℕ) (t : Token) (w : Stored 
   pub added-there : tokenAt m used ≡ t
   added-there =
       let ts = tokens used l in
-      let n : length ts ≡ used = length-rows tokenWidth decode used l in
+      let n : length ts ≡ used = length-rows tokenWidth decodeToken used l in
       let k : used ≡ length ts + 0 = omega arith in
-      sym (getD-rows tokenWidth decode (used + 1) used m t (omega arith)) ∙ ap (λ (us : List Token). getD us used t) (added .more) ∙ ap (λ (i : ℕ). getD (ts ++ t ∷ []) i t) k ∙ getD-append-add ts (t ∷ []) 0 t
+      sym (getD-rows tokenWidth decodeToken (used + 1) used m t (omega arith)) ∙ ap (λ (us : List Token). getD us used t) (added .more) ∙ ap (λ (i : ℕ). getD (ts ++ t ∷ []) i t) k ∙ getD-append-add ts (t ∷ []) 0 t
 
   -- it is the last, with the partner of its slot
   pub added-last : (s : Slot) → Open (tokens used l) (t .tag) (t .port) s → Last m used (t .tag) (t .port) (s .partner)
@@ -120,13 +120,13 @@ module _ (tables links flags l : List ℕ) (used : ℕ) (t : Token) (w : Stored 
       }
 
 -- a token is replaced
-module _ (tables links flags l : List ℕ) (used i : ℕ) (t : Token) (w : Stored tables links flags l used) (h : i < used) (a : t .tag ≡ tokenAt l i .tag) (b : t .port ≡ tokenAt l i .port) (fits : TokenFits t) (m : List ℕ) (put : m ≡ putRow tokenWidth l i (encode t)) (len : length m ≡ length l) where
+module _ (tables links flags l : List ℕ) (used i : ℕ) (t : Token) (w : Stored tables links flags l used) (h : i < used) (a : t .tag ≡ tokenAt l i .tag) (b : t .port ≡ tokenAt l i .port) (fits : TokenFits t) (m : List ℕ) (put : m ≡ putRow tokenWidth l i (encodeToken t)) (len : length m ≡ length l) where
   pub changed : Moved tables links flags m used i (set (tokens used l) i t) t
   changed =
       let ts = tokens used l in
       let d = tokenAt l i in
-      let n : length ts ≡ used = length-rows tokenWidth decode used l in
-      let at : getD ts i d ≡ d = getD-rows tokenWidth decode used i l d h in
+      let n : length ts ≡ used = length-rows tokenWidth decodeToken used l in
+      let at : getD ts i d ≡ d = getD-rows tokenWidth decodeToken used i l d h in
       let tag : t .tag ≡ getD ts i d .tag = rw at a in
       let port : t .port ≡ getD ts i d .port = rw at b in
       let key : bucketKey t ≡ bucketKey (getD ts i d) = rw tag in

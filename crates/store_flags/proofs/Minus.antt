@@ -4,9 +4,11 @@ use mathlib.Core.Path.{_≡_, refl, sym, ap, _∙_}
 use mathlib.Core.List.{List, [], _∷_}
 use native.Mathlib.Omega.{arith}
 use native.Mathlib.Nat.{pow-suc, not-suc-le-zero}
-use lib.ListN.{length, getD, take, drop}
-use Rattle.store_flags.specs.Flags.{ones, place, places, minus, Under, digits, inWord, flagsOf, Counted}
-use Rattle.store_flags.proofs.Laws.{Binary, ones-places, place-places, place-lt}
+use lib.ListN.{length, getD, take, drop, take-append-drop}
+use lib.Seq.{drop-drop}
+use borrow.Author.Tests.{lt-ltb}
+use Rattle.store_flags.specs.Flags.{ones, place, places, minus, Under, FirstIn, digits, inWord, flagsOf, Counted}
+use Rattle.store_flags.proofs.Laws.{Binary, ones-split, ones-past, ones-places, place-later, place-skip, place-left, place-places, place-lt}
 use Rattle.store_flags.proofs.Digits.{word-size}
 use Rattle.store_flags.proofs.Words.{words-size, words-word, block-count, group-count}
 
@@ -95,6 +97,14 @@ pub word-minus : (f h : ℕ) → f < 2 ^ 64 → h < 2 ^ 64 → Under (inWord h) 
 unfolding inWord
 word-minus f h p q u = digits-minus 64 f h p q (each-of (inWord h) (inWord f) (word-size h ∙ sym (word-size f)) u)
 
+-- ---- the flags before the first
+
+before-first : (m : ℕ) (l : List ℕ) → m ≤ place 0 l → ones (take m l) ≡ 0
+before-first zero l h = refl
+before-first (suc m) [] h = refl
+before-first (suc m) (zero ∷ l) h = omega (arith, before-first m l (omega (arith, place-later 0 0 l (omega arith))))
+before-first (suc m) (suc x ∷ l) h = absurd (omega (arith, rw (lt-ltb 0 (suc x) (omega arith)) at h))
+
 -- ---- in all words
 
 module _ {fs hs : List ℕ} (c : Counted fs) (d : Counted hs) (u : Under (flagsOf hs) (flagsOf fs)) where
@@ -145,3 +155,44 @@ module _ {fs hs : List ℕ} (c : Counted fs) (d : Counted hs) (u : Under (flagsO
   rest-selected k h r e =
       let p = place-places 0 k rest rest-binary h in
       (omega arith, omega (arith, place-lt k rest h, rest-size))
+
+  -- ---- the first
+
+  -- those from a word on are all
+  abbrev pub AllFrom : (b : ℕ) → Type 0
+  AllFrom b = ones (drop (b * 64) rest) ≡ ones rest
+
+  pub first-from : (b : ℕ) → b * 64 ≤ place 0 (flagsOf fs) → AllFrom b
+  first-from b h =
+      let p = part-ones 0 (b * 64) in
+      let z = before-first (b * 64) (flagsOf fs) h in
+      omega (arith, ones-split (b * 64) rest)
+
+  -- a word that has none is passed
+  pub word-passed : (b w : ℕ) → inWord w ≡ take 64 (drop (b * 64) rest) → ones (inWord w) ≡ 0 → AllFrom b → AllFrom (b + 1)
+  word-passed b w e none all =
+      let m : b * 64 + 64 ≡ (b + 1) * 64 = omega arith in
+      let behind : ones (drop 64 (drop (b * 64) rest)) ≡ ones (drop ((b + 1) * 64) rest) = ap ones (drop-drop 64 (b * 64) rest) ∙ ap (λ (n : ℕ). ones (drop n rest)) m in
+      omega (arith, ap ones e, ones-split 64 (drop (b * 64) rest), behind)
+
+  -- in one that has some, the first is found
+  pub word-found : (b w : ℕ) → b < 32 → inWord w ≡ take 64 (drop (b * 64) rest) → 0 < ones (inWord w) → AllFrom b → (r : ℕ) → r ≡ b * 64 + place 0 (inWord w) → FirstIn rest r
+  word-found b w h e some from r f =
+      let d = drop (b * 64) rest in
+      let here : 0 < ones (take 64 d) = omega (arith, ap ones e) in
+      let left : place 0 d ≡ place 0 (inWord w) = ap (place 0) (sym (take-append-drop 64 d)) ∙ place-left 0 (take 64 d) (drop 64 d) here ∙ ap (place 0) (sym e) in
+      let before : ones (take (b * 64) rest) ≡ 0 = omega (arith, ones-split (b * 64) rest) in
+      let none : 0 - ones (take (b * 64) rest) ≡ 0 = omega arith in
+      let at : place 0 rest ≡ b * 64 + place 0 d = place-skip (b * 64) 0 rest (omega (arith, rest-size)) (omega arith) ∙ ap (λ (n : ℕ). b * 64 + place n d) none in
+      let all : 0 < ones rest = omega (arith, ones-split 64 d) in
+      let sel = rest-selected 0 all r (f ∙ sym (at ∙ ap (λ (n : ℕ). b * 64 + n) left)) in
+      record { found = λ l. (omega (arith, ones-places 0 rest rest-binary), sel .0); none = λ l. absurd (omega (arith, sel .1)) }
+
+  none-there : ones rest ≡ 0 → FirstIn rest 2048
+  none-there h = record { found = λ l. absurd (omega arith); none = λ l. omega (arith, ones-places 0 rest rest-binary) }
+
+  pub none-behind : (b : ℕ) → 32 ≤ b → AllFrom b → FirstIn rest 2048
+  none-behind b h all = none-there (omega (arith, ones-past rest (b * 64) (omega (arith, rest-size))))
+
+  pub none-whole : ones (flagsOf fs) ≡ 0 → FirstIn rest 2048
+  none-whole h = none-there (omega (arith, rest-ones))

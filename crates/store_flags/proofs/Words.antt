@@ -10,7 +10,7 @@ use lib.Dec.{eqb}
 use borrow.Author.Tests.{eq-eqb, ne-eqb}
 use lib.ListN.{take-append-drop, length, getD, set, take, drop, replicate, length-append, length-set, length-map, List·getD-append, List·getD-map}
 use lib.Seq.{take-append-seam, drop-append-add, take-set-lt, take-set-le, drop-set-lt, drop-set-add, getD-set-same, getD-set-other, getD-take, getD-drop, length-take-le, set-append-left}
-use Rattle.store_flags.specs.Flags.{ones, place, inWord, flagsIn, flagsOf, atMostOne, any, Summed, Counted}
+use Rattle.store_flags.specs.Flags.{ones, place, inWord, flagsIn, flagsOf, atMostOne, anySet, Summed, Counted}
 use Rattle.store_flags.proofs.Laws.{ones-append, ones-none, ones-at, place-left, place-right, tallied-none}
 use Rattle.store_flags.proofs.Blocks as Blocks
 use Rattle.store_flags.proofs.Blocks.{set-append-add, block-is, group-is, block-bounds, groups-all, tallied-set}
@@ -59,7 +59,7 @@ none-of zero e = refl
 none-of (suc n) e = absurd (omega arith)
 
 -- where no word has any no flag is set
-in-none : (n : ℕ) (ws : List ℕ) → ones (map any (take n ws)) ≡ 0 → ones (flagsIn n ws) ≡ 0
+in-none : (n : ℕ) (ws : List ℕ) → ones (map anySet (take n ws)) ≡ 0 → ones (flagsIn n ws) ≡ 0
 in-none zero ws z = refl
 in-none (suc n) [] z = refl
 in-none (suc n) (w ∷ ws) z =
@@ -67,7 +67,7 @@ in-none (suc n) (w ∷ ws) z =
     omega (arith, ones-append (inWord w) (flagsIn n ws), in-none n ws (omega arith))
 
 -- and the other way round
-in-empty : (n : ℕ) (ws : List ℕ) → ones (flagsIn n ws) ≡ 0 → ones (map any (take n ws)) ≡ 0
+in-empty : (n : ℕ) (ws : List ℕ) → ones (flagsIn n ws) ≡ 0 → ones (map anySet (take n ws)) ≡ 0
 in-empty zero ws z = refl
 in-empty (suc n) [] z = refl
 in-empty (suc n) (w ∷ ws) z =
@@ -75,10 +75,10 @@ in-empty (suc n) (w ∷ ws) z =
     let none : ones (inWord w) ≡ 0 = omega (arith, both) in
     omega (arith, ap atMostOne none, in-empty n ws (omega (arith, both)))
 
-in-some : (n : ℕ) (ws : List ℕ) → 0 < ones (flagsIn n ws) → 0 < ones (map any (take n ws))
-in-some n ws p = go (ones (map any (take n ws))) refl
+in-some : (n : ℕ) (ws : List ℕ) → 0 < ones (flagsIn n ws) → 0 < ones (map anySet (take n ws))
+in-some n ws p = go (ones (map anySet (take n ws))) refl
   where
-    go : (m : ℕ) → ones (map any (take n ws)) ≡ m → 0 < m
+    go : (m : ℕ) → ones (map anySet (take n ws)) ≡ m → 0 < m
     go zero e = absurd (omega (arith, in-none n ws e))
     go (suc m) e = omega arith
 
@@ -87,17 +87,17 @@ abbrev Leads : (n : ℕ) → (ws : List ℕ) → (b : ℕ) → Type 0
 Leads n ws b = (b < n) × (0 < ones (inWord (getD ws b 0))) × (place 0 (flagsIn n ws) ≡ b * 64 + place 0 (inWord (getD ws b 0)))
 
 -- it does in the first word that has any
-in-first : (n : ℕ) (ws : List ℕ) → n ≤ length ws → 0 < ones (map any (take n ws)) → Leads n ws (place 0 (map any (take n ws)))
+in-first : (n : ℕ) (ws : List ℕ) → n ≤ length ws → 0 < ones (map anySet (take n ws)) → Leads n ws (place 0 (map anySet (take n ws)))
 in-first zero ws h p = absurd (not-suc-le-zero p)
 in-first (suc n) [] h p = absurd (not-suc-le-zero h)
 in-first (suc n) (w ∷ ws) h p = go (ones (inWord w)) refl (in-first n ws (le-of-suc-le-suc h))
   where
     marks : List ℕ
-    marks = map any (take n ws)
+    marks = map anySet (take n ws)
 
     go : (m : ℕ) → ones (inWord w) ≡ m → (0 < ones marks → Leads n ws (place 0 marks)) → Leads (suc n) (w ∷ ws) (place 0 (atMostOne m ∷ marks))
     go zero e later =
-        let here : any w ≡ 0 = ap atMostOne e in
+        let here : anySet w ≡ 0 = ap atMostOne e in
         let l = later (omega arith) in
         let none : 0 - ones (inWord w) ≡ 0 = omega arith in
         (omega (arith, l .0), l .1, place-right 0 (inWord w) (flagsIn n ws) (omega arith) ∙ rw (none, word-size w) (omega (arith, l .2)))
@@ -132,8 +132,8 @@ module _ {ws : List ℕ} (s : Summed ws) where
       ap (place k) (sym (take-append-drop 64 d)) ∙ place-left k (take 64 d) (drop 64 d) (rw e g) ∙ ap (place k) e
 
   words-in : 0 < ones (flagsOf ws)
-      → let b = place 0 (map any (take 32 ws)) in
-      (0 < ones (map any (take 32 ws))) × (b < 32) × (0 < getD ws b 0) × (place 0 (flagsOf ws) ≡ b * 64 + place 0 (inWord (getD ws b 0)))
+      → let b = place 0 (map anySet (take 32 ws)) in
+      (0 < ones (map anySet (take 32 ws))) × (b < 32) × (0 < getD ws b 0) × (place 0 (flagsOf ws) ≡ b * 64 + place 0 (inWord (getD ws b 0)))
   unfolding flagsOf
   words-in p =
       let some = in-some 32 ws p in
@@ -145,7 +145,7 @@ module _ {ws : List ℕ} (s : Summed ws) where
       → let b = place 0 (inWord (getD ws 32 0)) in
       (0 < getD ws 32 0) × (b < 32) × (0 < getD ws b 0) × (place 0 (flagsOf ws) ≡ b * 64 + place 0 (inWord (getD ws b 0)))
   words-first p =
-      let marks = map any (take 32 ws) in
+      let marks = map anySet (take 32 ws) in
       let first = words-in p in
       let all : ones (inWord (getD ws 32 0)) ≡ ones marks + ones (replicate 32 0) = ap ones (s .last) ∙ ones-append marks (replicate 32 0) in
       let e : place 0 (inWord (getD ws 32 0)) ≡ place 0 marks = ap (place 0) (s .last) ∙ place-left 0 marks (replicate 32 0) (first .0) in
@@ -157,7 +157,7 @@ module _ {ws : List ℕ} (s : Summed ws) where
   words-empty = go (decLe 1 (ones (inWord (getD ws 32 0))))
     where
       marks : List ℕ
-      marks = map any (take 32 ws)
+      marks = map anySet (take 32 ws)
 
       all : ones (inWord (getD ws 32 0)) ≡ ones marks
       all = ap ones (s .last) ∙ ones-append marks (replicate 32 0) ∙ omega (arith, ones-none 32)
@@ -170,16 +170,16 @@ module _ {ws : List ℕ} (s : Summed ws) where
 
 -- ---- the invariant
 
-any-set : (ws : List ℕ) (b w : ℕ) → map any (set ws b w) ≡ set (map any ws) b (any w)
+any-set : (ws : List ℕ) (b w : ℕ) → map anySet (set ws b w) ≡ set (map anySet ws) b (anySet w)
 any-set [] b w = refl
 any-set (x ∷ ws) zero w = refl
-any-set (x ∷ ws) (suc b) w = ap (λ (l : List ℕ). any x ∷ l) (any-set ws b w)
+any-set (x ∷ ws) (suc b) w = ap (λ (l : List ℕ). anySet x ∷ l) (any-set ws b w)
 
 pub none-set : flagsOf (replicate 69 0) ≡ replicate 2048 0
 unfolding flagsOf inWord
 none-set = refl
 
-none-last : inWord 0 ≡ map any (take 32 (replicate 69 0)) ++ replicate 32 0
+none-last : inWord 0 ≡ map anySet (take 32 (replicate 69 0)) ++ replicate 32 0
 unfolding inWord
 none-last = refl
 
@@ -222,27 +222,27 @@ any-one : (n : ℕ) → 0 < n → atMostOne n ≡ 1
 any-one zero h = absurd (omega arith)
 any-one (suc n) h = refl
 
-pub any-none : any 0 ≡ 0
+pub any-none : anySet 0 ≡ 0
 any-none = ap atMostOne (ap ones word-none ∙ ones-none 64)
 
 -- a word with a flag raised has a mark
-pub any-some : (w k : ℕ) → getD (inWord w) k 0 ≡ 1 → any w ≡ 1
+pub any-some : (w k : ℕ) → getD (inWord w) k 0 ≡ 1 → anySet w ≡ 1
 any-some w k e = any-one (ones (inWord w)) (omega (arith, ones-at (inWord w) k))
 
-pub any-raised : (w w′ k : ℕ) → k < 64 → inWord w′ ≡ set (inWord w) k 1 → any w′ ≡ 1
+pub any-raised : (w w′ k : ℕ) → k < 64 → inWord w′ ≡ set (inWord w) k 1 → anySet w′ ≡ 1
 any-raised w w′ k h e = any-some w′ k (ap (λ (l : List ℕ). getD l k 0) e ∙ getD-set-same (inWord w) k 1 0 (omega (arith, word-size w)))
 
-pub any-positive : (w : ℕ) → (w ≡ 0 → ⊥) → w < 2 ^ 64 → any w ≡ 1
+pub any-positive : (w : ℕ) → (w ≡ 0 → ⊥) → w < 2 ^ 64 → anySet w ≡ 1
 any-positive w p h = any-one (ones (inWord w)) (word-some w (omega arith) h)
 
-pub mark-at : {ws : List ℕ} → Summed ws → (b : ℕ) → b < 32 → getD (inWord (getD ws 32 0)) b 0 ≡ any (getD ws b 0)
+pub mark-at : {ws : List ℕ} → Summed ws → (b : ℕ) → b < 32 → getD (inWord (getD ws 32 0)) b 0 ≡ anySet (getD ws b 0)
 mark-at {ws} s b h =
     let n : length (take 32 ws) ≡ 32 = length-take-le 32 ws (omega (arith, s .count)) in
     ap (λ (l : List ℕ). getD l b 0) (s .last)
-    ∙ List·getD-append (map any (take 32 ws)) (replicate 32 0) 0 b (omega (arith, length-map (take 32 ws) any))
-    ∙ ap (λ (d : ℕ). getD (map any (take 32 ws)) b d) (sym any-none)
-    ∙ List·getD-map any (take 32 ws) b 0
-    ∙ ap any (getD-take 32 ws b 0 h)
+    ∙ List·getD-append (map anySet (take 32 ws)) (replicate 32 0) 0 b (omega (arith, length-map (take 32 ws) anySet))
+    ∙ ap (λ (d : ℕ). getD (map anySet (take 32 ws)) b d) (sym any-none)
+    ∙ List·getD-map anySet (take 32 ws) b 0
+    ∙ ap anySet (getD-take 32 ws b 0 h)
 
 -- a count is changed
 module _ {ws : List ℕ} (s : Summed ws) (j a : ℕ) (h : 33 ≤ j) where
@@ -256,9 +256,24 @@ module _ {ws : List ℕ} (s : Summed ws) (j a : ℕ) (h : 33 ≤ j) where
     last = rw (getD-set-other ws j 32 a 0 (λ e. omega arith), take-set-le 32 ws j a (omega arith)) (s .last);
   }
 
+-- what is read in turn, once what stands before it is written
+pub marks-kept : (ws : List ℕ) (i w′ : ℕ) → i < 2048 → getD (set ws (i / 64) w′) 32 0 ≡ getD ws 32 0
+marks-kept ws i w′ h = getD-set-other ws (i / 64) 32 w′ 0 (λ e. omega arith)
+
+pub in-word-kept : (ws : List ℕ) (i w′ s′ : ℕ) → i < 2048 → getD (set (set ws (i / 64) w′) 32 s′) (33 + i / 64) 0 ≡ getD ws (33 + i / 64) 0
+in-word-kept ws i w′ s′ h =
+    getD-set-other (set ws (i / 64) w′) 32 (33 + i / 64) s′ 0 (λ e. omega arith) ∙ getD-set-other ws (i / 64) (33 + i / 64) w′ 0 (λ e. omega arith)
+
+pub in-group-kept : (ws : List ℕ) (i w′ s′ x : ℕ) → i < 2048
+    → getD (set (set (set ws (i / 64) w′) 32 s′) (33 + i / 64) x) (65 + i / 512) 0 ≡ getD ws (65 + i / 512) 0
+in-group-kept ws i w′ s′ x h =
+    getD-set-other (set (set ws (i / 64) w′) 32 s′) (33 + i / 64) (65 + i / 512) x 0 (λ e. omega arith)
+    ∙ getD-set-other (set ws (i / 64) w′) 32 (65 + i / 512) s′ 0 (λ e. omega arith)
+    ∙ getD-set-other ws (i / 64) (65 + i / 512) w′ 0 (λ e. omega arith)
+
 -- a flag is changed, with the mark of its word and the counts, which are then x and y
 module _ {ws : List ℕ} (c : Counted ws) (i v w′ s′ x y : ℕ) (h : i < 2048) (small : v ≤ 1)
-    (put : inWord w′ ≡ set (inWord (getD ws (i / 64) 0)) (i % 64) v) (mark : inWord s′ ≡ set (inWord (getD ws 32 0)) (i / 64) (any w′))
+    (put : inWord w′ ≡ set (inWord (getD ws (i / 64) 0)) (i % 64) v) (mark : inWord s′ ≡ set (inWord (getD ws 32 0)) (i / 64) (anySet w′))
     (inBlock : x + getD (flagsOf ws) i 0 ≡ getD ws (33 + i / 64) 0 + v) (inGroup : y + getD (flagsOf ws) i 0 ≡ getD ws (65 + i / 512) 0 + v) where
   abbrev b : ℕ
   b = i / 64
@@ -280,13 +295,13 @@ module _ {ws : List ℕ} (c : Counted ws) (i v w′ s′ x y : ℕ) (h : i < 204
       let size : length ws′ ≡ 69 = length-set (set ws b w′) 32 s′ ∙ length-set ws b w′ ∙ n in
       let at : getD ws′ 32 0 ≡ s′ = getD-set-same (set ws b w′) 32 s′ 0 (omega (arith, length-set ws b w′)) in
       let words : take 32 ws′ ≡ set (take 32 ws) b w′ = take-set-le 32 (set ws b w′) 32 s′ (omega arith) ∙ take-set-lt 32 ws b w′ (omega arith) in
-      let marks : map any (take 32 ws′) ≡ set (map any (take 32 ws)) b (any w′) = ap (map any) words ∙ any-set (take 32 ws) b w′ in
-      let room : b < length (map any (take 32 ws)) = omega (arith, length-map (take 32 ws) any, length-take-le 32 ws (omega arith)) in
+      let marks : map anySet (take 32 ws′) ≡ set (map anySet (take 32 ws)) b (anySet w′) = ap (map anySet) words ∙ any-set (take 32 ws) b w′ in
+      let room : b < length (map anySet (take 32 ws)) = omega (arith, length-map (take 32 ws) anySet, length-take-le 32 ws (omega arith)) in
       record {
         count = size;
         last =
-            ap inWord at ∙ mark ∙ ap (λ (l : List ℕ). set l b (any w′)) (c .summed .last)
-            ∙ set-append-left (map any (take 32 ws)) (replicate 32 0) b (any w′) room
+            ap inWord at ∙ mark ∙ ap (λ (l : List ℕ). set l b (anySet w′)) (c .summed .last)
+            ∙ set-append-left (map anySet (take 32 ws)) (replicate 32 0) b (anySet w′) room
             ∙ ap (λ (l : List ℕ). l ++ replicate 32 0) (sym marks);
       }
 

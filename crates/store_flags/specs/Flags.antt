@@ -2,7 +2,7 @@
 -- Flags of 0 or 1 in a list: how many are 1 and at which places they stand. And how they are kept, in 69 words: 64 in a word,
 -- then a word that says which words have any, then the counts by blocks of 64 and by groups of 512.
 -- Assumes nothing.
-use Prim.Native.Nat.{ℕ, zero, suc, _+_, _-_, _/_, _%_, _≤_}
+use Prim.Native.Nat.{ℕ, zero, suc, _+_, _-_, _/_, _%_, _≤_, _<_}
 use mathlib.Core.Path.{_≡_}
 use mathlib.Core.Bool.{cond}
 use mathlib.Core.List.{List, [], _∷_, _++_, map}
@@ -43,6 +43,11 @@ minus (x ∷ l) (y ∷ m) = (x - y) ∷ minus l m
 abbrev pub Under : List ℕ → List ℕ → Type 0
 Under m l = (i : ℕ) → getD m i 0 ≤ getD l i 0
 
+-- where the first of them stands, or 2,048 if there is none
+pub record FirstIn (l : List ℕ) (r : ℕ) : Type 0 where
+  pub found : r < 2048 → (0 < length (places l)) × (r ≡ getD (places l) 0 0)
+  pub none : 2048 ≤ r → length (places l) ≡ 0
+
 -- 2,048 flags, each 0 or 1, with their counts by blocks and, behind those, by groups of eight blocks
 pub record Tallied (flags counts : List ℕ) : Type 0 where
   pub size : length flags ≡ 2048
@@ -75,13 +80,13 @@ atMostOne zero = 0
 atMostOne (suc n) = 1
 
 -- 1 for a word that has any flag set
-abbrev pub any : ℕ → ℕ
-any w = atMostOne (ones (inWord w))
+abbrev pub anySet : ℕ → ℕ
+anySet w = atMostOne (ones (inWord w))
 
 -- word 32 says which of those before it have any flag set
 pub record Summed (ws : List ℕ) : Type 0 where
   pub count : length ws ≡ 69
-  pub last : inWord (getD ws 32 0) ≡ map any (take 32 ws) ++ replicate 32 0
+  pub last : inWord (getD ws 32 0) ≡ map anySet (take 32 ws) ++ replicate 32 0
 
 -- the invariant that every operation keeps; the counts stand behind word 32
 pub record Counted (ws : List ℕ) : Type 0 where

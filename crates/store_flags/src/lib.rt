@@ -6,7 +6,7 @@ ghost use mathlib.Core.Path.{_≡_};
 ghost use Prim.Native.Nat.{_+_, _-_, _*_, _≤_, _<_};
 ghost use lib.Dec.{eqb};
 ghost use lib.ListN.{length, getD, set, take, drop};
-ghost use Rattle.store_flags.specs.Flags.{ones, place, places, minus, Under, inWord, flagsOf, any, Summed, Counted};
+ghost use Rattle.store_flags.specs.Flags.{ones, place, places, minus, Under, FirstIn, inWord, flagsOf, anySet, Summed, Counted};
 
 // The words of the flags, with what is known of them behind.
 pub const LENGTH: usize = 69;
@@ -49,7 +49,7 @@ fn marked(word: u64, k: usize) -> u64
 // The same, where a flag of it is lowered, and it is `after`.
 fn unmark(marks: u64, b: usize, after: u64) -> u64
     requires { ⌜ (b < 64) × (getD (inWord marks) b 0 ≡ 1) ⌝ }
-    ensures { λ r. ⌜ inWord r ≡ set (inWord marks) b (any after) ⌝ }
+    ensures { λ r. ⌜ inWord r ≡ set (inWord marks) b (anySet after) ⌝ }
 {
     if after == 0 { lowered(marks, b) } else { marks }
 }
@@ -105,12 +105,12 @@ pub fn raise(flags: &mut Flags, i: usize)
 {
     let b = i / 64;
     let word = flags[b];
-    let in_word = flags[COUNTS + b];
-    let in_group = flags[GROUPS + i / 512];
-    let marks = flags[ANY];
     flags[b] = raised(word, i % 64);
+    let marks = flags[ANY];
     flags[ANY] = marked(marks, b);
+    let in_word = flags[COUNTS + b];
     flags[COUNTS + b] = in_word + 1;
+    let in_group = flags[GROUPS + i / 512];
     flags[GROUPS + i / 512] = in_group + 1;
 }
 
@@ -121,13 +121,13 @@ pub fn lower(flags: &mut Flags, i: usize)
     ensures { λ _. ⌜ Counted (now (flags .exit)) ⌝ }
 {
     let b = i / 64;
-    let in_word = flags[COUNTS + b];
-    let in_group = flags[GROUPS + i / 512];
-    let marks = flags[ANY];
     let word = lowered(flags[b], i % 64);
     flags[b] = word;
+    let marks = flags[ANY];
     flags[ANY] = unmark(marks, b, word);
+    let in_word = flags[COUNTS + b];
     flags[COUNTS + b] = in_word - 1;
+    let in_group = flags[GROUPS + i / 512];
     flags[GROUPS + i / 512] = in_group - 1;
 }
 
@@ -294,4 +294,23 @@ pub fn select_but(flags: &Flags, held: &Flags, k: usize) -> usize
     ensures { λ r. ⌜ (r ≡ getD (places (minus (flagsOf (now (flags .entry))) (flagsOf (now (held .entry))))) k 0) × (r < 2048) ⌝ }
 {
     select_group_but(flags, held, k)
+}
+
+// The place of the first one, or 2,048 where there is none. The words from the first that has any are looked at in turn.
+pub fn first_but(flags: &Flags, held: &Flags) -> usize
+    requires { ⌜ Counted (now flags) × Counted (now held) × Under (flagsOf (now held)) (flagsOf (now flags)) ⌝ }
+    ensures { λ r. ⌜ FirstIn (minus (flagsOf (now (flags .entry))) (flagsOf (now (held .entry)))) r ⌝ }
+{
+    if is_empty(flags) {
+        return 2048;
+    }
+    let mut b = lowest(flags[ANY]);
+    while b < 32 {
+        let word = word_but(flags, held, b);
+        if !has_none(word) {
+            return b * 64 + lowest(word);
+        }
+        b += 1;
+    }
+    2048
 }

@@ -9,14 +9,14 @@ use Rattle.record.specs.Paths.{pathNumber, pathWords, rootPath}
 use Rattle.record.specs.TokensAndTags as Tokens
 use Rattle.record.specs.TokensAndTags.{tokenBytes, contentOf}
 use Rattle.record.specs.Cells as Cells
-use Rattle.record.specs.Cells.{cellBytes, cellOf}
+use Rattle.record.specs.Cells.{bytesOfCell, cellOf}
 use Rattle.rules.specs.declared.answer.Refusal.the-variants.{LedgerFull, NoReturn}
 use Rattle.rules.specs.declared.answer.Outcome.{Outcome}
 use Rattle.rules.specs.declared.answer.Outcome.the-variants.{Completed, Hung, Spent, Refused}
 use Rattle.rules.specs.declared.answer.Answer.{Answer}
 use Rattle.text.specs.declared.Printed.the-variants.{Done, TooSmall}
 use Rattle.text.specs.Words.{bytes}
-use Rattle.text.specs.Text.{decimal, signedDecimal, answerLine, tokenLine, cellLine, printed, printedOf, outAfter}
+use Rattle.text.specs.Text.{decimal, signedDecimal, answerLine, tokenLine, cellLine, printed, printedOf, printedOut}
 
 -- ---- numbers at the ends of their ranges
 
@@ -72,7 +72,7 @@ abbrev text01 : List ℕ
 text01 = bytes "completed 1 3 0\n0 0 0 0 7 spent\n0 0 0 1 -9 spent\n0 0 1 0 -2 live\n"
 
 pub printed01 : printed (answer Completed 1 3) listing01 (replicate 16 0) ≡ text01
-unfolding decimal answerLine tokenLine cellLine printed pathNumber pathWords Tokens.decode Cells.decode contentOf cellOf signedOf
+unfolding decimal answerLine tokenLine cellLine printed pathNumber pathWords Tokens.decodeToken Cells.decodeCell contentOf cellOf signedOf
 printed01 = refl
 
 -- ---- tokens and cells at the ends of their ranges: every field has its place, a deferred token shows its cell number, a cell keeps its number where an
@@ -82,23 +82,23 @@ abbrev listingEnds : List ℕ
 listingEnds = tokenBytes (pathWords 340282366920938463463374607431768211455) 255 1 65535 2147483648 0 ++ tokenBytes (pathWords 770) 2 0 1 1023 2 ++ 1 ∷ []
 
 abbrev cellsEnds : List ℕ
-cellsEnds = cellBytes 0 0 ++ cellBytes 2147483648 2 ++ cellBytes 0 1 ++ cellBytes 2147483647 2 ++ 1 ∷ []
+cellsEnds = bytesOfCell 0 0 ++ bytesOfCell 2147483648 2 ++ bytesOfCell 0 1 ++ bytesOfCell 2147483647 2 ++ 1 ∷ []
 
 pub printed-ends : printed (answer Spent 2 2) listingEnds cellsEnds
     ≡ bytes "spent 2 2 0\n340282366920938463463374607431768211455 255 65535 1 -2147483648 live\n770 2 1 0 1023 deferred\ncell 1 present -2147483648\ncell 2 waiting 0\ncell 3 present 2147483647\n"
-unfolding decimal answerLine tokenLine cellLine printed pathNumber pathWords Tokens.decode Cells.decode contentOf cellOf signedOf
+unfolding decimal answerLine tokenLine cellLine printed pathNumber pathWords Tokens.decodeToken Cells.decodeCell contentOf cellOf signedOf
 printed-ends = refl
 
 -- ---- a buffer as long as the text, one byte shorter, and one byte longer
 
-pub exact : (printedOf text01 (replicate 65 7) ≡ Done 65) × (outAfter text01 (replicate 65 7) ≡ text01)
-unfolding printedOf outAfter
+pub exact : (printedOf text01 (replicate 65 7) ≡ Done 65) × (printedOut text01 (replicate 65 7) ≡ text01)
+unfolding printedOf printedOut
 exact = (refl, refl)
 
-pub one-less : (printedOf text01 (replicate 64 7) ≡ TooSmall) × (outAfter text01 (replicate 64 7) ≡ replicate 64 7)
-unfolding printedOf outAfter
+pub one-less : (printedOf text01 (replicate 64 7) ≡ TooSmall) × (printedOut text01 (replicate 64 7) ≡ replicate 64 7)
+unfolding printedOf printedOut
 one-less = (refl, refl)
 
-pub one-more : (printedOf text01 (replicate 66 7) ≡ Done 65) × (outAfter text01 (replicate 66 7) ≡ text01 ++ 7 ∷ [])
-unfolding printedOf outAfter
+pub one-more : (printedOf text01 (replicate 66 7) ≡ Done 65) × (printedOut text01 (replicate 66 7) ≡ text01 ++ 7 ∷ [])
+unfolding printedOf printedOut
 one-more = (refl, refl)

@@ -18,14 +18,14 @@ use Rattle.number.proofs.Numbers.{bits-signed}
 use Rattle.buffer.specs.Rows.{rows}
 use Rattle.buffer.proofs.Tables.{length-rows, getD-rows}
 use Rattle.record.specs.TokensAndTags as Tokens
-use Rattle.record.specs.TokensAndTags.{contentOf}
+use Rattle.record.specs.TokensAndTags.{contentOf, valueIn}
 use Rattle.record.specs.Cells as Cells
 use Rattle.record.specs.declared.cell.Cell.the-variants.{Absent}
 use Rattle.record.specs.Widths.{tokenWidth, cellWidth}
 use Rattle.record.proofs.Computed.{every, at}
 use Rattle.text.specs.Words.{bytes}
-use Rattle.text.specs.Text.{digit, decimal, signedDecimal, stateWord, valueIn, tokenLine, cellLine}
-use Rattle.text.specs.Lines.{RoomFor, Added, packedDigits, Table, textOf, tokenLines, linesOfCells, AbsentFrom}
+use Rattle.text.specs.Text.{digit, decimal, signedDecimal, stateWord, tokenLine, cellLine}
+use Rattle.text.specs.Lines.{RoomForText, AddedText, packedDigits, Table, textOfLines, tokenLines, linesOfCells, AbsentFrom}
 use Rattle.text.proofs.Decimals.{decimal-digit, length-more, signed-up, signed-down}
 use Rattle.text.proofs.Lines.{both}
 use Rattle.text.proofs.Whole.{map-rows, length-cells, cell-line, made, made-next, made-longer, made-within}
@@ -107,26 +107,26 @@ module _ (b state : ℕ) where
 
 pub count-tokens : (listing : List ℕ) → length (tokenLines listing) ≡ length listing / tokenWidth
 count-tokens listing =
-    length-map (rows tokenWidth Tokens.decode (length listing / tokenWidth) listing) tokenLine ∙ length-rows tokenWidth Tokens.decode (length listing / tokenWidth) listing
+    length-map (rows tokenWidth Tokens.decodeToken (length listing / tokenWidth) listing) tokenLine ∙ length-rows tokenWidth Tokens.decodeToken (length listing / tokenWidth) listing
 
-pub token-at : (listing : List ℕ) (i : ℕ) → i < length listing / tokenWidth → getD (tokenLines listing) i [] ≡ tokenLine (Tokens.decode (drop (i * tokenWidth) listing))
+pub token-at : (listing : List ℕ) (i : ℕ) → i < length listing / tokenWidth → getD (tokenLines listing) i [] ≡ tokenLine (Tokens.decodeToken (drop (i * tokenWidth) listing))
 token-at listing i h =
-    ap (λ (l : List (List ℕ)). getD l i []) (map-rows tokenLine tokenWidth Tokens.decode (length listing / tokenWidth) listing)
-    ∙ getD-rows tokenWidth (λ b. tokenLine (Tokens.decode b)) (length listing / tokenWidth) i listing [] h
+    ap (λ (l : List (List ℕ)). getD l i []) (map-rows tokenLine tokenWidth Tokens.decodeToken (length listing / tokenWidth) listing)
+    ∙ getD-rows tokenWidth (λ b. tokenLine (Tokens.decodeToken b)) (length listing / tokenWidth) i listing [] h
 
 pub count-cells : (cells : List ℕ) → length (linesOfCells cells) ≡ length cells / cellWidth
-count-cells cells = length-cells 0 (rows cellWidth Cells.decode (length cells / cellWidth) cells) ∙ length-rows cellWidth Cells.decode (length cells / cellWidth) cells
+count-cells cells = length-cells 0 (rows cellWidth Cells.decodeCell (length cells / cellWidth) cells) ∙ length-rows cellWidth Cells.decodeCell (length cells / cellWidth) cells
 
-pub cell-at : (cells : List ℕ) (k : ℕ) → k < length cells / cellWidth → getD (linesOfCells cells) k [] ≡ cellLine k (Cells.cellAt cells k)
+pub cell-at : (cells : List ℕ) (k : ℕ) → k < length cells / cellWidth → getD (linesOfCells cells) k [] ≡ cellLine k (Cells.cellOfRecord cells k)
 cell-at cells k h = cell-line 0 (length cells / cellWidth) k cells h ∙ rw (zero-add k)
 
 -- ---- the first j lines are put from a place on: `at` is where they end
 
-module _ (ls : List (List ℕ)) {lent out : List ℕ} {start at : ℕ} (j : ℕ) (lt : j < length ls) (a : Added lent out start at (made ls j)) where
-  pub line-room : RoomFor lent start (textOf ls) → RoomFor out at (getD ls j [])
+module _ (ls : List (List ℕ)) {lent out : List ℕ} {start at : ℕ} (j : ℕ) (lt : j < length ls) (a : AddedText lent out start at (made ls j)) where
+  pub line-room : RoomForText lent start (textOfLines ls) → RoomForText out at (getD ls j [])
   line-room h = record { room = omega (arith, h .room, a .place, a .kept, made-longer ls j lt, made-within ls (j + 1)) }
 
-  pub line-made : {after : List ℕ} {r : ℕ} → Added out after at r (getD ls j []) → Added lent after start r (made ls (j + 1))
+  pub line-made : {after : List ℕ} {r : ℕ} → AddedText out after at r (getD ls j []) → AddedText lent after start r (made ls (j + 1))
   line-made b = rw (made-next ls j lt) (both a b)
 
 -- ---- cells that are passed over
@@ -145,8 +145,8 @@ state-from cells k j =
 abbrev zeroIn : (cells : List ℕ) → (k i : ℕ) → Type 0
 zeroIn cells k i = byteAt (drop (k * cellWidth) cells) i ≡ 0
 
-absent-at : (cells : List ℕ) (k j : ℕ) → zeroIn cells k (j * cellWidth + 4) → Cells.cellAt cells (k + j) ≡ Absent
-unfolding Cells.decode Cells.cellOf
+absent-at : (cells : List ℕ) (k j : ℕ) → zeroIn cells k (j * cellWidth + 4) → Cells.cellOfRecord cells (k + j) ≡ Absent
+unfolding Cells.decodeCell Cells.cellOf
 absent-at cells k j e = rw (state-from cells k j ∙ e)
 
 pub eight-absent : (cells : List ℕ) (k : ℕ) → let s = drop (k * cellWidth) cells in
@@ -172,7 +172,7 @@ eight-absent cells k e =
     each a b c d e f g h (suc (suc (suc (suc (suc (suc (suc zero))))))) l = absent-at cells k 7 h
     each a b c d e f g h (suc (suc (suc (suc (suc (suc (suc (suc j)))))))) l = absurd (omega arith)
 
-pub one-absent : (cells : List ℕ) (k : ℕ) → Cells.cellAt cells k ≡ Absent → AbsentFrom cells k 1
+pub one-absent : (cells : List ℕ) (k : ℕ) → Cells.cellOfRecord cells k ≡ Absent → AbsentFrom cells k 1
 one-absent cells k a j h = let e : k + j ≡ k = omega arith in rw e a
 
 -- so their lines are none

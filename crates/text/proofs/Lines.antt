@@ -12,11 +12,11 @@ use Rattle.rules.specs.declared.answer.Outcome.{Outcome}
 use Rattle.rules.specs.declared.answer.Outcome.the-variants.{Completed, Hung, Spent, Refused}
 use Rattle.text.specs.Words.{bytes}
 use Rattle.text.specs.Text.{digit, decimal, line, outcomeFields}
-use Rattle.text.specs.Lines.{RoomFor, Added, lastDigits, spaced}
+use Rattle.text.specs.Lines.{RoomForText, AddedText, lastDigits, spaced}
 use Rattle.text.proofs.Decimals.{length-last}
 
 -- a byte
-pub added-byte : (l : List ℕ) (at b : ℕ) → at < length l → Added l (set l at b) at (at + 1) (b ∷ [])
+pub added-byte : (l : List ℕ) (at b : ℕ) → at < length l → AddedText l (set l at b) at (at + 1) (b ∷ [])
 added-byte l at b h = record {
   kept = length-set l at b;
   place = refl;
@@ -25,11 +25,11 @@ added-byte l at b h = record {
 }
 
 -- no byte
-pub added-none : (l : List ℕ) (at : ℕ) → Added l l at at []
+pub added-none : (l : List ℕ) (at : ℕ) → AddedText l l at at []
 added-none l at = record { kept = refl; place = omega arith; bytes = sym (append-nil (take at l)); behind = refl }
 
 -- a text
-pub added-written : (l : List ℕ) (at : ℕ) (w : List ℕ) → at + length w ≤ length l → Added l (written l at w) at (at + length w) w
+pub added-written : (l : List ℕ) (at : ℕ) (w : List ℕ) → at + length w ≤ length l → AddedText l (written l at w) at (at + length w) w
 unfolding written
 added-written l at w h =
     let d = drop (at + length w) l in
@@ -42,7 +42,7 @@ added-written l at w h =
     }
 
 -- one text after another
-pub both : {l m n : List ℕ} {at k r : ℕ} {s t : List ℕ} → Added l m at k s → Added m n k r t → Added l n at r (s ++ t)
+pub both : {l m n : List ℕ} {at k r : ℕ} {s t : List ℕ} → AddedText l m at k s → AddedText m n k r t → AddedText l n at r (s ++ t)
 both {l} {m} {n} {at} {k} {r} {s} {t} a b =
     let e : drop r m ≡ drop r l = rw (b .place, ← drop-drop (length t) k m, ← drop-drop (length t) k l, a .behind) in
     record {
@@ -53,7 +53,7 @@ both {l} {m} {n} {at} {k} {r} {s} {t} a b =
     }
 
 -- a text at the start, and behind it what was there
-pub from-start : {l m : List ℕ} {r : ℕ} {t : List ℕ} → Added l m 0 r t → (r ≡ length t) × (m ≡ t ++ drop (length t) l)
+pub from-start : {l m : List ℕ} {r : ℕ} {t : List ℕ} → AddedText l m 0 r t → (r ≡ length t) × (m ≡ t ++ drop (length t) l)
 from-start {l} {m} {r} {t} a =
     let e : r ≡ length t = omega (arith, a .place) in
     (e, sym (take-append-drop r m) ∙ rw (a .bytes, a .behind, e))
@@ -89,7 +89,7 @@ module _ (lent : List ℕ) (at k n : ℕ) where
         digits = rw (g, ← append-assoc (lastDigits m (rest / 10)) (d ∷ []) (drop (suc i) out)) (rw a at (p .digits));
       })
 
-  pub putting-last : (out : List ℕ) (rest left : ℕ) → at + k ≤ length lent → left ≤ 0 → Putting out rest left → Added lent out at (at + k) (lastDigits k n)
+  pub putting-last : (out : List ℕ) (rest left : ℕ) → at + k ≤ length lent → left ≤ 0 → Putting out rest left → AddedText lent out at (at + k) (lastDigits k n)
   putting-last out rest (suc m) h z p = absurd (omega arith)
   putting-last out rest zero h z p =
       let a : at + 0 ≡ at = omega arith in
@@ -103,10 +103,10 @@ module _ (lent : List ℕ) (at k n : ℕ) where
 
 -- ---- room: for a text where there is room for more behind it, and for what is behind it once it is put
 
-pub room-first : {l : List ℕ} {at : ℕ} (s t : List ℕ) → RoomFor l at (s ++ t) → RoomFor l at s
+pub room-first : {l : List ℕ} {at : ℕ} (s t : List ℕ) → RoomForText l at (s ++ t) → RoomForText l at s
 room-first s t h = record { room = omega (arith, length-append s t) }
 
-pub room-rest : {l m : List ℕ} {at k : ℕ} {s : List ℕ} (t : List ℕ) → Added l m at k s → RoomFor l at (s ++ t) → RoomFor m k t
+pub room-rest : {l m : List ℕ} {at k : ℕ} {s : List ℕ} (t : List ℕ) → AddedText l m at k s → RoomForText l at (s ++ t) → RoomForText m k t
 room-rest {s = s} t a h = record { room = omega (arith, length-append s t, a .place, a .kept) }
 
 -- ---- a line of two fields or more: its first field, and the line of the others
@@ -115,13 +115,13 @@ module _ (g : List ℕ) (fs : List (List ℕ)) where
   pub line-first : (f : List ℕ) → line (f ∷ g ∷ fs) ≡ (f ++ 32 ∷ []) ++ line (g ∷ fs)
   line-first f = sym (append-assoc f (32 ∷ []) (line (g ∷ fs)))
 
-  pub field-room : {l : List ℕ} {at : ℕ} (f : List ℕ) → RoomFor l at (line (f ∷ g ∷ fs)) → RoomFor l at (f ++ 32 ∷ [])
+  pub field-room : {l : List ℕ} {at : ℕ} (f : List ℕ) → RoomForText l at (line (f ∷ g ∷ fs)) → RoomForText l at (f ++ 32 ∷ [])
   field-room f h = room-first (f ++ 32 ∷ []) (line (g ∷ fs)) (rw (line-first f) at h)
 
-  pub rest-room : {l m : List ℕ} {at k : ℕ} (f : List ℕ) → Added l m at k (f ++ 32 ∷ []) → RoomFor l at (line (f ∷ g ∷ fs)) → RoomFor m k (line (g ∷ fs))
+  pub rest-room : {l m : List ℕ} {at k : ℕ} (f : List ℕ) → AddedText l m at k (f ++ 32 ∷ []) → RoomForText l at (line (f ∷ g ∷ fs)) → RoomForText m k (line (g ∷ fs))
   rest-room f a h = room-rest (line (g ∷ fs)) a (rw (line-first f) at h)
 
-  pub with-rest : {l m n : List ℕ} {at k r : ℕ} (f : List ℕ) → Added l m at k (f ++ 32 ∷ []) → Added m n k r (line (g ∷ fs)) → Added l n at r (line (f ∷ g ∷ fs))
+  pub with-rest : {l m n : List ℕ} {at k r : ℕ} (f : List ℕ) → AddedText l m at k (f ++ 32 ∷ []) → AddedText m n k r (line (g ∷ fs)) → AddedText l n at r (line (f ∷ g ∷ fs))
   with-rest f a b = rw (line-first f) (both a b)
 
 -- the fields of an outcome stand before those that follow

@@ -12,9 +12,10 @@ use Rattle.record.specs.declared.tag.Path.{Path}
 use Rattle.record.specs.declared.token.Token.{Token}
 use Rattle.record.specs.declared.token.Content.{Content}
 use Rattle.record.specs.declared.token.Content.the-variants.{Live, Spent, Deferred}
-use Rattle.text.specs.Text.{decimal, signedDecimal, stateWord, valueIn, line, tokenLine}
-use Rattle.text.specs.Lines.{RoomFor, Added, AddedLoosely, PathText, restLine}
+use Rattle.text.specs.Text.{decimal, signedDecimal, stateWord, line, tokenLine}
+use Rattle.text.specs.Lines.{RoomForText, AddedText, AddedLoosely, PathText, restLine}
 use Rattle.text.proofs.Lines.{line-first}
+use Rattle.record.specs.TokensAndTags.{valueIn}
 
 -- ---- bytes read one by one
 
@@ -87,7 +88,7 @@ first-eight l t at e = rw (add-zero at) at e
 
 -- ---- a text put loosely, and one of seven bytes or more behind it
 
-pub loosely-then : {l m n : List ℕ} {at k r : ℕ} {s t : List ℕ} → AddedLoosely l m at k s → Added m n k r t → 7 ≤ length t → Added l n at r (s ++ t)
+pub loosely-then : {l m n : List ℕ} {at k r : ℕ} {s t : List ℕ} → AddedLoosely l m at k s → AddedText m n k r t → 7 ≤ length t → AddedText l n at r (s ++ t)
 loosely-then {l} {m} {n} {at} {k} {r} {s} {t} a b h =
     let q : r ≡ k + 7 + (length t - 7) = omega (arith, b .place) in
     let e : drop r m ≡ drop r l = rw (q, ← drop-drop (length t - 7) (k + 7) m, ← drop-drop (length t - 7) (k + 7) l, a .behind) in
@@ -140,16 +141,16 @@ module _ (t : Token) {text : List ℕ} {k : ℕ} (p : PathText text k (t .tag .p
       line-first (decimal (t .tag .iteration)) (decimal (t .tag .instruction) ∷ decimal (t .port) ∷ signedDecimal (valueIn (t .content)) ∷ stateWord (t .content) ∷ [])
       (decimal (pathNumber (t .tag .path)))
 
-  pub path-room : {l : List ℕ} {at : ℕ} → RoomFor l at (tokenLine t) → at + k + 7 ≤ length l
+  pub path-room : {l : List ℕ} {at : ℕ} → RoomForText l at (tokenLine t) → at + k + 7 ≤ length l
   path-room h = let q = rw in-two at h in omega (arith, q .room, length-append path (restLine t), count-is, rest-long t)
 
-  pub after-path : {l m : List ℕ} {at r : ℕ} → RoomFor l at (tokenLine t) → AddedLoosely l m at r (take k text) → RoomFor m r (restLine t)
+  pub after-path : {l m : List ℕ} {at r : ℕ} → RoomForText l at (tokenLine t) → AddedLoosely l m at r (take k text) → RoomForText m r (restLine t)
   after-path h a =
       let q = rw in-two at h in
       let b = rw (p .text) at a in
       record { room = omega (arith, q .room, length-append path (restLine t), b .place, b .kept) }
 
-  pub whole-line : {l m n : List ℕ} {at r q : ℕ} → AddedLoosely l m at r (take k text) → Added m n r q (restLine t) → Added l n at q (tokenLine t)
+  pub whole-line : {l m n : List ℕ} {at r q : ℕ} → AddedLoosely l m at r (take k text) → AddedText m n r q (restLine t) → AddedText l n at q (tokenLine t)
   whole-line a b = rw in-two (loosely-then (rw (p .text) at a) b (rest-long t))
 
 -- the text of a path is that of every path of the same words

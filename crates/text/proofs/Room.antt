@@ -32,12 +32,13 @@ use Rattle.rules.specs.declared.answer.Outcome.{Outcome}
 use Rattle.rules.specs.declared.answer.Outcome.the-variants as Outcomes
 use Rattle.rules.specs.declared.answer.Answer.{Answer}
 use Rattle.text.specs.Words.{bytes}
-use Rattle.text.specs.Text.{decimal, signedDecimal, line, outcomeFields, stateWord, valueIn, answerLine, tokenLine, statedLine, cellLine, cellLines, lines, printed, printedOf}
+use Rattle.text.specs.Text.{decimal, signedDecimal, line, outcomeFields, stateWord, answerLine, tokenLine, statedLine, cellLine, cellLines, lines, printed, printedOf}
 use Rattle.text.specs.declared.Printed.the-variants.{Done, TooSmall}
-use Rattle.text.specs.Room.{AnswerFits, mostBytes}
+use Rattle.text.specs.Room.{AnswerFits, mostBytesOf}
 use Rattle.text.proofs.Paths.{path-short}
 use Rattle.text.proofs.Decimals.{at-most, short}
 use Rattle.text.proofs.Whole.{joined-append, line-token, line-cell}
+use Rattle.record.specs.TokensAndTags.{valueIn}
 
 -- ---- a line by its fields: each has at most its number of bytes, and one byte behind it
 
@@ -177,35 +178,35 @@ cells-within k (x ∷ xs) h f =
 -- ---- the whole text, and each line of it
 
 -- of lines whose tokens and cells fit their records
-pub lines-within : (a : Answer) (listing cells : List ℕ) → All Tokens.TokenFits (allRows tokenWidth Tokens.decode listing) → All CellFits (allRows cellWidth Cells.decode cells) → length cells < 2 ^ 64
-    → length (printed a listing cells) ≤ length (answerLine a) + mostBytes listing cells
+pub lines-within : (a : Answer) (listing cells : List ℕ) → All Tokens.TokenFits (allRows tokenWidth Tokens.decodeToken listing) → All CellFits (allRows cellWidth Cells.decodeCell cells) → length cells < 2 ^ 64
+    → length (printed a listing cells) ≤ length (answerLine a) + mostBytesOf listing cells
 unfolding printed
 lines-within a listing cells ft fc h =
     let n = length listing / tokenWidth in
     let m = length cells / cellWidth in
-    let ts = allRows tokenWidth Tokens.decode listing in
-    let cs = allRows cellWidth Cells.decode cells in
+    let ts = allRows tokenWidth Tokens.decodeToken listing in
+    let cs = allRows cellWidth Cells.decodeCell cells in
     let jt = joined (λ (x : List ℕ). x) (map tokenLine ts) in
     let jc = joined (λ (x : List ℕ). x) (cellLines 0 cs) in
-    let many : length ts ≡ n = length-rows tokenWidth Tokens.decode n listing in
-    let more : length cs ≡ m = length-rows cellWidth Cells.decode m cells in
+    let many : length ts ≡ n = length-rows tokenWidth Tokens.decodeToken n listing in
+    let more : length cs ≡ m = length-rows cellWidth Cells.decodeCell m cells in
     let e : length (joined (λ (x : List ℕ). x) (map tokenLine ts ++ cellLines 0 cs)) ≡ length jt + length jc = ap length (joined-append (map tokenLine ts) (cellLines 0 cs)) ∙ length-append jt jc in
     let wt : length jt ≤ n * 75 = subst (λ (k : ℕ). length jt ≤ k * 75) many (tokens-within ts ft) in
     let wc : length jc ≤ m * 46 = subst (λ (k : ℕ). length jc ≤ k * 46) more (cells-within 0 cs (omega arith) fc) in
     omega (arith, length-append (answerLine a) (joined (λ (x : List ℕ). x) (map tokenLine ts ++ cellLines 0 cs)), e)
 
-pub fitting-within : (a : Answer) (listing cells : List ℕ) → AnswerFits a → All Tokens.TokenFits (allRows tokenWidth Tokens.decode listing) → All CellFits (allRows cellWidth Cells.decode cells) → length cells < 2 ^ 64
-    → length (printed a listing cells) ≤ 74 + mostBytes listing cells
+pub fitting-within : (a : Answer) (listing cells : List ℕ) → AnswerFits a → All Tokens.TokenFits (allRows tokenWidth Tokens.decodeToken listing) → All CellFits (allRows cellWidth Cells.decodeCell cells) → length cells < 2 ^ 64
+    → length (printed a listing cells) ≤ 74 + mostBytesOf listing cells
 fitting-within a listing cells f ft fc h = omega (arith, lines-within a listing cells ft fc h, answer-short a f)
 
 -- of bytes, whatever they are
 pub bytes-within : (a : Answer) (listing cells : List ℕ) → Bytes listing → Bytes cells → length cells < 2 ^ 64
-    → length (printed a listing cells) ≤ length (answerLine a) + mostBytes listing cells
+    → length (printed a listing cells) ≤ length (answerLine a) + mostBytesOf listing cells
 bytes-within a listing cells bl bc h =
-    lines-within a listing cells (rows-fit Tokens.TokenFits Tokens.decode token-fits tokenWidth (length listing / tokenWidth) listing bl) (rows-fit CellFits Cells.decode cell-fits cellWidth (length cells / cellWidth) cells bc) h
+    lines-within a listing cells (rows-fit Tokens.TokenFits Tokens.decodeToken token-fits tokenWidth (length listing / tokenWidth) listing bl) (rows-fit CellFits Cells.decodeCell cell-fits cellWidth (length cells / cellWidth) cells bc) h
 
 pub text-within : (a : Answer) (listing cells : List ℕ) → AnswerFits a → Bytes listing → Bytes cells → length cells < 2 ^ 64
-    → length (printed a listing cells) ≤ 74 + mostBytes listing cells
+    → length (printed a listing cells) ≤ 74 + mostBytesOf listing cells
 text-within a listing cells f bl bc h = omega (arith, bytes-within a listing cells bl bc h, answer-short a f)
 
 pub line-short : (a : Answer) (listing cells : List ℕ) → length (answerLine a) ≤ 74 → Bytes listing → Bytes cells → length cells < 2 ^ 64
@@ -220,12 +221,12 @@ line-short a listing cells f bl bc h (suc i) lt = go (leb (suc i) (length listin
         rw (line-token a listing cells (suc i) (λ z. absurd (omega arith)) (leb-true (suc i) (length listing / tokenWidth) e)) (omega arith)
     go false e =
         let k = suc i - 1 - length listing / tokenWidth in
-        let s = cell-short k (Cells.cellAt cells k) (omega arith) (cell-fits (drop (k * cellWidth) cells) (bytes-drop (k * cellWidth) cells bc)) in
+        let s = cell-short k (Cells.cellOfRecord cells k) (omega arith) (cell-fits (drop (k * cellWidth) cells) (bytes-drop (k * cellWidth) cells bc)) in
         rw (line-cell a listing cells (suc i) (leb-false (suc i) (length listing / tokenWidth) e) lt) (omega arith)
 
 -- where there is so much room, printing is done
 pub fits-in : (a : Answer) (listing cells out : List ℕ) → AnswerFits a → Bytes listing → Bytes cells → length cells < 2 ^ 64
-    → 74 + mostBytes listing cells ≤ length out → printedOf (printed a listing cells) out ≡ Done (length (printed a listing cells))
+    → 74 + mostBytesOf listing cells ≤ length out → printedOf (printed a listing cells) out ≡ Done (length (printed a listing cells))
 unfolding printedOf
 fits-in a listing cells out f bl bc h room =
     rw (le-leb (length (printed a listing cells)) (length out) (omega (arith, text-within a listing cells f bl bc h)))

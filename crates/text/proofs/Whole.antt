@@ -26,7 +26,7 @@ pub length-cells : (k : ℕ) (xs : List Cell) → length (cellLines k xs) ≡ le
 length-cells k [] = refl
 length-cells k (x ∷ xs) = ap suc (length-cells (suc k) xs)
 
-pub cell-line : (k m i : ℕ) (l : List ℕ) → i < m → getD (cellLines k (rows cellWidth Cells.decode m l)) i [] ≡ cellLine (k + i) (Cells.decode (drop (i * cellWidth) l))
+pub cell-line : (k m i : ℕ) (l : List ℕ) → i < m → getD (cellLines k (rows cellWidth Cells.decodeCell m l)) i [] ≡ cellLine (k + i) (Cells.decodeCell (drop (i * cellWidth) l))
 cell-line k zero i l h = absurd (not-suc-le-zero h)
 cell-line k (suc m) zero l h = let e : k ≡ k + 0 = omega arith in rw (zero-mul cellWidth, ← e)
 cell-line k (suc m) (suc i) l h =
@@ -41,17 +41,17 @@ module _ (a : Answer) (listing cells : List ℕ) where
   m = length cells / cellWidth
 
   abbrev tokens : List (List ℕ)
-  tokens = map tokenLine (rows tokenWidth Tokens.decode n listing)
+  tokens = map tokenLine (rows tokenWidth Tokens.decodeToken n listing)
 
   abbrev below : List (List ℕ)
-  below = cellLines 0 (rows cellWidth Cells.decode m cells)
+  below = cellLines 0 (rows cellWidth Cells.decodeCell m cells)
 
   length-tokens : length tokens ≡ n
-  length-tokens = length-map (rows tokenWidth Tokens.decode n listing) tokenLine ∙ length-rows tokenWidth Tokens.decode n listing
+  length-tokens = length-map (rows tokenWidth Tokens.decodeToken n listing) tokenLine ∙ length-rows tokenWidth Tokens.decodeToken n listing
 
   pub length-lines : length (lines a listing cells) ≡ 1 + (n + m)
   length-lines =
-      omega (arith, length-append tokens below, length-tokens, length-cells 0 (rows cellWidth Cells.decode m cells), length-rows cellWidth Cells.decode m cells)
+      omega (arith, length-append tokens below, length-tokens, length-cells 0 (rows cellWidth Cells.decodeCell m cells), length-rows cellWidth Cells.decodeCell m cells)
 
   pub line-token : (j : ℕ) → (j ≡ 0 → ⊥) → j ≤ n → getD (lines a listing cells) j [] ≡ tokenLine (Tokens.tokenAt listing (j - 1))
   line-token zero z h = absurd (z refl)
@@ -59,10 +59,10 @@ module _ (a : Answer) (listing cells : List ℕ) where
       let e : suc i - 1 ≡ i = omega arith in
       let lt : i < n = omega arith in
       rw e (List·getD-append tokens below [] i (omega (arith, length-tokens))
-      ∙ ap (λ (l : List (List ℕ)). getD l i []) (map-rows tokenLine tokenWidth Tokens.decode n listing)
-      ∙ getD-rows tokenWidth (λ b. tokenLine (Tokens.decode b)) n i listing [] lt)
+      ∙ ap (λ (l : List (List ℕ)). getD l i []) (map-rows tokenLine tokenWidth Tokens.decodeToken n listing)
+      ∙ getD-rows tokenWidth (λ b. tokenLine (Tokens.decodeToken b)) n i listing [] lt)
 
-  pub line-cell : (j : ℕ) → n < j → j < 1 + (n + m) → getD (lines a listing cells) j [] ≡ cellLine (j - 1 - n) (Cells.cellAt cells (j - 1 - n))
+  pub line-cell : (j : ℕ) → n < j → j < 1 + (n + m) → getD (lines a listing cells) j [] ≡ cellLine (j - 1 - n) (Cells.cellOfRecord cells (j - 1 - n))
   line-cell zero h k = absurd (omega arith)
   line-cell (suc i) h k =
       let x = suc i - 1 - n in

@@ -14,14 +14,15 @@ use Rattle.record.specs.Paths.{pathNumber}
 use Rattle.record.specs.declared.tag.Path.{Path}
 use Rattle.record.specs.declared.cell.Cell.the-variants.{Absent}
 use Rattle.record.specs.declared.token.Token.{Token}
-use Rattle.text.specs.Text.{digit, decimal, signedDecimal, line, valueIn, stateWord, tokenLine, cellLines}
+use Rattle.text.specs.Text.{digit, decimal, signedDecimal, line, stateWord, tokenLine, cellLines}
+use Rattle.record.specs.TokensAndTags.{valueIn}
 
 -- there is room for a text from `at` on
-pub record RoomFor (out : List ℕ) (at : ℕ) (text : List ℕ) : Type 0 where
+pub record RoomForText (out : List ℕ) (at : ℕ) (text : List ℕ) : Type 0 where
   pub room : at + length text ≤ length out
 
 -- a text was put from `at` on, and ends before r; every byte before and behind it stays
-pub record Added (out after : List ℕ) (at r : ℕ) (text : List ℕ) : Type 0 where
+pub record AddedText (out after : List ℕ) (at r : ℕ) (text : List ℕ) : Type 0 where
   pub kept : length after ≡ length out
   pub place : r ≡ at + length text
   pub bytes : take r after ≡ take at out ++ text
@@ -63,15 +64,15 @@ spaced [] = []
 spaced (f ∷ fs) = f ++ 32 ∷ spaced fs
 
 -- lines one after another: those of the tokens of a listing, and those of cells
-abbrev pub textOf : List (List ℕ) → List ℕ
-textOf ls = joined (λ (l : List ℕ). l) ls
+abbrev pub textOfLines : List (List ℕ) → List ℕ
+textOfLines ls = joined (λ (l : List ℕ). l) ls
 
 abbrev pub tokenLines : (listing : List ℕ) → List (List ℕ)
-tokenLines listing = map tokenLine (allRows tokenWidth Tokens.decode listing)
+tokenLines listing = map tokenLine (allRows tokenWidth Tokens.decodeToken listing)
 
 abbrev pub linesOfCells : (cells : List ℕ) → List (List ℕ)
-linesOfCells cells = cellLines 0 (allRows cellWidth Cells.decode cells)
+linesOfCells cells = cellLines 0 (allRows cellWidth Cells.decodeCell cells)
 
 -- n cells from k on are absent, and have no lines
 abbrev pub AbsentFrom : (cells : List ℕ) → (k n : ℕ) → Type 0
-AbsentFrom cells k n = (j : ℕ) → j < n → Cells.cellAt cells (k + j) ≡ Absent
+AbsentFrom cells k n = (j : ℕ) → j < n → Cells.cellOfRecord cells (k + j) ≡ Absent

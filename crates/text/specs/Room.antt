@@ -13,5 +13,5 @@ pub record AnswerFits (a : Answer) : Type 0 where
   pub place : placeIn (a .outcome) < 2 ^ 64
 
 -- the most bytes that the lines of tokens and cells take: 75 a token and 46 a cell, with 39 digits to a path and 20 to a number of 64 bits
-abbrev pub mostBytes : (listing cells : List ℕ) → ℕ
-mostBytes listing cells = length listing / tokenWidth * 75 + length cells / cellWidth * 46
+abbrev pub mostBytesOf : (listing cells : List ℕ) → ℕ
+mostBytesOf listing cells = length listing / tokenWidth * 75 + length cells / cellWidth * 46

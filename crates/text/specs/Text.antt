@@ -6,7 +6,6 @@ use mathlib.Core.List.{List, [], _∷_, _++_, map}
 use lib.ListN.{length, drop}
 use lib.Dec.{ltb, leb}
 use lib.IntN.{ℤ, pos, negsuc}
-use Rattle.number.specs.Number.{signedOf}
 use Rattle.buffer.specs.Rows.{allRows, joined}
 use Rattle.record.specs.Paths.{pathNumber}
 use Rattle.record.specs.TokensAndTags as Tokens
@@ -24,6 +23,7 @@ use Rattle.rules.specs.declared.answer.Answer.{Answer}
 use Rattle.text.specs.Words.{bytes}
 use Rattle.text.specs.declared.Printed.{Printed}
 use Rattle.text.specs.declared.Printed.the-variants.{Done, TooSmall}
+use Rattle.record.specs.TokensAndTags.{valueIn}
 
 -- ---- "decimal figures are meant" (01, opening): a number in the fewest digits, 0 as one digit
 
@@ -72,12 +72,6 @@ stateWord (Live v) = bytes "live"
 stateWord (Spent v) = bytes "spent"
 stateWord (Deferred cell) = bytes "deferred"
 
--- the value field, signed; that of a deferred token holds the cell number
-abbrev pub valueIn : Content → ℤ
-valueIn (Live v) = v
-valueIn (Spent v) = v
-valueIn (Deferred cell) = signedOf cell
-
 unfoldable pub tokenLine : Token → List ℕ
 tokenLine t =
     line (decimal (pathNumber (t .tag .path)) ∷ decimal (t .tag .iteration) ∷ decimal (t .tag .instruction) ∷ decimal (t .port) ∷ signedDecimal (valueIn (t .content)) ∷ stateWord (t .content) ∷ [])
@@ -103,7 +97,7 @@ cellLines k (x ∷ xs) = cellLine k x ∷ cellLines (suc k) xs
 
 -- of the whole token records of a listing and the whole cell records of the cells
 abbrev pub lines : Answer → (listing cells : List ℕ) → List (List ℕ)
-lines a listing cells = answerLine a ∷ map tokenLine (allRows tokenWidth Tokens.decode listing) ++ cellLines 0 (allRows cellWidth Cells.decode cells)
+lines a listing cells = answerLine a ∷ map tokenLine (allRows tokenWidth Tokens.decodeToken listing) ++ cellLines 0 (allRows cellWidth Cells.decodeCell cells)
 
 unfoldable pub printed : Answer → (listing cells : List ℕ) → List ℕ
 printed a listing cells = joined (λ (l : List ℕ). l) (lines a listing cells)
@@ -114,5 +108,5 @@ printed a listing cells = joined (λ (l : List ℕ). l) (lines a listing cells)
 unfoldable pub printedOf : (text out : List ℕ) → Printed
 printedOf text out = cond (leb (length text) (length out)) (Done (length text)) TooSmall
 
-unfoldable pub outAfter : (text out : List ℕ) → List ℕ
-outAfter text out = cond (leb (length text) (length out)) (text ++ drop (length text) out) out
+unfoldable pub printedOut : (text out : List ℕ) → List ℕ
+printedOut text out = cond (leb (length text) (length out)) (text ++ drop (length text) out) out

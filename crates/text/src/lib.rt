@@ -13,9 +13,9 @@ ghost use Prim.Native.Nat.{_+_, _/_, _≤_, _<_};
 ghost use mathlib.Core.List.{[], _++_};
 ghost use lib.Dec.{leb};
 ghost use lib.ListN.{length, drop, getD};
-ghost use Rattle.text.specs.Text.{answerLine, cellLine, lines, printed, printedOf, outAfter};
-ghost use Rattle.text.specs.Lines.{RoomFor, Added, textOf, tokenLines, linesOfCells, AbsentFrom};
-ghost use Rattle.text.specs.Room.{mostBytes};
+ghost use Rattle.text.specs.Text.{answerLine, cellLine, lines, printed, printedOf, printedOut};
+ghost use Rattle.text.specs.Lines.{RoomForText, AddedText, textOfLines, tokenLines, linesOfCells, AbsentFrom};
+ghost use Rattle.text.specs.Room.{mostBytesOf};
 ghost use mathlib.Core.Bool.{false};
 ghost use Rattle.record.specs.Cells as Cells;
 ghost use Rattle.record.specs.declared.cell.Cell.the-variants.{Absent};
@@ -51,8 +51,8 @@ fn put_line(
     cells: &[u8],
     j: usize,
 ) -> usize
-    requires { ⌜ (j < 1 + (length (now listing) / tokenWidth + length (now cells) / cellWidth)) × RoomFor (now out) at (getD (lines answer (now listing) (now cells)) j []) ⌝ }
-    ensures { λ r. ⌜ Added (now (out .entry)) (now (out .exit)) at r (getD (lines answer (now (listing .entry)) (now (cells .entry))) j []) ⌝ }
+    requires { ⌜ (j < 1 + (length (now listing) / tokenWidth + length (now cells) / cellWidth)) × RoomForText (now out) at (getD (lines answer (now listing) (now cells)) j []) ⌝ }
+    ensures { λ r. ⌜ AddedText (now (out .entry)) (now (out .exit)) at r (getD (lines answer (now (listing .entry)) (now (cells .entry))) j []) ⌝ }
 {
     let tokens = listing.len() / token::WIDTH;
     if j == 0 {
@@ -80,7 +80,7 @@ fn most_first(answer: Answer) -> usize
 
 // Whether a first line of `first` bytes and the longest lines of the records are at most `room` bytes.
 fn longest_fits(first: usize, listing: &[u8], cells: &[u8], room: usize) -> bool
-    ensures { λ r. ⌜ r ≡ leb (first + mostBytes (now (listing .entry)) (now (cells .entry))) room ⌝ }
+    ensures { λ r. ⌜ r ≡ leb (first + mostBytesOf (now (listing .entry)) (now (cells .entry))) room ⌝ }
 {
     let tokens = listing.len() / token::WIDTH;
     if room < first {
@@ -118,8 +118,8 @@ fn fits(answer: Answer, listing: &[u8], cells: &[u8], room: usize) -> bool
 
 // Puts the lines of the tokens of a listing.
 fn put_tokens(out: &mut [u8], from: usize, listing: &[u8]) -> usize
-    requires { ⌜ RoomFor (now out) from (textOf (tokenLines (now listing))) ⌝ }
-    ensures { λ r. ⌜ Added (now (out .entry)) (now (out .exit)) from r (textOf (tokenLines (now (listing .entry)))) ⌝ }
+    requires { ⌜ RoomForText (now out) from (textOfLines (tokenLines (now listing))) ⌝ }
+    ensures { λ r. ⌜ AddedText (now (out .entry)) (now (out .exit)) from r (textOfLines (tokenLines (now (listing .entry)))) ⌝ }
 {
     let small = digits::small();
     let n = listing.len() / token::WIDTH;
@@ -142,7 +142,7 @@ fn put_tokens(out: &mut [u8], from: usize, listing: &[u8]) -> usize
 // Whether cell k has a line: one that is absent has none.
 fn has_line(cells: &[u8], k: usize) -> bool
     requires { ⌜ k < length (now cells) / cellWidth ⌝ }
-    ensures { λ r. ⌜ (r ≡ false → Cells.cellAt (now (cells .entry)) k ≡ Absent) ⌝ }
+    ensures { λ r. ⌜ (r ≡ false → Cells.cellOfRecord (now (cells .entry)) k ≡ Absent) ⌝ }
 {
     match cell::cell_at(cells, k) {
         Cell::Absent => false,
@@ -180,8 +180,8 @@ fn passed_over(cells: &[u8], k: usize) -> usize
 
 // Puts the lines of the cells.
 fn put_cells(out: &mut [u8], from: usize, cells: &[u8]) -> usize
-    requires { ⌜ RoomFor (now out) from (textOf (linesOfCells (now cells))) ⌝ }
-    ensures { λ r. ⌜ Added (now (out .entry)) (now (out .exit)) from r (textOf (linesOfCells (now (cells .entry)))) ⌝ }
+    requires { ⌜ RoomForText (now out) from (textOfLines (linesOfCells (now cells))) ⌝ }
+    ensures { λ r. ⌜ AddedText (now (out .entry)) (now (out .exit)) from r (textOfLines (linesOfCells (now (cells .entry)))) ⌝ }
 {
     let n = cells.len() / cell::WIDTH;
     let mut at = from;
@@ -200,8 +200,8 @@ fn put_cells(out: &mut [u8], from: usize, cells: &[u8]) -> usize
 
 // Writes the text to the start of `out`, line by line in place, and answers how long it is.
 fn write(answer: Answer, listing: &[u8], cells: &[u8], out: &mut [u8]) -> usize
-    requires { ⌜ RoomFor (now out) 0 (printed answer (now listing) (now cells)) ⌝ }
-    ensures { λ r. ⌜ Added (now (out .entry)) (now (out .exit)) 0 r (printed answer (now (listing .entry)) (now (cells .entry))) ⌝ }
+    requires { ⌜ RoomForText (now out) 0 (printed answer (now listing) (now cells)) ⌝ }
+    ensures { λ r. ⌜ AddedText (now (out .entry)) (now (out .exit)) 0 r (printed answer (now (listing .entry)) (now (cells .entry))) ⌝ }
 {
     let head = line::put_answer(out, 0, answer);
     let tokens = put_tokens(out, head, listing);
@@ -211,7 +211,8 @@ fn write(answer: Answer, listing: &[u8], cells: &[u8], out: &mut [u8]) -> usize
 // Prints an answer, the tokens of a listing and the cells that are not absent to the start of `out`.
 // `out` stays untouched unless the whole text fits.
 pub fn print(answer: Answer, listing: &[u8], cells: &[u8], out: &mut [u8]) -> Printed
-    ensures { λ r. ⌜ (r ≡ printedOf (printed answer (now (listing .entry)) (now (cells .entry))) (now (out .entry))) × (now (out .exit) ≡ outAfter (printed answer (now (listing .entry)) (now (cells .entry))) (now (out .entry))) ⌝ }
+    ensures { λ r. ⌜ r ≡ printedOf (printed answer (now (listing .entry)) (now (cells .entry))) (now (out .entry)) ⌝ }
+    ensures { λ _. ⌜ now (out .exit) ≡ printedOut (printed answer (now (listing .entry)) (now (cells .entry))) (now (out .entry)) ⌝ }
 {
     if fits(answer, listing, cells, out.len()) {
         Printed::Done(write(answer, listing, cells, out))

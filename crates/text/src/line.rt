@@ -17,14 +17,14 @@ ghost use Rattle.number.specs.Number.{signedOf};
 ghost use Rattle.record.specs.Paths.{pathNumber, pathWords};
 ghost use Rattle.record.specs.Widths.{tokenWidth};
 ghost use Rattle.record.specs.TokensAndTags as Tokens;
-ghost use Rattle.record.specs.TokensAndTags.{contentOf, pathIn};
+ghost use Rattle.record.specs.TokensAndTags.{contentOf, pathIn, valueIn};
 ghost use Rattle.rules.specs.Answer.{placeIn};
-ghost use Rattle.text.specs.Text.{decimal, signedDecimal, stateWord, valueIn, outcomeFields, answerLine, tokenLine, statedLine, cellLine};
-ghost use Rattle.text.specs.Lines.{RoomFor, Added, lastDigits, spaced, Table, restLine, PathText, AddedLoosely};
+ghost use Rattle.text.specs.Text.{decimal, signedDecimal, stateWord, outcomeFields, answerLine, tokenLine, statedLine, cellLine};
+ghost use Rattle.text.specs.Lines.{RoomForText, AddedText, lastDigits, spaced, Table, restLine, PathText, AddedLoosely};
 
 fn put_byte(out: &mut [u8], at: usize, b: u8) -> usize
     requires { ⌜ at < length (now out) ⌝ }
-    ensures { λ r. ⌜ Added (now (out .entry)) (now (out .exit)) at r (b ∷ []) ⌝ }
+    ensures { λ r. ⌜ AddedText (now (out .entry)) (now (out .exit)) at r (b ∷ []) ⌝ }
 {
     out[at] = b;
     at + 1
@@ -52,7 +52,7 @@ fn digits(n: u64) -> usize
 // Puts the last k digits of n, the last one first.
 fn put_last_digits(out: &mut [u8], at: usize, k: usize, n: u64) -> usize
     requires { ⌜ at + k ≤ length (now out) ⌝ }
-    ensures { λ r. ⌜ Added (now (out .entry)) (now (out .exit)) at r (lastDigits k n) ⌝ }
+    ensures { λ r. ⌜ AddedText (now (out .entry)) (now (out .exit)) at r (lastDigits k n) ⌝ }
 {
     let mut rest = n;
     let mut left = k;
@@ -66,8 +66,8 @@ fn put_last_digits(out: &mut [u8], at: usize, k: usize, n: u64) -> usize
 
 // Puts n. Most numbers have three digits at most, and these need no loop.
 fn put_decimal(out: &mut [u8], at: usize, n: u64) -> usize
-    requires { ⌜ RoomFor (now out) at (decimal n) ⌝ }
-    ensures { λ r. ⌜ Added (now (out .entry)) (now (out .exit)) at r (decimal n) ⌝ }
+    requires { ⌜ RoomForText (now out) at (decimal n) ⌝ }
+    ensures { λ r. ⌜ AddedText (now (out .entry)) (now (out .exit)) at r (decimal n) ⌝ }
 {
     if n < 10 {
         return put_byte(out, at, 48 + n as u8);
@@ -86,8 +86,8 @@ fn put_decimal(out: &mut [u8], at: usize, n: u64) -> usize
 
 // Puts a number, and the byte that ends the field.
 fn put_number(out: &mut [u8], at: usize, n: u64, end: u8) -> usize
-    requires { ⌜ RoomFor (now out) at (decimal n ++ end ∷ []) ⌝ }
-    ensures { λ r. ⌜ Added (now (out .entry)) (now (out .exit)) at r (decimal n ++ end ∷ []) ⌝ }
+    requires { ⌜ RoomForText (now out) at (decimal n ++ end ∷ []) ⌝ }
+    ensures { λ r. ⌜ AddedText (now (out .entry)) (now (out .exit)) at r (decimal n ++ end ∷ []) ⌝ }
 {
     let k = put_decimal(out, at, n);
     put_byte(out, k, end)
@@ -134,7 +134,7 @@ fn path_digits(path: Path) -> usize
 // Puts the last k digits of a path, the last one first.
 fn put_path_digits(out: &mut [u8], at: usize, k: usize, path: Path) -> usize
     requires { ⌜ at + k ≤ length (now out) ⌝ }
-    ensures { λ r. ⌜ Added (now (out .entry)) (now (out .exit)) at r (lastDigits k (pathNumber path)) ⌝ }
+    ensures { λ r. ⌜ AddedText (now (out .entry)) (now (out .exit)) at r (lastDigits k (pathNumber path)) ⌝ }
 {
     let mut rest = path;
     let mut left = k;
@@ -150,8 +150,8 @@ fn put_path_digits(out: &mut [u8], at: usize, k: usize, path: Path) -> usize
 // Puts a path, and the byte that ends the field. Most paths have four levels at most, and these are
 // numbers of 64 bits.
 fn put_path(out: &mut [u8], at: usize, path: Path, end: u8) -> usize
-    requires { ⌜ RoomFor (now out) at (decimal (pathNumber path) ++ end ∷ []) ⌝ }
-    ensures { λ r. ⌜ Added (now (out .entry)) (now (out .exit)) at r (decimal (pathNumber path) ++ end ∷ []) ⌝ }
+    requires { ⌜ RoomForText (now out) at (decimal (pathNumber path) ++ end ∷ []) ⌝ }
+    ensures { λ r. ⌜ AddedText (now (out .entry)) (now (out .exit)) at r (decimal (pathNumber path) ++ end ∷ []) ⌝ }
 {
     if path.high == 0 {
         return put_number(out, at, path.low, end);
@@ -163,8 +163,8 @@ fn put_path(out: &mut [u8], at: usize, path: Path, end: u8) -> usize
 // Puts a signed number, and the byte that ends the field. The magnitude of a number below 0 is what its
 // bits lack of 2 to the 32, so the least number needs no case of its own.
 fn put_signed(out: &mut [u8], at: usize, value: i32, end: u8) -> usize
-    requires { ⌜ RoomFor (now out) at (signedDecimal value ++ end ∷ []) ⌝ }
-    ensures { λ r. ⌜ Added (now (out .entry)) (now (out .exit)) at r (signedDecimal value ++ end ∷ []) ⌝ }
+    requires { ⌜ RoomForText (now out) at (signedDecimal value ++ end ∷ []) ⌝ }
+    ensures { λ r. ⌜ AddedText (now (out .entry)) (now (out .exit)) at r (signedDecimal value ++ end ∷ []) ⌝ }
 {
     let bits = number::bits(value);
     if bits < 2147483648 {
@@ -177,8 +177,8 @@ fn put_signed(out: &mut [u8], at: usize, value: i32, end: u8) -> usize
 
 // Puts a word, and the byte that ends the field.
 fn put_word(out: &mut [u8], at: usize, word: &[u8], end: u8) -> usize
-    requires { ⌜ RoomFor (now out) at (now word ++ end ∷ []) ⌝ }
-    ensures { λ r. ⌜ Added (now (out .entry)) (now (out .exit)) at r (now (word .entry) ++ end ∷ []) ⌝ }
+    requires { ⌜ RoomForText (now out) at (now word ++ end ∷ []) ⌝ }
+    ensures { λ r. ⌜ AddedText (now (out .entry)) (now (out .exit)) at r (now (word .entry) ++ end ∷ []) ⌝ }
 {
     buffer::write_at(out, at, word);
     put_byte(out, at + word.len(), end)
@@ -197,8 +197,8 @@ fn value_in(content: Content) -> i32
 
 // Puts the state word of a token, which ends its line.
 fn put_state(out: &mut [u8], at: usize, content: Content) -> usize
-    requires { ⌜ RoomFor (now out) at (stateWord content ++ 10 ∷ []) ⌝ }
-    ensures { λ r. ⌜ Added (now (out .entry)) (now (out .exit)) at r (stateWord content ++ 10 ∷ []) ⌝ }
+    requires { ⌜ RoomForText (now out) at (stateWord content ++ 10 ∷ []) ⌝ }
+    ensures { λ r. ⌜ AddedText (now (out .entry)) (now (out .exit)) at r (stateWord content ++ 10 ∷ []) ⌝ }
 {
     match content {
         Content::Live(_) => put_word(out, at, b"live", b'\n'),
@@ -209,8 +209,8 @@ fn put_state(out: &mut [u8], at: usize, content: Content) -> usize
 
 // Puts a number below 1000 and a space: where it has more than one digit, those of the table.
 fn put_small(out: &mut [u8], at: usize, small: &[u32; 1000], n: usize) -> usize
-    requires { ⌜ (n < 1000) × Table (now small) × RoomFor (now out) at (decimal n ++ 32 ∷ []) ⌝ }
-    ensures { λ r. ⌜ Added (now (out .entry)) (now (out .exit)) at r (decimal n ++ 32 ∷ []) ⌝ }
+    requires { ⌜ (n < 1000) × Table (now small) × RoomForText (now out) at (decimal n ++ 32 ∷ []) ⌝ }
+    ensures { λ r. ⌜ AddedText (now (out .entry)) (now (out .exit)) at r (decimal n ++ 32 ∷ []) ⌝ }
 {
     if n < 10 {
         let k = put_byte(out, at, 48 + n as u8);
@@ -228,8 +228,8 @@ fn put_small(out: &mut [u8], at: usize, small: &[u32; 1000], n: usize) -> usize
 
 // Puts a number and a space.
 fn put_field(out: &mut [u8], at: usize, small: &[u32; 1000], n: u64) -> usize
-    requires { ⌜ Table (now small) × RoomFor (now out) at (decimal n ++ 32 ∷ []) ⌝ }
-    ensures { λ r. ⌜ Added (now (out .entry)) (now (out .exit)) at r (decimal n ++ 32 ∷ []) ⌝ }
+    requires { ⌜ Table (now small) × RoomForText (now out) at (decimal n ++ 32 ∷ []) ⌝ }
+    ensures { λ r. ⌜ AddedText (now (out .entry)) (now (out .exit)) at r (decimal n ++ 32 ∷ []) ⌝ }
 {
     if n < 1000 {
         put_small(out, at, small, n as usize)
@@ -240,8 +240,8 @@ fn put_field(out: &mut [u8], at: usize, small: &[u32; 1000], n: u64) -> usize
 
 // Puts a signed number, which its bits tell, and a space.
 fn put_bits(out: &mut [u8], at: usize, small: &[u32; 1000], bits: u32) -> usize
-    requires { ⌜ Table (now small) × RoomFor (now out) at (signedDecimal (signedOf bits) ++ 32 ∷ []) ⌝ }
-    ensures { λ r. ⌜ Added (now (out .entry)) (now (out .exit)) at r (signedDecimal (signedOf bits) ++ 32 ∷ []) ⌝ }
+    requires { ⌜ Table (now small) × RoomForText (now out) at (signedDecimal (signedOf bits) ++ 32 ∷ []) ⌝ }
+    ensures { λ r. ⌜ AddedText (now (out .entry)) (now (out .exit)) at r (signedDecimal (signedOf bits) ++ 32 ∷ []) ⌝ }
 {
     if bits < 2147483648 {
         put_field(out, at, small, bits as u64)
@@ -253,8 +253,8 @@ fn put_bits(out: &mut [u8], at: usize, small: &[u32; 1000], bits: u32) -> usize
 
 // Puts the word of a state, which ends the line of a token.
 fn put_state_of(out: &mut [u8], at: usize, bits: u32, state: u8) -> usize
-    requires { ⌜ RoomFor (now out) at (stateWord (contentOf bits state) ++ 10 ∷ []) ⌝ }
-    ensures { λ r. ⌜ Added (now (out .entry)) (now (out .exit)) at r (stateWord (contentOf bits state) ++ 10 ∷ []) ⌝ }
+    requires { ⌜ RoomForText (now out) at (stateWord (contentOf bits state) ++ 10 ∷ []) ⌝ }
+    ensures { λ r. ⌜ AddedText (now (out .entry)) (now (out .exit)) at r (stateWord (contentOf bits state) ++ 10 ∷ []) ⌝ }
 {
     if state == 0 {
         return put_word(out, at, b"live", b'\n');
@@ -267,8 +267,8 @@ fn put_state_of(out: &mut [u8], at: usize, bits: u32, state: u8) -> usize
 
 // Puts the line of the token of the record that s starts with, from its iteration on.
 fn put_rest(out: &mut [u8], at: usize, small: &[u32; 1000], s: &[u8]) -> usize
-    requires { ⌜ (tokenWidth ≤ length (now s)) × Table (now small) × RoomFor (now out) at (restLine (Tokens.decode (now s))) ⌝ }
-    ensures { λ r. ⌜ Added (now (out .entry)) (now (out .exit)) at r (restLine (Tokens.decode (now (s .entry)))) ⌝ }
+    requires { ⌜ (tokenWidth ≤ length (now s)) × Table (now small) × RoomForText (now out) at (restLine (Tokens.decodeToken (now s))) ⌝ }
+    ensures { λ r. ⌜ AddedText (now (out .entry)) (now (out .exit)) at r (restLine (Tokens.decodeToken (now (s .entry)))) ⌝ }
 {
     let bits = number::u32_at(s, 20);
     let iteration = put_small(out, at, small, s[16] as usize);
@@ -351,8 +351,8 @@ pub fn put_record(
     s: &[u8],
 ) -> usize
     requires { ⌜ (tokenWidth ≤ length (now s)) × Table (now small) × PathText (now text) count (pathIn (now s)) ⌝ }
-    requires { ⌜ RoomFor (now out) at (tokenLine (Tokens.decode (now s))) ⌝ }
-    ensures { λ r. ⌜ Added (now (out .entry)) (now (out .exit)) at r (tokenLine (Tokens.decode (now (s .entry)))) ⌝ }
+    requires { ⌜ RoomForText (now out) at (tokenLine (Tokens.decodeToken (now s))) ⌝ }
+    ensures { λ r. ⌜ AddedText (now (out .entry)) (now (out .exit)) at r (tokenLine (Tokens.decodeToken (now (s .entry)))) ⌝ }
 {
     let rest = put_eights(out, at, text, count);
     put_rest(out, rest, small, s)
@@ -371,8 +371,8 @@ pub fn path_of(s: &[u8]) -> Path
 
 // Puts the line of a token.
 pub fn put_token(out: &mut [u8], at: usize, t: Token) -> usize
-    requires { ⌜ RoomFor (now out) at (tokenLine t) ⌝ }
-    ensures { λ r. ⌜ Added (now (out .entry)) (now (out .exit)) at r (tokenLine t) ⌝ }
+    requires { ⌜ RoomForText (now out) at (tokenLine t) ⌝ }
+    ensures { λ r. ⌜ AddedText (now (out .entry)) (now (out .exit)) at r (tokenLine t) ⌝ }
 {
     let tag = t.tag;
     let content = t.content;
@@ -387,8 +387,8 @@ pub fn put_token(out: &mut [u8], at: usize, t: Token) -> usize
 
 // Puts the line of cell k with a state word and a value.
 fn put_stated(out: &mut [u8], at: usize, k: usize, word: &[u8], value: i32) -> usize
-    requires { ⌜ RoomFor (now out) at (statedLine k (now word) value) ⌝ }
-    ensures { λ r. ⌜ Added (now (out .entry)) (now (out .exit)) at r (statedLine k (now (word .entry)) value) ⌝ }
+    requires { ⌜ RoomForText (now out) at (statedLine k (now word) value) ⌝ }
+    ensures { λ r. ⌜ AddedText (now (out .entry)) (now (out .exit)) at r (statedLine k (now (word .entry)) value) ⌝ }
 {
     let name = put_word(out, at, b"cell", b' ');
     let number = put_number(out, name, k as u64, b' ');
@@ -398,8 +398,8 @@ fn put_stated(out: &mut [u8], at: usize, k: usize, word: &[u8], value: i32) -> u
 
 // Puts the line of cell k; an absent one has none.
 pub fn put_cell(out: &mut [u8], at: usize, k: usize, cell: Cell) -> usize
-    requires { ⌜ RoomFor (now out) at (cellLine k cell) ⌝ }
-    ensures { λ r. ⌜ Added (now (out .entry)) (now (out .exit)) at r (cellLine k cell) ⌝ }
+    requires { ⌜ RoomForText (now out) at (cellLine k cell) ⌝ }
+    ensures { λ r. ⌜ AddedText (now (out .entry)) (now (out .exit)) at r (cellLine k cell) ⌝ }
 {
     match cell {
         Cell::Absent => at,
@@ -410,8 +410,8 @@ pub fn put_cell(out: &mut [u8], at: usize, k: usize, cell: Cell) -> usize
 
 // Puts the word of an outcome, and the number of a refusal.
 fn put_outcome(out: &mut [u8], at: usize, outcome: Outcome) -> usize
-    requires { ⌜ RoomFor (now out) at (spaced (outcomeFields outcome)) ⌝ }
-    ensures { λ r. ⌜ Added (now (out .entry)) (now (out .exit)) at r (spaced (outcomeFields outcome)) ⌝ }
+    requires { ⌜ RoomForText (now out) at (spaced (outcomeFields outcome)) ⌝ }
+    ensures { λ r. ⌜ AddedText (now (out .entry)) (now (out .exit)) at r (spaced (outcomeFields outcome)) ⌝ }
 {
     match outcome {
         Outcome::Completed => put_word(out, at, b"completed", b' '),
@@ -438,8 +438,8 @@ fn place_in(outcome: Outcome) -> usize
 
 // Puts the first line.
 pub fn put_answer(out: &mut [u8], at: usize, answer: Answer) -> usize
-    requires { ⌜ RoomFor (now out) at (answerLine answer) ⌝ }
-    ensures { λ r. ⌜ Added (now (out .entry)) (now (out .exit)) at r (answerLine answer) ⌝ }
+    requires { ⌜ RoomForText (now out) at (answerLine answer) ⌝ }
+    ensures { λ r. ⌜ AddedText (now (out .entry)) (now (out .exit)) at r (answerLine answer) ⌝ }
 {
     let outcome = answer.outcome;
     let word = put_outcome(out, at, outcome);

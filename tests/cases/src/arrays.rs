@@ -2,30 +2,24 @@
 //! replayed, profiled and carried on from what it leaves.
 
 use crate::lent::*;
-
-/// A run with a table of named arrays: what is lent, and the answer's line.
-#[derive(Clone)]
-pub struct ArrayCase {
-    pub name: String,
-    pub lent: Lent,
-    pub table: Vec<u8>,
-    pub says: String,
-}
+use crate::RunCase;
 
 fn case(
     name: impl Into<String>,
     lent: Lent,
     table: &[(u16, u16)],
     says: impl Into<String>,
-) -> ArrayCase {
-    ArrayCase {
+) -> RunCase {
+    let records = table.iter();
+    RunCase {
         name: name.into(),
         lent,
-        table: table
-            .iter()
+        table: records
             .flat_map(|&(first, length)| layout::array(first, length))
             .collect(),
+        bound: 0,
         says: says.into(),
+        held: 0,
     }
 }
 
@@ -45,7 +39,7 @@ fn read_and_write(name: i32, read: i32, written: i32) -> Lent {
 /// Cells 4 to 8.
 const FIVE: (u16, u16) = (4, 5);
 
-pub fn cases() -> Vec<ArrayCase> {
+pub fn cases() -> Vec<RunCase> {
     let mut cases = indices();
     cases.extend(names());
     cases.extend(tables());
@@ -54,7 +48,7 @@ pub fn cases() -> Vec<ArrayCase> {
     cases
 }
 
-fn indices() -> Vec<ArrayCase> {
+fn indices() -> Vec<RunCase> {
     let mut cases = Vec::new();
     for index in [1, 3, 5] {
         let lent = read_and_write(1, index, index);
@@ -72,7 +66,7 @@ fn indices() -> Vec<ArrayCase> {
     cases
 }
 
-fn names() -> Vec<ArrayCase> {
+fn names() -> Vec<RunCase> {
     let store = |name| with(STORE, name, &[]);
     let tokens = [
         token(0, 0, 3),
@@ -127,7 +121,7 @@ fn names() -> Vec<ArrayCase> {
     ]
 }
 
-fn tables() -> Vec<ArrayCase> {
+fn tables() -> Vec<RunCase> {
     let lent = || read_and_write(0, 1, 1);
     let mut cases = Vec::new();
     for (first, length) in [(0, 12), (11, 1), (12, 0), (0, 0)] {
@@ -143,7 +137,15 @@ fn tables() -> Vec<ArrayCase> {
         let lent = read_and_write(1, index, 1);
         cases.push(case(name, lent, &[(12, 0)], "refused 10 0 3 0"));
     }
-    for length in [1, 2, 3, 5, 4 * 63 + 3, 4 * 64 + 1, 4 * 65] {
+    for length in [
+        1,
+        2,
+        3,
+        5,
+        ARRAY * MOST_ARRAYS - 1,
+        ARRAY * MOST_ARRAYS + 1,
+        ARRAY * (MOST_ARRAYS + 1),
+    ] {
         let mut case = case(
             format!("22 a table of {length} bytes"),
             lent(),
@@ -157,7 +159,7 @@ fn tables() -> Vec<ArrayCase> {
 }
 
 /// 22 at the first FETCH or STORE whose constant names no array, though none fires.
-fn constants() -> Vec<ArrayCase> {
+fn constants() -> Vec<RunCase> {
     let graph = [
         op(OUT, &[]),
         with(FETCH, 1, &[(0, 0)]),
@@ -171,21 +173,21 @@ fn constants() -> Vec<ArrayCase> {
         let lent = lend(&graph, &[]).cells(12);
         case(format!("22 behind {count} names"), lent, &arrays, says)
     };
-    let mut cases: Vec<ArrayCase> = (0..4).map(named).collect();
+    let mut cases: Vec<RunCase> = (0..4).map(named).collect();
     let lent = lend(&graph, &[]).cells(12);
     cases.push(case("22 of the table first", lent, &[(0, 13)], BAD_TABLE));
     cases
 }
 
 /// 1 to 5, 7, 22, then the inputs.
-fn orders() -> Vec<ArrayCase> {
+fn orders() -> Vec<RunCase> {
     let bad = || read_and_write(2, 1, 1);
     let mut unknown = bad();
-    unknown.graph.given[32] = 0;
+    unknown.graph.given[2 * GRAPH_RECORD] = 0;
     let mut odd = bad();
     odd.inputs.length += 1;
     let mut input = bad();
-    input.inputs.given[16] = 1;
+    input.inputs.given[token::ITERATION] = 1;
     let row = |name, lent, says| case(name, lent, &[FIVE], says);
     vec![
         row("2 before 22", unknown, "refused 2 0 0 2"),

@@ -3,17 +3,7 @@
 //! claim it, its end is that of the run without a bound.
 
 use crate::lent::*;
-
-/// A run with a bound: what is lent, the answer's line, and how many activities are
-/// held back in what it leaves.
-#[derive(Clone)]
-pub struct BoundCase {
-    pub name: String,
-    pub lent: Lent,
-    pub bound: u16,
-    pub says: &'static str,
-    pub held: usize,
-}
+use crate::RunCase;
 
 fn case(
     name: impl Into<String>,
@@ -21,17 +11,18 @@ fn case(
     bound: u16,
     says: &'static str,
     held: usize,
-) -> BoundCase {
-    BoundCase {
+) -> RunCase {
+    RunCase {
         name: name.into(),
         lent,
+        table: Vec::new(),
         bound,
-        says,
+        says: says.to_string(),
         held,
     }
 }
 
-pub fn cases() -> Vec<BoundCase> {
+pub fn cases() -> Vec<RunCase> {
     let mut cases = late_entries();
     cases.extend(waiting_at_the_root());
     cases.extend(bad_bounds());
@@ -62,7 +53,7 @@ fn late_entry() -> Lent {
 
 /// The read's token, deferred at iteration 0, holds the loop that would write its cell,
 /// unless j is done before the read enters.
-fn late_entries() -> Vec<BoundCase> {
+fn late_entries() -> Vec<RunCase> {
     let mut j_first = [1; 30];
     j_first[0] = 0;
     let completed = "completed 25 31 0";
@@ -89,7 +80,7 @@ fn late_entries() -> Vec<BoundCase> {
 
 /// A loop at the root that goes on for ever, and one operand of a GATE beside it: 0 NEXT
 /// to 1 COPY to 0; 2 GATE to 3 OUT.
-fn waiting_at_the_root() -> Vec<BoundCase> {
+fn waiting_at_the_root() -> Vec<RunCase> {
     let graph = [
         op(NEXT, &[(1, 0)]),
         op(COPY, &[(0, 0)]),
@@ -137,7 +128,7 @@ fn waiting_at_the_root() -> Vec<BoundCase> {
     ]
 }
 
-fn bad_bounds() -> Vec<BoundCase> {
+fn bad_bounds() -> Vec<RunCase> {
     let mut cases = Vec::new();
     for bound in [1, 257, 65535] {
         let name = format!("21 bound {bound}");

@@ -15,7 +15,7 @@ pub struct BoundsCase {
 fn bounds(name: &'static str, lent: Lent, says: &'static str, run: &'static str) -> BoundsCase {
     BoundsCase {
         name,
-        lent: lent.capacity(2048),
+        lent: lent.capacity(MOST_RECORDS),
         says,
         run,
     }
@@ -163,7 +163,7 @@ fn counted() -> Vec<BoundsCase> {
         ),
         bounds(
             "256 firings and 2560 tokens",
-            lend(&most, &[]).input_bytes(2048 * TOKEN_RECORD),
+            lend(&most, &[]).input_bytes(MOST_RECORDS * TOKEN_RECORD),
             "256 2560",
             "refused 9 0 0 1",
         ),
@@ -221,7 +221,7 @@ fn refused() -> Vec<BoundsCase> {
         ),
         bounds(
             "2049 inputs",
-            sum().input_bytes(2049 * TOKEN_RECORD),
+            sum().input_bytes((MOST_RECORDS + 1) * TOKEN_RECORD),
             "refused 7 0",
             zero,
         ),

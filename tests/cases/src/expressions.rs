@@ -14,14 +14,14 @@ pub struct ExpressionCase {
     pub value: Option<i32>,
 }
 
-type Record = [u8; 8];
+type Record = [u8; EXPRESSION];
 
 /// A variable.
-const V: Record = [0; 8];
+const V: Record = [0; EXPRESSION];
 
 /// An operation on the records of two numbers.
 fn of(code: u8, left: u8, right: u8) -> Record {
-    [code, left, right, 0, 0, 0, 0, 0]
+    layout::term(code, left, right)
 }
 
 /// An expression that is made, with just the room that its graph needs.
@@ -133,7 +133,11 @@ fn lengths() -> Vec<ExpressionCase> {
         of_bytes("no record", 0, "refused 25 0"),
         of_bytes("7 bytes", 7, "refused 25 0"),
         of_bytes("9 bytes", 9, "refused 25 0"),
-        of_bytes("101 records", 8 * 101, "refused 25 0"),
+        of_bytes(
+            "101 records",
+            EXPRESSION * (MOST_EXPRESSION + 1),
+            "refused 25 0",
+        ),
         // No wrong length: the first that is never named.
         bad("100 records", &even, "refused 25 98"),
     ]
@@ -147,8 +151,14 @@ fn bad_fields() -> Vec<ExpressionCase> {
         third("kind 32, a constant on the right", of(32, 0, 1)),
         third("a variable that names a left record", of(0, 1, 0)),
         third("a variable that names a right record", of(0, 0, 1)),
-        third("byte 3 is not zero", byte(of(ADD, 0, 1), 3, 1)),
-        third("byte 7 is not zero", byte(of(ADD, 0, 1), 7, 128)),
+        third(
+            "byte 3 is not zero",
+            byte(of(ADD, 0, 1), expression::ZEROS.start, 1),
+        ),
+        third(
+            "byte 7 is not zero",
+            byte(of(ADD, 0, 1), expression::ZEROS.end - 1, 128),
+        ),
         third("an operation that names itself", of(ADD, 0, 2)),
         third("an operation that names a later record", of(ADD, 3, 1)),
         bad("an operation first", &[of(ADD, 0, 0)], "refused 25 0"),

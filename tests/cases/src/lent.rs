@@ -5,11 +5,15 @@ pub use layout::{
     SUB, SWITCH, WITH_CONSTANT,
 };
 
-pub const GRAPH_RECORD: usize = 16;
-pub const TOKEN_RECORD: usize = 28;
-pub const LOG_RECORD: usize = 20;
-pub const CELL_RECORD: usize = 8;
-pub const PICK_RECORD: usize = 2;
+pub use layout::fields::{cell, expression, instruction, logged, step, token};
+pub use layout::widths::{
+    ARRAY, EXPRESSION, MOST_ARRAYS, MOST_CELLS, MOST_EXPRESSION, MOST_INSTRUCTIONS, MOST_RECORDS,
+    STEP, WHOLE_BUDGET,
+};
+pub use layout::widths::{
+    CELL as CELL_RECORD, INSTRUCTION as GRAPH_RECORD, LOGGED as LOG_RECORD, PICK as PICK_RECORD,
+    TOKEN as TOKEN_RECORD,
+};
 
 pub type Instruction = [u8; GRAPH_RECORD];
 pub type Token = [u8; TOKEN_RECORD];
@@ -35,12 +39,14 @@ pub fn token(instruction: u16, port: u8, value: i32) -> Token {
     layout::input(instruction, port, value)
 }
 
+/// A cell record.
+pub fn cell(value: i32, state: u8) -> [u8; CELL_RECORD] {
+    layout::cell(value, state)
+}
+
 /// A present cell.
 pub fn present(value: i32) -> [u8; CELL_RECORD] {
-    let mut record = [0; CELL_RECORD];
-    record[0..4].copy_from_slice(&value.to_le_bytes());
-    record[4] = 2;
-    record
+    cell(value, cell::PRESENT)
 }
 
 /// A buffer: its first bytes are given, the rest of its length are zeros.
@@ -87,7 +93,7 @@ pub fn lend(graph: &[Instruction], inputs: &[Token]) -> Lent {
         graph: Part::of(graph.concat()),
         inputs: Part::of(inputs.concat()),
         picks: Part::of(Vec::new()),
-        budget: 2048,
+        budget: WHOLE_BUDGET,
         ledger: Part::of(garbage(6 * TOKEN_RECORD)),
         cells: Part::of(garbage(2 * CELL_RECORD)),
         first: 0,

@@ -54,9 +54,10 @@ mod tests {
     fn deepest(calls: u16) -> u128 {
         let left = crate::run(&nested(calls));
         let used = &left.ledger[..TOKEN_RECORD * left.answer.tokens];
-        let path = |record: &[u8]| record[..16].try_into().map(u128::from_le_bytes);
-        let paths = used.chunks_exact(TOKEN_RECORD).map(path);
-        paths.map(Result::unwrap).max().unwrap()
+        used.chunks_exact(TOKEN_RECORD)
+            .map(layout::path)
+            .max()
+            .unwrap()
     }
 
     #[test]
@@ -72,9 +73,9 @@ mod tests {
     fn results() {
         for calls in 1..=8 {
             let left = crate::run(&nested(calls));
-            let at = TOKEN_RECORD * (left.answer.tokens - 1);
-            let value = left.ledger[at + 20..at + 24].try_into().unwrap();
-            assert_eq!(i32::from_le_bytes(value), 7 + 101 * i32::from(calls));
+            let last = &left.ledger[TOKEN_RECORD * (left.answer.tokens - 1)..];
+            let value = layout::signed(last, token::VALUE);
+            assert_eq!(value, 7 + 101 * i32::from(calls));
         }
     }
 }

@@ -47,6 +47,18 @@ pub struct Case {
     pub says: String,
 }
 
+/// A run with a table of named arrays or a bound of loops: what is lent, the answer's line, and
+/// how many activities are held back in what it leaves.
+#[derive(Clone)]
+pub struct RunCase {
+    pub name: String,
+    pub lent: Lent,
+    pub table: Vec<u8>,
+    pub bound: u16,
+    pub says: String,
+    pub held: usize,
+}
+
 /// A case by its name, what is lent and its answer as a printed line.
 pub fn case(name: impl Into<String>, lent: Lent, says: impl Into<String>) -> Case {
     Case {

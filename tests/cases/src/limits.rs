@@ -128,7 +128,7 @@ fn capacities() -> Vec<Case> {
         ),
         case(
             "capacity 2048",
-            three().capacity(2048).from(16),
+            three().capacity(MOST_RECORDS).from(16),
             "completed 18 23 0",
         ),
     ]
@@ -146,7 +146,7 @@ fn taken() -> Vec<Case> {
         case("takes 3 and hangs, capacity 3", hangs(3), "hung 1 3 0"),
         case(
             "takes 3 and hangs, capacity 2048",
-            hangs(2048),
+            hangs(MOST_RECORDS),
             "hung 1 3 0",
         ),
         case("takes 3 and hangs, capacity 2", hangs(2), "refused 8 0 2 0"),
@@ -172,26 +172,26 @@ fn full() -> Vec<Case> {
         inputs.extend((12..12 + outs).map(|number| token(number, 0, -1)));
         lend(&graph, &inputs).capacity(capacity).from(capacity - 6)
     };
-    let alike = lend(&[op(SINK, &[])], &[]).input_bytes(2048 * TOKEN_RECORD);
+    let alike = lend(&[op(SINK, &[])], &[]).input_bytes(MOST_RECORDS * TOKEN_RECORD);
     vec![
         case(
             "2048 tokens, capacity 2048",
-            lent(4, 2048),
+            lent(4, MOST_RECORDS),
             "completed 1701 2048 0",
         ),
         case(
             "2048 tokens, capacity 2048, budget 1701",
-            lent(4, 2048).budget(1701),
+            lent(4, MOST_RECORDS).budget(1701),
             "completed 1701 2048 0",
         ),
         case(
             "2048 tokens, capacity 2048, budget 1700",
-            lent(4, 2048).budget(1700),
+            lent(4, MOST_RECORDS).budget(1700),
             "spent 1700 2047 0",
         ),
         case(
             "2048 tokens, capacity 2048, 2048 picks",
-            lent(4, 2048).picks(&[1; 2048]),
+            lent(4, MOST_RECORDS).picks(&[1; MOST_RECORDS]),
             "completed 1701 2048 0",
         ),
         case(
@@ -201,12 +201,12 @@ fn full() -> Vec<Case> {
         ),
         case(
             "2049 tokens, capacity 2048",
-            lent(5, 2048),
+            lent(5, MOST_RECORDS),
             "refused 8 1700 2048 2046",
         ),
         case(
             "2048 inputs are accepted, and alike",
-            alike.capacity(2048),
+            alike.capacity(MOST_RECORDS),
             "refused 9 0 0 1",
         ),
     ]
@@ -233,17 +233,17 @@ fn cell_counts() -> Vec<Case> {
         case("1 cell", at(0).cells(1), "completed 2 4 0"),
         case(
             "1024 cells, the last used",
-            at(1023).cells(1024),
+            at(1023).cells(MOST_CELLS),
             "completed 2 4 0",
         ),
         case(
             "1024 cells, the last waiting",
-            at(1023).cells(1024).budget(1),
+            at(1023).cells(MOST_CELLS).budget(1),
             "spent 1 4 0",
         ),
         case(
             "1024 cells, one past the last",
-            at(1024).cells(1024),
+            at(1024).cells(MOST_CELLS),
             "refused 10 0 3 0",
         ),
         case(
@@ -343,9 +343,9 @@ fn beforehand() -> Vec<Case> {
         token(0, 0, 4),
         token(0, 1, 5),
     ];
-    let spent = likely.map(|record| byte(record, 16, 1));
-    let deferred = likely.map(|record| byte(record, 16, 2));
-    let waiting = [0, 0, 0, 0, 1, 0, 0, 0];
+    let spent = likely.map(|record| byte(record, token::STATE, token::SPENT));
+    let deferred = likely.map(|record| byte(record, token::STATE, token::DEFERRED));
+    let waiting = cell(0, cell::WAITING);
     let held = [present(9), waiting];
     let graph = [op(FETCH, &[(2, 0)]), op(STORE, &[]), op(OUT, &[])];
     let read = || lend(&graph, &[token(0, 0, 0)]);
@@ -420,7 +420,7 @@ fn beforehand() -> Vec<Case> {
             "beforehand: zeros",
             sum()
                 .ledger_of(&[[0; TOKEN_RECORD]; 5])
-                .cells_of(&[[0; 8]; 2]),
+                .cells_of(&[cell(0, cell::ABSENT); 2]),
             "completed 1 3 0",
         ),
     ]

@@ -6,11 +6,7 @@ use crate::paper::{sum, two_stores};
 
 /// A log record: path, iteration, a zero byte, instruction.
 pub fn firing(path: u128, iteration: u8, instruction: u16) -> [u8; LOG_RECORD] {
-    let mut record = [0; LOG_RECORD];
-    record[..16].copy_from_slice(&path.to_le_bytes());
-    record[16] = iteration;
-    record[18..].copy_from_slice(&instruction.to_le_bytes());
-    record
+    layout::logged(path, iteration, instruction)
 }
 
 /// A firing at the root tag's path and iteration.
@@ -125,7 +121,7 @@ fn logged_lengths() -> Vec<LoggedCase> {
         logged(
             "budget 65535, a log of 2048 records",
             sum().budget(65535),
-            2048,
+            MOST_RECORDS,
             "completed 1 3 0",
             &[root(0)],
         ),
@@ -225,7 +221,7 @@ fn replay_bytes(name: &'static str, bytes: usize, says: &'static str) -> ReplayC
 }
 
 fn replays_of_the_sum() -> Vec<ReplayCase> {
-    let marked = byte(root(0), 17, 1);
+    let marked = byte(root(0), logged::ZERO, 1);
     vec![
         replay("the sum's log", sum(), &[root(0)], "completed 1 3 0"),
         replay("no record", sum(), &[], "spent 0 2 0"),
@@ -363,7 +359,7 @@ fn replay_order() -> Vec<ReplayCase> {
             &[token(0, 0, 1)],
         )
     };
-    let marked = byte(root(0), 9, 255);
+    let marked = byte(root(0), logged::ZERO, 255);
     let log = [root(0), marked];
     vec![
         replay("20 before 12", divide(), &[marked], "refused 20 0 1 0"),

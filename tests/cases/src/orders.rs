@@ -35,7 +35,7 @@ fn of(graph: &[Instruction]) -> Lent {
 fn fault(number: u8) -> Instruction {
     match number {
         2 => op(13, &[]),
-        3 => byte(op(SINK, &[]), 14, 1),
+        3 => byte(op(SINK, &[]), instruction::ZEROS.start + 2, 1),
         4 => op(COPY, &[(9, 0)]),
         _ => with(LEAVE, 256, &[]),
     }
@@ -43,11 +43,12 @@ fn fault(number: u8) -> Instruction {
 
 /// One record with the faults 2 to 5, which go one by one.
 fn one_record() -> Vec<Case> {
-    let all = byte(byte(with(ENTER, 0, &[(9, 0), (9, 1)]), 15, 1), 0, 77);
-    let from_3 = byte(all, 0, ENTER);
-    let from_4 = byte(from_3, 15, 0);
+    let (code, last) = (instruction::CODE, instruction::ZEROS.end - 1);
+    let all = byte(byte(with(ENTER, 0, &[(9, 0), (9, 1)]), last, 1), code, 77);
+    let from_3 = byte(all, code, ENTER);
+    let from_4 = byte(from_3, last, 0);
     let from_5 = with(ENTER, 0, &[(2, 0), (2, 0)]);
-    let count = byte(op(COPY, &[(9, 0), (9, 0)]), 1, 3);
+    let count = byte(op(COPY, &[(9, 0), (9, 0)]), instruction::FAN_OUT, 3);
     vec![
         case(
             "order: 1 before 2",
@@ -234,7 +235,7 @@ fn firings() -> Vec<Case> {
     };
     let stores = |arcs: &[(u16, u8)]| {
         let mut lent = two_stores();
-        lent.graph.given[16..32].copy_from_slice(&op(STORE, arcs));
+        lent.graph.given[GRAPH_RECORD..2 * GRAPH_RECORD].copy_from_slice(&op(STORE, arcs));
         lent
     };
     let deep =

@@ -60,7 +60,7 @@ pub fn two_stores() -> Lent {
 
 /// 0 is NEXT to itself: token i has iteration i.
 pub fn turning() -> Lent {
-    lend(&[op(NEXT, &[(0, 0)])], &[token(0, 0, 6)]).capacity(2048)
+    lend(&[op(NEXT, &[(0, 0)])], &[token(0, 0, 6)]).capacity(MOST_RECORDS)
 }
 
 /// 01's list of cases, in its order.

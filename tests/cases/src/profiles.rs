@@ -24,7 +24,7 @@ fn profile(
     ProfileCase {
         name,
         lent,
-        bytes: 4 * records,
+        bytes: STEP * records,
         says,
         steps: steps.into(),
     }
@@ -250,7 +250,9 @@ fn inner_product(n: u16) -> Lent {
         inputs.push(token(store, 0, i32::from(cell)));
         inputs.push(token(store, 1, i32::from(cell % 5)));
     }
-    lend(&graph, &inputs).capacity(2048).cells(1024)
+    lend(&graph, &inputs)
+        .capacity(MOST_RECORDS)
+        .cells(MOST_CELLS)
 }
 
 /// The steps of the inner product of n, all but the last. The first one also writes

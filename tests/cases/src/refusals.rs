@@ -48,7 +48,10 @@ fn at_once(number: u8, place: usize) -> String {
 }
 
 fn graph_length() -> Vec<Case> {
-    let rows = [0, 1, 15, 17, 63, 65, 256 * 16 + 1, 257 * 16];
+    let rows = {
+        let most = MOST_INSTRUCTIONS * GRAPH_RECORD;
+        [0, 1, 15, 17, 63, 65, most + 1, most + GRAPH_RECORD]
+    };
     let graph_of = |bytes| of(&plain()).graph_bytes(bytes);
     rows.map(|bytes| {
         case(
@@ -107,7 +110,11 @@ fn fan_out() -> Vec<Case> {
     for (code, word, counts) in rows {
         for &count in counts {
             let arcs = vec![(2, 0); usize::from(count.min(2))];
-            let record = byte(with(code, i32::from(code == ENTER), &arcs), 1, count);
+            let record = byte(
+                with(code, i32::from(code == ENTER), &arcs),
+                instruction::FAN_OUT,
+                count,
+            );
             let graph = plain_with(0, record);
             cases.push(case(
                 format!("3 {word} with {count} destinations"),
@@ -122,7 +129,7 @@ fn fan_out() -> Vec<Case> {
 /// Bytes of unused fields that are not zero, at several records.
 fn unused_fields() -> Vec<Case> {
     let mut cases = Vec::new();
-    for at in 12..16 {
+    for at in instruction::ZEROS {
         let graph = plain_with(2, byte(op(OUT, &[]), at, 1));
         cases.push(case(
             format!("3 byte {at} of OUT is not zero"),
@@ -130,7 +137,8 @@ fn unused_fields() -> Vec<Case> {
             at_once(3, 2),
         ));
     }
-    for at in [3, 6, 7] {
+    let second = instruction::target(1);
+    for at in [instruction::port(1), second.start, second.end - 1] {
         let graph = plain_with(1, byte(op(ADD, &[(2, 0)]), at, 1));
         cases.push(case(
             format!("3 byte {at} of ADD to one is not zero"),
@@ -138,7 +146,7 @@ fn unused_fields() -> Vec<Case> {
             at_once(3, 1),
         ));
     }
-    for at in 2..8 {
+    for at in instruction::port(0)..instruction::target(1).end {
         let graph = plain_with(3, byte(op(STORE, &[]), at, 1));
         cases.push(case(
             format!("3 byte {at} of STORE to none is not zero"),
@@ -278,15 +286,15 @@ fn bad_input() -> Vec<Case> {
         (0, 1, "path 1"),
         (7, 128, "path of 64 bits"),
         (8, 1, "path of 65 bits"),
-        (15, 128, "path of 128 bits"),
-        (16, 1, "iteration 1"),
-        (16, 255, "iteration 255"),
-        (24, 1, "state 1"),
-        (24, 2, "state 2"),
-        (24, 3, "state 3"),
-        (25, 1, "byte 25"),
-        (26, 1, "byte 26"),
-        (27, 255, "byte 27"),
+        (token::PATH.end - 1, 128, "path of 128 bits"),
+        (token::ITERATION, 1, "iteration 1"),
+        (token::ITERATION, 255, "iteration 255"),
+        (token::STATE, 1, "state 1"),
+        (token::STATE, 2, "state 2"),
+        (token::STATE, 3, "state 3"),
+        (token::ZEROS.start, 1, "byte 25"),
+        (token::ZEROS.start + 1, 1, "byte 26"),
+        (token::ZEROS.start + 2, 255, "byte 27"),
     ];
     let mut cases = Vec::new();
     for (at, value, word) in fields {
@@ -315,28 +323,31 @@ fn bad_input() -> Vec<Case> {
 fn bad_store() -> Vec<Case> {
     let lent = || lend(&plain(), &[token(0, 0, 1)]).capacity(3).cells(1);
     let mut cases = Vec::new();
-    for bytes in [1, 20, 27, 29, 2048 * TOKEN_RECORD + 1, 2049 * TOKEN_RECORD] {
+    let most = MOST_RECORDS * TOKEN_RECORD;
+    for bytes in [1, 20, 27, 29, most + 1, most + TOKEN_RECORD] {
         cases.push(case(
             format!("7 inputs of {bytes} bytes"),
             lent().input_bytes(bytes),
             at_once(7, 0),
         ));
     }
-    for bytes in [1, 3, 2048 * 2 + 1, 2049 * 2] {
+    let most_picks = MOST_RECORDS * PICK_RECORD;
+    for bytes in [1, 3, most_picks + 1, most_picks + PICK_RECORD] {
         cases.push(case(
             format!("7 picks of {bytes} bytes"),
             lent().pick_bytes(bytes),
             at_once(7, 0),
         ));
     }
-    for bytes in [1, 60, 83, 85, 2048 * TOKEN_RECORD + 1, 2049 * TOKEN_RECORD] {
+    for bytes in [1, 60, 83, 85, most + 1, most + TOKEN_RECORD] {
         cases.push(case(
             format!("7 ledger of {bytes} bytes"),
             lent().ledger_bytes(bytes),
             at_once(7, 0),
         ));
     }
-    for bytes in [1, 7, 9, 1024 * 8 + 1, 1025 * 8] {
+    let most_cells = MOST_CELLS * CELL_RECORD;
+    for bytes in [1, 7, 9, most_cells + 1, most_cells + CELL_RECORD] {
         cases.push(case(
             format!("7 cells of {bytes} bytes"),
             lent().cell_bytes(bytes),
@@ -345,7 +356,7 @@ fn bad_store() -> Vec<Case> {
     }
     cases.push(case(
         "7 not: 2048 picks",
-        lent().pick_bytes(2048 * 2),
+        lent().pick_bytes(most_picks),
         "hung 1 3 0",
     ));
     cases

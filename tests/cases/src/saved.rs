@@ -48,10 +48,6 @@ fn at(path: u128, iteration: u8, place: (u16, u8), value: i32, state: u8) -> Tok
     layout::token(path, iteration, place.0, place.1, value, state)
 }
 
-fn cell(value: i32, state: u8) -> [u8; CELL_RECORD] {
-    byte(present(value), 4, state)
-}
-
 /// 0 ENTER site 3, 1 FETCH, 2 ADD, 3 OUT, 4 LEAVE, 5 GATE. ENTER, FETCH of cell 0 and GATE
 /// at iteration 1 have fired, so that each condition of the list has something to say.
 fn good() -> Saved {
@@ -79,7 +75,7 @@ fn good() -> Saved {
     Saved {
         graph: graph.concat(),
         picks: Vec::new(),
-        budget: 2048,
+        budget: WHOLE_BUDGET,
         counts: Counts {
             firings: 3,
             tokens: 9,
@@ -171,21 +167,34 @@ fn goods() -> Vec<SavedCase> {
             good().put(7, at(0, 255, (3, 0), -1, 0)),
             TAKEN,
         ),
-        case("bytes behind the tokens", good().byte(9, 24, 3), TAKEN),
+        case(
+            "bytes behind the tokens",
+            good().byte(9, token::STATE, 3),
+            TAKEN,
+        ),
     ]
 }
 
 fn fields() -> Vec<SavedCase> {
     let mut zeros = cell(0, 0);
-    zeros[7] = 1;
+    zeros[cell::ZEROS.end - 1] = 1;
     vec![
-        damaged("state 3", good().byte(4, 24, 3)),
-        damaged("byte 25 of a token", good().byte(4, 25, 1)),
-        damaged("byte 27 of a spent token", good().byte(0, 27, 1)),
-        damaged("instruction past the graph", good().byte(4, 18, 6)),
-        damaged("instruction 256 past", good().byte(4, 19, 1)),
-        damaged("port 2 of ADD", good().byte(4, 17, 2)),
-        damaged("port 1 of OUT", good().byte(7, 17, 1)),
+        damaged("state 3", good().byte(4, token::STATE, 3)),
+        damaged("byte 25 of a token", good().byte(4, token::ZEROS.start, 1)),
+        damaged(
+            "byte 27 of a spent token",
+            good().byte(0, token::ZEROS.end - 1, 1),
+        ),
+        damaged(
+            "instruction past the graph",
+            good().byte(4, token::INSTRUCTION.start, 6),
+        ),
+        damaged(
+            "instruction 256 past",
+            good().byte(4, token::INSTRUCTION.start + 1, 1),
+        ),
+        damaged("port 2 of ADD", good().byte(4, token::PORT, 2)),
+        damaged("port 1 of OUT", good().byte(7, token::PORT, 1)),
         damaged("state 3 of a cell", good().cell(2, cell(0, 3))),
         damaged("byte 7 of a cell", good().cell(2, zeros)),
     ]
@@ -226,17 +235,29 @@ fn tags_and_paths() -> Vec<SavedCase> {
 fn operands_and_results() -> Vec<SavedCase> {
     let again = |saved: Saved| saved.counts(4, 9);
     vec![
-        damaged("one of two operands live again", good().byte(6, 24, 0)),
-        damaged("one of two operands spent", again(good().byte(4, 24, 1))),
+        damaged(
+            "one of two operands live again",
+            good().byte(6, token::STATE, token::LIVE),
+        ),
+        damaged(
+            "one of two operands spent",
+            again(good().byte(4, token::STATE, token::SPENT)),
+        ),
         damaged(
             "a spent operand without its partner",
             good().put(6, at(0, 2, (3, 0), 1, 0)),
         ),
-        damaged("a spent OUT", again(good().byte(7, 24, 1))),
-        damaged("a spent LEAVE at the root", again(good().byte(8, 24, 1))),
+        damaged(
+            "a spent OUT",
+            again(good().byte(7, token::STATE, token::SPENT)),
+        ),
+        damaged(
+            "a spent LEAVE at the root",
+            again(good().byte(8, token::STATE, token::SPENT)),
+        ),
         case(
             "a spent LEAVE in an entered path",
-            again(good().byte(2, 24, 1)),
+            again(good().byte(2, token::STATE, token::SPENT)),
             "hung 4 9 0",
         ),
     ]
@@ -288,7 +309,11 @@ fn orders() -> Vec<SavedCase> {
     cells.cells.pop();
     vec![
         case("1 before 24", with_graph(vec![1; 15]), "refused 1 0 0 0"),
-        case("2 before 24", with_graph(vec![0; 16]), "refused 2 0 0 0"),
+        case(
+            "2 before 24",
+            with_graph(vec![0; GRAPH_RECORD]),
+            "refused 2 0 0 0",
+        ),
         case("7 of the ledger before 24", odd, "refused 7 0 0 0"),
         case("7 of the cells before 24", cells, "refused 7 0 0 0"),
         case(

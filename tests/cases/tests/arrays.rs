@@ -1,86 +1,34 @@
 //! The cases of named arrays, by the second emulator and by the engine.
 
-use cases::arrays::{cases, ArrayCase};
-use cases::lent::{garbage, LOG_RECORD};
-use cases::line_of;
-use second::{Answer, Counts, Outcome, Program, Schedule};
+mod calls;
 
-/// The buffers that a call is lent: ledger, cells, and a log or a profile.
-type Buffers = [Vec<u8>; 3];
-
-/// Makes a call with what a case lends, and answers with what it leaves.
-fn called<A>(
-    case: &ArrayCase,
-    call: impl FnOnce(Program, &[u8], Schedule, &mut Buffers) -> A,
-) -> (A, Buffers) {
-    let lent = &case.lent;
-    let (graph, inputs, picks) = (lent.graph.bytes(), lent.inputs.bytes(), lent.picks.bytes());
-    let program = Program {
-        graph: &graph,
-        arrays: &case.table,
-    };
-    let further = garbage(LOG_RECORD * 2048);
-    let mut buffers = [lent.ledger.bytes(), lent.cells.bytes(), further];
-    let schedule = Schedule::new(&picks, lent.budget);
-    let answer = call(program, &inputs, schedule, &mut buffers);
-    (answer, buffers)
-}
-
-fn second_run(case: &ArrayCase) -> (Answer, Buffers) {
-    called(case, |program, inputs, schedule, [ledger, cells, _]| {
-        second::run(program, inputs, schedule, ledger, cells)
-    })
-}
-
-fn second_logged(case: &ArrayCase) -> (Answer, Buffers) {
-    called(case, |program, inputs, schedule, [ledger, cells, log]| {
-        second::run_logged(program, inputs, schedule, ledger, cells, log)
-    })
-}
+use calls::{alike, called, counts, second_logged, second_run};
+use cases::arrays::cases;
+use cases::lent::{LOG_RECORD, PICK_RECORD, WHOLE_BUDGET};
+use second::{Outcome, Schedule};
 
 #[test]
 fn answers_are_those_of_the_description() {
-    for case in cases() {
-        let (answer, left) = second_run(&case);
-        assert_eq!(line_of(&answer), case.says, "{}", case.name);
-        if answer.refused_at_once() {
-            let (_, lent) = called(&case, |_, _, _, _| ());
-            assert!(left == lent, "{}", case.name);
-        }
-    }
+    calls::answers_are_described(&cases());
 }
 
 #[test]
 fn the_engine_runs_as_the_second_emulator() {
-    for case in cases() {
-        let (due, due_left) = second_run(&case);
-        let (answer, left) = called(&case, |program, inputs, schedule, [ledger, cells, _]| {
-            engine::run(program, inputs, schedule, ledger, cells)
-        });
-        assert_eq!(answer, engine::packed_answer(&due), "{}", case.name);
-        assert!(left == due_left, "{}", case.name);
-    }
+    calls::the_engine_runs_alike(&cases());
 }
 
 #[test]
-fn logs_and_replays() {
+fn replays() {
     for case in cases() {
-        let (due, due_left) = second_logged(&case);
-        let (answer, left) = called(&case, |program, inputs, schedule, [ledger, cells, log]| {
-            engine::run_logged(program, inputs, schedule, ledger, cells, log)
-        });
-        assert_eq!(answer, engine::packed_answer(&due), "{}", case.name);
-        assert!(left == due_left, "{}", case.name);
-
-        let log = &left[2][..LOG_RECORD * due.firings];
-        let (due, due_left) = called(&case, |program, inputs, _, [ledger, cells, _]| {
+        let (answer, left) = second_logged(&case);
+        let log = &left[2][..LOG_RECORD * answer.firings];
+        let due = called(&case, |program, inputs, _, [ledger, cells, _]| {
             second::replay(program, inputs, log, ledger, cells)
         });
-        let (answer, left) = called(&case, |program, inputs, _, [ledger, cells, _]| {
+        let found = called(&case, |program, inputs, _, [ledger, cells, _]| {
             engine::replay(program, inputs, log, ledger, cells)
         });
-        assert_eq!(answer, engine::packed_answer(&due), "{}", case.name);
-        assert!(left == due_left, "{}", case.name);
+        alike(&case, found, due);
     }
 }
 
@@ -109,22 +57,14 @@ fn saved_states_are_carried_on() {
         if part.outcome != Outcome::Spent {
             continue;
         }
-        let saved = Counts {
-            firings: part.firings as u16,
-            tokens: part.tokens as u16,
-        };
-        let rest = case
-            .lent
-            .picks
-            .bytes()
-            .split_off(2.min(case.lent.picks.length));
-        let (due, due_left) = second_run(&case);
-        let (answer, left) = called(&case, |program, _, _, buffers| {
+        let picks = case.lent.picks.bytes();
+        let rest = &picks[PICK_RECORD.min(picks.len())..];
+        let found = called(&case, |program, _, _, buffers| {
             *buffers = state.clone();
             let [ledger, cells, _] = buffers;
-            engine::carry_on(program, Schedule::new(&rest, 2047), saved, ledger, cells)
+            let schedule = Schedule::new(rest, WHOLE_BUDGET - 1);
+            engine::carry_on(program, schedule, counts(&part), ledger, cells)
         });
-        assert_eq!(answer, engine::packed_answer(&due), "{}", case.name);
-        assert!(left == due_left, "{}", case.name);
+        alike(&case, found, second_run(&case));
     }
 }

@@ -1,6 +1,7 @@
 //! The cases of the converters (02, R-8), by the second emulator and by the engine.
 
 use cases::lent::garbage;
+use layout::widths::{self, LOGGED, MOST_RECORDS, OLD_LOGGED, TOKEN};
 
 /// A converter of either emulator.
 type Converter = fn(&[u8], &mut [u8]) -> u64;
@@ -9,15 +10,15 @@ const TOKENS: [Converter; 2] = [second::convert, engine::convert];
 const LOGS: [Converter; 2] = [second::convert_log, engine::convert_log];
 
 /// Two calls of site 3 from iteration 2; iteration 9, port 1, instruction 4, value -2, deferred. And what it becomes.
-const OLD_TOKEN: [u8; 20] = [
+const OLD_TOKEN: [u8; widths::OLD_TOKEN] = [
     2, 3, 2, 3, 0, 0, 0, 0, 9, 1, 4, 0, 0xfe, 0xff, 0xff, 0xff, 2, 0, 0, 0,
 ];
-const NEW_TOKEN: [u8; 28] = [
+const NEW_TOKEN: [u8; TOKEN] = [
     2, 3, 2, 3, 0, 0, 0, 0, 0, 0, 0, 0, 0, 0, 0, 0, 9, 1, 4, 0, 0xfe, 0xff, 0xff, 0xff, 2, 0, 0, 0,
 ];
 /// Its activity in a log.
-const OLD_FIRING: [u8; 12] = [2, 3, 2, 3, 0, 0, 0, 0, 9, 0, 4, 0];
-const NEW_FIRING: [u8; 20] = [2, 3, 2, 3, 0, 0, 0, 0, 0, 0, 0, 0, 0, 0, 0, 0, 9, 0, 4, 0];
+const OLD_FIRING: [u8; OLD_LOGGED] = [2, 3, 2, 3, 0, 0, 0, 0, 9, 0, 4, 0];
+const NEW_FIRING: [u8; LOGGED] = [2, 3, 2, 3, 0, 0, 0, 0, 0, 0, 0, 0, 0, 0, 0, 0, 9, 0, 4, 0];
 
 /// That both converters make these bytes of those.
 #[track_caller]
@@ -51,31 +52,55 @@ fn the_new_bytes_are_zero_and_the_later_fields_move() {
 #[test]
 fn no_field_is_looked_at() {
     let record = [&[255; 8][..], &[0; 8], &[255; 12]].concat();
-    made(TOKENS, &[255; 20], &record);
-    made(LOGS, &[255; 12], &record[..20]);
+    made(TOKENS, &[255; widths::OLD_TOKEN], &record);
+    made(LOGS, &[255; OLD_LOGGED], &record[..LOGGED]);
 }
 
 #[test]
 fn no_record_and_the_most() {
     made(TOKENS, &[], &[]);
     made(LOGS, &[], &[]);
-    made(TOKENS, &OLD_TOKEN.repeat(2048), &NEW_TOKEN.repeat(2048));
-    made(LOGS, &OLD_FIRING.repeat(2048), &NEW_FIRING.repeat(2048));
+    made(
+        TOKENS,
+        &OLD_TOKEN.repeat(MOST_RECORDS),
+        &NEW_TOKEN.repeat(MOST_RECORDS),
+    );
+    made(
+        LOGS,
+        &OLD_FIRING.repeat(MOST_RECORDS),
+        &NEW_FIRING.repeat(MOST_RECORDS),
+    );
 }
 
 #[test]
 fn past_2048_records() {
-    refused(TOKENS, &OLD_TOKEN.repeat(2049), 2049 * 28);
-    refused(LOGS, &OLD_FIRING.repeat(2049), 2049 * 20);
+    refused(
+        TOKENS,
+        &OLD_TOKEN.repeat(MOST_RECORDS + 1),
+        (MOST_RECORDS + 1) * TOKEN,
+    );
+    refused(
+        LOGS,
+        &OLD_FIRING.repeat(MOST_RECORDS + 1),
+        (MOST_RECORDS + 1) * LOGGED,
+    );
 }
 
 #[test]
 fn records_that_are_not_whole() {
     for length in [1, 19, 21, 39] {
-        refused(TOKENS, &OLD_TOKEN.repeat(2)[..length], length / 20 * 28);
+        refused(
+            TOKENS,
+            &OLD_TOKEN.repeat(2)[..length],
+            length / widths::OLD_TOKEN * TOKEN,
+        );
     }
     for length in [1, 11, 13, 23] {
-        refused(LOGS, &OLD_FIRING.repeat(2)[..length], length / 12 * 20);
+        refused(
+            LOGS,
+            &OLD_FIRING.repeat(2)[..length],
+            length / OLD_LOGGED * LOGGED,
+        );
     }
 }
 

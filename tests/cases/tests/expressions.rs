@@ -1,7 +1,7 @@
 //! The cases of expressions, by the second emulator and by the engine.
 
 use cases::expressions::{cases, ExpressionCase};
-use cases::lent::{garbage, GRAPH_RECORD, TOKEN_RECORD};
+use cases::lent::{garbage, token, GRAPH_RECORD, TOKEN_RECORD, WHOLE_BUDGET};
 use second::{Program, Refusal, Schedule};
 
 fn values(case: &ExpressionCase) -> Vec<u8> {
@@ -68,14 +68,14 @@ fn out_receives_the_value_or_the_run_is_refused_by_12() {
         let newest = second::picks_newest_first(program, &inputs, 300, 0);
         for picks in [Vec::new(), newest] {
             let mut ledger = garbage(300 * TOKEN_RECORD);
-            let schedule = Schedule::new(&picks, 2048);
+            let schedule = Schedule::new(&picks, WHOLE_BUDGET);
             let answer = engine::run(program, &inputs, schedule, &mut ledger, &mut []);
             let (word, _, tokens, _) = engine::unpacked(answer);
             let last = &ledger[TOKEN_RECORD * (tokens as usize - 1)..];
             match case.value {
                 Some(value) => {
                     assert_eq!(word, engine::COMPLETED, "{}", case.name);
-                    assert_eq!(last[20..24], value.to_le_bytes(), "{}", case.name);
+                    assert_eq!(last[token::VALUE], value.to_le_bytes(), "{}", case.name);
                 }
                 None => assert_eq!(word, 12, "{}", case.name),
             }

@@ -1,8 +1,9 @@
 //! The cases of profiles, by the second emulator and by the engine.
 
-use cases::lent::{garbage, Part};
+use cases::lent::{garbage, step, Part, STEP};
 use cases::line_of;
 use cases::profiles::{cases, ProfileCase};
+use layout::unsigned;
 use second::{Profiled, Program};
 
 /// The buffers that a profile is lent: ledger, cells and profile.
@@ -24,11 +25,16 @@ fn answers_and_steps_are_those_of_the_description() {
     for case in cases() {
         let (profiled, [_, _, profile]) = second_profile(&case);
         assert_eq!(line_of(&profiled.answer), case.says, "{}", case.name);
-        let used = 4 * profiled.records;
-        let number = |bytes: &[u8]| u16::from_le_bytes([bytes[0], bytes[1]]);
+        let used = STEP * profiled.records;
         let steps: Vec<String> = profile[..used]
-            .chunks_exact(4)
-            .map(|record| format!("{}/{}", number(record), number(&record[2..])))
+            .chunks_exact(STEP)
+            .map(|record| {
+                format!(
+                    "{}/{}",
+                    unsigned(record, step::FIRINGS),
+                    unsigned(record, step::TOKENS)
+                )
+            })
             .collect();
         assert_eq!(steps.join(" "), case.steps, "{}", case.name);
         assert_eq!(

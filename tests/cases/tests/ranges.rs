@@ -1,9 +1,13 @@
 //! The cases of range runs (02, R-11), by the second emulator and by the engine: what each answers, and its tokens and
 //! cells in order, as low, high and state.
 
+use std::ops::Range;
+
+use layout::fields::{cell, token};
+use layout::widths::{INSTRUCTION, RANGE_CELL, RANGE_TOKEN, WHOLE_BUDGET};
 use layout::{
-    input, instruction, ADD, CONST, DIV, EQ, FETCH, GATE, MUL, NEXT, OUT, REM, STORE, SWITCH,
-    WITH_CONSTANT,
+    input, instruction, signed, ADD, CONST, DIV, EQ, FETCH, GATE, MUL, NEXT, OUT, REM, STORE,
+    SWITCH, WITH_CONSTANT,
 };
 use second::{Program, Schedule};
 
@@ -12,7 +16,7 @@ type Input = (u16, u8, i32, i32);
 
 struct Case {
     name: &'static str,
-    graph: Vec<[u8; 16]>,
+    graph: Vec<[u8; INSTRUCTION]>,
     inputs: Vec<Input>,
     bound: u16,
     /// Word, firings, tokens and place.
@@ -26,7 +30,7 @@ const LENT: u8 = 0xa5;
 
 fn case(
     name: &'static str,
-    graph: &[[u8; 16]],
+    graph: &[[u8; INSTRUCTION]],
     inputs: &[Input],
     says: [u64; 4],
     tokens: &'static str,
@@ -42,16 +46,16 @@ fn case(
     }
 }
 
-fn out() -> [u8; 16] {
+fn out() -> [u8; INSTRUCTION] {
     instruction(OUT, &[], 0)
 }
 
 /// One operation whose result goes to an OUT.
-fn to_out(code: u8, constant: i32) -> [[u8; 16]; 2] {
+fn to_out(code: u8, constant: i32) -> [[u8; INSTRUCTION]; 2] {
     [instruction(code, &[(1, 0)], constant), out()]
 }
 
-fn switch() -> [[u8; 16]; 3] {
+fn switch() -> [[u8; INSTRUCTION]; 3] {
     [instruction(SWITCH, &[(1, 0), (2, 0)], 0), out(), out()]
 }
 
@@ -281,14 +285,13 @@ fn cells_and_bounds() -> Vec<Case> {
 }
 
 /// Records as low, high and state, parted by bars; absent cells are empty.
-fn shown(records: &[u8], width: usize, low: usize, state: usize, absent: bool) -> String {
-    let number = |bytes: &[u8]| i32::from_le_bytes(bytes.try_into().unwrap());
+fn shown(records: &[u8], width: usize, low: Range<usize>, state: usize, absent: bool) -> String {
     let show = |record: &[u8]| match record[state] {
         0 if absent => String::new(),
         state => format!(
             "{} {} {state}",
-            number(&record[low..low + 4]),
-            number(&record[width - 4..])
+            signed(record, low.clone()),
+            signed(record, width - low.len()..width)
         ),
     };
     let records: Vec<String> = records.chunks_exact(width).map(show).collect();
@@ -311,8 +314,8 @@ fn range_runs_are_those_of_the_description() {
             graph: &graph,
             arrays: &[],
         };
-        let schedule = Schedule::new(&[], 2048).bounded(case.bound);
-        let (mut ledger, mut cells) = (vec![LENT; 32 * 8], vec![LENT; 12 * CELLS]);
+        let schedule = Schedule::new(&[], WHOLE_BUDGET).bounded(case.bound);
+        let (mut ledger, mut cells) = (vec![LENT; RANGE_TOKEN * 8], vec![LENT; RANGE_CELL * CELLS]);
         let (mut same_ledger, mut same_cells) = (ledger.clone(), cells.clone());
         let answer = engine::run_ranges(program, &inputs, schedule, &mut ledger, &mut cells);
         let due = second::run_ranges(
@@ -330,9 +333,15 @@ fn range_runs_are_those_of_the_description() {
         );
         assert_eq!(answer, engine::packed_answer(&due), "{name}");
         assert!(ledger == same_ledger && cells == same_cells, "{name}");
-        let used = 32 * tokens as usize;
+        let used = RANGE_TOKEN * tokens as usize;
         assert_eq!(
-            shown(&ledger[..used], 32, 20, 24, false),
+            shown(
+                &ledger[..used],
+                RANGE_TOKEN,
+                token::VALUE,
+                token::STATE,
+                false
+            ),
             case.tokens,
             "{name}"
         );
@@ -340,7 +349,7 @@ fn range_runs_are_those_of_the_description() {
         let left = match due.refused_at_once() {
             true => cells.iter().all(|&byte| byte == LENT),
             false if case.cells.is_empty() => cells.iter().all(|&byte| byte == 0),
-            false => shown(&cells, 12, 0, 4, true) == case.cells,
+            false => shown(&cells, RANGE_CELL, cell::VALUE, cell::STATE, true) == case.cells,
         };
         assert!(left, "{name}: cells");
     }

@@ -1,5 +1,6 @@
 //! The cases of saved states, by the second emulator and by the engine.
 
+use cases::lent::PICK_RECORD;
 use cases::line_of;
 use cases::saved::{cases, cut_cases, CutCase, Saved};
 use second::{Answer, Counts, Outcome, Program, Schedule};
@@ -42,7 +43,7 @@ fn the_engine_leaves_what_the_second_emulator_leaves() {
 /// The first `cut` firings with their picks, and the rest from the state that they left.
 fn in_two_parts(case: &CutCase, cut: u16) -> (Answer, [Vec<u8>; 2]) {
     let picks = case.lent.picks.bytes();
-    let own = picks.len().min(2 * usize::from(cut));
+    let own = picks.len().min(PICK_RECORD * usize::from(cut));
     let mut first = case.lent.clone().budget(cut);
     first.picks.given.truncate(own);
     first.picks.length = own;

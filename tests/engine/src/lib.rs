@@ -68,53 +68,46 @@ pub fn unpacked(answer: u64) -> (u64, u64, u64, u64) {
 
 /// Runs the engine.
 pub fn run(
-    program: Program,
+    Program { graph, arrays }: Program,
     inputs: &[u8],
-    schedule: Schedule,
-    ledger: &mut [u8],
-    cells: &mut [u8],
-) -> u64 {
-    let Program { graph, arrays } = program;
-    let Schedule {
+    Schedule {
         picks,
         budget,
         bound,
-    } = schedule;
+    }: Schedule,
+    ledger: &mut [u8],
+    cells: &mut [u8],
+) -> u64 {
     ttda::run(graph, arrays, inputs, picks, budget, bound, ledger, cells).0
 }
 
 /// Runs the engine over ranges.
 pub fn run_ranges(
-    program: Program,
+    Program { graph, arrays }: Program,
     inputs: &[u8],
-    schedule: Schedule,
-    ledger: &mut [u8],
-    cells: &mut [u8],
-) -> u64 {
-    let Program { graph, arrays } = program;
-    let Schedule {
+    Schedule {
         picks,
         budget,
         bound,
-    } = schedule;
+    }: Schedule,
+    ledger: &mut [u8],
+    cells: &mut [u8],
+) -> u64 {
     ttda::run_ranges(graph, arrays, inputs, picks, budget, bound, ledger, cells).0
 }
 
 /// Goes on from the state that ledger and cells hold.
 pub fn carry_on(
-    program: Program,
-    schedule: Schedule,
-    saved: Counts,
-    ledger: &mut [u8],
-    cells: &mut [u8],
-) -> u64 {
-    let Program { graph, arrays } = program;
-    let Schedule {
+    Program { graph, arrays }: Program,
+    Schedule {
         picks,
         budget,
         bound,
-    } = schedule;
-    let Counts { firings, tokens } = saved;
+    }: Schedule,
+    Counts { firings, tokens }: Counts,
+    ledger: &mut [u8],
+    cells: &mut [u8],
+) -> u64 {
     ttda::carry_on(
         graph, arrays, picks, budget, bound, firings, tokens, ledger, cells,
     )
@@ -123,7 +116,7 @@ pub fn carry_on(
 
 /// The engine's profile in ideal steps; the answer and the number of records.
 pub fn profile(
-    program: Program,
+    Program { graph, arrays }: Program,
     inputs: &[u8],
     ledger: &mut [u8],
     cells: &mut [u8],
@@ -131,26 +124,23 @@ pub fn profile(
 ) -> (u64, u64) {
     // A number that no profile has, so that one left unwritten shows.
     let mut records = u64::MAX;
-    let Program { graph, arrays } = program;
     let answer = ttda::profile(graph, arrays, inputs, ledger, cells, profile, &mut records);
     (answer.0, records)
 }
 
 /// Runs the engine and writes the log of its firings.
 pub fn run_logged(
-    program: Program,
+    Program { graph, arrays }: Program,
     inputs: &[u8],
-    schedule: Schedule,
+    Schedule {
+        picks,
+        budget,
+        bound,
+    }: Schedule,
     ledger: &mut [u8],
     cells: &mut [u8],
     log: &mut [u8],
 ) -> u64 {
-    let Program { graph, arrays } = program;
-    let Schedule {
-        picks,
-        budget,
-        bound,
-    } = schedule;
     ttda::run_logged(
         graph, arrays, inputs, picks, budget, bound, ledger, cells, log,
     )
@@ -159,13 +149,12 @@ pub fn run_logged(
 
 /// Fires what a log names.
 pub fn replay(
-    program: Program,
+    Program { graph, arrays }: Program,
     inputs: &[u8],
     log: &[u8],
     ledger: &mut [u8],
     cells: &mut [u8],
 ) -> u64 {
-    let Program { graph, arrays } = program;
     ttda::replay(graph, arrays, inputs, log, ledger, cells).0
 }
 
@@ -219,11 +208,10 @@ impl Request<'_> {
 pub fn held(
     graph: &[u8],
     bound: u16,
-    saved: Counts,
+    Counts { firings, tokens }: Counts,
     ledger: &[u8],
     cells: &[u8],
 ) -> Option<(usize, usize)> {
-    let Counts { firings, tokens } = saved;
     let found = ttda::held(graph, bound, firings, tokens, ledger, cells);
     (found.word() == Word::Completed).then_some((found.held(), found.enabled()))
 }

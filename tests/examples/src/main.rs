@@ -17,11 +17,12 @@ use std::path::Path;
 use std::process::ExitCode;
 
 use asm::Files;
+use layout::widths::{MOST_CELLS, MOST_RECORDS};
 
 use needs::Needs;
 
-const RECORDS: usize = 2048;
-const CELLS: usize = 1024;
+const RECORDS: usize = MOST_RECORDS;
+const CELLS: usize = MOST_CELLS;
 const DEFAULT_FOLDER: &str = concat!(env!("CARGO_MANIFEST_DIR"), "/../../examples");
 
 fn main() -> ExitCode {

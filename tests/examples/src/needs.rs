@@ -2,6 +2,9 @@
 //! profile in ideal steps.
 
 use asm::Files;
+use layout::fields::step;
+use layout::unsigned;
+use layout::widths::{CELL, STEP, TOKEN};
 use second::{Answer, Bounds, Refusal};
 
 use crate::runs::{self, Left};
@@ -60,7 +63,7 @@ impl Needs {
             }
             Needs::Profile(profile) => {
                 let answer = second::print(&profile.answer, &[], &[]);
-                let steps: String = profile.records.chunks_exact(4).map(step).collect();
+                let steps: String = profile.records.chunks_exact(STEP).map(step).collect();
                 String::from_utf8_lossy(&answer).into_owned() + &steps
             }
         }
@@ -76,17 +79,20 @@ impl Needs {
 }
 
 fn step(record: &[u8]) -> String {
-    let number = |at: usize| u16::from_le_bytes([record[at], record[at + 1]]);
-    format!("{} {}\n", number(0), number(2))
+    let (firings, tokens) = (
+        unsigned(record, step::FIRINGS),
+        unsigned(record, step::TOKENS),
+    );
+    format!("{firings} {tokens}\n")
 }
 
 fn second_profile(files: &Files) -> Profile {
-    let mut ledger = vec![0; asm::TOKEN_RECORD * RECORDS];
-    let mut cells = vec![0; 8 * CELLS];
-    let mut records = vec![0; 4 * RECORDS];
+    let mut ledger = vec![0; TOKEN * RECORDS];
+    let mut cells = vec![0; CELL * CELLS];
+    let mut records = vec![0; STEP * RECORDS];
     let (program, inputs) = (runs::program(files), &files.inputs);
     let profiled = second::profile(program, inputs, &mut ledger, &mut cells, &mut records);
-    records.truncate(4 * profiled.records);
+    records.truncate(STEP * profiled.records);
     Profile {
         answer: profiled.answer,
         records,
@@ -110,12 +116,12 @@ fn bounds_agree(files: &Files, bounds: &Bounds, run: &Left) -> Result<(), String
 }
 
 fn profile_agrees(files: &Files, profile: &Profile, run: &Left) -> Result<(), String> {
-    let mut ledger = vec![0; asm::TOKEN_RECORD * RECORDS];
-    let mut cells = vec![0; 8 * CELLS];
-    let mut records = vec![0; 4 * RECORDS];
+    let mut ledger = vec![0; TOKEN * RECORDS];
+    let mut cells = vec![0; CELL * CELLS];
+    let mut records = vec![0; STEP * RECORDS];
     let (program, inputs) = (runs::program(files), &files.inputs);
     let (answer, steps) = engine::profile(program, inputs, &mut ledger, &mut cells, &mut records);
-    records.truncate(4 * steps as usize);
+    records.truncate(STEP * steps as usize);
     if answer != engine::packed_answer(&profile.answer) || records != profile.records {
         return Err("the engine gives another profile".to_string());
     }

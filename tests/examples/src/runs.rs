@@ -1,11 +1,12 @@
 //! Runs of an example: by the engine and by the second emulator, in many orders.
 
 use asm::Files;
+use layout::widths::{printed, CELL, TOKEN, WHOLE_BUDGET};
 use second::{Answer, Outcome, Program, Schedule};
 
 use crate::{CELLS, RECORDS};
 
-const BUDGET: u16 = 2048;
+const BUDGET: u16 = WHOLE_BUDGET;
 /// With oldest first and newest first, eleven orders or more.
 const RANDOM_LISTS: u64 = 12;
 /// Loop bounds: the smallest, one that many loops pass, and the largest.
@@ -23,7 +24,7 @@ impl Left {
     /// What the engine left in ledger and cells.
     pub fn of_engine(answer: u64, ledger: &[u8], cells: Vec<u8>) -> Left {
         let (_, _, tokens, _) = engine::unpacked(answer);
-        let used = &ledger[..asm::TOKEN_RECORD * (tokens as usize).min(RECORDS)];
+        let used = &ledger[..TOKEN * (tokens as usize).min(RECORDS)];
         let mut listing = vec![0; used.len()];
         engine::list(used, &mut listing);
         Left {
@@ -35,7 +36,7 @@ impl Left {
 
     /// The lines that the engine prints, in a buffer of just their length.
     fn text(&self) -> Vec<u8> {
-        let mut room = vec![0; 80 + 3 * self.listing.len() + 6 * self.cells.len()];
+        let mut room = vec![0; printed(self.listing.len() / TOKEN, self.cells.len() / CELL)];
         let length = engine::print(self.answer, &self.listing, &self.cells, &mut room);
         let mut text = vec![0; length as usize];
         let again = engine::print(self.answer, &self.listing, &self.cells, &mut text);
@@ -103,7 +104,7 @@ pub fn program(files: &Files) -> Program<'_> {
 
 /// Runs and lists as the program does.
 fn engine_run(files: &Files, schedule: Schedule) -> Left {
-    let mut ledger = vec![0; asm::TOKEN_RECORD * RECORDS];
+    let mut ledger = vec![0; TOKEN * RECORDS];
     let mut cells = vec![0; 8 * CELLS];
     let (program, inputs) = (program(files), &files.inputs);
     let answer = engine::run(program, inputs, schedule, &mut ledger, &mut cells);
@@ -173,11 +174,11 @@ pub fn second_run(files: &Files) -> Second {
 }
 
 fn second(files: &Files, schedule: Schedule) -> Second {
-    let mut ledger = vec![0; asm::TOKEN_RECORD * RECORDS];
+    let mut ledger = vec![0; TOKEN * RECORDS];
     let mut cells = vec![0; 8 * CELLS];
     let (program, inputs) = (program(files), &files.inputs);
     let answer = second::run(program, inputs, schedule, &mut ledger, &mut cells);
-    let used = &ledger[..asm::TOKEN_RECORD * answer.tokens];
+    let used = &ledger[..TOKEN * answer.tokens];
     let mut listing = vec![0; used.len()];
     second::list(used, &mut listing);
     Second {

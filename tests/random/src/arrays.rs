@@ -2,8 +2,9 @@
 
 use std::collections::HashSet;
 
-use layout::{FETCH, STORE};
-use second::{ARRAY_RECORD, MOST_ARRAYS, TOKEN_RECORD};
+use layout::fields::{array, instruction, token};
+use layout::widths::{ARRAY, CELL, INSTRUCTION, MOST_ARRAYS, TOKEN};
+use layout::{code_of, instruction_of, same_tag, signed, unsigned, FETCH, STORE};
 
 use crate::case::{Call, Case, Left};
 use crate::damage::{flip, overwrite};
@@ -30,7 +31,7 @@ pub fn fill(draft: &mut Draft, cells: usize, prng: &mut Prng) {
 
 /// Damages the table, or the constant of a FETCH or STORE.
 pub fn damage(case: &mut Case, prng: &mut Prng) {
-    let cells = case.cells_bytes / 8;
+    let cells = case.cells_bytes / CELL;
     let arrays = &mut case.arrays;
     match prng.below(10) {
         0 => flip(arrays, prng),
@@ -38,10 +39,8 @@ pub fn damage(case: &mut Case, prng: &mut Prng) {
         2 => arrays.truncate(prng.below(arrays.len() + 1)),
         3 => arrays.clear(),
         4 => arrays.extend(vec![0; 1 + prng.below(3)]),
-        5 => arrays.resize(ARRAY_RECORD * (MOST_ARRAYS - 1 + prng.below(3)), 0),
-        6 => {
-            arrays.truncate(arrays.len().saturating_sub(ARRAY_RECORD) / ARRAY_RECORD * ARRAY_RECORD)
-        }
+        5 => arrays.resize(ARRAY * (MOST_ARRAYS - 1 + prng.below(3)), 0),
+        6 => arrays.truncate(arrays.len().saturating_sub(ARRAY) / ARRAY * ARRAY),
         7 => {
             // An array that ends with the cells, or one past them.
             let first = prng.below(cells + 2) as u16;
@@ -54,19 +53,21 @@ pub fn damage(case: &mut Case, prng: &mut Prng) {
 
 /// Gives a FETCH or STORE, if there is one, another constant.
 fn damage_name(case: &mut Case, prng: &mut Prng) {
-    let count = case.arrays.len() / ARRAY_RECORD;
+    let count = case.arrays.len() / ARRAY;
     let constant = match prng.below(6) {
         0 => -1,
         1 => count as i32 + 1,
         2 => prng.word() as i32,
         _ => prng.below(count + 1) as i32,
     };
-    let places: Vec<usize> = (0..case.graph.len() / 16)
-        .filter(|place| matches!(case.graph[16 * place], FETCH | STORE))
+    let code = |place: &usize| layout::record(&case.graph, *place)[instruction::CODE];
+    let places: Vec<usize> = (0..case.graph.len() / INSTRUCTION)
+        .filter(|place| matches!(code(place), FETCH | STORE))
         .collect();
     if !places.is_empty() {
         let place = places[prng.below(places.len())];
-        case.graph[16 * place + 8..16 * place + 12].copy_from_slice(&constant.to_le_bytes());
+        case.graph[INSTRUCTION * place..][instruction::CONSTANT]
+            .copy_from_slice(&constant.to_le_bytes());
     }
 }
 
@@ -101,16 +102,16 @@ pub const NAMES: [&str; 25] = [
 
 /// A table as far as it is whole records.
 fn table(case: &Case) -> Vec<(usize, usize)> {
-    let number = |bytes: &[u8]| usize::from(u16::from_le_bytes([bytes[0], bytes[1]]));
-    let records = case.arrays.chunks_exact(ARRAY_RECORD);
+    let number = |record, field| usize::from(unsigned(record, field));
+    let records = case.arrays.chunks_exact(ARRAY);
     records
-        .map(|record| (number(record), number(&record[2..])))
+        .map(|record| (number(record, array::FIRST), number(record, array::LENGTH)))
         .collect()
 }
 
 fn constant_at(case: &Case, instruction: usize) -> i32 {
-    let record = &case.graph[16 * instruction..][..16];
-    i32::from_le_bytes([record[8], record[9], record[10], record[11]])
+    let record = layout::record(&case.graph, instruction);
+    signed(record, instruction::CONSTANT)
 }
 
 /// Which of the names a call has.
@@ -120,7 +121,7 @@ pub fn names(case: &Case, left: &Left) -> Vec<&'static str> {
         Some(1..=7 | 24) => Vec::new(),
         _ => {
             let mut names = table_names(case);
-            for record in left.used().chunks_exact(TOKEN_RECORD) {
+            for record in left.used().chunks_exact(TOKEN) {
                 names.extend(token_names(case, record));
             }
             names.extend(firing_name(case, left));
@@ -130,14 +131,14 @@ pub fn names(case: &Case, left: &Left) -> Vec<&'static str> {
 }
 
 fn refused_names(case: &Case, left: &Left) -> Vec<&'static str> {
-    let cells = case.cells_bytes / 8;
+    let cells = case.cells_bytes / CELL;
     let farthest = table(case)
         .iter()
         .map(|(first, length)| first + length)
         .max();
     let mut names = vec![match farthest.unwrap_or(0) {
-        _ if case.arrays.len() % ARRAY_RECORD != 0 => "22 not whole",
-        _ if case.arrays.len() > ARRAY_RECORD * MOST_ARRAYS => "22 more than 64",
+        _ if case.arrays.len() % ARRAY != 0 => "22 not whole",
+        _ if case.arrays.len() > ARRAY * MOST_ARRAYS => "22 more than 64",
         end if end == cells + 1 => "22 one past the cells",
         end if end > cells => "22 far past the cells",
         _ if case.arrays.is_empty() => "22 without a table",
@@ -155,7 +156,7 @@ fn refused_names(case: &Case, left: &Left) -> Vec<&'static str> {
 
 /// What an accepted table has.
 fn table_names(case: &Case) -> Vec<&'static str> {
-    let cells = case.cells_bytes / 8;
+    let cells = case.cells_bytes / CELL;
     let arrays = table(case);
     let overlap = |(number, &(first, length)): (usize, &(usize, usize))| {
         let others = arrays[..number].iter();
@@ -179,21 +180,19 @@ fn table_names(case: &Case) -> Vec<&'static str> {
 
 /// The array that a token at port 0 of FETCH or STORE is an index of, and the index.
 fn named(case: &Case, record: &[u8]) -> Option<((usize, usize), i32)> {
-    let instruction = usize::from(u16::from_le_bytes([record[18], record[19]]));
-    let code = case.graph[16 * instruction];
+    let (instruction, code) = (instruction_of(record), code_of(&case.graph, record));
     let name = constant_at(case, instruction);
-    if !matches!(code, FETCH | STORE) || record[17] != 0 || name == 0 {
+    if !matches!(code, FETCH | STORE) || record[token::PORT] != 0 || name == 0 {
         return None;
     }
-    let index = i32::from_le_bytes([record[20], record[21], record[22], record[23]]);
+    let index = signed(record, token::VALUE);
     Some((table(case)[name as usize - 1], index))
 }
 
 /// What the operand of a FETCH or STORE that has fired tells.
 fn token_names(case: &Case, record: &[u8]) -> Vec<&'static str> {
-    let instruction = usize::from(u16::from_le_bytes([record[18], record[19]]));
-    let code = case.graph[16 * instruction];
-    if record[24] != 1 {
+    let code = code_of(&case.graph, record);
+    if record[token::STATE] != token::SPENT {
         return Vec::new();
     }
     match named(case, record) {
@@ -218,13 +217,13 @@ fn token_names(case: &Case, record: &[u8]) -> Vec<&'static str> {
 /// Why a firing by name was refused, or that a read by name waits at the end.
 fn firing_name(case: &Case, left: &Left) -> Option<&'static str> {
     let place = left.answer.place();
-    let records = || left.used().chunks_exact(TOKEN_RECORD);
+    let records = || left.used().chunks_exact(TOKEN);
     match left.answer.refusal() {
         Some(number @ (10 | 11)) => {
             // The place is that of the operand that came first, on either port.
             let activity = records().nth(place)?;
-            let same = |t: &&[u8]| t[..17] == activity[..17] && t[18..20] == activity[18..20];
-            let operand = records().find(|t| same(t) && t[17] == 0)?;
+            let same = |t: &&[u8]| same_tag(t, activity);
+            let operand = records().find(|t| same(t) && t[token::PORT] == 0)?;
             let ((_, length), index) = named(case, operand)?;
             Some(match index {
                 _ if number == 11 => "11 by name",
@@ -237,10 +236,10 @@ fn firing_name(case: &Case, left: &Left) -> Option<&'static str> {
         }
         Some(_) => None,
         None => {
-            let deferred = records().filter(|t| t[24] == 2);
-            let cells: HashSet<&[u8]> = deferred.map(|t| &t[20..24]).collect();
+            let deferred = records().filter(|t| t[token::STATE] == token::DEFERRED);
+            let cells: HashSet<&[u8]> = deferred.map(|t| &t[token::VALUE]).collect();
             let waits = |t: &[u8]| match named(case, t) {
-                Some(((first, _), index)) if t[24] == 1 => {
+                Some(((first, _), index)) if t[token::STATE] == token::SPENT => {
                     let cell = (first as i32).wrapping_add(index).wrapping_sub(1);
                     cells.contains(&cell.to_le_bytes()[..])
                 }

@@ -1,18 +1,21 @@
 //! Loop bounding (02, R-9): bounded runs, whole, logged and cut in two, what 02 claims of them,
 //! and what is tallied.
 
-use layout::NEXT;
-use second::{Counts, Held, Outcome, LOG_RECORD, TOKEN_RECORD};
+use layout::fields::token;
+use layout::widths::{LOGGED, PICK, TOKEN, WHOLE_BUDGET};
+use layout::{code_of, path, NEXT};
+use second::{Counts, Held, Outcome};
 
 use crate::case::{Call, Case, Left, State};
 use crate::orders::{self, End};
 use crate::prng::Prng;
+use crate::records::has;
 use crate::Harness;
 
 impl Harness {
     /// A graph under bounds, good and bad, in some of its orders.
     pub fn all_bounded(&mut self, ends: &[End], prng: &mut Prng) {
-        let loops = |case: &Case| case.graph.chunks(16).any(|record| record[0] == NEXT);
+        let loops = |case: &Case| has(&case.graph, &[NEXT]);
         if !loops(&ends[0].case) || ends[0].left.answer.refused_at_once() {
             return;
         }
@@ -20,8 +23,8 @@ impl Harness {
         for _ in 0..turns {
             let bound = bound(prng);
             let (one, other) = (prng.below(ends.len()), prng.below(ends.len()));
-            let first = self.bounded(&ends[0], &ends[one], bound, 2048);
-            let second = self.bounded(&ends[0], &ends[other], bound, 2048);
+            let first = self.bounded(&ends[0], &ends[one], bound, WHOLE_BUDGET);
+            let second = self.bounded(&ends[0], &ends[other], bound, WHOLE_BUDGET);
             let outcomes = [&first, &second].map(|end| end.left.answer.outcome);
             if outcomes.contains(&Outcome::Completed) && outcomes.contains(&Outcome::Hung) {
                 self.tally
@@ -49,7 +52,7 @@ impl Harness {
         let case = Case {
             bound,
             budget,
-            call: Call::Logged(LOG_RECORD * usize::from(budget)),
+            call: Call::Logged(LOGGED * usize::from(budget)),
             ..order.case.clone()
         };
         let left = self.call(&case);
@@ -91,7 +94,7 @@ impl Harness {
         if part.answer.outcome != Outcome::Spent {
             return;
         }
-        let own = (2 * part.answer.firings).min(case.picks.len());
+        let own = (PICK * part.answer.firings).min(case.picks.len());
         case.picks.drain(..own);
         case.budget = end.case.budget - case.budget;
         case.inputs.clear();
@@ -186,8 +189,9 @@ fn counted(case: &Case, left: &Left, held: usize) -> Result<(), String> {
 
 /// A bound of 256 holds only NEXTs at iteration 255.
 fn same_as_unbounded(order: &End, case: &Case, left: &Left) -> Result<(), String> {
-    let last = |record: &[u8]| record[16] == 255 && code_at(case, record) == NEXT;
-    let records = || order.left.used().chunks_exact(TOKEN_RECORD);
+    let last =
+        |record: &[u8]| record[token::ITERATION] == 255 && code_of(&case.graph, record) == NEXT;
+    let records = || order.left.used().chunks_exact(TOKEN);
     if case.bound < 256 || case.budget != order.case.budget || records().any(last) {
         return Ok(());
     }
@@ -195,11 +199,6 @@ fn same_as_unbounded(order: &End, case: &Case, left: &Left) -> Result<(), String
         return Ok(());
     }
     Err("not the run without a bound".to_string())
-}
-
-fn code_at(case: &Case, record: &[u8]) -> u8 {
-    let instruction = usize::from(u16::from_le_bytes([record[18], record[19]]));
-    case.graph[16 * instruction]
 }
 
 /// What has to come up among the bounded runs.
@@ -235,7 +234,7 @@ pub const NAMES: [&str; 26] = [
 fn bad_names(case: &Case, left: &Left) -> Vec<&'static str> {
     match left.answer.refusal() {
         Some(21) => vec!["21"],
-        Some(7) if case.inputs.len() % TOKEN_RECORD == 1 => vec!["7 before 21"],
+        Some(7) if case.inputs.len() % TOKEN == 1 => vec!["7 before 21"],
         _ => Vec::new(),
     }
 }
@@ -281,30 +280,27 @@ fn otherwise(unbounded: &End) -> &'static str {
     }
 }
 
-fn path(record: &[u8]) -> u128 {
-    let bytes = record[..16].iter().rev();
-    bytes.fold(0, |path, &byte| path << 8 | u128::from(byte))
-}
-
 /// What an activity is held by.
 fn held_names(case: &Case, left: &Left, held: &Held) -> Vec<&'static str> {
-    let record = |position: usize| &left.used()[TOKEN_RECORD * position..][..TOKEN_RECORD];
+    let record = |position: usize| &left.used()[TOKEN * position..][..TOKEN];
     let next = record(held.place);
     let mut names = Vec::new();
     if path(next) != 0 {
         names.push("held in an entered path");
     }
-    if next[16] == 255 {
+    if next[token::ITERATION] == 255 {
         names.push("held at iteration 255");
     }
     for holder in held.holders.iter().map(|&position| record(position)) {
-        names.push(match holder[24] {
+        names.push(match holder[token::STATE] {
             2 => "held by a deferred token",
             _ => "held by a waiting operand",
         });
-        let latest = i32::from(next[16]) + 1 - i32::from(case.bound);
+        let latest = i32::from(next[token::ITERATION]) + 1 - i32::from(case.bound);
         names.push(match path(holder) {
-            entered if entered == path(next) && i32::from(holder[16]) == latest => "held at m - k",
+            entered if entered == path(next) && i32::from(holder[token::ITERATION]) == latest => {
+                "held at m - k"
+            }
             entered if entered == path(next) => "held at a lower iteration",
             entered if entered >> 16 == path(next) => "held from one level down",
             _ => "held from deeper",

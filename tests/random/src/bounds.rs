@@ -1,10 +1,12 @@
 //! Bounds: the engine's against the second emulator's, and both against runs.
 
+use layout::widths::MOST_RECORDS;
 use layout::{ENTER, LEAVE, NEXT};
 use second::{Bounds, Outcome, Refusal};
 
 use crate::case::Case;
 use crate::orders::End;
+use crate::records::has;
 use crate::Harness;
 
 impl Harness {
@@ -61,8 +63,7 @@ pub const NAMES: [&str; 10] = [
 
 /// Which of the names the bounds of a case have.
 fn names(case: &Case, bounds: &Result<Bounds, Refusal>, ends: &[End]) -> Vec<&'static str> {
-    let loops = |record: &[u8]| matches!(record[0], NEXT | ENTER | LEAVE);
-    let with_loops = case.graph.chunks(16).any(loops);
+    let with_loops = has(&case.graph, &[NEXT, ENTER, LEAVE]);
     let bounds = match bounds {
         Ok(bounds) => bounds,
         Err(refusal) => {
@@ -89,7 +90,7 @@ fn names(case: &Case, bounds: &Result<Bounds, Refusal>, ends: &[End]) -> Vec<&'s
             _ => {}
         }
     }
-    if bounds.tokens > 2048 {
+    if bounds.tokens > MOST_RECORDS {
         names.push("more than 2,048 tokens");
     }
     names

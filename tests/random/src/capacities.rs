@@ -1,7 +1,8 @@
 //! The ledger that a graph really takes (02, R-12): a run that completed or hung with t
 //! tokens, again with other capacities.
 
-use second::{Outcome, TOKEN_RECORD};
+use layout::widths::TOKEN;
+use second::Outcome;
 
 use crate::case::{Call, Case, Left};
 use crate::orders::End;
@@ -32,7 +33,7 @@ impl Harness {
     fn with_capacity(&mut self, end: &End, capacity: usize, prng: &mut Prng) {
         let case = Case {
             call: Call::Run,
-            ledger_bytes: TOKEN_RECORD * capacity,
+            ledger_bytes: TOKEN * capacity,
             garbage: prng.word(),
             ..end.case.clone()
         };
@@ -63,10 +64,7 @@ fn enough(before: &Left, left: &Left) -> Result<(), String> {
 /// Refused by 8: before any firing where the inputs do not fit, at the first that does
 /// not, else in a firing.
 fn too_small(case: &Case, left: &Left) -> Result<(), String> {
-    let (capacity, inputs) = (
-        case.ledger_bytes / TOKEN_RECORD,
-        case.inputs.len() / TOKEN_RECORD,
-    );
+    let (capacity, inputs) = (case.ledger_bytes / TOKEN, case.inputs.len() / TOKEN);
     let place_due = capacity < inputs;
     let answer = &left.answer;
     if answer.refusal() != Some(8) || answer.refused_at_once() != place_due {

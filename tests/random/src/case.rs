@@ -2,7 +2,8 @@
 
 use std::time::{Duration, Instant};
 
-use second::{Answer, Counts, Outcome, Program, Refusal, Schedule, LOG_RECORD, TOKEN_RECORD};
+use layout::widths::{CELL, LOGGED, MOST_CELLS, MOST_RECORDS, TOKEN};
+use second::{Answer, Counts, Outcome, Program, Refusal, Schedule};
 
 use crate::conversions::Records;
 use crate::prng::Prng;
@@ -75,12 +76,12 @@ pub struct Left {
 impl Left {
     /// The used records of the ledger.
     pub fn used(&self) -> &[u8] {
-        &self.ledger[..TOKEN_RECORD * self.answer.tokens]
+        &self.ledger[..TOKEN * self.answer.tokens]
     }
 
     /// The log of a logged run: a record for each firing.
     pub fn log(&self) -> &[u8] {
-        &self.further[..LOG_RECORD * self.answer.firings]
+        &self.further[..LOGGED * self.answer.firings]
     }
 }
 
@@ -181,9 +182,9 @@ impl Case {
     /// Whether inputs, ledger and cells are whole records and not too many.
     pub fn stores_fit(&self) -> bool {
         [
-            (self.inputs.len(), TOKEN_RECORD, 2048),
-            (self.ledger_bytes, TOKEN_RECORD, 2048),
-            (self.cells_bytes, 8, 1024),
+            (self.inputs.len(), TOKEN, MOST_RECORDS),
+            (self.ledger_bytes, TOKEN, MOST_RECORDS),
+            (self.cells_bytes, CELL, MOST_CELLS),
         ]
         .iter()
         .all(|&(bytes, record, most)| bytes % record == 0 && bytes / record <= most)
@@ -264,8 +265,8 @@ pub fn compare(case: &Case, clock: &mut Clock) -> (Left, Result<(), String>) {
     let start = Instant::now();
     let (answer, records) = case.second(&mut due);
     clock.second += start.elapsed();
-    let mut listing = vec![0; TOKEN_RECORD * answer.tokens];
-    let code = second::list(&due.ledger[..TOKEN_RECORD * answer.tokens], &mut listing);
+    let mut listing = vec![0; TOKEN * answer.tokens];
+    let code = second::list(&due.ledger[..TOKEN * answer.tokens], &mut listing);
     assert_eq!(code, 0, "the second emulator lists its own ledger");
     let left = Left {
         answer,

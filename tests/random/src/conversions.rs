@@ -1,11 +1,15 @@
 //! Records from before R-8 of 02: both converters over any bytes, and over what runs left, with
 //! paths of four levels, as it was written before.
 
-use second::{LOG_RECORD, TOKEN_RECORD};
+use layout::fields::token;
+use layout::widths::{LOGGED, MOST_RECORDS, OLD_TOKEN, TOKEN};
 
 use crate::case::{compare_conversion, Case, Left};
 use crate::prng::Prng;
 use crate::Harness;
+
+/// Bytes of a path of four levels; one of eight has as many more.
+const OLD_PATH: usize = TOKEN - OLD_TOKEN;
 
 /// Which of the converters, by the records that it makes.
 #[derive(Clone, Copy, PartialEq, Eq)]
@@ -17,22 +21,22 @@ pub enum Records {
 impl Records {
     pub fn width(self) -> usize {
         match self {
-            Records::Tokens => TOKEN_RECORD,
-            Records::Log => LOG_RECORD,
+            Records::Tokens => TOKEN,
+            Records::Log => LOGGED,
         }
     }
 
-    /// 20 and 12 bytes.
+    /// With a path of four levels.
     pub fn old_width(self) -> usize {
-        self.width() - 8
+        self.width() - OLD_PATH
     }
 
     /// New records as they were before; `None` if one has more than four levels.
     fn narrowed(self, new: &[u8]) -> Option<Vec<u8>> {
         let rows = || new.chunks_exact(self.width());
-        let four_levels = rows().all(|row| row[8..16] == [0; 8]);
+        let four_levels = rows().all(|row| row[OLD_PATH..token::PATH.end] == [0; OLD_PATH]);
         four_levels.then(|| {
-            let old = rows().map(|row| [&row[..8], &row[16..]].concat());
+            let old = rows().map(|row| [&row[..OLD_PATH], &row[token::PATH.end..]].concat());
             old.collect::<Vec<_>>().concat()
         })
     }
@@ -121,7 +125,7 @@ fn name(records: Records, old: usize, room: usize) -> &'static str {
         _ if room > right => "an output too long",
         _ if room < right => "an output too short",
         (0, 0) => "no record",
-        (0, 2048) => "2,048 records",
+        (0, MOST_RECORDS) => "2,048 records",
         _ if records == Records::Tokens => "tokens",
         _ => "a log",
     }

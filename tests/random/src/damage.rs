@@ -1,6 +1,8 @@
 //! Damaged bytes and lengths.
 
-use second::TOKEN_RECORD;
+use layout::fields::{instruction, token};
+use layout::widths::{CELL, INSTRUCTION, MOST_CELLS, MOST_INSTRUCTIONS, MOST_RECORDS, PICK, TOKEN};
+use layout::{instruction, SINK};
 
 use crate::arrays;
 use crate::case::Case;
@@ -15,8 +17,8 @@ pub fn damage(case: &mut Case, prng: &mut Prng) {
             0..=3 => damage_graph(&mut case.graph, prng),
             4..=6 => damage_inputs(&mut case.inputs, prng),
             7 => damage_picks(&mut case.picks, prng),
-            8 | 9 => case.ledger_bytes = length(case.ledger_bytes, TOKEN_RECORD, 2048, prng),
-            10 => case.cells_bytes = length(case.cells_bytes, 8, 1024, prng),
+            8 | 9 => case.ledger_bytes = length(case.ledger_bytes, TOKEN, MOST_RECORDS, prng),
+            10 => case.cells_bytes = length(case.cells_bytes, CELL, MOST_CELLS, prng),
             11 | 12 => arrays::damage(case, prng),
             _ => case.budget = prng.word() as u16,
         }
@@ -53,18 +55,42 @@ pub fn damage_graph(graph: &mut Vec<u8>, prng: &mut Prng) {
     match prng.below(12) {
         0 | 1 => flip(graph, prng),
         2 | 3 => overwrite(graph, prng),
-        4 => set_field(graph, 16, 0, prng.below(48) as u8, prng),
-        5 => set_field(graph, 16, 1, prng.below(4) as u8, prng),
-        6 => set_field(graph, 16, 2 + prng.below(6), prng.below(3) as u8, prng),
-        7 => set_field(graph, 16, 8 + prng.below(8), prng.word() as u8, prng),
+        4 => set_field(
+            graph,
+            INSTRUCTION,
+            instruction::CODE,
+            prng.below(48) as u8,
+            prng,
+        ),
+        5 => set_field(
+            graph,
+            INSTRUCTION,
+            instruction::FAN_OUT,
+            prng.below(4) as u8,
+            prng,
+        ),
+        6 => set_field(
+            graph,
+            INSTRUCTION,
+            instruction::port(0) + prng.below(6),
+            prng.below(3) as u8,
+            prng,
+        ),
+        7 => set_field(
+            graph,
+            INSTRUCTION,
+            instruction::CONSTANT.start + prng.below(8),
+            prng.word() as u8,
+            prng,
+        ),
         8 => graph.truncate(prng.below(graph.len() + 1)),
-        9 => graph.truncate(graph.len() / 32 * 16),
+        9 => graph.truncate(graph.len() / INSTRUCTION / 2 * INSTRUCTION),
         10 => {
-            let sink = [[2].as_slice(), &[0; 15]].concat();
-            while graph.len() < 16 * 257 {
+            let sink = instruction(SINK, &[], 0);
+            while graph.len() < INSTRUCTION * (MOST_INSTRUCTIONS + 1) {
                 graph.extend(&sink);
             }
-            graph.truncate(16 * (255 + prng.below(3)));
+            graph.truncate(INSTRUCTION * (MOST_INSTRUCTIONS - 1 + prng.below(3)));
         }
         _ => {
             let mut more = vec![0; 1 + prng.below(40)];
@@ -80,37 +106,35 @@ fn damage_inputs(inputs: &mut Vec<u8>, prng: &mut Prng) {
         2 | 3 => overwrite(inputs, prng),
         4 => set_field(
             inputs,
-            TOKEN_RECORD,
-            16 + prng.below(4),
+            TOKEN,
+            token::ITERATION + prng.below(4),
             prng.below(3) as u8,
             prng,
         ),
         5 => set_field(
             inputs,
-            TOKEN_RECORD,
-            24 + prng.below(4),
+            TOKEN,
+            token::STATE + prng.below(4),
             prng.below(4) as u8,
             prng,
         ),
         6 => inputs.truncate(prng.below(inputs.len() + 1)),
-        7 => inputs.resize(TOKEN_RECORD * (2047 + prng.below(3)), 0),
+        7 => inputs.resize(TOKEN * (MOST_RECORDS - 1 + prng.below(3)), 0),
         8 => {
             // The same token once more.
-            let count = inputs.len() / TOKEN_RECORD;
+            let count = inputs.len() / TOKEN;
             if count > 0 {
                 let number = prng.below(count);
-                inputs.extend_from_within(
-                    TOKEN_RECORD * number..TOKEN_RECORD * number + TOKEN_RECORD,
-                );
+                inputs.extend_from_within(TOKEN * number..TOKEN * number + TOKEN);
             }
         }
-        _ => inputs.extend([0; TOKEN_RECORD]),
+        _ => inputs.extend([0; TOKEN]),
     }
 }
 
 pub fn damage_picks(picks: &mut Vec<u8>, prng: &mut Prng) {
     match prng.below(4) {
-        0 => picks.resize(2 * (2047 + prng.below(3)), 1),
+        0 => picks.resize(PICK * (MOST_RECORDS - 1 + prng.below(3)), 1),
         1 => picks.push(1),
         2 => picks.truncate(prng.below(picks.len() + 1)),
         _ => flip(picks, prng),

@@ -1,7 +1,12 @@
 //! Expressions: the graph and the value that both make of one, the graph's runs in many
 //! orders, and damaged ones (02, R-14).
 
-use second::{Outcome, Refusal, EXPRESSION_RECORD, TOKEN_RECORD};
+use layout::fields::{expression, token};
+use layout::widths::{
+    CELL, EXPRESSION, INSTRUCTION, MOST_EXPRESSION, TOKEN, VARIABLE, WHOLE_BUDGET,
+};
+use layout::{instruction_of, signed};
+use second::{Outcome, Refusal};
 
 use crate::case::{Call, Case, Guarded};
 use crate::damage;
@@ -19,7 +24,7 @@ struct Expression {
 /// The records that a ledger needs for every expression.
 const ENOUGH: usize = 300;
 /// Room for the graph of every expression.
-const MOST_GRAPH: usize = 16 * 101;
+const MOST_GRAPH: usize = INSTRUCTION * (MOST_EXPRESSION + 1);
 
 impl Harness {
     /// A good expression, its graph in many orders, and some that are damaged.
@@ -33,7 +38,7 @@ impl Harness {
                 records: bytes.clone(),
                 values: expression.values.clone(),
             };
-            let mut room = 16 * (bytes.len() / EXPRESSION_RECORD + 1);
+            let mut room = INSTRUCTION * (bytes.len() / EXPRESSION + 1);
             match prng.below(9) {
                 0 => room -= 1,
                 1 => room = prng.below(room),
@@ -68,7 +73,8 @@ impl Harness {
             let records = &expression.records;
             self.fail(&case, &format!("expression {records:02x?}: {reason}"));
         }
-        made.ok().map(|records| graph[..16 * records].to_vec())
+        made.ok()
+            .map(|records| graph[..INSTRUCTION * records].to_vec())
     }
 
     /// The graph in many orders: OUT receives the value, or every order is refused by 12.
@@ -110,14 +116,8 @@ fn compare_graphs(
 
 /// Each variable is fed its value; the ledger has just the records that are enough.
 fn case_of(expression: &Expression, graph: Vec<u8>, prng: &mut Prng) -> Case {
-    let values = expression.values.chunks_exact(4).enumerate();
-    let inputs = values.flat_map(|(variable, v)| {
-        input(
-            variable as u16,
-            0,
-            i32::from_le_bytes([v[0], v[1], v[2], v[3]]),
-        )
-    });
+    let values = expression.values.chunks_exact(VARIABLE).enumerate();
+    let inputs = values.flat_map(|(variable, v)| input(variable as u16, 0, signed(v, 0..VARIABLE)));
     Case {
         kind: "expression",
         call: Call::Run,
@@ -125,23 +125,23 @@ fn case_of(expression: &Expression, graph: Vec<u8>, prng: &mut Prng) -> Case {
         arrays: Vec::new(),
         inputs: inputs.collect(),
         picks: Vec::new(),
-        budget: 2048,
+        budget: WHOLE_BUDGET,
         bound: 0,
-        ledger_bytes: ENOUGH * TOKEN_RECORD,
-        cells_bytes: 8 * prng.below(3),
+        ledger_bytes: ENOUGH * TOKEN,
+        cells_bytes: CELL * prng.below(3),
         garbage: prng.word(),
     }
 }
 
 /// What OUT, the last instruction, has received in an order.
 fn received(end: &End, value: &Result<i32, Refusal>) -> Result<&'static str, String> {
-    let out = end.case.graph.len() / 16 - 1;
-    let at_out = |t: &&[u8]| usize::from(u16::from_le_bytes([t[18], t[19]])) == out;
-    let mut results = end.left.used().chunks_exact(TOKEN_RECORD).filter(at_out);
+    let out = end.case.graph.len() / INSTRUCTION - 1;
+    let at_out = |t: &&[u8]| instruction_of(t) == out;
+    let mut results = end.left.used().chunks_exact(TOKEN).filter(at_out);
     let answer = &end.left.answer;
     match value {
         Ok(value) => {
-            let result = results.next().map(|token| &token[20..24]);
+            let result = results.next().map(|token| &token[token::VALUE]);
             if answer.outcome == Outcome::Completed && result == Some(&value.to_le_bytes()) {
                 return Ok("an order receives the value");
             }
@@ -166,19 +166,19 @@ fn generated(prng: &mut Prng) -> Expression {
     let mild = prng.one_in(2);
     let mut variables = operations + 1;
     let mut open: Vec<u8> = Vec::new();
-    let mut records: Vec<[u8; 8]> = Vec::new();
+    let mut records: Vec<[u8; EXPRESSION]> = Vec::new();
     while records.len() < 2 * operations + 1 {
-        let mut record = [0; 8];
+        let mut record = [0; EXPRESSION];
         if open.len() < 2 || variables > 0 && prng.one_in(2) {
             variables -= 1;
         } else {
-            record[0] = if mild {
+            record[expression::KIND] = if mild {
                 MILD[prng.below(6)]
             } else {
                 ADD + prng.below(8) as u8
             };
-            record[1] = open.swap_remove(prng.below(open.len()));
-            record[2] = open.swap_remove(prng.below(open.len()));
+            record[expression::LEFT] = open.swap_remove(prng.below(open.len()));
+            record[expression::RIGHT] = open.swap_remove(prng.below(open.len()));
         }
         open.push(records.len() as u8);
         records.push(record);
@@ -202,20 +202,20 @@ fn value(mild: bool, prng: &mut Prng) -> i32 {
 
 fn damage_values(values: &mut Vec<u8>, prng: &mut Prng) {
     match prng.below(3) {
-        0 => values.extend([0; 4]),
+        0 => values.extend([0; VARIABLE]),
         1 => values.push(0),
         _ => values.truncate(prng.below(values.len())),
     }
 }
 
 fn damage_records(records: &mut Vec<u8>, prng: &mut Prng) {
-    let count = records.len() / EXPRESSION_RECORD;
+    let count = records.len() / EXPRESSION;
     match prng.below(10) {
         0 => damage::flip(records, prng),
         1 => records.truncate(prng.below(records.len() + 1)),
-        2 => records.truncate(EXPRESSION_RECORD * prng.below(count + 1)),
-        3 => records.extend([0; EXPRESSION_RECORD]),
-        4 => records.resize(EXPRESSION_RECORD * (99 + prng.below(3)), 0),
+        2 => records.truncate(EXPRESSION * prng.below(count + 1)),
+        3 => records.extend([0; EXPRESSION]),
+        4 => records.resize(EXPRESSION * (99 + prng.below(3)), 0),
         5 => records.resize(records.len() + 1 + prng.below(7), 0),
         6 => set(records, 3 + prng.below(5), prng.word() as u8, prng),
         7 => set(records, 0, prng.below(40) as u8, prng),
@@ -225,18 +225,18 @@ fn damage_records(records: &mut Vec<u8>, prng: &mut Prng) {
 }
 
 fn set(records: &mut [u8], field: usize, value: u8, prng: &mut Prng) {
-    damage::set_field(records, EXPRESSION_RECORD, field, value, prng);
+    damage::set_field(records, EXPRESSION, field, value, prng);
 }
 
 /// Lets an operation name as its right record one chosen of its left one and any other
 /// before it, which is likely to be named already.
 fn name(records: &mut [u8], chosen: fn(u8, u8) -> u8, prng: &mut Prng) {
-    let operations: Vec<usize> = (0..records.len() / EXPRESSION_RECORD)
-        .filter(|number| records[EXPRESSION_RECORD * number] != 0)
+    let operations: Vec<usize> = (0..records.len() / EXPRESSION)
+        .filter(|number| records[EXPRESSION * number] != 0)
         .collect();
     if !operations.is_empty() {
         let number = operations[prng.below(operations.len())];
-        let at = EXPRESSION_RECORD * number;
+        let at = EXPRESSION * number;
         records[at + 2] = chosen(records[at + 1], prng.below(number) as u8);
     }
 }
@@ -273,13 +273,13 @@ fn names(
         Ok(100) => names.push("99 records"),
         Ok(_) => {}
         Err(refusal) if refusal.number == 26 => {
-            let due = 16 * (expression.records.len() / EXPRESSION_RECORD + 1);
+            let due = INSTRUCTION * (expression.records.len() / EXPRESSION + 1);
             names.push("26 graph too long");
             names.extend((room + 1 == due).then_some("26 by a byte"));
         }
         Err(refusal) => names.push(reason(&expression.records, refusal.place)),
     }
-    if made.is_ok_and(|records| 16 * records < room) {
+    if made.is_ok_and(|records| INSTRUCTION * records < room) {
         names.push("room left behind the graph");
     }
     match value {
@@ -293,20 +293,22 @@ fn names(
 
 /// Why 25 is given at a place.
 fn reason(records: &[u8], place: usize) -> &'static str {
-    let count = records.len() / EXPRESSION_RECORD;
-    if records.len() % EXPRESSION_RECORD != 0 || !(1..=100).contains(&count) {
+    let count = records.len() / EXPRESSION;
+    if records.len() % EXPRESSION != 0 || !(1..=MOST_EXPRESSION).contains(&count) {
         return "25 wrong length";
     }
-    let record = &records[EXPRESSION_RECORD * place..][..EXPRESSION_RECORD];
-    let (kind, left, right) = (record[0], usize::from(record[1]), usize::from(record[2]));
-    let zeros = record[3..] == [0; 5];
-    match kind {
+    let record = &records[EXPRESSION * place..][..EXPRESSION];
+    let operand = |at: usize| usize::from(record[at]);
+    let (left, right) = (operand(expression::LEFT), operand(expression::RIGHT));
+    let zeros = record[expression::ZEROS] == [0; 5];
+    match record[expression::KIND] {
         0 if zeros && left == 0 && right == 0 => "25 never named",
         ADD..=EQ if zeros && left < place && right < place => {
             let named = |record: &[u8], number: usize| {
-                record[0] != 0 && record[1..3].contains(&(number as u8))
+                let operands = &record[expression::LEFT..=expression::RIGHT];
+                record[expression::KIND] != 0 && operands.contains(&(number as u8))
             };
-            let before = || records.chunks_exact(EXPRESSION_RECORD).take(place);
+            let before = || records.chunks_exact(EXPRESSION).take(place);
             if before().any(|record| named(record, left) || named(record, right)) {
                 "25 named twice"
             } else if left == right {

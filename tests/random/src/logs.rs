@@ -1,7 +1,9 @@
 //! Logs and their replay: lengths, damage, what 02 claims of them, and what is tallied.
 
-use layout::{LEAVE, OUT};
-use second::{Outcome, LOG_RECORD, TOKEN_RECORD};
+use layout::fields::{logged, token};
+use layout::widths::{INSTRUCTION, LOGGED, MOST_RECORDS, PICK, TOKEN, WHOLE_BUDGET};
+use layout::{instruction_of, path, same_tag, LEAVE, OUT};
+use second::Outcome;
 
 use crate::case::{Call, Case, Left};
 use crate::damage;
@@ -12,13 +14,13 @@ use crate::Harness;
 /// The bytes of a log for a budget: just enough, one record too few, more, not whole,
 /// or any.
 pub fn bytes(budget: u16, prng: &mut Prng) -> usize {
-    let least = usize::from(budget).min(2048);
+    let least = usize::from(budget).min(MOST_RECORDS);
     match prng.below(8) {
-        0..=2 => LOG_RECORD * least,
-        3 => LOG_RECORD * least.saturating_sub(1),
-        4 => LOG_RECORD * (least + prng.below(3)),
-        5 => LOG_RECORD * least + 1 + prng.below(11),
-        6 => LOG_RECORD * prng.below(least + 1),
+        0..=2 => LOGGED * least,
+        3 => LOGGED * least.saturating_sub(1),
+        4 => LOGGED * (least + prng.below(3)),
+        5 => LOGGED * least + 1 + prng.below(11),
+        6 => LOGGED * prng.below(least + 1),
         _ => 0,
     }
 }
@@ -92,7 +94,7 @@ fn same_records(one: &Left, other: &Left) -> Result<(), String> {
         return Ok(());
     }
     let sorted = |left: &Left| {
-        let mut records: Vec<Vec<u8>> = left.log().chunks(LOG_RECORD).map(<[u8]>::to_vec).collect();
+        let mut records: Vec<Vec<u8>> = left.log().chunks(LOGGED).map(<[u8]>::to_vec).collect();
         records.sort_unstable();
         records
     };
@@ -109,20 +111,26 @@ fn same_records(one: &Left, other: &Left) -> Result<(), String> {
 /// A run's log with a fault.
 fn damaged(left: &Left, prng: &mut Prng) -> Vec<u8> {
     let mut log = left.log().to_vec();
-    let count = log.len() / LOG_RECORD;
+    let count = log.len() / LOGGED;
     match prng.below(10) {
         0 => damage::flip(&mut log, prng),
         1 => damage::overwrite(&mut log, prng),
         2 => log.truncate(prng.below(log.len() + 1)),
-        3 => log.truncate(LOG_RECORD * prng.below(count + 1)),
+        3 => log.truncate(LOGGED * prng.below(count + 1)),
         4 => log.extend(vec![0; 1 + prng.below(24)]),
         // The whole buffer, as it is after the run.
         5 => log = left.further.clone(),
-        6 => damage::set_field(&mut log, LOG_RECORD, 17, 1 + prng.below(255) as u8, prng),
+        6 => damage::set_field(
+            &mut log,
+            LOGGED,
+            logged::ZERO,
+            1 + prng.below(255) as u8,
+            prng,
+        ),
         7 if count > 1 => {
             let (one, other) = (prng.below(count), prng.below(count));
-            for byte in 0..LOG_RECORD {
-                log.swap(LOG_RECORD * one + byte, LOG_RECORD * other + byte);
+            for byte in 0..LOGGED {
+                log.swap(LOGGED * one + byte, LOGGED * other + byte);
             }
         }
         _ => insert(&mut log, &named_record(left, prng), prng),
@@ -132,14 +140,15 @@ fn damaged(left: &Left, prng: &mut Prng) -> Vec<u8> {
 
 /// The tag of a token of the run's ledger, or one that no token has.
 fn named_record(left: &Left, prng: &mut Prng) -> Vec<u8> {
-    let mut record = vec![0; LOG_RECORD];
+    let mut record = vec![0; LOGGED];
     if left.answer.tokens > 0 {
-        let token = &left.used()[TOKEN_RECORD * prng.below(left.answer.tokens)..];
-        record[..17].copy_from_slice(&token[..17]);
-        record[18..].copy_from_slice(&token[18..20]);
+        let token = &left.used()[TOKEN * prng.below(left.answer.tokens)..];
+        record.copy_from_slice(&token[token::KEY]);
+        record[logged::ZERO] = 0;
     }
     if prng.one_in(4) {
-        let field = [0, 8, 16, 18, 19][prng.below(5)];
+        let (low, high) = (logged::INSTRUCTION.start, logged::INSTRUCTION.end - 1);
+        let field = [0, 8, logged::ITERATION, low, high][prng.below(5)];
         record[field] = prng.word() as u8;
     }
     record
@@ -147,7 +156,7 @@ fn named_record(left: &Left, prng: &mut Prng) -> Vec<u8> {
 
 /// Puts a record before another one, or behind the last.
 fn insert(log: &mut Vec<u8>, record: &[u8], prng: &mut Prng) {
-    let at = LOG_RECORD * prng.below(log.len() / LOG_RECORD + 1);
+    let at = LOGGED * prng.below(log.len() / LOGGED + 1);
     log.splice(at..at, record.iter().copied());
 }
 
@@ -164,9 +173,9 @@ pub const RUN_NAMES: [&str; 7] = [
 
 /// Which of the names a run with a log has.
 pub fn run_names(case: &Case, left: &Left) -> Vec<&'static str> {
-    let room = left.further.len() / LOG_RECORD;
-    let whole = left.further.len() % LOG_RECORD == 0;
-    let picks_fit = case.picks.len() % 2 == 0 && case.picks.len() <= 2 * 2048;
+    let room = left.further.len() / LOGGED;
+    let whole = left.further.len() % LOGGED == 0;
+    let picks_fit = case.picks.len() % PICK == 0 && case.picks.len() <= PICK * MOST_RECORDS;
     let mut names = match left.answer.outcome {
         Outcome::Completed => vec!["completed"],
         Outcome::Hung => vec!["hung"],
@@ -178,7 +187,7 @@ pub fn run_names(case: &Case, left: &Left) -> Vec<&'static str> {
             _ => vec!["refused"],
         },
     };
-    if left.answer.refusal().is_none() && room == 2048 && case.budget > 2048 {
+    if left.answer.refusal().is_none() && room == MOST_RECORDS && case.budget > WHOLE_BUDGET {
         names.push("2,048 records, larger budget");
     }
     names
@@ -213,8 +222,8 @@ pub fn replay_names(case: &Case, log: &[u8], left: &Left) -> Vec<&'static str> {
         Outcome::Hung => vec!["hung"],
         Outcome::Spent => vec!["spent"],
         Outcome::Refused(refusal) if refusal.number == 20 => {
-            let record = &log[LOG_RECORD * refusal.place..];
-            let mut names = vec![reason(case, &record[..record.len().min(LOG_RECORD)], left)];
+            let record = &log[LOGGED * refusal.place..];
+            let mut names = vec![reason(case, &record[..record.len().min(LOGGED)], left)];
             names.push(match left.answer.firings {
                 0 => "20 with nothing fired",
                 _ => "20 behind firings",
@@ -234,24 +243,23 @@ pub fn replay_names(case: &Case, log: &[u8], left: &Left) -> Vec<&'static str> {
 
 /// Why a record names no enabled activity, by the ledger that it is refused at.
 fn reason(case: &Case, record: &[u8], left: &Left) -> &'static str {
-    if record.len() < LOG_RECORD {
+    if record.len() < LOGGED {
         return "20 not whole";
     }
-    if record[17] != 0 {
+    if record[logged::ZERO] != 0 {
         return "20 no zero byte";
     }
-    let instruction = usize::from(u16::from_le_bytes([record[18], record[19]]));
-    let root = record[..16] == [0; 16];
-    match case.graph.get(16 * instruction) {
+    let root = path(record) == 0;
+    match case.graph.get(INSTRUCTION * instruction_of(record)) {
         None => return "20 instruction past the graph",
         Some(&OUT) => return "20 at an OUT",
         Some(&LEAVE) if root => return "20 at a LEAVE of the root",
         Some(_) => {}
     }
-    let same_tag = |t: &&[u8]| t[..17] == record[..17] && t[18..20] == record[18..20];
-    match left.used().chunks_exact(TOKEN_RECORD).find(same_tag) {
+    let same_tag = |t: &&[u8]| same_tag(t, record);
+    match left.used().chunks_exact(TOKEN).find(same_tag) {
         None => "20 no token of that tag",
-        Some(token) if token[24] == 1 => "20 done before",
+        Some(token) if token[token::STATE] == token::SPENT => "20 done before",
         Some(_) => "20 still waiting",
     }
 }
@@ -259,7 +267,7 @@ fn reason(case: &Case, record: &[u8], left: &Left) -> &'static str {
 /// Whether nothing is enabled where a replay is refused: the log up to there is not
 /// spent.
 fn at_rest(case: &Case, log: &[u8], left: &Left) -> bool {
-    let fired = &log[..LOG_RECORD * left.answer.firings];
+    let fired = &log[..LOGGED * left.answer.firings];
     let mut ledger = left.ledger.clone();
     let mut cells = left.cells.clone();
     let (program, inputs) = (case.program(), &case.inputs);

@@ -35,7 +35,8 @@ use std::fs;
 use std::path::Path;
 use std::process::ExitCode;
 
-use second::{LOG_RECORD, TOKEN_RECORD};
+use layout::fields::token;
+use layout::widths::{CELL, LOGGED, MOST_CELLS, MOST_RECORDS, PICK, STEP, TOKEN, WHOLE_BUDGET};
 
 use case::{compare, compare_listing, Call, Case, Clock, Left};
 use orders::End;
@@ -157,7 +158,7 @@ impl Harness {
             let mut case = case.clone();
             case.budget = [0, 1, 2, prng.below(40) as u16, 65_535][prng.below(5)];
             case.garbage = prng.word();
-            case.picks = vec![0; 2 * prng.below(30)];
+            case.picks = vec![0; PICK * prng.below(30)];
             prng.fill(&mut case.picks);
             self.call(&case);
             case.call = Call::Logged(logs::bytes(case.budget, prng));
@@ -167,7 +168,7 @@ impl Harness {
         for _ in 0..4 {
             let mut case = case.clone();
             case.garbage = prng.word();
-            case.picks = vec![0; 2 * prng.below(30)];
+            case.picks = vec![0; PICK * prng.below(30)];
             prng.fill(&mut case.picks);
             damage::damage(&mut case, prng);
             self.call(&case);
@@ -198,7 +199,7 @@ impl Harness {
             case.picks = picks;
             case.garbage = prng.word();
             if ends.len() % 3 != 2 {
-                case.call = Call::Logged(LOG_RECORD * (2048 + prng.below(2)));
+                case.call = Call::Logged(LOGGED * (MOST_RECORDS + prng.below(2)));
             }
             let left = self.call(&case);
             match ends.first() {
@@ -220,7 +221,7 @@ impl Harness {
     fn short_budget(&mut self, mut case: Case, left: &Left, prng: &mut Prng) {
         let exact = left.answer.firings as u16;
         case.budget = exact.saturating_sub(prng.below(2) as u16);
-        case.call = Call::Logged(LOG_RECORD * usize::from(case.budget));
+        case.call = Call::Logged(LOGGED * usize::from(case.budget));
         let left = self.call(&case);
         self.replay_of(&case, &left);
     }
@@ -230,7 +231,7 @@ impl Harness {
     fn all_profiles(&mut self, case: &Case, ends: &[End], prng: &mut Prng) {
         let mut case = case.clone();
         case.garbage = prng.word();
-        case.call = Call::Profile(4 * (2048 + prng.below(3)));
+        case.call = Call::Profile(STEP * (MOST_RECORDS + prng.below(3)));
         let left = self.call(&case);
         for end in ends {
             self.profile_ends += 1;
@@ -257,11 +258,11 @@ impl Harness {
         } else {
             prng.below(40)
         };
-        let mut records = vec![0; TOKEN_RECORD * count];
+        let mut records = vec![0; TOKEN * count];
         prng.fill(&mut records);
-        for record in records.chunks_exact_mut(TOKEN_RECORD) {
+        for record in records.chunks_exact_mut(TOKEN) {
             if prng.one_in(2) {
-                record[..20].fill(0);
+                record[token::KEY].fill(0);
                 let key = [0, 1, 7, 8, 15, 16, 17, 18, 19][prng.below(9)];
                 record[key] = prng.below(3) as u8;
             }
@@ -271,11 +272,7 @@ impl Harness {
         }
         let mut out = records.len();
         if prng.one_in(10) {
-            out = [
-                out + TOKEN_RECORD,
-                out.saturating_sub(TOKEN_RECORD),
-                out + 1,
-            ][prng.below(3)];
+            out = [out + TOKEN, out.saturating_sub(TOKEN), out + 1][prng.below(3)];
         }
         if let Err(reason) = compare_listing(&records, out, prng) {
             self.fail(case, &format!("of arbitrary records: {reason}"));
@@ -307,7 +304,7 @@ fn first_case(prng: &mut Prng) -> Case {
     let cells = match prng.below(12) {
         0 => prng.below(subject.cells + 1),
         1 | 2 => subject.cells,
-        3 => 1024,
+        3 => MOST_CELLS,
         _ => subject.cells + prng.below(4),
     };
     let mut case = Case {
@@ -317,10 +314,10 @@ fn first_case(prng: &mut Prng) -> Case {
         arrays: subject.arrays,
         inputs: subject.inputs,
         picks: Vec::new(),
-        budget: 2048,
+        budget: WHOLE_BUDGET,
         bound: 0,
-        ledger_bytes: 2048 * TOKEN_RECORD,
-        cells_bytes: 8 * cells.min(1024),
+        ledger_bytes: MOST_RECORDS * TOKEN,
+        cells_bytes: CELL * cells.min(MOST_CELLS),
         garbage: prng.word(),
     };
     let mut ledger = vec![0; case.ledger_bytes];
@@ -328,13 +325,13 @@ fn first_case(prng: &mut Prng) -> Case {
     let (program, schedule) = (case.program(), case.schedule());
     let used = second::run(program, &case.inputs, schedule, &mut ledger, &mut room).tokens;
     let capacity = match prng.below(16) {
-        0 => 2048,
+        0 => MOST_RECORDS,
         1 | 2 => used,
         3 => used.saturating_sub(1 + prng.below(3)),
         4 => prng.below(used + 1),
         _ => used + prng.below(20),
     };
-    case.ledger_bytes = TOKEN_RECORD * capacity.min(2048);
+    case.ledger_bytes = TOKEN * capacity.min(MOST_RECORDS);
     if prng.one_in(50) {
         case.inputs.clear();
     }

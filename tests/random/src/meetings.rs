@@ -1,7 +1,9 @@
 //! Two tokens at one port while the first is deferred: a shape of graphs of its own, and
 //! what is tallied of it.
 
-use second::TOKEN_RECORD;
+use layout::fields::{instruction, token};
+use layout::widths::TOKEN;
+use layout::{arcs, instruction_of};
 
 use crate::case::{Case, Left};
 use crate::prng::Prng;
@@ -106,17 +108,16 @@ pub fn meets_deferred(case: &Case, left: &Left) -> bool {
     if left.answer.refusal() != Some(9) || left.answer.refused_at_once() {
         return false;
     }
-    let activity = &left.used()[TOKEN_RECORD * left.answer.place()..][..TOKEN_RECORD];
-    let instruction = usize::from(u16::from_le_bytes([activity[18], activity[19]]));
-    let record = &case.graph[16 * instruction..][..16];
-    if matches!(record[0], NEXT | ENTER | LEAVE) {
+    let activity = &left.used()[TOKEN * left.answer.place()..][..TOKEN];
+    let record = layout::record(&case.graph, instruction_of(activity));
+    if matches!(record[instruction::CODE], NEXT | ENTER | LEAVE) {
         return false;
     }
-    (0..usize::from(record[1])).any(|destination| {
-        let mut key = activity[..20].to_vec();
-        key[17] = record[2 + destination];
-        key[18..20].copy_from_slice(&record[4 + 2 * destination..][..2]);
-        let taken = |token: &[u8]| token[..20] == key && token[24] == 2;
-        left.used().chunks_exact(TOKEN_RECORD).any(taken)
+    arcs(record).any(|(target, port)| {
+        let mut key = activity[token::KEY].to_vec();
+        key[token::PORT] = port;
+        key[token::INSTRUCTION].copy_from_slice(&target.to_le_bytes());
+        let taken = |t: &[u8]| t[token::KEY] == key && t[token::STATE] == token::DEFERRED;
+        left.used().chunks_exact(TOKEN).any(taken)
     })
 }

@@ -1,6 +1,7 @@
 //! Lists of picks for one graph, and what any two of them have to agree on.
 
-use second::{Answer, Outcome, TOKEN_RECORD};
+use layout::widths::{CELL, MOST_RECORDS, PICK, TOKEN};
+use second::{Answer, Outcome};
 
 use crate::case::{Case, Left};
 use crate::prng::Prng;
@@ -13,7 +14,7 @@ pub struct End {
 
 /// At least eight lists of picks, oldest first and newest first among them.
 pub fn pick_lists(case: &Case, prng: &mut Prng) -> Vec<Vec<u8>> {
-    let (capacity, cells) = (case.ledger_bytes / TOKEN_RECORD, case.cells_bytes / 8);
+    let (capacity, cells) = (case.ledger_bytes / TOKEN, case.cells_bytes / CELL);
     let chosen = |choose: &mut dyn FnMut(usize, usize) -> u16| {
         second::picks_of(case.program(), &case.inputs, capacity, cells, |f, e| {
             choose(f, e)
@@ -22,12 +23,12 @@ pub fn pick_lists(case: &Case, prng: &mut Prng) -> Vec<Vec<u8>> {
     let newest = second::picks_newest_first(case.program(), &case.inputs, capacity, cells);
     let middle = chosen(&mut |_, enabled| (enabled / 2) as u16);
     let alternating = chosen(&mut |f, e| if f % 2 == 0 { 0 } else { (e - 1) as u16 });
-    let half = newest[..newest.len() / 4 * 2].to_vec();
+    let half = newest[..newest.len() / PICK / 2 * PICK].to_vec();
     let mut lists = vec![Vec::new(), newest, middle, alternating, half];
     for _ in 0..2 {
         lists.push(chosen(&mut |_, enabled| prng.below(enabled) as u16));
     }
-    for length in [2 * (1 + prng.below(20)), 2 * 2048] {
+    for length in [PICK * (1 + prng.below(20)), PICK * MOST_RECORDS] {
         let mut picks = vec![0; length];
         prng.fill(&mut picks);
         lists.push(picks);
@@ -73,7 +74,7 @@ fn agree_at_rest(one: &Left, other: &Left) -> Result<(), String> {
 /// The records by all their bytes, so that equality means the same records in
 /// some order.
 fn sorted_records(left: &Left) -> Vec<&[u8]> {
-    let mut records: Vec<&[u8]> = left.used().chunks_exact(TOKEN_RECORD).collect();
+    let mut records: Vec<&[u8]> = left.used().chunks_exact(TOKEN).collect();
     records.sort_unstable();
     records
 }

@@ -1,6 +1,10 @@
 //! Profiles: their lengths, what their records have to add up to, and what is tallied
 //! of them.
 
+use layout::fields::step;
+use layout::unsigned;
+use layout::widths::{MOST_RECORDS, STEP};
+
 use second::Outcome;
 
 use crate::case::{Case, Left};
@@ -10,19 +14,19 @@ use crate::prng::Prng;
 /// not whole.
 pub fn bytes(steps: usize, prng: &mut Prng) -> usize {
     match prng.below(8) {
-        0 | 1 => 4 * steps,
-        2 => 4 * steps.saturating_sub(1),
-        3 | 4 => 4 * prng.below(steps + 1),
+        0 | 1 => STEP * steps,
+        2 => STEP * steps.saturating_sub(1),
+        3 | 4 => STEP * prng.below(steps + 1),
         5 => 0,
-        6 => 4 * (steps + prng.below(9)),
-        _ => 4 * prng.below(steps + 2) + 1 + prng.below(3),
+        6 => STEP * (steps + prng.below(9)),
+        _ => STEP * prng.below(steps + 2) + 1 + prng.below(3),
     }
 }
 
 /// The firings of each step.
 fn firings(left: &Left) -> impl Iterator<Item = usize> + '_ {
-    let steps = left.further.chunks_exact(4).take(left.records);
-    steps.map(|record| usize::from(u16::from_le_bytes([record[0], record[1]])))
+    let steps = left.further.chunks_exact(STEP).take(left.records);
+    steps.map(|record| usize::from(unsigned(record, step::FIRINGS)))
 }
 
 /// Each step has a firing, and together they have those of the answer; a refused step
@@ -57,8 +61,8 @@ pub const NAMES: [&str; 11] = [
 
 /// Which of the names a profile has.
 pub fn names(case: &Case, left: &Left) -> Vec<&'static str> {
-    let whole = left.further.len() % 4 == 0;
-    let room = left.further.len() / 4;
+    let whole = left.further.len() % STEP == 0;
+    let room = left.further.len() / STEP;
     let stepped = left.records > 0;
     let mut names = match left.answer.outcome {
         Outcome::Completed => vec!["completed"],
@@ -80,7 +84,7 @@ pub fn names(case: &Case, left: &Left) -> Vec<&'static str> {
     if !refused && left.records == room && stepped {
         names.push("no record left, none needed");
     }
-    if !refused && room > 2048 {
+    if !refused && room > MOST_RECORDS {
         names.push("more than 2,048 records");
     }
     names

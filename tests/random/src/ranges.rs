@@ -1,8 +1,12 @@
 //! Range runs (02, R-11): the engine against the second emulator, whole and damaged, with and
 //! without a bound, and the engine's plain runs of choices within the ranges.
 
-use layout::{FETCH, STORE, SWITCH};
-use second::{Answer, Outcome, CELL_RECORD, RANGE_CELL_RECORD, RANGE_TOKEN_RECORD, TOKEN_RECORD};
+use std::ops::Range;
+
+use layout::fields::{cell, token};
+use layout::widths::{CELL, RANGE_CELL, RANGE_TOKEN, TOKEN, WHOLE_BUDGET};
+use layout::{code_of, signed, FETCH, STORE, SWITCH};
+use second::{Answer, Outcome};
 
 use crate::case::{Case, Guarded};
 use crate::damage;
@@ -30,7 +34,7 @@ struct Ranged {
 
 impl Ranged {
     fn records(&self) -> impl Iterator<Item = &[u8]> {
-        let records = self.ledger.chunks_exact(RANGE_TOKEN_RECORD);
+        let records = self.ledger.chunks_exact(RANGE_TOKEN);
         records.take(self.answer.tokens)
     }
 }
@@ -78,7 +82,7 @@ impl Harness {
         case.bound = 0;
         case.budget = [0, 1, prng.below(40) as u16][prng.below(3)];
         self.range_run(&lent(&case, inputs));
-        case.budget = 2048;
+        case.budget = WHOLE_BUDGET;
         for _ in 0..2 {
             let mut case = case.clone();
             let mut lent = damaged(&mut case, inputs, prng);
@@ -129,16 +133,12 @@ impl Harness {
     }
 }
 
-fn number(bytes: &[u8]) -> i32 {
-    i32::from_le_bytes([bytes[0], bytes[1], bytes[2], bytes[3]])
-}
-
 /// Inputs with a high value each: mostly the low one, or some more; seldom less.
 fn widened(inputs: &[u8], prng: &mut Prng) -> Vec<u8> {
     let mut wide = Vec::new();
     let mut wider = 0;
-    for record in inputs.chunks_exact(TOKEN_RECORD) {
-        let low = number(&record[20..24]);
+    for record in inputs.chunks_exact(TOKEN) {
+        let low = signed(record, token::VALUE);
         let width = match prng.below(8) {
             0..=4 => 0,
             5 | 6 if wider < 3 => prng.between(1, 3),
@@ -155,19 +155,19 @@ fn widened(inputs: &[u8], prng: &mut Prng) -> Vec<u8> {
 
 /// The ranges of the inputs.
 fn limits(inputs: &[u8]) -> impl Iterator<Item = (i32, i32)> + '_ {
-    let records = inputs.chunks_exact(RANGE_TOKEN_RECORD);
-    records.map(|record| (number(&record[20..24]), number(&record[TOKEN_RECORD..])))
+    let records = inputs.chunks_exact(RANGE_TOKEN);
+    records.map(|record| (signed(record, token::VALUE), signed(record, token::HIGH)))
 }
 
 /// Plain inputs with these values.
 fn chosen(inputs: &[u8], values: &[i32]) -> Vec<u8> {
-    let records = inputs.chunks_exact(RANGE_TOKEN_RECORD).zip(values);
+    let records = inputs.chunks_exact(RANGE_TOKEN).zip(values);
     records
         .flat_map(|(record, value)| {
             [
-                &record[..20],
+                &record[token::KEY],
                 &value.to_le_bytes(),
-                &record[24..TOKEN_RECORD],
+                &record[token::STATE..TOKEN],
             ]
             .concat()
         })
@@ -205,8 +205,8 @@ fn lent<'a>(case: &'a Case, inputs: &[u8]) -> Lent<'a> {
     Lent {
         case,
         inputs: inputs.to_vec(),
-        ledger_bytes: case.ledger_bytes / TOKEN_RECORD * RANGE_TOKEN_RECORD,
-        cells_bytes: case.cells_bytes / CELL_RECORD * RANGE_CELL_RECORD,
+        ledger_bytes: case.ledger_bytes / TOKEN * RANGE_TOKEN,
+        cells_bytes: case.cells_bytes / CELL * RANGE_CELL,
     }
 }
 
@@ -286,19 +286,21 @@ fn holds(left: &Ranged, plain: &Case) -> Result<(), String> {
     if left.answer.refused_at_once() {
         return Ok(());
     }
-    let inside = |value: &[u8], low: &[u8], high: &[u8]| {
-        (number(low)..=number(high)).contains(&number(value))
+    // The value of a plain record against the low and the high one of a range.
+    let inside = |plain: &[u8], range: &[u8], value: Range<usize>, high: Range<usize>| {
+        (signed(range, value.clone())..=signed(range, high)).contains(&signed(plain, value))
     };
-    for (token, range) in ledger.chunks_exact(TOKEN_RECORD).zip(left.records()) {
-        let alike = token[..20] == range[..20] && token[24..] == range[24..TOKEN_RECORD];
-        if !alike || !inside(&token[20..24], &range[20..24], &range[TOKEN_RECORD..]) {
+    for (token, range) in ledger.chunks_exact(TOKEN).zip(left.records()) {
+        let alike = token[token::KEY] == range[token::KEY]
+            && token[token::STATE..] == range[token::STATE..TOKEN];
+        if !alike || !inside(token, range, token::VALUE, token::HIGH) {
             return Err("a token outside its range".to_string());
         }
     }
-    let ranges = left.cells.chunks_exact(RANGE_CELL_RECORD);
-    for (cell, range) in cells.chunks_exact(CELL_RECORD).zip(ranges) {
-        let alike = cell[4..] == range[4..CELL_RECORD];
-        if !alike || !inside(&cell[..4], &range[..4], &range[CELL_RECORD..]) {
+    let ranges = left.cells.chunks_exact(RANGE_CELL);
+    for (cell, range) in cells.chunks_exact(CELL).zip(ranges) {
+        let alike = cell[cell::STATE..] == range[cell::STATE..CELL];
+        if !alike || !inside(cell, range, cell::VALUE, cell::HIGH) {
             return Err("a cell outside its range".to_string());
         }
     }
@@ -364,12 +366,14 @@ fn names(case: &Case, left: &Ranged) -> Vec<&'static str> {
         }],
     };
     if left.answer.outcome == Outcome::Completed {
-        let wide = |record: &[u8]| record[24] == 0 && record[20..24] != record[TOKEN_RECORD..];
+        let wide = |record: &[u8]| {
+            record[token::STATE] == token::LIVE && record[token::VALUE] != record[token::HIGH]
+        };
         if left.records().any(wide) {
             names.push("a result that is a range");
         }
-        let wide = |record: &[u8]| record[..4] != record[CELL_RECORD..];
-        if left.cells.chunks_exact(RANGE_CELL_RECORD).any(wide) {
+        let wide = |record: &[u8]| record[cell::VALUE] != record[cell::HIGH];
+        if left.cells.chunks_exact(RANGE_CELL).any(wide) {
             names.push("a cell that is a range");
         }
     }
@@ -380,8 +384,7 @@ fn names(case: &Case, left: &Ranged) -> Vec<&'static str> {
 fn undecided(case: &Case, left: &Ranged) -> &'static str {
     let place = left.answer.place();
     let record = left.records().nth(place).expect("a token at its place");
-    let instruction = usize::from(u16::from_le_bytes([record[18], record[19]]));
-    match case.graph[16 * instruction] {
+    match code_of(&case.graph, record) {
         SWITCH => "23 at a SWITCH",
         FETCH => "23 at a FETCH",
         STORE => "23 at a STORE",

@@ -1,8 +1,17 @@
 //! Graph records under construction: instructions whose arcs are drawn one by one.
 
+use layout::fields::instruction;
+use layout::widths::{INSTRUCTION, MOST_INSTRUCTIONS};
+
 use crate::prng::Prng;
 
 pub use layout::*;
+
+/// Whether a graph has one of these operations.
+pub fn has(graph: &[u8], codes: &[u8]) -> bool {
+    let mut records = graph.chunks(INSTRUCTION);
+    records.any(|record| codes.contains(&record[instruction::CODE]))
+}
 
 /// One instruction: its code, its destinations in use and its constant.
 #[derive(Clone)]
@@ -16,7 +25,7 @@ pub struct Instruction {
 }
 
 impl Instruction {
-    fn record(&self) -> [u8; 16] {
+    fn record(&self) -> [u8; INSTRUCTION] {
         layout::instruction(self.code, &self.arcs, self.constant)
     }
 }
@@ -52,7 +61,7 @@ impl Draft {
 
     /// Adds SINKs up to the most instructions of a graph.
     pub fn fill(&mut self) {
-        while self.instructions.len() < 256 {
+        while self.instructions.len() < MOST_INSTRUCTIONS {
             self.add(SINK, 0, 0);
         }
     }

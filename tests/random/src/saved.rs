@@ -1,7 +1,9 @@
 //! Saved states: runs cut into parts, orders from a state, and states that are damaged
 //! (02, R-13).
 
-use second::{Condition, Counts, Outcome, TOKEN_RECORD};
+use layout::fields::token;
+use layout::widths::{MOST_RECORDS, PICK, TOKEN, WHOLE_BUDGET};
+use second::{Condition, Counts, Outcome};
 
 use crate::arrays;
 use crate::case::{Call, Case, Left, State};
@@ -68,7 +70,7 @@ impl Harness {
             states::change(&case.graph, state, prng);
             case.ledger_bytes = state.ledger.len();
             case.cells_bytes = state.cells.len();
-            case.budget = [0, 1, 2048, 2048][prng.below(4)];
+            case.budget = [0, 1, WHOLE_BUDGET, WHOLE_BUDGET][prng.below(4)];
             match prng.below(24) {
                 0 => damage::damage_graph(&mut case.graph, prng),
                 1 => damage::damage_picks(&mut case.picks, prng),
@@ -106,7 +108,7 @@ impl Harness {
         let mut picks = &end.case.picks[..];
         let left = loop {
             let part = part_of(budget, every, end, prng);
-            let own = picks.len().min(2 * usize::from(part));
+            let own = picks.len().min(PICK * usize::from(part));
             (case.budget, case.picks) = (part, picks[..own].to_vec());
             let next = self.carry_on(&case);
             (budget, picks) = (budget - part, &picks[own..]);
@@ -124,10 +126,10 @@ impl Harness {
     /// Any two orders from one state agree.
     fn orders_from(&mut self, case: &Case, prng: &mut Prng) {
         let mut first: Option<Left> = None;
-        for length in [0, 1 + prng.below(20), 2048] {
+        for length in [0, 1 + prng.below(20), MOST_RECORDS] {
             let mut case = case.clone();
-            case.budget = 2048;
-            case.picks = vec![0; 2 * length];
+            case.budget = WHOLE_BUDGET;
+            case.picks = vec![0; PICK * length];
             prng.fill(&mut case.picks);
             let left = self.carry_on(&case);
             let Some(first) = &first else {
@@ -254,21 +256,18 @@ fn broken_name(case: &Case, state: &State) -> &'static str {
 /// What is seldom in a state that is taken.
 fn taken_names(state: &State) -> Vec<&'static str> {
     let tokens = usize::from(state.saved.tokens);
-    let records = || state.ledger.chunks_exact(TOKEN_RECORD).take(tokens);
+    let records = || state.ledger.chunks_exact(TOKEN).take(tokens);
     let names = [
         (
             "taken, eight levels",
-            records().any(|record| record[15] != 0),
+            records().any(|record| record[token::PATH.end - 1] != 0),
         ),
-        ("taken, 2,048 tokens", tokens == 2048),
+        ("taken, 2,048 tokens", tokens == MOST_RECORDS),
         (
             "taken, tokens deferred",
-            records().any(|record| record[24] == 2),
+            records().any(|record| record[token::STATE] == token::DEFERRED),
         ),
-        (
-            "taken, ledger full",
-            TOKEN_RECORD * tokens == state.ledger.len(),
-        ),
+        ("taken, ledger full", TOKEN * tokens == state.ledger.len()),
     ];
     let has = |(name, has): (&'static str, bool)| has.then_some(name);
     names.into_iter().filter_map(has).collect()

@@ -2,7 +2,8 @@
 //! asked for then has that answer, listing, cells and profile.
 
 use engine::Request;
-use second::{Outcome, CELL_RECORD, MOST_RECORDS, PICK_RECORD, TOKEN_RECORD};
+use layout::widths::{CELL, MOST_RECORDS, PICK, STEP, TOKEN};
+use second::Outcome;
 
 use crate::bounding::held_in;
 use crate::case::{Call, Case};
@@ -68,9 +69,9 @@ impl Harness {
         }
         let steps = |case: &Case, harness: &mut Harness| {
             let mut case = case.clone();
-            case.call = Call::Profile(4 * MOST_RECORDS);
+            case.call = Call::Profile(STEP * MOST_RECORDS);
             let left = harness.call(&case);
-            left.further[..4 * left.records].to_vec()
+            left.further[..STEP * left.records].to_vec()
         };
         if steps(asked, self) != steps(&kept.case, self) {
             return Err("another profile".to_string());
@@ -106,7 +107,7 @@ fn serves(kept: &End, held: usize, asked: &Case) -> bool {
         Outcome::Spent | Outcome::Refused(_) => false,
     };
     let picks = asked.picks.len();
-    let picks_fit = picks % PICK_RECORD == 0 && picks <= PICK_RECORD * MOST_RECORDS;
+    let picks_fit = picks % PICK == 0 && picks <= PICK * MOST_RECORDS;
     let enough = usize::from(asked.budget) >= kept.left.answer.firings;
     alike && (same_order || at_rest && asked.bound == 0 && picks_fit && enough)
 }
@@ -164,8 +165,8 @@ fn change(asked: &mut Case, firings: usize, ends: &[End], prng: &mut Prng) -> Ch
         Change::Arrays if prng.one_in(2) => flip(&mut asked.arrays, prng),
         Change::Arrays => asked.arrays.extend(layout::array(0, 0)),
         Change::Inputs => flip(&mut asked.inputs, prng),
-        Change::Ledger => asked.ledger_bytes = resized(asked.ledger_bytes, TOKEN_RECORD, prng),
-        Change::Cells => asked.cells_bytes = resized(asked.cells_bytes, CELL_RECORD, prng),
+        Change::Ledger => asked.ledger_bytes = resized(asked.ledger_bytes, TOKEN, prng),
+        Change::Cells => asked.cells_bytes = resized(asked.cells_bytes, CELL, prng),
     }
     change
 }

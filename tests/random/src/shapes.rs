@@ -1,6 +1,8 @@
 //! What the runs are made of: generated graphs, changed ones, long loops and
 //! graphs of arbitrary arcs.
 
+use layout::widths::MOST_INSTRUCTIONS;
+
 use crate::arrays;
 use crate::generate::{Generator, Size};
 use crate::loops;
@@ -20,7 +22,7 @@ pub struct Subject {
 pub fn subject(prng: &mut Prng) -> Subject {
     loop {
         let (kind, mut draft, cells) = draft(prng);
-        if draft.instructions.len() <= 256 {
+        if draft.instructions.len() <= MOST_INSTRUCTIONS {
             if prng.one_in(25) {
                 draft.fill();
             }
@@ -261,10 +263,6 @@ fn change_constant(instruction: &mut Instruction, names: usize, prng: &mut Prng)
 
 /// Well-formed instructions with arcs to anywhere and inputs at any ports.
 fn arbitrary(prng: &mut Prng) -> Drafted {
-    const CODES: [u8; 27] = [
-        1, 2, 3, 4, 5, 6, 7, 8, 9, 10, 11, 16, 17, 18, 19, 20, 21, 22, 23, 32, 33, 34, 35, 36, 37,
-        38, 39,
-    ];
     let mut draft = Draft::default();
     let names = prng.below(2) * prng.below(4);
     for _ in 0..names {

@@ -1,21 +1,13 @@
 //! Changes of a saved state: one condition of 02's list broken by itself, any bytes, and
 //! states that no run leaves though the list lets them by.
 
-use layout::{ENTER, LEAVE, OUT};
-use second::{CELL_RECORD, TOKEN_RECORD};
+use layout::fields::{cell, instruction, token};
+use layout::widths::{CELL, INSTRUCTION, MOST_RECORDS, TOKEN};
+use layout::{code_of, ENTER, LEAVE, OUT};
 
 use crate::case::State;
 use crate::damage;
 use crate::prng::Prng;
-
-const LIVE: u8 = 0;
-const SPENT: u8 = 1;
-const DEFERRED: u8 = 2;
-
-/// Bytes of a token record.
-const PORT: usize = 17;
-const VALUE: usize = 20;
-const STATE: usize = 24;
 
 /// One change; it may leave the state as it was where there is nothing to change.
 pub fn change(graph: &[u8], state: &mut State, prng: &mut Prng) {
@@ -41,16 +33,16 @@ pub fn change(graph: &[u8], state: &mut State, prng: &mut Prng) {
 
 impl State {
     fn count(&self) -> usize {
-        usize::from(self.saved.tokens).min(self.ledger.len() / TOKEN_RECORD)
+        usize::from(self.saved.tokens).min(self.ledger.len() / TOKEN)
     }
 
     fn token(&mut self, position: usize) -> &mut [u8] {
-        &mut self.ledger[TOKEN_RECORD * position..][..TOKEN_RECORD]
+        &mut self.ledger[TOKEN * position..][..TOKEN]
     }
 
     /// A token that is as asked for, if there is one.
     fn find(&self, prng: &mut Prng, suits: impl Fn(&[u8]) -> bool) -> Option<usize> {
-        let records = self.ledger.chunks_exact(TOKEN_RECORD).take(self.count());
+        let records = self.ledger.chunks_exact(TOKEN).take(self.count());
         let positions: Vec<usize> = records
             .enumerate()
             .filter(|(_, record)| suits(record))
@@ -62,52 +54,41 @@ impl State {
     /// Puts a record behind the tokens, if the ledger has room for it.
     fn append(&mut self, record: &[u8]) {
         let count = self.count();
-        if TOKEN_RECORD * (count + 1) <= self.ledger.len() {
+        if TOKEN * (count + 1) <= self.ledger.len() {
             self.token(count).copy_from_slice(record);
             self.saved.tokens += 1;
         }
     }
 }
 
-fn code(graph: &[u8], record: &[u8]) -> u8 {
-    let instruction = usize::from(u16::from_le_bytes([record[18], record[19]]));
-    graph[16 * instruction]
-}
-
 fn too_many_tokens(state: &mut State, prng: &mut Prng) {
     if prng.one_in(2) {
-        let capacity = (state.ledger.len() / TOKEN_RECORD) as u16;
+        let capacity = (state.ledger.len() / TOKEN) as u16;
         state.saved.tokens = capacity.saturating_add(1 + prng.below(3) as u16);
     } else {
         state
             .ledger
-            .truncate(TOKEN_RECORD * state.count().saturating_sub(1));
+            .truncate(TOKEN * state.count().saturating_sub(1));
     }
 }
 
 /// A field that is not allowed, of a token or of a cell.
 fn field(state: &mut State, prng: &mut Prng) {
-    let used = TOKEN_RECORD * state.count();
+    let used = TOKEN * state.count();
     let ledger = &mut state.ledger[..used];
     let value = 1 + prng.below(255) as u8;
     match prng.below(6) {
-        0 => damage::set_field(ledger, TOKEN_RECORD, STATE, 3 + value / 2, prng),
-        1 => damage::set_field(ledger, TOKEN_RECORD, 25 + prng.below(3), value, prng),
-        2 => damage::set_field(ledger, TOKEN_RECORD, 18 + prng.below(2), value, prng),
-        3 => damage::set_field(ledger, TOKEN_RECORD, PORT, value, prng),
-        4 => damage::set_field(&mut state.cells, CELL_RECORD, 4, 3 + value / 2, prng),
-        _ => damage::set_field(
-            &mut state.cells,
-            CELL_RECORD,
-            5 + prng.below(3),
-            value,
-            prng,
-        ),
+        0 => damage::set_field(ledger, TOKEN, token::STATE, 3 + value / 2, prng),
+        1 => damage::set_field(ledger, TOKEN, 25 + prng.below(3), value, prng),
+        2 => damage::set_field(ledger, TOKEN, 18 + prng.below(2), value, prng),
+        3 => damage::set_field(ledger, TOKEN, token::PORT, value, prng),
+        4 => damage::set_field(&mut state.cells, CELL, cell::STATE, 3 + value / 2, prng),
+        _ => damage::set_field(&mut state.cells, CELL, 5 + prng.below(3), value, prng),
     }
 }
 
 fn twice(state: &mut State, prng: &mut Prng) {
-    if let Some(position) = state.find(prng, |record| record[STATE] != DEFERRED) {
+    if let Some(position) = state.find(prng, |record| record[token::STATE] != token::DEFERRED) {
         let record = state.token(position).to_vec();
         state.append(&record);
     }
@@ -124,15 +105,19 @@ fn path(graph: &[u8], state: &mut State, prng: &mut Prng) {
         3 => made ^ 1 << prng.below(128),
         _ => made,
     };
-    if let Some(position) = state.find(prng, |record| record[STATE] == LIVE) {
-        state.token(position)[..16].copy_from_slice(&path.to_le_bytes());
+    if let Some(position) = state.find(prng, |record| record[token::STATE] == token::LIVE) {
+        state.token(position)[token::PATH].copy_from_slice(&path.to_le_bytes());
     }
 }
 
 /// A path of up to eight levels by the graph's sites, with any iterations.
 fn made_path(graph: &[u8], prng: &mut Prng) -> u128 {
-    let enters = graph.chunks_exact(16).filter(|record| record[0] == ENTER);
-    let sites: Vec<u8> = enters.map(|record| record[8]).collect();
+    let enters = graph
+        .chunks_exact(INSTRUCTION)
+        .filter(|record| record[instruction::CODE] == ENTER);
+    let sites: Vec<u8> = enters
+        .map(|record| record[instruction::CONSTANT.start])
+        .collect();
     let levels = if sites.is_empty() { 0 } else { prng.below(9) };
     (0..levels).fold(0, |path, _| {
         let site = u128::from(sites[prng.below(sites.len())]);
@@ -144,36 +129,37 @@ fn made_path(graph: &[u8], prng: &mut Prng) -> u128 {
 fn spend_one(graph: &[u8], state: &mut State, prng: &mut Prng) {
     let result = prng.one_in(2);
     let suits = |record: &[u8]| {
-        record[STATE] == LIVE && (!result || matches!(code(graph, record), OUT | LEAVE))
+        record[token::STATE] == token::LIVE
+            && (!result || matches!(code_of(graph, record), OUT | LEAVE))
     };
     if let Some(position) = state.find(prng, suits) {
-        state.token(position)[STATE] = SPENT;
+        state.token(position)[token::STATE] = token::SPENT;
         state.saved.firings = state.saved.firings.wrapping_add(1);
     }
 }
 
 /// Makes one spent token live again, mostly one of two operands.
 fn unspend_one(state: &mut State, prng: &mut Prng) {
-    let second = |record: &[u8]| record[STATE] == SPENT && record[PORT] == 1;
+    let second = |record: &[u8]| record[token::STATE] == token::SPENT && record[token::PORT] == 1;
     if let Some(position) = state.find(prng, second) {
-        state.token(position)[STATE] = LIVE;
+        state.token(position)[token::STATE] = token::LIVE;
     }
 }
 
 /// Defers a live token on any cell, or on none.
 fn defer(state: &mut State, prng: &mut Prng) {
-    let cells = (state.cells.len() / CELL_RECORD) as i32;
+    let cells = (state.cells.len() / CELL) as i32;
     let number = match prng.below(4) {
         0 => -1,
         1 => cells,
         2 => prng.word() as i32,
         _ => prng.below(cells as usize + 1) as i32,
     };
-    if let Some(position) = state.find(prng, |record| record[STATE] == LIVE) {
-        let token = state.token(position);
-        token[STATE] = DEFERRED;
-        token[VALUE..VALUE + 4].copy_from_slice(&number.to_le_bytes());
-        let at = CELL_RECORD * number.max(0) as usize + 4;
+    if let Some(position) = state.find(prng, |record| record[token::STATE] == token::LIVE) {
+        let record = state.token(position);
+        record[token::STATE] = token::DEFERRED;
+        record[token::VALUE].copy_from_slice(&number.to_le_bytes());
+        let at = CELL * number.max(0) as usize + cell::STATE;
         if at < state.cells.len() && state.cells[at] == 0 && prng.one_in(2) {
             state.cells[at] = 1;
         }
@@ -182,12 +168,12 @@ fn defer(state: &mut State, prng: &mut Prng) {
 
 fn cell_state(state: &mut State, prng: &mut Prng) {
     let kind = prng.below(3) as u8;
-    damage::set_field(&mut state.cells, CELL_RECORD, 4, kind, prng);
+    damage::set_field(&mut state.cells, CELL, 4, kind, prng);
 }
 
 fn cell_value(state: &mut State, prng: &mut Prng) {
     let (field, value) = (prng.below(4), prng.word() as u8);
-    damage::set_field(&mut state.cells, CELL_RECORD, field, value, prng);
+    damage::set_field(&mut state.cells, CELL, field, value, prng);
 }
 
 fn firings(state: &mut State, prng: &mut Prng) {
@@ -204,18 +190,16 @@ fn length(state: &mut State, prng: &mut Prng) {
     match prng.below(4) {
         0 => state.ledger.push(0),
         1 => state.cells.push(0),
-        2 => state
-            .ledger
-            .resize(TOKEN_RECORD * (2047 + prng.below(3)), 0),
-        _ => state.cells.resize(CELL_RECORD * (1023 + prng.below(3)), 0),
+        2 => state.ledger.resize(TOKEN * (2047 + prng.below(3)), 0),
+        _ => state.cells.resize(CELL * (1023 + prng.below(3)), 0),
     }
 }
 
 /// The order of the ledger is no condition.
 fn shuffle(state: &mut State, prng: &mut Prng) {
-    let used = TOKEN_RECORD * state.count();
+    let used = TOKEN * state.count();
     let mut records: Vec<Vec<u8>> = state.ledger[..used]
-        .chunks_exact(TOKEN_RECORD)
+        .chunks_exact(TOKEN)
         .map(<[u8]>::to_vec)
         .collect();
     prng.shuffle(&mut records);
@@ -223,9 +207,9 @@ fn shuffle(state: &mut State, prng: &mut Prng) {
 }
 
 /// A live token that no firing sent, at any instruction and under any path of sites.
-fn live_token(graph: &[u8], iteration: u8, prng: &mut Prng) -> [u8; TOKEN_RECORD] {
-    let instruction = prng.below(graph.len() / 16);
-    let ports = second::operand_count(graph[16 * instruction]);
+fn live_token(graph: &[u8], iteration: u8, prng: &mut Prng) -> [u8; TOKEN] {
+    let instruction = prng.below(graph.len() / INSTRUCTION);
+    let ports = second::operand_count(layout::record(graph, instruction)[instruction::CODE]);
     let port = prng.below(usize::from(ports.max(1))) as u8;
     let path = made_path(graph, prng);
     layout::token(
@@ -234,12 +218,12 @@ fn live_token(graph: &[u8], iteration: u8, prng: &mut Prng) -> [u8; TOKEN_RECORD
         instruction as u16,
         port,
         prng.between(-2, 9),
-        LIVE,
+        token::LIVE,
     )
 }
 
 fn add(graph: &[u8], state: &mut State, prng: &mut Prng) {
-    let capacity = (state.count() + 8).min(2048) * TOKEN_RECORD;
+    let capacity = (state.count() + 8).min(MOST_RECORDS) * TOKEN;
     if state.ledger.len() < capacity {
         state.ledger.resize(capacity, 0);
     }
@@ -255,13 +239,13 @@ fn fill(graph: &[u8], state: &mut State, prng: &mut Prng) {
     if !prng.one_in(4) {
         return add(graph, state, prng);
     }
-    state.ledger.resize(TOKEN_RECORD * 2048, 0);
-    let instructions = graph.len() / 16;
+    state.ledger.resize(TOKEN * MOST_RECORDS, 0);
+    let instructions = graph.len() / INSTRUCTION;
     let mut place = 0;
-    while state.count() < 2048 && place < 256 * instructions {
+    while state.count() < MOST_RECORDS && place < 256 * instructions {
         let (iteration, instruction) = ((place / instructions) as u8, place % instructions);
-        let token = layout::token(0, iteration, instruction as u16, 0, 1, LIVE);
-        let free = |record: &[u8]| record[..VALUE] == token[..VALUE];
+        let token = layout::token(0, iteration, instruction as u16, 0, 1, token::LIVE);
+        let free = |record: &[u8]| record[token::KEY] == token[token::KEY];
         if iteration > 0 || state.find(prng, free).is_none() {
             state.append(&token);
         }

@@ -1,7 +1,9 @@
 //! How often each answer, refusal and operation came up.
 
-use layout::{LEAVE, OUT};
-use second::{Outcome, TOKEN_RECORD};
+use layout::fields::token;
+use layout::widths::{MOST_LEVELS, TOKEN};
+use layout::{code_of, path, LEAVE, OUT};
+use second::Outcome;
 
 use crate::case::{Call, Case, Left};
 use crate::{
@@ -57,14 +59,6 @@ const REFUSALS: [(usize, &str); 16] = [
     (17, "no return"),
     (22, "bad array"),
 ];
-
-/// Most levels of a path (02, R-8), each of two bytes, the site in the second.
-const MOST_LEVELS: usize = 8;
-
-/// Token states in a record (01, "Tokens and tags").
-const LIVE: u8 = 0;
-const SPENT: u8 = 1;
-const DEFERRED: u8 = 2;
 
 pub struct Tally {
     completed: u64,
@@ -199,7 +193,7 @@ impl Tally {
         }
         self.met_deferred += u64::from(meetings::meets_deferred(case, left));
         self.largest = self.largest.max(left.answer.tokens);
-        for record in left.used().chunks_exact(TOKEN_RECORD) {
+        for record in left.used().chunks_exact(TOKEN) {
             self.count_token(case, record);
         }
     }
@@ -210,9 +204,10 @@ impl Tally {
         if one.answer.outcome != Outcome::Hung || one.used() == other.used() {
             return;
         }
-        let records = || one.used().chunks_exact(TOKEN_RECORD);
-        let waiting = records().any(|record| record[24] == LIVE && !is_result(case, record));
-        let deferred = records().any(|record| record[24] == DEFERRED);
+        let records = || one.used().chunks_exact(TOKEN);
+        let waiting =
+            records().any(|record| record[token::STATE] == token::LIVE && !is_result(case, record));
+        let deferred = records().any(|record| record[token::STATE] == token::DEFERRED);
         self.hung_waiting += u64::from(waiting);
         self.hung_deferred += u64::from(deferred);
     }
@@ -220,17 +215,18 @@ impl Tally {
     /// A firing spends exactly one token on port 0.
     fn count_token(&mut self, case: &Case, record: &[u8]) {
         let code = code_at(case, record);
-        match record[24] {
-            SPENT if record[17] == 0 => self.fired[usize::from(code)] += 1,
-            DEFERRED => self.deferred += 1,
+        match record[token::STATE] {
+            token::SPENT if record[token::PORT] == 0 => self.fired[usize::from(code)] += 1,
+            token::DEFERRED => self.deferred += 1,
             _ => {}
         }
         if code == OUT {
             self.results += 1;
         } else if is_result(case, record) {
-            self.root_leaves += u64::from(record[24] == LIVE);
-            self.root_leaves_deferred += u64::from(record[24] == DEFERRED);
+            self.root_leaves += u64::from(record[token::STATE] == token::LIVE);
+            self.root_leaves_deferred += u64::from(record[token::STATE] == token::DEFERRED);
         }
+        // Each level has two bytes, the site in the second.
         let sites = (0..MOST_LEVELS).map(|level| record[2 * level + 1]);
         self.levels[sites.filter(|site| *site != 0).count()] += 1;
     }
@@ -306,8 +302,7 @@ impl Tally {
 
 /// The operation code of a token's instruction.
 fn code_at(case: &Case, record: &[u8]) -> u8 {
-    let instruction = usize::from(u16::from_le_bytes([record[18], record[19]]));
-    case.graph[16 * instruction]
+    code_of(&case.graph, record)
 }
 
 /// Whether a token, once it is live, is a result: at an OUT, or at a LEAVE under
@@ -315,7 +310,7 @@ fn code_at(case: &Case, record: &[u8]) -> u8 {
 fn is_result(case: &Case, record: &[u8]) -> bool {
     match code_at(case, record) {
         OUT => true,
-        LEAVE => record[..16] == [0; 16],
+        LEAVE => path(record) == 0,
         _ => false,
     }
 }

@@ -1,11 +1,12 @@
 //! The named arrays of a text, in the order of their lines, and the cells that they take.
 
+use layout::fields::array;
+use layout::unsigned;
+use layout::widths::{MOST_ARRAYS, MOST_CELLS};
+
 use crate::errors::{Error, Fault};
 use crate::statement::{Extent, Line, Statement};
-use crate::{Array, ARRAY_RECORD, MOST_ARRAYS};
-
-/// The most cells of a store.
-pub const MOST_CELLS: usize = 1024;
+use crate::Array;
 
 /// The arrays of the lines. One with a fault has a place in the table, so that the numbers of the others do not change.
 pub fn of(lines: &[Line], errors: &mut Vec<Error>) -> Vec<Array> {
@@ -27,8 +28,10 @@ pub fn of(lines: &[Line], errors: &mut Vec<Error>) -> Vec<Array> {
                 array(name.text, first, extent.length)
             }
             Statement::RawArray(name, record) => {
-                let first = u16::from_le_bytes([record[0], record[1]]);
-                let length = u16::from_le_bytes([record[2], record[3]]);
+                let (first, length) = (
+                    unsigned(record, array::FIRST),
+                    unsigned(record, array::LENGTH),
+                );
                 array(name.text, first.into(), length)
             }
             Statement::FaultyArray(name) => array(name.text, next_free(&arrays), 0),
@@ -75,10 +78,4 @@ fn too_many(lines: &[Line]) -> Option<Error> {
     let text = format!("there are {count} arrays, and {MOST_ARRAYS} is the most");
     let fault = Fault::new(first.span.clone(), text).hint("the first that is too many");
     Some(fault.on_line(first.number))
-}
-
-/// The record of an array: first cell and length.
-pub fn record(array: &Array) -> [u8; ARRAY_RECORD] {
-    let ([a, b], [c, d]) = (array.first.to_le_bytes(), array.length.to_le_bytes());
-    [a, b, c, d]
 }

@@ -1,14 +1,16 @@
 //! From text to files.
 
+use layout::{widths, STORE};
+
 use crate::arrays;
 use crate::errors::{Error, Errors, Fault, Span};
-use crate::names::{too_many, Names, STORE};
+use crate::names::{too_many, Names};
 use crate::operations::Constant;
 use crate::parse::parse_line;
 use crate::ranges::{RangedInput, Value};
 use crate::statement::{Line, Statement, Target, Typed};
 use crate::words::{order_words, span_of, words, Word};
-use crate::{Files, GRAPH_RECORD, TOKEN_RECORD};
+use crate::Files;
 
 /// Where a statement stands in the text. Line and column are counted from 1, the
 /// column in characters.
@@ -110,7 +112,10 @@ pub fn read(text: &str) -> Result<Program, Errors> {
         arrays: arrays::of(&lines, &mut errors),
         ..Program::default()
     };
-    let records = program.arrays.iter().flat_map(arrays::record);
+    let records = program
+        .arrays
+        .iter()
+        .flat_map(|array| layout::array(array.first, array.length));
     program.files.arrays = records.collect();
     for line in &lines {
         let faults = program.write(&mut names, line);
@@ -202,7 +207,7 @@ impl Program {
             Statement::Order(words) => self.order.extend(named(words)),
             Statement::Faulty(targets) => return resolve_all(names, targets).1,
             Statement::FaultyInstruction(targets) => {
-                self.instruction(line, [0; GRAPH_RECORD]);
+                self.instruction(line, [0; widths::INSTRUCTION]);
                 return resolve_all(names, targets).1;
             }
         }
@@ -224,8 +229,8 @@ impl Program {
     fn load(&mut self, line: &Line, array: i32, index: i32, value: &Value) {
         // The number fits: Names has counted the instructions.
         let store = self.instructions.len() as u16;
-        self.instruction(line, graph_record(STORE, &[], array));
-        self.input(line, input_record(store, 0, index));
+        self.instruction(line, layout::instruction(STORE, &[], array));
+        self.input(line, layout::input(store, 0, index));
         self.valued(line, (store, 1), value);
     }
 
@@ -243,12 +248,12 @@ impl Program {
             let back = ends[1].0;
             faults.extend(names.check_return(typed.constant, back, line).err());
         }
-        let record = graph_record(typed.operation.code, &ends, constant);
+        let record = layout::instruction(typed.operation.code, &ends, constant);
         self.instruction(line, record);
         faults
     }
 
-    fn instruction(&mut self, line: &Line, record: [u8; GRAPH_RECORD]) {
+    fn instruction(&mut self, line: &Line, record: [u8; widths::INSTRUCTION]) {
         let arcs = match &line.statement {
             Statement::Typed(typed) => typed.arcs.iter().map(|arc| arc.word.span()).collect(),
             _ => Vec::new(),
@@ -273,10 +278,10 @@ impl Program {
     /// An input with its value, or with the low end of its range.
     fn valued(&mut self, line: &Line, (number, port): (u16, u8), value: &Value) {
         self.ranges.extend(value.ranged(self.inputs.len()));
-        self.input(line, input_record(number, port, value.low()));
+        self.input(line, layout::input(number, port, value.low()));
     }
 
-    fn input(&mut self, line: &Line, record: [u8; TOKEN_RECORD]) {
+    fn input(&mut self, line: &Line, record: [u8; widths::TOKEN]) {
         self.inputs.push(line.place());
         self.files.inputs.extend(record);
     }
@@ -293,25 +298,4 @@ fn resolve_all(names: &Names, arcs: &[Target]) -> (Vec<(u16, u8)>, Vec<Fault>) {
         }
     }
     (ends, faults)
-}
-
-fn graph_record(code: u8, arcs: &[(u16, u8)], constant: i32) -> [u8; GRAPH_RECORD] {
-    let mut record = [0; GRAPH_RECORD];
-    record[0] = code;
-    record[1] = arcs.len() as u8;
-    for (number, (instruction, port)) in arcs.iter().enumerate() {
-        record[2 + number] = *port;
-        record[4 + 2 * number..6 + 2 * number].copy_from_slice(&instruction.to_le_bytes());
-    }
-    record[8..12].copy_from_slice(&constant.to_le_bytes());
-    record
-}
-
-/// A live token of the root tag.
-fn input_record(instruction: u16, port: u8, value: i32) -> [u8; TOKEN_RECORD] {
-    let mut record = [0; TOKEN_RECORD];
-    record[17] = port;
-    record[18..20].copy_from_slice(&instruction.to_le_bytes());
-    record[20..24].copy_from_slice(&value.to_le_bytes());
-    record
 }

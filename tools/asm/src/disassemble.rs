@@ -3,9 +3,12 @@
 
 use std::collections::HashMap;
 
-use crate::arrays::MOST_CELLS;
+use layout::fields::{array, instruction, token};
+use layout::widths::{self, ARRAY, MOST_ARRAYS, MOST_CELLS, PICK, TOKEN};
+use layout::{signed, unsigned};
+
 use crate::operations::{by_code, operand_count, Constant, Operation};
-use crate::{Files, ARRAY_RECORD, GRAPH_RECORD, MOST_ARRAYS, PICK_RECORD, TOKEN_RECORD};
+use crate::Files;
 
 /// Picks on one line of the text.
 const PICKS_ON_A_LINE: usize = 16;
@@ -15,22 +18,22 @@ const MOST_RECORDS: usize = 65_536;
 /// The text of files of whole records.
 pub fn disassemble(files: &Files) -> Result<String, String> {
     let whole = [
-        ("graph", files.graph.len(), GRAPH_RECORD),
-        ("arrays", files.arrays.len(), ARRAY_RECORD),
-        ("inputs", files.inputs.len(), TOKEN_RECORD),
-        ("picks", files.picks.len(), PICK_RECORD),
+        ("graph", files.graph.len(), widths::INSTRUCTION),
+        ("arrays", files.arrays.len(), ARRAY),
+        ("inputs", files.inputs.len(), TOKEN),
+        ("picks", files.picks.len(), PICK),
     ];
     for (name, length, record) in whole {
         if length % record != 0 {
             return Err(format!("{name} is not whole records of {record} bytes"));
         }
     }
-    if files.graph.len() / GRAPH_RECORD > MOST_RECORDS {
+    if files.graph.len() / widths::INSTRUCTION > MOST_RECORDS {
         return Err("graph has more than 65,536 records".to_string());
     }
-    let records: Vec<&[u8]> = files.graph.chunks_exact(GRAPH_RECORD).collect();
+    let records: Vec<&[u8]> = files.graph.chunks_exact(widths::INSTRUCTION).collect();
     let mut text = String::new();
-    let arrays = files.arrays.chunks_exact(ARRAY_RECORD);
+    let arrays = files.arrays.chunks_exact(ARRAY);
     let count = arrays.len() as i32;
     for (number, record) in (1..).zip(arrays) {
         text += &format!(
@@ -45,15 +48,15 @@ pub fn disassemble(files: &Files) -> Result<String, String> {
             .unwrap_or_else(|| format!("raw {}", hexadecimal(record)));
         text += &format!("{}: {line}\n", name_of(number, record));
     }
-    for record in files.inputs.chunks_exact(TOKEN_RECORD) {
+    for record in files.inputs.chunks_exact(TOKEN) {
         let line =
             typed_input(record, &records).unwrap_or_else(|| format!("raw {}", hexadecimal(record)));
         text += &format!("input {line}\n");
     }
-    for picks in files.picks.chunks(PICK_RECORD * PICKS_ON_A_LINE) {
+    for picks in files.picks.chunks(PICK * PICKS_ON_A_LINE) {
         let numbers: Vec<String> = picks
-            .chunks_exact(PICK_RECORD)
-            .map(|pick| u16::from_le_bytes([pick[0], pick[1]]).to_string())
+            .chunks_exact(PICK)
+            .map(|pick| unsigned(pick, 0..PICK).to_string())
             .collect();
         text += &format!("picks {}\n", numbers.join(" "));
     }
@@ -61,7 +64,7 @@ pub fn disassemble(files: &Files) -> Result<String, String> {
 }
 
 fn name_of(number: usize, record: &[u8]) -> String {
-    let word = by_code(record[0]).map_or("raw_", |operation| operation.name);
+    let word = by_code(record[instruction::CODE]).map_or("raw_", |operation| operation.name);
     format!("{}{number}", word.to_lowercase())
 }
 
@@ -72,8 +75,10 @@ fn array_name(number: i32) -> String {
 
 /// What stands behind an array's name. What no table may have is written in bytes.
 fn typed_array(number: i32, record: &[u8]) -> String {
-    let first = u16::from_le_bytes([record[0], record[1]]);
-    let length = u16::from_le_bytes([record[2], record[3]]);
+    let (first, length) = (
+        unsigned(record, array::FIRST),
+        unsigned(record, array::LENGTH),
+    );
     let end = usize::from(first) + usize::from(length);
     match number as usize <= MOST_ARRAYS && end <= MOST_CELLS {
         true => format!("= {length} at {first}"),
@@ -94,20 +99,21 @@ fn typed(
     arrays: i32,
     returns: &mut HashMap<i32, u16>,
 ) -> Option<String> {
-    let operation = by_code(record[0])?;
-    let fan_out = usize::from(record[1]);
-    let constant = i32::from_le_bytes([record[8], record[9], record[10], record[11]]);
-    let zeros = record[12..] == [0; 4] && (operation.constant != Constant::Unused || constant == 0);
-    if !operation.fan_outs().contains(&record[1]) || !zeros {
+    let operation = by_code(record[instruction::CODE])?;
+    let fan_out = record[instruction::FAN_OUT];
+    let constant = signed(record, instruction::CONSTANT);
+    let zeros = record[instruction::ZEROS] == [0; 4]
+        && (operation.constant != Constant::Unused || constant == 0);
+    if !operation.fan_outs().contains(&fan_out) || !zeros {
         return None;
     }
     let mut arcs = Vec::new();
     for number in 0..2 {
-        let instruction = u16::from_le_bytes([record[4 + 2 * number], record[5 + 2 * number]]);
-        let port = record[2 + number];
-        if number < fan_out {
-            arcs.push(target(instruction, port, records)?);
-        } else if (instruction, port) != (0, 0) {
+        let end = unsigned(record, instruction::target(number));
+        let port = record[instruction::port(number)];
+        if number < usize::from(fan_out) {
+            arcs.push(target(end, port, records)?);
+        } else if (end, port) != (0, 0) {
             return None;
         }
     }
@@ -141,8 +147,8 @@ fn typed_enter(
     records: &[&[u8]],
     returns: &mut HashMap<i32, u16>,
 ) -> Option<String> {
-    let back = u16::from_le_bytes([record[6], record[7]]);
-    if !(1..=255).contains(&site) || record[3] != 0 {
+    let back = unsigned(record, instruction::target(1));
+    if !(1..=255).contains(&site) || record[instruction::port(1)] != 0 {
         return None;
     }
     // A raw ENTER does not count for the assembler, so it does not here.
@@ -157,16 +163,13 @@ fn typed_enter(
 fn target(instruction: u16, port: u8, records: &[&[u8]]) -> Option<String> {
     let number = usize::from(instruction);
     let record = records.get(number)?;
-    (port < operand_count(record[0])).then(|| format!("{}.{port}", name_of(number, record)))
+    (port < operand_count(record[instruction::CODE]))
+        .then(|| format!("{}.{port}", name_of(number, record)))
 }
 
 fn typed_input(record: &[u8], records: &[&[u8]]) -> Option<String> {
-    let zeros = record[..17]
-        .iter()
-        .chain(&record[24..])
-        .all(|&byte| byte == 0);
-    let instruction = u16::from_le_bytes([record[18], record[19]]);
-    let target = target(instruction, record[17], records)?;
-    let value = i32::from_le_bytes([record[20], record[21], record[22], record[23]]);
-    zeros.then(|| format!("{target} = {value}"))
+    let (end, port) = (unsigned(record, token::INSTRUCTION), record[token::PORT]);
+    let target = target(end, port, records)?;
+    let value = signed(record, token::VALUE);
+    (record == layout::input(end, port, value)).then(|| format!("{target} = {value}"))
 }

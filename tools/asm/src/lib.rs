@@ -20,17 +20,6 @@ pub use errors::{Error, Errors, Span};
 pub use operations::{by_code, Constant, Operation};
 pub use ranges::RangedInput;
 
-/// Bytes of a graph record.
-pub const GRAPH_RECORD: usize = 16;
-/// Bytes of an input record.
-pub const TOKEN_RECORD: usize = 28;
-/// Bytes of a pick.
-pub const PICK_RECORD: usize = 2;
-/// Bytes of an array in its table: first cell and length.
-pub const ARRAY_RECORD: usize = 4;
-/// The most arrays that a table may have.
-pub const MOST_ARRAYS: usize = 64;
-
 /// The contents of the files `graph`, `arrays`, `inputs` and `picks`.
 #[derive(Clone, Debug, Default, PartialEq, Eq)]
 pub struct Files {

@@ -2,17 +2,17 @@
 
 use std::collections::HashMap;
 
+use layout::fields::{array, instruction};
+use layout::widths::MOST_INSTRUCTIONS;
+use layout::{unsigned, STORE};
+
 use crate::errors::{Error, Fault};
 use crate::hints;
 use crate::operations::operand_count;
 use crate::statement::{Element, Line, Statement, Target};
 use crate::words::Word;
 
-/// The code of STORE, which a line that loads a cell or an element stands for.
-pub const STORE: u8 = 11;
-/// The most instructions that a graph may have. A longer one can be assembled, for the engine to refuse it.
-const MOST_INSTRUCTIONS: usize = 256;
-/// Instruction numbers have 16 bits.
+/// Instruction numbers have 16 bits. A graph of fewer that is longer than a graph may be can be assembled, for the engine to refuse it.
 const MOST_NUMBERS: usize = 65_536;
 
 /// The fault of a text whose instructions have no numbers: how many they are, at the first that a graph cannot have.
@@ -71,14 +71,14 @@ impl<'t> Names<'t> {
     fn add(&mut self, line: &Line<'t>) -> Result<(), Fault> {
         let operands = match &line.statement {
             Statement::Typed(typed) => Some(typed.operation.operands),
-            Statement::Raw(record) => Some(operand_count(record[0])),
+            Statement::Raw(record) => Some(operand_count(record[instruction::CODE])),
             Statement::Cell(..) | Statement::Element(..) => Some(operand_count(STORE)),
             Statement::FaultyInstruction(_) => None,
             Statement::Array(name, extent) => {
                 return self.add_array(*name, Some(extent.length), line)
             }
             Statement::RawArray(name, record) => {
-                let length = u16::from_le_bytes([record[2], record[3]]);
+                let length = unsigned(record, array::LENGTH);
                 return self.add_array(*name, Some(length), line);
             }
             Statement::FaultyArray(name) => return self.add_array(*name, None, line),

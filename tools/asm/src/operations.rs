@@ -2,6 +2,8 @@
 
 use std::ops::RangeInclusive;
 
+use layout::operations::*;
+
 /// What the constant of an operation means in the text.
 #[derive(Clone, Copy, Debug, PartialEq, Eq)]
 pub enum Constant {
@@ -49,35 +51,37 @@ const fn operation(
 }
 
 const OPERATIONS: [Operation; 19] = [
-    operation(1, "COPY", 1, (1, 2), Constant::Unused),
-    operation(2, "SINK", 1, (0, 0), Constant::Unused),
-    operation(3, "OUT", 1, (0, 0), Constant::Unused),
-    operation(4, "CONST", 1, (1, 2), Constant::Value),
-    operation(5, "SWITCH", 2, (2, 2), Constant::Unused),
-    operation(6, "GATE", 2, (1, 2), Constant::Unused),
-    operation(7, "NEXT", 1, (1, 2), Constant::Unused),
-    operation(8, "ENTER", 1, (2, 2), Constant::Site),
-    operation(9, "LEAVE", 1, (0, 0), Constant::Offset),
-    operation(10, "FETCH", 1, (1, 2), Constant::Array),
-    operation(11, "STORE", 2, (0, 2), Constant::Array),
-    operation(16, "ADD", 2, (1, 2), Constant::Unused),
-    operation(17, "SUB", 2, (1, 2), Constant::Unused),
-    operation(18, "MUL", 2, (1, 2), Constant::Unused),
-    operation(19, "DIV", 2, (1, 2), Constant::Unused),
-    operation(20, "REM", 2, (1, 2), Constant::Unused),
-    operation(21, "LT", 2, (1, 2), Constant::Unused),
-    operation(22, "LE", 2, (1, 2), Constant::Unused),
-    operation(23, "EQ", 2, (1, 2), Constant::Unused),
+    operation(COPY, "COPY", 1, (1, 2), Constant::Unused),
+    operation(SINK, "SINK", 1, (0, 0), Constant::Unused),
+    operation(OUT, "OUT", 1, (0, 0), Constant::Unused),
+    operation(CONST, "CONST", 1, (1, 2), Constant::Value),
+    operation(SWITCH, "SWITCH", 2, (2, 2), Constant::Unused),
+    operation(GATE, "GATE", 2, (1, 2), Constant::Unused),
+    operation(NEXT, "NEXT", 1, (1, 2), Constant::Unused),
+    operation(ENTER, "ENTER", 1, (2, 2), Constant::Site),
+    operation(LEAVE, "LEAVE", 1, (0, 0), Constant::Offset),
+    operation(FETCH, "FETCH", 1, (1, 2), Constant::Array),
+    operation(STORE, "STORE", 2, (0, 2), Constant::Array),
+    operation(ADD, "ADD", 2, (1, 2), Constant::Unused),
+    operation(SUB, "SUB", 2, (1, 2), Constant::Unused),
+    operation(MUL, "MUL", 2, (1, 2), Constant::Unused),
+    operation(DIV, "DIV", 2, (1, 2), Constant::Unused),
+    operation(REM, "REM", 2, (1, 2), Constant::Unused),
+    operation(LT, "LT", 2, (1, 2), Constant::Unused),
+    operation(LE, "LE", 2, (1, 2), Constant::Unused),
+    operation(EQ, "EQ", 2, (1, 2), Constant::Unused),
 ];
 
-/// The code of an arithmetic operation with the constant on the right is that
-/// with two operands plus this.
-const WITH_CONSTANT: u8 = 16;
+/// The codes of arithmetic with a constant on the right.
+const FIRST_WITH_CONSTANT: u8 = ADD + WITH_CONSTANT;
+const LAST_WITH_CONSTANT: u8 = EQ + WITH_CONSTANT;
 
 /// The operation of a code, `None` for an unknown one.
 pub fn by_code(code: u8) -> Option<Operation> {
     match code {
-        32..=39 => by_code(code - WITH_CONSTANT).map(with_constant),
+        FIRST_WITH_CONSTANT..=LAST_WITH_CONSTANT => {
+            by_code(code - WITH_CONSTANT).map(with_constant)
+        }
         _ => OPERATIONS
             .into_iter()
             .find(|operation| operation.code == code),
@@ -99,7 +103,7 @@ pub fn names() -> impl Iterator<Item = &'static str> {
 /// Whether a constant may stand behind the name, which makes the operation one
 /// with a single operand.
 pub fn is_arithmetic(operation: &Operation) -> bool {
-    (16..=23).contains(&operation.code)
+    (ADD..=EQ).contains(&operation.code)
 }
 
 pub fn with_constant(operation: Operation) -> Operation {

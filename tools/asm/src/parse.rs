@@ -1,5 +1,7 @@
 //! From the words of a line to a statement.
 
+use layout::widths::MOST_CELLS;
+
 use crate::errors::Fault;
 use crate::hints;
 use crate::operations::{by_name, is_arithmetic, with_constant, Constant, Operation};
@@ -216,13 +218,13 @@ fn parse_input<'t>(first: Word<'t>, rest: &[Word<'t>]) -> Result<Statement<'t>, 
 fn parse_cell<'t>(first: Word<'t>, rest: &[Word<'t>]) -> Result<Statement<'t>, Fault> {
     match rest {
         [cell, equals, value] if equals.text == "=" => {
-            let what = "the number of a cell, 0 to 1023";
+            let what = format!("the number of a cell, 0 to {}", MOST_CELLS - 1);
             let element = is_element(cell.text).then(|| {
                 let (text, value) = (cell.text, value.text);
                 format!("an element is loaded without `cell`: `{text} = {value}`")
             });
-            let number: u16 = parse_number(*cell, what).map_err(|fault| fault.maybe(element))?;
-            if number >= 1024 {
+            let number: u16 = parse_number(*cell, &what).map_err(|fault| fault.maybe(element))?;
+            if usize::from(number) >= MOST_CELLS {
                 let text = format!("`{number}` is not {what}");
                 return Err(Fault::new(cell.span(), text));
             }

@@ -1,6 +1,7 @@
 //! The words of arrays: their lines, the lines that load an element, and the names behind FETCH and STORE.
 
-use crate::arrays::MOST_CELLS;
+use layout::widths::MOST_CELLS;
+
 use crate::errors::Fault;
 use crate::hints;
 use crate::operations::Operation;

@@ -1,11 +1,12 @@
 //! What a line says, with names that are not yet resolved.
 
+use layout::widths;
+
 use crate::assemble::Place;
 use crate::errors::Span;
 use crate::operations::Operation;
 use crate::ranges::Value;
 use crate::words::Word;
-use crate::{ARRAY_RECORD, GRAPH_RECORD, TOKEN_RECORD};
 
 /// An instruction's name with one of its ports.
 #[derive(Clone, Debug)]
@@ -48,10 +49,10 @@ pub struct Typed<'t> {
 pub enum Statement<'t> {
     Typed(Typed<'t>),
     /// A graph record in bytes.
-    Raw([u8; GRAPH_RECORD]),
+    Raw([u8; widths::INSTRUCTION]),
     Input(Target<'t>, Value),
     /// An input record in bytes.
-    RawInput([u8; TOKEN_RECORD]),
+    RawInput([u8; widths::TOKEN]),
     /// A cell and its value: a STORE and the two inputs that fire it.
     Cell(i32, Value),
     /// An element and its value: a STORE to its array and the two inputs that fire it.
@@ -59,7 +60,7 @@ pub enum Statement<'t> {
     /// An array and the cells that it takes.
     Array(Word<'t>, Extent),
     /// An array and its record in bytes.
-    RawArray(Word<'t>, [u8; ARRAY_RECORD]),
+    RawArray(Word<'t>, [u8; widths::ARRAY]),
     Picks(Vec<u16>),
     /// The activities of an order, as answers name them.
     Order(Vec<Word<'t>>),

@@ -1,6 +1,7 @@
 //! Every error of a text: its line, the words that it marks, and its hint.
 
 use asm::{assemble, Errors};
+use layout::widths;
 
 fn errors(text: &str) -> Vec<asm::Error> {
     let Errors(errors) = assemble(text).expect_err(text);
@@ -237,7 +238,7 @@ fn the_first_array_that_is_too_many() {
         (1..=count).map(line).collect::<String>()
     };
     let files = assemble(&arrays(64)).unwrap();
-    assert_eq!(files.arrays.len(), 64 * asm::ARRAY_RECORD);
+    assert_eq!(files.arrays.len(), widths::MOST_ARRAYS * widths::ARRAY);
     for count in [65, 70] {
         let text = arrays(count);
         let errors = errors(&text);

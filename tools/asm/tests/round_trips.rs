@@ -1,6 +1,9 @@
 //! Text to files to text to files, over random files of whole records.
 
 use asm::{assemble, disassemble, Files};
+use layout::fields::instruction;
+use layout::widths::{self, ARRAY, PICK, TOKEN};
+use layout::{array, CODES, CONST, ENTER, LEAVE, OUT, SINK, STORE, SWITCH};
 
 /// A small generator of random numbers (splitmix64).
 struct Prng(u64);
@@ -30,36 +33,29 @@ fn round_trip(files: &Files) -> String {
 
 /// A record that is often well-formed: a known code, its fan-out, arcs into the
 /// graph and a small constant where one is used.
-fn record(prng: &mut Prng, count: usize) -> [u8; 16] {
-    const CODES: [u8; 27] = [
-        1, 2, 3, 4, 5, 6, 7, 8, 9, 10, 11, 16, 17, 18, 19, 20, 21, 22, 23, 32, 33, 34, 35, 36, 37,
-        38, 39,
-    ];
+fn record(prng: &mut Prng, count: usize) -> [u8; widths::INSTRUCTION] {
     let code = CODES[prng.below(CODES.len())];
     let fan_out = match code {
-        2 | 3 | 9 => 0,
-        5 | 8 => 2,
-        11 => prng.below(3),
+        SINK | OUT | LEAVE => 0,
+        SWITCH | ENTER => 2,
+        STORE => prng.below(3),
         _ => 1 + prng.below(2),
     };
-    let mut record = [0; 16];
-    record[0] = code;
-    record[1] = fan_out as u8;
-    for arc in 0..fan_out {
-        record[2 + arc] = u8::from(prng.below(12) == 0);
+    let mut record = layout::instruction(code, &[], 0);
+    for _ in 0..fan_out {
+        let port = u8::from(prng.below(12) == 0);
         let absent = usize::from(prng.below(20) == 0);
-        let target = prng.below(count + absent) as u16;
-        record[4 + 2 * arc..6 + 2 * arc].copy_from_slice(&target.to_le_bytes());
+        layout::add_arc(&mut record, prng.below(count + absent) as u16, port);
     }
-    if matches!(code, 4 | 8..=11 | 32..=39) {
+    if matches!(code, CONST | ENTER..=STORE | 32..) {
         let constant = match code {
-            8..=11 => prng.below(4) as i32,
+            ENTER..=STORE => prng.below(4) as i32,
             _ => prng.word() as i32,
         };
-        record[8..12].copy_from_slice(&constant.to_le_bytes());
+        record[instruction::CONSTANT].copy_from_slice(&constant.to_le_bytes());
     }
     if prng.below(10) == 0 {
-        record[prng.below(16)] = prng.word() as u8;
+        record[prng.below(widths::INSTRUCTION)] = prng.word() as u8;
     }
     record
 }
@@ -72,16 +68,13 @@ fn random_files(prng: &mut Prng) -> Files {
     }
     for _ in 0..prng.below(4) {
         let (first, length) = (prng.below(900) as u16, prng.below(150) as u16);
-        files.arrays.extend(first.to_le_bytes());
-        files.arrays.extend(length.to_le_bytes());
+        files.arrays.extend(array(first, length));
     }
     for _ in 0..prng.below(10) {
-        let mut input = [0; asm::TOKEN_RECORD];
-        input[17] = prng.below(2) as u8;
-        input[18] = prng.below(count + 1) as u8;
-        input[20..24].copy_from_slice(&(prng.word() as i32).to_le_bytes());
+        let port = prng.below(2) as u8;
+        let mut input = layout::input(prng.below(count + 1) as u16, port, prng.word() as i32);
         if prng.below(6) == 0 {
-            input[prng.below(asm::TOKEN_RECORD)] = prng.word() as u8;
+            input[prng.below(TOKEN)] = prng.word() as u8;
         }
         files.inputs.extend(input);
     }
@@ -109,18 +102,18 @@ fn arbitrary_bytes() {
     for _ in 0..500 {
         let mut bytes = |length: usize| (0..length).map(|_| prng.word() as u8).collect();
         let files = Files {
-            graph: bytes(16 * 20),
-            arrays: bytes(4 * 5),
-            inputs: bytes(asm::TOKEN_RECORD * 10),
-            picks: bytes(2 * 40),
+            graph: bytes(widths::INSTRUCTION * 20),
+            arrays: bytes(ARRAY * 5),
+            inputs: bytes(TOKEN * 10),
+            picks: bytes(PICK * 40),
         };
         round_trip(&files);
     }
     round_trip(&Files::default());
     round_trip(&Files {
-        graph: vec![2; 16 * 300],
-        arrays: vec![1; 4 * 70],
-        inputs: vec![0; asm::TOKEN_RECORD * 3000],
+        graph: vec![SINK; widths::INSTRUCTION * 300],
+        arrays: vec![1; ARRAY * 70],
+        inputs: vec![0; TOKEN * 3000],
         picks: vec![9; 9000],
     });
 }

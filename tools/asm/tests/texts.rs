@@ -1,6 +1,8 @@
 //! Texts, their files, and where everything stands.
 
 use asm::{assemble, disassemble, read, read_order};
+use layout::fields::instruction;
+use layout::widths;
 
 const SUM: &str = "# the sum of 01
 sum: ADD -> out.0
@@ -13,16 +15,13 @@ picks 0 258
 #[test]
 fn a_text_gives_the_records() {
     let files = assemble(SUM).unwrap();
-    let mut graph = vec![16, 1, 0, 0, 1, 0, 0, 0];
-    graph.extend([0; 8]);
-    graph.push(3);
-    graph.extend([0; 15]);
-    assert_eq!(files.graph, graph);
-    let mut inputs = vec![0; 56];
-    inputs[20] = 7;
-    inputs[45] = 1;
-    inputs[48..52].copy_from_slice(&(-9i32).to_le_bytes());
-    assert_eq!(files.inputs, inputs);
+    let graph = [
+        [16, 1, 0, 0, 1, 0, 0, 0, 0, 0, 0, 0, 0, 0, 0, 0],
+        [3, 0, 0, 0, 0, 0, 0, 0, 0, 0, 0, 0, 0, 0, 0, 0],
+    ];
+    assert_eq!(files.graph, graph.concat());
+    let inputs = [layout::input(0, 0, 7), layout::input(0, 1, -9)];
+    assert_eq!(files.inputs, inputs.concat());
     assert_eq!(files.picks, [0, 0, 2, 1]);
 }
 
@@ -51,7 +50,7 @@ fn every_form_of_an_instruction() {
         "line 10: `m` has no port 0, its operand count is 0"
     );
     let files = assemble(&FORMS.replace("i: STORE -> m.0", "i: STORE")).unwrap();
-    let record = |number: usize| &files.graph[16 * number..16 * number + 16];
+    let record = |number: usize| layout::record(&files.graph, number);
     assert_eq!(record(0), [1, 2, 0, 1, 1, 0, 2, 0, 0, 0, 0, 0, 0, 0, 0, 0]);
     assert_eq!(
         record(1),
@@ -66,7 +65,7 @@ fn every_form_of_an_instruction() {
         record(10),
         [9, 0, 0, 0, 0, 0, 0, 0, 255, 0, 0, 0, 0, 0, 0, 0]
     );
-    assert_eq!(record(12)[15], 255);
+    assert_eq!(record(12)[instruction::ZEROS.end - 1], 255);
 }
 
 #[test]
@@ -167,7 +166,11 @@ fn arrays_and_their_elements() {
     assert_eq!(program.files.arrays, table);
     let names: Vec<&str> = program.instructions.iter().map(|i| &i.name[..]).collect();
     assert_eq!(names, ["f", "s", "g", "out", "b[2]", "low[1]"]);
-    let constants = program.files.graph.chunks_exact(16).map(|record| record[8]);
+    let constants = program
+        .files
+        .graph
+        .chunks_exact(widths::INSTRUCTION)
+        .map(|record| record[instruction::CONSTANT.start]);
     assert_eq!(constants.collect::<Vec<u8>>(), [2, 4, 0, 0, 2, 5]);
     assert_eq!(
         &text[program.arrays[1].place.span.clone()],

@@ -1,6 +1,9 @@
 //! The named arrays of a program: which cell an index is of, and what a cell is called.
 
-use asm::{Span, ARRAY_RECORD};
+use asm::Span;
+use ttda::layout::fields::array;
+use ttda::layout::unsigned;
+use ttda::widths::ARRAY;
 
 use crate::answer::count;
 
@@ -75,12 +78,12 @@ impl Arrays {
             let typed = typed.get(number);
             Array {
                 name: typed.map_or(format!("array{}", number + 1), |array| array.name.clone()),
-                first: u16::from_le_bytes([record[0], record[1]]),
-                length: u16::from_le_bytes([record[2], record[3]]),
+                first: unsigned(record, array::FIRST),
+                length: unsigned(record, array::LENGTH),
                 span: typed.map(|array| array.place.span.clone()),
             }
         };
-        let records = table.chunks_exact(ARRAY_RECORD).enumerate();
+        let records = table.chunks_exact(ARRAY).enumerate();
         Arrays(records.map(array).collect())
     }
 

@@ -4,10 +4,11 @@ use std::path::PathBuf;
 use std::str::FromStr;
 
 use clap::{Args, Parser, Subcommand, ValueEnum};
+use ttda::widths::{BOUNDS, MOST_CELLS, MOST_RECORDS};
 
 use crate::curves::Pace;
 use crate::failure::Failure;
-use crate::machine::Sizes;
+use crate::machine::{Sizes, WHOLE};
 use crate::orders::{self, Order};
 
 /// Runs, checks, compares and draws graphs of the MIT tagged-token dataflow machine, on an engine whose answers are proved.
@@ -184,7 +185,7 @@ fn up_to<const MOST: u16>(word: &str) -> Result<u16, String> {
 /// A loop bound of the command line.
 fn bound(word: &str) -> Result<u16, String> {
     let number = word.parse().ok();
-    let bound = number.filter(|number| matches!(number, 0 | 2..=256));
+    let bound = number.filter(|number| *number == 0 || BOUNDS.contains(number));
     bound.ok_or("a bound is 0 for none, or 2 to 256 (else 21, bad bound)".to_string())
 }
 
@@ -213,10 +214,10 @@ pub struct File {
 #[derive(Debug, Args)]
 pub struct Buffers {
     /// Records of the ledger, which keeps every token [default: 2048]
-    #[arg(long, value_name = "N", value_parser = up_to::<2048>)]
+    #[arg(long, value_name = "N", value_parser = up_to::<{ MOST_RECORDS as u16 }>)]
     capacity: Option<u16>,
     /// I-structure cells [default: 1024]
-    #[arg(long, value_name = "N", value_parser = up_to::<1024>)]
+    #[arg(long, value_name = "N", value_parser = up_to::<{ MOST_CELLS as u16 }>)]
     cells: Option<u16>,
 }
 
@@ -260,7 +261,7 @@ pub struct Firing {
     #[arg(long, value_name = "N,N..", conflicts_with = "order", value_parser = picks)]
     picks: Option<Order>,
     /// The most firings
-    #[arg(long, value_name = "N", default_value_t = 2048, value_parser = up_to::<{ u16::MAX }>)]
+    #[arg(long, value_name = "N", default_value_t = WHOLE, value_parser = up_to::<{ u16::MAX }>)]
     pub budget: u16,
     #[command(flatten)]
     pub bounding: Bounding,
@@ -339,7 +340,7 @@ pub struct CarryOn {
     #[arg(long, value_name = "ORDER", default_value_t = Order::Typed)]
     pub order: Order,
     /// The most firings of this part
-    #[arg(long, value_name = "N", default_value_t = 2048)]
+    #[arg(long, value_name = "N", default_value_t = WHOLE)]
     pub budget: u16,
     /// The loop bound from here on, 0 for none, or 2 to 256 [default: that of the saved run]
     #[arg(long, value_name = "K", value_parser = bound)]

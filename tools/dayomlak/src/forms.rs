@@ -1,7 +1,11 @@
 //! The files of token and log records, with paths of four levels and of eight, and which of them given bytes are.
 
+use ttda::layout::fields::logged;
+use ttda::layout::{instruction_of, signed};
+use ttda::widths::{MOST_INSTRUCTIONS, OLD_LOGGED, OLD_TOKEN};
+
 use crate::answer::count;
-use crate::records::MOST_CELLS;
+use crate::records::{token, LOGGED, MOST_CELLS, TOKEN};
 
 /// What the records of a file are, and how many bytes their paths have.
 #[derive(Clone, Copy, Debug, PartialEq, Eq)]
@@ -54,20 +58,19 @@ impl Form {
         }
     }
 
-    /// The bytes of a record: its path, the rest of its tag, and what a token has besides.
+    /// The bytes of a record.
     pub fn width(self) -> usize {
         match self {
-            Form::OldTokens | Form::NewTokens => self.path() + 12,
-            Form::OldLog | Form::NewLog => self.path() + 4,
+            Form::OldTokens => OLD_TOKEN,
+            Form::NewTokens => TOKEN,
+            Form::OldLog => OLD_LOGGED,
+            Form::NewLog => LOGGED,
         }
     }
 
+    /// The bytes of its path.
     fn path(self) -> usize {
-        if self.is_old() {
-            8
-        } else {
-            16
-        }
+        token::PATH.len() - (self.widened().width() - self.width())
     }
 
     /// `7 token records of 20 bytes`.
@@ -89,10 +92,12 @@ impl Form {
 
     fn is_record(self, record: &[u8]) -> bool {
         let (path, rest) = record.split_at(self.path());
-        let tag = is_path(path) && rest[3] == 0;
+        let levels = vec![0; token::PATH.len() - path.len()];
+        let record = [path, &levels, rest].concat();
+        let tag = is_path(path) && instruction_of(&record) < MOST_INSTRUCTIONS;
         match self.widened() {
-            Form::NewTokens => tag && rest[1] <= 1 && is_content(&rest[4..]),
-            _ => tag && rest[1] == 0,
+            Form::NewTokens => tag && record[token::PORT] <= 1 && is_content(&record),
+            _ => tag && record[logged::ZERO] == 0,
         }
     }
 }
@@ -105,13 +110,13 @@ fn is_path(path: &[u8]) -> bool {
 }
 
 /// Whether value, state and zeros are a token's. A deferred one has the number of a cell.
-fn is_content(content: &[u8]) -> bool {
-    let value = i32::from_le_bytes([content[0], content[1], content[2], content[3]]);
-    let state = match content[4] {
-        2 => usize::try_from(value).is_ok_and(|cell| cell < MOST_CELLS),
-        state => state < 2,
+fn is_content(record: &[u8]) -> bool {
+    let value = signed(record, token::VALUE);
+    let state = match record[token::STATE] {
+        token::DEFERRED => usize::try_from(value).is_ok_and(|cell| cell < MOST_CELLS),
+        state => matches!(state, token::LIVE | token::SPENT),
     };
-    state && content[5..] == [0; 3]
+    state && record[token::ZEROS] == [0; 3]
 }
 
 /// Which form bytes have, by their length where that leaves no doubt, and else by the records that they would be.
@@ -147,12 +152,13 @@ pub fn advice(bytes: &[u8], known: &[Form]) -> Option<String> {
 #[cfg(test)]
 mod tests {
     use super::*;
+    use ttda::layout;
 
     /// An input of instruction 0, port 0, in a form of tokens.
     fn input(form: Form, value: i32) -> Vec<u8> {
         let mut record = vec![0; form.width()];
-        let at = form.path() + 4;
-        record[at..at + 4].copy_from_slice(&value.to_le_bytes());
+        let at = token::VALUE.end - (TOKEN - form.width());
+        record[..at][at - 4..].copy_from_slice(&value.to_le_bytes());
         record
     }
 
@@ -201,13 +207,15 @@ mod tests {
 
     #[test]
     fn contents() {
-        let content = |value: i32, state| [&value.to_le_bytes()[..], &[state, 0, 0, 0]].concat();
+        let content = |value: i32, state| layout::token(0, 0, 0, 0, value, state);
         for (value, state) in [(-1, 0), (i32::MIN, 1), (0, 2), (1023, 2)] {
             assert!(is_content(&content(value, state)), "{value} {state}");
         }
-        for (value, state) in [(0, 3), (-1, 2), (1024, 2)] {
+        for (value, state) in [(0, 3), (-1, 2), (MOST_CELLS as i32, 2)] {
             assert!(!is_content(&content(value, state)), "{value} {state}");
         }
-        assert!(!is_content(&[0, 0, 0, 0, 0, 0, 1, 0]));
+        let mut record = content(0, 0);
+        record[token::ZEROS.end - 2] = 1;
+        assert!(!is_content(&record));
     }
 }

@@ -3,19 +3,13 @@
 
 use std::collections::BTreeSet;
 
-use asm::{by_code, Operation, GRAPH_RECORD};
+use asm::{by_code, Operation};
+use ttda::layout::fields::instruction;
+pub use ttda::layout::operations::*;
+use ttda::layout::{arcs, signed};
+use ttda::widths;
 
 use crate::arrays::{Array, Arrays};
-
-pub const SINK: u8 = 2;
-pub const OUT: u8 = 3;
-pub const SWITCH: u8 = 5;
-pub const GATE: u8 = 6;
-pub const NEXT: u8 = 7;
-pub const ENTER: u8 = 8;
-pub const LEAVE: u8 = 9;
-pub const FETCH: u8 = 10;
-pub const STORE: u8 = 11;
 
 /// The end of an arc.
 #[derive(Clone, Copy, Debug, PartialEq, Eq, PartialOrd, Ord)]
@@ -38,17 +32,15 @@ pub struct Instruction {
 
 impl Instruction {
     fn of(record: &[u8], arrays: &Arrays) -> Instruction {
-        let destination = |number: usize| Destination {
-            instruction: u16::from_le_bytes([record[4 + 2 * number], record[5 + 2 * number]]),
-            port: record[2 + number],
-        };
-        let constant = i32::from_le_bytes([record[8], record[9], record[10], record[11]]);
-        let array = arrays.get(constant).filter(|_| touches(record[0]));
+        let code = record[instruction::CODE];
+        let constant = signed(record, instruction::CONSTANT);
+        let array = arrays.get(constant).filter(|_| touches(code));
         Instruction {
-            code: record[0],
-            operation: by_code(record[0]),
-            destinations: (0..usize::from(record[1]).min(2))
-                .map(destination)
+            code,
+            operation: by_code(code),
+            destinations: arcs(record)
+                .take(2)
+                .map(|(instruction, port)| Destination { instruction, port })
                 .collect(),
             constant,
             array: array.cloned(),
@@ -131,7 +123,7 @@ pub struct Graph {
 
 impl Graph {
     pub fn of(bytes: &[u8], arrays: &Arrays) -> Graph {
-        let records = bytes.chunks_exact(GRAPH_RECORD);
+        let records = bytes.chunks_exact(widths::INSTRUCTION);
         let instructions = records.map(|record| Instruction::of(record, arrays));
         Graph {
             instructions: instructions.collect(),

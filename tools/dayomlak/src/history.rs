@@ -170,11 +170,7 @@ mod tests {
     /// The run of the text, with its log changed.
     fn history(change: impl FnOnce(&mut Vec<Tag>)) -> Result<History, Failure> {
         let program = Program::typed("test", TEXT.as_bytes().to_vec())?;
-        let sizes = Sizes {
-            capacity: 2048,
-            cells: 1024,
-        };
-        let machine = Machine::new(&program, sizes);
+        let machine = Machine::new(&program, Sizes::default());
         let (end, mut log) = machine.run_logged(&[], WHOLE);
         change(&mut log);
         History::of(&machine, &end, &log)

@@ -4,6 +4,7 @@
 use std::fmt;
 
 use plotter::Fingerprint;
+use ttda::widths::BOUNDS;
 
 use crate::machine::{Machine, Sizes};
 use crate::pictures;
@@ -132,10 +133,10 @@ impl<'b> Head<'b> {
     fn bound(&mut self) -> Option<u16> {
         match self.0.starts_with(b"bound ") {
             false => Some(0),
-            true => match self.number("bound ")? {
-                bound @ 2..=256 => Some(bound as u16),
-                _ => None,
-            },
+            true => {
+                let bound = u16::try_from(self.number("bound ")?).ok();
+                bound.filter(|bound| BOUNDS.contains(bound))
+            }
         }
     }
 

@@ -1,6 +1,7 @@
 //! Runs of the proved engine over a program, with buffers of chosen sizes.
 
 use plotter::{Fingerprint, Left, Step};
+pub use ttda::widths::WHOLE_BUDGET as WHOLE;
 use ttda::widths::{self, PICK, STEP};
 
 use crate::answer::Answer;
@@ -13,9 +14,6 @@ use crate::records::{
     self, Cell, Tag, Token, CELL, LOGGED, MOST_CELLS, MOST_RECORDS, RANGE_CELL, RANGE_TOKEN, TOKEN,
 };
 use crate::saved::State;
-
-/// The budget that no run exceeds: firings never exceed tokens.
-pub const WHOLE: u16 = MOST_RECORDS as u16;
 
 /// The records of ledger and cells.
 #[derive(Clone, Copy, Debug, PartialEq, Eq)]

@@ -229,11 +229,7 @@ mod tests {
 
     fn is_shown(text: &str, enabled: &[u16]) -> bool {
         let program = Program::typed("test", text.as_bytes().to_vec()).unwrap();
-        let sizes = Sizes {
-            capacity: 2048,
-            cells: 1024,
-        };
-        let machine = Machine::new(&program, sizes);
+        let machine = Machine::new(&program, Sizes::default());
         let (end, log) = machine.run_logged(&times(enabled, 1), WHOLE);
         shown(&machine, enabled, &end, &log)
     }

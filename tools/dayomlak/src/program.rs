@@ -4,7 +4,9 @@ use std::fs;
 use std::io::{self, Read};
 use std::path::{Path, PathBuf};
 
-use asm::{disassemble, read, Files, Named, Place, RangedInput, Span, TOKEN_RECORD};
+use asm::{disassemble, read, Files, Named, Place, RangedInput, Span};
+use ttda::layout::fields::token;
+use ttda::widths::TOKEN;
 
 use crate::arrays::Arrays;
 use crate::diagnostics::Finding;
@@ -245,7 +247,7 @@ impl Program {
     }
 
     pub fn input_count(&self) -> usize {
-        self.files.inputs.len() / TOKEN_RECORD
+        self.files.inputs.len() / TOKEN
     }
 
     /// The range of an input, where it is typed as one.
@@ -255,10 +257,10 @@ impl Program {
 
     /// The inputs as a run of ranges takes them: behind each record its high value. What is not whole stays so.
     pub fn range_inputs(&self) -> Vec<u8> {
-        let records = self.files.inputs.chunks(TOKEN_RECORD).enumerate();
+        let records = self.files.inputs.chunks(TOKEN).enumerate();
         let record = |(number, record): (usize, &[u8])| {
             let mut bytes = record.to_vec();
-            if let (TOKEN_RECORD, Some(low)) = (record.len(), record.get(20..24)) {
+            if let (TOKEN, Some(low)) = (record.len(), record.get(token::VALUE)) {
                 let high = self.range(number).map(|range| range.high.to_le_bytes());
                 bytes.extend(high.as_ref().map_or(low, |high| high));
             }

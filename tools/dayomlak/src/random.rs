@@ -17,6 +17,16 @@ impl Random {
         word ^ (word >> 31)
     }
 
+    #[cfg(test)]
+    pub fn below(&mut self, end: usize) -> usize {
+        (self.word() % end as u64) as usize
+    }
+
+    #[cfg(test)]
+    pub fn one_of<T: Copy>(&mut self, items: &[T]) -> T {
+        items[self.below(items.len())]
+    }
+
     /// One of the numbers of a range, both ends among them.
     pub fn within(&mut self, range: Value) -> i32 {
         let [low, high] = [range.low, range.high].map(i64::from);

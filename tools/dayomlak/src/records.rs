@@ -1,12 +1,12 @@
 //! The records that the engine writes: tokens, cells and the log. Numbers are little-endian.
 
-pub use ttda::widths::{CELL, LOGGED, MOST_CELLS, MOST_RECORDS, TOKEN};
+use std::ops::Range;
+
+pub use ttda::layout::fields::{cell, token};
+use ttda::layout::{path, signed, unsigned};
+pub use ttda::widths::{CELL, LOGGED, MOST_CELLS, MOST_RECORDS, RANGE_CELL, RANGE_TOKEN, TOKEN};
 
 use crate::value::Value;
-
-/// Bytes of a token and of a cell in a run of ranges: the high value stands behind a plain record of the low one.
-pub const RANGE_TOKEN: usize = TOKEN + 4;
-pub const RANGE_CELL: usize = CELL + 4;
 
 /// What an activity is named by.
 #[derive(Clone, Copy, Debug, PartialEq, Eq, PartialOrd, Ord, Hash)]
@@ -60,9 +60,9 @@ impl Tag {
     /// The tag at the start of a record, of a token or of the log.
     pub fn of(record: &[u8]) -> Tag {
         Tag {
-            path: u128::from_le_bytes(bytes(record, 0)),
-            iteration: record[16],
-            instruction: u16::from_le_bytes(bytes(record, 18)),
+            path: path(record),
+            iteration: record[token::ITERATION],
+            instruction: unsigned(record, token::INSTRUCTION),
         }
     }
 }
@@ -97,11 +97,11 @@ impl Token {
     fn of(record: &[u8]) -> Token {
         Token {
             tag: Tag::of(record),
-            port: record[17],
-            value: value(record, 20, TOKEN),
-            state: match record[24] {
-                0 => State::Live,
-                1 => State::Spent,
+            port: record[token::PORT],
+            value: value(record, token::VALUE, token::HIGH),
+            state: match record[token::STATE] {
+                token::LIVE => State::Live,
+                token::SPENT => State::Spent,
                 _ => State::Deferred,
             },
         }
@@ -117,9 +117,9 @@ pub enum Cell {
 
 impl Cell {
     fn of(record: &[u8]) -> Cell {
-        match record[4] {
-            1 => Cell::Waiting,
-            2 => Cell::Present(value(record, 0, CELL)),
+        match record[cell::STATE] {
+            cell::WAITING => Cell::Waiting,
+            cell::PRESENT => Cell::Present(value(record, cell::VALUE, cell::HIGH)),
             _ => Cell::Absent,
         }
     }
@@ -135,7 +135,7 @@ pub fn cells(records: &[u8]) -> Vec<Cell> {
 
 /// The plain records of the low ends, of this width each, of records of ranges.
 pub fn low_ends(bytes: &[u8], width: usize) -> Vec<u8> {
-    let records = bytes.chunks_exact(width + 4);
+    let records = bytes.chunks_exact(width + token::HIGH.len());
     records
         .flat_map(|record| &record[..width])
         .copied()
@@ -152,21 +152,14 @@ pub fn range_cells(records: &[u8]) -> Vec<Cell> {
     records.chunks_exact(RANGE_CELL).map(Cell::of).collect()
 }
 
-/// The number at a place of a record; of a range, up to the one that stands behind the plain record.
-fn value(record: &[u8], at: usize, plain: usize) -> Value {
-    let low = i32::from_le_bytes(bytes(record, at));
-    let high = match record.len() {
-        length if length == plain => low,
-        _ => i32::from_le_bytes(bytes(record, plain)),
+/// The number in a field of a record; of a range, up to the one behind the plain record.
+fn value(record: &[u8], low: Range<usize>, high: Range<usize>) -> Value {
+    let low = signed(record, low);
+    let high = match record.len() < high.end {
+        true => low,
+        false => signed(record, high),
     };
     Value { low, high }
-}
-
-/// The bytes of a number at a place of a record.
-fn bytes<const N: usize>(record: &[u8], at: usize) -> [u8; N] {
-    let mut bytes = [0; N];
-    bytes.copy_from_slice(&record[at..at + N]);
-    bytes
 }
 
 #[cfg(test)]
@@ -223,7 +216,7 @@ mod tests {
     #[test]
     fn a_cell_record() {
         let record = [0xfe, 0xff, 0xff, 0xff, 2, 0, 0, 0, 44, 1, 0, 0];
-        assert_eq!(cells(&record[..8]), [Cell::Present(Value::of(-2))]);
+        assert_eq!(cells(&record[..CELL]), [Cell::Present(Value::of(-2))]);
         let value = Value { low: -2, high: 300 };
         assert_eq!(range_cells(&record), [Cell::Present(value)]);
     }

@@ -1,7 +1,6 @@
 //! A refused run explained: what was refused, by name, and what stood in the way.
 
-use asm::{ARRAY_RECORD, MOST_ARRAYS};
-use ttda::widths::{MOST_INSTRUCTIONS, PICK};
+use ttda::widths::{ARRAY, MOST_ARRAYS, MOST_INSTRUCTIONS, PICK};
 
 use crate::activity::{Activity, Port};
 use crate::answer::{count, Answer, Word};
@@ -137,7 +136,7 @@ fn bad_array(program: &Program, place: usize, sizes: Sizes, finding: Finding) ->
 /// What is wrong with the table of arrays, and which of them it is about; `None` for a table that is taken.
 pub fn bad_table(program: &Program, sizes: Sizes) -> Option<(Option<&Array>, String)> {
     let bytes = program.files.arrays.len();
-    if let Some(why) = bad_records("arrays", bytes, ARRAY_RECORD, MOST_ARRAYS) {
+    if let Some(why) = bad_records("arrays", bytes, ARRAY, MOST_ARRAYS) {
         return Some((None, why));
     }
     let mut arrays = program.arrays.all().iter();

@@ -6,6 +6,7 @@ mod common;
 use std::fs;
 
 use common::{dayomlak, done, kept_command, Done, Folder};
+use ttda::widths::{LOGGED, MOST_RECORDS};
 
 /// A read that is deferred oldest first, and a cell that is loaded.
 const SUM: &str =
@@ -44,8 +45,8 @@ fn picks_with_a_byte_too_many_have_no_completed_plot() {
     assert_eq!(dayomlak(&["run", &files]).status, 1);
     let (second, picture) = plot(&folder, &files);
     assert_eq!(second.status, 1);
-    assert!(second.out.contains("refused by 7, bad store"), "{second:?}");
-    assert!(second.out.contains("the picks have 1 byte"), "{second:?}");
+    second.says("refused by 7, bad store");
+    second.says("the picks have 1 byte");
     let words = "in the order of its picks; the picks have 1 byte, no";
     assert!(picture.contains("UTC: refused by 7, bad store") && picture.contains(words));
     assert!(!picture.contains("UTC: completed") && !picture.contains("[0] = 41\n"));
@@ -55,13 +56,13 @@ fn picks_with_a_byte_too_many_have_no_completed_plot() {
 #[test]
 fn picks_that_are_too_many_have_no_completed_plot() {
     let folder = Folder::new();
-    let file = folder.write("sum.ttda", SUM.to_string() + &picks(2048));
+    let file = folder.write("sum.ttda", SUM.to_string() + &picks(MOST_RECORDS));
     assert!(plot(&folder, &file).0.out.starts_with("completed"));
     folder.write("sum.ttda", SUM.to_string() + &picks(2049));
     let (second, picture) = plot(&folder, &file);
     assert_eq!(second.status, 1);
-    assert!(second.out.contains("refused by 7, bad store"), "{second:?}");
-    assert!(second.out.contains("there are 2049 picks"), "{second:?}");
+    second.says("refused by 7, bad store");
+    second.says("there are 2049 picks");
     assert!(!picture.contains("UTC: completed"));
 }
 
@@ -110,7 +111,7 @@ fn a_log_of_an_edited_graph_is_refused() {
     for edited in [SUM.replace("= 40", "= 50"), SUM.replace("ADD 1", "ADD 2")] {
         folder.write("L.ttda", &edited);
         let refused = dayomlak(&["replay", &file, &log]);
-        assert_eq!((&refused.out[..], refused.status), ("", 2));
+        refused.fails(2);
         let named = fingerprints(&refused.err);
         assert!(named.len() == 2 && named[0] != named[1], "{refused:?}");
         let anyway = dayomlak(&["replay", &file, &log, "--anyway"]);
@@ -124,14 +125,8 @@ fn a_log_of_an_edited_graph_is_refused() {
     folder.write("L.ttda", SUM.replace("input read = 3", "input out = 3"));
     let anyway = dayomlak(&["replay", &file, &log, "--anyway"]);
     assert_eq!(anyway.status, 1);
-    assert!(
-        anyway.out.contains("refused by 20, not enabled"),
-        "{anyway:?}"
-    );
-    assert!(
-        anyway.out.contains("fired by the log of another run\n"),
-        "{anyway:?}"
-    );
+    anyway.says("refused by 20, not enabled");
+    anyway.says("fired by the log of another run\n");
     // Names and comments are no part of a graph.
     folder.write("L.ttda", SUM.replace("plus", "sum") + "# a sum\n");
     assert_eq!(dayomlak(&["replay", &file, &log]).status, 0);
@@ -152,9 +147,9 @@ fn a_log_of_other_buffers_is_refused() {
     let made = dayomlak(&[&["log", &file, "-o", &log], &sizes[..]].concat());
     assert_eq!(made.status, 0);
     let refused = dayomlak(&["replay", &file, &log]);
-    assert_eq!((&refused.out[..], refused.status), ("", 2));
+    refused.fails(2);
     let words = "lend what it was made with: --capacity 20 --cells 4\n";
-    assert!(refused.err.contains(words), "{refused:?}");
+    refused.complains(words);
     for other in [
         ["--capacity", "21", "--cells", "4"],
         ["--capacity", "20", "--cells", "5"],
@@ -175,7 +170,7 @@ fn bare_records_name_no_run() {
     dayomlak(&["log", &file, "-o", &log]);
     dayomlak(&["log", &file, "-o", &bare, "--records"]);
     let (log, records) = (fs::read(log).unwrap(), fs::read(&bare).unwrap());
-    assert_eq!(records.len(), 3 * 20);
+    assert_eq!(records.len(), 3 * LOGGED);
     assert!(log.starts_with(b"dayomlak log 1\n") && log.ends_with(&records));
     let replayed = dayomlak(&["replay", &file, &bare]);
     assert_eq!(replayed.status, 0);
@@ -199,13 +194,13 @@ fn what_is_no_log() {
     let whole = fs::read(&log).unwrap();
     let cut = folder.write("cut.log", &whole[..whole.len() - 1]);
     let refused = dayomlak(&["replay", &file, &cut]);
-    assert_eq!((&refused.out[..], refused.status), ("", 2));
+    refused.fails(2);
     assert!(refused
         .err
         .contains("its head says 3 firings of 20 bytes, and it has 59 bytes"));
     let refused = dayomlak(&["run", &log]);
-    assert_eq!((&refused.out[..], refused.status), ("", 2));
-    assert!(refused.err.contains("L.log is a log\n"), "{refused:?}");
+    refused.fails(2);
+    refused.complains("L.log is a log\n");
     let file = folder.write("twice.ttda", "a: OUT\ninput a = 1\ninput a = 2\n");
     let none = folder.path("none.log");
     let made = dayomlak(&["log", &file, "-o", &none]);

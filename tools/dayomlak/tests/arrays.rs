@@ -87,14 +87,14 @@ fn a_read_that_is_woken_is_named() {
 fn two_names_of_one_cell() {
     let text = "array a = 4\narray b = 4 at 2\nw: STORE b\ninput w.0 = 1\ninput w.1 = 9\n";
     let done = typed(text, &["trace", "-"]);
-    assert!(done.out.contains("STORE b  1 9  b[1] := 9\n"), "{done:?}");
-    assert!(done.out.contains("completed: 1 firing"), "{done:?}");
+    done.says("STORE b  1 9  b[1] := 9\n");
+    done.says("completed: 1 firing");
     assert!(typed(text, &["run", "-"]).out.contains("\na[3] = 9\n"));
-    assert!(done.err.contains("`b[1]` is `a[3]`"), "{done:?}");
+    done.complains("`b[1]` is `a[3]`");
     let twice = text.to_string() + "a[3] = 1\n";
     let done = typed(&twice, &["run", "-"]);
-    assert!(done.out.contains("refused by 11, second write"), "{done:?}");
-    assert!(done.out.contains("a[3] was written by `w[0]`"), "{done:?}");
+    done.says("refused by 11, second write");
+    done.says("a[3] was written by `w[0]`");
 }
 
 /// An array may be empty, also behind the last cell.
@@ -102,12 +102,9 @@ fn two_names_of_one_cell() {
 fn an_empty_array() {
     let text = "array last = 1023\narray one = 1\narray none = 0\nr: FETCH none -> out\nout: OUT\ninput r = 1\n";
     let done = typed(text, &["run", "-"]);
-    assert!(done.out.contains("refused by 10, no such cell"), "{done:?}");
-    assert!(
-        done.out.contains("`none` has 0 elements; index 1"),
-        "{done:?}"
-    );
-    assert!(done.out.contains("`none` is empty"), "{done:?}");
+    done.says("refused by 10, no such cell");
+    done.says("`none` has 0 elements; index 1");
+    done.says("`none` is empty");
 }
 
 /// The bounds take no table.
@@ -123,10 +120,10 @@ fn bounds_let_the_name_by() {
 #[test]
 fn an_expression_has_no_arrays() {
     let done = dayomlak(&["expression", "a[3] * 2", "a=1"]);
-    assert_eq!((done.status, &done.out[..]), (2, ""));
+    done.fails(2);
     let words = "`[` cannot stand in an expression";
-    assert!(done.err.contains(words), "{done:?}");
-    assert!(done.err.contains("give the element a name"), "{done:?}");
+    done.complains(words);
+    done.complains("give the element a name");
 }
 
 /// The folder of a typed graph runs as the text does; its arrays are named by their numbers.
@@ -181,7 +178,7 @@ fn tables_that_are_refused() {
     }
     fs::remove_file(folder.path("files/arrays")).unwrap();
     let done = dayomlak(&["run", &files]);
-    assert!(done.out.contains("refused by 22, bad array"), "{done:?}");
+    done.says("refused by 22, bad array");
 }
 
 /// The same graph and inputs under another table are another run: for logs, pictures and the kept plot.
@@ -206,7 +203,7 @@ fn another_table_is_another_run() {
     for other in [&moved, &longer] {
         let name = folder.write("other.ttda", other);
         let replayed = dayomlak(&["replay", &name, &log]);
-        assert_eq!((replayed.status, &replayed.out[..]), (2, ""));
+        replayed.fails(2);
         assert!(replayed.err.contains("is the log of another run"));
         assert_ne!(fingerprint(SUM), fingerprint(other));
         let (said, picture) = plot(other);

@@ -4,9 +4,8 @@ mod common;
 
 use std::fs;
 
-use common::{dayomlak, expect, typed, Done, Folder, ROOT};
+use common::{dayomlak, expect, typed, Folder, LATE, ROOT};
 
-const LATE: &str = "examples/late_entry/late_entry.ttda";
 const MATRIX: &str = "examples/matrix_multiply_long/matrix_multiply_long.ttda";
 const BACKWARDS: &str = "examples/backwards/backwards.ttda";
 
@@ -26,10 +25,6 @@ fn counting_to(end: u16) -> String {
 fn first_line(text: &str, bound: &str) -> String {
     let done = typed(text, &["run", "-", "--bound", bound]);
     done.out.lines().next().unwrap_or_default().to_string()
-}
-
-fn contains(done: &Done, words: &str) {
-    assert!(done.out.contains(words), "{words}\n{done:?}");
 }
 
 #[test]
@@ -60,21 +55,16 @@ fn what_compare_promises() {
     expect("bounding/compare", &compared);
     let completed = dayomlak(&["compare", MATRIX, "--bound", "2", "--orders", "3"]);
     assert_eq!(completed.status, 0);
-    contains(
-        &completed,
+    completed.says(
         "    5 orders (oldest, newest, random:1, ...): completed: 1429 firings, 1805 tokens\n",
     );
-    contains(
-        &completed,
+    completed.says(
         "as every order without a bound does\nthat another order under this bound does not hang",
     );
     let held = dayomlak(&["compare", BACKWARDS, "--bound", "5", "--orders", "3"]);
     assert_eq!(held.status, 1);
-    contains(
-        &held,
-        "    5 orders (oldest, newest, random:1, ...): hung on held activities\n",
-    );
-    contains(&held, "      every order without a bound: completed: 104 firings, 124 tokens\nall these hang on held");
+    held.says("    5 orders (oldest, newest, random:1, ...): hung on held activities\n");
+    held.says("      every order without a bound: completed: 104 firings, 124 tokens\nall these hang on held");
     let refused = dayomlak(&[
         "compare",
         "examples/past_next/past_next.ttda",
@@ -83,16 +73,12 @@ fn what_compare_promises() {
         "--orders",
         "3",
     ]);
-    contains(
-        &refused,
+    refused.says(
         "every order is refused, without a bound too; by what and where may depend on the order\n",
     );
     let diff = dayomlak(&["diff", LATE, "oldest", "typed", "--bound", "2"]);
-    contains(
-        &diff,
-        "they part at firing 2: oldest fires `start_r[0]`, typed fires `start_j[0]/j[0]`\n",
-    );
-    contains(&diff, "orders under a bound need not agree: ");
+    diff.says("they part at firing 2: oldest fires `start_r[0]`, typed fires `start_j[0]/j[0]`\n");
+    diff.says("orders under a bound need not agree: ");
 }
 
 /// Anything but 0 and 2 to 256 is an error of the command line, with the words of the refusal.
@@ -113,12 +99,12 @@ fn bounds_that_are_none() {
         ] {
             let bound = format!("--bound={bound}");
             let done = dayomlak(&[arguments, &[&bound]].concat());
-            assert_eq!((&done.out[..], done.status), ("", 2), "{done:?}");
+            done.fails(2);
         }
     }
     let done = dayomlak(&["run", LATE, "--bound", "1"]);
     let words = "a bound is 0 for none, or 2 to 256 (else 21, bad bound)";
-    assert!(done.err.contains(words), "{done:?}");
+    done.complains(words);
 }
 
 /// Bound 0 is no bound, in all that is printed and written.
@@ -149,29 +135,17 @@ fn bound_0_is_none() {
 fn next_at_255() {
     assert!(first_line(&counting_to(255), "256").starts_with("completed: 1278 firings"));
     let refused = typed(&counting_to(256), &["run", "-", "--bound", "2"]);
-    contains(
-        &refused,
-        "refused by 13, iteration, in firing 1280, of `d_j[255]`",
-    );
+    refused.says("refused by 13, iteration, in firing 1280, of `d_j[255]`");
     let gate = counting_to(256) + "input gate.1 = 0\n";
     let refused = typed(&gate, &["run", "-"]);
-    contains(&refused, "refused by 13, iteration");
+    refused.says("refused by 13, iteration");
     let held = typed(&gate, &["run", "-", "--bound", "256"]);
-    contains(&held, "bound 256; 1 NEXT activity is held by gate[0].1\n");
-    contains(
-        &held,
-        "it would make iteration 256, and waits for what is left at iteration 0\n",
-    );
-    contains(&held, "\n  = without a bound every order is refused\n");
-    contains(
-        &held,
-        "\nd_j[255] (line 5) = 256 is held by gate[0].1 (line 7)\n",
-    );
+    held.says("bound 256; 1 NEXT activity is held by gate[0].1\n");
+    held.says("it would make iteration 256, and waits for what is left at iteration 0\n");
+    held.says("\n  = without a bound every order is refused\n");
+    held.says("\nd_j[255] (line 5) = 256 is held by gate[0].1 (line 7)\n");
     let held = typed(&gate, &["run", "-", "--bound", "255"]);
-    contains(
-        &held,
-        "it would make iteration 255, and waits for what is left at iteration 0\n",
-    );
+    held.says("it would make iteration 255, and waits for what is left at iteration 0\n");
 }
 
 /// Results hold nothing: a token at an OUT, or at a LEAVE that has no caller.
@@ -197,12 +171,9 @@ fn what_waits_holds() {
     for end in ["OUT", "LEAVE 0"] {
         let deferred = format!("{NEXTS}read: FETCH -> end\nend: {end}\ninput read = 7\n");
         let done = typed(&deferred, &["run", "-", "--bound", "2"]);
-        contains(&done, "; 1 NEXT activity is held by end[0]\n");
-        contains(&done, "--- `end[0]` waits for cell 7\n");
-        contains(
-            &done,
-            "\n  = without a bound every order hangs too, with nothing held\n",
-        );
+        done.says("; 1 NEXT activity is held by end[0]\n");
+        done.says("--- `end[0]` waits for cell 7\n");
+        done.says("\n  = without a bound every order hangs too, with nothing held\n");
     }
     let deep = format!(
         "{NEXTS}call: ENTER site 1 -> again return out\nagain: ENTER site 2 -> gate return out\ngate: GATE -> out\n\
@@ -218,12 +189,9 @@ fn several_are_held() {
     let text = "a: NEXT -> b\nb: NEXT -> c\nc: NEXT -> out\nx: NEXT -> y\ny: NEXT -> z\nz: NEXT -> out.0\nout: OUT\ngate: GATE -> sink\n\
         sink: SINK\ninput a = 1\ninput x = 2\ninput gate.1 = 3\n";
     let done = typed(text, &["run", "-", "--bound", "2"]);
-    contains(&done, "; 2 NEXT activities are held by gate[0].1\n");
-    contains(
-        &done,
-        "note: bound 2 holds `b[1]`, `y[1]` back, and nothing else can fire\n",
-    );
-    contains(&done, "\nb[1] (line 2) = 1 is held by gate[0].1 (line 8)\n");
+    done.says("; 2 NEXT activities are held by gate[0].1\n");
+    done.says("note: bound 2 holds `b[1]`, `y[1]` back, and nothing else can fire\n");
+    done.says("\nb[1] (line 2) = 1 is held by gate[0].1 (line 8)\n");
 }
 
 /// The budget is looked at last: hung on held activities comes before spent.
@@ -251,12 +219,11 @@ fn a_trace_marks_what_is_held() {
         &typed(&text, &[&arguments[..], &["--csv"]].concat()),
     );
     let json = typed(&text, &[&arguments[..], &["--json"]].concat());
-    contains(&json, "\"bound\":2,");
-    contains(
-        &json,
+    json.says("\"bound\":2,");
+    json.says(
         "\"pick\":0,\"enabled\":[\"a[0]\"],\"held\":[{\"name\":\"second[1]\",\"path\":\"0\",",
     );
-    contains(&json, "\"line\":2,\"by\":[{\"name\":\"gate[0].0\",");
+    json.says("\"line\":2,\"by\":[{\"name\":\"gate[0].0\",");
     // The second pick would take the held NEXT if it were counted.
     let picked = typed(&text, &[&arguments[..], &["--picks", "0,0,0,0,0"]].concat());
     assert_eq!(
@@ -311,19 +278,10 @@ fn saved_and_carried_on() {
     let hung = ["run", LATE, "--order", "oldest", "--bound", "2"];
     dayomlak(&[&hung[..], &["--save", &part]].concat());
     let again = dayomlak(&["carry-on", &part, "--order", "oldest"]);
-    contains(
-        &again,
-        "hung: 12 firings, 16 tokens, oldest first, bound 2; 1 NEXT activity is held",
-    );
-    contains(
-        &again,
-        "   = carried on without a bound every order completes\n",
-    );
+    again.says("hung: 12 firings, 16 tokens, oldest first, bound 2; 1 NEXT activity is held");
+    again.says("   = carried on without a bound every order completes\n");
     let show = dayomlak(&["show", &part]);
-    contains(
-        &show,
-        "\nheld back:\n  start_j[0]/d_j[1] (by start_j[0]/back[0])\n",
-    );
+    show.says("\nheld back:\n  start_j[0]/d_j[1] (by start_j[0]/back[0])\n");
     let free = dayomlak(&["carry-on", &part, "--order", "oldest", "--bound", "0"]);
     let line = "completed: 25 firings, 31 tokens, oldest first, bound 2, then oldest first from firing 13 on\n";
     assert!(free.out.starts_with(line) && free.status == 0, "{free:?}");
@@ -339,10 +297,7 @@ fn a_log_of_a_bounded_run() {
     let folder = Folder::new();
     let log = folder.path("x.log");
     let done = dayomlak(&["log", LATE, "-o", &log, "--order", "oldest", "--bound", "2"]);
-    contains(
-        &done,
-        "hung: 12 firings, 16 tokens, oldest first, bound 2; ",
-    );
+    done.says("hung: 12 firings, 16 tokens, oldest first, bound 2; ");
     let bytes = fs::read(&log).unwrap();
     assert!(String::from_utf8_lossy(&bytes).contains("\ncells 1024\nbound 2\nfirings 12\n"));
     let replayed = dayomlak(&["replay", LATE, &log]);
@@ -387,15 +342,15 @@ fn a_profile_by_bounds() {
     let one = dayomlak(&[
         "profile", LATE, "--bound", "2", "--order", "oldest", "--json",
     ]);
-    contains(&one, "\"bound\":2,\"answer\":{\"word\":\"hung\"");
+    one.says("\"bound\":2,\"answer\":{\"word\":\"hung\"");
     let table = dayomlak(&["profile", LATE, "--bound", "2", "--order", "oldest"]);
-    contains(&table, "bound 2: hung, 12 firings, 16 tokens, at most 3 live or deferred; 1 NEXT activity is held by start_j[0]/back[0]\n");
+    table.says("bound 2: hung, 12 firings, 16 tokens, at most 3 live or deferred; 1 NEXT activity is held by start_j[0]/back[0]\n");
     // Ideal steps take no bound.
     let done = dayomlak(&["profile", LATE, "--bound", "2", "--processors", "any"]);
     assert_eq!(done.status, 2);
     let done = dayomlak(&[&arguments[..], &["--json"]].concat());
     assert_eq!(done.status, 2);
-    assert!(done.err.contains("each --bound by itself"), "{done:?}");
+    done.complains("each --bound by itself");
     assert!(dayomlak(&["profile", "--help"])
         .out
         .contains("steps take no bound"));
@@ -439,10 +394,7 @@ fn a_timeline() {
     let done = dayomlak(&[
         "timeline", LATE, "--order", "oldest", "--bound", "2", "-o", &file,
     ]);
-    contains(
-        &done,
-        "hung: 12 firings, 16 tokens, oldest first, bound 2; 1 NEXT activity is held by",
-    );
+    done.says("hung: 12 firings, 16 tokens, oldest first, bound 2; 1 NEXT activity is held by");
     let done = dayomlak(&["timeline", LATE, "--steps", "--bound", "2", "-o", &file]);
     assert_eq!(done.status, 2);
 }

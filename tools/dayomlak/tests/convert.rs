@@ -6,16 +6,17 @@ use std::fs;
 use std::path::Path;
 
 use common::{dayomlak, Done, Folder};
+use ttda::layout::{input, instruction, ADD, OUT};
+use ttda::widths::{LOGGED, MOST_RECORDS, OLD_LOGGED, OLD_TOKEN, TOKEN};
 
-/// A token of path 0, iteration 0, instruction 0, live, in 20 bytes.
-fn old_input(port: u8, value: i32) -> Vec<u8> {
-    let value = value.to_le_bytes();
-    [&[0; 9], &[port, 0, 0][..], &value, &[0; 4]].concat()
+/// An input of instruction 0.
+fn new_input(port: u8, value: i32) -> Vec<u8> {
+    input(0, port, value).to_vec()
 }
 
-/// The same in 28 bytes.
-fn new_input(port: u8, value: i32) -> Vec<u8> {
-    [&[0; 8], &old_input(port, value)[..]].concat()
+/// The same with a path of four levels.
+fn old_input(port: u8, value: i32) -> Vec<u8> {
+    new_input(port, value).split_off(TOKEN - OLD_TOKEN)
 }
 
 /// A sum of two inputs, in the files of before.
@@ -27,7 +28,7 @@ fn sum(folder: &Folder) -> String {
 }
 
 fn add_and_out() -> Vec<u8> {
-    [&[16, 1, 0, 0, 1], &[0; 11][..], &[3], &[0; 15]].concat()
+    [instruction(ADD, &[(1, 0)], 0), instruction(OUT, &[], 0)].concat()
 }
 
 fn convert(folder: &Folder, old: &str, options: &[&str]) -> Done {
@@ -67,7 +68,7 @@ fn a_folder() {
     let done = dayomlak(&["run", &old]);
     assert_eq!(done.status, 1);
     let advice = "look at the inputs: they are 2 token records of 20 bytes, with paths of four levels: `dayomlak convert` widens them";
-    assert!(done.out.contains(advice), "{done:?}");
+    done.says(advice);
     let words = "old/graph: copied to new/graph\n\
         old/inputs: 2 token records of 20 bytes, by its length\n\
         new/inputs: 2 token records of 28 bytes\n\
@@ -98,7 +99,7 @@ fn a_folder_without_inputs() {
 fn a_folder_without_files() {
     let folder = Folder::new();
     fs::create_dir(folder.path("old")).unwrap();
-    folder.write("old/log", [0; 12]);
+    folder.write("old/log", [0; OLD_LOGGED]);
     let words = "error: old has no file `graph`, `arrays`, `inputs` or `picks`\n  \
         a listing or a log is converted by its own name\n";
     expect_none(&folder, &convert(&folder, "old", &[]), 2, words);
@@ -192,9 +193,9 @@ fn refused_by_7() {
     folder.write("old", old_input(0, 5).repeat(2049));
     let words = "error: refused by 7, bad store: old: it has 2049 token records of 20 bytes, and 2,048 are the most\n";
     expect_none(&folder, &convert(&folder, "old", &[]), 1, words);
-    folder.write("old", old_input(0, 5).repeat(2048));
+    folder.write("old", old_input(0, 5).repeat(MOST_RECORDS));
     assert_eq!(convert(&folder, "old", &[]).status, 0);
-    assert_eq!(read(&folder, "new"), new_input(0, 5).repeat(2048));
+    assert_eq!(read(&folder, "new"), new_input(0, 5).repeat(MOST_RECORDS));
 }
 
 /// A log in 12 bytes a record, of an engine of before, is replayed once it is widened.
@@ -204,14 +205,14 @@ fn a_log() {
     sum(&folder);
     assert_eq!(convert(&folder, "old", &[]).status, 0);
     let (graph, new) = (folder.path("new"), folder.path("log.new"));
-    let log = folder.write("log", [0; 12]);
+    let log = folder.write("log", [0; OLD_LOGGED]);
     let done = dayomlak(&["replay", &graph, &log]);
     let advice = "look at the log's records: they are 1 log record of 12 bytes, with paths of four levels: `dayomlak convert` widens them";
-    assert!(done.out.contains(advice), "{done:?}");
+    done.says(advice);
     let done = dayomlak(&["convert", &log, &new]);
     let words = "log: 1 log record of 12 bytes, by its length\nlog.new: 1 log record of 20 bytes\n";
     expect(&folder, &done, 0, words);
-    assert_eq!(read(&folder, "log.new"), [0; 20]);
+    assert_eq!(read(&folder, "log.new"), [0; LOGGED]);
     let done = dayomlak(&["replay", &graph, &new]);
     assert!(
         done.out
@@ -306,7 +307,7 @@ fn files_and_folders_that_do_not_fit() {
         &folder.path("old"),
         "--force",
     ]);
-    assert_eq!((done.status, &done.out[..]), (3, ""));
+    done.fails(3);
     assert_eq!(read(&folder, "old/graph"), add_and_out());
     assert_eq!(convert(&folder, "file", &["--as", "frob"]).status, 2);
 }

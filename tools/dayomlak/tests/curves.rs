@@ -4,11 +4,10 @@ mod common;
 
 use std::fs;
 
-use common::{dayomlak, Folder};
+use common::{dayomlak, Folder, VECTOR_SUM};
 
 const MULTIPLY: &str = "examples/matrix_multiply/matrix_multiply.ttda";
 const BOUNDED: &str = "examples/matrix_multiply_both_bounded/matrix_multiply_both_bounded.ttda";
-const VECTOR_SUM: &str = "examples/vector_sum/vector_sum.ttda";
 
 /// The numbers of a table in CSV, row by row.
 fn rows(arguments: &[&str]) -> Vec<Vec<u32>> {
@@ -100,7 +99,7 @@ fn several_in_one_plot() {
         "{tables}"
     );
     let done = dayomlak(&[&arguments[..], &["--csv"]].concat());
-    assert_eq!((done.status, &done.out[..]), (2, ""));
+    done.fails(2);
 }
 
 /// Axes have names, and what wait stand beside all tokens.
@@ -161,7 +160,7 @@ fn other_forms() {
                 fs::remove_file(&picture).unwrap();
             } else {
                 assert_eq!(done.status, 3, "{done:?}");
-                assert!(done.err.contains("librsvg is not installed"), "{done:?}");
+                done.complains("librsvg is not installed");
                 assert!(!folder.exists(name));
             }
         }

@@ -143,7 +143,7 @@ fn asm_and_back() {
         let folder = Folder::new();
         let (file, files) = (file(example), folder.path("files"));
         let made = dayomlak(&["asm", &file, &files]);
-        assert_eq!((&made.out[..], made.status), ("", 0));
+        made.fails(0);
         let text = dayomlak(&["disasm", &files]);
         if STORED.contains(&&example[..]) {
             expect(&format!("{example}/disasm"), &text);

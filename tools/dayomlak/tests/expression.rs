@@ -89,9 +89,9 @@ input n3.0 = 3
     assert_eq!(dayomlak(&["compare", &file]).status, 0);
     assert_eq!(dayomlak(&["profile", &file]).status, 0);
     let dot = dayomlak(&["draw", &file, "--dot"]);
-    assert!(dot.out.contains("product"), "{dot:?}");
+    dot.says("product");
     let svg = dayomlak(&["draw", &file]);
-    assert!(svg.out.contains("remainder"), "{svg:?}");
+    svg.says("remainder");
 }
 
 /// The gallery's example is what the command makes.
@@ -174,7 +174,7 @@ fn values_that_are_none() {
     ] {
         let done = expression("a + 1", &[word]);
         assert_eq!((done.status, &done.out[..]), (2, ""), "{word}");
-        assert!(done.err.contains(said), "{done:?}");
+        done.complains(said);
     }
 }
 
@@ -215,7 +215,7 @@ fn too_long() {
         .out
         .ends_with("= 50\ncompleted: 99 firings, 149 tokens, oldest first\n"));
     let done = expression(&sum(51), &["a=1"]);
-    assert_eq!((done.status, &done.out[..]), (2, ""));
+    done.fails(2);
     let words = "error: the expression has 101 records, 51 names or constants and 50 operations, and 100 are the most\n";
     assert!(done.err.starts_with(words), "{done:?}");
 }
@@ -234,5 +234,5 @@ fn what_is_written() {
     assert_eq!(done.status, 1);
     assert_eq!(dayomlak(&["run", &file]).status, 1);
     let done = expression("a", &["a=1", "-o", &folder.path("absent/x.ttda")]);
-    assert_eq!((done.status, &done.out[..]), (3, ""));
+    done.fails(3);
 }

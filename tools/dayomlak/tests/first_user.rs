@@ -101,7 +101,7 @@ fn files_that_an_editor_saved_otherwise() {
     let folder = Folder::new();
     let returns = folder.write("returns.ttda", "# a loop\ra: COPY -> b\rb: OUT\r");
     let done = dayomlak(&["run", &returns]);
-    assert_eq!((done.status, &done.out[..]), (2, ""));
+    done.fails(2);
     assert!(done
         .err
         .contains("a line ends by a carriage return (CR) alone"));

@@ -3,6 +3,8 @@
 mod common;
 
 use common::{dayomlak, expect, typed, Folder};
+use ttda::layout::fields::logged;
+use ttda::widths::LOGGED;
 
 /// Faults are shown all at once, and nothing is printed.
 #[test]
@@ -10,7 +12,7 @@ fn faults_of_a_text() {
     let text =
         "a: COPY → b, c\nb: GT 4 -> a.1\nb: OUT\nd ADD b\n  D -> a\ninput d = 7x\npicks 70000\n";
     let done = typed(text, &["run", "-"]);
-    assert_eq!((&done.out[..], done.status), ("", 2));
+    done.fails(2);
     expect("messages/faults", &done);
 }
 
@@ -44,7 +46,7 @@ fn loaded_cells_are_counted() {
 fn a_cell_that_the_run_wrote_before_it_was_loaded() {
     let text = "write: STORE\none: COPY -> write.1\ncell 3 = 7\ninput write.0 = 3\ninput one = 5\npicks 1 1\n";
     let done = typed(text, &["run", "-"]);
-    assert!(done.out.contains("refused by 11, second write"), "{done:?}");
+    done.says("refused by 11, second write");
     assert!(
         done.out.contains("\ncell 3 = 5\n") && !done.out.contains("loaded"),
         "{done:?}"
@@ -155,7 +157,7 @@ fn a_path_of_eight_levels() {
     let path = (0..8).fold(0u128, |path, _| path * 65_536 + 256);
     let done = typed(text, &["run", "-", "--listing"]);
     let line = format!("\n{path} 0 0 0 7 live\n");
-    assert!(done.out.contains(&line), "{done:?}");
+    done.says(&line);
     let done = typed(text, &["trace", "-"]);
     assert!(
         done.out.contains(&"a[0]/".repeat(8)) && !done.out.contains(&"a[0]/".repeat(9)),
@@ -193,7 +195,7 @@ fn other_forms_of_refusals() {
     folder.write("graph", [3; 16]);
     folder.write("inputs", [0; 7]);
     let done = dayomlak(&["run", &folder.path("")]);
-    assert!(done.out.contains("refused by 3, fan-out"), "{done:?}");
+    done.says("refused by 3, fan-out");
     folder.write("graph", [&[3][..], &[0; 15]].concat());
     let done = dayomlak(&["run", &folder.path("")]);
     assert!(
@@ -209,8 +211,8 @@ fn a_log_that_cannot_be_replayed() {
     let text = "a: ADD 1 -> b\nb: OUT\ninput a = 1\n";
     let folder = Folder::new();
     let file = folder.write("sum.ttda", text);
-    let mut damaged = [0; 20];
-    damaged[17] = 1;
+    let mut damaged = [0; LOGGED];
+    damaged[logged::ZERO] = 1;
     let cases = [
         (
             vec![0; 40],
@@ -253,7 +255,7 @@ fn every_number_is_explained() {
 fn two_writes_by_their_lines() {
     let done = typed("cell 3 = 7\ncell 4 = 8\ncell 3 = 9\n", &["run", "-"]);
     let lines = "1 | cell 3 = 7\n  | ---------- the first write\n2 | cell 4 = 8\n3 | cell 3 = 9\n";
-    assert!(done.out.contains(lines), "{done:?}");
+    done.says(lines);
 }
 
 /// A profile without a step has no table.
@@ -299,5 +301,5 @@ fn a_token_without_a_partner() {
             .contains("\na[0].1 = 4 waits: no token came to port 0\n"),
         "{done:?}"
     );
-    assert!(done.err.contains("nothing sends to `a.0`"), "{done:?}");
+    done.complains("nothing sends to `a.0`");
 }

@@ -2,9 +2,8 @@
 
 mod common;
 
-use common::{dayomlak, expect, typed, Folder, ROOT};
+use common::{dayomlak, expect, typed, Folder, ROOT, VECTOR_SUM};
 
-const VECTOR_SUM: &str = "examples/vector_sum/vector_sum.ttda";
 const CALLS: &str = "examples/fibonacci/fibonacci.ttda";
 
 /// The loop of the page of typed graphs, without its picks.
@@ -113,7 +112,7 @@ fn a_refused_order() {
     let text = "a: DIV 0 -> b\nb: OUT\ninput a = 1\norder a[0] b[0] c[0]\n";
     let done = typed(text, &["run", "-"]);
     assert_eq!(done.status, 1);
-    assert!(done.out.contains("refused by 12"), "{done:?}");
+    done.says("refused by 12");
 }
 
 #[test]
@@ -131,10 +130,7 @@ fn files_that_are_no_orders() {
     }
     let done = dayomlak(&["run", &file, "--order", "neweset"]);
     assert_eq!(done.status, 2);
-    assert!(
-        done.err.contains("picks such as 0,3,1, or a file"),
-        "{done:?}"
-    );
+    done.complains("picks such as 0,3,1, or a file");
 }
 
 /// What is read is not written over.
@@ -152,7 +148,7 @@ fn an_order_is_not_overwritten() {
     ] {
         let done = dayomlak(arguments);
         assert_eq!(done.status, 2, "{done:?}");
-        assert!(done.err.contains("the order itself"), "{done:?}");
+        done.complains("the order itself");
     }
     assert_eq!(std::fs::read(&order).unwrap(), b"j[0]\n");
 }
@@ -196,7 +192,7 @@ fn telling_refused_runs_apart() {
     assert_eq!(done.status, 1);
     let start = "they part at firing 1: oldest fires `a[0]`, newest fires `c[0]`";
     assert!(done.out.starts_with(start), "{done:?}");
-    assert!(done.out.contains("every order is refused"), "{done:?}");
+    done.says("every order is refused");
     let done = typed(
         "a: SINK\ninput a = 1\ninput a = 2\n",
         &["diff", "-", "oldest", "newest"],

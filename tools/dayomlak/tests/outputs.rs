@@ -45,7 +45,7 @@ fn a_typed_graph_is_not_overwritten() {
             let done = written(writer, &file, &folder.path(name));
             assert_eq!((&done.out[..], done.status), ("", 2), "{writer:?}, {name}");
             let words = format!("{name} is the graph itself, which would be overwritten\n");
-            assert!(done.err.contains(&words), "{done:?}");
+            done.complains(&words);
             assert_eq!(fs::read_to_string(&file).unwrap(), SUM);
         }
     }
@@ -62,7 +62,7 @@ fn nor_by_the_other_end() {
     assert_eq!(done_by_link.status, 2, "{done_by_link:?}");
     let mut draw = command(&folder, &["draw", "-", "-o", &file]);
     let drawn = done(draw.stdin(Stdio::from(File::open(&file).unwrap())));
-    assert_eq!((&drawn.out[..], drawn.status), ("", 2));
+    drawn.fails(2);
     assert!(drawn
         .err
         .contains("the file that standard input comes from"));
@@ -79,10 +79,10 @@ fn files_of_a_folder_are_not_overwritten() {
         let done = written(writer, &files, &folder.path("files/graph"));
         assert_eq!(done.status, 2, "{writer:?}");
         let words = "is the file `graph` of the graph, which would be overwritten";
-        assert!(done.err.contains(words), "{done:?}");
+        done.complains(words);
     }
     let asm = dayomlak(&["asm", &files, &files]);
-    assert_eq!((&asm.out[..], asm.status), ("", 2), "{asm:?}");
+    asm.fails(2);
     assert_eq!(fs::read(folder.path("files/graph")).unwrap(), graph);
     // The last of three names leads to the text: none of them is written.
     fs::create_dir(folder.path("more")).unwrap();
@@ -114,10 +114,7 @@ fn a_link_is_followed() {
     symlink("round", folder.path("round")).unwrap();
     let done = written(&["draw", "--dot"], &file, &folder.path("round"));
     assert_eq!(done.status, 3);
-    assert!(
-        done.err.contains("its links lead round in a circle"),
-        "{done:?}"
-    );
+    done.complains("its links lead round in a circle");
 }
 
 /// `-` is standard output; what is said beside it goes to standard error.
@@ -170,7 +167,7 @@ fn names_that_cannot_be_written() {
     assert_eq!(names(&folder), ["S.ttda", "far", "to_folder", "to_nothing"]);
     fs::create_dir_all(folder.path("made/picks")).unwrap();
     let asm = dayomlak(&["asm", &file, &folder.path("made")]);
-    assert_eq!((&asm.out[..], asm.status), ("", 3));
+    asm.fails(3);
     assert!(asm.err.contains("it is a folder: name a file in it"));
     assert!(!folder.exists("made/graph"));
 }

@@ -226,16 +226,13 @@ fn a_table_has_no_order_and_no_budget() {
             &folder,
             &[&["profile", &file], options].concat(),
         ));
-        assert_eq!((&refused.out[..], refused.status), ("", 2));
+        refused.fails(2);
         let words = "steps take no picks and no budget: leave them out, or name a picture";
-        assert!(refused.err.contains(words), "{refused:?}");
+        refused.complains(words);
     }
     let file = folder.write("picked.ttda", sum(40) + "picks 1 0\n");
     let table = done(&mut kept_command(&folder, &["profile", &file]));
-    assert!(
-        table.out.contains("\nthe picks are not used: "),
-        "{table:?}"
-    );
+    table.says("\nthe picks are not used: ");
 }
 
 /// A cache that is damaged or cannot be written is no failure.

@@ -6,6 +6,7 @@ mod common;
 use std::fs;
 
 use common::{command, dayomlak, done, expect, typed, Done, Folder, ROOT};
+use ttda::widths::LOGGED;
 
 const MARGIN: &str = "examples/measurement/measurement.ranges";
 const NOMINAL: &str = "examples/measurement/measurement.ttda";
@@ -349,7 +350,7 @@ fn a_bound() {
 fn faults_of_a_text() {
     let text = "x: OUT\ninput x = 5..3\ncell 3 = 9..7\narray a = 2\na[1] = 2..\ninput x = 40±2\n";
     let done = ranges(text, &[]);
-    assert_eq!((done.status, &done.out[..]), (2, ""));
+    done.fails(2);
     expect("ranges/faults", &done);
 }
 
@@ -358,7 +359,7 @@ fn faults_of_a_text() {
 fn other_commands() {
     let folder = Folder::new();
     let file = folder.write("x.ttda", EITHER);
-    folder.write("x.log", [0; 20]);
+    folder.write("x.log", [0; LOGGED]);
     let (log, out) = (folder.path("x.log"), folder.path("out"));
     let calls: [&[&str]; 17] = [
         &["run", &file],
@@ -416,7 +417,7 @@ fn an_order_by_names() {
     contains(&done.out, ", in its typed order\n");
     let before = format!("{EITHER}order x[0] nonsense[0]\n");
     let done = ranges(&before, &[]);
-    assert_eq!((done.status, &done.out[..]), (2, ""));
+    done.fails(2);
     contains(&done.err, "`nonsense[0]` is not enabled at firing 2");
 }
 
@@ -441,7 +442,7 @@ fn folders_and_saved_runs() {
     let saved = folder.path("x.saved");
     dayomlak(&["run", &file, "--save", &saved]);
     let done = dayomlak(&["ranges", &saved]);
-    assert_eq!((done.status, &done.out[..]), (2, ""));
+    done.fails(2);
     contains(
         &done.err,
         "is a saved state, which `dayomlak ranges` does not take",
@@ -529,7 +530,7 @@ fn where_the_picture_goes() {
         dayomlak(&arguments)
     };
     let over = call(&file, &[]);
-    assert_eq!((over.status, &over.out[..]), (2, ""));
+    over.fails(2);
     contains(&over.err, "is the graph itself, which would be overwritten");
     assert_eq!(fs::read_to_string(&file).unwrap(), SMALL);
     assert_eq!(call(&folder.path("x.gif"), &[]).status, 2);

@@ -328,7 +328,7 @@ fn refused_before_any_firing() {
     for (text, words, fault) in cases {
         let (done, page) = typed(text, &[]);
         assert_eq!(done.status, 1);
-        assert!(done.out.contains(words), "{done:?}");
+        done.says(words);
         stands_alone(&page);
         assert!(between(&page, "<pre id=\"refusal\">", "</pre>").contains(words));
         let empty = "\"firings\":[],\"refused\":null,\"enabled\":[],\"held\":[],\"tokens\":[],\"cells\":[],\"steps\":[],\"firstStep\":1";
@@ -375,7 +375,7 @@ fn a_page_that_cannot_be_written() {
     fs::create_dir(&taken).unwrap();
     for page in [&nowhere, &taken] {
         let done = dayomlak(&["report", &file, "-o", page]);
-        assert_eq!((done.status, &done.out[..]), (3, ""));
+        done.fails(3);
         assert!(
             done.err.starts_with(&format!("error: {page}: ")),
             "{done:?}"
@@ -391,8 +391,8 @@ fn without_graphviz_there_is_no_page() {
     let page = folder.path("page.html");
     let mut command = command(&folder, &["report", &example("call"), "-o", &page]);
     let done = done(command.env("PATH", ""));
-    assert_eq!((done.status, &done.out[..]), (3, ""));
-    assert!(done.err.contains("Graphviz is not installed"), "{done:?}");
+    done.fails(3);
+    done.complains("Graphviz is not installed");
     assert!(fs::metadata(&page).is_err());
 }
 

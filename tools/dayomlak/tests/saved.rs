@@ -4,10 +4,11 @@ mod common;
 
 use std::fs;
 
-use common::{command, dayomlak, done, expect, Done, Folder};
+use common::{command, dayomlak, done, expect, Done, Folder, VECTOR_SUM};
 use plotter::Fingerprint;
+use ttda::layout::fields::{cell, token};
+use ttda::widths::{CELL, TOKEN};
 
-const VECTOR_SUM: &str = "examples/vector_sum/vector_sum.ttda";
 const RECURSION: &str = "examples/recursion/recursion.ttda";
 
 /// A read that is deferred in a call, its partner, and a result. Three firings, and then it hangs.
@@ -96,10 +97,7 @@ fn as_many_parts_as_firings() {
                 folder.path(&(part + 1).to_string()),
             );
             let (done, _) = saved(&["carry-on", &from, "--budget", "1"], &to);
-            assert!(
-                done.out.contains(&format!(": {} firing", part + 1)),
-                "{done:?}"
-            );
+            done.says(&format!(": {} firing", part + 1));
         }
         let last = fs::read(folder.path(&firings(file, "typed").to_string())).unwrap();
         assert!(last == whole, "{file}");
@@ -344,12 +342,12 @@ impl Edited {
 
     /// A byte of a token's record.
     fn token(&mut self, place: usize, at: usize) -> &mut u8 {
-        &mut self.parts[3][28 * place + at]
+        &mut self.parts[3][TOKEN * place + at]
     }
 
     /// A byte of a cell's record.
     fn cell(&mut self, number: usize, at: usize) -> &mut u8 {
-        &mut self.parts[4][8 * number + at]
+        &mut self.parts[4][CELL * number + at]
     }
 }
 
@@ -365,34 +363,34 @@ type Change = fn(&mut Edited);
 
 /// The tokens: 0 main, 1 other (a result), 2 n, 3 plus.0 (waits), 4 read, 5 plus.1 (deferred on cell 3).
 const CHANGES: [(&str, &str, Change); 17] = [
-    ("fields and states are allowed", "token 3, `main[0]/#99[0].0`, is at instruction 99, which is not there", |e| *e.token(3, 18) = 99),
-    ("fields and states are allowed", "token 1, `other[0]`, is at port 1, which the instruction does not have", |e| *e.token(1, 17) = 1),
-    ("fields and states are allowed", "token 1, `other[0]`, has the state 7, and states are 0 to 2", |e| *e.token(1, 24) = 7),
-    ("fields and states are allowed", "token 1, `other[0]`, has last bytes that are not zero", |e| *e.token(1, 27) = 1),
-    ("fields and states are allowed", "cell 6 has the state 3, and states are 0 to 2", |e| *e.cell(6, 4) = 3),
-    ("fields and states are allowed", "cell 6 has last bytes that are not zero", |e| *e.cell(6, 5) = 1),
+    ("fields and states are allowed", "token 3, `main[0]/#99[0].0`, is at instruction 99, which is not there", |e| *e.token(3, token::INSTRUCTION.start) = 99),
+    ("fields and states are allowed", "token 1, `other[0]`, is at port 1, which the instruction does not have", |e| *e.token(1, token::PORT) = 1),
+    ("fields and states are allowed", "token 1, `other[0]`, has the state 7, and states are 0 to 2", |e| *e.token(1, token::STATE) = 7),
+    ("fields and states are allowed", "token 1, `other[0]`, has last bytes that are not zero", |e| *e.token(1, token::ZEROS.end - 1) = 1),
+    ("fields and states are allowed", "cell 6 has the state 3, and states are 0 to 2", |e| *e.cell(6, cell::STATE) = 3),
+    ("fields and states are allowed", "cell 6 has last bytes that are not zero", |e| *e.cell(6, cell::ZEROS.start) = 1),
     ("a tag and port is there once", "token 6, `other[0]`, is where token 1 is", |e| {
-        let other = e.parts[3][28..56].to_vec();
+        let other = e.parts[3][TOKEN..2 * TOKEN].to_vec();
         e.parts[3].extend(other);
         e.set("tokens", "7");
     }),
     ("a path is made of sites that have an ENTER, its levels unbroken", "token 3, `site 9[0]/plus[0].0`, has a path through site 9, which has no ENTER", |e| *e.token(3, 1) = 9),
     ("a path is made of sites that have an ENTER, its levels unbroken", "token 3, `main[0]/site 0[0]/main[0]/plus[0].0`, has a path with a level that names no site", |e| *e.token(3, 5) = 1),
     ("a tag's operands are all present and spent, or none is spent", "token 3, `main[0]/plus[0].0`, is spent, and the token at port 1 is deferred", |e| {
-        *e.token(3, 24) = 1;
+        *e.token(3, token::STATE) = token::SPENT;
         e.set("firings", "4");
     }),
     ("a result is never spent", "token 1, `other[0]`, is spent", |e| {
-        *e.token(1, 24) = 1;
+        *e.token(1, token::STATE) = token::SPENT;
         e.set("firings", "4");
     }),
     ("a deferred token names a cell", "token 5, `main[0]/plus[0].1`, is deferred on cell 10, and there are 10 cells", |e| {
-        *e.token(5, 20) = 10;
-        *e.cell(3, 4) = 0;
+        *e.token(5, token::VALUE.start) = 10;
+        *e.cell(3, cell::STATE) = cell::ABSENT;
     }),
-    ("a cell waits exactly where a token is deferred on it", "token 5, `main[0]/plus[0].1`, is deferred on cell 3, which is absent", |e| *e.cell(3, 4) = 0),
-    ("a cell waits exactly where a token is deferred on it", "cell 5 waits, and no token is deferred on it", |e| *e.cell(5, 4) = 1),
-    ("a cell's value is 0 until it is present", "cell 4 is not present and has the value 7", |e| *e.cell(4, 0) = 7),
+    ("a cell waits exactly where a token is deferred on it", "token 5, `main[0]/plus[0].1`, is deferred on cell 3, which is absent", |e| *e.cell(3, cell::STATE) = cell::ABSENT),
+    ("a cell waits exactly where a token is deferred on it", "cell 5 waits, and no token is deferred on it", |e| *e.cell(5, cell::STATE) = cell::WAITING),
+    ("a cell's value is 0 until it is present", "cell 4 is not present and has the value 7", |e| *e.cell(4, cell::VALUE.start) = 7),
     ("the tokens are within the capacity", "there are 6, and the capacity is 5", |e| e.set("capacity", "5")),
     ("there are as many firings as tags with spent operands", "there are 4 firings and 3 such tags", |e| e.set("firings", "4")),
 ];
@@ -415,10 +413,7 @@ fn each_condition_is_explained() {
             assert_eq!((&done.err[..], done.status), ("", 1), "{done:?}");
             let title = "error: refused by 24, damaged state, before the first firing\n";
             assert!(done.out.starts_with(title), "{done:?}");
-            assert!(
-                done.out.contains(&format!("= {rule}: {words}\n")),
-                "{done:?}"
-            );
+            done.says(&format!("= {rule}: {words}\n"));
             let named = CHANGES
                 .iter()
                 .filter(|c| done.out.contains(&format!("= {}: ", c.0)));
@@ -461,7 +456,7 @@ fn the_conditions_alone_decide() {
     let mut edited = Edited::deferred(&folder);
     // The result is another one, and the ledger is in another order.
     *edited.token(1, 20) = 77;
-    let first = edited.parts[3].drain(..28).collect::<Vec<u8>>();
+    let first = edited.parts[3].drain(..TOKEN).collect::<Vec<u8>>();
     edited.parts[3].extend(first);
     let file = folder.write("other", edited.bytes());
     let done = dayomlak(&["carry-on", &file]);
@@ -579,7 +574,7 @@ fn files_that_do_not_fit() {
         let file = folder.write("unfit", edited.bytes());
         for name in ["carry-on", "show", "trace"] {
             let done = dayomlak(&[name, &file]);
-            assert_eq!((&done.out[..], done.status), ("", 2), "{done:?}");
+            done.fails(2);
             assert_eq!(done.err, format!("error: {file}: {words}\n"));
         }
     }
@@ -636,11 +631,8 @@ fn commands_that_take_none() {
         assert_eq!((&done.out[..], &done.err, done.status), ("", &text, 2));
     }
     let done = dayomlak(&["replay", VECTOR_SUM, &part]);
-    assert_eq!((&done.out[..], done.status), ("", 2), "{done:?}");
-    assert!(
-        done.err.contains("is a saved state, and no log\n"),
-        "{done:?}"
-    );
+    done.fails(2);
+    done.complains("is a saved state, and no log\n");
     let done = dayomlak(&["convert", &part, &other]);
     assert!(
         done.status == 2 && done.err.contains("a saved state: its records are new ones"),
@@ -656,7 +648,7 @@ fn where_a_state_is_saved() {
     let (_, bytes) = saved(&["run", VECTOR_SUM, "--budget", "30"], &part);
     // Not over what is read.
     let done = dayomlak(&["carry-on", &part, "--save", &part]);
-    assert_eq!((&done.out[..], done.status), ("", 2));
+    done.fails(2);
     assert!(
         done.err
             .contains("is the saved state itself, which would be overwritten\n  name another file"),
@@ -684,7 +676,7 @@ fn where_a_state_is_saved() {
         );
     }
     let done = dayomlak(&["run", VECTOR_SUM, "--save", "no/such/folder/x"]);
-    assert_eq!((&done.out[..], done.status), ("", 3));
+    done.fails(3);
     // From standard input.
     let mut piped = command(&folder, &["carry-on", "-"]);
     let done = done_from(&mut piped, &part);
@@ -732,7 +724,7 @@ fn sizes_are_saved() {
     );
     for name in ["--capacity", "--cells"] {
         let done = dayomlak(&["trace", &part, name, "100"]);
-        assert_eq!((&done.out[..], done.status), ("", 2));
+        done.fails(2);
         assert!(
             done.err
                 .contains("which has a capacity and cells of its own\n  leave out"),
@@ -815,7 +807,7 @@ fn the_page_of_a_damaged_state() {
         "\"firings\":[],\"refused\":null,\"enabled\":[],\"held\":[],\"tokens\":[],\"cells\":[]"
     ));
     let done = dayomlak(&["report", &file, "-o", &file]);
-    assert_eq!((&done.out[..], done.status), ("", 2));
+    done.fails(2);
     assert!(
         done.err
             .contains("is the saved state itself, which would be overwritten"),

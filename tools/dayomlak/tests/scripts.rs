@@ -5,12 +5,10 @@ mod common;
 use std::collections::BTreeSet;
 use std::fs;
 
-use common::{dayomlak, expect, typed, ROOT};
+use common::{dayomlak, expect, typed, LATE, READ, ROOT};
 
 const CALL: &str = "examples/call/call.ttda";
-const READ: &str = "examples/deferred_read/deferred_read.ttda";
 const FAULTY: &str = "examples/past_next/past_next.ttda";
-const LATE: &str = "examples/late_entry/late_entry.ttda";
 const RANGES: &str = "examples/measurement/measurement.ranges";
 const CONSTANTS: &str = "examples/constants/constants.ttda";
 

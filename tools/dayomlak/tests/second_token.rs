@@ -36,7 +36,7 @@ fn two_arcs_into_one_port() {
   |
   = two arcs end at one port: `sum` -> `x` and `product` -> `x`
 ";
-    assert!(done.out.contains(both), "{done:?}");
+    done.says(both);
     assert!(
         done.out.contains(ONE_TOKEN) && !done.out.contains("NEXT"),
         "{done:?}"

@@ -6,6 +6,7 @@ use std::fs;
 use std::process::Stdio;
 
 use common::{command, dayomlak, done, typed, Folder};
+use ttda::widths::LOGGED;
 
 const COMMANDS: [&str; 20] = [
     "run",
@@ -99,7 +100,7 @@ fn files_that_cannot_be_read() {
         assert!(done.err.starts_with("error: no/such/file: "), "{done:?}");
     }
     let done = dayomlak(&["replay", "examples/call/call.ttda", "no/such/log"]);
-    assert_eq!((done.status, &done.out[..]), (3, ""));
+    done.fails(3);
     let folder = Folder::new();
     fs::create_dir(folder.path("graph")).unwrap();
     assert_eq!(dayomlak(&["run", &folder.path("")]).status, 3);
@@ -120,7 +121,7 @@ fn files_that_cannot_be_written() {
     );
     let asm = dayomlak(&["asm", file, file]);
     assert_eq!(asm.status, 3);
-    assert!(asm.err.contains("it is a file, and the folder"), "{asm:?}");
+    asm.complains("it is a file, and the folder");
     if fs::metadata("/dev/full").is_ok() {
         let full = fs::File::create("/dev/full").unwrap();
         let done = done(command(&Folder::new(), &["run", file, "--listing"]).stdout(full));
@@ -155,15 +156,12 @@ fn a_folder_without_files() {
     assert_eq!(done.status, 1);
     let words =
         "the folder has no file `graph`, or an empty one; did you mean examples/call/call.ttda?";
-    assert!(done.out.contains(words), "{done:?}");
+    done.says(words);
     let done = dayomlak(&["run", "examples"]);
-    assert!(done.out.contains("or an empty one\n"), "{done:?}");
+    done.says("or an empty one\n");
     let done = dayomlak(&["disasm", "examples/call/call.ttda"]);
     assert_eq!(done.status, 3);
-    assert!(
-        done.err.contains("it is a file, and the folder"),
-        "{done:?}"
-    );
+    done.complains("it is a file, and the folder");
 }
 
 /// As `dayomlak trace ... | head -1`: more is printed than a pipe holds, and its reader is gone.
@@ -188,7 +186,7 @@ fn no_text() {
     let folder = Folder::new();
     let file = folder.write("x.ttda", [0xff, 0xfe, 0x00]);
     let done = dayomlak(&["run", &file]);
-    assert_eq!((done.status, &done.out[..]), (2, ""));
+    done.fails(2);
     assert!(
         done.err
             .contains("is no text (UTF-8): line 1 has the byte ff\n  it begins as UTF-16 does"),
@@ -196,10 +194,7 @@ fn no_text() {
     );
     let file = folder.write("x.ttda", [0x61, 0xff, 0x00]);
     let done = dayomlak(&["run", &file]);
-    assert!(
-        done.err.contains("\n  for the files of a graph"),
-        "{done:?}"
-    );
+    done.complains("\n  for the files of a graph");
     let file = folder.write("x.ttda", [0x61, 0xff]);
     let done = dayomlak(&["run", &file]);
     assert!(
@@ -215,8 +210,8 @@ fn without_graphviz() {
     let folder = Folder::new();
     let file = "examples/call/call.ttda";
     let drawn = done(command(&folder, &["draw", file]).env("PATH", ""));
-    assert_eq!((drawn.status, &drawn.out[..]), (3, ""));
-    assert!(drawn.err.contains("Graphviz is not installed"), "{drawn:?}");
+    drawn.fails(3);
+    drawn.complains("Graphviz is not installed");
     let text = done(command(&folder, &["draw", file, "--dot"]).env("PATH", ""));
     assert_eq!(text.status, 0);
 }
@@ -231,5 +226,5 @@ fn no_file_is_left_half_written() {
         .map(|entry| entry.unwrap().file_name())
         .collect();
     assert_eq!(names, ["log"]);
-    assert!(fs::metadata(&log).unwrap().len() > 20 * 17);
+    assert!(fs::metadata(&log).unwrap().len() > 17 * LOGGED as u64);
 }

@@ -5,9 +5,7 @@ mod common;
 use std::io::Write;
 use std::process::Stdio;
 
-use common::{command, dayomlak, expect, Done, Folder, ROOT};
-
-const READ: &str = "examples/deferred_read/deferred_read.ttda";
+use common::{command, dayomlak, expect, Done, Folder, READ, ROOT};
 
 /// A session with these lines.
 fn step(arguments: &[&str], lines: &str) -> Done {
@@ -50,10 +48,7 @@ fn the_order_is_written() {
     let lines = format!("3\n0\nw {order}\np\n");
     let done = step(&[READ], &lines);
     assert_eq!(done.status, 1, "{done:?}");
-    assert!(
-        done.out.contains(&format!("{order} has 2 firings\n")),
-        "{done:?}"
-    );
+    done.says(&format!("{order} has 2 firings\n"));
     let text = std::fs::read_to_string(&order).unwrap();
     let expected = format!("# The order of {READ}: 2 firings\nwrite_5[0]\nread_5[0]\n");
     assert_eq!(text, expected);
@@ -87,8 +82,8 @@ fn what_cannot_be_written() {
     let lines = format!("w {file}\nw {}\n0\n", folder.path("no/x.order"));
     let done = step(&[&file], &lines);
     assert_eq!(done.status, 0, "{done:?}");
-    assert!(done.out.contains("is the graph itself"), "{done:?}");
-    assert!(done.out.contains("there is no folder"), "{done:?}");
+    done.says("is the graph itself");
+    done.says("there is no folder");
     assert_eq!(
         std::fs::read_to_string(&file).unwrap(),
         "a: SINK\ninput a = 1\n"
@@ -106,10 +101,10 @@ fn files_that_cannot_be_fired() {
     dayomlak(&["run", READ, "--budget", "2", "--save", &saved]);
     let done = step(&[&saved], "");
     assert_eq!(done.status, 2, "{done:?}");
-    assert!(done.err.contains("carry-on"), "{done:?}");
+    done.complains("carry-on");
     // Refused before any firing.
     let twice = folder.write("x.ttda", "a: SINK\ninput a = 1\ninput a = 2\n");
     let done = step(&[&twice], "0\nb\np\n");
     assert_eq!(done.status, 1, "{done:?}");
-    assert!(done.out.contains("no activity 0 is enabled"), "{done:?}");
+    done.says("no activity 0 is enabled");
 }

@@ -446,7 +446,7 @@ fn saving_with_the_order() {
         format!("{loads}order cell 4[0] cell 3[0]\n")
     );
     let run = dayomlak(&["run", &studio.folder.path("open.ttda")]);
-    assert!(run.out.contains("in its typed order"), "{run:?}");
+    run.says("in its typed order");
 }
 
 /// Lines that end as on Windows do so again.

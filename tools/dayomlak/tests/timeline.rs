@@ -5,9 +5,7 @@ mod common;
 use std::collections::HashMap;
 use std::fs;
 
-use common::{dayomlak, Folder, ROOT};
-
-const VECTOR_SUM: &str = "examples/vector_sum/vector_sum.ttda";
+use common::{dayomlak, Folder, ROOT, VECTOR_SUM};
 
 /// How often each wire of a VCD file becomes 1, and what each cell becomes last, by name.
 fn read_vcd(text: &str) -> (HashMap<String, usize>, HashMap<String, String>) {

@@ -1,5 +1,7 @@
 //! What the plotter asks of the engine, and the proved library that answers it.
 
+use ttda::layout::fields::step;
+use ttda::layout::unsigned;
 use ttda::widths::{CELL, MOST_RECORDS, STEP, TOKEN};
 
 /// All that a run depends on.
@@ -48,8 +50,8 @@ impl Step {
     /// The steps of a profile's records.
     pub fn all(records: &[u8]) -> Vec<Step> {
         let step = |record: &[u8]| Step {
-            firings: u16::from_le_bytes([record[0], record[1]]),
-            tokens: u16::from_le_bytes([record[2], record[3]]),
+            firings: unsigned(record, step::FIRINGS),
+            tokens: unsigned(record, step::TOKENS),
         };
         records.chunks_exact(STEP).map(step).collect()
     }

@@ -9,16 +9,13 @@
 //! ```
 //! use plotter::curves::Steps;
 //! use plotter::{Library, Plot, Request, Run, Step, Words};
+//! use ttda::layout::{input, instruction, ADD, OUT};
 //!
-//! let mut graph = vec![0; 2 * 16];
-//! graph[..5].copy_from_slice(&[16, 1, 0, 0, 1]); // 0 is ADD to port 0 of 1
-//! graph[16] = 3; // 1 is OUT
-//! let mut inputs = vec![0; 2 * 28];
-//! inputs[20..24].copy_from_slice(&7i32.to_le_bytes());
-//! inputs[28 + 17] = 1;
-//! inputs[48..52].copy_from_slice(&(-9i32).to_le_bytes());
+//! // 0 is ADD to port 0 of 1, and 1 is OUT.
+//! let graph = [instruction(ADD, &[(1, 0)], 0), instruction(OUT, &[], 0)].concat();
+//! let inputs = [input(0, 0, 7), input(0, 1, -9)].concat();
 //! let (arrays, picks) = (Vec::new(), Vec::new());
-//! let (budget, bound, capacity, cells) = (2048, 0, 2048, 1024);
+//! let (budget, bound, capacity, cells) = (9, 0, 9, 0);
 //! let request = Request { graph, arrays, inputs, picks, budget, bound, capacity, cells };
 //! let asked = Run { request, order: "oldest first".to_string(), seconds: plotter::now() };
 //!

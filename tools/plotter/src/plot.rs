@@ -2,14 +2,13 @@
 
 use std::error::Error;
 
+use ttda::widths::WHOLE_BUDGET;
+
 use crate::cache::Cache;
 use crate::clock::date;
 use crate::curves::{self, Picture, Steps};
 use crate::engine::{Engine, Left, Profile, Request};
 use crate::fingerprint::Fingerprint;
-
-/// The budget that no run exceeds; it is not worth a word.
-const WHOLE: u16 = 2048;
 
 /// A run, and how a reader knows it.
 #[derive(Clone, Debug, PartialEq, Eq)]
@@ -22,13 +21,13 @@ pub struct Run {
 }
 
 impl Run {
-    /// Its order, its loop bound if it has one, and its budget where that may stop it.
+    /// Its order, its loop bound if it has one, and its budget if that may stop it.
     pub fn words(&self) -> String {
         let mut words = self.order.clone();
         if self.request.bound != 0 {
             words += &format!(", bound {}", self.request.bound);
         }
-        if self.request.budget != WHOLE {
+        if self.request.budget != WHOLE_BUDGET {
             words += &format!(", budget {}", self.request.budget);
         }
         words

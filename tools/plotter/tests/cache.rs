@@ -8,6 +8,7 @@ use std::sync::atomic::{AtomicUsize, Ordering};
 
 use plotter::curves::Steps;
 use plotter::{Cache, Engine, Left, Plot, Profile, Request, Run, Step, Words};
+use ttda::widths::{ARRAY, TOKEN, WHOLE_BUDGET};
 
 /// Counts its runs, and serves as it is told.
 struct StandIn {
@@ -76,10 +77,10 @@ impl Drop for Folder {
 fn request(picks: &[u8]) -> Request {
     Request {
         graph: vec![1, 2, 3],
-        arrays: vec![5; 4],
-        inputs: vec![4; 28],
+        arrays: vec![5; ARRAY],
+        inputs: vec![4; TOKEN],
         picks: picks.to_vec(),
-        budget: 2048,
+        budget: WHOLE_BUDGET,
         bound: 0,
         capacity: 20,
         cells: 1,

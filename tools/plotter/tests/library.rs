@@ -4,7 +4,12 @@
 use std::fs;
 
 use plotter::{Engine, Left, Library, Profile, Request};
+use ttda::layout::fields::token;
+use ttda::widths::{MOST_CELLS, MOST_RECORDS, PICK, WHOLE_BUDGET};
 
+/// The most records of a ledger, and the most cells.
+const RECORDS: u16 = MOST_RECORDS as u16;
+const CELLS: u16 = MOST_CELLS as u16;
 const EXAMPLES: &str = concat!(env!("CARGO_MANIFEST_DIR"), "/../../examples");
 
 /// A run with all that a plot shows of it.
@@ -51,24 +56,27 @@ fn gallery() -> Vec<asm::Files> {
 
 /// Runs of a graph that differ in one thing or in several: picks, two of which no run takes, budget, capacity, cell count, bound.
 fn runs(files: &asm::Files) -> Vec<Shown> {
-    let picks = [0, 2, 60, 4096, 61, 4098].map(|bytes| vec![201; bytes]);
-    let whole = Library.run(&request(files, &[], 2048, 2048, 1024)).answer;
+    let most = PICK * MOST_RECORDS;
+    let picks = [0, 2, 60, most, 61, most + PICK].map(|bytes| vec![201; bytes]);
+    let whole = Library
+        .run(&request(files, &[], WHOLE_BUDGET, RECORDS, CELLS))
+        .answer;
     let firings = ttda::Answer(whole).firings() as u16;
     let mut runs = Vec::new();
     for picks in &picks {
-        for budget in [0, firings / 2, firings, 2048] {
-            for (capacity, cells) in [(2048, 1024), (90, 1024), (2048, 20)] {
+        for budget in [0, firings / 2, firings, WHOLE_BUDGET] {
+            for (capacity, cells) in [(RECORDS, CELLS), (90, CELLS), (RECORDS, 20)] {
                 runs.push(Shown::of(request(files, picks, budget, capacity, cells)));
             }
         }
     }
     for bound in [2, 4] {
         for (picks, budget) in [
-            (&picks[0], 2048),
-            (&picks[2], 2048),
+            (&picks[0], WHOLE_BUDGET),
+            (&picks[2], WHOLE_BUDGET),
             (&picks[0], firings / 2),
         ] {
-            let plain = request(files, picks, budget, 2048, 1024);
+            let plain = request(files, picks, budget, RECORDS, CELLS);
             runs.push(Shown::of(Request { bound, ..plain }));
         }
     }
@@ -117,11 +125,11 @@ fn what_is_served_is_what_the_run_would_show() {
 #[test]
 fn another_graph_is_never_served() {
     let gallery = gallery();
-    let shown = |files: &asm::Files| Shown::of(request(files, &[], 2048, 2048, 1024));
+    let shown = |files: &asm::Files| Shown::of(request(files, &[], WHOLE_BUDGET, RECORDS, CELLS));
     for files in &gallery {
         let kept = shown(files);
         let mut edited = files.clone();
-        edited.inputs[20] ^= 1;
+        edited.inputs[token::VALUE.start] ^= 1;
         assert!(!kept.serves(&shown(&edited)));
         let mut edited = files.clone();
         // An array more, which no instruction names.

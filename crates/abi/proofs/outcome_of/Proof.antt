@@ -2,12 +2,12 @@
 use borrow.Author.Needs.{needs}
 use borrow.Author.Tests.{eq-eqb, ne-eqb}
 use mathlib.Core.Path.{sym, _∙_}
-use Rattle.abi.specs.Numbers.{outcomeOf}
+use Rattle.abi.specs.Numbers.{outcomeNumbered}
 use Rattle.abi.proofs.outcome_of.Statement.{statement}
 use Rattle.abi.proofs.outcome_of.Tie as tie
 
 pub outcome-of-spec : {M : Type 1} → statement M
-unfolding outcomeOf
+unfolding outcomeNumbered
 outcome-of-spec = tie.close (tie.spec
     (λ c κs. search needs)  -- unplaced-requires
     (λ c κs. search needs)  -- unplaced-requires-2

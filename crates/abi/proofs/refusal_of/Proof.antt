@@ -6,31 +6,14 @@ use borrow.Author.Tests.{ne-eqb}
 use Rattle.rules.specs.Answer.{numberOf}
 use Rattle.rules.specs.declared.answer.Refusal.{Refusal}
 use Rattle.abi.specs.declared.Numbered.the-variants.{NoRefusal}
-use Rattle.abi.specs.Numbers.{refusals, lookup, refusalOf}
+use Rattle.abi.specs.Numbers.{refusals, refusalWith, refusalOf}
+use Rattle.record.proofs.LastArm.{Absent, onto, turned}
 use Rattle.abi.proofs.refusal_of.Statement.{statement}
 use Rattle.abi.proofs.refusal_of.Tie as tie
 
--- n is no refusal's number
-abbrev Absent : List Refusal → ℕ → Type 0
-Absent [] n = Unit {0}
-Absent (r ∷ rs) n = (n ≡ numberOf r → ⊥) × Absent rs n
-
-absent : (rs : List Refusal) (n : ℕ) → Absent rs n → lookup rs n ≡ NoRefusal
+absent : (rs : List Refusal) (n : ℕ) → Absent numberOf rs n → refusalWith rs n ≡ NoRefusal
 absent [] n h = refl
 absent (r ∷ rs) n h = rw (ne-eqb n (numberOf r) (h .0)) (absent rs n (h .1))
-
--- what the last arm knows has the last refusal's fact outermost: it is turned round, one at a time
-abbrev Back : List Refusal → ℕ → Type 0
-Back [] n = Unit {0}
-Back (r ∷ rs) n = Back rs n × (n ≡ numberOf r → ⊥)
-
-abbrev onto : List Refusal → List Refusal → List Refusal
-onto [] acc = acc
-onto (r ∷ rs) acc = onto rs (r ∷ acc)
-
-turned : (rs acc : List Refusal) (n : ℕ) → Back rs n → Absent acc n → Absent (onto rs acc) n
-turned [] acc n h k = k
-turned (r ∷ rs) acc n h k = turned rs (r ∷ acc) n (h .0) (h .1, k)
 
 pub refusal-of-spec : {M : Type 1} → statement M
 unfolding refusalOf
@@ -61,4 +44,4 @@ refusal-of-spec =
     (λ c. rw (c .match .keys22))  -- returns-22
     (λ c. rw (c .match .keys23))  -- returns-23
     (λ c. rw (c .match .keys24))  -- returns-24
-    (λ c. sym (absent refusals (c .before .args .word) (turned (onto refusals []) [] (c .before .args .word) (c .match .rest) tt))))  -- returns-25
+    (λ c. sym (absent refusals (c .before .args .word) (turned numberOf (onto numberOf refusals []) [] (c .before .args .word) (c .match .rest) tt))))  -- returns-25

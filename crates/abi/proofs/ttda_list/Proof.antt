@@ -1,7 +1,7 @@
 -- `abi::ttda_list` meets its contract: the listing as a number, from listing's promise. Assumes nothing.
 use borrow.Author.Needs.{needs}
 use mathlib.Core.Path.{ap, sym, _∙_}
-use Rattle.listing.specs.Listing.{numberOf}
+use Rattle.listing.specs.Listing.{listedNumber}
 use Rattle.abi.proofs.ttda_list.Statement.{statement}
 use Rattle.abi.proofs.ttda_list.Tie as tie
 
@@ -20,7 +20,7 @@ same-length c = search needs
 returns : tie.Need-returns
 returns c =
     let listed = c .before .before .before .before .list .ensures in
-    (sym (ap numberOf (c .enum-told .given .1)) ∙ listed .0, listed .1)
+    (sym (ap listedNumber (c .enum-told .given .1)) ∙ listed .0, listed .1)
 
 same-length-2 : tie.Need-same-length-2
 same-length-2 c = search needs
@@ -28,7 +28,7 @@ same-length-2 c = search needs
 returns-2 : tie.Need-returns-2
 returns-2 c =
     let listed = c .before .before .before .before .list .ensures in
-    (sym (ap numberOf (c .enum-told2 .given .1)) ∙ listed .0, listed .1)
+    (sym (ap listedNumber (c .enum-told2 .given .1)) ∙ listed .0, listed .1)
 
 pub ttda-list-spec : {M : Type 1} → statement M
 ttda-list-spec =

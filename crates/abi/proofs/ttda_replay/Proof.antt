@@ -1,8 +1,5 @@
 -- `abi::ttda_replay` meets its contract: the replay as a number, from the promise of `replay`. Assumes nothing.
 use borrow.Author.Needs.{needs}
-use mathlib.Core.Path.{ap, _∙_}
-use Rattle.rules.specs.Answer.{valuesOf}
-use Rattle.abi.specs.Numbers.{packed}
 use Rattle.abi.proofs.ttda_replay.Statement.{statement}
 use Rattle.abi.proofs.ttda_replay.Tie as tie
 
@@ -13,5 +10,5 @@ ttda-replay-spec = tie.close (tie.spec
     (λ c. search needs)  -- same-length
     (λ c. search needs)  -- same-length-2
     (λ c.  -- returns
-    let ran = c .before .before .before .before .before .replay .ensures in
-    (c .number-of .ensures ∙ ap (λ a. packed (valuesOf a)) (ran .answered), (ran .ledgerLeft, ran .cellsLeft))))
+    let ran = c .before .before .before .before .before .replay in
+    record { answer = ran .result; number = c .number-of .ensures; promised = ran .ensures }))

@@ -1,8 +1,5 @@
 -- `abi::ttda_run_logged` meets its contract: the run as a number, from the engine's promise. Assumes nothing.
 use borrow.Author.Needs.{needs}
-use mathlib.Core.Path.{ap, _∙_}
-use Rattle.rules.specs.Answer.{valuesOf}
-use Rattle.abi.specs.Numbers.{packed}
 use Rattle.abi.proofs.ttda_run_logged.Statement.{statement}
 use Rattle.abi.proofs.ttda_run_logged.Tie as tie
 
@@ -14,5 +11,5 @@ ttda-run-logged-spec = tie.close (tie.spec
     (λ c. search needs)  -- same-length-2
     (λ c. search needs)  -- same-length-3
     (λ c.  -- returns
-    let ran = c .before .before .before .before .before .before .before .run-logged .ensures in
-    (c .number-of .ensures ∙ ap (λ a. packed (valuesOf a)) (ran .answered), (ran .ledgerLeft, (ran .cellsLeft, ran .logLeft)))))
+    let ran = c .before .before .before .before .before .before .before .run-logged in
+    record { answer = ran .result; number = c .number-of .ensures; promised = ran .ensures }))

@@ -21,16 +21,18 @@ ttda-serves-spec = tie.close (tie.spec
     (λ c κs. search needs)  -- limits-in-requires-2
     (λ c κs. search needs)  -- serves-requires
     (λ c.  -- returns-2
+    let at-limits-in = c .before .before .before .limits-in in
     let a = c .before .before .before .before .before .before .before .before .before .before .before .before .before .before .before .before .args in
-    let kept = request (a .kept-graph .now) (a .kept-arrays .now) (a .kept-inputs .now) (a .kept-picks .now) (c .before .before .before .limits-in .result) in
+    let kept = request (a .kept-graph .now) (a .kept-arrays .now) (a .kept-inputs .now) (a .kept-picks .now) (at-limits-in .result) in
     let asked = request (a .graph .now) (a .arrays .now) (a .inputs .now) (a .picks .now) (c .before .before .limits-in2 .result) in
     let e = sym (c .before .before .before .before .before .before .before .unpack .ensures) ∙ c .before .before .before .before .before .answer .given .1 in
-    rw (← c .before .before .before .limits-in .ensures, ← c .before .before .limits-in2 .ensures)
+    rw (← at-limits-in .ensures, ← c .before .before .limits-in2 .ensures)
     (by-answer kept (a .kept-answer) (a .kept-held) asked _ (c .before .serves .result) 1 e (c .before .serves .ensures) (rw (c .if1 .taken))))
     (λ c.  -- returns-3
+    let at-limits-in = c .before .before .before .limits-in in
     let a = c .before .before .before .before .before .before .before .before .before .before .before .before .before .before .before .before .args in
-    let kept = request (a .kept-graph .now) (a .kept-arrays .now) (a .kept-inputs .now) (a .kept-picks .now) (c .before .before .before .limits-in .result) in
+    let kept = request (a .kept-graph .now) (a .kept-arrays .now) (a .kept-inputs .now) (a .kept-picks .now) (at-limits-in .result) in
     let asked = request (a .graph .now) (a .arrays .now) (a .inputs .now) (a .picks .now) (c .before .before .limits-in2 .result) in
     let e = sym (c .before .before .before .before .before .before .before .unpack .ensures) ∙ c .before .before .before .before .before .answer .given .1 in
-    rw (← c .before .before .before .limits-in .ensures, ← c .before .before .limits-in2 .ensures)
+    rw (← at-limits-in .ensures, ← c .before .before .limits-in2 .ensures)
     (by-answer kept (a .kept-answer) (a .kept-held) asked _ (c .before .serves .result) 0 e (c .before .serves .ensures) (rw (c .if1 .left)))))

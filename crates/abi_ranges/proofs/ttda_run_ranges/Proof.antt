@@ -1,8 +1,5 @@
 -- `abi_ranges::ttda_run_ranges` meets its contract: the range run as a number, from its promise. Assumes nothing.
 use borrow.Author.Needs.{needs}
-use mathlib.Core.Path.{ap, _∙_}
-use Rattle.rules.specs.Answer.{valuesOf}
-use Rattle.abi.specs.Numbers.{packed}
 use Rattle.abi_ranges.proofs.ttda_run_ranges.Statement.{statement}
 use Rattle.abi_ranges.proofs.ttda_run_ranges.Tie as tie
 
@@ -13,5 +10,5 @@ ttda-run-ranges-spec = tie.close (tie.spec
     (λ c. search needs)  -- same-length
     (λ c. search needs)  -- same-length-2
     (λ c.  -- returns
-    let ran = c .before .before .before .before .before .run-ranges .ensures in
-    (c .number-of .ensures ∙ ap (λ a. packed (valuesOf a)) (ran .answered), (ran .ledgerLeft, ran .cellsLeft))))
+    let ran = c .before .before .before .before .before .run-ranges in
+    record { answer = ran .result; number = c .number-of .ensures; promised = ran .ensures }))

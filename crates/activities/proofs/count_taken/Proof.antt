@@ -35,11 +35,12 @@ count-taken-spec = tie.close (tie.spec
     (c .before .count .ensures ∙ found-enabled (a .graph .now) r (a .cells .now))
     (found-none (a .graph .now) (a .ledger .now) (a .cells .now) (a .used) ∙ ap (λ (b : ℕ). heldBackIn (a .graph .now) b (a .ledger .now) (a .cells .now) (a .used)) (sym (c .if2 .taken))))
     (λ c κs.  -- count-free-requires
+    let entry = c .before .before .before .before .before .before .before .before .before .before .before .before .before .before .before .before in
     let k = c .before .before .before .before .before .before in
-    let a = c .before .before .before .before .before .before .before .before .before .before .before .before .before .before .before .before .args in
+    let a = entry .args in
     let t = not-false (k .take .result) (c .before .before .before .before .before .if1 .left) in
     let r = ready (prepared (c .before .before .before .before .before .before .before .before .before .before)) (k .take .ensures .1 t) in
-    (r, omega (arith, c .before .before .if2 .left), c .before .before .before .before .before .before .before .before .before .before .before .before .before .before .before .before .pre .1))
+    (r, omega (arith, c .before .before .if2 .left), entry .pre .1))
     (λ c.  -- sub-t26
     let k = c .before .before .before .before .before .before .before in
     let a = c .before .before .before .before .before .before .before .before .before .before .before .before .before .before .before .before .before .args in
@@ -47,10 +48,11 @@ count-taken-spec = tie.close (tie.spec
     let r = ready (prepared (c .before .before .before .before .before .before .before .before .before .before .before)) (k .take .ensures .1 t) in
     omega (arith, c .before .before .before .before .count .ensures, free-few (a .graph .now) r (a .cells .now) (a .bound) (c .count-free .result) (c .count-free .ensures)))
     (λ c.  -- returns-3
+    let at-count = c .before .before .before .before .count in
     let k = c .before .before .before .before .before .before .before in
     let a = c .before .before .before .before .before .before .before .before .before .before .before .before .before .before .before .before .before .args in
     let t = not-false (k .take .result) (c .before .before .before .before .before .before .if1 .left) in
     let r = ready (prepared (c .before .before .before .before .before .before .before .before .before .before .before)) (k .take .ensures .1 t) in
     is-counted (a .graph .now) (a .ledger .now) (a .cells .now) (a .bound) (a .firings) (a .used) (sym t ∙ k .take .ensures .0) _ _
-    (c .before .before .before .before .count .ensures ∙ found-enabled (a .graph .now) r (a .cells .now))
-    (ap (λ (n : ℕ). n - c .count-free .result) (c .before .before .before .before .count .ensures) ∙ found-held (a .graph .now) r (a .cells .now) (a .bound) (c .count-free .result) (c .count-free .ensures))))
+    (at-count .ensures ∙ found-enabled (a .graph .now) r (a .cells .now))
+    (ap (λ (n : ℕ). n - c .count-free .result) (at-count .ensures) ∙ found-held (a .graph .now) r (a .cells .now) (a .bound) (c .count-free .result) (c .count-free .ensures))))

@@ -12,7 +12,7 @@ use Rattle.rules.specs.declared.answer.Refusal.the-variants.{BadInput}
 use Rattle.rules.specs.declared.answer.Checked.the-variants.{Passed}
 use Rattle.rules.specs.declared.answer.Needs.the-variants.{AtMost}
 use Rattle.rules.specs.Check.{demand, inTurn, goodInput, checkGraph, checkStores}
-use Rattle.rules.specs.Needs.{firingsOf, outputsOf, inputsOf, checkNeeds}
+use Rattle.rules.specs.Needs.{firingsNeeded, outputsNeeded, inputsOf, checkNeeds}
 use Rattle.rules.specs.Needs as Needs
 use Rattle.check_fields.proofs.Turns.{both-passed}
 use Rattle.check_fields.proofs.Graphs.{length-graph}
@@ -45,19 +45,23 @@ at-most-spec = tie.close (tie.spec
     let p = c .before .before .pre in
     inputs-inside (a .graph .now) (graph-passed (a .graph .now) (a .inputs .now) p) (a .inputs .now) (inputs-passed (a .graph .now) (a .inputs .now) p))
     (λ c κs.  -- reach-requires
-    let a = c .before .before .before .before .args in
-    graph-passed (a .graph .now) (a .inputs .now) (c .before .before .before .before .pre))
+    let entry = c .before .before .before .before in
+    let a = entry .args in
+    graph-passed (a .graph .now) (a .inputs .now) (entry .pre))
     (λ c κs.  -- total-requires
-    let a = c .before .before .before .before .before .before .args in
-    omega (arith, passed-length (a .graph .now) (graph-passed (a .graph .now) (a .inputs .now) (c .before .before .before .before .before .before .pre)) .1, length-graph (a .graph .now)))
+    let entry = c .before .before .before .before .before .before in
+    let a = entry .args in
+    omega (arith, passed-length (a .graph .now) (graph-passed (a .graph .now) (a .inputs .now) (entry .pre)) .1, length-graph (a .graph .now)))
     (λ c. search needs)  -- add-t12
     (λ c.  -- returns
-    let a = c .before .before .before .before .before .before .before .before .args in
-    let p = c .before .before .before .before .before .before .before .before .pre in
+    let entry = c .before .before .before .before .before .before .before .before in
+    let at-reach = c .before .before .before .reach in
+    let a = entry .args in
+    let p = entry .pre in
     let g = graphOf (a .graph .now) in
     let ts = inputsOf (a .inputs .now) in
     let t = c .before .total .ensures in
-    let same = c .before .before .before .reach .ensures ts (c .before .before .before .before .before .given .ensures) in
-    let reached = c .before .before .before .reach .result in
-    let outputs = t .1 ∙ totals ts g reached same outputsOf in
-    rw p (alike (t .0 ∙ totals ts g reached same firingsOf) (omega (arith, length-tokens (a .inputs .now), outputs)))))
+    let same = at-reach .ensures ts (c .before .before .before .before .before .given .ensures) in
+    let reached = at-reach .result in
+    let outputs = t .1 ∙ totals ts g reached same outputsNeeded in
+    rw p (alike (t .0 ∙ totals ts g reached same firingsNeeded) (omega (arith, length-tokens (a .inputs .now), outputs)))))

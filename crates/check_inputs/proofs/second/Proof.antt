@@ -7,7 +7,7 @@ use lib.ListN.{length, take, drop, length-set}
 use borrow.Author.Needs.{needs}
 use Rattle.rules.specs.Check.{demand, inTurn, secondInput}
 use Rattle.rules.specs.declared.answer.Refusal.the-variants.{SecondToken}
-use Rattle.check_inputs.specs.Inputs.{tokensOf, checkSecond, Seen}
+use Rattle.check_inputs.specs.Inputs.{inputTokens, checkSecond, SeenEntries}
 use Rattle.check_inputs.proofs.Tokens.{length-tokens, in-tokens, none-seen, see}
 use Rattle.check_fields.proofs.Turns.{turn, turn-end, take-next}
 use Rattle.check_inputs.proofs.second.Statement.{statement}
@@ -17,8 +17,8 @@ use Rattle.record.specs.Widths.{tokenWidth}
 abbrev Inv-loop : tie.InvT-loop
 Inv-loop inputs seen₀ i₀ seen i =
     (i ≤ length inputs / tokenWidth)
-    × (checkSecond inputs ≡ inTurn (λ k t. demand (not (secondInput (take k (tokensOf inputs)) t)) SecondToken k) i (drop i (tokensOf inputs)))
-    × Seen (take i (tokensOf inputs)) seen
+    × (checkSecond inputs ≡ inTurn (λ k t. demand (not (secondInput (take k (inputTokens inputs)) t)) SecondToken k) i (drop i (inputTokens inputs)))
+    × SeenEntries (take i (inputTokens inputs)) seen
     × (length seen ≡ 512)
 
 abbrev μ-loop : tie.MeasureT-loop
@@ -37,31 +37,33 @@ second-spec = tie.close (tie.spec
     let t = c .before .token-at .result in
     (omega arith, λ z. c .before .before .before .loop .inv .2 (t .tag) (t .port) (rw (c .entry .ensures .0) at z)))
     (λ c.  -- returns
+    let at-token-at = c .before .before .before .token-at in
     let l = c .before .before .before .before .before .loop in
     let s = c .before .before .before .before .before .before .before .args .inputs .now in
-    let x = c .before .before .before .token-at .result in
+    let x = at-token-at .result in
     let h : l .i < length s / tokenWidth = omega arith in
-    let k : l .i < length (tokensOf s) = omega (arith, length-tokens s) in
-    let e = in-tokens s (l .i) h x ∙ sym (c .before .before .before .token-at .ensures) in
-    let t = l .inv .1 ∙ turn (λ k t. demand (not (secondInput (take k (tokensOf s)) t)) SecondToken k) (tokensOf s) (l .i) x k e (ap (λ (b : Bool). demand (not b) SecondToken (l .i)) (sym (c .before .is-second .ensures) ∙ c .if1 .taken)) in
+    let k : l .i < length (inputTokens s) = omega (arith, length-tokens s) in
+    let e = in-tokens s (l .i) h x ∙ sym (at-token-at .ensures) in
+    let t = l .inv .1 ∙ turn (λ k t. demand (not (secondInput (take k (inputTokens s)) t)) SecondToken k) (inputTokens s) (l .i) x k e (ap (λ (b : Bool). demand (not b) SecondToken (l .i)) (sym (c .before .is-second .ensures) ∙ c .if1 .taken)) in
     sym t)
     (λ c. omega arith)  -- array-write-seen
     (λ c. omega arith)  -- add-i
     (λ c. omega arith)  -- loop-less
     (λ c.  -- loop-again
+    let at-token-at = c .before .before .before .token-at in
     let l = c .before .before .before .before .before .loop in
     let s = c .before .before .before .before .before .before .before .args .inputs .now in
-    let x = c .before .before .before .token-at .result in
+    let x = at-token-at .result in
     let h : l .i < length s / tokenWidth = omega arith in
-    let k : l .i < length (tokensOf s) = omega (arith, length-tokens s) in
-    let e = in-tokens s (l .i) h x ∙ sym (c .before .before .before .token-at .ensures) in
-    let t = l .inv .1 ∙ turn (λ k t. demand (not (secondInput (take k (tokensOf s)) t)) SecondToken k) (tokensOf s) (l .i) x k e (ap (λ (b : Bool). demand (not b) SecondToken (l .i)) (sym (c .before .is-second .ensures) ∙ c .if1 .left)) in
+    let k : l .i < length (inputTokens s) = omega (arith, length-tokens s) in
+    let e = in-tokens s (l .i) h x ∙ sym (at-token-at .ensures) in
+    let t = l .inv .1 ∙ turn (λ k t. demand (not (secondInput (take k (inputTokens s)) t)) SecondToken k) (inputTokens s) (l .i) x k e (ap (λ (b : Bool). demand (not b) SecondToken (l .i)) (sym (c .before .is-second .ensures) ∙ c .if1 .left)) in
     let n = c .before .before .entry .ensures .0 in (
       omega arith,
       t,
-      rw (take-next (tokensOf s) (l .i) x k e, n) (see (take (l .i) (tokensOf s)) (l .seen) x (l .inv .2) (l .inv .3)),
+      rw (take-next (inputTokens s) (l .i) x k e, n) (see (take (l .i) (inputTokens s)) (l .seen) x (l .inv .2) (l .inv .3)),
       length-set (l .seen) _ 1 ∙ l .inv .3,
     ))
     (λ c.  -- returns-2
     let s = c .before .before .before .args .inputs .now in
-    sym (c .before .loop .inv .1 ∙ turn-end (λ k t. demand (not (secondInput (take k (tokensOf s)) t)) SecondToken k) (tokensOf s) (c .before .loop .i) (omega (arith, length-tokens s)))))
+    sym (c .before .loop .inv .1 ∙ turn-end (λ k t. demand (not (secondInput (take k (inputTokens s)) t)) SecondToken k) (inputTokens s) (c .before .loop .i) (omega (arith, length-tokens s)))))

@@ -6,12 +6,12 @@ use native.Mathlib.Nat.{mul-le-mul}
 use mathlib.Core.Path.{sym, _∙_}
 use Rattle.rules.proofs.Accepted.{whole-bytes}
 use Rattle.record.specs.TokensAndTags.{mostTokens}
-use Rattle.convert.specs.Convert.{accepted}
+use Rattle.convert.specs.Convert.{convertAccepted}
 use Rattle.convert.proofs.accepts.Statement.{statement}
 use Rattle.convert.proofs.accepts.Tie as tie
 
 pub accepts-spec : {M : Type 1} → statement M
-unfolding accepted
+unfolding convertAccepted
 accepts-spec = tie.close (tie.spec
     (λ c. search needs)  -- add-width
     (λ c κs. search needs)  -- whole-requires

@@ -8,12 +8,12 @@ use lib.ListN.{length}
 use Rattle.buffer.specs.Rows.{whole}
 use Rattle.record.specs.TokensAndTags.{mostTokens}
 use Rattle.rules.proofs.Passed.{both}
-use Rattle.convert.specs.Convert.{accepted, answer, outAfter}
+use Rattle.convert.specs.Convert.{convertAccepted, convertAnswer, convertedOut}
 use Rattle.convert.proofs.convert_records.Statement.{statement}
 use Rattle.convert.proofs.convert_records.Tie as tie
 
 pub convert-records-spec : {M : Type 1} → statement M
-unfolding answer outAfter accepted
+unfolding convertAnswer convertedOut convertAccepted
 convert-records-spec =
     tie.close
     (tie.spec

@@ -10,4 +10,6 @@ pub name-at-spec : {M : Type 1} → statement M
 name-at-spec = tie.close (tie.spec
     (λ c. name-past (c .before .before .args .log .now) (c .before .before .args .i) (c .if1 .taken))  -- returns
     (λ c κs. search needs)  -- name-at-requires
-    (λ c. c .name-at .ensures ∙ name-there (c .before .before .before .args .log .now) (c .before .before .before .args .i) (omega (arith, c .before .if1 .left))))  -- returns-2
+    (λ c.  -- returns-2
+    let entry = c .before .before .before in
+    c .name-at .ensures ∙ name-there (entry .args .log .now) (entry .args .i) (omega (arith, c .before .if1 .left))))

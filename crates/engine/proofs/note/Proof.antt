@@ -2,12 +2,12 @@
 use mathlib.Core.Path.{_∙_}
 use borrow.Author.Needs.{needs}
 use borrow.Author.Tests.{lt-ltb, le-ltb}
-use Rattle.engine.specs.Turns.{noted}
+use Rattle.engine.specs.Turns.{logNoted}
 use Rattle.engine.proofs.note.Statement.{statement}
 use Rattle.engine.proofs.note.Tie as tie
 
 pub note-spec : {M : Type 1} → statement M
-unfolding noted
+unfolding logNoted
 note-spec = tie.close (tie.spec
     (λ c κs. search needs)  -- token-at-requires
     (λ c κs. search needs)  -- put-tag-requires

@@ -17,7 +17,7 @@ use Rattle.store.proofs.Laws.{matching-known}
 use Rattle.fire_effect.specs.Effects.{operatedOf, newTagsOf, Makes, Effected}
 use Rattle.fire_effect.proofs.Passed.{ready}
 use Rattle.fire_effect.proofs.Parted.{operation-refused, tags-refused, effected}
-use Rattle.fire_operands.specs.Operands.{Both, matchedAt}
+use Rattle.fire_operands.specs.Operands.{bothAt, matchedAt}
 use Rattle.fire.proofs.Place.{earliest-here}
 use Rattle.fire.proofs.Steps.{fitting, room, inside, matched-here, lent-here, stopped-here, stepped-here}
 use Rattle.fire.proofs.fire.Statement.{statement}
@@ -52,7 +52,7 @@ right m = m .operands-of .result .right
 found : (m : tie.After-operands-of)
     → (let a = start (read m) .args in
     let τ = tokenAt (a .ledger .now) (a .place) .tag in
-    matchedAt (arityIn (graphOf (now (a .graph))) τ) (tokens (a .used) (a .ledger .now)) τ ≡ Both (m .operands-of .result .first) (m .operands-of .result .second) (left m) (right m))
+    matchedAt (arityIn (graphOf (now (a .graph))) τ) (tokens (a .used) (a .ledger .now)) τ ≡ bothAt (tokenAt (a .ledger .now) (a .place) .port) (a .place) (m .operands-of .result .other) (left m) (right m))
 found m =
     let t = read m in
     let s = start t in
@@ -65,10 +65,10 @@ in-graph t = let s = start t in inside _ (s .pre .0) (s .pre .1) (s .args .place
 -- ---- instruction fetch, operation, new tags
 
 left-fits : (f : tie.After-instruction-at) → SFits w32 (left (operands f))
-left-fits f = record { sfits = f .before .before .before .struct-told .given .1 .1 .0 .1 }
+left-fits f = record { sfits = f .before .before .before .struct-told .given .1 .0 .1 }
 
 right-fits : (f : tie.After-instruction-at) → SFits w32 (right (operands f))
-right-fits f = record { sfits = f .before .before .struct-told2 .given .1 .1 .1 .0 .1 }
+right-fits f = record { sfits = f .before .before .struct-told2 .given .1 .1 .0 .1 }
 
 constant-fits : (e : tie.After-operate) → SFits w32 (fetched e .instruction-at .result .constant)
 constant-fits e = record { sfits = e .before .struct-told3 .given .1 .1 .1 .1 .0 .1 }
@@ -127,7 +127,7 @@ fire-spec =
     let m = operands f in
     let t = read m in
     let s = start t in
-    stopped-here _ (s .pre .0) (s .pre .1) (s .args .place) (s .pre .2) (t .token-at .result) (t .token-at .ensures) _ _ _ _ (found m)
+    stopped-here _ (s .pre .0) (s .pre .1) (s .args .place) (s .pre .2) (t .token-at .result) (t .token-at .ensures) _ _ _ (found m)
     (operation-refused _ _ _ _ (in-graph t) _ _ _ _ (f .instruction-at .ensures) (e .before .before .before .decode .ensures) (sym (did e) ∙ c .before .operated .given .1)))
     (λ c. search needs)  -- enum-known-operated-2
     (λ c κs.  -- new-tags-requires
@@ -145,14 +145,14 @@ fire-spec =
     let m = operands f in
     let t = read m in
     let s = start t in
-    stopped-here _ (s .pre .0) (s .pre .1) (s .args .place) (s .pre .2) (t .token-at .result) (t .token-at .ensures) _ _ _ _ (found m)
+    stopped-here _ (s .pre .0) (s .pre .1) (s .args .place) (s .pre .2) (t .token-at .result) (t .token-at .ensures) _ _ _ (found m)
     (tags-refused _ _ _ _ (in-graph t) _ _ _ _ (f .instruction-at .ensures) (e .before .before .before .decode .ensures) (sym (did e) ∙ n .before .before .operated2 .given .1) (made n) (c .before .made .given .1)))
     (λ c. search needs)  -- enum-known-made-2
     (λ c κs.  -- commit-requires
     let o = c .before .before .before .before .before in
     let m = operands (fetched (operated (o .before .before))) in
     let s = start (read m) in
-    (lent-here _ (s .pre .0) (s .pre .1) (s .args .place) (s .pre .2) (s .pre .3) _ _ _ _ (found m), fitting _ _ _ _ _ _ _ _ (sent o)))
+    (lent-here _ (s .pre .0) (s .pre .1) (s .args .place) (s .pre .2) (s .pre .3) _ _ _ (found m), fitting _ _ _ _ _ _ _ _ (sent o)))
     (λ c. search needs)  -- same-length-3
     (λ c. search needs)  -- same-length-4
     (λ c.  -- returns-3
@@ -161,5 +161,5 @@ fire-spec =
     let m = operands (fetched (operated (o .before .before))) in
     let t = read m in
     let s = start t in
-    stepped-here _ (s .pre .0) (s .pre .1) (s .args .place) (s .pre .2) (t .token-at .result) (t .token-at .ensures) _ _ _ _ (found m) _ _ (sent o)
+    stepped-here _ (s .pre .0) (s .pre .1) (s .args .place) (s .pre .2) (t .token-at .result) (t .token-at .ensures) _ _ _ (found m) _ _ (sent o)
     _ _ _ _ (q .commit .result) (q .commit .ensures)))

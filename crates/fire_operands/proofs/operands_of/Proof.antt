@@ -16,7 +16,7 @@ operands-of-spec = tie.close (tie.spec
     let v = c .before .value-in in
     let t = c .before .before in
     let s = t .before .before in
-    rw (toZ-ofZ {w = w32} (record { sfits = v .ok }), v .ensures) (alone (s .pre .0) (s .pre .1) _ (t .token-at .ensures) (c .if1 .taken)))
+    rw (toZ-ofZ {w = w32} (record { sfits = v .ok }), v .ensures, ← t .token-at .ensures) (alone (s .pre .0) (s .pre .1) _ (t .token-at .ensures) (c .if1 .taken)))
     (λ c.  -- sub-find
     let t = c .before .before .before in
     let s = t .before .before in
@@ -39,7 +39,7 @@ operands-of-spec = tie.close (tie.spec
     let u = c .before .before .value-in2 in
     let left : SFits w32 (v .result) = record { sfits = v .ok } in
     let right : SFits w32 (u .result) = record { sfits = u .ok } in
-    rw (toZ-ofZ left, toZ-ofZ right, v .ensures, u .ensures, c .before .before .before .token-at2 .ensures, c .before .before .before .before .place-or .ensures)
+    rw (toZ-ofZ left, toZ-ofZ right, v .ensures, u .ensures, c .before .before .before .token-at2 .ensures, c .before .before .before .before .place-or .ensures, ← t .token-at .ensures)
     (as-first (s .pre .0) (s .pre .1) _ (t .token-at .ensures) (n .if1 .left) (f .find .result) (f .find .ensures .0) (c .if2 .taken)))
     (λ c.  -- returns-3
     let f = c .before .before .before .before .before in
@@ -50,5 +50,5 @@ operands-of-spec = tie.close (tie.spec
     let u = c .before .before .value-in2 in
     let left : SFits w32 (v .result) = record { sfits = v .ok } in
     let right : SFits w32 (u .result) = record { sfits = u .ok } in
-    rw (toZ-ofZ left, toZ-ofZ right, v .ensures, u .ensures, c .before .before .before .token-at2 .ensures, c .before .before .before .before .place-or .ensures)
+    rw (toZ-ofZ left, toZ-ofZ right, v .ensures, u .ensures, c .before .before .before .token-at2 .ensures, c .before .before .before .before .place-or .ensures, ← t .token-at .ensures)
     (as-second (s .pre .0) (s .pre .1) _ (t .token-at .ensures) (n .if1 .left) (f .find .result) (f .find .ensures .0) (c .if2 .left))))

@@ -6,16 +6,17 @@ use native.Mathlib.Nat.{le-add-right, le-refl}
 use Prim.Native.Nat.{_+_}
 use borrow.Author.Needs.{needs}
 use Rattle.record.specs.TokensAndTags.{tokens}
+use Rattle.store_enabled.proofs.Spending.{spendable-within}
 use Rattle.store.proofs.Laws.{matching-counted, matching-few, matching-room}
 use Rattle.fire_outputs.proofs.Laws.{kept-spent, kept-again, kept-as, kept-room, kept-most, on-more, low-content, keys-carried}
-use Rattle.fire_outputs.specs.Outputs.{Kept, spentAt, outputsOf, wokenBy, cellsIn}
+use Rattle.fire_outputs.specs.Outputs.{Kept, spentAt, outputTokens, wokenBy, cellsIn}
 use Rattle.fire_outputs.proofs.carry_out.Statement.{statement}
 use Rattle.fire_outputs.proofs.carry_out.Tie as tie
 
 -- the operands are spent
 spent : (c : tie.After-spend-operands) → let a = c .before .before .before .before .before .args in
     let after = c .spend-operands .last in
-    Kept (a .tables .now) (a .links .now) (after .0) (after .1 .0) (a .used) (spentAt (a .operands .first) (a .operands .second) (tokens (a .used) (a .ledger .now))) (a .ledger .now)
+    Kept (a .tables .now) (a .links .now) (after .0) (after .1 .0) (a .used) (spentAt (a .operands .place) (a .operands .other) (tokens (a .used) (a .ledger .now))) (a .ledger .now)
 spent c =
     let s = c .before .before .before .before .before in
     let a = s .args in
@@ -30,7 +31,8 @@ carry-out-spec = tie.close (tie.spec
     let l = c .before .before .before .before .pre .0 in
     let few = matching-few (l .matching) in
     let room = matching-room (l .matching) in
-    (matching-counted (l .matching), l .raised, omega (arith, l .activity .firstWithin), omega (arith, l .activity .secondWithin), omega (arith, l .activity .firstWithin), omega (arith, l .activity .secondWithin)))
+    let inside = spendable-within (l .activity) in
+    (matching-counted (l .matching), l .raised, omega (arith, inside), omega (arith, inside), omega (arith, inside)))
     (λ c κs. let p = c .before .before .before .before .before .before .before .before .pre in (p .0 .store, p .4))  -- change-cells-requires
     (λ c κs.  -- wake-requires
     let s = c .before .before .before .before .before .before .before .before .before .before .before .before .before .before in
@@ -44,18 +46,19 @@ carry-out-spec = tie.close (tie.spec
     let k = spent (c .before .before .before .before .before .before .before .before .before .before .before .before .before .before .before) in
     let w = c .before .before .before .before .before .wake .ensures in
     let low = low-content (a .action) (cellsIn (a .cells .now)) (on-more (a .action) (p .0 .store .few) (p .4)) in
-    (w .matching, kept-room w (kept-room k (p .1)), kept-most w (kept-most k (p .0 .few)), p .2, p .3, rw (c .before .before .before .before .before .before .before .before .before .before .before .change-cells .ensures .0) low, rw (w .held, k .held) (keys-carried (a .action) (a .operands .first) (a .operands .second) (tokens (a .used) (a .ledger .now)) (a .outputs) (a .first) (a .second) (p .5))))
+    (w .matching, kept-room w (kept-room k (p .1)), kept-most w (kept-most k (p .0 .few)), p .2, p .3, rw (c .before .before .before .before .before .before .before .before .before .before .before .change-cells .ensures .0) low, rw (w .held, k .held) (keys-carried (a .action) (a .operands .place) (a .operands .other) (tokens (a .used) (a .ledger .now)) (a .outputs) (a .first) (a .second) (p .5))))
     (λ c. search needs)  -- same-length
     (λ c. search needs)  -- same-length-2
     (λ c.  -- returns
+    let at-change-cells = c .before .before .before .before .before .before .before .before .before .before .before .before .before .before .change-cells in
     let s = c .before .before .before .before .before .before .before .before .before .before .before .before .before .before .before .before .before .before .before .before .before .before .before in
     let a = s .args in
     let k = spent (c .before .before .before .before .before .before .before .before .before .before .before .before .before .before .before .before .before .before) in
     let w = kept-again k (wokenBy (a .action)) (a .used) (le-refl (a .used)) (c .before .before .before .before .before .before .before .before .wake .ensures) in
-    let e = c .before .before .before .before .before .before .before .before .before .before .before .before .before .before .change-cells .ensures in
+    let e = at-change-cells .ensures in
     let o = c .before .before .append-outputs .ensures in
-    let v = kept-again w (λ ts. ts ++ outputsOf (c .before .before .before .before .before .before .before .before .before .before .before .before .before .before .change-cells .result) (a .outputs)) (a .used + a .outputs .count) (le-add-right (a .used) (a .outputs .count)) (o .1) in (
+    let v = kept-again w (λ ts. ts ++ outputTokens (at-change-cells .result) (a .outputs)) (a .used + a .outputs .count) (le-add-right (a .used) (a .outputs .count)) (o .1) in (
       o .0,
-      kept-as v (ap (λ x. wokenBy (a .action) (spentAt (a .operands .first) (a .operands .second) (tokens (a .used) (a .ledger .now))) ++ outputsOf x (a .outputs)) (e .0)),
+      kept-as v (ap (λ x. wokenBy (a .action) (spentAt (a .operands .place) (a .operands .other) (tokens (a .used) (a .ledger .now))) ++ outputTokens x (a .outputs)) (e .0)),
       e .1,
     )))

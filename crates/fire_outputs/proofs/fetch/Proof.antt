@@ -19,9 +19,10 @@ fetch-spec = tie.close (tie.spec
     (λ c κs. search needs)  -- put-cell-requires
     (λ c. search needs)  -- same-length
     (λ c.  -- returns
+    let at-cell-at = c .before .before .before .before .before .cell-at in
     let s = c .before .before .before .before .before .before .before .before in
     let a = s .args in
-    let n : NoValue (getD (cellsIn (a .cells .now)) (a .number) Absent) = rw (cell-held (a .cells .now) (a .number) (s .pre .1), ← (c .before .before .before .before .before .cell-at .ensures)) (no-value (c .before .before .before .before .before .cell-at .result) (c .before .before .before .before .match .keys2)) in (
+    let n : NoValue (getD (cellsIn (a .cells .now)) (a .number) Absent) = rw (cell-held (a .cells .now) (a .number) (s .pre .1), ← (at-cell-at .ensures)) (no-value (at-cell-at .result) (c .before .before .before .before .match .keys2)) in (
       sym (n .defers (a .number)),
       cells-as (cells-written (s .pre .0) (a .number) Waiting (s .pre .1) tt (c .before .before .put-cell .ensures .0)) (ap (set (cellsIn (a .cells .now)) (a .number)) (sym (n .waits))),
     ))

@@ -26,7 +26,9 @@ next-pending-spec = tie.close (tie.spec
     found-pending (a .tables .now) (a .ledger .now) (a .used) (a .from) (l .loop .at) (l .loop .inv) (sym (c .before .proper-at .ensures) ∙ not-true _ (c .if1 .taken)))
     (λ c. search needs)  -- add-later
     (λ c. search needs)  -- mul-later
-    (λ c. omega (arith, c .before .before .before .loop-test .taken, c .before .before .before .before .before .before .before .pre .1, c .before .before .before .before .before .before .before .pre .2))  -- shared-slice-read-later
+    (λ c.  -- shared-slice-read-later
+    let entry = c .before .before .before .before .before .before .before in
+    omega (arith, c .before .before .before .loop-test .taken, entry .pre .1, entry .pre .2))
     (λ c κs. omega (arith, c .before .before .before .loop-test .taken, c .before .before .before .before .before .before .before .pre .1))  -- later-requires
     (λ c.  -- loop-less
     let t = c .before .before .before .before .loop-test .taken in

@@ -9,15 +9,15 @@ use native.Mathlib.Numerals.{add-one}
 use borrow.Author.Needs.{needs}
 use lib.ListN.{length}
 use Rattle.buffer.specs.Rows.{putRow}
-use Rattle.record.specs.TokensAndTags.{tokens, encode}
+use Rattle.record.specs.TokensAndTags.{tokens, encodeToken}
 use Rattle.record.specs.declared.token.Token.{Token}
 use Rattle.record.specs.Widths.{tokenWidth}
 use Rattle.store_chains.specs.Search.{isFound, Free}
-use Rattle.store_enabled.specs.Store.{Standing}
+use Rattle.store_enabled.specs.Store.{StandingRecord}
 use Rattle.store.specs.Matching.{Matching}
 use Rattle.store.proofs.Laws.{matching-known}
 use Rattle.store.proofs.Writing.{written-more, written-before, written-own, written-again, written-matching}
-use Rattle.load.specs.Loaded.{Proper}
+use Rattle.load.specs.Loaded.{ProperArrival}
 use Rattle.load.proofs.Taken.{Taken, proper, alone, taken-none, taken-more, taken-all}
 use Rattle.load.proofs.inputs.Statement.{statement}
 use Rattle.load.proofs.inputs.Tie as tie
@@ -50,13 +50,13 @@ module _ (c : tie.After-put-token Inv-loop μ-loop) where
   size : length written ≡ length (c .before .before .before .before .loop .ledger)
   size = omega (arith, c .put-token .kept .0)
 
-  fitting : Proper (start .args .tables .now) (c .before .before .token-at .result)
+  fitting : ProperArrival (start .args .tables .now) (c .before .before .token-at .result)
   fitting = proper (start .args .tables .now) (start .args .inputs .now) i (c .before .before .token-at .result) (c .before .before .token-at .ensures) left (start .pre .3)
 
   matching : let l = c .before .before .before .before .loop in Matching (start .args .tables .now) (l .links) (l .flags) written i
   matching = let l = c .before .before .before .before .loop in written-matching (l .ledger) i (c .before .before .token-at .result) (c .put-token .ensures .1) room written (c .put-token .ensures .0) size (l .inv .matching)
 
-  standing : Standing (start .args .tables .now) written i (c .before .before .token-at .result)
+  standing : StandingRecord (start .args .tables .now) written i (c .before .before .token-at .result)
   standing =
       let l = c .before .before .before .before .loop in
       let t = c .before .before .token-at .result in
@@ -115,7 +115,7 @@ inputs-spec = tie.close (tie.spec
     let t = p .before .before .token-at in
     let w = p .put-token .ensures in
     taken-more (a .tables .now) (a .ledger .now) (a .inputs .now) (l .ledger) (l .i) (l .inv .size) (l .inv .taken) (l .inv .rest) (left p) (s .pre .1)
-    (written p) (w .0 ∙ ap (λ (u : Token). putRow tokenWidth (l .ledger) (l .i) (encode u)) (t .ensures)) (size p)
+    (written p) (w .0 ∙ ap (λ (u : Token). putRow tokenWidth (l .ledger) (l .i) (encodeToken u)) (t .ensures)) (size p)
     (rw add-one (written-more (l .ledger) (l .i) (t .result) (w .1) (room p) (written p) (w .0) ∙ ap (λ (u : Token). tokens (l .i) (l .ledger) ++ u ∷ []) (t .ensures)))
     (c .enter .last .1 .0) (c .enter .last .1 .1 .0) (c .enter .ensures))
     (λ c. omega (arith, c .before .loop .inv .size))  -- same-length-2

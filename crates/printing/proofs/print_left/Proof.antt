@@ -4,7 +4,7 @@ use mathlib.Core.Path.{ap, _∙_}
 use mathlib.Core.List.{List}
 use native.Mathlib.Omega.{arith}
 use borrow.Author.Needs.{needs}
-use Rattle.text.specs.Text.{printed, printedOf, outAfter}
+use Rattle.text.specs.Text.{printed, printedOf, printedOut}
 use Rattle.printing.proofs.Left.{listed}
 use Rattle.printing.proofs.print_left.Statement.{statement}
 use Rattle.printing.proofs.print_left.Tie as tie
@@ -31,4 +31,4 @@ print-left-spec = tie.close (tie.spec
     let s = c .before .before .before .before .before .before .before .before .before .before .before .before .before .before .before .before in
     let a = s .args in
     let e = listed (a .ledger .now) (a .sorted .now) _ _ (a .answer .tokens) (s .pre .0) (omega (arith, s .pre .1)) (omega (arith, s .pre .1, s .pre .2)) (l .1) in
-    (p .0 ∙ ap (λ (z : List ℕ). printedOf (printed (a .answer) z (a .cells .now)) (a .out .now)) e, p .1 ∙ ap (λ (z : List ℕ). outAfter (printed (a .answer) z (a .cells .now)) (a .out .now)) e)))
+    (p .0 ∙ ap (λ (z : List ℕ). printedOf (printed (a .answer) z (a .cells .now)) (a .out .now)) e, p .1 ∙ ap (λ (z : List ℕ). printedOut (printed (a .answer) z (a .cells .now)) (a .out .now)) e)))

@@ -3,7 +3,7 @@ use Prim.Native.Nat.{ℕ}
 use mathlib.Core.Path.{ap, _∙_}
 use mathlib.Core.List.{List}
 use borrow.Author.Needs.{needs}
-use Rattle.text.specs.Text.{printedOf, outAfter}
+use Rattle.text.specs.Text.{printedOf, printedOut}
 use Rattle.printing.proofs.Left.{without-bound, few-tokens, within, left-printed}
 use Rattle.printing.proofs.print_run.Statement.{statement}
 use Rattle.printing.proofs.print_run.Tie as tie
@@ -27,5 +27,5 @@ print-run-spec = tie.close (tie.spec
     let e = left-printed (a .graph .now) (a .arrays .now) (a .inputs .now) (a .picks .now) r in
     record {
       answered = p .0 ∙ ap (λ (t : List ℕ). printedOf t (a .out .now)) e;
-      outLeft = p .1 ∙ ap (λ (t : List ℕ). outAfter t (a .out .now)) e;
+      outLeft = p .1 ∙ ap (λ (t : List ℕ). printedOut t (a .out .now)) e;
     }))

@@ -7,12 +7,12 @@ use lib.ListN.{length, length-set, getD, set}
 use borrow.Author.Needs.{needs}
 use Rattle.store_flags.specs.Flags.{places, place, ones, inWord, flagsOf}
 use Rattle.store_flags.proofs.Laws.{ones-places, place-places}
-use Rattle.profile.proofs.Places.{Left, left-start, left-word, left-one, Copied, copied-none, copied-next, copied-read, places-few}
+use Rattle.profile.proofs.Places.{Left, left-start, left-word, left-one, Copied, copied-next, places-few}
 use Rattle.profile.proofs.put_places.Statement.{statement}
 use Rattle.profile.proofs.put_places.Tie as tie
 
 abbrev Inv-loop : tie.InvT-loop
-Inv-loop flags count out₀ b₀ rest₀ k₀ out b rest k = Left flags b rest k × Copied k (places (flagsOf flags)) out × (length out ≡ 4096) × (k ≤ count)
+Inv-loop flags count out₀ b₀ rest₀ k₀ out b rest k = Left flags b rest k × Copied k (places (flagsOf flags)) out × (length out ≡ 2048) × (k ≤ count)
 
 abbrev μ-loop : tie.MeasureT-loop
 μ-loop flags count out₀ b₀ rest₀ k₀ out b rest k = (count - k) + (32 - b)
@@ -61,17 +61,13 @@ put-places-spec = tie.close (tie.spec
     let f = flagsOf (s .args .flags .now) in
     let some : 0 < ones f = omega (arith, all s, s .pre .2, s .pre .3) in
     let first : c .before .enabled-at .result ≡ place 0 f = omega (arith, c .before .enabled-at .ensures .0, place-places 0 0 f (s .pre .0 .tallied .binary) some) in
-    (left-start (s .pre .0) (c .before .enabled-at .result) some first, copied-none (places f) (s .args .out .now), s .pre .1, omega arith))
+    (left-start (s .pre .0) (c .before .enabled-at .result) some first, λ j h. absurd (omega arith), s .pre .1, omega arith))
     (λ c κs. search needs)  -- lowest-requires
-    (λ c. omega (arith, c .before .before .before .loop .inv .0 .word))  -- mul-place
-    (λ c. omega (arith, c .before .before .before .loop .inv .0 .word, c .if1 .taken))  -- add-place
-    (λ c. omega arith)  -- cast-out
-    (λ c. omega (arith, room (c .before)))  -- mul-out
-    (λ c. omega (arith, room (c .before)))  -- element-write-out
-    (λ c. omega (arith, c .before .before .before .loop .inv .0 .word, c .if1 .taken))  -- cast-out-2
+    (λ c. omega (arith, c .before .before .before .loop .inv .0 .word))  -- mul-out
+    (λ c. omega (arith, c .before .before .before .loop .inv .0 .word, c .if1 .taken))  -- add-out
+    (λ c. omega (arith, c .before .before .before .loop .inv .0 .word, c .if1 .taken))  -- cast-out
     (λ c. omega (arith, room (c .before)))  -- mul-out-2
-    (λ c. omega (arith, room (c .before)))  -- add-out
-    (λ c. omega (arith, room (c .before)))  -- element-write-out-2
+    (λ c. omega (arith, room (c .before)))  -- element-write-out
     (λ c κs. (c .if1 .taken, one (c .before) (c .if1 .taken) .0))  -- lowered-requires
     (λ c. omega (arith, room (c .before .before)))  -- add-k
     (λ c. omega (arith, c .before .before .before .loop-test .taken))  -- loop-less
@@ -79,7 +75,7 @@ put-places-spec = tie.close (tie.spec
     let n = c .before .before in
     let l = n .before .before .loop in
     let o = one n (c .before .if1 .taken) in
-    let fits : 2 * l .k + 1 < length (l .out) = omega (arith, l .inv .2, room n) in
+    let fits : l .k < length (l .out) = omega (arith, l .inv .2, room n) in
     (o .2 (c .lowered .result) (c .lowered .ensures), copied-next (l .k) _ (places (flagsOf (start n .args .flags .now))) (l .out) fits (o .1) (l .inv .1), simp length-set (l .inv .2), omega (arith, n .before .loop-test .taken)))
     (λ c. omega (arith, c .before .before .before .loop .inv .0 .word))  -- add-b
     (λ c. omega (arith, c .before .before .before .loop .inv .0 .word))  -- mul-rest-2
@@ -94,6 +90,6 @@ put-places-spec = tie.close (tie.spec
     let s = c .before .before .before .before in
     record {
       counted = s .pre .2;
-      written = λ k h. copied-read (l .k) (places (flagsOf (s .args .flags .now))) (l .out) (omega (arith, few s, l .inv .3)) (l .inv .2) (l .inv .1) k (omega (arith, c .loop-test .left));
+      written = λ k h. l .inv .1 k (omega (arith, c .loop-test .left));
       size = l .inv .2;
     }))

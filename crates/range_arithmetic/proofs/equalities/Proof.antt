@@ -17,7 +17,8 @@ equalities-spec = tie.close (tie.spec
     (λ c κs. search needs)  -- truth-requires-2
     (λ c κs. search needs)  -- narrowed-requires
     (λ c.  -- returns
-    let low : SFits w64 (c .before .before .before .truth .result) = record { sfits = c .before .before .before .truth .ok } in
+    let at-truth = c .before .before .before .truth in
+    let low : SFits w64 (at-truth .result) = record { sfits = at-truth .ok } in
     let high : SFits w64 (c .before .truth2 .result) = record { sfits = c .before .truth2 .ok } in
     c .narrowed .ensures
-    ∙ rw (toZ-ofZ low, toZ-ofZ high, c .before .before .before .truth .ensures, c .before .truth2 .ensures, c .before .before .before .before .surely-equal .ensures, c .before .before .maybe-equal .ensures)))
+    ∙ rw (toZ-ofZ low, toZ-ofZ high, at-truth .ensures, c .before .truth2 .ensures, c .before .before .before .before .surely-equal .ensures, c .before .before .maybe-equal .ensures)))

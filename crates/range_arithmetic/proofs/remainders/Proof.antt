@@ -29,12 +29,14 @@ remainders-spec = tie.close (tie.spec
     (λ c κs. search needs)  -- up-to-requires
     (λ c κs. search needs)  -- narrowed-requires-2
     (λ c.  -- returns-2
+    let at-most-remainder = c .before .before .before .before .before .most-remainder in
+    let at-down-to = c .before .before .before .down-to in
     let s = c .before .before .before .before .before .before .before .before in
     let one : (isSingle (s .args .a) && isSingle (s .args .b)) ≡ false = sym (c .before .before .before .before .before .before .before .both-single .ensures) ∙ c .before .before .before .before .before .before .if1 .left in
     let f : SFits w32 (s .args .a .low) = record { sfits = c .before .before .before .before .struct-told3 .given .0 .1 } in
     let g : SFits w32 (s .args .a .high) = record { sfits = c .before .before .struct-told4 .given .1 .0 .1 } in
-    let w : SFits w64 (c .before .before .before .before .before .most-remainder .result) = record { sfits = c .before .before .before .before .before .most-remainder .ok } in
-    let d : SFits w64 (c .before .before .before .down-to .result) = record { sfits = c .before .before .before .down-to .ok } in
+    let w : SFits w64 (at-most-remainder .result) = record { sfits = at-most-remainder .ok } in
+    let d : SFits w64 (at-down-to .result) = record { sfits = at-down-to .ok } in
     let u : SFits w64 (c .before .up-to .result) = record { sfits = c .before .up-to .ok } in
     c .narrowed2 .ensures
-    ∙ rw (one, toZ-ofZ d, toZ-ofZ u, c .before .before .before .down-to .ensures, c .before .up-to .ensures, toZ-ofZ f, toZ-ofZ g, toZ-ofZ w, c .before .before .before .before .before .most-remainder .ensures)))
+    ∙ rw (one, toZ-ofZ d, toZ-ofZ u, at-down-to .ensures, c .before .up-to .ensures, toZ-ofZ f, toZ-ofZ g, toZ-ofZ w, at-most-remainder .ensures)))

@@ -14,8 +14,9 @@ surely-equal-spec = tie.close (tie.spec
     (λ c κs. search needs)  -- is-single-requires
     (λ c κs. search needs)  -- is-single-requires-2
     (λ c.  -- returns
-    let a = c .before .before .before .before .before .before .before .before .args .a in
-    let b = c .before .before .before .before .before .before .before .before .args .b in
+    let entry = c .before .before .before .before .before .before .before .before in
+    let a = entry .args .a in
+    let b = entry .args .b in
     let al : SFits w32 (a .low) = record { sfits = c .before .before .struct-told .given .0 .1 } in
     let bl : SFits w32 (b .low) = record { sfits = c .struct-told2 .given .0 .1 } in
     let one : isSingle a ≡ true = sym (c .before .before .before .before .before .before .before .is-single .ensures) ∙ c .before .before .before .before .before .before .if1 .taken in

@@ -17,7 +17,7 @@ use Rattle.rules.specs.RangeHandles.{meaning}
 use Rattle.store.proofs.Laws.{matching-known}
 use Rattle.fire_effect.specs.Effects.{newTagsOf, Makes}
 use Rattle.fire_effect.proofs.Passed.{ready}
-use Rattle.fire_operands.specs.Operands.{Both, matchedAt}
+use Rattle.fire_operands.specs.Operands.{bothAt, matchedAt}
 use Rattle.fire.proofs.Place.{earliest-here}
 use Rattle.fire.proofs.Steps.{room, inside, matched-here, lent-here}
 use Rattle.range_table.specs.Table.{tableOf}
@@ -57,7 +57,7 @@ right m = m .operands-of .result .right
 found : (m : tie.After-operands-of)
     → (let a = start (read m) .args in
     let τ = tokenAt (a .ledger .now) (a .place) .tag in
-    matchedAt (arityIn (graphOf (now (a .graph))) τ) (tokens (a .used) (a .ledger .now)) τ ≡ Both (m .operands-of .result .first) (m .operands-of .result .second) (left m) (right m))
+    matchedAt (arityIn (graphOf (now (a .graph))) τ) (tokens (a .used) (a .ledger .now)) τ ≡ bothAt (tokenAt (a .ledger .now) (a .place) .port) (a .place) (m .operands-of .result .other) (left m) (right m))
 found m =
     let t = read m in
     let s = start t in
@@ -69,10 +69,10 @@ in-graph t = let s = start t in inside _ (s .pre .0) (s .pre .1) (s .args .place
 -- ---- instruction fetch, operation, new tags
 
 left-fits : (f : tie.After-instruction-at) → SFits w32 (left (operands f))
-left-fits f = record { sfits = f .before .before .before .struct-told .given .1 .1 .0 .1 }
+left-fits f = record { sfits = f .before .before .before .struct-told .given .1 .0 .1 }
 
 right-fits : (f : tie.After-instruction-at) → SFits w32 (right (operands f))
-right-fits f = record { sfits = f .before .before .struct-told2 .given .1 .1 .1 .0 .1 }
+right-fits f = record { sfits = f .before .before .struct-told2 .given .1 .1 .0 .1 }
 
 constant-fits : (e : tie.After-operate) → SFits w32 (fetched (meant e) .instruction-at .result .constant)
 constant-fits e = record { sfits = e .before .struct-told3 .given .1 .1 .1 .1 .0 .1 }
@@ -120,7 +120,7 @@ fire-spec =
     let t = read m in
     let s = start t in
     let asks = rw (toZ-ofZ (constant-fits e), toZ-ofZ (left-fits f), toZ-ofZ (right-fits f)) at (e .operate .ensures) in
-    refused-first _ (s .pre .0) (s .pre .1) (s .args .place) (s .pre .2) (t .token-at .result) (t .token-at .ensures) _ _ _ _ (found m) _ _ (f .instruction-at .ensures) (y .before .before .decode .ensures) _ _ _ _ asks (c .before .operated .given .1))
+    refused-first _ (s .pre .0) (s .pre .1) (s .args .place) (s .pre .2) (t .token-at .result) (t .token-at .ensures) _ _ _ (found m) _ _ (f .instruction-at .ensures) (y .before .before .decode .ensures) _ _ _ _ asks (c .before .operated .given .1))
     (λ c. search needs)  -- enum-known-operated-2
     (λ c κs.  -- new-tags-requires
     let e = c .before .before .before .before .before .before in
@@ -141,7 +141,7 @@ fire-spec =
     let t = read m in
     let s = start t in
     let asks = rw (toZ-ofZ (constant-fits e), toZ-ofZ (left-fits f), toZ-ofZ (right-fits f)) at (e .operate .ensures) in
-    refused-second _ (s .pre .0) (s .pre .1) (s .args .place) (s .pre .2) (t .token-at .result) (t .token-at .ensures) _ _ _ _ (found m) _ _ (f .instruction-at .ensures) (y .before .before .decode .ensures) _ _ _ _ asks (n .before .before .before .operated2 .given .1) (made n) (c .before .made .given .1))
+    refused-second _ (s .pre .0) (s .pre .1) (s .args .place) (s .pre .2) (t .token-at .result) (t .token-at .ensures) _ _ _ (found m) _ _ (f .instruction-at .ensures) (y .before .before .decode .ensures) _ _ _ _ asks (n .before .before .before .operated2 .given .1) (made n) (c .before .made .given .1))
     (λ c. search needs)  -- enum-known-made-2
     (λ c κs.  -- commit-requires
     let o = c .before .before .before .before .before in
@@ -153,8 +153,8 @@ fire-spec =
     let t = read m in
     let s = start t in
     let asks = rw (toZ-ofZ (constant-fits e), toZ-ofZ (left-fits f), toZ-ofZ (right-fits f)) at (e .operate .ensures) in (
-      lent-here _ (s .pre .0) (s .pre .1) (s .args .place) (s .pre .2) (s .pre .3) _ _ _ _ (found m),
-      fits-commit _ (s .pre .0) (s .pre .1) (s .args .place) (s .pre .2) (t .token-at .result) (t .token-at .ensures) _ _ _ _ (found m) _ _ (f .instruction-at .ensures) (y .before .before .decode .ensures) _ _ _ _ asks (n .before .before .before .operated2 .given .1) (made n) (o .made2 .given .1),
+      lent-here _ (s .pre .0) (s .pre .1) (s .args .place) (s .pre .2) (s .pre .3) _ _ _ (found m),
+      fits-commit _ (s .pre .0) (s .pre .1) (s .args .place) (s .pre .2) (t .token-at .result) (t .token-at .ensures) _ _ _ (found m) _ _ (f .instruction-at .ensures) (y .before .before .decode .ensures) _ _ _ _ asks (n .before .before .before .operated2 .given .1) (made n) (o .made2 .given .1),
     ))
     (λ c. search needs)  -- same-length-5
     (λ c. search needs)  -- same-length-6
@@ -170,5 +170,5 @@ fire-spec =
     let t = read m in
     let s = start t in
     let asks = rw (toZ-ofZ (constant-fits e), toZ-ofZ (left-fits f), toZ-ofZ (right-fits f)) at (e .operate .ensures) in
-    committed _ (s .pre .0) (s .pre .1) (s .args .place) (s .pre .2) (t .token-at .result) (t .token-at .ensures) _ _ _ _ (found m) _ _ (f .instruction-at .ensures) (y .before .before .decode .ensures) _ _ _ _ asks (n .before .before .before .operated2 .given .1) (made n) (o .made2 .given .1)
+    committed _ (s .pre .0) (s .pre .1) (s .args .place) (s .pre .2) (t .token-at .result) (t .token-at .ensures) _ _ _ (found m) _ _ (f .instruction-at .ensures) (y .before .before .decode .ensures) _ _ _ _ asks (n .before .before .before .operated2 .given .1) (made n) (o .made2 .given .1)
     _ _ _ _ (q .commit .result) (q .commit .ensures)))

@@ -45,8 +45,8 @@ put-cells-spec =
     let rows = cells (s .args .n) (s .args .store .now) in
     let i = l .loop .i in
     let out = s .args .out .now in
-    let many = length-map rows (cellMeant t) ∙ length-rows cellWidth Records.decode (s .args .n) (s .args .store .now) in
-    let same = getD-map (cellMeant t) rows i (Records.decode []) ∙ ap (cellMeant t) (getD-rows cellWidth Records.decode (s .args .n) i (s .args .store .now) (Records.decode []) (omega arith)) in
+    let many = length-map rows (cellMeant t) ∙ length-rows cellWidth Records.decodeCell (s .args .n) (s .args .store .now) in
+    let same = getD-map (cellMeant t) rows i (Records.decodeCell []) ∙ ap (cellMeant t) (getD-rows cellWidth Records.decodeCell (s .args .n) i (s .args .store .now) (Records.decodeCell []) (omega arith)) in
     let held : p .put-row .last .0 ≡ upTo rangeCellWidth encodeRangeCell length-cell (cellsMeant t rows) out (i + 1) =
     p .put-row .ensures
     ∙ rw (l .loop .inv .1, b .cell-bytes .ensures, b .before .cell-at .ensures)
@@ -58,5 +58,5 @@ put-cells-spec =
     let s = l .before .before .before .before in
     let t = tableOf (s .args .count) (s .args .table .now) in
     let rows = cells (s .args .n) (s .args .store .now) in
-    let all : l .loop .i ≡ length (cellsMeant t rows) = omega (arith, c .loop-test .left, length-map rows (cellMeant t), length-rows cellWidth Records.decode (s .args .n) (s .args .store .now)) in
+    let all : l .loop .i ≡ length (cellsMeant t rows) = omega (arith, c .loop-test .left, length-map rows (cellMeant t), length-rows cellWidth Records.decodeCell (s .args .n) (s .args .store .now)) in
     l .loop .inv .1 ∙ ap (upTo rangeCellWidth encodeRangeCell length-cell (cellsMeant t rows) (s .args .out .now)) all ∙ write-all rangeCellWidth encodeRangeCell length-cell (cellsMeant t rows) (s .args .out .now)))

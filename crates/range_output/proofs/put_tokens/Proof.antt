@@ -45,8 +45,8 @@ put-tokens-spec =
     let rows = tokens (s .args .used) (s .args .ledger .now) in
     let i = l .loop .i in
     let out = s .args .out .now in
-    let many = length-map rows (tokenMeant t) ∙ length-rows tokenWidth Records.decode (s .args .used) (s .args .ledger .now) in
-    let same = getD-map (tokenMeant t) rows i (Records.decode []) ∙ ap (tokenMeant t) (getD-rows tokenWidth Records.decode (s .args .used) i (s .args .ledger .now) (Records.decode []) (omega arith)) in
+    let many = length-map rows (tokenMeant t) ∙ length-rows tokenWidth Records.decodeToken (s .args .used) (s .args .ledger .now) in
+    let same = getD-map (tokenMeant t) rows i (Records.decodeToken []) ∙ ap (tokenMeant t) (getD-rows tokenWidth Records.decodeToken (s .args .used) i (s .args .ledger .now) (Records.decodeToken []) (omega arith)) in
     let held : p .put-row .last .0 ≡ upTo rangeTokenWidth encodeRange length-token (tokensMeant t rows) out (i + 1) =
     p .put-row .ensures
     ∙ rw (l .loop .inv .1, b .token-bytes .ensures, b .before .token-at .ensures)
@@ -58,5 +58,5 @@ put-tokens-spec =
     let s = l .before .before .before .before in
     let t = tableOf (s .args .count) (s .args .table .now) in
     let rows = tokens (s .args .used) (s .args .ledger .now) in
-    let all : l .loop .i ≡ length (tokensMeant t rows) = omega (arith, c .loop-test .left, length-map rows (tokenMeant t), length-rows tokenWidth Records.decode (s .args .used) (s .args .ledger .now)) in
+    let all : l .loop .i ≡ length (tokensMeant t rows) = omega (arith, c .loop-test .left, length-map rows (tokenMeant t), length-rows tokenWidth Records.decodeToken (s .args .used) (s .args .ledger .now)) in
     l .loop .inv .1 ∙ ap (upTo rangeTokenWidth encodeRange length-token (tokensMeant t rows) (s .args .out .now)) all ∙ write-all rangeTokenWidth encodeRange length-token (tokensMeant t rows) (s .args .out .now)))

@@ -16,7 +16,7 @@ use Rattle.range_output.proofs.token_bytes.Tie as tie
 
 -- by the content
 in-ends : (t : List Range) (u : Token) (x : Content) → u .content ≡ x
-    → Tokens.encode (record { tag = u .tag; port = u .port; content = endsOf t x .low }) ++ bytes32 (endsOf t x .high) ≡ encodeRange (tokenMeant t (record { tag = u .tag; port = u .port; content = x }))
+    → Tokens.encodeToken (record { tag = u .tag; port = u .port; content = endsOf t x .low }) ++ bytes32 (endsOf t x .high) ≡ encodeRange (tokenMeant t (record { tag = u .tag; port = u .port; content = x }))
 unfolding endsOf encodeRange
 in-ends t u (Live h) e = refl
 in-ends t u (Spent h) e = refl

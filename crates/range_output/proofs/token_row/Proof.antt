@@ -5,7 +5,7 @@ use Rattle.range_output.proofs.token_row.Statement.{statement}
 use Rattle.range_output.proofs.token_row.Tie as tie
 
 pub token-row-spec : {M : Type 1} → statement M
-unfolding Tokens.encode
+unfolding Tokens.encodeToken
 token-row-spec = tie.close (tie.spec
     (λ c κs. search needs)  -- encode-requires
     (λ c. search needs)  -- array-read-t7

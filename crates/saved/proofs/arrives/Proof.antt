@@ -7,7 +7,7 @@ use borrow.Author.Needs.{needs}
 use borrow.Author.Tests.{not-true, not-false}
 use lib.ListN.{take, drop, length-drop}
 use Rattle.record.specs.GraphRecords.{graphOf}
-use Rattle.record.specs.TokensAndTags.{encode, tokenAt, TokenFits}
+use Rattle.record.specs.TokensAndTags.{encodeToken, tokenAt, TokenFits}
 use Rattle.record.specs.Widths.{tokenWidth}
 use Rattle.machine.proofs.View.{falseTrue}
 use Rattle.rules.specs.Saved.{tokenAllowed}
@@ -19,14 +19,16 @@ allowed : (c : tie.After-token-allowed) → let a = c .before .before .before .b
 allowed c = ap (tokenAllowed (graphOf (c .before .before .before .before .args .graph .now))) (sym (c .before .row-at .ensures)) ∙ sym (c .token-allowed .ensures .0)
 
 bytes : (c : tie.After-token-allowed) → c .token-allowed .result ≡ true → let a = c .before .before .before .before .args in
-    (encode (tokenAt (a .ledger .now) (a .i)) ≡ take tokenWidth (drop (a .i * tokenWidth) (a .ledger .now))) × TokenFits (tokenAt (a .ledger .now) (a .i))
+    (encodeToken (tokenAt (a .ledger .now) (a .i)) ≡ take tokenWidth (drop (a .i * tokenWidth) (a .ledger .now))) × TokenFits (tokenAt (a .ledger .now) (a .i))
 bytes c h = rw (c .before .row-at .ensures) at (c .token-allowed .ensures .1 h)
 
 pub arrives-spec : {M : Type 1} → statement M
 unfolding arrivesAt
 arrives-spec = tie.close (tie.spec
     (λ c κs. omega (arith, c .before .before .pre .0))  -- row-at-requires
-    (λ c κs. (rw (c .row-at .ensures, length-drop) (omega (arith, c .before .before .before .pre .0)), c .before .before .before .pre .3))  -- token-allowed-requires
+    (λ c κs.  -- token-allowed-requires
+    let entry = c .before .before .before in
+    (rw (c .row-at .ensures, length-drop) (omega (arith, entry .pre .0)), entry .pre .3))
     (λ c. (rw (allowed (c .before), not-true (c .before .token-allowed .result) (c .if1 .taken)), λ h. falseTrue h))  -- returns
     (λ c κs. search needs)  -- token-at-requires
     (λ c κs. search needs)  -- path-made-requires

@@ -7,11 +7,11 @@ use borrow.Author.Needs.{needs}
 use borrow.Author.Tests.{not-true, not-false}
 use Rattle.record.specs.GraphRecords.{graphOf}
 use Rattle.record.specs.declared.token.Token.{Token}
-use Rattle.record.specs.TokensAndTags.{encode, tokenAt}
+use Rattle.record.specs.TokensAndTags.{encodeToken, tokenAt}
 use Rattle.machine.specs.Saved.{allUpTo}
 use Rattle.machine.proofs.View.{falseTrue}
 use Rattle.store_chains.specs.Search.{isFound}
-use Rattle.store_enabled.specs.Store.{Standing}
+use Rattle.store_enabled.specs.Store.{StandingRecord}
 use Rattle.store.specs.Matching.{Matching}
 use Rattle.store.proofs.Laws.{matching-known}
 use Rattle.store.proofs.Writing.{put-same}
@@ -38,7 +38,7 @@ yes c = sym (c .before .before .arrives .ensures .0) ∙ not-false (c .before .b
 
 -- and its token stands in it
 standing : (c : tie.After-token-at Inv-loop μ-loop) → let a = (start c) .args in
-    Standing (a .tables .now) (a .ledger .now) (c .before .before .before .before .before .loop .i) (c .token-at .result)
+    StandingRecord (a .tables .now) (a .ledger .now) (c .before .before .before .before .before .loop .i) (c .token-at .result)
 standing c =
     let s = start c in
     let a = s .args in
@@ -47,10 +47,10 @@ standing c =
     let g = graphOf (a .graph .now) in
     let p = arrives-parts g (a .tables .now) (a .ledger .now) (a .count) i (s .pre .3) (yes c) in
     let e = c .token-at .ensures in
-    subst (λ (t : Token). Standing (a .tables .now) (a .ledger .now) i t) (sym e) (record {
+    subst (λ (t : Token). StandingRecord (a .tables .now) (a .ledger .now) i t) (sym e) (record {
       same = refl;
       fits = own .1;
-      bytes = sym (put-same (a .ledger .now) i (encode (tokenAt (a .ledger .now) i)) (own .0));
+      bytes = sym (put-same (a .ledger .now) i (encodeToken (tokenAt (a .ledger .now) i)) (own .0));
       low = p .0;
       alone = arrives-alone g (a .tables .now) (a .ledger .now) (a .count) i (s .pre .5) (yes c);
     })

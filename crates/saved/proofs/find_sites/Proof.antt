@@ -10,13 +10,13 @@ use Rattle.record.specs.Widths.{graphWidth}
 use Rattle.check_fields.proofs.Sites.{length-at-site}
 use Rattle.check_fields.proofs.Turns.{take-next}
 use Rattle.check_fields.proofs.Graphs.{length-graph, in-graph}
-use Rattle.saved.specs.Passes.{Entered}
+use Rattle.saved.specs.Passes.{EnteredSites}
 use Rattle.saved.proofs.Laws.{no-sites, one-site}
 use Rattle.saved.proofs.find_sites.Statement.{statement}
 use Rattle.saved.proofs.find_sites.Tie as tie
 
 abbrev Inv-loop : tie.InvT-loop
-Inv-loop graph sites₀ i₀ sites i = (i ≤ length graph / graphWidth) × (length sites ≡ 256) × Entered (take i (graphOf graph)) sites
+Inv-loop graph sites₀ i₀ sites i = (i ≤ length graph / graphWidth) × (length sites ≡ 256) × EnteredSites (take i (graphOf graph)) sites
 
 abbrev μ-loop : tie.MeasureT-loop
 μ-loop graph sites₀ i₀ sites i = length graph / graphWidth - i

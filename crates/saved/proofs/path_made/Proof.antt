@@ -7,13 +7,13 @@ use borrow.Author.Needs.{needs}
 use Rattle.record.specs.declared.instruction.Instruction.{Instruction}
 use Rattle.record.specs.Calls.{mostLevels}
 use Rattle.rules.specs.Saved.{pathMade}
-use Rattle.saved.specs.Passes.{Entered}
+use Rattle.saved.specs.Passes.{EnteredSites}
 use Rattle.saved.proofs.Laws.{no-level, bad-level, good-level, last-level}
 use Rattle.saved.proofs.path_made.Statement.{statement}
 use Rattle.saved.proofs.path_made.Tie as tie
 
 abbrev Inv-loop : tie.InvT-loop
-Inv-loop sites at₀ more₀ at more = (more ≤ mostLevels) × ((g : List Instruction) → Entered g sites → pathMade g mostLevels at₀ ≡ pathMade g more at)
+Inv-loop sites at₀ more₀ at more = (more ≤ mostLevels) × ((g : List Instruction) → EnteredSites g sites → pathMade g mostLevels at₀ ≡ pathMade g more at)
 
 abbrev μ-loop : tie.MeasureT-loop
 μ-loop sites at₀ more₀ at more = more

@@ -4,7 +4,7 @@ use mathlib.Core.Path.{_≡_}
 use borrow.Author.Needs.{needs}
 use lib.ListN.{take}
 use Rattle.record.specs.GraphRecords.{graphOf}
-use Rattle.record.specs.TokensAndTags.{encode, decode, TokenFits}
+use Rattle.record.specs.TokensAndTags.{encodeToken, decodeToken, TokenFits}
 use Rattle.record.specs.Widths.{tokenWidth}
 use Rattle.record.proofs.Fitting.{token-fits}
 use Rattle.rules.specs.Saved.{tokenAllowed}
@@ -14,7 +14,7 @@ use Rattle.saved.proofs.token_allowed.Tie as tie
 
 -- the bytes of an allowed record are those of its token
 own : (c : tie.After-decode) → let a = c .before .before .before .args in tokenAllowed (graphOf (a .graph .now)) (a .s .now) ≡ true
-    → (encode (decode (a .s .now)) ≡ take tokenWidth (a .s .now)) × TokenFits (decode (a .s .now))
+    → (encodeToken (decodeToken (a .s .now)) ≡ take tokenWidth (a .s .now)) × TokenFits (decodeToken (a .s .now))
 own c e =
     let s = c .before .before .before in
     let a = s .args in

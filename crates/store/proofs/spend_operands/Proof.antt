@@ -1,5 +1,6 @@
 -- `store::spend_operands` meets its contract. Assumes nothing.
 use borrow.Author.Needs.{needs}
+use Rattle.store_enabled.proofs.Spending.{spendable-within}
 use Rattle.store.proofs.Changes.{spent-kept}
 use Rattle.store.proofs.Laws.{matching-stored}
 use Rattle.store.proofs.spend_operands.Statement.{statement}
@@ -15,5 +16,5 @@ spend-operands-spec = tie.close (tie.spec
       p .ensures .0,
       λ tables links used w o.
           let r = p .ensures .1 tables links used (matching-stored w) o in
-          (r .0, spent-kept tables links (a .flags .now) (a .ledger .now) used (a .first) (a .second) w (o .firstWithin) (o .secondWithin) (p .last .0) (p .last .1 .0) (r .0) (r .1)),
+          (r .0, spent-kept tables links (a .flags .now) (a .ledger .now) used (a .place) (a .other) w (spendable-within o .0) (spendable-within o .1) (p .last .0) (p .last .1 .0) (r .0) (r .1)),
     )))

@@ -40,6 +40,7 @@ stepped : (c : tie.After-change Inv-loop μ-loop) → let a = c .before .before 
     let n = getD (a .links .now) (l .at - 1 + 7168) 0 in
     (n < l .at) × Waking (a .cell) (toZ w32 (ofZ w32 (a .v))) (a .tables .now) (a .links .now) (a .ledger .now) (a .used) (c .change .last .1 .1 .0) (c .change .last .1 .1 .1 .0) n
 stepped c =
+    let at-woken = c .before .before .before .before .woken in
     let s = c .before .before .before .before .before .before .before .before .before .before .before .before in
     let a = s .args in
     let l = c .before .before .before .before .before .before .before .before .loop in
@@ -47,7 +48,7 @@ stepped c =
     let z = toZ w32 (ofZ w32 (a .v)) in
     let z≢ = c .before .before .before .before .before .before .before .loop-test .taken in
     let own = waking-own (a .cell) z (a .tables .now) (a .links .now) (a .flags .now) (a .ledger .now) (a .used) (s .pre .0) (s .pre .1) (l .flags) (l .ledger) (l .at) (l .inv) z≢ in
-    let e : c .before .before .before .before .woken .result ≡ Deferred.woken (a .cell) z (tokenAt (l .ledger) (l .at - 1)) = c .before .before .before .before .woken .ensures ∙ rw (c .before .before .before .before .before .token-at .ensures) (gets (a .cell) z (tokenAt (l .ledger) (l .at - 1)) own) in
+    let e : at-woken .result ≡ Deferred.woken (a .cell) z (tokenAt (l .ledger) (l .at - 1)) = at-woken .ensures ∙ rw (c .before .before .before .before .before .token-at .ensures) (gets (a .cell) z (tokenAt (l .ledger) (l .at - 1)) own) in
     waking-step (a .cell) z (a .tables .now) (a .links .now) (a .flags .now) (a .ledger .now) (a .used) (s .pre .0) (s .pre .1) (l .flags) (l .ledger) (l .at) (l .inv) z≢
     (p .last .1 .1 .0) (p .last .1 .1 .1 .0) (omega (arith, p .kept .1 .1 .1 .0)) (rw e at (p .ensures .0)) (rw e at (p .ensures .1 .0)) (p .ensures .1 .1)
 
@@ -68,10 +69,11 @@ wake-spec = tie.close (tie.spec
     (λ c κs. omega (arith, low (c .before .before), c .before .loop-test .taken, c .before .before .loop .inv .store .known .room))  -- token-at-requires
     (λ c κs. search needs)  -- woken-requires
     (λ c κs.  -- change-requires
-    let l = c .before .before .before .before .before .before .before .loop in
+    let at-loop = c .before .before .before .before .before .before .before in
+    let l = at-loop .loop in
     let e = c .before .before .before .woken .ensures in
     let t = c .before .before .before .before .token-at .ensures in
-    (l .inv .store, omega (arith, low (c .before .before .before .before .before .before .before), c .before .before .before .before .before .before .loop-test .taken), rw (e, t), rw (e, t), rw e (λ h. refl)))
+    (l .inv .store, omega (arith, low at-loop, c .before .before .before .before .before .before .loop-test .taken), rw (e, t), rw (e, t), rw e (λ h. refl)))
     (λ c. search needs)  -- add-wide
     (λ c. search needs)  -- mul-wide-2
     (λ c. omega (arith, c .before .before .before .before .before .before .before .before .before .before .loop .inv .walk .on .small, c .before .before .before .before .before .before .before .before .before .loop-test .taken))  -- element-copy-out-wide-2

@@ -8,7 +8,7 @@ use borrow.Author.Needs.{needs}
 use lib.ListN.{length}
 use Rattle.record.specs.declared.token.Token.{Token}
 use Rattle.store_chains.specs.Chains.{Indexed}
-use Rattle.store_chains.specs.Deferred.{keyOf, cellKey, Waiting}
+use Rattle.store_chains.specs.Deferred.{chainOf, cellKey, Waiting}
 use Rattle.store_chains.proofs.Chains.{chained-off}
 use Rattle.store_chains.proofs.Index.{bucket-low}
 use Rattle.store_chains.proofs.Entering.{bucket-indexed, bucket-waiting, cell-indexed, cell-waiting}
@@ -54,8 +54,8 @@ enter-spec = tie.close (tie.spec
     (λ c. search needs)  -- add-link-2
     (λ c. search needs)  -- add-link-3
     (λ c κs. let u = c .before .before .before .before .before .before .pre .0 in (omega (arith, low c), omega (arith, u), u))  -- link-requires-2
-    (λ c. let f = c .before .before in (indexed f, off f (ap keyOf (c .enum-told .given .1))))  -- returns
-    (λ c. let f = c .before .before in (indexed f, off f (ap keyOf (c .enum-told2 .given .1))))  -- returns-2
+    (λ c. let f = c .before .before in (indexed f, off f (ap chainOf (c .enum-told .given .1))))  -- returns
+    (λ c. let f = c .before .before in (indexed f, off f (ap chainOf (c .enum-told2 .given .1))))  -- returns-2
     (λ c.  -- returns-3
     let f = c .before .before .before .before .before in
     let s = f .before .before in
@@ -63,5 +63,5 @@ enter-spec = tie.close (tie.spec
     let l = f .link .last .0 in
     let x = c .before .before .before .content .given in (
       λ ts len w. rw (c .link2 .ensures) (cell-indexed l (a .t) (a .used) (s .pre .0) (ts ++ a .t ∷ []) (x .0 .0) (low (c .before)) (indexed f ts len w)),
-      λ ts len w. rw (c .link2 .ensures) (cell-waiting l (a .t) (a .used) (s .pre .0) ts (x .0 .0) (low (c .before)) len (ap keyOf (x .1)) (waiting f ts w)),
+      λ ts len w. rw (c .link2 .ensures) (cell-waiting l (a .t) (a .used) (s .pre .0) ts (x .0 .0) (low (c .before)) len (ap chainOf (x .1)) (waiting f ts w)),
     )))

@@ -4,12 +4,12 @@ use mathlib.Core.Path.{_≡_, _∙_}
 use native.Mathlib.Omega.{arith}
 use borrow.Author.Needs.{needs}
 use lib.ListN.{length, getD, set}
-use Rattle.record.specs.TokensAndTags.{tokens, tokenAt, decode}
+use Rattle.record.specs.TokensAndTags.{tokens, tokenAt, decodeToken}
 use Rattle.record.specs.declared.token.Token.{Token}
 use Rattle.buffer.proofs.Tables.{length-rows, getD-rows}
 use Rattle.record.specs.Widths.{tokenWidth}
 use Rattle.store_flags.specs.Flags.{flagsOf}
-use Rattle.store_enabled.specs.Enabled.{isEnabled, placeOf}
+use Rattle.store_enabled.specs.Enabled.{isEnabled, earliestOf}
 use Rattle.store_enabled.proofs.Store.{Moved, changed, all-at}
 use Rattle.store_enabled.proofs.Arriving.{right-still, raised-only}
 use Rattle.store_enabled.proofs.change.Statement.{statement}
@@ -18,10 +18,10 @@ use Rattle.store_enabled.proofs.change.Tie as tie
 -- the record as it was
 module _ (s : tie.Start) where
   before : getD (tokens (s .args .used) (s .args .ledger .now)) (s .args .i) (tokenAt (s .args .ledger .now) (s .args .i)) ≡ tokenAt (s .args .ledger .now) (s .args .i)
-  before = getD-rows tokenWidth decode (s .args .used) (s .args .i) (s .args .ledger .now) (tokenAt (s .args .ledger .now) (s .args .i)) (s .pre .1)
+  before = getD-rows tokenWidth decodeToken (s .args .used) (s .args .i) (s .args .ledger .now) (tokenAt (s .args .ledger .now) (s .args .i)) (s .pre .1)
 
   size : length (tokens (s .args .used) (s .args .ledger .now)) ≡ s .args .used
-  size = length-rows tokenWidth decode (s .args .used) (s .args .ledger .now)
+  size = length-rows tokenWidth decodeToken (s .args .used) (s .args .ledger .now)
 
   low : s .args .t .port < 2
   low = rw (s .pre .3, ← before) (all-at (λ (t : Token). t .port < 2) (tokens (s .args .used) (s .args .ledger .now)) (s .args .i) (tokenAt (s .args .ledger .now) (s .args .i)) (omega (arith, size, s .pre .1)) (s .pre .0 .known .ports))
@@ -47,13 +47,14 @@ change-spec = tie.close (tie.spec
     (s .pre .0 .counted, e .known, s .pre .1, low s, e .own))
     (λ c. search needs)  -- same-length
     (λ c.  -- returns
+    let at-put-token = c .before .before .before .before .before .before .before in
     let s = c .before .before .before .before .before .before .before .before .before .before .before in
     let a = s .args in
-    let e = entered (c .before .before .before .before .before .before .before) in
+    let e = entered at-put-token in
     let ts = tokens (a .used) (a .ledger .now) in
     let us = set ts (a .i) (a .t) in
     let d = tokenAt (a .ledger .now) (a .i) in
     let still = right-still (a .tables .now) ts (a .i) (a .t) d (flagsOf (a .flags .now)) (omega (arith, size s, s .pre .1)) (rw (before s) (s .pre .2)) (rw (before s) (s .pre .3)) (rw (before s) (s .pre .4)) (s .pre .0 .right) in
-    let once = raised-only (isEnabled (a .tables .now) us (a .t .tag)) (flagsOf (a .flags .now)) (placeOf us (a .t .tag)) still in
+    let once = raised-only (isEnabled (a .tables .now) us (a .t .tag)) (flagsOf (a .flags .now)) (earliestOf us (a .t .tag)) still in
     let flags = c .settle-changed .ensures .0 ∙ rw (c .before .before .before .arity .ensures, e .more) once in
-    (c .before .before .before .before .before .before .before .put-token .ensures .0, (e .more, e .stored (c .settle-changed .last .0) flags (c .settle-changed .ensures .1)))))
+    (at-put-token .put-token .ensures .0, (e .more, e .stored (c .settle-changed .last .0) flags (c .settle-changed .ensures .1)))))

@@ -9,16 +9,16 @@ use Rattle.record.specs.declared.token.Token.{Token}
 use Rattle.record.specs.TokensAndTags.{tokens, tokenAt}
 use Rattle.store_chains.specs.declared.Found.{Found}
 use Rattle.store_chains.specs.declared.Found.the-variants.{At, Nothing}
-use Rattle.store_chains.specs.Search.{Within}
+use Rattle.store_chains.specs.Search.{FoundWithin}
 use Rattle.store_chains.proofs.Search.{within-more}
-use Rattle.store_enabled.specs.Enabled.{allLive, isEnabled, placeOf}
+use Rattle.store_enabled.specs.Enabled.{operandsLive, isEnabled, earliestOf}
 use Rattle.store_enabled.specs.Store.{placeOr, liveFound, readyOf}
 use Rattle.store_enabled.proofs.Places.{live-found, first-place, lower-below}
 use Rattle.store_enabled.proofs.enabled_by_tag.Statement.{statement}
 use Rattle.store_enabled.proofs.enabled_by_tag.Tie as tie
 
 -- where all operands are live, one was found on port 0
-found-first : (n used : ℕ) (at : ℕ → Token) (f : Found) (b : Bool) → Within f used → readyOf n (liveFound at f) b ≡ true → placeOr f used < used
+found-first : (n used : ℕ) (at : ℕ → Token) (f : Found) (b : Bool) → FoundWithin f used → readyOf n (liveFound at f) b ≡ true → placeOr f used < used
 found-first n used at (At i) b w e = w
 found-first n used at Nothing b w e = go (eqb n 1) (eqb n 2) e
   where
@@ -29,7 +29,7 @@ found-first n used at Nothing b w e = go (eqb n 1) (eqb n 2) e
 
 -- whether all operands are live
 whole : (c : tie.After-ready) → let a = c .before .before .before .before .before .before .args in c .ready .result ≡ isEnabled (a .tables .now) (tokens (a .used) (a .ledger .now)) (a .tag)
-unfolding allLive
+unfolding operandsLive
 whole c =
     let g = c .before .before .before in
     let f = g .before in
@@ -57,7 +57,7 @@ enabled-by-tag-spec = tie.close (tie.spec
     let s = f .before .before in
     let a = s .args in
     let on = sym (whole r) ∙ p .before .if1 .taken in
-    let place : c .earlier .result ≡ placeOf (tokens (a .used) (a .ledger .now)) (a .tag) =
+    let place : c .earlier .result ≡ earliestOf (tokens (a .used) (a .ledger .now)) (a .tag) =
     c .earlier .ensures ∙ rw (p .place-or .ensures, c .before .place-or2 .ensures, f .find .ensures .0, g .find2 .ensures .0) (sym (first-place (a .tag) (a .used) (a .ledger .now) (s .pre .ports))) in
     let low = found-first (r .before .arity .result) (a .used) (tokenAt (a .ledger .now)) (f .find .result) (liveFound (tokenAt (a .ledger .now)) (g .find2 .result)) (f .find .ensures .1) (sym (r .ready .ensures) ∙ p .before .if1 .taken) in
     (rw on (ap At place), rw (c .earlier .ensures, p .place-or .ensures) (lower-below _ _ (a .used) low)))

@@ -4,13 +4,13 @@ use mathlib.Core.Path.{_≡_, refl, sym, ap, _∙_}
 use mathlib.Core.Bool.{true, false}
 use mathlib.Core.List.{[], _∷_, _++_}
 use borrow.Author.Needs.{needs}
-use Rattle.record.specs.TokensAndTags.{tokens, tokenAt, decode}
+use Rattle.record.specs.TokensAndTags.{tokens, tokenAt, decodeToken}
 use Rattle.record.specs.declared.token.Token.{Token}
 use Rattle.buffer.proofs.Tables.{length-rows}
 use Rattle.record.specs.Widths.{tokenWidth}
 use Rattle.store_flags.specs.Flags.{flagsOf}
 use Rattle.store_chains.specs.Deferred.{Waiting}
-use Rattle.store_enabled.specs.Enabled.{isLive, arityOf, isEnabled}
+use Rattle.store_enabled.specs.Enabled.{isLiveRecord, arityOf, isEnabled}
 use Rattle.store_enabled.specs.Store.{Stored, Last, liveFound, readyOf}
 use Rattle.store_enabled.proofs.Store.{Moved, added, added-last}
 use Rattle.store_enabled.proofs.Arriving.{flag-before, port-below, right-wait, last-partner, last-place, last-flag, last-completes, last-waits, not-live}
@@ -27,14 +27,14 @@ entered c =
     let p = s .pre .3 in
     added (a .tables .now) (a .links .now) (a .flags .now) l (a .used) (a .t) (s .pre .0) (s .pre .1) (s .pre .2) (p .low) (s .pre .5 .free)
     (p .fits) l (p .bytes) refl (c .enter .last .0)
-    (c .enter .ensures .0 (tokens (a .used) l) (length-rows tokenWidth decode (a .used) l) (s .pre .0 .known .index))
+    (c .enter .ensures .0 (tokens (a .used) l) (length-rows tokenWidth decodeToken (a .used) l) (s .pre .0 .known .index))
 
 -- and the chains of deferred tokens
 waiting : (c : tie.After-enter) → let a = c .before .before .before .before .args in
     Waiting (a .links .now) (tokens (a .used) (a .ledger .now)) → Waiting (c .enter .last .0) (tokens (a .used + 1) (a .ledger .now))
 waiting c w =
     let a = c .before .before .before .before .args in
-    rw (entered c .more) (c .enter .ensures .1 (tokens (a .used) (a .ledger .now)) (length-rows tokenWidth decode (a .used) (a .ledger .now)) w)
+    rw (entered c .more) (c .enter .ensures .1 (tokens (a .used) (a .ledger .now)) (length-rows tokenWidth decodeToken (a .used) (a .ledger .now)) w)
 
 -- its tag is not enabled, and the flags stay
 stays : (c : tie.After-enter) → let a = c .before .before .before .before .args in isEnabled (a .tables .now) (tokens (a .used + 1) (a .ledger .now)) (a .t .tag) ≡ false
@@ -55,7 +55,7 @@ last c =
     let p = s .pre .3 in
     added-last (a .tables .now) (a .links .now) (a .flags .now) l (a .used) (a .t) (s .pre .0) (s .pre .1) (s .pre .2) (p .low) (s .pre .5 .free)
     (p .fits) l (p .bytes) refl (c .enter .last .0)
-    (c .enter .ensures .0 (tokens (a .used) l) (length-rows tokenWidth decode (a .used) l) (s .pre .0 .known .index)) (a .slot) (s .pre .5)
+    (c .enter .ensures .0 (tokens (a .used) l) (length-rows tokenWidth decodeToken (a .used) l) (s .pre .0 .known .index)) (a .slot) (s .pre .5)
 
 -- whether its tag is enabled
 whole : (c : tie.After-completes) → let a = c .before .before .before .before .before .before .before .before .before .args in
@@ -65,7 +65,7 @@ whole c =
     let s = n .before .before .before .before in
     let a = s .args in
     let k = arityOf (a .tables .now) (a .t .tag) in
-    let live = ap (λ (x : Token). isLive (x .content)) (s .pre .3 .same) ∙ ap isLive (c .before .before .before .enum-told .given .1) in
+    let live = ap (λ (x : Token). isLiveRecord (x .content)) (s .pre .3 .same) ∙ ap isLiveRecord (c .before .before .before .enum-told .given .1) in
     c .completes .ensures ∙ ap (λ (m : ℕ). readyOf m true (liveFound (tokenAt (a .ledger .now)) (a .slot .partner))) (c .before .arity .ensures) ∙ last-completes (last n) k (s .pre .3 .alone) live
 
 pub enter-spec : {M : Type 1} → statement M
@@ -99,5 +99,5 @@ enter-spec = tie.close (tie.spec
     let n = c .before in
     let s = n .before .before .before .before in
     let a = s .args in
-    let off = ap (λ (x : Token). isLive (x .content)) (s .pre .3 .same) ∙ not-live (a .t .content) (c .match .keys2) in
+    let off = ap (λ (x : Token). isLiveRecord (x .content)) (s .pre .3 .same) ∙ not-live (a .t .content) (c .match .keys2) in
     (entered n .more, (stays n (last-waits (last n) (arityOf (a .tables .now) (a .t .tag)) (s .pre .3 .alone) off), waiting n))))

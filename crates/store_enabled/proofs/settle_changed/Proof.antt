@@ -7,7 +7,7 @@ use borrow.Author.Tests.{not-true, not-false}
 use Rattle.record.specs.TokensAndTags.{tokens}
 use Rattle.store_flags.specs.Flags.{flagsOf}
 use Rattle.store_chains.proofs.Search.{within-more}
-use Rattle.store_enabled.specs.Enabled.{allLive, placeOf}
+use Rattle.store_enabled.specs.Enabled.{operandsLive, earliestOf}
 use Rattle.store_enabled.specs.Store.{placeOr, lower}
 use Rattle.store_enabled.proofs.Store.{known-few}
 use Rattle.store_enabled.proofs.Places.{lower-below}
@@ -16,14 +16,14 @@ use Rattle.store_enabled.proofs.settle_changed.Statement.{statement}
 use Rattle.store_enabled.proofs.settle_changed.Tie as tie
 
 -- the place of the tag
-here : (c : tie.After-find) → let a = c .before .before .args in placeOf (tokens (a .used) (a .ledger .now)) (a .tag) ≡ lower (a .own) (placeOr (c .find .result) (a .own))
+here : (c : tie.After-find) → let a = c .before .before .args in earliestOf (tokens (a .used) (a .ledger .now)) (a .tag) ≡ lower (a .own) (placeOr (c .find .result) (a .own))
 here c =
     let s = c .before .before in
     let a = s .args in
     own-place (a .tag) (a .port) (a .own) (a .used) (a .ledger .now) (s .pre .2) (s .pre .3) (s .pre .4) (c .find .result) (c .find .ensures .0) (s .pre .1 .ports)
 
 -- whether its operands are all live
-whole : (c : tie.After-ready-with) → let a = c .before .before .before .args in c .ready-with .result ≡ allLive (a .operands) (tokens (a .used) (a .ledger .now)) (a .tag)
+whole : (c : tie.After-ready-with) → let a = c .before .before .before .args in c .ready-with .result ≡ operandsLive (a .operands) (tokens (a .used) (a .ledger .now)) (a .tag)
 whole c =
     let s = c .before .before .before in
     let a = s .args in

@@ -34,9 +34,10 @@ select-block-but-spec = tie.close (tie.spec
     (λ c κs. let s = c .before .before .before .before in (s .pre .0, s .pre .1, s .pre .2, c .before .before .loop-test .taken))  -- word-but-requires
     (λ c κs. (c .before .before .in-word-but .ensures ∙ ap ones (sym (c .word-but .ensures)), c .before .if1 .taken))  -- select-in-requires
     (λ c.  -- add-result
+    let at-in-word-but = c .before .before .before .in-word-but in
     let l = c .before .before .before .before .before .loop in
     let w = c .before .word-but .result in
-    record { fits = omega (arith, c .select-in .ensures, word-size w, c .before .before .before .in-word-but .ensures, ap ones (c .before .word-but .ensures), place-lt (l .left) (inWord w) (omega (arith, c .before .before .before .in-word-but .ensures, ap ones (c .before .word-but .ensures), c .before .before .if1 .taken))) })
+    record { fits = omega (arith, c .select-in .ensures, word-size w, at-in-word-but .ensures, ap ones (c .before .word-but .ensures), place-lt (l .left) (inWord w) (omega (arith, at-in-word-but .ensures, ap ones (c .before .word-but .ensures), c .before .before .if1 .taken))) })
     (λ c.  -- returns
     let s = c .before .before .before .before .before .before in
     let l = c .before .before .before .before .before .loop in

@@ -4,7 +4,7 @@ use mathlib.Core.Path.{sym, ap, _∙_}
 use lib.ListN.{set}
 use lib.Seq.{set-getD}
 use borrow.Author.Needs.{needs}
-use Rattle.store_flags.specs.Flags.{inWord, any}
+use Rattle.store_flags.specs.Flags.{inWord, anySet}
 use Rattle.store_flags.proofs.Words.{any-none, any-positive}
 use Rattle.store_flags.proofs.unmark.Statement.{statement}
 use Rattle.store_flags.proofs.unmark.Tie as tie
@@ -14,7 +14,7 @@ unmark-spec = tie.close (tie.spec
     (λ c κs. search needs)  -- lowered-requires
     (λ c.  -- returns
     let a = c .before .before .args in
-    c .lowered .ensures ∙ ap (λ (x : ℕ). set (inWord (a .marks)) (a .b) x) (sym (ap any (c .before .if1 .taken) ∙ any-none)))
+    c .lowered .ensures ∙ ap (λ (x : ℕ). set (inWord (a .marks)) (a .b) x) (sym (ap anySet (c .before .if1 .taken) ∙ any-none)))
     (λ c.  -- returns-2
     let s = c .before in
     let a = s .args in

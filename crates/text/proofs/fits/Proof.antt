@@ -8,7 +8,7 @@ use borrow.Author.Tests.{leb-true, le-leb, lt-leb}
 use lib.ListN.{length, getD}
 use Rattle.number.specs.Number.{Bytes}
 use Rattle.text.specs.Text.{lines, printed}
-use Rattle.text.specs.Room.{mostBytes}
+use Rattle.text.specs.Room.{mostBytesOf}
 use Rattle.text.proofs.Room.{bytes-within, line-short}
 use Rattle.text.proofs.Whole.{made, made-all, made-within, made-longer, length-lines}
 use Rattle.text.proofs.fits.Statement.{statement}
@@ -47,7 +47,7 @@ fits-spec =
     let bl : Bytes (a .listing .now) = λ i. (c .before .before .before .before .shared-slice-known .given i) .fits in
     let bc : Bytes (a .cells .now) = λ i. (c .before .before .before .shared-slice-known2 .given i) .fits in
     let m = c .before .before .most-first in
-    let t = leb-true (m .result + mostBytes (a .listing .now) (a .cells .now)) (a .room) (sym (c .before .longest-fits .ensures) ∙ c .if1 .taken) in
+    let t = leb-true (m .result + mostBytesOf (a .listing .now) (a .cells .now)) (a .room) (sym (c .before .longest-fits .ensures) ∙ c .if1 .taken) in
     sym (le-leb (whole s) (a .room) (omega (arith, t, m .ensures .0, bytes-within (a .answer) (a .listing .now) (a .cells .now) bl bc (s .good .1 .1 .0 .0)))))
     (λ c κs. search needs)  -- count-requires
     (λ c. (omega arith, refl, omega arith))  -- loop-holds

@@ -8,7 +8,7 @@ use mathlib.Core.Bool.{Bool, true, false}
 use lib.Dec.{leb}
 use lib.ListN.{length}
 use Rattle.record.specs.Widths.{tokenWidth, cellWidth}
-use Rattle.text.specs.Room.{mostBytes}
+use Rattle.text.specs.Room.{mostBytesOf}
 use Rattle.text.proofs.longest_fits.Statement.{statement}
 use Rattle.text.proofs.longest_fits.Tie as tie
 
@@ -26,12 +26,12 @@ pub longest-fits-spec : {M : Type 1} → statement M
 longest-fits-spec =
     tie.close
     (tie.spec
-    (λ c. let a = c .before .args in sym (lt-leb (a .first + mostBytes (a .listing .now) (a .cells .now)) (a .room) (omega arith)))  -- returns
-    (λ c. let a = c .before .before .args in sym (lt-leb (a .first + mostBytes (a .listing .now) (a .cells .now)) (a .room) (omega arith)))  -- returns-2
+    (λ c. let a = c .before .args in sym (lt-leb (a .first + mostBytesOf (a .listing .now) (a .cells .now)) (a .room) (omega arith)))  -- returns
+    (λ c. let a = c .before .before .args in sym (lt-leb (a .first + mostBytesOf (a .listing .now) (a .cells .now)) (a .room) (omega arith)))  -- returns-2
     (λ c. search needs)  -- mul-result
     (λ c. search needs)  -- sub-result
     (λ c.  -- returns-3
     let a = c .before .before .args in
     let m = length (a .cells .now) / cellWidth in
     let left = (a .room - a .first - length (a .listing .now) / tokenWidth * 75) / 46 in
-    both-ways m left (a .first + mostBytes (a .listing .now) (a .cells .now)) (a .room) (λ h. omega arith) (λ h. omega arith)))
+    both-ways m left (a .first + mostBytesOf (a .listing .now) (a .cells .now)) (a .room) (λ h. omega arith) (λ h. omega arith)))

@@ -6,13 +6,13 @@ use mathlib.Core.Bool.{true, false}
 use borrow.Author.Tests.{leb-true}
 use lib.Dec.{leb}
 use lib.ListN.{length}
-use Rattle.text.specs.Text.{printed, printedOf, outAfter}
+use Rattle.text.specs.Text.{printed, printedOf, printedOut}
 use Rattle.text.proofs.Lines.{from-start}
 use Rattle.text.proofs.print.Statement.{statement}
 use Rattle.text.proofs.print.Tie as tie
 
 pub print-spec : {M : Type 1} → statement M
-unfolding printedOf outAfter
+unfolding printedOf printedOut
 print-spec =
     tie.close
     (tie.spec

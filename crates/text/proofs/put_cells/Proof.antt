@@ -5,7 +5,7 @@ use Prim.Native.Nat.{_+_, _-_, _/_, _≤_, _<_}
 use mathlib.Core.Path.{_≡_}
 use lib.ListN.{length, length-drop}
 use Rattle.record.specs.Widths.{tokenWidth, cellWidth}
-use Rattle.text.specs.Lines.{Added, tokenLines, linesOfCells}
+use Rattle.text.specs.Lines.{AddedText, tokenLines, linesOfCells}
 use Rattle.text.proofs.Lines.{added-none}
 use Rattle.text.proofs.Whole.{made, made-all}
 use Rattle.text.proofs.Fields.{count-tokens, token-at, count-cells, cell-at, line-room, line-made, made-passed}
@@ -13,7 +13,7 @@ use Rattle.text.proofs.put_cells.Statement.{statement}
 use Rattle.text.proofs.put_cells.Tie as tie
 
 abbrev Inv-loop : tie.InvT-loop
-Inv-loop out₀ from cells n at₀ k₀ out at k = (k ≤ length cells / cellWidth) × Added out₀ out from at (made (linesOfCells cells) k)
+Inv-loop out₀ from cells n at₀ k₀ out at k = (k ≤ length cells / cellWidth) × AddedText out₀ out from at (made (linesOfCells cells) k)
 
 abbrev μ-loop : tie.MeasureT-loop
 μ-loop out₀ from cells n at₀ k₀ out at k = length cells / cellWidth - k

@@ -5,7 +5,7 @@ use Prim.Native.Nat.{_+_, _-_, _/_, _≤_, _<_}
 use mathlib.Core.Path.{_≡_, refl}
 use lib.ListN.{length, length-drop}
 use Rattle.record.specs.Widths.{tokenWidth}
-use Rattle.text.specs.Lines.{Added, PathText, tokenLines}
+use Rattle.text.specs.Lines.{AddedText, PathText, tokenLines}
 use Rattle.text.proofs.Lines.{added-none}
 use Rattle.text.proofs.Whole.{made, made-all}
 use Rattle.text.proofs.Fields.{count-tokens, token-at, line-room, line-made}
@@ -14,7 +14,7 @@ use Rattle.text.proofs.put_tokens.Tie as tie
 
 abbrev Inv-loop : tie.InvT-loop
 Inv-loop out₀ from listing small n text₀ last₀ count₀ at₀ i₀ out text last count at i =
-    (i ≤ length listing / tokenWidth) × Added out₀ out from at (made (tokenLines listing) i) × PathText text count last
+    (i ≤ length listing / tokenWidth) × AddedText out₀ out from at (made (tokenLines listing) i) × PathText text count last
 
 abbrev μ-loop : tie.MeasureT-loop
 μ-loop out₀ from listing small n text₀ last₀ count₀ at₀ i₀ out text last count at i = length listing / tokenWidth - i

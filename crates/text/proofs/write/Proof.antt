@@ -2,7 +2,7 @@
 use borrow.Author.Needs.{needs}
 use mathlib.Core.List.{_++_}
 use Rattle.text.specs.Text.{answerLine, printed}
-use Rattle.text.specs.Lines.{textOf, tokenLines, linesOfCells}
+use Rattle.text.specs.Lines.{textOfLines, tokenLines, linesOfCells}
 use Rattle.text.proofs.Lines.{both, room-first, room-rest}
 use Rattle.text.proofs.Whole.{joined-append}
 use Rattle.text.proofs.write.Statement.{statement}
@@ -18,21 +18,21 @@ write-spec =
     let a = answerLine (s .args .answer) in
     let ts = tokenLines (s .args .listing .now) in
     let cs = linesOfCells (s .args .cells .now) in
-    room-first a (textOf (ts ++ cs)) (s .pre))
+    room-first a (textOfLines (ts ++ cs)) (s .pre))
     (λ c κs.  -- put-tokens-requires
     let s = c .before .before .before .before .before .before .before .before in
     let a = answerLine (s .args .answer) in
     let ts = tokenLines (s .args .listing .now) in
     let cs = linesOfCells (s .args .cells .now) in
-    let r = rw (joined-append ts cs) at (room-rest (textOf (ts ++ cs)) (c .before .before .before .put-answer .ensures) (s .pre)) in
-    room-first (textOf ts) (textOf cs) r)
+    let r = rw (joined-append ts cs) at (room-rest (textOfLines (ts ++ cs)) (c .before .before .before .put-answer .ensures) (s .pre)) in
+    room-first (textOfLines ts) (textOfLines cs) r)
     (λ c κs.  -- put-cells-requires
     let s = c .before .before .before .before .before .before .before .before .before .before .before .before in
     let a = answerLine (s .args .answer) in
     let ts = tokenLines (s .args .listing .now) in
     let cs = linesOfCells (s .args .cells .now) in
-    let r = rw (joined-append ts cs) at (room-rest (textOf (ts ++ cs)) (c .before .before .before .before .before .before .before .put-answer .ensures) (s .pre)) in
-    room-rest (textOf cs) (c .before .before .before .put-tokens .ensures) r)
+    let r = rw (joined-append ts cs) at (room-rest (textOfLines (ts ++ cs)) (c .before .before .before .before .before .before .before .put-answer .ensures) (s .pre)) in
+    room-rest (textOfLines cs) (c .before .before .before .put-tokens .ensures) r)
     (λ c. search needs)  -- same-length
     (λ c.  -- returns
     let s = c .before .before .before .before .before .before .before .before .before .before .before .before .before .before .before in

@@ -30,5 +30,7 @@ main-spec = tie.close (tie.spec
     (λ c. sym (named (c .before .before .before)))  -- slice-aggregate-count
     (λ c κs. search needs)  -- count-requires
     (λ c. sym (whole (c .before .before .before .before .before)))  -- slice-aggregate-show-folder
-    (λ c κs. (whole (c .before .before .before .before .before), omega (arith, c .before .count .ensures .0, named (c .before .before .before .before .before))))  -- show-folder-requires
+    (λ c κs.  -- show-folder-requires
+    let earlier = c .before .before .before .before .before in
+    (whole earlier, omega (arith, c .before .count .ensures .0, named earlier)))
     (λ c. search needs))  -- returns-2

@@ -5,6 +5,7 @@
 use cases::apart::Wrong;
 use cases::lent::*;
 use cases::Left;
+use layout::{signed, unsigned};
 use second::{Answer, Outcome, Refusal};
 
 #[derive(Clone, Copy, PartialEq)]
@@ -34,11 +35,8 @@ impl Arrived {
     }
 
     fn record(&self) -> [u8; TOKEN_RECORD] {
-        let mut record = token(self.instruction, self.port, self.value);
-        record[..16].copy_from_slice(&self.path.to_le_bytes());
-        record[16] = self.iteration;
-        record[24] = self.state as u8;
-        record
+        let (tag, state) = (self.tag(), self.state as u8);
+        layout::token(tag.0, tag.1, tag.2, self.port, self.value, state)
     }
 }
 
@@ -76,10 +74,10 @@ pub fn run(lent: &Lent, wrong: Option<Wrong>) -> Left {
     for (record, arrived) in left.ledger.chunks_mut(TOKEN_RECORD).zip(&machine.tokens) {
         record.copy_from_slice(&arrived.record());
     }
-    for (record, cell) in left.cells.chunks_mut(CELL_RECORD).zip(&machine.cells) {
-        record.copy_from_slice(&match cell {
-            Cell::Absent => [0; CELL_RECORD],
-            Cell::Waiting => byte([0; CELL_RECORD], 4, 1),
+    for (record, held) in left.cells.chunks_mut(CELL_RECORD).zip(&machine.cells) {
+        record.copy_from_slice(&match held {
+            Cell::Absent => cell(0, cell::ABSENT),
+            Cell::Waiting => cell(0, cell::WAITING),
             Cell::Present(value) => present(*value),
         });
     }
@@ -90,16 +88,12 @@ fn inputs(bytes: &[u8]) -> Vec<Arrived> {
     let input = |record: &[u8]| Arrived {
         path: 0,
         iteration: 0,
-        instruction: u16::from_le_bytes([record[18], record[19]]),
-        port: record[17],
-        value: signed(&record[20..24]),
+        instruction: unsigned(record, token::INSTRUCTION),
+        port: record[token::PORT],
+        value: signed(record, token::VALUE),
         state: State::Live,
     };
     bytes.chunks(TOKEN_RECORD).map(input).collect()
-}
-
-fn signed(bytes: &[u8]) -> i32 {
-    i32::from_le_bytes(bytes.try_into().expect("four bytes"))
 }
 
 impl Machine<'_> {
@@ -166,7 +160,7 @@ impl Machine<'_> {
     }
 
     fn code(&self, arrived: &Arrived) -> u8 {
-        self.record(arrived.instruction)[0]
+        self.record(arrived.instruction)[instruction::CODE]
     }
 
     /// The other operand of a token, if its instruction has two and it is live.
@@ -228,9 +222,9 @@ impl Machine<'_> {
     /// What an activity does: the left operand has its tag.
     fn effect(&mut self, left: Arrived, right: i32) -> Result<(), u8> {
         let record = self.record(left.instruction).to_vec();
-        let constant = signed(&record[8..12]);
+        let constant = signed(&record, instruction::CONSTANT);
         let value = left.value;
-        match record[0] {
+        match record[instruction::CODE] {
             COPY | GATE => self.send(&record, left, value),
             SINK => Ok(()),
             CONST => self.send(&record, left, constant),
@@ -285,9 +279,10 @@ impl Machine<'_> {
         let (site, outer) = ((left.path >> 8) as u8, (left.path >> 24) as u8);
         let outer_taken = self.wrong == Some(Wrong::OuterSite) && outer != 0;
         let site = if outer_taken { outer } else { site };
-        let enters = |r: &&[u8]| r[0] == ENTER && r[8] == site;
+        let enters =
+            |r: &&[u8]| r[instruction::CODE] == ENTER && r[instruction::CONSTANT.start] == site;
         let enter = self.graph.chunks(GRAPH_RECORD).find(enters).ok_or(17)?;
-        let target = usize::from(u16::from_le_bytes([enter[6], enter[7]])) + constant as usize;
+        let target = usize::from(unsigned(enter, instruction::target(1))) + constant as usize;
         if target >= self.graph.len() / GRAPH_RECORD {
             return Err(17);
         }
@@ -372,17 +367,15 @@ impl Machine<'_> {
 }
 
 fn outputs(record: &[u8], left: Arrived, value: i32) -> Vec<Arrived> {
-    let fan_out = usize::from(record[1]);
-    (0..fan_out)
+    (0..usize::from(record[instruction::FAN_OUT]))
         .map(|number| destination(record, number, left, value))
         .collect()
 }
 
 fn destination(record: &[u8], number: usize, left: Arrived, value: i32) -> Arrived {
-    let at = 4 + 2 * number;
     Arrived {
-        port: record[2 + number],
-        instruction: u16::from_le_bytes([record[at], record[at + 1]]),
+        port: record[instruction::port(number)],
+        instruction: unsigned(record, instruction::target(number)),
         value,
         state: State::Live,
         ..left

@@ -2,6 +2,8 @@
 
 use std::collections::{BTreeMap, BTreeSet};
 
+use ttda::widths::INSTRUCTION;
+
 use super::{answer, status};
 use crate::answer::{count, Word};
 use crate::cli;
@@ -125,7 +127,7 @@ fn without_value(name: &str, part: &Part) -> Finding {
 /// The graph that the engine makes.
 fn graph(expression: &Expression) -> Result<Vec<u8>, Failure> {
     let records = expression.records();
-    let mut graph = vec![0; asm::GRAPH_RECORD * (expression.parts.len() + 1)];
+    let mut graph = vec![0; INSTRUCTION * (expression.parts.len() + 1)];
     match ttda::expression(&records, &mut graph).word() {
         Word::Completed => Ok(graph),
         word => Err(inconsistent(&format!("its records give {word:?}"))),

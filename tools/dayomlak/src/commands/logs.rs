@@ -3,6 +3,7 @@
 use std::fs;
 
 use codespan_reporting::diagnostic::Severity;
+use ttda::layout::fields::logged::ZERO;
 
 use super::{answer, left, load, status};
 use crate::answer::Word;
@@ -128,7 +129,7 @@ fn named(program: &Program, log: &[u8], record: usize) -> String {
                 bytes.len()
             )
         }
-        Some(bytes) if bytes[17] != 0 => format!("byte 17 of record {record} is not 0"),
+        Some(bytes) if bytes[ZERO] != 0 => format!("byte {ZERO} of record {record} is not 0"),
         Some(bytes) => {
             let tag = Tag::of(bytes);
             format!(

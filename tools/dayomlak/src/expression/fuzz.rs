@@ -1,9 +1,11 @@
 //! Random texts: each gives an expression with its graph and value, or an error with its place, and none a panic.
 
-use asm::{assemble, GRAPH_RECORD};
+use asm::assemble;
 
 use super::{parse, typed, Expression, Fault, Kind, Operator, MOST_PARTS};
+use crate::random::Random;
 use crate::records::{tokens, TOKEN};
+use ttda::widths::{INSTRUCTION, WHOLE_BUDGET};
 use ttda::{Answer, Word};
 
 const TEXTS: usize = 10_000;
@@ -18,27 +20,6 @@ const OPERATORS: [Operator; 8] = [
     Operator::LessOrEqual,
     Operator::Equal,
 ];
-
-/// splitmix64
-struct Random(u64);
-
-impl Random {
-    fn word(&mut self) -> u64 {
-        self.0 = self.0.wrapping_add(0x9e37_79b9_7f4a_7c15);
-        let mut z = self.0;
-        z = (z ^ (z >> 30)).wrapping_mul(0xbf58_476d_1ce4_e5b9);
-        z = (z ^ (z >> 27)).wrapping_mul(0x94d0_49bb_1331_11eb);
-        z ^ (z >> 31)
-    }
-
-    fn below(&mut self, end: usize) -> usize {
-        (self.word() % end as u64) as usize
-    }
-
-    fn one_of<T: Copy>(&mut self, items: &[T]) -> T {
-        items[self.below(items.len())]
-    }
-}
 
 /// An expression that is known before it is written.
 #[derive(Debug, PartialEq, Eq)]
@@ -206,7 +187,7 @@ fn check_expression(expression: &Expression) {
         Kind::Operation(..) => 0,
     };
     let values: Vec<i32> = expression.variables().map(value).collect();
-    let mut graph = vec![0; GRAPH_RECORD * (last + 2)];
+    let mut graph = vec![0; INSTRUCTION * (last + 2)];
     let made = ttda::expression(&expression.records(), &mut graph);
     assert_eq!(made, Answer::of(0, last as u16 + 2, 0, 0), "{expression:?}");
     let files = assemble(&typed::text(expression, &values)).unwrap();
@@ -228,7 +209,16 @@ fn check_expression(expression: &Expression) {
 /// What OUT receives in a run.
 fn out(graph: &[u8], inputs: &[u8], instruction: u16) -> Option<i32> {
     let mut ledger = vec![0; TOKEN * 300];
-    let answer = ttda::run(graph, &[], inputs, &[], 2048, 0, &mut ledger, &mut []);
+    let answer = ttda::run(
+        graph,
+        &[],
+        inputs,
+        &[],
+        WHOLE_BUDGET,
+        0,
+        &mut ledger,
+        &mut [],
+    );
     assert!(matches!(answer.word(), Word::Completed | Word::Refused(12)));
     let tokens = tokens(&ledger[..TOKEN * answer.tokens()]);
     let out = tokens
@@ -239,7 +229,7 @@ fn out(graph: &[u8], inputs: &[u8], instruction: u16) -> Option<i32> {
 
 #[test]
 fn every_text_gives_a_graph_or_an_error() {
-    let mut random = Random(1);
+    let mut random = Random::new(1);
     let (mut graphs, mut faults) = (0, 0);
     for number in 0..TEXTS {
         let operations = random.below(if number % 100 == 0 { 60 } else { 9 });

@@ -7,11 +7,10 @@ mod tokens;
 pub mod typed;
 
 use asm::Span;
+use ttda::layout::ADD;
+pub use ttda::widths::MOST_EXPRESSION as MOST_PARTS;
 
 pub use parse::parse;
-
-/// Most records of an expression.
-pub const MOST_PARTS: usize = 100;
 
 /// A text that is no expression: where, and what to write.
 #[derive(Clone, Debug, PartialEq, Eq)]
@@ -44,7 +43,7 @@ pub enum Operator {
 impl Operator {
     /// The operation code of the machine.
     pub fn code(self) -> u8 {
-        16 + self as u8
+        ADD + self as u8
     }
 
     /// What binds tighter is higher.

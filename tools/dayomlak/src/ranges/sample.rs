@@ -9,12 +9,9 @@ use crate::loads::Loads;
 use crate::machine::{End, Machine};
 use crate::program::Program;
 use crate::random::Random;
-use crate::records::{Cell, State, Token, TOKEN};
+use crate::records::{token, Cell, State, Token, TOKEN};
 use crate::results;
 use crate::value::Value;
-
-/// Where the value of a token record stands.
-const VALUE: usize = 20;
 
 /// Which value of a run it is: an input, a token of the ledger or a cell, by its number.
 #[derive(Clone, Copy)]
@@ -143,8 +140,7 @@ fn chosen(program: &Program, random: &mut Random, rows: &mut [Row]) -> Vec<u8> {
             continue;
         };
         let value = random.within(row.promised);
-        let at = TOKEN * number + VALUE;
-        inputs[at..at + 4].copy_from_slice(&value.to_le_bytes());
+        inputs[TOKEN * number..][token::VALUE].copy_from_slice(&value.to_le_bytes());
         row.values.push(value);
     }
     inputs

@@ -21,6 +21,7 @@ use crate::results;
 use html::escaped;
 use plotter::curves::{self, Chart};
 use steps::Steps;
+use ttda::widths::MOST_INSTRUCTIONS;
 
 pub const PAGE: &str = include_str!("page.html");
 pub const STYLE: &str = include_str!("page.css");
@@ -29,9 +30,8 @@ pub const SCRIPT: &str = include_str!("page.js");
 const POLICY: &str = "default-src 'none'; style-src 'unsafe-inline'; script-src 'unsafe-inline'";
 const KEYS: &str = "Keys: ← → Home End, Space plays";
 const HINT: &str = "Click on an instruction for its tokens, on a curve to go to its step";
-/// No run takes more instructions, nor more inputs: two ports each.
-const MOST_INSTRUCTIONS: usize = 256;
-const MOST_INPUTS: usize = 512;
+/// No run takes more inputs: two ports of each instruction.
+const MOST_INPUTS: usize = 2 * MOST_INSTRUCTIONS;
 /// The profile is of a run from its inputs.
 const NO_PROFILE: &str = "None: this page begins at a saved state, and a profile at the inputs";
 
@@ -194,8 +194,8 @@ fn head() -> String {
 pub fn picture(drawing: &Drawing, program: &Program) -> Result<String, Failure> {
     let instructions = program.graph.instructions.len();
     if instructions > MOST_INSTRUCTIONS || program.input_count() > MOST_INPUTS {
-        let words = "Not drawn: no run takes more than 256 instructions or 512 inputs.";
-        return Ok(format!("<p>{words}</p>"));
+        let most = format!("{MOST_INSTRUCTIONS} instructions or {MOST_INPUTS} inputs");
+        return Ok(format!("<p>Not drawn: no run takes more than {most}.</p>"));
     }
     let svg = graphviz::svg(&drawing.wide_text())?;
     let svg = String::from_utf8_lossy(&svg);

@@ -3,6 +3,8 @@
 
 use std::collections::{HashMap, HashSet};
 
+use ttda::layout::signed;
+
 use super::State;
 use crate::answer::{count, Word};
 use crate::diagnostics::Finding;
@@ -10,7 +12,7 @@ use crate::failure::Failure;
 use crate::graph::{LEAVE, OUT};
 use crate::machine::Machine;
 use crate::program::Program;
-use crate::records::{self, Cell, Tag, Token, CELL, TOKEN};
+use crate::records::{self, cell, token, Cell, Tag, Token, CELL, TOKEN};
 
 /// A condition that does not hold.
 #[derive(Clone, Debug, PartialEq, Eq)]
@@ -144,7 +146,7 @@ fn bad_fields(program: &Program, record: &[u8], token: &Token) -> Option<String>
             "is at port {port}, which the instruction does not have"
         ));
     }
-    match (record[24], &record[25..TOKEN]) {
+    match (record[token::STATE], &record[token::ZEROS]) {
         (0..=2, [0, 0, 0]) => None,
         (0..=2, _) => Some("has last bytes that are not zero".to_string()),
         (state, _) => Some(format!("has the state {state}, and states are 0 to 2")),
@@ -156,7 +158,7 @@ fn bad_cell(program: &Program, state: &State) -> Option<Broken> {
     let mut records = (0..).zip(state.cells.chunks_exact(CELL));
     records.find_map(|(number, record)| {
         let name = program.cell(number);
-        let words = match (record[4], &record[5..CELL]) {
+        let words = match (record[cell::STATE], &record[cell::ZEROS]) {
             (0..=2, [0, 0, 0]) => return None,
             (0..=2, _) => format!("{name} has last bytes that are not zero"),
             (state, _) => format!("{name} has the state {state}, and states are 0 to 2"),
@@ -302,9 +304,9 @@ impl<'p> Look<'p> {
             .zip(&self.cells)
             .enumerate();
         let (cell, (record, _)) = records.find(|(_, (record, cell))| {
-            !matches!(cell, Cell::Present(_)) && record[..4] != [0; 4]
+            !matches!(cell, Cell::Present(_)) && record[cell::VALUE] != [0; 4]
         })?;
-        let value = i32::from_le_bytes([record[0], record[1], record[2], record[3]]);
+        let value = signed(record, cell::VALUE);
         let cell = self.program.cell(cell as i32);
         Some(whole(
             ZERO,

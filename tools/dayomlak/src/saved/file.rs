@@ -1,6 +1,7 @@
 //! The file of a saved state: a head in lines of text, with the length and the checksum of each part, then the parts.
 
 use plotter::Fingerprint;
+use ttda::widths::BOUNDS;
 
 use super::State;
 use crate::records::{CELL, TOKEN};
@@ -167,7 +168,7 @@ impl Head {
             <[Vec<u8>; 5]>::try_from(parts).map_err(|_| damaged_head())?;
         self.check_records("tokens", self.tokens, TOKEN, ledger.len())?;
         self.check_records("cells", self.cells, CELL, cells.len())?;
-        if !matches!(self.bound, 0 | 2..=256) {
+        if self.bound != 0 && !BOUNDS.contains(&self.bound) {
             let bound = self.bound;
             return Err(format!(
                 "its head says a bound of {bound}, and a bound is 0 for none, or 2 to 256"
@@ -220,6 +221,7 @@ impl Head {
 #[cfg(test)]
 mod tests {
     use super::*;
+    use ttda::widths::INSTRUCTION;
 
     fn saved() -> SavedFile {
         SavedFile {
@@ -228,7 +230,7 @@ mod tests {
             capacity: 20,
             bound: 0,
             text: b"a: OUT\n".to_vec(),
-            graph: vec![3; 16],
+            graph: vec![3; INSTRUCTION],
             arrays: vec![2, 0, 1, 0],
             state: State {
                 firings: 7,

@@ -20,6 +20,7 @@ use crate::report::{self, Run, Shown};
 use crate::walk::Choice;
 use crate::{curves, walk, warnings};
 use plotter::Fingerprint;
+use ttda::layout::unsigned;
 use ttda::widths::PICK;
 
 /// A text without errors.
@@ -67,7 +68,7 @@ impl Checked {
         let mut findings = warnings::of(&self.program);
         findings.extend(commands::refusal(&machine, &run.end, &run.order));
         let typed = self.program.files.picks.chunks_exact(PICK);
-        let typed = typed.map(|pick| u16::from_le_bytes([pick[0], pick[1]]).to_string());
+        let typed = typed.map(|pick| unsigned(pick, 0..PICK).to_string());
         Ok(object(&[
             ("findings", found(&self.text, &findings)),
             ("typed", list(typed)),

@@ -6,11 +6,14 @@
 use std::fs;
 use std::io::Write;
 use std::path::{Path, PathBuf};
-use std::process::{Command, Stdio};
+use std::process::{Command, Output, Stdio};
 use std::sync::atomic::{AtomicUsize, Ordering};
 
 /// The project's root, where the program is run, so that the paths in its messages are the same everywhere.
 pub const ROOT: &str = concat!(env!("CARGO_MANIFEST_DIR"), "/../..");
+pub const VECTOR_SUM: &str = "examples/vector_sum/vector_sum.ttda";
+pub const READ: &str = "examples/deferred_read/deferred_read.ttda";
+pub const LATE: &str = "examples/late_entry/late_entry.ttda";
 /// The moment that pictures are drawn at.
 pub const MOMENT: &str = "1794807612";
 
@@ -20,6 +23,34 @@ pub struct Done {
     pub out: String,
     pub err: String,
     pub status: i32,
+}
+
+impl Done {
+    fn of(output: Output) -> Done {
+        Done {
+            out: String::from_utf8_lossy(&output.stdout).into_owned(),
+            err: String::from_utf8_lossy(&output.stderr).into_owned(),
+            status: output.status.code().unwrap(),
+        }
+    }
+
+    /// That these words are on standard output.
+    #[track_caller]
+    pub fn says(&self, words: &str) {
+        assert!(self.out.contains(words), "{words}\n{self:?}");
+    }
+
+    /// That these words are on standard error.
+    #[track_caller]
+    pub fn complains(&self, words: &str) {
+        assert!(self.err.contains(words), "{words}\n{self:?}");
+    }
+
+    /// That it ended with this status, and printed nothing on standard output.
+    #[track_caller]
+    pub fn fails(&self, status: i32) {
+        assert_eq!((self.status, &self.out[..]), (status, ""), "{self:?}");
+    }
 }
 
 /// A folder that goes with the test.
@@ -73,12 +104,7 @@ pub fn kept_command(cache: &Folder, arguments: &[&str]) -> Command {
 }
 
 pub fn done(command: &mut Command) -> Done {
-    let output = command.output().unwrap();
-    Done {
-        out: String::from_utf8_lossy(&output.stdout).into_owned(),
-        err: String::from_utf8_lossy(&output.stderr).into_owned(),
-        status: output.status.code().unwrap(),
-    }
+    Done::of(command.output().unwrap())
 }
 
 pub fn dayomlak(arguments: &[&str]) -> Done {
@@ -100,12 +126,7 @@ pub fn typed(text: &str, arguments: &[&str]) -> Done {
         .unwrap()
         .write_all(text.as_bytes())
         .unwrap();
-    let output = child.wait_with_output().unwrap();
-    Done {
-        out: String::from_utf8_lossy(&output.stdout).into_owned(),
-        err: String::from_utf8_lossy(&output.stderr).into_owned(),
-        status: output.status.code().unwrap(),
-    }
+    Done::of(child.wait_with_output().unwrap())
 }
 
 /// Compares what was printed with a stored file. UPDATE_EXPECTED=1 stores it instead.

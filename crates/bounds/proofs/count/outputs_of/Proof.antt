@@ -7,7 +7,7 @@ use borrow.Author.Needs.{needs}
 use borrow.Author.Tests.{eq-eqb, ne-eqb}
 use Rattle.record.specs.declared.instruction.Destination.{Destination}
 use Rattle.record.specs.GraphRecords.{inUse}
-use Rattle.rules.specs.Needs.{outputsOf}
+use Rattle.rules.specs.Needs.{outputsNeeded}
 use Rattle.bounds.proofs.count.outputs_of.Statement.{statement}
 use Rattle.bounds.proofs.count.outputs_of.Tie as tie
 
@@ -22,7 +22,7 @@ fewer (suc zero) d e h = refl
 fewer (suc (suc n)) d e h = absurd (omega arith)
 
 pub outputs-of-spec : {M : Type 1} → statement M
-unfolding outputsOf
+unfolding outputsNeeded
 outputs-of-spec = tie.close (tie.spec
     (λ c. (rw (eq-eqb _ _ (c .if1 .taken)), omega arith))  -- returns
     (λ c. (rw (ne-eqb _ _ (c .before .before .if1 .left)) (two _ _ _ (c .if2 .taken)), omega arith))  -- returns-2

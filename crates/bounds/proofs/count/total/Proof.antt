@@ -11,7 +11,7 @@ use Rattle.record.specs.declared.instruction.Instruction.{Instruction}
 use Rattle.record.specs.GraphRecords.{graphOf}
 use Rattle.record.specs.Widths.{graphWidth}
 use Rattle.rules.specs.Check.{instructionAt}
-use Rattle.rules.specs.Needs.{firingsOf, outputsOf}
+use Rattle.rules.specs.Needs.{firingsNeeded, outputsNeeded}
 use Rattle.check_fields.proofs.Graphs.{length-graph, at-graph}
 use Rattle.bounds.specs.Reach.{flag, sumOver}
 use Rattle.bounds.proofs.count.total.Statement.{statement}
@@ -23,7 +23,7 @@ one-more g reached f n v e = rw (add-one n, e)
 
 abbrev Inv-loop : tie.InvT-loop
 Inv-loop graph reached firings₀ outputs₀ i₀ firings outputs i =
-    (i ≤ length graph / graphWidth) × (firings ≡ sumOver i (graphOf graph) reached firingsOf) × (outputs ≡ sumOver i (graphOf graph) reached outputsOf) × (firings ≤ i) × (outputs ≤ i * 2)
+    (i ≤ length graph / graphWidth) × (firings ≡ sumOver i (graphOf graph) reached firingsNeeded) × (outputs ≡ sumOver i (graphOf graph) reached outputsNeeded) × (firings ≤ i) × (outputs ≤ i * 2)
 
 abbrev μ-loop : tie.MeasureT-loop
 μ-loop graph reached firings₀ outputs₀ i₀ firings outputs i = length graph / graphWidth - i
@@ -50,16 +50,17 @@ total-spec = tie.close (tie.spec
     ⊎-elim
     (λ w.
     let r = own ∙ sym (w .1 .ensures) in
-    let f = one-more (graphOf s) t firingsOf (l .i) (w .2 .result) (rw (w .0 .taken, r) (sym (w .2 .ensures .0))) in
-    let o = one-more (graphOf s) t outputsOf (l .i) (w .3 .result) (rw (w .0 .taken, r) (sym (w .3 .ensures .0))) in
+    let f = one-more (graphOf s) t firingsNeeded (l .i) (w .2 .result) (rw (w .0 .taken, r) (sym (w .2 .ensures .0))) in
+    let o = one-more (graphOf s) t outputsNeeded (l .i) (w .3 .result) (rw (w .0 .taken, r) (sym (w .3 .ensures .0))) in
     (omega arith, omega (arith, f), omega (arith, o), omega arith, omega arith))
     (λ w.
-    let f = one-more (graphOf s) t firingsOf (l .i) 0 (rw (w .0 .left)) in
-    let o = one-more (graphOf s) t outputsOf (l .i) 0 (rw (w .0 .left)) in
+    let f = one-more (graphOf s) t firingsNeeded (l .i) 0 (rw (w .0 .left)) in
+    let o = one-more (graphOf s) t outputsNeeded (l .i) 0 (rw (w .0 .left)) in
     (omega arith, omega (arith, f), omega (arith, o), omega arith, omega arith))
     (c .if1 .came))
     (λ c.  -- returns
+    let entry = c .before .before .before in
     let l = c .before .loop in
-    let s = c .before .before .before .args .graph .now in
+    let s = entry .args .graph .now in
     let n : l .i ≡ length (graphOf s) = omega (arith, length-graph s) in
-    (rw (← n) (l .inv .1), rw (← n) (l .inv .2), omega (arith, c .before .before .before .pre))))
+    (rw (← n) (l .inv .1), rw (← n) (l .inv .2), omega (arith, entry .pre))))

@@ -2,7 +2,7 @@
 use Prim.Native.Nat.{ℕ, _/_, _≤_, _<_}
 use native.Mathlib.Omega.{arith}
 use mathlib.Core.Path.{_≡_, refl, sym, _∙_}
-use mathlib.Core.Bool.{true}
+use mathlib.Core.Bool.{true, or-false}
 use mathlib.Core.List.{List}
 use lib.ListN.{length}
 use borrow.Author.Tests.{leb-true, not-true, not-false}
@@ -12,7 +12,6 @@ use Rattle.machine.proofs.View.{falseTrue}
 use Rattle.rules.specs.declared.answer.Checked.the-variants.{Passed}
 use Rattle.rules.specs.Check.{operandsAt, checkGraph}
 use Rattle.rules.proofs.Lists.{or-right}
-use Rattle.check_fields.proofs.Turns.{or-false}
 use Rattle.check_fields.proofs.Graphs.{length-graph, at-graph}
 use Rattle.checks.proofs.Passed.{passed-length, passed-at}
 use Rattle.bounds.proofs.Ports.{destinations-inside}
@@ -36,19 +35,23 @@ add-spec = tie.close (tie.spec
     (λ c. let p = c .before .pre in low (c .before .args .graph .now) (c .before .args .i) (p .0) (p .1))  -- element-copy-out-if1
     (λ c ts before added r. rw (or-false added) (leave ts (graphOf (c .before .before .before .args .graph .now)) r (λ e. c .if1 .taken)))  -- returns
     (λ c κs.  -- ready-requires
-    let a = c .before .before .before .before .args in
-    let p = c .before .before .before .before .pre in
+    let entry = c .before .before .before .before in
+    let a = entry .args in
+    let p = entry .pre in
     (p .1, low (a .graph .now) (a .i) (p .0) (p .1), known (a .graph .now) (a .i) (p .0) (p .1)))
     (λ c ts before added r.  -- returns-2
     let a = c .before .before .before .before .before .before .args in
     let p = c .before .before .before .before .before .before .pre in
     let g = graphOf (a .graph .now) in
     rw (or-false added) (leave ts g r (λ e. falseTrue (sym (not-true _ (c .if2 .taken)) ∙ c .before .ready .ensures ∙ is-ready ts g (r .kept) (a .i) (low (a .graph .now) (a .i) (p .0) (p .1)) ∙ e))))
-    (λ c. let p = c .before .before .before .before .before .before .pre in low (c .before .before .before .before .before .before .args .graph .now) (c .before .before .before .before .before .before .args .i) (p .0) (p .1))  -- element-write-reached
+    (λ c.  -- element-write-reached
+    let entry = c .before .before .before .before .before .before in
+    let p = entry .pre in low (entry .args .graph .now) (entry .args .i) (p .0) (p .1))
     (λ c κs. c .before .before .before .before .before .before .before .pre .1)  -- instruction-at-requires
     (λ c κs.  -- send-requires
-    let a = c .before .before .before .before .before .before .before .before .args in
-    let p = c .before .before .before .before .before .before .before .before .pre in
+    let entry = c .before .before .before .before .before .before .before .before in
+    let a = entry .args in
+    let p = entry .pre in
     rw (c .instruction-at .ensures, ← at-graph (a .graph .now) (a .i) (p .1)) (destinations-inside (a .graph .now) (p .0) (a .i) (within (a .graph .now) (a .i) (p .0) (p .1))))
     (λ c ts before added r.  -- returns-3
     let a = c .before .before .before .before .before .before .before .before .before .args in

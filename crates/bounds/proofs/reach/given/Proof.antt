@@ -1,4 +1,4 @@
--- `bounds::reach::given` meets its contract. The invariant: the table has the ports of the first i inputs. Assumes nothing.
+-- `bounds::reach::sentByInputs` meets its contract. The invariant: the table has the ports of the first i inputs. Assumes nothing.
 use Prim.Native.Nat.{_≤_, _<_, _-_, _/_}
 use native.Mathlib.Omega.{arith}
 use mathlib.Core.Path.{sym, _∙_}
@@ -9,13 +9,13 @@ use Rattle.record.specs.Widths.{tokenWidth}
 use Rattle.rules.specs.Needs.{inputsOf}
 use Rattle.check_inputs.proofs.Tokens.{length-tokens, in-tokens}
 use Rattle.check_fields.proofs.Turns.{any-next}
-use Rattle.bounds.specs.Reach.{GoodToken, Ports, given}
+use Rattle.bounds.specs.Reach.{GoodToken, Ports, sentByInputs}
 use Rattle.bounds.proofs.Ports.{no-ports, alike, mark, stands}
 use Rattle.bounds.proofs.reach.given.Statement.{statement}
 use Rattle.bounds.proofs.reach.given.Tie as tie
 
 abbrev Inv-loop : tie.InvT-loop
-Inv-loop inputs sent₀ i₀ sent i = (i ≤ length inputs / tokenWidth) × Ports (given (take i (inputsOf inputs))) sent
+Inv-loop inputs sent₀ i₀ sent i = (i ≤ length inputs / tokenWidth) × Ports (sentByInputs (take i (inputsOf inputs))) sent
 
 abbrev μ-loop : tie.MeasureT-loop
 μ-loop inputs sent₀ i₀ sent i = length inputs / tokenWidth - i
@@ -31,12 +31,13 @@ given-spec = tie.close (tie.spec
     (λ c. omega arith)  -- add-i
     (λ c. omega arith)  -- loop-less
     (λ c.  -- loop-again
+    let entry = c .before .before .before .before .before .before in
     let l = c .before .before .before .before .loop in
-    let s = c .before .before .before .before .before .before .args .inputs .now in
+    let s = entry .args .inputs .now in
     let t = c .before .before .token-at .result in
     let told = c .before .before .token-at .ensures in
     let h : l .i < length s / tokenWidth = omega arith in
-    let good : GoodToken t = rw told (c .before .before .before .before .before .before .pre (l .i) h) in
+    let good : GoodToken t = rw told (entry .pre (l .i) h) in
     (omega arith, rw (c .entry .ensures .0) (alike (mark (l .inv .1) (t .tag .instruction) (t .port) (good .inside)) (λ i p. rw (any-next (standsAt (rootOf i) p) (inputsOf s) (l .i) t (omega (arith, length-tokens s)) (in-tokens s (l .i) h t ∙ sym told), stands t good i p)))))
     (λ c.  -- returns
     let l = c .before .loop in

@@ -10,14 +10,14 @@ use Rattle.record.specs.GraphRecords.{graphOf}
 use Rattle.record.specs.Widths.{graphWidth}
 use Rattle.rules.proofs.Rounds.{Within, after}
 use Rattle.check_fields.proofs.Graphs.{length-graph}
-use Rattle.bounds.specs.Reach.{Ports, given, flag, ReachedSoFar}
+use Rattle.bounds.specs.Reach.{Ports, sentByInputs, flag, ReachedSoFar}
 use Rattle.bounds.proofs.Rounds.{start, first, again, no-more, enough}
 use Rattle.bounds.proofs.reach.reach.Statement.{statement}
 use Rattle.bounds.proofs.reach.reach.Tie as tie
 
 abbrev Inv-loop : tie.InvT-loop
 Inv-loop graph sent₀ reached₀ rounds₀ sent reached rounds =
-    ((ts : List Token) → Ports (given ts) sent₀ → ReachedSoFar ts (graphOf graph) sent reached × Within (after ts (graphOf graph) rounds) (flag reached)) × (rounds ≤ length graph / graphWidth)
+    ((ts : List Token) → Ports (sentByInputs ts) sent₀ → ReachedSoFar ts (graphOf graph) sent reached × Within (after ts (graphOf graph) rounds) (flag reached)) × (rounds ≤ length graph / graphWidth)
 
 abbrev μ-loop : tie.MeasureT-loop
 μ-loop graph sent₀ reached₀ rounds₀ sent reached rounds = length graph / graphWidth - rounds

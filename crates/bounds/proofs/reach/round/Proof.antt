@@ -2,7 +2,7 @@
 use Prim.Native.Nat.{_-_, _/_, _≤_}
 use native.Mathlib.Omega.{arith}
 use mathlib.Core.Path.{_≡_, refl}
-use mathlib.Core.Bool.{true}
+use mathlib.Core.Bool.{true, or-false}
 use mathlib.Core.List.{List}
 use mathlib.Core.Logic.{⊎-elim}
 use lib.ListN.{length}
@@ -10,7 +10,6 @@ use Rattle.record.specs.declared.token.Token.{Token}
 use Rattle.record.specs.GraphRecords.{graphOf}
 use Rattle.record.specs.Widths.{graphWidth}
 use Rattle.rules.proofs.Lists.{or-right}
-use Rattle.check_fields.proofs.Turns.{or-false}
 use Rattle.check_fields.proofs.Graphs.{length-graph}
 use Rattle.bounds.specs.Reach.{ReachedSoFar, Round}
 use Rattle.bounds.proofs.Rounds.{begin}

@@ -6,7 +6,7 @@ use lib.ListN.{length, drop}
 use borrow.Author.Needs.{needs}
 use borrow.Author.Tests.{not-true, not-false}
 use Rattle.buffer.proofs.Tables.{length-rows, getD-rows}
-use Rattle.record.specs.Arrays.{decode, arraysOf}
+use Rattle.record.specs.Arrays.{decodeArray, arraysOf}
 use Rattle.record.specs.Widths.{arrayWidth}
 use Rattle.rules.specs.Check.{all, insideStore}
 use Rattle.check_fields.proofs.Turns.{all-turn, all-end}
@@ -33,8 +33,8 @@ all-inside-spec = tie.close (tie.spec
     let s = a .arrays .now in
     let x = c .before .before .array-at .result in
     let h : l .i < length s / arrayWidth = omega arith in
-    let e = getD-rows arrayWidth decode (length s / arrayWidth) (l .i) s x h ∙ sym (c .before .before .array-at .ensures) in
-    let t = l .inv .1 ∙ all-turn (insideStore (a .cells)) (arraysOf s) (l .i) x (omega (arith, length-rows arrayWidth decode (length s / arrayWidth) s)) e in
+    let e = getD-rows arrayWidth decodeArray (length s / arrayWidth) (l .i) s x h ∙ sym (c .before .before .array-at .ensures) in
+    let t = l .inv .1 ∙ all-turn (insideStore (a .cells)) (arraysOf s) (l .i) x (omega (arith, length-rows arrayWidth decodeArray (length s / arrayWidth) s)) e in
     sym (t ∙ rw (← c .before .inside .ensures, not-true (c .before .inside .result) (c .if1 .taken))))
     (λ c. omega arith)  -- add-i
     (λ c. omega arith)  -- loop-less
@@ -44,10 +44,10 @@ all-inside-spec = tie.close (tie.spec
     let s = a .arrays .now in
     let x = c .before .before .array-at .result in
     let h : l .i < length s / arrayWidth = omega arith in
-    let e = getD-rows arrayWidth decode (length s / arrayWidth) (l .i) s x h ∙ sym (c .before .before .array-at .ensures) in
-    let t = l .inv .1 ∙ all-turn (insideStore (a .cells)) (arraysOf s) (l .i) x (omega (arith, length-rows arrayWidth decode (length s / arrayWidth) s)) e in
+    let e = getD-rows arrayWidth decodeArray (length s / arrayWidth) (l .i) s x h ∙ sym (c .before .before .array-at .ensures) in
+    let t = l .inv .1 ∙ all-turn (insideStore (a .cells)) (arraysOf s) (l .i) x (omega (arith, length-rows arrayWidth decodeArray (length s / arrayWidth) s)) e in
     (omega arith, t ∙ rw (← c .before .inside .ensures, not-false (c .before .inside .result) (c .if1 .left))))
     (λ c.  -- returns-2
     let a = c .before .before .before .args in
     let s = a .arrays .now in
-    sym (c .before .loop .inv .1 ∙ all-end (insideStore (a .cells)) (arraysOf s) (c .before .loop .i) (omega (arith, length-rows arrayWidth decode (length s / arrayWidth) s)))))
+    sym (c .before .loop .inv .1 ∙ all-end (insideStore (a .cells)) (arraysOf s) (c .before .loop .i) (omega (arith, length-rows arrayWidth decodeArray (length s / arrayWidth) s)))))

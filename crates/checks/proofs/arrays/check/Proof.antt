@@ -9,7 +9,7 @@ use borrow.Author.Needs.{needs}
 use borrow.Author.Tests.{leb-true}
 use Rattle.buffer.specs.Rows.{whole}
 use Rattle.buffer.proofs.Tables.{length-rows}
-use Rattle.record.specs.Arrays.{decode}
+use Rattle.record.specs.Arrays.{decodeArray}
 use Rattle.record.specs.Widths.{arrayWidth}
 use Rattle.rules.specs.Check.{checkArrays}
 use Rattle.check_fields.proofs.Turns.{and-true-left, and-true-right}
@@ -30,5 +30,5 @@ check-spec = tie.close (tie.spec
     (λ c κs. omega (arith, few c))  -- names-requires
     (λ c.  -- returns
     let s = c .before .before .before .before .before .args .arrays .now in
-    rw (← c .before .before .good2 .ensures, c .before .if1 .taken, length-rows arrayWidth decode (length s / arrayWidth) s) (c .names .ensures))
+    rw (← c .before .before .good2 .ensures, c .before .if1 .taken, length-rows arrayWidth decodeArray (length s / arrayWidth) s) (c .names .ensures))
     (λ c. rw (← c .before .good2 .ensures, c .if1 .left)))  -- returns-2

@@ -36,25 +36,28 @@ records-spec = tie.close (tie.spec
     (λ c. search needs)  -- enum-told
     (λ c. search needs)  -- enum-told-2
     (λ c.  -- returns
+    let at-instruction-at = c .before .before .before .before .before .instruction-at in
     let l = c .before .before .before .before .before .before .before .loop in
     let g = c .before .before .before .before .before .before .before .before .before .before .args .graph .now in
-    let r = c .before .before .before .before .before .instruction-at .result in
+    let r = at-instruction-at .result in
     let h : l .i < length g / graphWidth = omega arith in
-    let e = in-graph g (l .i) h r ∙ sym (c .before .before .before .before .before .instruction-at .ensures) in
+    let e = in-graph g (l .i) h r ∙ sym (at-instruction-at .ensures) in
     let t = l .inv .1 ∙ turn (checkRecord (graphOf g)) (graphOf g) (l .i) r (omega (arith, length-graph g)) e (sym (c .before .before .«record» .ensures)) in
     stopped _ _ _ _ (c .enum-told2 .given .1) ∙ sym t)
     (λ c κs. search needs)  -- note-requires
     (λ c. omega arith)  -- add-i
     (λ c. omega arith)  -- loop-less
     (λ c.  -- loop-again
+    let at-instruction-at = c .before .before .before .before .before .before .before .instruction-at in
+    let earlier = c .before .before .before .before in
     let l = c .before .before .before .before .before .before .before .before .before .loop in
     let g = c .before .before .before .before .before .before .before .before .before .before .before .before .args .graph .now in
-    let r = c .before .before .before .before .before .before .before .instruction-at .result in
+    let r = at-instruction-at .result in
     let h : l .i < length g / graphWidth = omega arith in
-    let e = in-graph g (l .i) h r ∙ sym (c .before .before .before .before .before .before .before .instruction-at .ensures) in
-    let t = l .inv .1 ∙ turn (checkRecord (graphOf g)) (graphOf g) (l .i) r (omega (arith, length-graph g)) e (sym (c .before .before .before .before .«record» .ensures)) in
+    let e = in-graph g (l .i) h r ∙ sym (at-instruction-at .ensures) in
+    let t = l .inv .1 ∙ turn (checkRecord (graphOf g)) (graphOf g) (l .i) r (omega (arith, length-graph g)) e (sym (earlier .«record» .ensures)) in
     let p = c .before .before .enum-told .given .1 in
-    let good = passed-record (graphOf g) (l .i) r (sym (c .before .before .before .before .«record» .ensures) ∙ p) in
+    let good = passed-record (graphOf g) (l .i) r (sym (earlier .«record» .ensures) ∙ p) in
     let n = note-sites (take (l .i) (graphOf g)) (l .sites) (l .inv .2) r (l .inv .3) (good .site) in (
       omega arith,
       t ∙ rw p,

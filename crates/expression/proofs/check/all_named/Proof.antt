@@ -15,7 +15,7 @@ use Rattle.rules.specs.declared.answer.Checked.{Checked}
 use Rattle.rules.specs.Check.{demand, _andThen_, any, inTurn}
 use Rattle.rules.specs.Expression.{isExpressionLength, names}
 use Rattle.check_fields.proofs.Turns.{turn, turn-end}
-use Rattle.expression.specs.Tables.{Marked}
+use Rattle.expression.specs.Tables.{MarkedNamed}
 use Rattle.expression.proofs.Terms.{length-terms, in-terms, some-terms, few-terms}
 use Rattle.expression.proofs.check.all_named.Statement.{statement}
 use Rattle.expression.proofs.check.all_named.Tie as tie
@@ -39,7 +39,7 @@ in-turn s j l b e =
     turn (named (expressionOf s)) (expressionOf s) j (termIn s j) (omega (arith, length-terms s)) (in-terms s j l (termIn s j)) (ap (λ (q : Bool). demand q BadExpression j) e)
 
 -- one that is not the last
-by-mark : (s : List ℕ) (marks : List Bool) → isExpressionLength (length s) ≡ true → Marked (expressionOf s) marks → (j : ℕ) → j + 1 < length s / termWidth → isNamed (expressionOf s) j ≡ getD marks j false
+by-mark : (s : List ℕ) (marks : List Bool) → isExpressionLength (length s) ≡ true → MarkedNamed (expressionOf s) marks → (j : ℕ) → j + 1 < length s / termWidth → isNamed (expressionOf s) j ≡ getD marks j false
 by-mark s marks e m j l =
     rw (ne-eqb (suc j) (length (expressionOf s)) (λ q. omega (arith, length-terms s)))
     (sym (m .says j (let few = few-terms (length s) e in omega arith)))
@@ -52,15 +52,17 @@ all-named-spec = tie.close (tie.spec
     (λ c. omega arith)  -- add-loop
     (λ c. let l = few-terms (length (c .before .before .args .expression .now)) (c .before .before .pre .0) in omega arith)  -- element-copy-out-if1
     (λ c.  -- returns
-    let a = c .before .before .before .before .args in
-    let p = c .before .before .before .before .pre in
+    let entry = c .before .before .before .before in
+    let a = entry .args in
+    let p = entry .pre in
     let l = c .before .before .before .loop in
     sym (l .inv .1 ∙ in-turn (a .expression .now) (l .j) (omega arith) false (by-mark (a .expression .now) (a .named .now) (p .0) (p .1) (l .j) (omega arith) ∙ not-true _ (c .if1 .taken))))
     (λ c. omega arith)  -- add-j
     (λ c. omega arith)  -- loop-less
     (λ c.  -- loop-again
-    let a = c .before .before .before .before .args in
-    let p = c .before .before .before .before .pre in
+    let entry = c .before .before .before .before in
+    let a = entry .args in
+    let p = entry .pre in
     let l = c .before .before .before .loop in
     (omega arith, l .inv .1 ∙ in-turn (a .expression .now) (l .j) (omega arith) true (by-mark (a .expression .now) (a .named .now) (p .0) (p .1) (l .j) (omega arith) ∙ not-false _ (c .if1 .left))))
     (λ c.  -- returns-2

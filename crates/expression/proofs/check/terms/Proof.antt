@@ -17,7 +17,7 @@ use Rattle.rules.specs.declared.answer.Checked.the-variants.{Passed, Failed}
 use Rattle.rules.specs.Check.{demand, _andThen_, inTurn}
 use Rattle.rules.specs.Expression.{goodTerm}
 use Rattle.check_fields.proofs.Turns.{turn, turn-end, take-next}
-use Rattle.expression.specs.Tables.{Marked}
+use Rattle.expression.specs.Tables.{MarkedNamed}
 use Rattle.expression.proofs.Terms.{length-terms, in-terms, few-terms}
 use Rattle.expression.proofs.Marks.{names-inside}
 use Rattle.expression.proofs.check.terms.Statement.{statement}
@@ -30,7 +30,7 @@ abbrev Inv-loop : tie.InvT-loop
 Inv-loop expression named₀ i₀ named i =
     (i ≤ length expression / termWidth)
     × (inTurn (good (expressionOf expression)) 0 (expressionOf expression) ≡ inTurn (good (expressionOf expression)) i (drop i (expressionOf expression)))
-    × Marked (take i (expressionOf expression)) named
+    × MarkedNamed (take i (expressionOf expression)) named
 
 abbrev μ-loop : tie.MeasureT-loop
 μ-loop expression named₀ i₀ named i = length expression / termWidth - i
@@ -74,10 +74,11 @@ terms-spec = tie.close (tie.spec
     (λ c. omega arith)  -- add-i
     (λ c. omega arith)  -- loop-less
     (λ c.  -- loop-again
+    let at-term-at = c .before .before .before .before .before .term-at in
     let s = c .before .before .before .before .before .before .before .before .before .args .expression .now in
     let l = c .before .before .before .before .before .before .before .loop in
-    let x = c .before .before .before .before .before .term-at .result in
-    let told = c .before .before .before .before .before .term-at .ensures in
+    let x = at-term-at .result in
+    let told = at-term-at .ensures in
     let g = c .before .before .before .good-term .ensures (take (l .i) (expressionOf s)) (l .inv .2) in
     let low : l .i < length s / termWidth = omega arith in (
       omega arith,

@@ -22,7 +22,9 @@ combine-spec = tie.close (tie.spec
     (λ c. rw (c .enum-told .given .1))  -- returns
     (λ c. search needs)  -- enum-known-right
     (λ c. search needs)  -- enum-told-2
-    (λ c. rw (c .enum-told2 .given .1) (right-out (c .before .before .before .before .before .args .op) (c .before .before .before .before .before .args .left)))  -- returns-2
+    (λ c.  -- returns-2
+    let entry = c .before .before .before .before .before in
+    rw (c .enum-told2 .given .1) (right-out (entry .args .op) (entry .args .left)))
     (λ c. search needs)  -- compute-requires
     (λ c.  -- returns-3
     let l = c .before .before .before .before in

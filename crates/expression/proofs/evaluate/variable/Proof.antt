@@ -20,6 +20,7 @@ variable-spec = tie.close (tie.spec
     (λ c κs. rw (c .row-at .ensures, length-drop) (omega arith))  -- u32-at-requires
     (λ c κs. search needs)  -- signed-requires
     (λ c.  -- returns
-    let a = c .before .before .before .before .args in
-    let at = getD-rows valueWidth (λ b. signedOf (number32 b 0)) (length (a .values .now) / valueWidth) (a .k) (a .values .now) (pos 0) (c .before .before .before .before .pre) in
+    let entry = c .before .before .before .before in
+    let a = entry .args in
+    let at = getD-rows valueWidth (λ b. signedOf (number32 b 0)) (length (a .values .now) / valueWidth) (a .k) (a .values .now) (pos 0) (entry .pre) in
     rw (toZ-ofZ {w = w32} (record { sfits = c .signed .ok })) (c .signed .ensures ∙ ap signedOf (c .before .u32-at .ensures ∙ ap (λ (l : List ℕ). number32 l 0) (c .before .before .row-at .ensures)) ∙ sym at)))

@@ -10,7 +10,7 @@ use Rattle.record.specs.declared.term.Term.{Term}
 use Rattle.record.specs.ExpressionRecords.{expressionOf}
 use Rattle.record.specs.Widths.{termWidth}
 use Rattle.rules.specs.Expression.{isVariable, count, variableNumber}
-use Rattle.expression.specs.Tables.{Numbered}
+use Rattle.expression.specs.Tables.{NumberedRecords}
 use Rattle.expression.proofs.Terms.{length-terms, in-terms, at-terms, passed-terms}
 use Rattle.expression.proofs.Counts.{variables-next, instruction-number, Upto, upto-none, upto-next, none-yet}
 use Rattle.expression.proofs.numbers.numbers.Statement.{statement}

@@ -67,8 +67,8 @@ named : {t : ℕ} (c : Own t) → isVariable (term c) ≡ false → (term c .lef
 named c v = names-before (start c .pre .1 .0) (start c .args .i) (start c .pre .1 .1) (term c) (c .before .before .before .before .before .term-at .ensures) v
 
 -- its own instruction is there
-own-there : {t : ℕ} (c : Own t) (g : List Instruction) (rest : List ℕ) → length g ≡ suc (length (ts (start c))) → start c .args .graph .now ≡ joined Graph.encode g ++ rest
-    → c .put-instruction .last .0 ≡ joined Graph.encode (set g (instructionFor (ts (start c)) (start c .args .i)) (sending (codeFor (termAt (ts (start c)) (start c .args .i))) (start c .args .to))) ++ rest
+own-there : {t : ℕ} (c : Own t) (g : List Instruction) (rest : List ℕ) → length g ≡ suc (length (ts (start c))) → start c .args .graph .now ≡ joined Graph.encodeInstruction g ++ rest
+    → c .put-instruction .last .0 ≡ joined Graph.encodeInstruction (set g (instructionFor (ts (start c)) (start c .args .i)) (sending (codeFor (termAt (ts (start c)) (start c .args .i))) (start c .args .to))) ++ rest
 own-there c g rest size is =
     let a = start c .args in
     puts-own (start c .pre .1 .0) (a .i) (start c .pre .1 .1) (term c) (c .before .before .before .before .before .term-at .ensures) (a .to) g size rest (a .graph .now) (c .put-instruction .last .0) is
@@ -82,14 +82,16 @@ pub +put-spec : {M : Type 1} → statement M
     (λ c κs. tt)  -- code-of-requires
     (λ c κs. tt)  -- instruction-of-requires
     (λ c.  -- cast-put-instruction
+    let at-term-at = c .before .before .before .before .term-at in
     let s = c .before .before .before .before .before .before .before in
     let l = few s in
-    let n = number-at (s .pre .1 .0) (s .args .i) (s .pre .1 .1) (c .before .before .before .before .term-at .result) (c .before .before .before .before .term-at .ensures) in
+    let n = number-at (s .pre .1 .0) (s .args .i) (s .pre .1 .1) (at-term-at .result) (at-term-at .ensures) in
     let h = passed-terms (s .args .expression .now) (s .pre .1 .0 .passed) .1 in
     omega (arith, length-terms (s .args .expression .now)))
     (λ c κs.  -- put-instruction-requires
+    let at-term-at = c .before .before .before .before .term-at in
     let s = c .before .before .before .before .before .before .before in
-    let n = number-at (s .pre .1 .0) (s .args .i) (s .pre .1 .1) (c .before .before .before .before .term-at .result) (c .before .before .before .before .term-at .ensures) in
+    let n = number-at (s .pre .1 .0) (s .args .i) (s .pre .1 .1) (at-term-at .result) (at-term-at .ensures) in
     let room = s .pre .1 .2 in
     omega arith)
     (λ c. c .before .before .before .before .put-instruction .kept .0)  -- same-length

@@ -25,10 +25,11 @@ leave-spec = tie.close (tie.spec
     (λ c. search needs)  -- element-copy-out-back
     (λ c κs. search needs)  -- returned-requires
     (λ c.  -- returns-2
+    let at-site = c .before .before .before .site in
     let s = c .before .before .before .before .before .before .before .before .before in
-    let site = c .before .before .before .site .given .0 .0 in
+    let site = at-site .given .0 .0 in
     let fits : SFits w32 (s .args .r .constant) = record { sfits = c .before .before .before .before .before .before .before .struct-told .given .1 .1 .1 .1 .0 .1 } in
     let k = c .before .before .before .before .before .before .byte .ensures ∙ ap natAbs (toZ-ofZ fits) in
     let back = s .pre .1 .0 site (omega (arith, c .before .before .known-told .given)) in
-    rw (sym (c .before .before .before .before .before .leave .ensures) ∙ c .before .before .before .site .given .1)
+    rw (sym (c .before .before .before .before .before .leave .ensures) ∙ at-site .given .1)
     (made-as (λ v. rw (← k, ← back)) (c .returned .ensures))))

@@ -6,7 +6,7 @@ use mir.Val.{SFits, toZ, ofZ}
 use mir.Facts.{toZ-ofZ}
 use borrow.Author.Needs.{needs}
 use Rattle.record.specs.declared.operation.Arithmetic.{Arithmetic}
-use Rattle.arithmetic.specs.Ranges.{bit, outcome}
+use Rattle.arithmetic.specs.Ranges.{truthValue, outcome}
 use Rattle.range_arithmetic.proofs.ByZero.{equal-bits}
 use Rattle.range_arithmetic.proofs.outcomes.outcome.Statement.{statement}
 use Rattle.range_arithmetic.proofs.outcomes.outcome.Tie as tie
@@ -45,4 +45,4 @@ outcome-spec = tie.close (tie.spec
     (λ c.  -- returns-8
     let s = c .before .before .before in
     let f : SFits w64 (c .truth3 .result) = record { sfits = c .truth3 .ok } in
-    rw (toZ-ofZ f, c .before .enum-told8 .given .1) (c .truth3 .ensures ∙ ap bit (equal-bits (s .args .x) (s .args .y) (s .fits .x) (s .fits .y)))))
+    rw (toZ-ofZ f, c .before .enum-told8 .given .1) (c .truth3 .ensures ∙ ap truthValue (equal-bits (s .args .x) (s .args .y) (s .fits .x) (s .fits .y)))))

@@ -3,7 +3,7 @@ use mathlib.Core.Path.{_∙_, ap}
 use native.Mathlib.Omega.{arith}
 use lib.ListN.{length-drop}
 use borrow.Author.Needs.{needs}
-use Rattle.record.specs.Arrays.{decode}
+use Rattle.record.specs.Arrays.{decodeArray}
 use Rattle.record.proofs.array.array_at.Statement.{statement}
 use Rattle.record.proofs.array.array_at.Tie as tie
 
@@ -13,4 +13,4 @@ array-at-spec =
     (tie.spec
     (λ c κs. search needs)  -- row-at-requires
     (λ c κs. rw (c .row-at .ensures, length-drop) (omega arith))  -- decode-requires
-    (λ c. c .decode .ensures ∙ ap decode (c .before .row-at .ensures)))  -- returns
+    (λ c. c .decode .ensures ∙ ap decodeArray (c .before .row-at .ensures)))  -- returns

@@ -1,13 +1,13 @@
--- `record::instruction::decode` meets its contract. Assumes nothing.
+-- `record::instruction::decodeInstruction` meets its contract. Assumes nothing.
 use mir.Syntax.{w32}
 use mir.Facts.{toZ-ofZ}
 use borrow.Author.Needs.{needs}
-use Rattle.record.specs.GraphRecords.{decode}
+use Rattle.record.specs.GraphRecords.{decodeInstruction}
 use Rattle.record.proofs.instruction.decode.Statement.{statement}
 use Rattle.record.proofs.instruction.decode.Tie as tie
 
 pub decode-spec : {M : Type 1} → statement M
-unfolding decode
+unfolding decodeInstruction
 decode-spec =
     tie.close
     (tie.spec

@@ -1,15 +1,15 @@
--- `record::instruction::encode` meets its contract. Assumes nothing.
+-- `record::instruction::encodeInstruction` meets its contract. Assumes nothing.
 use mathlib.Core.Path.{_∙_}
 use mir.Syntax.{w32}
 use mir.Val.{SFits}
 use mir.Facts.{toZ-ofZ}
 use borrow.Author.Needs.{needs}
-use Rattle.record.specs.GraphRecords.{encode}
+use Rattle.record.specs.GraphRecords.{encodeInstruction}
 use Rattle.record.proofs.instruction.encode.Statement.{statement}
 use Rattle.record.proofs.instruction.encode.Tie as tie
 
 pub encode-spec : {M : Type 1} → statement M
-unfolding encode
+unfolding encodeInstruction
 encode-spec =
     tie.close
     (tie.spec

@@ -2,12 +2,12 @@
 use mathlib.Core.Path.{_∙_}
 use borrow.Author.Needs.{needs}
 use Rattle.record.specs.TokensAndTags as Tokens
-use Rattle.record.specs.Logs.{encode}
+use Rattle.record.specs.Logs.{encodeActivity}
 use Rattle.record.proofs.log.put_tag.Statement.{statement}
 use Rattle.record.proofs.log.put_tag.Tie as tie
 
 pub put-tag-spec : {M : Type 1} → statement M
-unfolding Tokens.encode encode
+unfolding Tokens.encodeToken encodeActivity
 put-tag-spec = tie.close (tie.spec
     (λ c κs. search needs)  -- encode-requires
     (λ c. search needs)  -- sub-put-row

@@ -4,31 +4,17 @@ use mathlib.Core.List.{List, [], _∷_}
 use Prim.Native.Nat.{ℕ}
 use borrow.Author.Tests.{ne-eqb}
 use Rattle.record.specs.declared.operation.Operation.the-variants.{Unknown}
-use Rattle.record.specs.GraphRecords.{Row, table, lookup, rowOf}
+use Rattle.record.specs.GraphRecords.{Row, table, rowWith, rowOf}
+use Rattle.record.proofs.LastArm.{Absent, onto, turned}
 use Rattle.record.proofs.operation.decode.Statement.{statement}
 use Rattle.record.proofs.operation.decode.Tie as tie
 
--- n is no row's code
-abbrev Absent : List Row → ℕ → Type 0
-Absent [] n = Unit {0}
-Absent (r ∷ rs) n = (n ≡ r .code → ⊥) × Absent rs n
+abbrev code : Row → ℕ
+code r = r .code
 
-absent : (rs : List Row) (n : ℕ) → Absent rs n → lookup rs n .operation ≡ Unknown
+absent : (rs : List Row) (n : ℕ) → Absent code rs n → rowWith rs n .operation ≡ Unknown
 absent [] n h = refl
 absent (r ∷ rs) n h = rw (ne-eqb n (r .code) (h .0)) (absent rs n (h .1))
-
--- what the last arm knows, `c .match .rest`, has the last row's fact outermost: it is turned round, a row at a time
-abbrev Back : List Row → ℕ → Type 0
-Back [] n = Unit {0}
-Back (r ∷ rs) n = Back rs n × (n ≡ r .code → ⊥)
-
-abbrev onto : List Row → List Row → List Row
-onto [] acc = acc
-onto (r ∷ rs) acc = onto rs (r ∷ acc)
-
-turned : (rs acc : List Row) (n : ℕ) → Back rs n → Absent acc n → Absent (onto rs acc) n
-turned [] acc n h k = k
-turned (r ∷ rs) acc n h k = turned rs (r ∷ acc) n (h .0) (h .1, k)
 
 pub decode-spec : {M : Type 1} → statement M
 unfolding rowOf
@@ -62,4 +48,4 @@ decode-spec =
     (λ c. rw (c .match .keys25))  -- returns-25
     (λ c. rw (c .match .keys26))  -- returns-26
     (λ c. rw (c .match .keys27))  -- returns-27
-    (λ c. sym (absent table (c .before .args .code) (turned (onto table []) [] (c .before .args .code) (c .match .rest) tt))))  -- returns-28
+    (λ c. sym (absent table (c .before .args .code) (turned code (onto code table []) [] (c .before .args .code) (c .match .rest) tt))))  -- returns-28

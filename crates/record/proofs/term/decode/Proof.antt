@@ -1,11 +1,11 @@
--- `record::term::decode` meets its contract. Assumes nothing.
+-- `record::term::decodeTerm` meets its contract. Assumes nothing.
 use borrow.Author.Needs.{needs}
-use Rattle.record.specs.ExpressionRecords.{decode}
+use Rattle.record.specs.ExpressionRecords.{decodeTerm}
 use Rattle.record.proofs.term.decode.Statement.{statement}
 use Rattle.record.proofs.term.decode.Tie as tie
 
 pub decode-spec : {M : Type 1} → statement M
-unfolding decode
+unfolding decodeTerm
 decode-spec = tie.close (tie.spec
     (λ c. search needs)  -- shared-slice-read-t3
     (λ c. search needs)  -- shared-slice-read-t5

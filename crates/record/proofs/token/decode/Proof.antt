@@ -1,11 +1,11 @@
--- `record::token::decode` meets its contract. Assumes nothing.
-use Rattle.record.specs.TokensAndTags.{decode}
+-- `record::token::decodeToken` meets its contract. Assumes nothing.
+use Rattle.record.specs.TokensAndTags.{decodeToken}
 use borrow.Author.Needs.{needs}
 use Rattle.record.proofs.token.decode.Statement.{statement}
 use Rattle.record.proofs.token.decode.Tie as tie
 
 pub decode-spec : {M : Type 1} → statement M
-unfolding decode
+unfolding decodeToken
 decode-spec = tie.close (tie.spec
     (λ c κs. search needs)  -- decode-requires
     (λ c. search needs)  -- shared-slice-read-t4

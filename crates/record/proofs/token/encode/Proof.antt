@@ -1,12 +1,12 @@
--- `record::token::encode` meets its contract. Assumes nothing.
+-- `record::token::encodeToken` meets its contract. Assumes nothing.
 use mathlib.Core.Path.{_∙_}
-use Rattle.record.specs.TokensAndTags.{encode}
+use Rattle.record.specs.TokensAndTags.{encodeToken}
 use borrow.Author.Needs.{needs}
 use Rattle.record.proofs.token.encode.Statement.{statement}
 use Rattle.record.proofs.token.encode.Tie as tie
 
 pub encode-spec : {M : Type 1} → statement M
-unfolding encode
+unfolding encodeToken
 encode-spec = tie.close (tie.spec
     (λ c κs. search needs)  -- value-of-requires
     (λ c κs. search needs)  -- state-of-requires

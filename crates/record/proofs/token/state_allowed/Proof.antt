@@ -5,7 +5,7 @@ use Rattle.record.proofs.token.state_allowed.Statement.{statement}
 use Rattle.record.proofs.token.state_allowed.Tie as tie
 
 pub state-allowed-spec : {M : Type 1} → statement M
-unfolding Tokens.stateAllowed
+unfolding Tokens.tokenStateAllowed
 state-allowed-spec = tie.close (tie.spec
     (λ c κs. search needs)  -- u32-at-requires
     (λ c. rw (c .u32-at .ensures)))  -- returns

@@ -24,9 +24,15 @@ digits-spec =
     (λ c. record { fits = omega (arith, short (c .before .before .args .n) (c .before .before .fits .n .fits), c .before .loop .inv) })  -- add-k
     (λ c. omega arith)  -- loop-less
     (λ c. omega (arith, length-thousand (c .before .loop .rest) (omega arith), c .before .loop .inv))  -- loop-again
-    (λ c. record { fits = omega (arith, short (c .before .before .before .args .n) (c .before .before .before .fits .n .fits), c .before .before .loop .inv) })  -- add-result
-    (λ c. record { fits = omega (arith, short (c .before .before .before .before .args .n) (c .before .before .before .before .fits .n .fits), c .before .before .before .loop .inv) })  -- add-result-2
-    (λ c. record { fits = omega (arith, short (c .before .before .before .before .args .n) (c .before .before .before .before .fits .n .fits), c .before .before .before .loop .inv) })  -- add-result-3
+    (λ c.  -- add-result
+    let entry = c .before .before .before in
+    record { fits = omega (arith, short (entry .args .n) (entry .fits .n .fits), c .before .before .loop .inv) })
+    (λ c.  -- add-result-2
+    let entry = c .before .before .before .before in
+    record { fits = omega (arith, short (entry .args .n) (entry .fits .n .fits), c .before .before .before .loop .inv) })
+    (λ c.  -- add-result-3
+    let entry = c .before .before .before .before in
+    record { fits = omega (arith, short (entry .args .n) (entry .fits .n .fits), c .before .before .before .loop .inv) })
     (λ c. let l = c .before .before .loop in omega (arith, ap length (decimal-digit (l .rest) (omega arith)), l .inv))  -- returns
     (λ c. let l = c .before .before .before .loop in omega (arith, ap length (two-digits (l .rest) (omega arith) (omega arith)), l .inv))  -- returns-2
     (λ c. let l = c .before .before .before .loop in omega (arith, ap length (three-digits (l .rest) (omega arith) (omega arith)), l .inv)))  -- returns-3

@@ -29,18 +29,21 @@ put-answer-spec =
     let a = c .before .before .args .answer in
     room-first (spaced (outcomeFields (a .outcome))) (line (firings a)) (rw (← outcome-first (a .outcome) (decimal (a .firings)) (tokens a)) at (c .before .before .pre)))
     (λ c κs.  -- put-number-requires
-    let a = c .before .before .before .before .before .before .args .answer in
-    let p = room-rest (line (firings a)) (c .before .before .before .put-outcome .ensures) (rw (← outcome-first (a .outcome) (decimal (a .firings)) (tokens a)) at (c .before .before .before .before .before .before .pre)) in
+    let entry = c .before .before .before .before .before .before in
+    let a = entry .args .answer in
+    let p = room-rest (line (firings a)) (c .before .before .before .put-outcome .ensures) (rw (← outcome-first (a .outcome) (decimal (a .firings)) (tokens a)) at (entry .pre)) in
     field-room (decimal (a .tokens)) (place a) (decimal (a .firings)) p)
     (λ c κs.  -- put-number-requires-2
-    let a = c .before .before .before .before .before .before .before .before .before .before .args .answer in
-    let p = room-rest (line (firings a)) (c .before .before .before .before .before .before .before .put-outcome .ensures) (rw (← outcome-first (a .outcome) (decimal (a .firings)) (tokens a)) at (c .before .before .before .before .before .before .before .before .before .before .pre)) in
+    let entry = c .before .before .before .before .before .before .before .before .before .before in
+    let a = entry .args .answer in
+    let p = room-rest (line (firings a)) (c .before .before .before .before .before .before .before .put-outcome .ensures) (rw (← outcome-first (a .outcome) (decimal (a .firings)) (tokens a)) at (entry .pre)) in
     let q = rest-room (decimal (a .tokens)) (place a) (decimal (a .firings)) (c .before .before .before .put-number .ensures) p in
     field-room (decimal (placeIn (a .outcome))) [] (decimal (a .tokens)) q)
     (λ c κs. search needs)  -- place-in-requires
     (λ c κs.  -- put-number-requires-3
-    let a = c .before .before .before .before .before .before .before .before .before .before .before .before .before .before .before .args .answer in
-    let p = room-rest (line (firings a)) (c .before .before .before .before .before .before .before .before .before .before .before .before .put-outcome .ensures) (rw (← outcome-first (a .outcome) (decimal (a .firings)) (tokens a)) at (c .before .before .before .before .before .before .before .before .before .before .before .before .before .before .before .pre)) in
+    let entry = c .before .before .before .before .before .before .before .before .before .before .before .before .before .before .before in
+    let a = entry .args .answer in
+    let p = room-rest (line (firings a)) (c .before .before .before .before .before .before .before .before .before .before .before .before .put-outcome .ensures) (rw (← outcome-first (a .outcome) (decimal (a .firings)) (tokens a)) at (entry .pre)) in
     let q = rest-room (decimal (a .tokens)) (place a) (decimal (a .firings)) (c .before .before .before .before .before .before .before .before .put-number .ensures) p in
     rw (c .place-in .ensures) (rest-room (decimal (placeIn (a .outcome))) [] (decimal (a .tokens)) (c .before .before .before .before .put-number2 .ensures) q))
     (λ c. search needs)  -- same-length

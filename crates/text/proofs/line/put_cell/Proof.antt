@@ -23,7 +23,9 @@ put-cell-spec =
     let g = c .before .before .before .cell .given in
     let f : SFits w32 (g .0 .0) = record { sfits = c .before .before .known-told .given .0 .1 } in
     rw (toZ-ofZ f) (rw (g .1) at (c .before .before .before .before .before .before .pre)))
-    (λ c. rw (c .enum-told .given .1) (added-none (c .before .before .before .args .out .now) (c .before .before .before .args .at)))  -- returns
+    (λ c.  -- returns
+    let entry = c .before .before .before in
+    rw (c .enum-told .given .1) (added-none (entry .args .out .now) (entry .args .at)))
     (λ c. search needs)  -- same-length
     (λ c. rw (c .before .before .before .before .before .enum-told2 .given .1) (c .before .before .put-stated .ensures))  -- returns-2
     (λ c. search needs)  -- same-length-2

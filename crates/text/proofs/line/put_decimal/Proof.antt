@@ -17,23 +17,27 @@ put-decimal-spec =
     (λ c. search needs)  -- cast-put-byte
     (λ c. search needs)  -- add-put-byte
     (λ c κs.  -- put-byte-requires
-    let a = c .before .before .before .args in
+    let entry = c .before .before .before in
+    let a = entry .args in
     let e : length (decimal (a .n)) ≡ 1 = ap length (decimal-digit (a .n) (c .before .if1 .taken)) in
-    omega (arith, e, c .before .before .before .pre .room))
+    omega (arith, e, entry .pre .room))
     (λ c. search needs)  -- same-length
     (λ c. rw (decimal-digit (c .before .before .before .before .before .before .args .n) (c .before .before .before .before .if1 .taken)) (c .before .before .put-byte .ensures))  -- returns
     (λ c. search needs)  -- cast-put-byte-2
     (λ c. search needs)  -- add-put-byte-2
     (λ c κs.  -- put-byte-requires-2
-    let a = c .before .before .before .before .args in
+    let entry = c .before .before .before .before in
+    let a = entry .args in
     let e : length (decimal (a .n)) ≡ 2 = ap length (two-digits (a .n) (omega arith) (omega arith)) in
-    omega (arith, e, c .before .before .before .before .pre .room))
+    omega (arith, e, entry .pre .room))
     (λ c. search needs)  -- cast-put-byte-3
     (λ c. search needs)  -- add-put-byte-3
     (λ c κs.  -- put-byte-requires-3
-    let a = c .before .before .before .before .before .before .before .before .args in
+    let entry = c .before .before .before .before .before .before .before .before in
+    let at-put-byte2 = c .before .before .before .put-byte2 in
+    let a = entry .args in
     let e : length (decimal (a .n)) ≡ 2 = ap length (two-digits (a .n) (omega arith) (omega arith)) in
-    omega (arith, e, c .before .before .before .before .before .before .before .before .pre .room, c .before .before .before .put-byte2 .ensures .place, c .before .before .before .put-byte2 .ensures .kept))
+    omega (arith, e, entry .pre .room, at-put-byte2 .ensures .place, at-put-byte2 .ensures .kept))
     (λ c. search needs)  -- same-length-2
     (λ c.  -- returns-2
     let n = c .before .before .before .before .before .before .before .before .before .before .before .args .n in
@@ -41,21 +45,27 @@ put-decimal-spec =
     (λ c. search needs)  -- cast-put-byte-4
     (λ c. search needs)  -- add-put-byte-4
     (λ c κs.  -- put-byte-requires-4
-    let a = c .before .before .before .before .before .args in
+    let entry = c .before .before .before .before .before in
+    let a = entry .args in
     let e : length (decimal (a .n)) ≡ 3 = ap length (three-digits (a .n) (omega arith) (omega arith)) in
-    omega (arith, e, c .before .before .before .before .before .pre .room))
+    omega (arith, e, entry .pre .room))
     (λ c. search needs)  -- cast-put-byte-5
     (λ c. search needs)  -- add-put-byte-5
     (λ c κs.  -- put-byte-requires-5
-    let a = c .before .before .before .before .before .before .before .before .before .args in
+    let entry = c .before .before .before .before .before .before .before .before .before in
+    let at-put-byte4 = c .before .before .before .put-byte4 in
+    let a = entry .args in
     let e : length (decimal (a .n)) ≡ 3 = ap length (three-digits (a .n) (omega arith) (omega arith)) in
-    omega (arith, e, c .before .before .before .before .before .before .before .before .before .pre .room, c .before .before .before .put-byte4 .ensures .place, c .before .before .before .put-byte4 .ensures .kept))
+    omega (arith, e, entry .pre .room, at-put-byte4 .ensures .place, at-put-byte4 .ensures .kept))
     (λ c. search needs)  -- cast-put-byte-6
     (λ c. search needs)  -- add-put-byte-6
     (λ c κs.  -- put-byte-requires-6
-    let a = c .before .before .before .before .before .before .before .before .before .before .before .before .before .args in
+    let entry = c .before .before .before .before .before .before .before .before .before .before .before .before .before in
+    let at-put-byte4 = c .before .before .before .before .before .before .before .put-byte4 in
+    let at-put-byte5 = c .before .before .before .put-byte5 in
+    let a = entry .args in
     let e : length (decimal (a .n)) ≡ 3 = ap length (three-digits (a .n) (omega arith) (omega arith)) in
-    omega (arith, e, c .before .before .before .before .before .before .before .before .before .before .before .before .before .pre .room, c .before .before .before .before .before .before .before .put-byte4 .ensures .place, c .before .before .before .before .before .before .before .put-byte4 .ensures .kept, c .before .before .before .put-byte5 .ensures .place, c .before .before .before .put-byte5 .ensures .kept))
+    omega (arith, e, entry .pre .room, at-put-byte4 .ensures .place, at-put-byte4 .ensures .kept, at-put-byte5 .ensures .place, at-put-byte5 .ensures .kept))
     (λ c. search needs)  -- same-length-3
     (λ c.  -- returns-3
     let n = c .before .before .before .before .before .before .before .before .before .before .before .before .before .before .before .before .args .n in

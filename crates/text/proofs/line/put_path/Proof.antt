@@ -6,7 +6,7 @@ use mathlib.Core.List.{[], _∷_, _++_}
 use lib.ListN.{length, length-append}
 use Rattle.record.specs.Paths.{pathNumber}
 use Rattle.text.specs.Text.{decimal}
-use Rattle.text.specs.Lines.{RoomFor, Added}
+use Rattle.text.specs.Lines.{RoomForText, AddedText}
 use Rattle.text.proofs.Decimals.{all-digits}
 use Rattle.text.proofs.Paths.{lower-only}
 use Rattle.text.proofs.Lines.{both, room-first, room-rest}

@@ -14,26 +14,31 @@ put-stated-spec =
     (tie.spec
     (λ c. search needs)  -- slice-aggregate-put-word
     (λ c κs.  -- put-word-requires
-    let a = c .before .before .before .before .args in
-    field-room (decimal (a .k)) (a .word .now ∷ signedDecimal (a .value) ∷ []) (bytes "cell") (c .before .before .before .before .pre))
+    let entry = c .before .before .before .before in
+    let a = entry .args in
+    field-room (decimal (a .k)) (a .word .now ∷ signedDecimal (a .value) ∷ []) (bytes "cell") (entry .pre))
     (λ c κs.  -- put-number-requires
-    let a = c .before .before .before .before .before .before .before .before .args in
-    let p = rest-room (decimal (a .k)) (a .word .now ∷ signedDecimal (a .value) ∷ []) (bytes "cell") (c .before .before .before .put-word .ensures) (c .before .before .before .before .before .before .before .before .pre) in
+    let entry = c .before .before .before .before .before .before .before .before in
+    let a = entry .args in
+    let p = rest-room (decimal (a .k)) (a .word .now ∷ signedDecimal (a .value) ∷ []) (bytes "cell") (c .before .before .before .put-word .ensures) (entry .pre) in
     field-room (a .word .now) (signedDecimal (a .value) ∷ []) (decimal (a .k)) p)
     (λ c κs.  -- put-word-requires-2
-    let a = c .before .before .before .before .before .before .before .before .before .before .before .before .args in
-    let p = rest-room (decimal (a .k)) (a .word .now ∷ signedDecimal (a .value) ∷ []) (bytes "cell") (c .before .before .before .before .before .before .before .put-word .ensures) (c .before .before .before .before .before .before .before .before .before .before .before .before .pre) in
+    let entry = c .before .before .before .before .before .before .before .before .before .before .before .before in
+    let a = entry .args in
+    let p = rest-room (decimal (a .k)) (a .word .now ∷ signedDecimal (a .value) ∷ []) (bytes "cell") (c .before .before .before .before .before .before .before .put-word .ensures) (entry .pre) in
     let q = rest-room (a .word .now) (signedDecimal (a .value) ∷ []) (decimal (a .k)) (c .before .before .before .put-number .ensures) p in
     field-room (signedDecimal (a .value)) [] (a .word .now) q)
     (λ c κs.  -- put-signed-requires
-    let a = c .before .before .before .before .before .before .before .before .before .before .before .before .before .before .before .before .args in
-    let p = rest-room (decimal (a .k)) (a .word .now ∷ signedDecimal (a .value) ∷ []) (bytes "cell") (c .before .before .before .before .before .before .before .before .before .before .before .put-word .ensures) (c .before .before .before .before .before .before .before .before .before .before .before .before .before .before .before .before .pre) in
+    let entry = c .before .before .before .before .before .before .before .before .before .before .before .before .before .before .before .before in
+    let a = entry .args in
+    let p = rest-room (decimal (a .k)) (a .word .now ∷ signedDecimal (a .value) ∷ []) (bytes "cell") (c .before .before .before .before .before .before .before .before .before .before .before .put-word .ensures) (entry .pre) in
     let q = rest-room (a .word .now) (signedDecimal (a .value) ∷ []) (decimal (a .k)) (c .before .before .before .before .before .before .before .put-number .ensures) p in
-    rw (toZ-ofZ (c .before .before .before .before .before .before .before .before .before .before .before .before .before .before .before .before .fits .value)) (rest-room (signedDecimal (a .value)) [] (a .word .now) (c .before .before .before .put-word2 .ensures) q))
+    rw (toZ-ofZ (entry .fits .value)) (rest-room (signedDecimal (a .value)) [] (a .word .now) (c .before .before .before .put-word2 .ensures) q))
     (λ c. search needs)  -- same-length
     (λ c.  -- returns
-    let a = c .before .before .before .before .before .before .before .before .before .before .before .before .before .before .before .before .before .before .before .args in
-    let v = rw (toZ-ofZ (c .before .before .before .before .before .before .before .before .before .before .before .before .before .before .before .before .before .before .before .fits .value)) at (c .before .before .put-signed .ensures) in
+    let entry = c .before .before .before .before .before .before .before .before .before .before .before .before .before .before .before .before .before .before .before in
+    let a = entry .args in
+    let v = rw (toZ-ofZ (entry .fits .value)) at (c .before .before .put-signed .ensures) in
     let w = with-rest (signedDecimal (a .value)) [] (a .word .now) (c .before .before .before .before .before .before .put-word2 .ensures) v in
     let k = with-rest (a .word .now) (signedDecimal (a .value) ∷ []) (decimal (a .k)) (c .before .before .before .before .before .before .before .before .before .before .put-number .ensures) w in
     with-rest (decimal (a .k)) (a .word .now ∷ signedDecimal (a .value) ∷ []) (bytes "cell") (c .before .before .before .before .before .before .before .before .before .before .before .before .before .before .put-word .ensures) k))

@@ -7,10 +7,11 @@ use mir.Syntax.{w32}
 use mir.Val.{SFits}
 use Rattle.record.specs.declared.token.Token.{Token}
 use Rattle.record.specs.Paths.{pathNumber}
-use Rattle.text.specs.Text.{decimal, signedDecimal, stateWord, valueIn, tokenLine}
+use Rattle.text.specs.Text.{decimal, signedDecimal, stateWord, tokenLine}
 use Rattle.text.proofs.Lines.{field-room, rest-room, with-rest}
 use Rattle.text.proofs.line.put_token.Statement.{statement}
 use Rattle.text.proofs.line.put_token.Tie as tie
+use Rattle.record.specs.TokensAndTags.{valueIn}
 
 -- the fields of a token's line, from each on
 abbrev word : Token → List (List ℕ)

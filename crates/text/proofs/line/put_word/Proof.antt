@@ -15,8 +15,9 @@ put-word-spec =
     (λ c κs. let s = c .before .before .before in omega (arith, length-append (s .args .word .now) (s .args .end ∷ []), s .pre .room))  -- write-at-requires
     (λ c. search needs)  -- add-put-byte
     (λ c κs.  -- put-byte-requires
+    let at-write-at = c .before .before .before .write-at in
     let s = c .before .before .before .before .before .before .before in
-    let e : length (c .before .before .before .write-at .last .0) ≡ length (s .args .out .now) = c .before .before .before .write-at .kept .0 in
+    let e : length (at-write-at .last .0) ≡ length (s .args .out .now) = at-write-at .kept .0 in
     omega (arith, length-append (s .args .word .now) (s .args .end ∷ []), s .pre .room))
     (λ c. search needs)  -- same-length
     (λ c.  -- returns

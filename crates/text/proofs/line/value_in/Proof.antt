@@ -4,9 +4,9 @@ use mathlib.Core.Path.{sym, ap, _∙_}
 use mir.Facts.{toZ-ofZ}
 use mir.Syntax.{w32}
 use mir.Val.{SFits}
-use Rattle.text.specs.Text.{valueIn}
 use Rattle.text.proofs.line.value_in.Statement.{statement}
 use Rattle.text.proofs.line.value_in.Tie as tie
+use Rattle.record.specs.TokensAndTags.{valueIn}
 
 pub value-in-spec : {M : Type 1} → statement M
 value-in-spec =
