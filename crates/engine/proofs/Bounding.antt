@@ -48,7 +48,7 @@ use Rattle.held.proofs.Free.{held-under, free-places}
 use Rattle.held.proofs.Fired.{went-later, flags-unspent}
 use Rattle.engine.specs.declared.Order.{Order}
 use Rattle.engine.specs.declared.Order.the-variants.{Oldest, Picks, Log, Free}
-use Rattle.engine.specs.Turns.{Plain, BoundFits, HeldBeside, HeldBack, Bounding, Followed, FiredOn, TakesPlace, Ends, endOf, Proceeded, Settled, restsThere, asItWas, SettledBy, endBy}
+use Rattle.engine.specs.Turns.{BoundFits, HeldBeside, HeldBack, Bounding, Followed, FiredOn, TakesPlace, Ends, endOf, Proceeded, Settled, restsThere, asItWas, SettledBy, endBy}
 use Rattle.engine.proofs.Choosing.{getD-map, taken-there}
 
 -- ---- a choice
@@ -144,12 +144,6 @@ module _ (tables ledger : List ℕ) (used : ℕ) (g : List Instruction) (right :
         go (p ∷ l) h e = ap takes (picked p l ∙ ap activity (sym e))
 
 -- ---- from firing to firing
-
-pub plain-bounding : (order : Order) → Plain order → (g : List Instruction) (tables flags ledger : List ℕ) (used : ℕ) (nexts held marks : List ℕ) → Bounding order g tables flags ledger used nexts held marks
-plain-bounding Oldest p g tables flags ledger used nexts held marks = tt
-plain-bounding Picks p g tables flags ledger used nexts held marks = tt
-plain-bounding Log p g tables flags ledger used nexts held marks = tt
-plain-bounding (Free k) p g tables flags ledger used nexts held marks = absurd p
 
 -- said of graph and ledger from their starts on, which are all of them
 abbrev whole : List ℕ → List ℕ

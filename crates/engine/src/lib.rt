@@ -428,7 +428,7 @@ fn turns(
 }
 
 // 02, R-9: the held activities are known before the first turn. Not by `follow`: a second caller would cost each turn of every run a call.
-fn hold_first(
+pub fn hold_first(
     order: Order,
     graph: &[u8],
     tables: &Tables,
@@ -466,7 +466,7 @@ fn hold_first(
 }
 
 // "If only held ones remain, the answer is hung, at a used-up budget too.": what a run with a bound answered, where it ended.
-pub fn settle(tables: &Tables, flags: &Flags, held: &Flags, ledger: &[u8], own: Answer) -> Answer
+fn settle(tables: &Tables, flags: &Flags, held: &Flags, ledger: &[u8], own: Answer) -> Answer
     requires { ⌜ Counted (now flags) × Counted (now held) × Under (flagsOf (now held)) (flagsOf (now flags)) × (own .tokens ≤ length (now ledger) / tokenWidth) ⌝ }
     ensures { λ r. ⌜ Settled (now (tables .entry)) (now (flags .entry)) (now (held .entry)) (now (ledger .entry)) own r ⌝ }
 {
@@ -478,7 +478,7 @@ pub fn settle(tables: &Tables, flags: &Flags, held: &Flags, ledger: &[u8], own: 
 }
 
 // The same for every order: one that holds nothing back answers as it ended.
-fn settle_by(
+pub fn settle_by(
     order: Order,
     tables: &Tables,
     flags: &Flags,
@@ -553,7 +553,7 @@ pub fn proceed(
 }
 
 // Without picks the first is taken each time, and needs no number.
-pub fn order_of(picks: &[u8]) -> Order
+fn order_of(picks: &[u8]) -> Order
     ensures { λ r. ⌜ ByPicks r (now (picks .entry)) × Plain r ⌝ }
 {
     if picks.len() == 0 {
@@ -564,7 +564,7 @@ pub fn order_of(picks: &[u8]) -> Order
 }
 
 // The order of a run by picks, with a bound or, where it is 0, without one.
-fn order_under(picks: &[u8], bound: usize) -> Order
+pub fn order_under(picks: &[u8], bound: usize) -> Order
     ensures { λ r. ⌜ ByBound r (now (picks .entry)) bound ⌝ }
 {
     if bound != 0 {
