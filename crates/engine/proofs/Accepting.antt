@@ -1,8 +1,9 @@
--- A run under picks is the loop's (`ended-by-picks`, `logged-by-picks`). Of one that passed its checks the end is 01's (`as-run`) and the log 02's (`as-logged`), said
--- of the buffers as lent. Assumes nothing.
-use Prim.Native.Nat.{ℕ, _/_}
+-- A run under picks is the loop's (`ended-by-picks`, `logged-by-picks`), with a bound or without one (`ended-by-bound`, `logged-by-bound`). Of one that passed its checks
+-- the end is 01's (`as-run`) and the log 02's (`as-logged`), said of the buffers as lent. Assumes nothing.
+use Prim.Native.Nat.{ℕ, _/_, _<_}
 use mathlib.Core.Path.{_≡_, refl, sym, ap, _∙_, subst}
 use mathlib.Core.List.{List}
+use native.Mathlib.Omega.{arith}
 use lib.ListN.{length}
 use lib.IntN.{ℤ}
 use Rattle.record.specs.declared.tag.Tag.{Tag}
@@ -37,7 +38,8 @@ use Rattle.start.specs.Begun.{machineLent, Accepted, Begun}
 use Rattle.start.specs.Ended.{EndedAt}
 use Rattle.start.proofs.Starting.{from-start, as-lent}
 use Rattle.engine.specs.declared.Order.{Order}
-use Rattle.engine.specs.Turns.{ByPicks, endOf, firedBy, recorded, Proceeded, endBounded, firedBounded, endFromInputs, firedFromInputs}
+use Rattle.engine.specs.declared.Order.the-variants.{Oldest, Picks, Log, Free}
+use Rattle.engine.specs.Turns.{ByPicks, Plain, ByBound, BoundFits, endOf, firedBy, recorded, Proceeded, endBy, endBounded, firedBounded, endFromInputs, firedFromInputs}
 use Rattle.engine.proofs.Looping.{ended-at}
 
 -- ---- under picks
@@ -66,14 +68,42 @@ module _ (order : Order) (picks : List ℕ) (by : ByPicks order picks) (g : List
   unfolding heldIn
   none-held = unbounded M₁ (heldIn g 0) (λ s a. refl) (byPicks M₁) budget (picksOf picks) 0 (stateIn ledger cells used)
 
-  pub ended-plain : (k : ℕ) → k ≡ 0 → {r : Answer} {links flags ledger′ cells′ : List ℕ} → Proceeded (endOf order picks g tables ledger cells used budget) r g tables links flags ledger′ cells′ used ledger cells
+  ended-plain : (k : ℕ) → k ≡ 0 → {r : Answer} {links flags ledger′ cells′ : List ℕ} → Proceeded (endOf order picks g tables ledger cells used budget) r g tables links flags ledger′ cells′ used ledger cells
       → EndedAt (endBounded k picks g tables ledger cells used budget) r ledger cells ledger′ cells′
   ended-plain k e {r} {ledger′ = ledger′} {cells′ = cells′} p =
       subst (λ (n : ℕ). EndedAt (endBounded n picks g tables ledger cells used budget) r ledger cells ledger′ cells′) (sym e)
       (subst (λ (x : End Refusal Tag ℤ). EndedAt x r ledger cells ledger′ cells′) (sym (none-held .0)) (ended-by-picks p))
 
-  pub logged-plain : (k : ℕ) → k ≡ 0 → firedBy order picks g tables ledger cells used budget ≡ firedBounded k picks g tables ledger cells used budget
+  logged-plain : (k : ℕ) → k ≡ 0 → firedBy order picks g tables ledger cells used budget ≡ firedBounded k picks g tables ledger cells used budget
   logged-plain k e = logged-by-picks ∙ sym (none-held .1) ∙ ap (λ (n : ℕ). firedBounded n picks g tables ledger cells used budget) (sym e)
+
+-- with a bound or, where it is 0, without one
+module _ (picks : List ℕ) (k : ℕ) where
+  pub without-bound : (order : Order) → ByPicks order picks → Plain order → k ≡ 0 → ByBound order picks k
+  without-bound Oldest by p z = (z, by)
+  without-bound Picks by p z = (z, by)
+  without-bound Log by p z = (z, by)
+  without-bound (Free j) by p z = absurd p
+
+  pub bound-fits : k < 65536 → (order : Order) → ByBound order picks k → BoundFits order
+  bound-fits small Oldest by = tt
+  bound-fits small Picks by = tt
+  bound-fits small Log by = tt
+  bound-fits small (Free j) by = (omega (arith, by .0, by .1), omega (arith, by .0, small))
+
+  module _ (g : List Instruction) (tables ledger cells : List ℕ) (used budget : ℕ) where
+    pub ended-by-bound : (order : Order) → ByBound order picks k → {r : Answer} {links flags ledger′ cells′ : List ℕ} → Proceeded (endBy order picks g tables ledger cells used budget) r g tables links flags ledger′ cells′ used ledger cells
+        → EndedAt (endBounded k picks g tables ledger cells used budget) r ledger cells ledger′ cells′
+    ended-by-bound Oldest by p = ended-plain Oldest picks (by .1) g tables ledger cells used budget k (by .0) p
+    ended-by-bound Picks by p = ended-plain Picks picks (by .1) g tables ledger cells used budget k (by .0) p
+    ended-by-bound Log by p = ended-plain Log picks (by .1) g tables ledger cells used budget k (by .0) p
+    ended-by-bound (Free j) by {r} {ledger′ = ledger′} {cells′ = cells′} p = subst (λ (n : ℕ). EndedAt (endBounded n picks g tables ledger cells used budget) r ledger cells ledger′ cells′) (by .0) (ended-at p)
+
+    pub logged-by-bound : (order : Order) → ByBound order picks k → firedBy order picks g tables ledger cells used budget ≡ firedBounded k picks g tables ledger cells used budget
+    logged-by-bound Oldest by = logged-plain Oldest picks (by .1) g tables ledger cells used budget k (by .0)
+    logged-by-bound Picks by = logged-plain Picks picks (by .1) g tables ledger cells used budget k (by .0)
+    logged-by-bound Log by = logged-plain Log picks (by .1) g tables ledger cells used budget k (by .0)
+    logged-by-bound (Free j) by = ap (λ (n : ℕ). firedBounded n picks g tables ledger cells used budget) (by .0)
 
 -- ---- that passed its checks
 

@@ -6,7 +6,7 @@ use mathlib.Core.List.{List, [], _∷_, map}
 use native.Mathlib.Omega.{arith}
 use native.Mathlib.Nat.{mod-lt}
 use lib.Dec.{ltb}
-use lib.ListN.{length, getD, drop, replicate, length-map}
+use lib.ListN.{length, getD, take, drop, replicate, length-map}
 use lib.IntN.{ℤ}
 use Rattle.record.specs.declared.array.NamedArray.{NamedArray}
 use Rattle.record.specs.declared.tag.Tag.{Tag}
@@ -16,6 +16,7 @@ use Rattle.record.specs.declared.instruction.Instruction.{Instruction}
 use Rattle.record.specs.GraphRecords.{graphOf}
 use Rattle.record.specs.TokensAndTags.{tokens, tokenAt}
 use Rattle.record.specs.Widths.{tokenWidth, cellWidth}
+use Rattle.buffer.proofs.Tables.{tail-part}
 use Rattle.machine.specs.Machine.{Machine, StateOf, Effect, Activity, Outcome, End, onList, ending, pickOf, byPicks, end}
 use Rattle.machine.specs.Orders.{CellsBelow}
 use Rattle.machine.specs.Bounded.{byFree, freeOf, settled}
@@ -40,14 +41,14 @@ use Rattle.fire.proofs.Place.{on-ports}
 use Rattle.fire.proofs.Effects.{asked-below}
 use Rattle.fire.specs.Running.{machineOver, stateIn, askedIn, Arrived, Running, Went, Prepared}
 use Rattle.ending.specs.Endings.{EndsWith}
-use Rattle.held.specs.Deciding.{heldAt, HeldDecided}
+use Rattle.held.specs.Deciding.{heldAt, HeldDecided, HeldKept}
 use Rattle.held.proofs.Deciding.{places-one, among}
 use Rattle.held.proofs.Following.{carried-later, carried-none}
 use Rattle.held.proofs.Free.{held-under, free-places}
 use Rattle.held.proofs.Fired.{went-later, flags-unspent}
 use Rattle.engine.specs.declared.Order.{Order}
 use Rattle.engine.specs.declared.Order.the-variants.{Oldest, Picks, Log, Free}
-use Rattle.engine.specs.Turns.{Plain, HeldBeside, HeldBack, Bounding, FiredOn, TakesPlace, Ends, Proceeded, Settled, restsThere, asItWas}
+use Rattle.engine.specs.Turns.{BoundFits, HeldBeside, HeldBack, Bounding, Followed, FiredOn, TakesPlace, Ends, endOf, Proceeded, Settled, restsThere, asItWas, SettledBy, endBy}
 use Rattle.engine.proofs.Choosing.{getD-map, taken-there}
 
 -- ---- a choice
@@ -144,11 +145,20 @@ module _ (tables ledger : List ℕ) (used : ℕ) (g : List Instruction) (right :
 
 -- ---- from firing to firing
 
-pub plain-bounding : (order : Order) → Plain order → (g : List Instruction) (tables flags ledger : List ℕ) (used : ℕ) (nexts held marks : List ℕ) → Bounding order g tables flags ledger used nexts held marks
-plain-bounding Oldest p g tables flags ledger used nexts held marks = tt
-plain-bounding Picks p g tables flags ledger used nexts held marks = tt
-plain-bounding Log p g tables flags ledger used nexts held marks = tt
-plain-bounding (Free k) p g tables flags ledger used nexts held marks = absurd p
+-- said of graph and ledger from their starts on, which are all of them
+abbrev whole : List ℕ → List ℕ
+whole l = take (length l - 0) (drop 0 l)
+
+module _ (graph ledger : List ℕ) {k : ℕ} {tables flags : List ℕ} {n : ℕ} {nexts held marks : List ℕ} where
+  pub followed-whole : {used : ℕ} → Followed (graphOf graph) k tables flags ledger used n nexts held marks → Followed (graphOf (whole graph)) k tables flags (whole ledger) used n nexts held marks
+  followed-whole {used} f =
+      subst (λ (l : List ℕ). Followed (graphOf (whole graph)) k tables flags l used n nexts held marks) (sym (tail-part 0 ledger))
+      (subst (λ (l : List ℕ). Followed (graphOf l) k tables flags ledger used n nexts held marks) (sym (tail-part 0 graph)) f)
+
+  pub kept-whole : HeldKept (graphOf (whole graph)) tables flags (whole ledger) k n nexts held marks → HeldKept (graphOf graph) tables flags ledger k n nexts held marks
+  kept-whole h =
+      subst (λ (l : List ℕ). HeldKept (graphOf l) tables flags ledger k n nexts held marks) (tail-part 0 graph)
+      (subst (λ (l : List ℕ). HeldKept (graphOf (whole graph)) tables flags l k n nexts held marks) (tail-part 0 ledger) h)
 
 module _ (graph : List ℕ) {tables links flags ledger cells : List ℕ} {used : ℕ} (ready : Prepared graph tables) (now : Running (graphOf graph) tables links flags ledger cells used) where
   abbrev g : List Instruction
@@ -198,6 +208,12 @@ module _ (graph : List ℕ) {tables links flags ledger cells : List ℕ} {used :
     unspent = flags-unspent g (ready .aritiesRight) (on-ports g (tokens used ledger) (now .arrived)) (now .matching);
     carried = carried-none g tables ledger k;
   }
+
+  pub started-by : (order : Order) → BoundFits order → FiredOn order g tables flags ledger 0 used (replicate 69 0) (replicate 69 0) (replicate 4096 0)
+  started-by Oldest fits = tt
+  started-by Picks fits = tt
+  started-by Log fits = tt
+  started-by (Free k) fits = started-on k (fits .0) (fits .1)
 
   -- a turn that ended the run left the ledger as it was, and flags that say the same
   same-flags : {links′ flags′ : List ℕ} → Matching tables links′ flags′ ledger used → flagsOf flags ≡ flagsOf flags′
@@ -252,3 +268,16 @@ module _ (g : List Instruction) (k : ℕ) (tables links flags held ledger cells 
       subst (λ (a : Answer). Proceeded (settled M₀ (heldIn g k) 0 e) a g tables links flags ledger cells start ledger₀ cells₀) (sym h)
       (ended (p .outcome) (own .outcome) (p .told)
       (as-settled (p .outcome) (some-left tables ledger (own .tokens) g right (p .running .arrived) (arraysIn tables) (length ledger₀ / tokenWidth) (length cells₀ / cellWidth) (cellsIn cells) links flags held (p .running .matching) k d (ending M₀ s₁) (p .outcome) n)))
+
+-- of every order
+module _ (source : List ℕ) (g : List Instruction) (tables links flags held ledger cells ledger₀ cells₀ : List ℕ) (start budget : ℕ) (nexts marks : List ℕ) (own r : Answer) (right : Arities g tables) where
+  as-it-ended : (e : End Refusal Tag ℤ) → Proceeded e own g tables links flags ledger cells start ledger₀ cells₀ → r ≡ own → Proceeded e r g tables links flags ledger cells start ledger₀ cells₀
+  as-it-ended e p h = subst (λ (a : Answer). Proceeded e a g tables links flags ledger cells start ledger₀ cells₀) (sym h) p
+
+  pub settled-by : (order : Order) → Proceeded (endOf order source g tables ledger₀ cells₀ start budget) own g tables links flags ledger cells start ledger₀ cells₀
+      → Bounding order g tables flags ledger (own .tokens) nexts held marks → SettledBy order tables flags held ledger own r
+      → Proceeded (endBy order source g tables ledger₀ cells₀ start budget) r g tables links flags ledger cells start ledger₀ cells₀
+  settled-by Oldest p b h = as-it-ended _ p h
+  settled-by Picks p b h = as-it-ended _ p h
+  settled-by Log p b h = as-it-ended _ p h
+  settled-by (Free k) p b h = settled-end g k tables links flags held ledger cells ledger₀ cells₀ start _ own r right p (b .kept .decided) h

@@ -67,6 +67,20 @@ Plain Orders.Picks = Unit {0}
 Plain Orders.Log = Unit {0}
 Plain (Orders.Free k) = ⊥
 
+-- this order goes by the picks with this bound, which is none where it is 0
+abbrev pub ByBound : Order → (picks : List ℕ) → (bound : ℕ) → Type 0
+ByBound Orders.Oldest picks k = (k ≡ 0) × ByPicks Orders.Oldest picks
+ByBound Orders.Picks picks k = (k ≡ 0) × ByPicks Orders.Picks picks
+ByBound Orders.Log picks k = (k ≡ 0) × ByPicks Orders.Log picks
+ByBound (Orders.Free j) picks k = (j ≡ k) × (0 < k)
+
+-- the bound of an order that has one is of its range
+abbrev pub BoundFits : Order → Type 0
+BoundFits Orders.Oldest = Unit {0}
+BoundFits Orders.Picks = Unit {0}
+BoundFits Orders.Log = Unit {0}
+BoundFits (Orders.Free k) = (0 < k) × (k < 65536)
+
 -- ---- what is held back, if the order looks at it
 
 -- the flags of the held are flags of enabled ones
@@ -201,6 +215,13 @@ pub data Settled (tables flags held ledger : List ℕ) (own r : Answer) : Type 0
       → r ≡ record { outcome = o; firings = own .firings; tokens = own .tokens } → Settled tables flags held ledger own r
   asItWas : ¬ (length (places (minus (flagsOf flags) (flagsOf held))) ≡ 0) → r ≡ own → Settled tables flags held ledger own r
 
+-- the same of every order: where nothing is held back the answer stays
+abbrev pub SettledBy : Order → (tables flags held ledger : List ℕ) → (own r : Answer) → Type 0
+SettledBy Orders.Oldest tables flags held ledger own r = r ≡ own
+SettledBy Orders.Picks tables flags held ledger own r = r ≡ own
+SettledBy Orders.Log tables flags held ledger own r = r ≡ own
+SettledBy (Orders.Free k) tables flags held ledger own r = Settled tables flags held ledger own r
+
 -- the end of a run with a bound, which is none where it is 0, and its log
 abbrev pub endBounded : (bound : ℕ) → (picks : List ℕ) → List Instruction → (tables ledger cells : List ℕ) → (used budget : ℕ) → End Refusal Tag ℤ
 endBounded k picks g tables ledger cells used budget =
@@ -211,6 +232,13 @@ abbrev pub firedBounded : (bound : ℕ) → (picks : List ℕ) → List Instruct
 firedBounded k picks g tables ledger cells used budget =
     let M = machineOver g tables ledger cells in
     logBounded M (heldIn g k) (byPicks M) budget (picksOf picks) (stateIn ledger cells used)
+
+-- the end of a run by an order, settled where the order has a bound
+abbrev pub endBy : Order → (source : List ℕ) → List Instruction → (tables ledger cells : List ℕ) → (used budget : ℕ) → End Refusal Tag ℤ
+endBy Orders.Oldest source g tables ledger cells used budget = endOf Orders.Oldest source g tables ledger cells used budget
+endBy Orders.Picks source g tables ledger cells used budget = endOf Orders.Picks source g tables ledger cells used budget
+endBy Orders.Log source g tables ledger cells used budget = endOf Orders.Log source g tables ledger cells used budget
+endBy (Orders.Free k) source g tables ledger cells used budget = endBounded k source g tables ledger cells used budget
 
 -- from the inputs, in the words of the rules
 abbrev pub endFromInputs : (bound : ℕ) → (picks : List ℕ) → (budget : ℕ) → (graph arrays inputs ledger cells : List ℕ) → End Refusal Tag ℤ

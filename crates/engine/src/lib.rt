@@ -42,7 +42,7 @@ ghost use Rattle.start.specs.Begun.{Accepted};
 ghost use Rattle.start.specs.Ended.{EndedAt};
 ghost use Rattle.engine.specs.Promise.{lentToRun, leftByRun, BoundedOn, lentToLogged, leftByLogged, BoundLoggedOn};
 ghost use Rattle.engine.specs.Resumed.{resumeLentChecked, LentToResume, resumed};
-ghost use Rattle.engine.specs.Turns.{chooserFor, ByPicks, Plain, Flagged, HeldBeside, HeldBack, ChosenAs, Turned, endOf, firedBy, logNoted, recorded, Proceeded, Bounding, FiredOn, Settled, endBounded, firedBounded, endFromInputs, firedFromInputs};
+ghost use Rattle.engine.specs.Turns.{chooserFor, ByPicks, Plain, ByBound, BoundFits, Flagged, HeldBeside, HeldBack, ChosenAs, Turned, endOf, firedBy, logNoted, recorded, Proceeded, Bounding, FiredOn, Settled, SettledBy, endBounded, firedBounded, endBy, endFromInputs, firedFromInputs};
 ghost use Rattle.engine.specs.declared.Order.the-variants.{Oldest, Picks, Log, Free};
 
 // How the activity of a turn is chosen: the first of all, by picks, by the records of a log, or by picks among those that a
@@ -330,11 +330,12 @@ pub fn follow(
                 held,
                 marks,
             ) {
+                // Parts that are the whole: the slices as they are would be stored in every turn.
                 held::follow(
-                    graph,
+                    &graph[0..],
                     tables,
                     flags,
-                    ledger,
+                    &ledger[0..],
                     used,
                     n,
                     place,
@@ -426,7 +427,77 @@ fn turns(
     answer::answered(outcome, firings, used)
 }
 
-// The same where nothing is held back: runs and replays.
+// 02, R-9: the held activities are known before the first turn. Not by `follow`: a second caller would cost each turn of every run a call.
+pub fn hold_first(
+    order: Order,
+    graph: &[u8],
+    tables: &Tables,
+    flags: &Flags,
+    ledger: &[u8],
+    used: usize,
+    nexts: &mut Flags,
+    held: &mut Flags,
+    marks: &mut [u16],
+)
+    requires { ⌜ FiredOn order (graphOf (now graph)) (now tables) (now flags) (now ledger) 0 used (now nexts) (now held) (now marks) ⌝ }
+    ensures { λ _. ⌜ Bounding order (graphOf (now (graph .entry))) (now (tables .entry)) (now (flags .entry)) (now (ledger .entry)) used (now (nexts .exit))
+        (now (held .exit)) (now (marks .exit)) ⌝ }
+{
+    match order {
+        Order::Free(bound) => {
+            held::follow(
+                &graph[0..],
+                tables,
+                flags,
+                &ledger[0..],
+                0,
+                used,
+                0,
+                bound,
+                nexts,
+                held,
+                marks,
+            );
+        }
+        Order::Oldest => {}
+        Order::Picks => {}
+        Order::Log => {}
+    }
+}
+
+// "If only held ones remain, the answer is hung, at a used-up budget too.": what a run with a bound answered, where it ended.
+fn settle(tables: &Tables, flags: &Flags, held: &Flags, ledger: &[u8], own: Answer) -> Answer
+    requires { ⌜ Counted (now flags) × Counted (now held) × Under (flagsOf (now held)) (flagsOf (now flags)) × (own .tokens ≤ length (now ledger) / tokenWidth) ⌝ }
+    ensures { λ r. ⌜ Settled (now (tables .entry)) (now (flags .entry)) (now (held .entry)) (now (ledger .entry)) own r ⌝ }
+{
+    if store_flags::count_but(flags, held) == 0 {
+        let outcome = ending::ending(tables, ledger, own.tokens);
+        return answer::answered(outcome, own.firings, own.tokens);
+    }
+    own
+}
+
+// The same for every order: one that holds nothing back answers as it ended.
+pub fn settle_by(
+    order: Order,
+    tables: &Tables,
+    flags: &Flags,
+    held: &Flags,
+    ledger: &[u8],
+    own: Answer,
+) -> Answer
+    requires { ⌜ Counted (now flags) × HeldBeside order (now flags) (now held) × (own .tokens ≤ length (now ledger) / tokenWidth) ⌝ }
+    ensures { λ r. ⌜ SettledBy order (now (tables .entry)) (now (flags .entry)) (now (held .entry)) (now (ledger .entry)) own r ⌝ }
+{
+    match order {
+        Order::Free(_) => settle(tables, flags, held, ledger, own),
+        Order::Oldest => own,
+        Order::Picks => own,
+        Order::Log => own,
+    }
+}
+
+// A run or a replay goes on from a state. No other function calls the loop, so the compiler makes it part of this one.
 pub fn proceed(
     graph: &[u8],
     tables: &Tables,
@@ -439,9 +510,9 @@ pub fn proceed(
     log: &mut [u8],
     going: Going,
 ) -> Answer
-    requires { ⌜ Prepared (now graph) (now tables) × Running (graphOf (now graph)) (now tables) (now links) (now flags) (now ledger) (now cells) (going .used) × Plain order ⌝ }
+    requires { ⌜ Prepared (now graph) (now tables) × Running (graphOf (now graph)) (now tables) (now links) (now flags) (now ledger) (now cells) (going .used) × BoundFits order ⌝ }
     ensures { λ r. ⌜ Proceeded
-        (endOf order (now (source .entry)) (graphOf (now (graph .entry))) (now (tables .entry)) (now (ledger .entry)) (now (cells .entry))
+        (endBy order (now (source .entry)) (graphOf (now (graph .entry))) (now (tables .entry)) (now (ledger .entry)) (now (cells .entry))
         (going .used) (going .budget)) r (graphOf (now (graph .entry))) (now (tables .entry)) (now (links .exit)) (now (flags .exit))
         (now (ledger .exit)) (now (cells .exit)) (going .used) (now (ledger .entry)) (now (cells .entry)) ⌝ }
     ensures { λ _. ⌜ now (log .exit)
@@ -451,8 +522,19 @@ pub fn proceed(
 {
     let mut nexts = [0u64; store_flags::LENGTH];
     let mut held = [0u64; store_flags::LENGTH];
-    let mut marks = [0u16; 0];
-    turns(
+    let mut marks = [0u16; 4096];
+    hold_first(
+        order,
+        graph,
+        tables,
+        flags,
+        ledger,
+        going.used,
+        &mut nexts,
+        &mut held,
+        &mut marks,
+    );
+    let own = turns(
         graph,
         tables,
         order,
@@ -466,11 +548,12 @@ pub fn proceed(
         cells,
         log,
         going,
-    )
+    );
+    settle_by(order, tables, flags, &held, ledger, own)
 }
 
 // Without picks the first is taken each time, and needs no number.
-pub fn order_of(picks: &[u8]) -> Order
+fn order_of(picks: &[u8]) -> Order
     ensures { λ r. ⌜ ByPicks r (now (picks .entry)) × Plain r ⌝ }
 {
     if picks.len() == 0 {
@@ -480,74 +563,14 @@ pub fn order_of(picks: &[u8]) -> Order
     }
 }
 
-// "If only held ones remain, the answer is hung, at a used-up budget too.": what a run with a bound answered, where it ended.
-pub fn settle(tables: &Tables, flags: &Flags, held: &Flags, ledger: &[u8], own: Answer) -> Answer
-    requires { ⌜ Counted (now flags) × Counted (now held) × Under (flagsOf (now held)) (flagsOf (now flags)) × (own .tokens ≤ length (now ledger) / tokenWidth) ⌝ }
-    ensures { λ r. ⌜ Settled (now (tables .entry)) (now (flags .entry)) (now (held .entry)) (now (ledger .entry)) own r ⌝ }
+// The order of a run by picks, with a bound or, where it is 0, without one.
+pub fn order_under(picks: &[u8], bound: usize) -> Order
+    ensures { λ r. ⌜ ByBound r (now (picks .entry)) bound ⌝ }
 {
-    if store_flags::count_but(flags, held) == 0 {
-        let outcome = ending::ending(tables, ledger, own.tokens);
-        return answer::answered(outcome, own.firings, own.tokens);
+    if bound != 0 {
+        return Order::Free(bound);
     }
-    own
-}
-
-// 02, R-9: a run with a bound goes on from a state under picks.
-fn proceed_bounded(
-    graph: &[u8],
-    tables: &Tables,
-    picks: &[u8],
-    bound: usize,
-    links: &mut Links,
-    flags: &mut Flags,
-    ledger: &mut [u8],
-    cells: &mut [u8],
-    log: &mut [u8],
-    going: Going,
-) -> Answer
-    requires { ⌜ Prepared (now graph) (now tables) × Running (graphOf (now graph)) (now tables) (now links) (now flags) (now ledger) (now cells) (going .used) × (0 < bound) × (bound < 65536) ⌝ }
-    ensures { λ r. ⌜ EndedAt
-        (endBounded bound (now (picks .entry)) (graphOf (now (graph .entry))) (now (tables .entry)) (now (ledger .entry)) (now (cells .entry))
-        (going .used) (going .budget)) r (now (ledger .entry)) (now (cells .entry)) (now (ledger .exit)) (now (cells .exit)) ⌝ }
-    ensures { λ _. ⌜ now (log .exit)
-        ≡ recorded
-        (firedBounded bound (now (picks .entry)) (graphOf (now (graph .entry))) (now (tables .entry)) (now (ledger .entry)) (now (cells .entry))
-        (going .used) (going .budget)) (now (log .entry)) ⌝ }
-{
-    let mut nexts = [0u64; store_flags::LENGTH];
-    let mut held = [0u64; store_flags::LENGTH];
-    let mut marks = [0u16; 4096];
-    let order = Order::Free(bound);
-    // Not by `follow`: a second caller would cost each turn of every run a call.
-    held::follow(
-        graph,
-        tables,
-        flags,
-        ledger,
-        0,
-        going.used,
-        0,
-        bound,
-        &mut nexts,
-        &mut held,
-        &mut marks,
-    );
-    let own = turns(
-        graph,
-        tables,
-        order,
-        picks,
-        links,
-        flags,
-        &mut nexts,
-        &mut held,
-        &mut marks,
-        ledger,
-        cells,
-        log,
-        going,
-    );
-    settle(tables, flags, &held, ledger, own)
+    order_of(picks)
 }
 
 // A run goes on from a state under picks, with a bound or, where it is 0, without one.
@@ -572,21 +595,7 @@ fn go_on(
         (firedBounded bound (now (picks .entry)) (graphOf (now (graph .entry))) (now (tables .entry)) (now (ledger .entry)) (now (cells .entry))
         (going .used) (going .budget)) (now (log .entry)) ⌝ }
 {
-    if bound != 0 {
-        return proceed_bounded(
-            graph,
-            tables,
-            picks,
-            bound,
-            links,
-            flags,
-            ledger,
-            cells,
-            log,
-            going,
-        );
-    }
-    let order = order_of(picks);
+    let order = order_under(picks, bound);
     proceed(
         graph,
         tables,

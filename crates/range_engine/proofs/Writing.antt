@@ -1,5 +1,5 @@
--- From a run over handles to what a range run leaves: as ranges (`as-ranges`), from inputs (`told-first`), in bytes (`written-as`), and that checked inputs as handles
--- stand for the range run's first state (`inputs-stand`). Assumes nothing.
+-- From a run over handles to what a range run leaves: as ranges (`as-ranges`), settled by the order (`left-by`), from inputs (`told-first`), in bytes (`written-as`),
+-- and that checked inputs as handles stand for the range run's first state (`inputs-stand`). Assumes nothing.
 use Prim.Native.Nat.{ℕ, _+_, _-_, _*_, _/_, _%_, _≤_}
 use mathlib.Core.Path.{_≡_, refl, sym, ap, subst, _∙_}
 use mathlib.Core.List.{List, [], _∷_, _++_, map, append-nil}
@@ -46,14 +46,15 @@ use Rattle.check_fields.proofs.Turns.{and-true-left, and-true-right, demanded}
 use Rattle.checks.proofs.Passed.{passed-arrays}
 use Rattle.rules.proofs.Ranges.{same-fields}
 use Rattle.rules.proofs.RangeHandles.{handle-run}
-use Rattle.abstraction.specs.Tables.{arraysIn}
+use Rattle.abstraction.specs.Tables.{Arities, arraysIn}
 use Rattle.store.proofs.Laws.{matching-room}
 use Rattle.fire_outputs.specs.Outputs.{cellsIn}
 use Rattle.fire.specs.Running.{stateIn}
 use Rattle.start.specs.Begun.{Accepted, Begun}
 use Rattle.engine.specs.declared.Order.{Order}
-use Rattle.engine.specs.declared.Order.the-variants.{Free}
-use Rattle.engine.specs.Turns.{chooserFor, ByPicks, Proceeded}
+use Rattle.engine.specs.declared.Order.the-variants.{Oldest, Picks, Log, Free}
+use Rattle.engine.specs.Turns.{chooserFor, ByPicks, ByBound, Bounding, Proceeded, SettledBy}
+use Rattle.engine.proofs.Bounding.{settled-end}
 use Rattle.range_table.specs.Table.{tableOf}
 use Rattle.range_inputs.specs.Handles.{handlesOf, checkProper, Narrow}
 use Rattle.range_inputs.proofs.Rows.{fields-each, handles-count}
@@ -83,13 +84,13 @@ module _ (r : Ran) (E : End Refusal Tag Range) (x : Tabled Refusal Tag Range ℤ
   as-ranges = subst (λ (e : End Refusal Tag Range). AsRanges e r ledger′ cells′ table′) (sym same)
       (record { answered = λ i. record { outcome = sym (p .told) i; firings = r .answer .firings; tokens = sym size i }; state = refl })
 
-pub fits-left : {x : Tabled Refusal Tag Range ℤ} {r : Ran} {a : Answer} {g : List Instruction} {tables links flags ledger′ cells′ table′ : List ℕ} {used : ℕ} {ledger cells table : List ℕ} {e : End Refusal Tag ℤ}
+fits-left : {x : Tabled Refusal Tag Range ℤ} {r : Ran} {a : Answer} {g : List Instruction} {tables links flags ledger′ cells′ table′ : List ℕ} {used : ℕ} {ledger cells table : List ℕ} {e : End Refusal Tag ℤ}
     → RanOver x r g tables links flags ledger′ cells′ table′ used ledger cells table → Proceeded e a g tables links flags ledger′ cells′ used ledger cells → Fits (record { answer = a; count = r .count }) ledger′ cells′ table′ ledger cells table
 fits-left o p = record { few = o .few; room = matching-room (p .running .matching); size = p .size; cellSize = p .cellSize; tableSize = o .size }
 
 -- ---- from state to state
 
-pub tells-plain : (order : Order) (picks : List ℕ) → ByPicks order picks → (g : List Instruction) (tables links flags ledger′ cells′ table′ ledger cells table : List ℕ) (used budget count : ℕ) (r : Ran)
+tells-plain : (order : Order) (picks : List ℕ) → ByPicks order picks → (g : List Instruction) (tables links flags ledger′ cells′ table′ ledger cells table : List ℕ) (used budget count : ℕ) (r : Ran)
     → RanOver (endOver order picks g tables ledger cells used budget (tableOf count table)) r g tables links flags ledger′ cells′ table′ used ledger cells table
     → Tells 0 picks budget g (arraysIn tables) (length ledger / tokenWidth) (length cells / cellWidth) (tableOf count table) (stateIn ledger cells used) r ledger′ cells′ table′
 tells-plain order picks by g tables links flags ledger′ cells′ table′ ledger cells table used budget count r o s h =
@@ -98,7 +99,7 @@ tells-plain order picks by g tables links flags ledger′ cells′ table′ ledg
     as-ranges r (rangeEnd 0 picks budget g (arraysIn tables) p q s) (endOver order picks g tables ledger cells used budget (tableOf count table)) table′ (o .proceeded) (o .tabled)
     (told-plain g (arraysIn tables) p q (picksOf picks) (tableOf count table) s (stateIn ledger cells used) h budget (chooserFor order picks g tables ledger cells) (by g (arraysIn tables) p q))
 
-pub tells-bounded : (k : ℕ) (picks : List ℕ) (g : List Instruction) (tables links flags ledger′ cells′ table′ ledger cells table : List ℕ) (used budget count : ℕ) (r : Ran)
+tells-bounded : (k : ℕ) (picks : List ℕ) (g : List Instruction) (tables links flags ledger′ cells′ table′ ledger cells table : List ℕ) (used budget count : ℕ) (r : Ran)
     → RanOver (endOver (Free k) picks g tables ledger cells used budget (tableOf count table)) r g tables links flags ledger′ cells′ table′ used ledger cells table
     → (a : Answer) → Proceeded (settledOver k g tables ledger cells (endOver (Free k) picks g tables ledger cells used budget (tableOf count table)) .ended) a g tables links flags ledger′ cells′ used ledger cells
     → Tells k picks budget g (arraysIn tables) (length ledger / tokenWidth) (length cells / cellWidth) (tableOf count table) (stateIn ledger cells used) (record { answer = a; count = r .count }) ledger′ cells′ table′
@@ -107,6 +108,27 @@ tells-bounded k picks g tables links flags ledger′ cells′ table′ ledger ce
     let q = length cells / cellWidth in
     as-ranges (record { answer = a; count = r .count }) (rangeEnd k picks budget g (arraysIn tables) m q s) (settledOver k g tables ledger cells (endOver (Free k) picks g tables ledger cells used budget (tableOf count table))) table′ p (o .tabled)
     (told-bounded g (arraysIn tables) m q (picksOf picks) (tableOf count table) s (stateIn ledger cells used) h budget k)
+
+-- by an order, which has the bound or, where it is 0, none
+module _ (picks : List ℕ) (k : ℕ) (g : List Instruction) (tables links flags held ledger′ cells′ table′ ledger cells table nexts marks : List ℕ) (used budget count : ℕ) (r : Ran) (a : Answer) (right : Arities g tables) where
+  abbrev Left : ℕ → Answer → Type 0
+  Left n b =
+      Tells n picks budget g (arraysIn tables) (length ledger / tokenWidth) (length cells / cellWidth) (tableOf count table) (stateIn ledger cells used) (record { answer = b; count = r .count }) ledger′ cells′ table′
+      × Fits (record { answer = b; count = r .count }) ledger′ cells′ table′ ledger cells table
+
+  as-it-ended : (order : Order) → (k ≡ 0) × ByPicks order picks → RanOver (endOver order picks g tables ledger cells used budget (tableOf count table)) r g tables links flags ledger′ cells′ table′ used ledger cells table → a ≡ r .answer → Left k a
+  as-it-ended order by o h =
+      subst (λ (n : ℕ). Left n a) (sym (by .0))
+      (subst (λ (b : Answer). Left 0 b) (sym h) (tells-plain order picks (by .1) g tables links flags ledger′ cells′ table′ ledger cells table used budget count r o, fits-left o (o .proceeded)))
+
+  pub left-by : (order : Order) → ByBound order picks k → RanOver (endOver order picks g tables ledger cells used budget (tableOf count table)) r g tables links flags ledger′ cells′ table′ used ledger cells table
+      → Bounding order g tables flags ledger′ (r .answer .tokens) nexts held marks → SettledBy order tables flags held ledger′ (r .answer) a → Left k a
+  left-by Oldest by o b h = as-it-ended Oldest by o h
+  left-by Picks by o b h = as-it-ended Picks by o h
+  left-by Log by o b h = as-it-ended Log by o h
+  left-by (Free j) by o b h =
+      let p = settled-end g j tables links flags held ledger′ cells′ ledger cells used _ (r .answer) a right (o .proceeded) (b .kept .decided) h in
+      subst (λ (n : ℕ). Left n a) (by .0) (tells-bounded j picks g tables links flags ledger′ cells′ table′ ledger cells table used budget count r o a p, fits-left o p)
 
 -- ---- from inputs
 

@@ -31,13 +31,12 @@ ghost use Rattle.rules.specs.RangeRun.{rangeCapacityOf, checkRangeStores, Range
 ghost use Rattle.abstraction.specs.Tables.{arraysIn};
 ghost use Rattle.fire.specs.Running.{stateIn, Prepared, Running};
 ghost use Rattle.start.specs.Begun.{Accepted};
-ghost use Rattle.engine.specs.Turns.{chooserFor, ByPicks, Plain, HeldBeside, HeldBack, Bounding};
-ghost use Rattle.engine.specs.declared.Order.the-variants.{Free};
+ghost use Rattle.engine.specs.Turns.{chooserFor, HeldBeside, HeldBack, Bounding};
 ghost use Rattle.range_table.specs.Table.{pairWidth, tableOf};
 ghost use Rattle.range_inputs.specs.Handles.{handlesOf};
 ghost use Rattle.range_fire.specs.Tried.{RoomForOne, stepAt};
 ghost use Rattle.range_engine.specs.Promise.{lentToRun, leftByRun, RangesOn};
-ghost use Rattle.range_engine.specs.Over.{TakenAs, Room, endOver, settledOver, RanOver, Tells, Fits, AsManyHandles, ownBytes, storeBytes, Leaves, LentToRanges, withInputs, rangesLentChecked};
+ghost use Rattle.range_engine.specs.Over.{TakenAs, Room, endOver, RanOver, Tells, Fits, AsManyHandles, ownBytes, storeBytes, Leaves, LentToRanges, withInputs, rangesLentChecked};
 
 // A turn, and how many ranges the table has after it.
 pub struct Taken {
@@ -212,49 +211,9 @@ fn turns(
     }
 }
 
-// Without a bound.
+// A run goes on from a state under picks, with a bound or, where it is 0, without one. No other function calls the loop, so the compiler makes it part of
+// this one.
 fn proceed(
-    graph: &[u8],
-    tables: &Tables,
-    picks: &[u8],
-    table: &mut [u8],
-    links: &mut Links,
-    flags: &mut Flags,
-    ledger: &mut [u8],
-    cells: &mut [u8],
-    going: Going,
-) -> Ran
-    requires { ⌜ Prepared (now graph) (now tables)
-        × Running (graphOf (now graph)) (now tables) (now links) (now flags) (now ledger) (now cells) (going .used)
-        × Room (now table) (going .count) (going .used) ⌝ }
-    ensures { λ r. ⌜ Tells 0 (now (picks .entry)) (going .budget) (graphOf (now (graph .entry))) (arraysIn (now (tables .entry)))
-        (length (now (ledger .entry)) / tokenWidth) (length (now (cells .entry)) / cellWidth) (tableOf (going .count) (now (table .entry)))
-        (stateIn (now (ledger .entry)) (now (cells .entry)) (going .used)) r (now (ledger .exit)) (now (cells .exit)) (now (table .exit)) ⌝ }
-    ensures { λ r. ⌜ Fits r (now (ledger .exit)) (now (cells .exit)) (now (table .exit)) (now (ledger .entry)) (now (cells .entry)) (now (table .entry)) ⌝ }
-{
-    let mut nexts = [0u64; store_flags::LENGTH];
-    let mut held = [0u64; store_flags::LENGTH];
-    let mut marks = [0u16; 0];
-    let order = engine::order_of(picks);
-    turns(
-        graph,
-        tables,
-        order,
-        picks,
-        table,
-        links,
-        flags,
-        &mut nexts,
-        &mut held,
-        &mut marks,
-        ledger,
-        cells,
-        going,
-    )
-}
-
-// 02, R-9: with one.
-fn proceed_bounded(
     graph: &[u8],
     tables: &Tables,
     picks: &[u8],
@@ -269,7 +228,6 @@ fn proceed_bounded(
     requires { ⌜ Prepared (now graph) (now tables)
         × Running (graphOf (now graph)) (now tables) (now links) (now flags) (now ledger) (now cells) (going .used)
         × Room (now table) (going .count) (going .used)
-        × (0 < bound)
         × (bound < 65536) ⌝ }
     ensures { λ r. ⌜ Tells bound (now (picks .entry)) (going .budget) (graphOf (now (graph .entry))) (arraysIn (now (tables .entry)))
         (length (now (ledger .entry)) / tokenWidth) (length (now (cells .entry)) / cellWidth) (tableOf (going .count) (now (table .entry)))
@@ -279,16 +237,14 @@ fn proceed_bounded(
     let mut nexts = [0u64; store_flags::LENGTH];
     let mut held = [0u64; store_flags::LENGTH];
     let mut marks = [0u16; 4096];
-    let order = Order::Free(bound);
-    engine::follow(
+    let order = engine::order_under(picks, bound);
+    engine::hold_first(
         order,
         graph,
         tables,
         flags,
         ledger,
-        0,
         going.used,
-        0,
         &mut nexts,
         &mut held,
         &mut marks,
@@ -310,58 +266,9 @@ fn proceed_bounded(
     );
     let own = ran.answer;
     Ran {
-        answer: engine::settle(tables, flags, &held, ledger, own),
+        answer: engine::settle_by(order, tables, flags, &held, ledger, own),
         count: ran.count,
     }
-}
-
-// A run goes on from a state under picks, with a bound or, where it is 0, without one.
-fn go_on(
-    graph: &[u8],
-    tables: &Tables,
-    picks: &[u8],
-    bound: usize,
-    table: &mut [u8],
-    links: &mut Links,
-    flags: &mut Flags,
-    ledger: &mut [u8],
-    cells: &mut [u8],
-    going: Going,
-) -> Ran
-    requires { ⌜ Prepared (now graph) (now tables)
-        × Running (graphOf (now graph)) (now tables) (now links) (now flags) (now ledger) (now cells) (going .used)
-        × Room (now table) (going .count) (going .used)
-        × (bound < 65536) ⌝ }
-    ensures { λ r. ⌜ Tells bound (now (picks .entry)) (going .budget) (graphOf (now (graph .entry))) (arraysIn (now (tables .entry)))
-        (length (now (ledger .entry)) / tokenWidth) (length (now (cells .entry)) / cellWidth) (tableOf (going .count) (now (table .entry)))
-        (stateIn (now (ledger .entry)) (now (cells .entry)) (going .used)) r (now (ledger .exit)) (now (cells .exit)) (now (table .exit)) ⌝ }
-    ensures { λ r. ⌜ Fits r (now (ledger .exit)) (now (cells .exit)) (now (table .exit)) (now (ledger .entry)) (now (cells .entry)) (now (table .entry)) ⌝ }
-{
-    if bound != 0 {
-        return proceed_bounded(
-            graph,
-            tables,
-            picks,
-            bound,
-            table,
-            links,
-            flags,
-            ledger,
-            cells,
-            going,
-        );
-    }
-    proceed(
-        graph,
-        tables,
-        picks,
-        table,
-        links,
-        flags,
-        ledger,
-        cells,
-        going,
-    )
 }
 
 // From the inputs as handles, in a ledger and cells of its own.
@@ -396,7 +303,7 @@ fn over_handles(
         ledger,
         cells,
     );
-    go_on(
+    proceed(
         graph,
         &tables,
         picks,

@@ -11,7 +11,7 @@ pub over-handles-spec : {M : Type 1} → statement M
 over-handles-spec = tie.close (tie.spec
     (λ c κs. (c .before .before .before .before .before .before .before .before .before .before .before .before .pre .0, refl, refl))  -- begin-requires
     (λ c. omega (arith, matching-few (c .before .before .before .before .before .before .before .before .before .before .begin .ensures .running .matching)))  -- add-t30
-    (λ c κs.  -- go-on-requires
+    (λ c κs.  -- proceed-requires
     let s = c .before .before .before .before .before .before .before .before .before .before .before .before .before .before .before .before .before .before .before .before .before .before .before in
     let b = c .before .before .before .before .before .before .before .before .before .before .begin .ensures in
     (b .prepared, b .running, record { pairs = s .pre .2; few = omega arith }, s .pre .1))
@@ -21,7 +21,7 @@ over-handles-spec = tie.close (tie.spec
     (λ c.  -- returns
     let a = c .before .before .before .before .before .before .before .before .before .before .before .before .before .before .before .before .before .before .before .before .before .before .before .before .before .before .before .before .before .before .args in
     let b = c .before .before .before .before .before .before .before .before .before .before .before .before .before .before .before .before .before .begin .ensures in
-    let g = c .before .before .before .before .before .before .go-on in
+    let g = c .before .before .before .before .before .before .proceed in
     let f = g .ensures .1 in (
       told-first (a .graph .now) (a .arrays .now) (a .handles .now) b (a .bound) (a .picks .now) (a .budget) (a .table .now) (g .result) _ _ _ (g .ensures .0),
       record { few = f .few; room = f .room; size = f .size ∙ b .size; cellSize = f .cellSize ∙ b .cellSize; tableSize = f .tableSize },
