@@ -74,7 +74,7 @@ pub fn operands_of(
             right: own,
         };
     }
-    let other = place_or(store::find(links, ledger, used, tag, 1 - t.port), place);
+    let other = place_or(store::partner(links, place), place);
     let u = token::token_at(ledger, other);
     let found = u.content;
     let value = value_in(found);

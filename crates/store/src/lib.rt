@@ -42,6 +42,11 @@ pub fn seek(links: &Links, ledger: &[u8], used: usize, tag: Tag, port: u8) -> So
     store_chains::seek(links, ledger, used, tag, port)
 }
 
+// The place of the partner of the token at a place.
+pub fn partner(links: &Links, place: usize) -> Found {
+    store_chains::partner(links, place)
+}
+
 // How many activities are enabled.
 pub fn enabled_count(flags: &Flags) -> usize
     requires { ⌜ Counted (now flags) ⌝ }
