@@ -8,12 +8,10 @@ use native.Mathlib.Decide.{ℕ-discrete, decLt}
 use native.Mathlib.Nat.{not-suc-le-zero}
 use lib.ListN.{length, getD, set, length-append, length-set, List·getD-append}
 use lib.Seq.{getD-set-same, getD-set-other}
-use borrow.Author.Tests.{eq-eqb}
 use Rattle.buffer.specs.Rows.{All}
-use Rattle.record.specs.TokensAndTags.{standsAt, sameTag}
+use Rattle.record.specs.TokensAndTags.{standsAt}
 use Rattle.record.specs.declared.tag.Tag.{Tag}
 use Rattle.record.specs.declared.token.Token.{Token}
-use Rattle.record.proofs.Paths.{path-same}
 use Rattle.store_chains.specs.declared.Found.{Found}
 use Rattle.store_chains.specs.declared.Found.the-variants.{At, Nothing}
 use Rattle.store_chains.specs.declared.Slot.{Slot}
@@ -21,27 +19,9 @@ use Rattle.store_chains.specs.Search.{firstFrom, foundOf, FoundWithin, S
 use Rattle.store_chains.specs.Slots.{Open}
 use Rattle.store_chains.specs.Chains.{Chained}
 use Rattle.store_chains.specs.Partners.{partnerAt, Partnered, paired, Beside}
-use Rattle.store_chains.proofs.Search.{found-some, first-passes, first-added, first-past, first-set, first-within, all-at}
+use Rattle.store_chains.proofs.Search.{found-some, first-passes, first-added, first-past, first-set, first-within, all-at, getD-end}
 use Rattle.store_chains.proofs.Chains.{chained-past}
-use Rattle.store_chains.proofs.Index.{stands-is, stands-once}
-
--- ---- where a token stands
-
-pub tag-own : (a : Tag) → sameTag a a ≡ true
-unfolding sameTag
-tag-own a = rw (path-same (a .path) (a .path) refl, eq-eqb (a .iteration) (a .iteration) refl, eq-eqb (a .instruction) (a .instruction) refl)
-
-pub stands-own : (tag : Tag) (port : ℕ) (t : Token) → t .tag ≡ tag → t .port ≡ port → standsAt tag port t ≡ true
-unfolding standsAt
-stands-own tag port t e d = rw (eq-eqb (t .port) port d, e, tag-own tag)
-
-pub stands-same : (tag : Tag) (port : ℕ) (t u : Token) → t .tag ≡ u .tag → t .port ≡ u .port → standsAt tag port t ≡ standsAt tag port u
-unfolding standsAt
-stands-same tag port t u e d = rw (e, d)
-
-pub getD-end : (ts : List Token) (t d : Token) → getD (ts ++ t ∷ []) (length ts) d ≡ t
-getD-end [] t d = refl
-getD-end (x ∷ ts) t d = getD-end ts t d
+use Rattle.store_chains.proofs.Index.{stands-is, stands-own, stands-same, stands-once}
 
 -- ---- what is beside a token
 
