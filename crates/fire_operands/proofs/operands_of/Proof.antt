@@ -17,18 +17,18 @@ operands-of-spec = tie.close (tie.spec
     let t = c .before .before in
     let s = t .before .before in
     rw (toZ-ofZ {w = w32} (record { sfits = v .ok }), v .ensures, ← t .token-at .ensures) (alone (s .pre .0) (s .pre .1) _ (t .token-at .ensures) (c .if1 .taken)))
-    (λ c κs. let s = c .before .before .before .before .before in place-low (s .pre .0) (s .pre .1))  -- partner-requires
+    (λ c κs. let s = c .before .before .before .before in place-low (s .pre .0) (s .pre .1))  -- partner-requires
     (λ c κs. search needs)  -- place-or-requires
     (λ c κs.  -- token-at-requires-2
     let f = c .before .partner in
-    let n = c .before .before .before in
+    let n = c .before .before in
     let t = n .before .before in
     let s = t .before .before in
     rw (c .place-or .ensures) (other-within (s .pre .0) (s .pre .1) _ (t .token-at .ensures) (n .if1 .left) (f .result) (f .ensures)))
     (λ c κs. search needs)  -- value-in-requires-2
     (λ c.  -- returns-2
     let f = c .before .before .before .before .before in
-    let n = f .before .before in
+    let n = f .before in
     let t = n .before .before in
     let s = t .before .before in
     let v = n .before .value-in in
@@ -39,7 +39,7 @@ operands-of-spec = tie.close (tie.spec
     (as-first (s .pre .0) (s .pre .1) _ (t .token-at .ensures) (n .if1 .left) (f .partner .result) (f .partner .ensures) (c .if2 .taken)))
     (λ c.  -- returns-3
     let f = c .before .before .before .before .before in
-    let n = f .before .before in
+    let n = f .before in
     let t = n .before .before in
     let s = t .before .before in
     let v = n .before .value-in in
