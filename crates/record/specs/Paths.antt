@@ -39,9 +39,10 @@ decidePath a b = decideWords (ℕ-discrete (a .low) (b .low)) (ℕ-discrete (a .
 unfoldable pub comparedPaths : Path → Path → Compared
 comparedPaths a b = cond (eqb (pathNumber a) (pathNumber b)) Same (cond (ltb (pathNumber a) (pathNumber b)) Before Behind)
 
--- one word for a path, of which the matching store makes a bucket: the sum of its two. A path of at most four levels has itself
+-- one word for a path, of which the matching store makes a bucket. The higher word counts twice, so that two calls which differ in the order of two levels
+-- stand apart
 unfoldable pub foldedPath : Path → ℕ
-foldedPath p = (p .low + p .high) % 2 ^ 64
+foldedPath p = (p .low + 2 * p .high) % 2 ^ 64
 
 -- what two words can hold
 pub record PathFits (p : Path) : Type 0 where

@@ -98,7 +98,7 @@ impl Path {
     pub fn folded(self) -> u64
         ensures { λ r. ⌜ r ≡ foldedPath self ⌝ }
     {
-        std::num::wrapping_add_u64(self.low, self.high)
+        std::num::wrapping_add_u64(std::num::wrapping_add_u64(self.low, self.high), self.high)
     }
 }
 
