@@ -26,7 +26,8 @@ use Rattle.store_flags.specs.Marks.{placesWhere}
 use Rattle.store_chains.proofs.Index.{and-left, and-right}
 use Rattle.store_enabled.specs.Enabled.{isLiveRecord, liveOn, operandsLive, tagSame, earliestOf, leadsIn, enabledPlaces}
 use Rattle.store_enabled.proofs.Places.{stands-other}
-use Rattle.store_enabled.proofs.Right.{tag-equal, tag-own}
+use Rattle.store_chains.proofs.Index.{tag-own}
+use Rattle.store_enabled.proofs.Right.{tag-equal}
 use Rattle.abstraction.specs.States.{stateHeld, OnPorts}
 use Rattle.abstraction.specs.Tables.{Arities}
 use Rattle.abstraction.proofs.Arities.{arity-small}

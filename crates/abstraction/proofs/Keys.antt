@@ -27,7 +27,8 @@ use Rattle.store_chains.specs.declared.Found.the-variants.{At, Nothing}
 use Rattle.store_chains.specs.Search.{firstFrom, Free}
 use Rattle.store_chains.proofs.Search.{shift, first-cons}
 use Rattle.store_chains.proofs.Index.{and-left, and-right}
-use Rattle.store_enabled.proofs.Right.{tag-equal, tag-own}
+use Rattle.store_chains.proofs.Index.{tag-own}
+use Rattle.store_enabled.proofs.Right.{tag-equal}
 
 -- ---- the key of a token
 

@@ -17,12 +17,13 @@ use Rattle.record.specs.declared.token.Content.the-variants.{Live, Spent, Defer
 use Rattle.store_chains.specs.declared.Found.{Found}
 use Rattle.store_chains.specs.declared.Found.the-variants.{At, Nothing}
 use Rattle.store_chains.specs.Search.{firstFrom}
+use Rattle.store_chains.specs.Partners.{partnerAt}
 use Rattle.store_chains.proofs.Search.{first-cons}
 use Rattle.store_chains.proofs.Index.{and-left, and-right, found-within}
 use Rattle.store_enabled.specs.Enabled.{isLiveRecord, liveOn, operandsLive, tagSame, earliestOf}
 use Rattle.store_enabled.specs.Store.{Known, placeOr, liveFound}
 use Rattle.store_enabled.proofs.Places.{stands-tag, stands-other, live-found}
-use Rattle.store_enabled.proofs.Store.{all-at}
+use Rattle.store_enabled.proofs.Store.{all-at, known-few, known-partner}
 use Rattle.abstraction.specs.States.{noToken}
 use Rattle.fire_operands.specs.Operands.{Held, operandHeld, operandFound, operandAt, one, two, bothAt, Earliest, matchedAt}
 
@@ -80,6 +81,12 @@ module _ {arity used place : ℕ} {links ledger : List ℕ} {tag : Tag} (k : Kno
   abbrev ts : List Token
   ts = tokens used ledger
 
+  place-within : place < used
+  place-within = omega (arith, e .within, length-rows tokenWidth decodeToken used ledger)
+
+  pub place-low : place < 2048
+  place-low = omega (arith, place-within, known-few links ledger used k)
+
   pub within : place < length ledger / tokenWidth
   within = omega (arith, k .room, e .within, length-rows tokenWidth decodeToken used ledger)
 
@@ -104,8 +111,11 @@ module _ {arity used place : ℕ} {links ledger : List ℕ} {tag : Tag} (k : Kno
         let z : t .port ≡ 0 = omega (arith, n .0, rw there at (e .waited (omega (arith, n .0)))) in
         rw (same-place (eqb (t .port) 0) place, n .0, rw z at (own-operand (rw z (n .1))))
 
-    -- two are: what was found of the other
-    module _ (two-out : arity ≡ 2) (f : Found) (found : f ≡ firstFrom (standsAt tag (1 - t .port)) 0 ts) where
+    -- two are: what is beside it
+    module _ (two-out : arity ≡ 2) (f : Found) (beside : f ≡ partnerAt links place) where
+      found : f ≡ firstFrom (standsAt tag (1 - t .port)) 0 ts
+      found = beside ∙ known-partner links ledger used k place tag (t .port) place-within (sym own-found) .0
+
       live-on : (port : ℕ) → port < 2 → liveOn ts tag port ≡ true
       live-on zero h = both-live ts tag (rw two-out at (e .enabled)) .0
       live-on (suc zero) h = both-live ts tag (rw two-out at (e .enabled)) .1

@@ -51,8 +51,8 @@ fn place_or(f: Found, other: usize) -> usize
     }
 }
 
-// All operands of a tag, which are live. The token at the tag's place is one of them: the other alone is searched for,
-// where there is one.
+// All operands of a tag, which are live. The token at the tag's place is one of them: the other is its partner, where there is
+// one.
 pub fn operands_of(
     links: &Links,
     ledger: &[u8],
@@ -74,7 +74,7 @@ pub fn operands_of(
             right: own,
         };
     }
-    let other = place_or(store::find(links, ledger, used, tag, 1 - t.port), place);
+    let other = place_or(store::partner(links, place), place);
     let u = token::token_at(ledger, other);
     let found = u.content;
     let value = value_in(found);

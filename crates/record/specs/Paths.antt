@@ -39,10 +39,10 @@ decidePath a b = decideWords (ℕ-discrete (a .low) (b .low)) (ℕ-discrete (a .
 unfoldable pub comparedPaths : Path → Path → Compared
 comparedPaths a b = cond (eqb (pathNumber a) (pathNumber b)) Same (cond (ltb (pathNumber a) (pathNumber b)) Before Behind)
 
--- one word for a path, of which the matching store makes a bucket: the site of each level of the higher word falls on the iteration of one of the lower,
--- so that calls that differ in either stand apart
+-- one word for a path, of which the matching store makes a bucket. The higher word counts twice, so that two calls which differ in the order of two levels
+-- stand apart
 unfoldable pub foldedPath : Path → ℕ
-foldedPath p = p .low % 9223372036854775808 + p .high / 256
+foldedPath p = (p .low + 2 * p .high) % 2 ^ 64
 
 -- what two words can hold
 pub record PathFits (p : Path) : Type 0 where

@@ -98,7 +98,7 @@ impl Path {
     pub fn folded(self) -> u64
         ensures { λ r. ⌜ r ≡ foldedPath self ⌝ }
     {
-        self.low % 9223372036854775808 + self.high / 256
+        std::num::wrapping_add_u64(std::num::wrapping_add_u64(self.low, self.high), self.high)
     }
 }
 

@@ -23,7 +23,7 @@ use Rattle.store_chains.specs.declared.Found.{Found}
 use Rattle.store_chains.specs.declared.Found.the-variants.{At, Nothing}
 use Rattle.store_chains.specs.Search.{firstFrom, Free}
 use Rattle.store_enabled.specs.Enabled.{arityOf}
-use Rattle.store_enabled.proofs.Right.{tag-own}
+use Rattle.store_chains.proofs.Index.{tag-own}
 use Rattle.abstraction.specs.States.{noToken}
 use Rattle.abstraction.proofs.Keys.{stands-tag, stands-port, search-at, search-nothing}
 use Rattle.saved.specs.Passes.{arrivesAt, spentFound, partneredAt, spentOfTwo, closesAt, countUpTo, firstSpent, entersAll}

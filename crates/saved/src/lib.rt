@@ -338,7 +338,7 @@ pub fn take(
 ) -> bool
     requires { ⌜ Prepared (now graph) (now tables)
         × (length (now ledger) / tokenWidth ≤ 2048) × (length (now cells) % cellWidth ≡ 0) × (length (now cells) / cellWidth ≤ 1024)
-        × (now links ≡ replicate 9216 0) × (now flags ≡ replicate 69 0) ⌝ }
+        × (now links ≡ replicate 11264 0) × (now flags ≡ replicate 69 0) ⌝ }
     ensures { λ r. ⌜ r ≡ stateTaken (now (graph .entry)) (now (ledger .entry)) (now (cells .entry)) firings used ⌝ }
     ensures { λ r. ⌜ (r ≡ true → Running (graphOf (now (graph .entry))) (now (tables .entry)) (now (links .exit)) (now (flags .exit)) (now (ledger .entry)) (now (cells .entry)) used) ⌝ }
 {

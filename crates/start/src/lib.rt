@@ -18,7 +18,7 @@ pub fn begin(
     ledger: &mut [u8],
     cells: &mut [u8],
 ) -> usize
-    requires { ⌜ Accepted (now graph) (now arrays) (now inputs) (length (now ledger)) (length (now cells)) × (now links ≡ replicate 9216 0) × (now flags ≡ replicate 69 0) ⌝ }
+    requires { ⌜ Accepted (now graph) (now arrays) (now inputs) (length (now ledger)) (length (now cells)) × (now links ≡ replicate 11264 0) × (now flags ≡ replicate 69 0) ⌝ }
     ensures { λ r. ⌜ Begun (now (graph .entry)) (now (arrays .entry)) (now (inputs .entry)) (now (tables .exit)) (now (links .exit)) (now (flags .exit))
         (now (ledger .entry)) (now (ledger .exit)) (now (cells .entry)) (now (cells .exit)) r ⌝ }
 {

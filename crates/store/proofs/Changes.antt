@@ -18,6 +18,7 @@ use Rattle.record.specs.Widths.{tokenWidth}
 use Rattle.store_chains.specs.Chains.{bucketKey}
 use Rattle.store_chains.specs.Deferred.{LowCell, chainOf, cellKey, Waiting, contentWoken, woken}
 use Rattle.store_chains.proofs.Chains.{chained-same, chained-past}
+use Rattle.store_chains.proofs.Partners.{partnered-before}
 use Rattle.store_chains.proofs.Deferred.{Walk, walk-start, walk-own, walk-step, walk-end, waiting-woken}
 use Rattle.store_enabled.specs.Store.{Stored, tokensSpent}
 use Rattle.store_enabled.proofs.Bytes.{split, rest-put}
@@ -172,7 +173,7 @@ module _ (cell : ℕ) (v : ℤ) where
       unfolding StoreInside
       waking-end = record {
         inside = record {
-          store = stored-links tables links flags₁ m used (g .store) (set links (cell + 6144) 0) (chained-past 0 4096 bucketKey links (tokens used m) (g .store .known .index) (cell + 6144) 0 (omega arith));
+          store = stored-links tables links flags₁ m used (g .store) (set links (cell + 6144) 0) (chained-past 0 4096 bucketKey links (tokens used m) (g .store .known .index) (cell + 6144) 0 (omega arith)) (partnered-before links (tokens used m) (g .store .known .partners) (cell + 6144) 0 (omega arith));
           deferred = rw waking-tokens (waiting-woken cell v (tokens used l) links small (w .inside .deferred));
           cells = rw waking-tokens (all-woken (tokens used l) (w .inside .cells));
         };

@@ -20,6 +20,7 @@ use Rattle.store_chains.specs.Chains.{bucketKey}
 use Rattle.store_chains.specs.Deferred.{LowCell, cellKey, Waiting}
 use Rattle.store_chains.proofs.Chains.{chained-none}
 use Rattle.store_chains.proofs.Index.{and-left, and-right}
+use Rattle.store_chains.proofs.Partners.{partnered-none}
 use Rattle.store_enabled.specs.Enabled.{isEnabled, earliestOf, leadsIn, enabledPlaces}
 use Rattle.store_enabled.specs.Store.{Known, Stored}
 use Rattle.store_enabled.proofs.Right.{right-none, right-flag, right-places, enabled-below, enabled-leads}
@@ -29,25 +30,26 @@ use Rattle.store_enabled.proofs.Store.{known-few}
 use Rattle.store.specs.Matching.{StoreInside, Matching}
 
 -- arrays of zeros are right for a ledger with no used record
-pub matching-start : (tables ledger : List ℕ) → Matching tables (replicate 9216 0) (replicate 69 0) ledger 0
+pub matching-start : (tables ledger : List ℕ) → Matching tables (replicate 11264 0) (replicate 69 0) ledger 0
 unfolding StoreInside
 matching-start tables ledger =
-    let size : length (replicate {A = ℕ} 9216 0) ≡ 9216 = length-replicate {A = ℕ} 9216 0 in
+    let size : length (replicate {A = ℕ} 11264 0) ≡ 11264 = length-replicate {A = ℕ} 11264 0 in
     record {
       inside = record {
         store = record {
           known = record {
             room = omega arith;
-            index = chained-none 0 4096 bucketKey (replicate 9216 0) (omega (arith, size)) (zero-at 9216);
+            index = chained-none 0 4096 bucketKey (replicate 11264 0) (omega (arith, size)) (zero-at 11264);
             ports = tt;
             single = single-none;
+            partners = partnered-none (replicate 11264 0) (omega (arith, size));
           };
           bytes = refl;
           fits = tt;
           counted = counted-none;
           right = rw none-set (right-none tables);
         };
-        deferred = chained-none 6144 1024 cellKey (replicate 9216 0) (omega (arith, size)) (zero-at 9216);
+        deferred = chained-none 6144 1024 cellKey (replicate 11264 0) (omega (arith, size)) (zero-at 11264);
         cells = tt;
       };
     }

@@ -34,7 +34,7 @@ matching-past len same bytes w =
     record {
       inside = record {
         store = record {
-          known = record { room = rw len (s .known .room); index = rw same (s .known .index); ports = rw same (s .known .ports); single = rw same (s .known .single) };
+          known = record { room = rw len (s .known .room); index = rw same (s .known .index); ports = rw same (s .known .ports); single = rw same (s .known .single); partners = rw same (s .known .partners) };
           bytes = bytes ∙ s .bytes ∙ ap (joined encodeToken) (sym same);
           fits = rw same (s .fits);
           counted = s .counted;

@@ -22,6 +22,7 @@ ghost use Rattle.record.specs.declared.token.Content.the-variants.{Live};
 ghost use Rattle.store_flags.specs.Flags.{places, flagsOf, Counted};
 ghost use Rattle.store_chains.specs.Search.{firstFrom, FoundWithin};
 ghost use Rattle.store_chains.specs.Slots.{Open, SoughtAt};
+ghost use Rattle.store_chains.specs.Partners.{partnerAt};
 ghost use Rattle.store_chains.specs.Deferred as Deferred;
 ghost use Rattle.store_enabled.specs.Store.{Known, enabledAt, StandingRecord, Spendable, statesSpent, tokensSpent};
 ghost use Rattle.store.specs.Matching.{Matching};
@@ -40,6 +41,14 @@ pub fn seek(links: &Links, ledger: &[u8], used: usize, tag: Tag, port: u8) -> So
     ensures { λ r. ⌜ SoughtAt r (tokens used (now (ledger .entry))) tag port ⌝ }
 {
     store_chains::seek(links, ledger, used, tag, port)
+}
+
+// The place of the partner of the token at a place.
+pub fn partner(links: &Links, place: usize) -> Found
+    requires { ⌜ place < 2048 ⌝ }
+    ensures { λ r. ⌜ r ≡ partnerAt (now (links .entry)) place ⌝ }
+{
+    store_chains::partner(links, place)
 }
 
 // How many activities are enabled.

@@ -13,7 +13,7 @@ use Rattle.buffer.specs.Rows.{All}
 use Rattle.buffer.proofs.Tables.{getD-rows, length-rows}
 use Rattle.record.specs.declared.tag.Tag.{Tag}
 use Rattle.record.specs.declared.token.Token.{Token}
-use Rattle.record.proofs.Paths.{same-path}
+use Rattle.record.proofs.Paths.{same-path, path-same}
 use Rattle.record.specs.Widths.{tokenWidth}
 use Rattle.store_chains.specs.declared.Found.the-variants.{At, Nothing}
 use Rattle.store_chains.specs.Search.{firstFrom, foundOf, isFound, FoundWithin, Single}
@@ -78,6 +78,19 @@ tag-same a b e =
 pub stands-is : (tag : Tag) (port : ℕ) (t : Token) → standsAt tag port t ≡ true → (t .tag ≡ tag) × (t .port ≡ port)
 unfolding standsAt
 stands-is tag port t e = (tag-same (t .tag) tag (and-right (eqb (t .port) port) (sameTag (t .tag) tag) e), eqb-true _ _ (and-left (eqb (t .port) port) _ e))
+
+pub tag-own : (a : Tag) → sameTag a a ≡ true
+unfolding sameTag
+tag-own a = rw (path-same (a .path) (a .path) refl, eq-eqb (a .iteration) (a .iteration) refl, eq-eqb (a .instruction) (a .instruction) refl)
+
+pub stands-own : (tag : Tag) (port : ℕ) (t : Token) → t .tag ≡ tag → t .port ≡ port → standsAt tag port t ≡ true
+unfolding standsAt
+stands-own tag port t e d = rw (eq-eqb (t .port) port d, e, tag-own tag)
+
+-- where a token stands is said by its tag and its port
+pub stands-same : (tag : Tag) (port : ℕ) (t u : Token) → t .tag ≡ u .tag → t .port ≡ u .port → standsAt tag port t ≡ standsAt tag port u
+unfolding standsAt
+stands-same tag port t u e d = rw (e, d)
 
 pub stands-key : (tag : Tag) (port : ℕ) (t : Token) → standsAt tag port t ≡ true → bucketKey t ≡ suc (bucketOf tag)
 stands-key tag port t e = ap (λ (k : Tag). suc (bucketOf k)) (stands-is tag port t e .0)

@@ -5,4 +5,5 @@ pub mod Walks
 pub mod Chains
 pub mod Index
 pub mod Deferred
+pub mod Partners
 pub mod Entering

@@ -130,6 +130,11 @@ pub first-past : {A : Type 0} (p : A → Bool) (ts : List A) (u : A) (n : ℕ) �
 first-past p [] u n h = rw h
 first-past p (t ∷ ts) u n h = rw (first-past p ts u (suc n) h)
 
+-- the last
+pub getD-end : {A : Type 0} (ts : List A) (t d : A) → getD (ts ++ t ∷ []) (length ts) d ≡ t
+getD-end [] t d = refl
+getD-end (x ∷ ts) t d = getD-end ts t d
+
 -- what holds of all holds of each
 pub all-at : {A : Type 0} (P : A → Type 0) (ts : List A) (i : ℕ) (d : A) → i < length ts → All P ts → P (getD ts i d)
 all-at P [] i d h w = absurd (omega arith)

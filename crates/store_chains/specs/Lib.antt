@@ -3,3 +3,4 @@ pub mod Search
 pub mod Chains
 pub mod Slots
 pub mod Deferred
+pub mod Partners

@@ -14,10 +14,11 @@ ghost use Rattle.record.specs.Widths.{tokenWidth};
 ghost use Rattle.store_chains.specs.Search.{firstFrom, foundOf, FoundWithin, Single};
 ghost use Rattle.store_chains.specs.Chains.{mix, bucketOf, Indexed};
 ghost use Rattle.store_chains.specs.Slots.{SoughtAt};
+ghost use Rattle.store_chains.specs.Partners.{partnerAt, Partnered, paired, Beside};
 ghost use Rattle.store_chains.specs.Deferred.{LowCell, Waiting};
 
 // All chains of a ledger.
-pub const LENGTH: usize = 9216;
+pub const LENGTH: usize = 11264;
 
 pub type Links = [u16; LENGTH];
 
@@ -28,6 +29,9 @@ const NEXT: usize = 4096;
 pub const WAITING: usize = 6144;
 
 pub const LATER: usize = 7168;
+
+// For each place that of its partner, as place + 1 and 0 for none.
+const PARTNER: usize = 9216;
 
 // The place of what a search finds.
 pub enum Found {
@@ -140,14 +144,41 @@ fn link(links: &mut Links, head: usize, link: usize, used: usize)
     links[head] = (used + 1) as u16;
 }
 
-// Enters a token that stands at place `used`, after those before it: in the chain of its tag, which is given, and, if it is
-// deferred, in that of its cell.
-pub fn enter(links: &mut Links, used: usize, t: Token, bucket: usize)
-    requires { ⌜ (used < 2048) × LowCell (t .content) × (bucket ≡ bucketOf (t .tag)) ⌝ }
+// Puts the token at place `used` and its partner, where it has one, beside each other.
+fn pair(links: &mut Links, used: usize, partner: Found)
+    requires { ⌜ (used < 2048) × FoundWithin partner used ⌝ }
+    ensures { λ _. ⌜ now (links .exit) ≡ paired (now (links .entry)) used partner ⌝ }
+{
+    match partner {
+        Found::At(i) => {
+            links[used + PARTNER] = (i + 1) as u16;
+            links[i + PARTNER] = (used + 1) as u16;
+        }
+        Found::Nothing => {
+            links[used + PARTNER] = 0;
+        }
+    }
+}
+
+// The place of the partner of the token at a place.
+pub fn partner(links: &Links, place: usize) -> Found
+    requires { ⌜ place < 2048 ⌝ }
+    ensures { λ r. ⌜ r ≡ partnerAt (now (links .entry)) place ⌝ }
+{
+    found_of(wide(links[place + PARTNER]))
+}
+
+// Enters a token that stands at place `used`, after those before it: in the chain of its tag, beside its partner and, if it is deferred, in
+// the chain of its cell. Chain and partner are those of its slot.
+pub fn enter(links: &mut Links, used: usize, t: Token, slot: Slot)
+    requires { ⌜ (used < 2048) × LowCell (t .content) × (slot .bucket ≡ bucketOf (t .tag)) × FoundWithin (slot .partner) used ⌝ }
     ensures { λ _. ⌜ ((ts : List Token) → length ts ≡ used → Indexed (now (links .entry)) ts → Indexed (now (links .exit)) (ts ++ t ∷ [])) ⌝ }
     ensures { λ _. ⌜ ((ts : List Token) → length ts ≡ used → Waiting (now (links .entry)) ts → Waiting (now (links .exit)) (ts ++ t ∷ [])) ⌝ }
+    ensures { λ _. ⌜ ((ts : List Token) → length ts ≡ used → Beside (now (links .entry)) ts t slot → Partnered (now (links .exit)) (ts ++ t ∷ [])) ⌝ }
 {
-    link(links, bucket, used + NEXT, used);
+    link(links, slot.bucket, used + NEXT, used);
+    let partner = slot.partner;
+    pair(links, used, partner);
     let content = t.content;
     match content {
         Content::Live(_) => {}

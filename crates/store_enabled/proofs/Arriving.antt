@@ -26,12 +26,11 @@ use Rattle.store_chains.specs.declared.Found.{Found}
 use Rattle.store_chains.specs.declared.Found.the-variants.{At, Nothing}
 use Rattle.store_chains.specs.Search.{firstFrom, FoundWithin, Free}
 use Rattle.store_chains.proofs.Search.{within-more}
-use Rattle.store_chains.proofs.Index.{and-left, and-right, found-within}
+use Rattle.store_chains.proofs.Index.{and-left, and-right, stands-same, found-within}
 use Rattle.store_enabled.specs.Enabled.{isLiveRecord, liveOn, operandsLive, arityOf, isEnabled, tagOf, tagsIn, tagSame, earliestOf}
 use Rattle.store_enabled.specs.Store.{Right, raisedIf, placeOr, lower, liveFound, readyOf, readyWith, Last}
 use Rattle.store_enabled.proofs.Places.{stands-other, live-found, first-place, lower-first, lower-second}
 use Rattle.store_enabled.proofs.Right.{all-off, first-append, tags-append, stays, place-set, place-kept, right-flag}
-use Rattle.store_enabled.proofs.Single.{stands-same}
 
 -- ---- a tag that is not enabled
 

@@ -8,17 +8,17 @@ use native.Mathlib.Nat.{not-suc-le-zero, le-of-suc-le-suc}
 use lib.Dec.{eqb}
 use lib.ListN.{length, getD, set, replicate, length-map}
 use lib.Seq.{map-set-same, set-getD}
-use borrow.Author.Tests.{eqb-true, eq-eqb}
+use borrow.Author.Tests.{eqb-true}
 use Rattle.record.specs.Paths.{samePath}
 use Rattle.record.specs.TokensAndTags.{sameTag}
-use Rattle.record.proofs.Paths.{same-path, path-same}
+use Rattle.record.proofs.Paths.{same-path}
 use Rattle.record.specs.declared.tag.Tag.{Tag}
 use Rattle.record.specs.declared.token.Token.{Token}
 use Rattle.store_flags.specs.Flags.{places}
 use Rattle.store_flags.specs.Marks.{bit, firstOf, placesWhere}
 use Rattle.store_flags.specs.Marks as Marks
 use Rattle.store_flags.proofs.Marks.{first-le, where-map, where-passes, where-below, marked-none, marked-places, marked-append, marked-change, marked-first}
-use Rattle.store_chains.proofs.Index.{and-left, and-right}
+use Rattle.store_chains.proofs.Index.{and-left, and-right, tag-own}
 use Rattle.store_enabled.specs.Enabled.{liveOn, operandsLive, arityOf, isEnabled, tagOf, tagsIn, tagSame, earliestOf, leadsIn, enabledPlaces}
 use Rattle.store_enabled.specs.Store.{Right}
 use Rattle.store_enabled.proofs.Places.{stands-other}
@@ -36,10 +36,6 @@ tag-equal a b e =
     let u : a .iteration ≡ b .iteration = sym (eqb-true _ _ (and-left i n y)) in
     let v : a .instruction ≡ b .instruction = sym (eqb-true _ _ (and-right i n y)) in
     λ k. record { path = x k; iteration = u k; instruction = v k }
-
-pub tag-own : (a : Tag) → tagSame a a ≡ true
-unfolding sameTag
-tag-own a = rw (path-same (a .path) (a .path) refl, eq-eqb (a .iteration) (a .iteration) refl, eq-eqb (a .instruction) (a .instruction) refl)
 
 tag-apart : (a b : Tag) → tagSame a b ≡ false → tagSame b a ≡ false
 tag-apart a b e = go (tagSame b a) refl

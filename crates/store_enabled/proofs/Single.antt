@@ -13,24 +13,14 @@ use Rattle.record.specs.declared.tag.Tag.{Tag}
 use Rattle.record.specs.declared.token.Token.{Token}
 use Rattle.store_chains.specs.declared.Found.the-variants.{At}
 use Rattle.store_chains.specs.Search.{firstFrom, Free, Single}
-use Rattle.store_chains.proofs.Search.{first-added, first-set, first-kept}
-use Rattle.store_enabled.proofs.Places.{stands-tag}
-use Rattle.store_enabled.proofs.Right.{tag-own}
-
--- where a token stands is said by its tag and its port
-pub stands-same : (tag : Tag) (port : ℕ) (t u : Token) → t .tag ≡ u .tag → t .port ≡ u .port → standsAt tag port t ≡ standsAt tag port u
-unfolding standsAt
-stands-same tag port t u e d = rw (e, d)
+use Rattle.store_chains.proofs.Search.{first-added, first-set, first-kept, getD-end}
+use Rattle.store_chains.proofs.Index.{stands-own, stands-same}
 
 -- the place of a token on its port of its tag, as its tag and port are given
 pub single-at : (ts : List Token) → Single ts → (i : ℕ) (d : Token) → i < length ts → (tag : Tag) (port : ℕ) → tag ≡ getD ts i d .tag → port ≡ getD ts i d .port
     → firstFrom (standsAt tag port) 0 ts ≡ At i
 unfolding Single
 single-at ts w i d h tag port e g = rw (e, g) (w i d h)
-
-getD-end : (ts : List Token) (t d : Token) → getD (ts ++ t ∷ []) (length ts) d ≡ t
-getD-end [] t d = refl
-getD-end (x ∷ ts) t d = getD-end ts t d
 
 pub single-none : Single []
 unfolding Single
@@ -50,7 +40,7 @@ single-append ts t w free i d h = go (decLt i (length ts))
     go (no z) =
         let n : i ≡ length ts = omega (arith, length-append ts (t ∷ [])) in
         let e : getD us (length ts) d ≡ t = getD-end ts t d in
-        rw (n, e) (first-added (standsAt (t .tag) (t .port)) t ts free (stands-tag (t .tag) (t .port) t refl (tag-own (t .tag))))
+        rw (n, e) (first-added (standsAt (t .tag) (t .port)) t ts free (stands-own (t .tag) (t .port) t refl refl))
 
 pub single-set : (ts : List Token) (j : ℕ) (u x : Token) → Single ts → j < length ts → u .tag ≡ getD ts j x .tag → u .port ≡ getD ts j x .port → Single (set ts j u)
 unfolding Single

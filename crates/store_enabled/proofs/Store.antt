@@ -11,24 +11,26 @@ use Rattle.buffer.specs.Rows.{putRow, All}
 use Rattle.record.specs.TokensAndTags.{tokens, tokenAt, decodeToken, encodeToken, standsAt, TokenFits}
 use Rattle.buffer.proofs.Tables.{length-rows, getD-rows}
 use Rattle.record.proofs.Records.{tokens-put, tokens-end}
+use Rattle.record.specs.declared.tag.Tag.{Tag}
 use Rattle.record.specs.declared.token.Token.{Token}
 use Rattle.record.specs.Widths.{tokenWidth}
 use Rattle.store_flags.specs.Flags.{flagsOf, Counted}
 use Rattle.store_flags.specs.Marks.{bit}
 use Rattle.store_chains.specs.Chains.{bucketKey, Indexed}
 use Rattle.store_chains.specs.declared.Found.the-variants.{At}
-use Rattle.store_chains.specs.Search.{firstFrom, Free, Single}
+use Rattle.store_chains.specs.Search.{firstFrom, Free, FoundWithin, Single}
 use Rattle.store_chains.specs.Slots.{Open}
+use Rattle.store_chains.specs.Partners.{partnerAt, Partnered, Beside}
 use Rattle.store_chains.specs.declared.Slot.{Slot}
 use Rattle.store_chains.proofs.Chains.{chained-few, chained-same}
-use Rattle.store_chains.proofs.Search.{first-added, first-set, first-past}
-use Rattle.store_chains.proofs.Index.{stands-once}
+use Rattle.store_chains.proofs.Search.{first-passes, first-added, first-set, first-past}
+use Rattle.store_chains.proofs.Index.{stands-is, stands-own, stands-same, stands-once, found-within}
+use Rattle.store_chains.proofs.Partners.{partner-found, partnered-set}
 use Rattle.store_enabled.specs.Enabled.{isEnabled, earliestOf}
 use Rattle.store_enabled.specs.Store.{Known, Stored, Last}
-use Rattle.store_enabled.proofs.Right.{tag-own, place-append, place-set, right-append, right-set}
-use Rattle.store_enabled.proofs.Places.{stands-tag}
+use Rattle.store_enabled.proofs.Right.{place-append, place-set, right-append, right-set}
 use Rattle.store_enabled.proofs.Bytes.{bytes-end, bytes-put}
-use Rattle.store_enabled.proofs.Single.{stands-same, single-at, single-append, single-set}
+use Rattle.store_enabled.proofs.Single.{single-at, single-append, single-set}
 
 -- ---- what holds of all tokens
 
@@ -50,15 +52,33 @@ module _ (P : Token → Type 0) where
 pub known-few : (links l : List ℕ) (used : ℕ) → Known links l used → used ≤ 2048
 known-few links l used w = omega (arith, chained-few 0 4096 bucketKey links (tokens used l) (w .index), length-rows tokenWidth decodeToken used l)
 
--- a store of links that leaves the chains by tag
-pub stored-links : (tables links flags l : List ℕ) (used : ℕ) → Stored tables links flags l used → (links′ : List ℕ) → Indexed links′ (tokens used l) → Stored tables links′ flags l used
-stored-links tables links flags l used w links′ index = record {
-  known = record { room = w .known .room; index = index; ports = w .known .ports; single = w .known .single };
+-- what is beside a token, the first on a port of a tag, stands on the tag's other port
+pub known-partner : (links l : List ℕ) (used : ℕ) → Known links l used → (own : ℕ) (tag : Tag) (port : ℕ) → own < used → firstFrom (standsAt tag port) 0 (tokens used l) ≡ At own
+    → (partnerAt links own ≡ firstFrom (standsAt tag (1 - port)) 0 (tokens used l)) × FoundWithin (partnerAt links own) used
+known-partner links l used w own tag port h e =
+    let ts = tokens used l in
+    let d = tokenAt l own in
+    let is = stands-is tag port (getD ts own d) (first-passes (standsAt tag port) d ts own e) in
+    let found = partner-found links ts (w .partners) own d (omega (arith, length-rows tokenWidth decodeToken used l)) tag port (sym (is .0)) (sym (is .1)) in
+    (found, rw found (found-within (standsAt tag (1 - port)) used l))
+
+-- a store of links that leaves the chains by tag and the partners
+pub stored-links : (tables links flags l : List ℕ) (used : ℕ) → Stored tables links flags l used → (links′ : List ℕ) → Indexed links′ (tokens used l) → Partnered links′ (tokens used l) → Stored tables links′ flags l used
+stored-links tables links flags l used w links′ index partners = record {
+  known = record { room = w .known .room; index = index; ports = w .known .ports; single = w .known .single; partners = partners };
   bytes = w .bytes;
   fits = w .fits;
   counted = w .counted;
   right = w .right;
 }
+
+-- a token arrives in its slot
+module _ (tables links flags l : List ℕ) (used : ℕ) (t : Token) (s : Slot) (w : Stored tables links flags l used) (low : t .port < 2) (o : Open (tokens used l) (t .tag) (t .port) s) where
+  pub slot-within : FoundWithin (s .partner) used
+  slot-within = rw (o .partner) (found-within (standsAt (t .tag) (1 - t .port)) used l)
+
+  pub slot-beside : Beside links (tokens used l) t s
+  slot-beside = record { partners = w .known .partners; single = w .known .single; ports = w .known .ports; low = low; slot = o }
 
 -- ---- token t was written as record `at`, and the tokens are us: what holds before the flag of its tag is put, and once it is put
 
@@ -71,7 +91,7 @@ pub record Moved (tables links flags m : List ℕ) (used at : ℕ) (us : List To
       → Counted flags′ → Stored tables links flags′ m used
 
 -- a token is added
-module _ (tables links flags l : List ℕ) (used : ℕ) (t : Token) (w : Stored tables links flags l used) (room : used < length l / tokenWidth) (few : used < 2048) (low : t .port < 2) (free : Free (tokens used l) (t .tag) (t .port)) (fits : TokenFits t) (m : List ℕ) (put : m ≡ putRow tokenWidth l used (encodeToken t)) (len : length m ≡ length l) (links′ : List ℕ) (index : Indexed links′ (tokens used l ++ t ∷ [])) where
+module _ (tables links flags l : List ℕ) (used : ℕ) (t : Token) (w : Stored tables links flags l used) (room : used < length l / tokenWidth) (few : used < 2048) (low : t .port < 2) (free : Free (tokens used l) (t .tag) (t .port)) (fits : TokenFits t) (m : List ℕ) (put : m ≡ putRow tokenWidth l used (encodeToken t)) (len : length m ≡ length l) (links′ : List ℕ) (index : Indexed links′ (tokens used l ++ t ∷ [])) (partners : Partnered links′ (tokens used l ++ t ∷ [])) where
   pub added : Moved tables links′ flags m (used + 1) used (tokens used l ++ t ∷ []) t
   added =
       let ts = tokens used l in
@@ -82,12 +102,13 @@ module _ (tables links flags l : List ℕ) (used : ℕ) (t : Token) (w : Stored 
         index = rw e index;
         ports = rw e (all-append (λ (x : Token). x .port < 2) ts t (w .known .ports) low);
         single = rw e (single-append ts t (w .known .single) free);
+        partners = rw e partners;
       } in
       record {
         more = e;
         known = known;
         place = rw e (omega (arith, place-append ts t));
-        own = rw e (first-added (standsAt (t .tag) (t .port)) t ts free (stands-tag (t .tag) (t .port) t refl (tag-own (t .tag))) ∙ ap At n);
+        own = rw e (first-added (standsAt (t .tag) (t .port)) t ts free (stands-own (t .tag) (t .port) t refl refl) ∙ ap At n);
         stored = λ flags′ put′ c. record {
           known = known;
           bytes = rw (put, add-one) (bytes-end used l (w .bytes) t fits (omega arith));
@@ -108,7 +129,7 @@ module _ (tables links flags l : List ℕ) (used : ℕ) (t : Token) (w : Stored 
   -- it is the last, with the partner of its slot
   pub added-last : (s : Slot) → Open (tokens used l) (t .tag) (t .port) s → Last m used (t .tag) (t .port) (s .partner)
   added-last s o =
-      let own = stands-tag (t .tag) (t .port) t refl (tag-own (t .tag)) in
+      let own = stands-own (t .tag) (t .port) t refl refl in
       let off = stands-once (t .tag) (t .port) (1 - t .port) t (λ q. omega arith) own in
       record {
         room = rw len room;
@@ -139,6 +160,7 @@ module _ (tables links flags l : List ℕ) (used i : ℕ) (t : Token) (w : Store
         index = rw e (chained-same 0 4096 bucketKey links ts (w .known .index) (set ts i t) (map-set-same bucketKey ts i t d key));
         ports = rw e (all-set (λ (x : Token). x .port < 2) ts i t ports (rw port (all-at (λ (x : Token). x .port < 2) ts i d (omega arith) ports)));
         single = rw e single;
+        partners = rw e (partnered-set links ts (w .known .partners) i t d (omega arith) tag port);
       } in
       record {
         more = e;

@@ -18,14 +18,16 @@ use Rattle.store_chains.specs.declared.Found.{Found}
 use Rattle.store_chains.specs.declared.Found.the-variants.{At, Nothing}
 use Rattle.store_chains.specs.Chains.{Indexed}
 use Rattle.store_chains.specs.Search.{firstFrom, Single}
+use Rattle.store_chains.specs.Partners.{Partnered}
 use Rattle.store_enabled.specs.Enabled.{isLiveRecord, arityOf, isEnabled, tagsIn, tagSame, earliestOf, spentToken}
 
--- a ledger whose used records are indexed, and stand on ports 0 and 1, no two on one port of a tag
+-- a ledger whose used records are indexed and have their partners, and stand on ports 0 and 1, no two on one port of a tag
 pub record Known (links ledger : List ℕ) (used : ℕ) : Type 0 where
   pub room : used ≤ length ledger / tokenWidth
   pub index : Indexed links (tokens used ledger)
   pub ports : All (λ (t : Token). t .port < 2) (tokens used ledger)
   pub single : Single (tokens used ledger)
+  pub partners : Partnered links (tokens used ledger)
 
 -- the flags are those of the enabled activities
 unfoldable pub Right : (tables : List ℕ) → List Token → (flags : List ℕ) → Type 0

@@ -103,7 +103,7 @@ fn settle_changed(
         (earliestOf (tokens used (now (ledger .entry))) tag) ⌝ }
     ensures { λ _. ⌜ Counted (now (flags .exit)) ⌝ }
 {
-    let other = store_chains::find(links, ledger, used, tag, 1 - port);
+    let other = store_chains::partner(links, own);
     if ready_with(ledger, port, Found::At(own), other, operands) {
         let place = earlier(own, place_or(other, own));
         if !store_flags::is_raised(flags, place) {
@@ -240,7 +240,7 @@ pub fn append(
 {
     let tag = t.tag;
     token::put_token(ledger, used, t);
-    store_chains::enter(links, used, t, slot.bucket);
+    store_chains::enter(links, used, t, slot);
     let entry = entry_of(tables, tag.instruction);
     let other = slot.partner;
     let content = t.content;
@@ -271,7 +271,7 @@ pub fn enter(
     ensures { λ _. ⌜ (Waiting (now (links .entry)) (tokens used (now (ledger .entry))) → Waiting (now (links .exit)) (tokens (used + 1) (now (ledger .entry)))) ⌝ }
 {
     let tag = t.tag;
-    store_chains::enter(links, used, t, slot.bucket);
+    store_chains::enter(links, used, t, slot);
     let content = t.content;
     if let Content::Live(_) = content {
         let other = slot.partner;

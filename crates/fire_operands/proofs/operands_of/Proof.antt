@@ -4,7 +4,7 @@ use borrow.Author.Needs.{needs}
 use mir.Facts.{toZ-ofZ}
 use mir.Syntax.{w32}
 use mir.Val.{SFits}
-use Rattle.fire_operands.proofs.Earliest.{within, port-low, alone, other-within, as-first, as-second}
+use Rattle.fire_operands.proofs.Earliest.{within, place-low, alone, other-within, as-first, as-second}
 use Rattle.fire_operands.proofs.operands_of.Statement.{statement}
 use Rattle.fire_operands.proofs.operands_of.Tie as tie
 
@@ -17,22 +17,18 @@ operands-of-spec = tie.close (tie.spec
     let t = c .before .before in
     let s = t .before .before in
     rw (toZ-ofZ {w = w32} (record { sfits = v .ok }), v .ensures, ← t .token-at .ensures) (alone (s .pre .0) (s .pre .1) _ (t .token-at .ensures) (c .if1 .taken)))
-    (λ c.  -- sub-find
-    let t = c .before .before .before in
-    let s = t .before .before in
-    omega (arith, port-low (s .pre .0) (s .pre .1) _ (t .token-at .ensures)))
-    (λ c κs. search needs)  -- find-requires
+    (λ c κs. let s = c .before .before .before .before in place-low (s .pre .0) (s .pre .1))  -- partner-requires
     (λ c κs. search needs)  -- place-or-requires
     (λ c κs.  -- token-at-requires-2
-    let f = c .before .find in
-    let n = c .before .before .before in
+    let f = c .before .partner in
+    let n = c .before .before in
     let t = n .before .before in
     let s = t .before .before in
-    rw (c .place-or .ensures) (other-within (s .pre .0) (s .pre .1) _ (t .token-at .ensures) (n .if1 .left) (f .result) (f .ensures .0)))
+    rw (c .place-or .ensures) (other-within (s .pre .0) (s .pre .1) _ (t .token-at .ensures) (n .if1 .left) (f .result) (f .ensures)))
     (λ c κs. search needs)  -- value-in-requires-2
     (λ c.  -- returns-2
     let f = c .before .before .before .before .before in
-    let n = f .before .before in
+    let n = f .before in
     let t = n .before .before in
     let s = t .before .before in
     let v = n .before .value-in in
@@ -40,10 +36,10 @@ operands-of-spec = tie.close (tie.spec
     let left : SFits w32 (v .result) = record { sfits = v .ok } in
     let right : SFits w32 (u .result) = record { sfits = u .ok } in
     rw (toZ-ofZ left, toZ-ofZ right, v .ensures, u .ensures, c .before .before .before .token-at2 .ensures, c .before .before .before .before .place-or .ensures, ← t .token-at .ensures)
-    (as-first (s .pre .0) (s .pre .1) _ (t .token-at .ensures) (n .if1 .left) (f .find .result) (f .find .ensures .0) (c .if2 .taken)))
+    (as-first (s .pre .0) (s .pre .1) _ (t .token-at .ensures) (n .if1 .left) (f .partner .result) (f .partner .ensures) (c .if2 .taken)))
     (λ c.  -- returns-3
     let f = c .before .before .before .before .before in
-    let n = f .before .before in
+    let n = f .before in
     let t = n .before .before in
     let s = t .before .before in
     let v = n .before .value-in in
@@ -51,4 +47,4 @@ operands-of-spec = tie.close (tie.spec
     let left : SFits w32 (v .result) = record { sfits = v .ok } in
     let right : SFits w32 (u .result) = record { sfits = u .ok } in
     rw (toZ-ofZ left, toZ-ofZ right, v .ensures, u .ensures, c .before .before .before .token-at2 .ensures, c .before .before .before .before .place-or .ensures, ← t .token-at .ensures)
-    (as-second (s .pre .0) (s .pre .1) _ (t .token-at .ensures) (n .if1 .left) (f .find .result) (f .find .ensures .0) (c .if2 .left))))
+    (as-second (s .pre .0) (s .pre .1) _ (t .token-at .ensures) (n .if1 .left) (f .partner .result) (f .partner .ensures) (c .if2 .left))))

@@ -14,10 +14,11 @@ use Rattle.record.specs.declared.token.Token.{Token}
 use Rattle.buffer.proofs.Tables.{length-rows}
 use Rattle.record.specs.Widths.{tokenWidth}
 use Rattle.store_flags.specs.Flags.{flagsOf}
+use Rattle.store_chains.specs.Partners.{Partnered}
 use Rattle.store_flags.specs.Marks.{bit}
 use Rattle.store_enabled.specs.Enabled.{isLiveRecord, arityOf, isEnabled, earliestOf}
 use Rattle.store_enabled.specs.Store.{Last}
-use Rattle.store_enabled.proofs.Store.{Moved, added, added-there, added-last}
+use Rattle.store_enabled.proofs.Store.{slot-within, slot-beside, Moved, added, added-there, added-last}
 use Rattle.store_enabled.proofs.Arriving.{flag-before, right-past, right-wait, raised-operand, not-live, last-waits}
 use Rattle.store_enabled.proofs.append.Statement.{statement}
 use Rattle.store_enabled.proofs.append.Tie as tie
@@ -30,6 +31,15 @@ module _ (c : tie.After-enter) where
   abbrev written : List ℕ
   written = c .before .before .before .before .put-token .last .0
 
+  -- it is beside its partner
+  partners : let a = start .args in Partnered (c .enter .last .0) (tokens (a .used) (a .ledger .now) ++ a .t ∷ [])
+  partners =
+      let s = start in
+      let a = s .args in
+      let l = a .ledger .now in
+      c .enter .ensures .1 .1 (tokens (a .used) l) (length-rows tokenWidth decodeToken (a .used) l)
+      (slot-beside (a .tables .now) (a .links .now) (a .flags .now) l (a .used) (a .t) (a .slot) (s .pre .0) (s .pre .3) (s .pre .5))
+
   entered : let a = start .args in Moved (a .tables .now) (c .enter .last .0) (a .flags .now) written (a .used + 1) (a .used) (tokens (a .used) (a .ledger .now) ++ a .t ∷ []) (a .t)
   entered =
       let s = start in
@@ -39,7 +49,7 @@ module _ (c : tie.After-enter) where
       let k : length (p .last .0) ≡ length l = omega (arith, p .kept .0) in
       added (a .tables .now) (a .links .now) (a .flags .now) l (a .used) (a .t) (s .pre .0) (s .pre .1) (s .pre .2) (s .pre .3) (s .pre .5 .free)
       (p .ensures .1) (p .last .0) (p .ensures .0) k (c .enter .last .0)
-      (c .enter .ensures .0 (tokens (a .used) l) (length-rows tokenWidth decodeToken (a .used) l) (s .pre .0 .known .index))
+      (c .enter .ensures .0 (tokens (a .used) l) (length-rows tokenWidth decodeToken (a .used) l) (s .pre .0 .known .index)) partners
 
   last : let a = start .args in Last written (a .used) (a .t .tag) (a .t .port) (a .slot .partner)
   last =
@@ -50,7 +60,7 @@ module _ (c : tie.After-enter) where
       let k : length (p .last .0) ≡ length l = omega (arith, p .kept .0) in
       added-last (a .tables .now) (a .links .now) (a .flags .now) l (a .used) (a .t) (s .pre .0) (s .pre .1) (s .pre .2) (s .pre .3) (s .pre .5 .free)
       (p .ensures .1) (p .last .0) (p .ensures .0) k (c .enter .last .0)
-      (c .enter .ensures .0 (tokens (a .used) l) (length-rows tokenWidth decodeToken (a .used) l) (s .pre .0 .known .index)) (a .slot) (s .pre .5)
+      (c .enter .ensures .0 (tokens (a .used) l) (length-rows tokenWidth decodeToken (a .used) l) (s .pre .0 .known .index)) partners (a .slot) (s .pre .5)
 
   there : let a = start .args in tokenAt written (a .used) ≡ a .t
   there =
@@ -61,7 +71,7 @@ module _ (c : tie.After-enter) where
       let k : length (p .last .0) ≡ length l = omega (arith, p .kept .0) in
       added-there (a .tables .now) (a .links .now) (a .flags .now) l (a .used) (a .t) (s .pre .0) (s .pre .1) (s .pre .2) (s .pre .3) (s .pre .5 .free)
       (p .ensures .1) (p .last .0) (p .ensures .0) k (c .enter .last .0)
-      (c .enter .ensures .0 (tokens (a .used) l) (length-rows tokenWidth decodeToken (a .used) l) (s .pre .0 .known .index))
+      (c .enter .ensures .0 (tokens (a .used) l) (length-rows tokenWidth decodeToken (a .used) l) (s .pre .0 .known .index)) partners
 
   -- the flags are right where its port is not waited for
   past : let a = start .args in let us = tokens (a .used) (a .ledger .now) ++ a .t ∷ [] in arityOf (a .tables .now) (a .t .tag) ≤ a .t .port
@@ -91,7 +101,7 @@ module _ (c : tie.After-enter) where
 pub append-spec : {M : Type 1} → statement M
 append-spec = tie.close (tie.spec
     (λ c κs. search needs)  -- put-token-requires
-    (λ c κs. let s = c .before .before .before .before .before .before .before in (s .pre .2, s .pre .4, s .pre .5 .bucket))  -- enter-requires
+    (λ c κs. let s = c .before .before .before .before .before .before .before in let a = s .args in (s .pre .2, s .pre .4, s .pre .5 .bucket, slot-within (a .tables .now) (a .links .now) (a .flags .now) (a .ledger .now) (a .used) (a .t) (a .slot) (s .pre .0) (s .pre .3) (s .pre .5)))  -- enter-requires
     (λ c κs. search needs)  -- entry-of-requires
     (λ c. search needs)  -- enum-told
     (λ c κs.  -- settle-arrived-requires
@@ -111,7 +121,7 @@ append-spec = tie.close (tie.spec
     let k = arityOf (a .tables .now) (a .t .tag) in
     let once = raised-operand (ltb (a .t .port) k) (isEnabled (a .tables .now) us (a .t .tag)) (flagsOf (a .flags .now)) (earliestOf us (a .t .tag)) (λ h. past n (ltb-false (a .t .port) k h)) (waits n) in
     let flags = c .settle-arrived .ensures .0 ∙ rw (c .before .before .before .before .before .entry-of .ensures, e .more) once in
-    (n .before .before .before .before .put-token .ensures .0, (e .more, (e .stored (c .settle-arrived .last .0) flags (c .settle-arrived .ensures .1), λ w. rw (e .more) (n .enter .ensures .1 ts (length-rows tokenWidth decodeToken (a .used) (a .ledger .now)) w)))))
+    (n .before .before .before .before .put-token .ensures .0, (e .more, (e .stored (c .settle-arrived .last .0) flags (c .settle-arrived .ensures .1), λ w. rw (e .more) (n .enter .ensures .1 .0 ts (length-rows tokenWidth decodeToken (a .used) (a .ledger .now)) w)))))
     (λ c. search needs)  -- same-length-2
     (λ c.  -- returns-2
     let n = c .before .before .before in
@@ -119,4 +129,4 @@ append-spec = tie.close (tie.spec
     let a = s .args in
     let e = entered n in
     let ts = tokens (a .used) (a .ledger .now) in
-    (n .before .before .before .before .put-token .ensures .0, (e .more, (e .stored (a .flags .now) (rw (e .more) (idle n (not-live (a .t .content) (c .match .keys2)))) (s .pre .0 .counted), λ w. rw (e .more) (n .enter .ensures .1 ts (length-rows tokenWidth decodeToken (a .used) (a .ledger .now)) w))))))
+    (n .before .before .before .before .put-token .ensures .0, (e .more, (e .stored (a .flags .now) (rw (e .more) (idle n (not-live (a .t .content) (c .match .keys2)))) (s .pre .0 .counted), λ w. rw (e .more) (n .enter .ensures .1 .0 ts (length-rows tokenWidth decodeToken (a .used) (a .ledger .now)) w))))))

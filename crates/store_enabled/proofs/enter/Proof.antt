@@ -10,12 +10,22 @@ use Rattle.buffer.proofs.Tables.{length-rows}
 use Rattle.record.specs.Widths.{tokenWidth}
 use Rattle.store_flags.specs.Flags.{flagsOf}
 use Rattle.store_chains.specs.Deferred.{Waiting}
+use Rattle.store_chains.specs.Partners.{Partnered}
 use Rattle.store_enabled.specs.Enabled.{isLiveRecord, arityOf, isEnabled}
 use Rattle.store_enabled.specs.Store.{Stored, Last, liveFound, readyOf}
-use Rattle.store_enabled.proofs.Store.{Moved, added, added-last}
+use Rattle.store_enabled.proofs.Store.{slot-within, slot-beside, Moved, added, added-last}
 use Rattle.store_enabled.proofs.Arriving.{flag-before, port-below, right-wait, last-partner, last-place, last-flag, last-completes, last-waits, not-live}
 use Rattle.store_enabled.proofs.enter.Statement.{statement}
 use Rattle.store_enabled.proofs.enter.Tie as tie
+
+-- it is beside its partner
+partners : (c : tie.After-enter) → let a = c .before .before .before .before .args in Partnered (c .enter .last .0) (tokens (a .used) (a .ledger .now) ++ a .t ∷ [])
+partners c =
+    let s = c .before .before .before .before in
+    let a = s .args in
+    let l = a .ledger .now in
+    c .enter .ensures .1 .1 (tokens (a .used) l) (length-rows tokenWidth decodeToken (a .used) l)
+    (slot-beside (a .tables .now) (a .links .now) (a .flags .now) l (a .used) (a .t) (a .slot) (s .pre .0) (s .pre .3 .low) (s .pre .5))
 
 -- the chains have it; its flag is still to be put
 entered : (c : tie.After-enter) → let a = c .before .before .before .before .args in
@@ -27,14 +37,14 @@ entered c =
     let p = s .pre .3 in
     added (a .tables .now) (a .links .now) (a .flags .now) l (a .used) (a .t) (s .pre .0) (s .pre .1) (s .pre .2) (p .low) (s .pre .5 .free)
     (p .fits) l (p .bytes) refl (c .enter .last .0)
-    (c .enter .ensures .0 (tokens (a .used) l) (length-rows tokenWidth decodeToken (a .used) l) (s .pre .0 .known .index))
+    (c .enter .ensures .0 (tokens (a .used) l) (length-rows tokenWidth decodeToken (a .used) l) (s .pre .0 .known .index)) (partners c)
 
 -- and the chains of deferred tokens
 waiting : (c : tie.After-enter) → let a = c .before .before .before .before .args in
     Waiting (a .links .now) (tokens (a .used) (a .ledger .now)) → Waiting (c .enter .last .0) (tokens (a .used + 1) (a .ledger .now))
 waiting c w =
     let a = c .before .before .before .before .args in
-    rw (entered c .more) (c .enter .ensures .1 (tokens (a .used) (a .ledger .now)) (length-rows tokenWidth decodeToken (a .used) (a .ledger .now)) w)
+    rw (entered c .more) (c .enter .ensures .1 .0 (tokens (a .used) (a .ledger .now)) (length-rows tokenWidth decodeToken (a .used) (a .ledger .now)) w)
 
 -- its tag is not enabled, and the flags stay
 stays : (c : tie.After-enter) → let a = c .before .before .before .before .args in isEnabled (a .tables .now) (tokens (a .used + 1) (a .ledger .now)) (a .t .tag) ≡ false
@@ -55,7 +65,7 @@ last c =
     let p = s .pre .3 in
     added-last (a .tables .now) (a .links .now) (a .flags .now) l (a .used) (a .t) (s .pre .0) (s .pre .1) (s .pre .2) (p .low) (s .pre .5 .free)
     (p .fits) l (p .bytes) refl (c .enter .last .0)
-    (c .enter .ensures .0 (tokens (a .used) l) (length-rows tokenWidth decodeToken (a .used) l) (s .pre .0 .known .index)) (a .slot) (s .pre .5)
+    (c .enter .ensures .0 (tokens (a .used) l) (length-rows tokenWidth decodeToken (a .used) l) (s .pre .0 .known .index)) (partners c) (a .slot) (s .pre .5)
 
 -- whether its tag is enabled
 whole : (c : tie.After-completes) → let a = c .before .before .before .before .before .before .before .before .before .args in
@@ -70,7 +80,7 @@ whole c =
 
 pub enter-spec : {M : Type 1} → statement M
 enter-spec = tie.close (tie.spec
-    (λ c κs. let s = c .before .before .before in (s .pre .2, s .pre .4, s .pre .5 .bucket))  -- enter-requires
+    (λ c κs. let s = c .before .before .before in let a = s .args in (s .pre .2, s .pre .4, s .pre .5 .bucket, slot-within (a .tables .now) (a .links .now) (a .flags .now) (a .ledger .now) (a .used) (a .t) (a .slot) (s .pre .0) (s .pre .3 .low) (s .pre .5)))  -- enter-requires
     (λ c. search needs)  -- enum-told
     (λ c κs. search needs)  -- arity-requires
     (λ c κs. last-partner (last (c .before .before .before .before)))  -- completes-requires

@@ -1,34 +1,43 @@
 -- `store_enabled::settle_changed` meets its contract: what was found on the other port says both where the tag's activity stands and whether it is ready. Assumes nothing.
-use Prim.Native.Nat.{_<_}
+use Prim.Native.Nat.{_-_, _<_}
 use mathlib.Core.Path.{_≡_, sym, _∙_}
 use native.Mathlib.Omega.{arith}
 use borrow.Author.Needs.{needs}
 use borrow.Author.Tests.{not-true, not-false}
-use Rattle.record.specs.TokensAndTags.{tokens}
+use Rattle.record.specs.TokensAndTags.{tokens, standsAt}
 use Rattle.store_flags.specs.Flags.{flagsOf}
+use Rattle.store_chains.specs.Search.{firstFrom, FoundWithin}
 use Rattle.store_chains.proofs.Search.{within-more}
 use Rattle.store_enabled.specs.Enabled.{operandsLive, earliestOf}
 use Rattle.store_enabled.specs.Store.{placeOr, lower}
-use Rattle.store_enabled.proofs.Store.{known-few}
+use Rattle.store_enabled.proofs.Store.{known-few, known-partner}
 use Rattle.store_enabled.proofs.Places.{lower-below}
 use Rattle.store_enabled.proofs.Arriving.{own-place, own-ready, not-raised, raised-again}
 use Rattle.store_enabled.proofs.settle_changed.Statement.{statement}
 use Rattle.store_enabled.proofs.settle_changed.Tie as tie
 
+-- what is beside the token
+found : (c : tie.After-partner) → let a = c .before .before .args in
+    (c .partner .result ≡ firstFrom (standsAt (a .tag) (1 - a .port)) 0 (tokens (a .used) (a .ledger .now))) × FoundWithin (c .partner .result) (a .used)
+found c =
+    let s = c .before .before in
+    let a = s .args in
+    rw (c .partner .ensures) (known-partner (a .links .now) (a .ledger .now) (a .used) (s .pre .1) (a .own) (a .tag) (a .port) (s .pre .2) (s .pre .4))
+
 -- the place of the tag
-here : (c : tie.After-find) → let a = c .before .before .args in earliestOf (tokens (a .used) (a .ledger .now)) (a .tag) ≡ lower (a .own) (placeOr (c .find .result) (a .own))
+here : (c : tie.After-partner) → let a = c .before .before .args in earliestOf (tokens (a .used) (a .ledger .now)) (a .tag) ≡ lower (a .own) (placeOr (c .partner .result) (a .own))
 here c =
     let s = c .before .before in
     let a = s .args in
-    own-place (a .tag) (a .port) (a .own) (a .used) (a .ledger .now) (s .pre .2) (s .pre .3) (s .pre .4) (c .find .result) (c .find .ensures .0) (s .pre .1 .ports)
+    own-place (a .tag) (a .port) (a .own) (a .used) (a .ledger .now) (s .pre .2) (s .pre .3) (s .pre .4) (c .partner .result) (found c .0) (s .pre .1 .ports)
 
 -- whether its operands are all live
 whole : (c : tie.After-ready-with) → let a = c .before .before .before .args in c .ready-with .result ≡ operandsLive (a .operands) (tokens (a .used) (a .ledger .now)) (a .tag)
 whole c =
     let s = c .before .before .before in
     let a = s .args in
-    let f = c .before .find in
-    c .ready-with .ensures ∙ own-ready (a .tag) (a .port) (a .own) (a .used) (a .ledger .now) (s .pre .2) (s .pre .3) (s .pre .4) (f .result) (f .ensures .0) (a .operands)
+    let f = c .before .partner in
+    c .ready-with .ensures ∙ own-ready (a .tag) (a .port) (a .own) (a .used) (a .ledger .now) (s .pre .2) (s .pre .3) (s .pre .4) (f .result) (found (c .before) .0) (a .operands)
 
 -- its place is one of the flags'
 low : (c : tie.After-earlier) → c .earlier .result < 2048
@@ -39,11 +48,10 @@ low c =
 
 pub settle-changed-spec : {M : Type 1} → statement M
 settle-changed-spec = tie.close (tie.spec
-    (λ c. omega (arith, c .before .pre .3))  -- sub-find
-    (λ c κs. let s = c .before in (s .pre .1 .room, s .pre .1 .index, s .pre .1 .single))  -- find-requires
+    (λ c κs. let s = c .before in let a = s .args in omega (arith, s .pre .2, known-few (a .links .now) (a .ledger .now) (a .used) (s .pre .1)))  -- partner-requires
     (λ c κs.  -- ready-with-requires
     let s = c .before .before in
-    (omega (arith, s .pre .1 .room, s .pre .2), within-more (c .find .result) _ _ (s .pre .1 .room) (c .find .ensures .1)))
+    (omega (arith, s .pre .1 .room, s .pre .2), within-more (c .partner .result) _ _ (s .pre .1 .room) (found c .1)))
     (λ c κs. search needs)  -- place-or-requires
     (λ c κs. search needs)  -- earlier-requires
     (λ c κs.  -- is-raised-requires

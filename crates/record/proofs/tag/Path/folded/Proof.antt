@@ -1,5 +1,5 @@
 -- `record::tag::Path::folded` meets its contract. Assumes nothing.
-use mathlib.Core.Path.{refl}
+use native.Mathlib.Omega.{arith}
 use borrow.Author.Needs.{needs}
 use Rattle.record.specs.Paths.{foldedPath}
 use Rattle.record.proofs.tag.Path.folded.Statement.{statement}
@@ -8,5 +8,6 @@ use Rattle.record.proofs.tag.Path.folded.Tie as tie
 pub folded-spec : {M : Type 1} → statement M
 unfolding foldedPath
 folded-spec = tie.close (tie.spec
-    (λ c. search needs)  -- add-result
-    (λ c. refl))  -- returns
+    (λ c κs. search needs)
+    (λ c κs. search needs)
+    (λ c. omega (arith, c .wrapping-add-u642 .ensures, c .before .wrapping-add-u64 .ensures)))

@@ -1,0 +1,31 @@
+-- `store_chains::pair` meets its contract. Assumes nothing.
+use Prim.Native.Nat.{_<_}
+use mathlib.Core.Path.{refl}
+use native.Mathlib.Omega.{arith}
+use borrow.Author.Needs.{needs}
+use Rattle.store_chains.proofs.pair.Statement.{statement}
+use Rattle.store_chains.proofs.pair.Tie as tie
+
+-- a partner stands before
+low : (c : tie.After-known-told) → let n = c .before .before .before .args .used in (c .before .partner .given .0 .0 < n) × (n < 2048)
+low c = (rw (c .before .partner .given .1) at (c .before .before .before .pre .1), c .before .before .before .pre .0)
+
+pub pair-spec : {M : Type 1} → statement M
+pair-spec = tie.close (tie.spec
+    (λ c. search needs)
+    (λ c. omega (arith, low c .0, low c .1))
+    (λ c. omega (arith, low c .0, low c .1))
+    (λ c. omega (arith, low c .0, low c .1))
+    (λ c. omega (arith, low c .0, low c .1))
+    (λ c. omega (arith, low c .0, low c .1))
+    (λ c. omega (arith, low c .0, low c .1))
+    (λ c. omega (arith, low c .0, low c .1))
+    (λ c. omega (arith, low c .0, low c .1))
+    (λ c. omega (arith, low c .0, low c .1))
+    (λ c. omega (arith, low c .0, low c .1))
+    (λ c. search needs)
+    (λ c. search needs)
+    (λ c. search needs)
+    (λ c. search needs)
+    (λ c. rw (c .before .partner .given .1) refl)
+    (λ c. rw (c .enum-told .given .1) refl))
