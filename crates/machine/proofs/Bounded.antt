@@ -13,7 +13,7 @@ use native.Mathlib.Nat.{add-zero, zero-add}
 use lib.ListN.{length, getD}
 use Rattle.machine.specs.Machine.{Key, Content, live, Machine, Activity, fired, notFired, Outcome, completed, hung, budgetSpent, refused, onList, when}
 use Rattle.machine.specs.Machine.{Ledger, StateOf, FiredOf, EndOf, sameKey, at, find, look, enabled, fire, Choice, end, ending, runBy}
-use Rattle.machine.specs.Orders.{Lawful, Good, LawfulChoice, InOrder, CompletedEnd, HungEnd, RefusedEnd, QuiescentEnd, ProperContentAt, AllProper}
+use Rattle.machine.specs.Orders.{Lawful, Good, LawfulChoice, InOrder, Completed, Hung, Refused, Quiescent, ProperContentAt, AllProper}
 use Rattle.machine.specs.Sequences.{Fires, NothingEnabled, logOf, Logged, EveryOrder}
 use Rattle.machine.specs.Choosers.{Chosen, takes, ends, Chooser, runFrom, logFrom, byPick}
 use Rattle.machine.specs.Bounded.{Held, withoutHeld, freeOf, byFree, outcomeHeld, settled, runBounded, logBounded}
@@ -233,7 +233,7 @@ module _ (M : Machine) where
   -- ---- as every order
 
   -- one that rests has the outcome of its state
-  restedFree : (held : Held M) (o : Outcome (M .Refusal)) (b n : ℕ) (x : StateOf M) → QuiescentEnd o → SaysFree M held o b n x → o ≡ ending M x
+  restedFree : (held : Held M) (o : Outcome (M .Refusal)) (b n : ℕ) (x : StateOf M) → Quiescent o → SaysFree M held o b n x → o ≡ ending M x
   restedFree held completed b n x q (e, h) = ending-cases M x (λ o. completed ≡ o) (λ k. refl) (λ k. absurd (k h))
   restedFree held hung b n x q (e, h) = ending-cases M x (λ o. hung ≡ o) (λ k. absurd (h k)) (λ k. refl)
   restedFree held budgetSpent b n x q h = absurd q
@@ -257,7 +257,7 @@ module _ (M : Machine) where
           oneTellsAll M law s g f log e (h .logged) rest said d od n (omega (arith, z .0, z .1)) qs
 
       tellsBy : (o : Outcome (M .Refusal)) → e .outcome ≡ o → SaysFree M held o b (length log) (e .state)
-          → CompletedEnd o ⊎ (HungEnd o × ((a : Activity (M .Tag)) → List·Memᴰ a (enabled M (e .state)) → held (e .state) a ≡ false)) → EveryOrder M s f (M .capacity) e
+          → Completed o ⊎ (Hung o × ((a : Activity (M .Tag)) → List·Memᴰ a (enabled M (e .state)) → held (e .state) a ≡ false)) → EveryOrder M s f (M .capacity) e
       tellsBy completed q t k = tells (properRests (e .state) (t .1)) (q ∙ restedFree held completed b (length log) (e .state) tt t)
       tellsBy hung q t (inl k) = absurd k
       tellsBy hung q t (inr k) = tells (noneHeldLeft held (e .state) (t .0) (k .1)) (q ∙ restedFree held hung b (length log) (e .state) tt t)
@@ -267,7 +267,7 @@ module _ (M : Machine) where
       tellsBy (refused r n) q t (inr k) = absurd (k .0)
 
       unrefused : (τs : List (M .Tag)) (x : StateOf M) → Fires M s τs x → NothingEnabled M x
-          → (o : Outcome (M .Refusal)) → SaysFree M held o b (length log) (e .state) → ¬ (RefusedEnd o)
+          → (o : Outcome (M .Refusal)) → SaysFree M held o b (length log) (e .state) → ¬ (Refused o)
       unrefused τs x p none completed t k = k
       unrefused τs x p none hung t k = k
       unrefused τs x p none budgetSpent t k = k

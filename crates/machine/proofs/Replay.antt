@@ -12,7 +12,7 @@ use native.Mathlib.Omega.{arith}
 use lib.ListN.{length}
 use Rattle.machine.specs.Machine.{Machine, Activity, fired, notFired, Outcome, completed, hung, budgetSpent, refused, when, onOption, onList}
 use Rattle.machine.specs.Machine.{StateOf, FiredOf, EndOf, look, allLive, placeOf, enabled, fire, end, after, ending, runBy}
-use Rattle.machine.specs.Orders.{Lawful, QuiescentEnd, RefusedEnd, Says}
+use Rattle.machine.specs.Orders.{Lawful, Quiescent, Refused, Says}
 use Rattle.machine.specs.Sequences.{NothingEnabled, logOf, RanBy}
 use Rattle.machine.specs.Replay.{withTag, namedIn, FoundByTag, LogsAgreeOfMachine, replay, SequenceReplays, RunReplays, ReplayStopped, logEnds, oneEnabled, noneNamed, oneRefused, Replayed, EveryReplay}
 use Rattle.machine.proofs.View.{noneSome}
@@ -154,10 +154,10 @@ module _ (M : Machine) where
         whole = ap (λ (l : List (Option (M .Tag))). replay M notEnabled l f s) (sym (append-nil (map some τs))) ∙ sequenceReplays τs s (e .state) (h .logged .fires) [] f
             ∙ ap (λ (n : ℕ). replay M notEnabled [] n (e .state)) (sym (h .logged .firings))
 
-        atRest : (o : Outcome (M .Refusal)) → QuiescentEnd o → Says M o b (length τs) (e .state) → replay M notEnabled [] (e .firings) (e .state) .outcome ≡ o
+        atRest : (o : Outcome (M .Refusal)) → Quiescent o → Says M o b (length τs) (e .state) → replay M notEnabled [] (e .firings) (e .state) .outcome ≡ o
         atRest o q t = let (p, z) = rested M o b (length τs) (e .state) q t in ap (λ (d : EndOf M). d .outcome) (replayRested (e .firings) (e .state) p) ∙ sym z
 
-        ends : (o : Outcome (M .Refusal)) → Says M o b (length τs) (e .state) → ¬ (RefusedEnd o) → replay M notEnabled [] (e .firings) (e .state) .outcome ≡ o
+        ends : (o : Outcome (M .Refusal)) → Says M o b (length τs) (e .state) → ¬ (Refused o) → replay M notEnabled [] (e .firings) (e .state) .outcome ≡ o
         ends completed t n = atRest completed tt t
         ends hung t n = atRest hung tt t
         ends budgetSpent (k, a, m) n = ap (λ (d : EndOf M). d .outcome) (replaySpent (e .firings) (e .state) a m)

@@ -9,7 +9,7 @@ use native.Mathlib.Omega.{arith}
 use lib.ListN.{length, length-append, length-map}
 use Rattle.machine.specs.Machine.{Machine, Activity, fired, notFired, Outcome, refused, onList}
 use Rattle.machine.specs.Machine.{StateOf, FiredOf, placeOf, enabled, fire, end, ending}
-use Rattle.machine.specs.Orders.{Lawful, Good, InOrder, RefusedEnd}
+use Rattle.machine.specs.Orders.{Lawful, Good, InOrder, Refused}
 use Rattle.machine.specs.Sequences.{Once, Fires, NothingEnabled}
 use Rattle.machine.specs.Steps.{UnspentAfter, StepRecord, firingsIn, EachFires, ProfileOf, unspentIn, activityTags, endsHere, afterStep, firesInTurn, StillEnabled}
 use Rattle.machine.specs.Steps.{profile, ProfileStopped, noneLeft, full, oneRefused, Profiled, EveryProfile, StepsWithin, Unrefused, ProfileEnds, StepsEndToo}
@@ -210,7 +210,7 @@ module _ (M : Machine) where
       pub profileEnds : ProfileEnds M profileFull
       profileEnds s g left f n = go (profile M profileFull left f s) (everyProfile s g left f) n
         where
-          go : (p : ProfileOf M) → Profiled M profileFull s left f p → ¬ (RefusedEnd (p .ended .outcome)) → Unrefused M profileFull s f p
+          go : (p : ProfileOf M) → Profiled M profileFull s left f p → ¬ (Refused (p .ended .outcome)) → Unrefused M profileFull s f p
           go p h n = byStop (h .stopped)
             where
               byStop : ProfileStopped M profileFull left (length (p .records)) (h .cut) (p .ended .state) (p .ended .outcome) → Unrefused M profileFull s f p

@@ -8,7 +8,7 @@ use Prim.Native.Nat.{ℕ, _+_, _≤_, _<_}
 use lib.ListN.{length, getD}
 use Rattle.machine.specs.Machine.{Machine, Activity, notFired, Outcome, completed, hung, budgetSpent, refused, onList}
 use Rattle.machine.specs.Machine.{StateOf, EndOf, enabled, fire, Choice, end, ending, runBy}
-use Rattle.machine.specs.Orders.{Good, LawfulChoice, InOrder, CompletedEnd, HungEnd, RefusedEnd, AllProper}
+use Rattle.machine.specs.Orders.{Good, LawfulChoice, InOrder, Completed, Hung, Refused, AllProper}
 use Rattle.machine.specs.Sequences.{Fires, NothingEnabled, Logged, logOf, EveryOrder}
 use Rattle.machine.specs.Choosers.{takes, ends, Chooser, runFrom, logFrom}
 
@@ -88,7 +88,7 @@ module _ (M : Machine) where
 
   -- "completes, or hangs with no held activity left"
   abbrev pub LeavesNoneHeldOfMachine : Held → EndOf M → Type 0
-  LeavesNoneHeldOfMachine held e = CompletedEnd (e .outcome) ⊎ (HungEnd (e .outcome) × ((a : Activity (M .Tag)) → List·Memᴰ a (enabled M (e .state)) → held (e .state) a ≡ false))
+  LeavesNoneHeldOfMachine held e = Completed (e .outcome) ⊎ (Hung (e .outcome) × ((a : Activity (M .Tag)) → List·Memᴰ a (enabled M (e .state)) → held (e .state) a ≡ false))
 
   -- "At any budget, a bounded run that completes, or hangs with no held activity left, must equal the end of every unbounded order at
   -- budget 2,048, as demand 3 compares them."
@@ -99,4 +99,4 @@ module _ (M : Machine) where
   -- where some sequence ends with nothing enabled, a bounded run is never refused
   abbrev pub BoundedUnrefusedOfMachine : Type 0
   BoundedUnrefusedOfMachine = (held : Held) (c : Choice M) → LawfulChoice M c → (s : StateOf M) → Good M s → (budget : ℕ) (picks : List ℕ) (f : ℕ)
-      → (τs : List (M .Tag)) (x : StateOf M) → Fires M s τs x → NothingEnabled M x → ¬ (RefusedEnd (runBounded held c budget picks f s .outcome))
+      → (τs : List (M .Tag)) (x : StateOf M) → Fires M s τs x → NothingEnabled M x → ¬ (Refused (runBounded held c budget picks f s .outcome))

@@ -5,18 +5,12 @@ use mathlib.Core.Path.{_≡_}
 use mathlib.Core.List.{List}
 use Prim.Native.Nat.{ℕ, _≤_, _<_}
 use lib.ListN.{length}
-use Rattle.machine.specs.Machine.{Machine, Outcome, completed, hung, budgetSpent, refused, StateOf, EndOf, Choice, runBy}
-use Rattle.machine.specs.Orders.{Good, LawfulChoice, QuiescentEnd, BudgetSpent}
+use Rattle.machine.specs.Machine.{Machine, StateOf, EndOf, Choice, runBy}
+use Rattle.machine.specs.Orders.{Good, LawfulChoice, Quiescent, Spent, RefusedBy}
 use Rattle.machine.specs.Agreement.{machineWith}
 
 abbrev pub withCapacity : Machine → ℕ → Machine
 withCapacity M n = machineWith M (M .arity) (M .effect) n
-
-abbrev pub RefusedBy : {R : Type 0} → R → Outcome R → Type 0
-RefusedBy r completed = ⊥
-RefusedBy r hung = ⊥
-RefusedBy r budgetSpent = ⊥
-RefusedBy r (refused q place) = q ≡ r
 
 module _ (M : Machine) where
   -- "Tokens used"
@@ -25,15 +19,15 @@ module _ (M : Machine) where
 
   -- of a run that "completed or hung with t tokens": "with any capacity from t [..] and equal picks the end is the same"
   abbrev pub EnoughRoomOfMachine : Type 0
-  EnoughRoomOfMachine = (c : Choice M) (s : StateOf M) (budget : ℕ) (picks : List ℕ) (f : ℕ) → QuiescentEnd (runBy M c budget picks f s .outcome)
+  EnoughRoomOfMachine = (c : Choice M) (s : StateOf M) (budget : ℕ) (picks : List ℕ) (f : ℕ) → Quiescent (runBy M c budget picks f s .outcome)
       → (n : ℕ) → tokensUsed (runBy M c budget picks f s) ≤ n → runBy (withCapacity M n) c budget picks f s ≡ runBy M c budget picks f s
 
   -- "with any smaller one every order is refused by 8", where the start fits and the budget is no less than the capacity
   abbrev pub TooSmallOfMachine : Type 0
   TooSmallOfMachine = (c d : Choice M) → LawfulChoice M c → LawfulChoice M d → (s : StateOf M) → Good M s → (budget budget′ : ℕ) (picks picks′ : List ℕ) (f : ℕ)
-      → QuiescentEnd (runBy M c budget picks f s .outcome) → (n : ℕ) → n < tokensUsed (runBy M c budget picks f s) → length (s .tokens) ≤ n → n ≤ budget′
+      → Quiescent (runBy M c budget picks f s .outcome) → (n : ℕ) → n < tokensUsed (runBy M c budget picks f s) → length (s .tokens) ≤ n → n ≤ budget′
       → RefusedBy (M .ledgerFull) (runBy (withCapacity M n) d budget′ picks′ f s .outcome)
 
   -- a run that is not spent has done what it can: with more budget it ends the same
   abbrev pub MoreBudget : Type 0
-  MoreBudget = (c : Choice M) (a b : ℕ) (picks : List ℕ) (f : ℕ) (s : StateOf M) → a ≤ b → ¬ (BudgetSpent (runBy M c a picks f s .outcome)) → runBy M c b picks f s ≡ runBy M c a picks f s
+  MoreBudget = (c : Choice M) (a b : ℕ) (picks : List ℕ) (f : ℕ) (s : StateOf M) → a ≤ b → ¬ (Spent (runBy M c a picks f s .outcome)) → runBy M c b picks f s ≡ runBy M c a picks f s

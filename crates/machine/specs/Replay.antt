@@ -8,7 +8,7 @@ use Prim.Native.Nat.{ℕ, suc, _+_, _<_}
 use lib.ListN.{length}
 use Rattle.machine.specs.Machine.{Machine, Activity, notFired, Outcome, budgetSpent, refused, when, onOption, onList}
 use Rattle.machine.specs.Machine.{StateOf, EndOf, look, allLive, placeOf, enabled, fire, Choice, end, after, ending, runBy}
-use Rattle.machine.specs.Orders.{Good, LawfulChoice, QuiescentEnd, RefusedEnd}
+use Rattle.machine.specs.Orders.{Good, LawfulChoice, Quiescent, Refused}
 use Rattle.machine.specs.Sequences.{Once, NothingEnabled, Fires, logOf, Logged}
 
 module _ (M : Machine) where
@@ -31,7 +31,7 @@ module _ (M : Machine) where
   -- that hang; the budgets may differ
   abbrev pub LogsAgreeOfMachine : Type 0
   LogsAgreeOfMachine = (c d : Choice M) → LawfulChoice M c → LawfulChoice M d → (s : StateOf M) → Good M s → (b b′ : ℕ) (picks picks′ : List ℕ) (f : ℕ)
-      → QuiescentEnd (runBy M c b picks f s .outcome) → QuiescentEnd (runBy M d b′ picks′ f s .outcome)
+      → Quiescent (runBy M c b picks f s .outcome) → Quiescent (runBy M d b′ picks′ f s .outcome)
       → List·Permᴰ (logOf M c b picks s) (logOf M d b′ picks′ s) × Once (logOf M c b picks s)
 
   -- `notEnabled` is refusal 20
@@ -51,7 +51,7 @@ module _ (M : Machine) where
     pub record SameAs (d e : EndOf M) : Type 0 where
       pub state : e .state ≡ d .state
       pub firings : e .firings ≡ d .firings
-      pub outcome : ¬ (RefusedEnd (d .outcome)) → e .outcome ≡ d .outcome
+      pub outcome : ¬ (Refused (d .outcome)) → e .outcome ≡ d .outcome
 
     abbrev pub RunReplays : Type 0
     RunReplays = (c : Choice M) → LawfulChoice M c → (budget : ℕ) (picks : List ℕ) (f : ℕ) (s : StateOf M) → SameAs (runBy M c budget picks f s) (replay (map some (logOf M c budget picks s)) f s)

@@ -7,7 +7,7 @@ use Prim.Native.Nat.{ℕ, zero, suc, _+_, _-_, _≤_, _<_}
 use lib.ListN.{length}
 use Rattle.machine.specs.Machine.{Content, live, spent, deferred, Machine, Activity, End, fired, notFired, Outcome, refused, onList}
 use Rattle.machine.specs.Machine.{Ledger, StateOf, FiredOf, EndOf, enabled, fire, end, ending}
-use Rattle.machine.specs.Orders.{Good, RefusedEnd}
+use Rattle.machine.specs.Orders.{Good, Refused}
 use Rattle.machine.specs.Sequences.{Fires, NothingEnabled, Logged, EveryOrder}
 
 -- of a whole step
@@ -115,7 +115,7 @@ module _ (M : Machine) where
       pub ends : EveryOrder M s f (M .capacity) (p .ended)
 
     abbrev pub ProfileEnds : Type 0
-    ProfileEnds = (s : StateOf M) → Good M s → (left f : ℕ) → ¬ (RefusedEnd (profile left f s .ended .outcome)) → Unrefused s f (profile left f s)
+    ProfileEnds = (s : StateOf M) → Good M s → (left f : ℕ) → ¬ (Refused (profile left f s .ended .outcome)) → Unrefused s f (profile left f s)
 
     -- and where some sequence ends, the steps do, if there are as many records as it has firings
     abbrev pub StepsEndToo : Type 0

@@ -19,7 +19,7 @@ use Rattle.record.specs.Arrays.{arraysOf}
 use Rattle.record.specs.TokensAndTags.{mostTokens, capacityOf}
 use Rattle.record.specs.Widths.{tokenWidth, cellWidth, logWidth}
 use Rattle.machine.specs.Machine.{Machine, State, End, Outcome, completed, hung, budgetSpent, refused, byPicks, run, runBy}
-use Rattle.machine.specs.Orders as Ends
+use Rattle.machine.specs.Orders.{Completed, Hung, Quiescent, Refused}
 use Rattle.machine.specs.Sequences.{logOf}
 use Rattle.machine.specs.Saved.{Saved}
 use Rattle.machine.specs.Bounded.{RanBounded, runBounded, logBounded}
@@ -41,7 +41,7 @@ use Rattle.rules.specs.InstructionSet.{machineOf}
 use Rattle.rules.specs.Run.{firstState, picksOf, Result, refusedAtOnce, ranTo, outcomeOf, unlessFailed, result, answer}
 use Rattle.rules.specs.Log.{logSuffices, checkLogStores, checkLogged, LogResult, logUnlessFailed, logged}
 use Rattle.rules.specs.Saved.{machineSaved, stateSaved, stateTaken, checkSaved, carried}
-use Rattle.rules.specs.Orders.{QuiescentResult, RefusedResult, Allowed}
+use Rattle.rules.specs.Orders.{resultOutcome, Allowed}
 use Rattle.rules.specs.Fits.{AllFit}
 use Rattle.rules.specs.Invariants.{LawfulResult}
 use Rattle.rules.specs.Small.{Small, CountsFit}
@@ -145,7 +145,7 @@ module _ (graph inputs : List ℕ) (table : List NamedArray) (capacity cells : �
   fires : RanBounded M (heldIn (graphOf graph) k) s budget 0 log e
   fires = boundedLogged M (heldIn (graphOf graph) k) (byPicks M) (byPicksLawful M) budget picks 0 s
 
-  quiet : {X : Type 0} (o : Outcome Refusal) → Ends.CompletedEnd o ⊎ (Ends.HungEnd o × X) → Ends.QuiescentEnd o
+  quiet : {X : Type 0} (o : Outcome Refusal) → Completed o ⊎ (Hung o × X) → Quiescent o
   quiet completed h = tt
   quiet hung h = tt
   quiet budgetSpent (inl h) = h
@@ -165,7 +165,7 @@ module _ (graph inputs : List ℕ) (table : List NamedArray) (capacity cells : �
         alike = alike-ends (graphOf graph) table capacity cells e (run M 2048 picks′ s) (firesGood M lawful s first log (e .state) (fires .logged .fires) .distinct) z;
       }
 
-  unrefused : (picks′ : List ℕ) → Ends.QuiescentEnd (run M 2048 picks′ s .outcome) → ¬ (Ends.RefusedEnd (e .outcome))
+  unrefused : (picks′ : List ℕ) → Quiescent (run M 2048 picks′ s .outcome) → ¬ (Refused (e .outcome))
   unrefused picks′ rests =
       let d = run M 2048 picks′ s in
       let h = ran M (byPicks M) (byPicksLawful M) 2048 picks′ 0 s in
@@ -226,7 +226,7 @@ pub not-refused : NotRefused
 unfolding bounded result unlessFailed check
 not-refused graph arrays inputs picks picks′ budget k ledger cells bound allowed rests = go (check graph arrays inputs picks′ ledger cells) refl
   where
-    go : (c : Checked) → check graph arrays inputs picks′ ledger cells ≡ c → ¬ (RefusedResult (bounded graph arrays inputs picks budget k ledger cells))
+    go : (c : Checked) → check graph arrays inputs picks′ ledger cells ≡ c → ¬ (Refused (resultOutcome (bounded graph arrays inputs picks budget k ledger cells)))
     go (Failed r p) e = absurd (rw e at rests)
     go Passed e =
         let (stores, (named, a)) = accepted graph inputs (capacityOf ledger) (checkStores (length inputs) (length picks′) ledger cells) (checkArrays (graphOf graph) (cells / cellWidth) arrays) e in

@@ -13,6 +13,7 @@ pub mod Callers
 pub mod RootLeave
 pub mod Fits
 pub mod Orders
+pub mod Outcomes
 pub mod Budgets
 pub mod Refusals
 pub mod Profile

@@ -13,8 +13,7 @@ use Rattle.record.specs.Arrays.{arraysOf}
 use Rattle.record.specs.TokensAndTags.{capacityOf}
 use Rattle.record.specs.Widths.{cellWidth}
 use Rattle.machine.specs.Machine.{Machine, State, End, Outcome, completed, hung, budgetSpent, refused, StateOf, byPicks, run}
-use Rattle.machine.specs.Orders.{Says}
-use Rattle.machine.specs.Orders as Ends
+use Rattle.machine.specs.Orders.{Says, Refused}
 use Rattle.machine.specs.Sequences.{logOf}
 use Rattle.machine.proofs.Enabled.{enabledPlace}
 use Rattle.machine.proofs.Runs.{ran}
@@ -29,7 +28,7 @@ use Rattle.rules.specs.Check.{_andThen_, checkGraph, checkStores, checkA
 use Rattle.rules.specs.InstructionSet.{machineOf}
 use Rattle.rules.specs.Run.{firstState, picksOf, Result, answer, ledgerAfter, cellsAfter}
 use Rattle.rules.specs.Log.{logSuffices, checkLogStores, checkLogged, logUnlessFailed, logged, InFiring}
-use Rattle.rules.specs.Runs.{LoggedRunsOn, LoggedElse, Refused}
+use Rattle.rules.specs.Runs.{LoggedRunsOn, LoggedElse, outcomeIn}
 use Rattle.rules.proofs.Log.{logged-runs}
 
 pub logged-runs-on : LoggedRunsOn
@@ -43,7 +42,7 @@ logged-runs-on graph arrays inputs l x h enough =
     }
 
 abbrev AtOnce : Answer → Type 0
-AtOnce a = Refused (a .outcome) × (a .firings ≡ 0) × (a .tokens ≡ 0)
+AtOnce a = Refused (outcomeIn (a .outcome)) × (a .firings ≡ 0) × (a .tokens ≡ 0)
 
 too-short : (graph arrays inputs picks : List ℕ) (budget ledger cells lent : ℕ) → logSuffices budget lent ≡ false → AtOnce (answer (logged graph arrays inputs picks budget ledger cells lent .result))
 unfolding logged logUnlessFailed checkLogged checkLogStores answer
@@ -62,7 +61,7 @@ logged-else graph arrays inputs l x h e =
 
 -- ---- a refused firing has operands
 
-tokens-there : (M : Machine) (o : Outcome (M .Refusal)) (budget n : ℕ) (x : StateOf M) → Says M o budget n x → Ends.RefusedEnd o → 0 < length (x .tokens)
+tokens-there : (M : Machine) (o : Outcome (M .Refusal)) (budget n : ℕ) (x : StateOf M) → Says M o budget n x → Refused o → 0 < length (x .tokens)
 tokens-there M completed b n x h r = absurd r
 tokens-there M hung b n x h r = absurd r
 tokens-there M budgetSpent b n x h r = absurd r

@@ -13,7 +13,7 @@ use Rattle.record.specs.GraphRecords.{graphOf}
 use Rattle.record.specs.Arrays.{arraysOf}
 use Rattle.record.specs.Widths.{tokenWidth, cellWidth}
 use Rattle.machine.specs.Machine.{Machine, End, run}
-use Rattle.machine.specs.Orders.{Ended}
+use Rattle.machine.specs.Orders.{Ended, Quiescent}
 use Rattle.machine.proofs.Reached.{reached-invariants, reached-picks}
 use Rattle.machine.proofs.Ending.{rested}
 use Rattle.rules.specs.declared.answer.Refusal.the-variants as Refusals
@@ -24,7 +24,7 @@ use Rattle.rules.specs.declared.answer.Needs.the-variants.{AtMost}
 use Rattle.rules.specs.Check.{demand, inTurn, goodInput, checkGraph, checkStores, checkArrays, checkInputs, check}
 use Rattle.rules.specs.InstructionSet.{machineOf}
 use Rattle.rules.specs.Run.{firstState, picksOf, result, answer}
-use Rattle.rules.specs.Orders.{QuiescentResult}
+use Rattle.rules.specs.Orders.{resultOutcome}
 use Rattle.rules.specs.Needs.{firingsNeeded, outputsNeeded, total, loopFree, checkNeeds, inputsOf, needsUnlessRefused, needs, NoSwitchOrFetch, NoStateExceeds, ExactAtRest, NeverExceeded, Exact}
 use Rattle.rules.proofs.Passed.{andThen-passed}
 use Rattle.rules.proofs.Lawful.{lawful}
@@ -91,10 +91,10 @@ module _ (graph arrays inputs picks : List ℕ) (budget ledger cells firings tok
       let (f, t) = no-state-exceeds graph inputs (arraysOf arrays) (capacityOf ledger) (cells / cellWidth) firings tokens e (passes h) (reach .done) (reach .sent) (last .state) (reach .reached) in
       (omega (arith, reach .firings), t))
 
-  is-exact : NoSwitchOrFetch graph inputs → QuiescentResult (result graph arrays inputs picks budget ledger cells)
+  is-exact : NoSwitchOrFetch graph inputs → Quiescent (resultOutcome (result graph arrays inputs picks budget ledger cells))
       → (answer (result graph arrays inputs picks budget ledger cells) .firings ≡ firings) × (answer (result graph arrays inputs picks budget ledger cells) .tokens ≡ tokens)
   unfolding answer result
-  is-exact plain = by-check (check graph arrays inputs picks ledger cells) _ (λ x. QuiescentResult x → (answer x .firings ≡ firings) × (answer x .tokens ≡ tokens)) (λ r p f h. absurd h) (λ h q.
+  is-exact plain = by-check (check graph arrays inputs picks ledger cells) _ (λ x. Quiescent (resultOutcome x) → (answer x .firings ≡ firings) × (answer x .tokens ≡ tokens)) (λ r p f h. absurd h) (λ h q.
       let rest = rested Whole (last .outcome) budget (reach .done) (last .state) q (reach .says) .0 in
       let (f, t) = exact-at-rest graph inputs (arraysOf arrays) (capacityOf ledger) (cells / cellWidth) firings tokens e plain (passes h) (reach .done) (reach .sent) (last .state) (reach .reached) rest in
       (omega (arith, reach .firings), t))

@@ -31,7 +31,7 @@ use Rattle.arithmetic.proofs.Order.{le-test}
 use Rattle.arithmetic.proofs.Corners.{holds-proper}
 use Rattle.machine.specs.Machine.{Key, Content, Token, absent, State, End, Machine, output, byPicks, run}
 use Rattle.machine.specs.Bounded.{runBounded}
-use Rattle.machine.specs.Orders.{Good, QuiescentEnd}
+use Rattle.machine.specs.Orders.{Good, Quiescent}
 use Rattle.machine.specs.InStep.{PlaceByPlace, noMore, pair, RelatedContent, bothLive, bothSpent, bothDeferred, RelatedCell, bothAbsent, RelatedToken, atKey, RelatedState, RelatedEnds, InStep, alike, stopped}
 use Rattle.machine.proofs.Kept.{Each}
 use Rattle.machine.proofs.InStep.{pairLength, pairMap, pairSame, pairGrows, goodRelated, inStep}
@@ -62,9 +62,9 @@ states-in-step g table capacity cells k s u h budget picks =
     (byPicks (rangeMachineOf g table capacity cells)) (byPicks (machineOf g table capacity cells)) (λ x y r pick a more. refl) (heldIn g k) (heldIn g k) (held-same Holds g k) s u h budget picks 0
 
 -- completed or hung is not refused
-at-rest : (d : End Refusal Tag Range) (e : End Refusal Tag ℤ) → InStep Holds OfRanges d e → QuiescentEnd (d .outcome) → RelatedEnds Holds d e
+at-rest : (d : End Refusal Tag Range) (e : End Refusal Tag ℤ) → InStep Holds OfRanges d e → Quiescent (d .outcome) → RelatedEnds Holds d e
 at-rest d e (alike h) q = h
-at-rest d e (stopped r p f a) q = absurd (subst QuiescentEnd f q)
+at-rest d e (stopped r p f a) q = absurd (subst Quiescent f q)
 
 -- ---- rows
 

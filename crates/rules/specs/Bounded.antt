@@ -14,6 +14,7 @@ use Rattle.record.specs.Widths.{cellWidth, logWidth}
 use Rattle.machine.specs.Machine.{byPicks}
 use Rattle.machine.specs.Bounded as Machines
 use Rattle.machine.specs.Bounded.{runBounded, logBounded}
+use Rattle.machine.specs.Orders.{Quiescent, Refused}
 use Rattle.rules.specs.declared.answer.Refusal.the-variants.{BadBound, DamagedState}
 use Rattle.rules.specs.declared.answer.Checked.{Checked}
 use Rattle.rules.specs.declared.answer.Answer.{Answer}
@@ -23,7 +24,7 @@ use Rattle.rules.specs.Run.{firstState, picksOf, Result, refusedAtOnce, 
 use Rattle.rules.specs.Log.{logSuffices, checkLogStores, LogResult, logUnlessFailed, logged, LogRan}
 use Rattle.rules.specs.Saved.{machineSaved, stateSaved, stateTaken, carried}
 use Rattle.rules.specs.Runs.{LentToRun, LeftByRun, LentToLogged, LeftByLogged}
-use Rattle.rules.specs.Orders.{QuiescentResult, RefusedResult, AlikeResults, Allowed}
+use Rattle.rules.specs.Orders.{resultOutcome, AlikeResults, Allowed}
 use Rattle.rules.specs.Invariants.{LawfulResult}
 use Rattle.rules.specs.Small.{Small, CountsFit}
 use Rattle.rules.specs.Fits.{AllFit}
@@ -109,7 +110,7 @@ LeavesNoneHeld graph arrays k ledger cells (ranTo e) = Machines.LeavesNoneHeldOf
 
 -- "must equal the end of every unbounded order [..] as demand 3 compares them"
 pub record BoundedEndsAs (x y : Result) : Type 0 where
-  pub rests : QuiescentResult x
+  pub rests : Quiescent (resultOutcome x)
   -- completed or hung
   pub outcome : answer x .outcome ≡ answer y .outcome
   pub alike : AlikeResults x y
@@ -124,7 +125,7 @@ BoundedAsEveryOrder = (graph arrays inputs picks picks′ : List ℕ) (budget k 
 -- where one order completes or hangs, a run with a bound is not refused: what it may still do is spend its budget or hang on held activities
 abbrev pub NotRefused : Type 0
 NotRefused = (graph arrays inputs picks picks′ : List ℕ) (budget k ledger cells : ℕ) → goodBound k ≡ true → Allowed picks ledger cells
-    → QuiescentResult (result graph arrays inputs picks′ 2048 ledger cells) → ¬ (RefusedResult (bounded graph arrays inputs picks budget k ledger cells))
+    → Quiescent (resultOutcome (result graph arrays inputs picks′ 2048 ledger cells)) → ¬ (Refused (resultOutcome (bounded graph arrays inputs picks budget k ledger cells)))
 
 -- a run that writes a log is the run, if the log suffices, and the log has room in what is lent
 abbrev pub BoundLoggedRuns : Type 0

@@ -17,7 +17,7 @@ use Rattle.record.specs.TokensAndTags.{rootOf, standsAt}
 use Rattle.record.specs.TokensAndTags as Tokens
 use Rattle.record.specs.Widths.{tokenWidth}
 use Rattle.machine.specs.Machine.{State, enabled}
-use Rattle.machine.specs.Orders.{Reached}
+use Rattle.machine.specs.Orders.{Reached, Quiescent}
 use Rattle.rules.specs.declared.answer.Refusal.the-variants.{BadInput, NotLoopFree}
 use Rattle.rules.specs.declared.answer.Checked.{Checked}
 use Rattle.rules.specs.declared.answer.Checked.the-variants.{Passed, Failed}
@@ -27,7 +27,7 @@ use Rattle.rules.specs.Answer.{valuesNeeded}
 use Rattle.rules.specs.Check.{demand, _andThen_, any, inTurn, instructionAt, operandsAt, checkGraph, checkStores, goodInput, checkInputs}
 use Rattle.rules.specs.InstructionSet.{machineOf}
 use Rattle.rules.specs.Run.{firstState, result, answer}
-use Rattle.rules.specs.Orders.{QuiescentResult}
+use Rattle.rules.specs.Orders.{resultOutcome}
 
 -- ---- over the numbers below n
 
@@ -157,5 +157,5 @@ NeverExceeded = (graph arrays inputs picks : List ℕ) (budget ledger cells firi
 -- "and both are exact where no SWITCH or FETCH is reached"
 abbrev pub Exact : Type 0
 Exact = (graph arrays inputs picks : List ℕ) (budget ledger cells firings tokens : ℕ) → needs graph inputs ≡ AtMost firings tokens → NoSwitchOrFetch graph inputs
-    → QuiescentResult (result graph arrays inputs picks budget ledger cells)
+    → Quiescent (resultOutcome (result graph arrays inputs picks budget ledger cells))
     → (answer (result graph arrays inputs picks budget ledger cells) .firings ≡ firings) × (answer (result graph arrays inputs picks budget ledger cells) .tokens ≡ tokens)

@@ -14,6 +14,7 @@ use Rattle.record.specs.Arrays.{arraysOf}
 use Rattle.record.specs.TokensAndTags.{mostTokens, capacityOf}
 use Rattle.record.specs.Widths.{cellWidth, stepWidth}
 use Rattle.machine.specs.Steps.{StepRecord, Profile, firingsIn, EachFires, profile}
+use Rattle.machine.specs.Orders.{Quiescent, Refused}
 use Rattle.rules.specs.declared.answer.Refusal.{Refusal}
 use Rattle.rules.specs.declared.answer.Refusal.the-variants.{BadStore, ProfileFull}
 use Rattle.rules.specs.declared.answer.Outcome.the-variants as Outcomes
@@ -24,7 +25,7 @@ use Rattle.rules.specs.Answer.{valuesOf}
 use Rattle.rules.specs.Check.{demand, _andThen_, checkStores, checkInputs, checkWith}
 use Rattle.rules.specs.InstructionSet.{machineOf}
 use Rattle.rules.specs.Run.{firstState, Result, refusedAtOnce, ranTo, result, answer, ledgerAfter, cellsAfter}
-use Rattle.rules.specs.Orders.{QuiescentResult, RefusedResult, AlikeResults, Allowed}
+use Rattle.rules.specs.Orders.{resultOutcome, AlikeResults, Allowed}
 
 -- ---- a profile
 
@@ -104,7 +105,7 @@ NeverFull = (graph arrays inputs : List ℕ) (ledger cells lent place : ℕ) →
 -- ---- "if it isn't refused, its end must equal every order's as demand 3 compares them"
 
 pub record ProfileEndsAs (x : ProfileResult) (y : Result) : Type 0 where
-  pub rests : QuiescentResult (x .result)
+  pub rests : Quiescent (resultOutcome (x .result))
   -- completed or hung
   pub outcome : answer (x .result) .outcome ≡ answer y .outcome
   pub alike : AlikeResults (x .result) y
@@ -113,6 +114,6 @@ pub record ProfileEndsAs (x : ProfileResult) (y : Result) : Type 0 where
   pub eachFires : EachFires (x .records)
 
 abbrev pub ProfileAsEveryOrder : Type 0
-ProfileAsEveryOrder = (graph arrays inputs picks : List ℕ) (ledger ledger′ cells cells′ lent : ℕ) → ¬ (RefusedResult (profiled graph arrays inputs ledger cells lent .result))
+ProfileAsEveryOrder = (graph arrays inputs picks : List ℕ) (ledger ledger′ cells cells′ lent : ℕ) → ¬ (Refused (resultOutcome (profiled graph arrays inputs ledger cells lent .result)))
     → Allowed picks ledger′ cells′ → capacityOf ledger ≡ capacityOf ledger′ → cells / cellWidth ≡ cells′ / cellWidth
     → ProfileEndsAs (profiled graph arrays inputs ledger cells lent) (result graph arrays inputs picks 2048 ledger′ cells′)

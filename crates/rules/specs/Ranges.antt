@@ -18,7 +18,7 @@ use Rattle.arithmetic.specs.declared.Range.{Range}
 use Rattle.arithmetic.specs.Ranges.{Holds, single}
 use Rattle.machine.specs.Machine.{State, byPicks}
 use Rattle.machine.specs.Bounded.{runBounded}
-use Rattle.machine.specs.Orders.{QuiescentEnd, EndsAgree}
+use Rattle.machine.specs.Orders.{EndsAgree, Quiescent}
 use Rattle.machine.specs.InStep.{PlaceByPlace, RelatedState, RelatedEnds, InStep}
 use Rattle.rules.specs.Check.{mostCells}
 use Rattle.rules.specs.InstructionSet.{machineOf}
@@ -90,7 +90,7 @@ RunsInStep = (graph arrays ranges inputs picks : List ℕ) (budget k rangeLedger
 abbrev pub Promised : RangeResult → Plain.Result → Type 0
 Promised (refusedAtOnce r p) y = Unit {0}
 Promised (ranTo d) (Plain.refusedAtOnce r p) = ⊥
-Promised (ranTo d) (Plain.ranTo e) = QuiescentEnd (d .outcome) → RelatedEnds Holds d e
+Promised (ranTo d) (Plain.ranTo e) = Quiescent (d .outcome) → RelatedEnds Holds d e
 
 -- "and all else": the table of named arrays, the picks, the budget and the bound; bound 0 is none (`BoundZero` of Bounded)
 abbrev pub RangesPromise : Type 0

@@ -5,6 +5,9 @@ use mathlib.Core.Path.{_≡_}
 use mathlib.Core.Bool.{true, false}
 use mathlib.Core.List.{List}
 use lib.ListN.{length}
+use Rattle.machine.specs.Machine as Machine
+use Rattle.machine.specs.Orders.{Refused}
+use Rattle.rules.specs.declared.answer.Refusal.{Refusal}
 use Rattle.rules.specs.declared.answer.Answer.{Answer}
 use Rattle.rules.specs.declared.answer.Outcome.{Outcome}
 use Rattle.rules.specs.declared.answer.Outcome.the-variants as Outcomes
@@ -111,38 +114,14 @@ ProfiledOn graph arrays inputs l x =
 
 -- ---- how a run ended
 
-abbrev pub Completed : Outcome → Type 0
-Completed Outcomes.Completed = Unit {0}
-Completed Outcomes.Hung = ⊥
-Completed Outcomes.Spent = ⊥
-Completed (Outcomes.Refused r place) = ⊥
-
-abbrev pub Hung : Outcome → Type 0
-Hung Outcomes.Completed = ⊥
-Hung Outcomes.Hung = Unit {0}
-Hung Outcomes.Spent = ⊥
-Hung (Outcomes.Refused r place) = ⊥
-
--- completed or hung
-abbrev pub Quiescent : Outcome → Type 0
-Quiescent Outcomes.Completed = Unit {0}
-Quiescent Outcomes.Hung = Unit {0}
-Quiescent Outcomes.Spent = ⊥
-Quiescent (Outcomes.Refused r place) = ⊥
-
-abbrev pub Spent : Outcome → Type 0
-Spent Outcomes.Completed = ⊥
-Spent Outcomes.Hung = ⊥
-Spent Outcomes.Spent = Unit {0}
-Spent (Outcomes.Refused r place) = ⊥
-
-abbrev pub Refused : Outcome → Type 0
-Refused Outcomes.Completed = ⊥
-Refused Outcomes.Hung = ⊥
-Refused Outcomes.Spent = ⊥
-Refused (Outcomes.Refused r place) = Unit {0}
+-- the outcome in an answer as the machine's, of which machine/specs/Orders says that it is completed, hung, quiescent (either), spent or refused
+abbrev pub outcomeIn : Outcome → Machine.Outcome Refusal
+outcomeIn Outcomes.Completed = Machine.completed
+outcomeIn Outcomes.Hung = Machine.hung
+outcomeIn Outcomes.Spent = Machine.budgetSpent
+outcomeIn (Outcomes.Refused r place) = Machine.refused r place
 
 -- and with one that does not suffice it is refused before any firing (`logged-else` in proofs/Logged)
 abbrev pub LoggedElse : Type 0
 LoggedElse = (graph arrays inputs : List ℕ) (l : LentToLogged) (x : LeftByLogged) → LoggedOn graph arrays inputs l x → logSuffices (l .budget) (length (l .log)) ≡ false
-    → Refused (x .answer .outcome) × (x .answer .firings ≡ 0) × (x .answer .tokens ≡ 0)
+    → Refused (outcomeIn (x .answer .outcome)) × (x .answer .firings ≡ 0) × (x .answer .tokens ≡ 0)
