@@ -20,12 +20,12 @@ use Rattle.record.specs.Cells as Cells
 use Rattle.record.specs.Widths.{tokenWidth, cellWidth}
 use Rattle.machine.specs.Machine.{Machine, StateOf, State, Activity, Outcome, completed, hung, budgetSpent, refused, End, enabled, byPicks}
 use Rattle.machine.specs.Orders.{Completed, Hung, Quiescent}
-use Rattle.machine.specs.Bounded.{Held, freeOf, SaysFree, RanBounded, runBounded, logBounded}
+use Rattle.machine.specs.Bounded.{Held, freeOf, runBounded, logBounded}
 use Rattle.machine.proofs.Lists.{no-member}
 use Rattle.machine.proofs.View.{falseTrue}
 use Rattle.machine.proofs.Orders.{byPicksLawful}
 use Rattle.machine.proofs.Reached.{sequenceReaches}
-use Rattle.machine.proofs.Bounded.{onlyHeld, properRests, boundedLogged}
+use Rattle.machine.proofs.Bounded.{onlyHeld, properRests, boundedLogged, SaysFree, RanBounded}
 use Rattle.rules.specs.declared.answer.Refusal.{Refusal}
 use Rattle.rules.specs.declared.answer.Refusal.the-variants.{BadBound}
 use Rattle.rules.specs.declared.answer.Answer.{Answer}

@@ -1,15 +1,14 @@
 -- 01, "Any two orders", and what else is claimed of every run: the statements, over any machine with a lawful instruction set.
--- They are proved in proofs/: Enabled, Orders, Reached. Assumes nothing.
+-- They are proved in proofs/: Orders and Reached. Assumes nothing.
 use mathlib.Core.Path.{_≡_}
 use mathlib.Core.List.{List, [], _∷_, List·Memᴰ, List·Permᴰ}
 use mathlib.Core.Option.{Option, none, some}
 use mathlib.Core.Logic.{_↔_}
-use mathlib.Core.Bool.{true}
 use Prim.Native.Nat.{ℕ, zero, suc, _+_, _≤_, _<_}
 use lib.ListN.{length, replicate}
 use Rattle.machine.specs.Machine.{Key, Content, live, spent, deferred, absent, waiting, Effect, refuse, send, read, write, Machine, Activity, fired, notFired}
-use Rattle.machine.specs.Machine.{Outcome, completed, hung, budgetSpent, refused, End, onOption, cellAt, Ledger, StateOf, EndOf, Choice}
-use Rattle.machine.specs.Machine.{at, find, look, allLive, operands, placeOf, enabled, fire, runBy}
+use Rattle.machine.specs.Machine.{Outcome, completed, hung, budgetSpent, refused, End, onOption, cellAt, Ledger, StateOf, Choice}
+use Rattle.machine.specs.Machine.{at, find, look, allLive, operands, enabled, fire, runBy}
 
 -- ---- what is assumed of a machine and of the state from which it runs
 
@@ -63,22 +62,6 @@ module _ (M : Machine) where
   -- a choice takes one of the enabled
   abbrev pub LawfulChoice : Choice M → Type 0
   LawfulChoice choose = (s : StateOf M) (pick : ℕ) (a : Activity (M .Tag)) (more : List (Activity (M .Tag))) → List·Memᴰ (choose s pick a more) (a ∷ more)
-
-  -- ---- the enabled
-
-  -- in order of place, each place once: the places from n on
-  abbrev pub InOrder : (n : ℕ) → List (Activity (M .Tag)) → Type 0
-  InOrder n [] = Unit {0}
-  InOrder n (a ∷ more) = (n ≤ a .place) × InOrder (suc (a .place)) more
-
-  -- all operands of its tag are live, and there is one; its place is that of its earliest operand
-  abbrev pub Enabled : StateOf M → Activity (M .Tag) → Type 0
-  Enabled s a = (0 < M .arity (a .tag)) × (allLive M (look M s) (a .tag) ≡ true) × (a .place ≡ placeOf M (a .tag) (s .tokens))
-
-  -- the list of the enabled holds exactly these, each once: two of one tag would have one place
-  pub record EnabledOnce (s : StateOf M) : Type 0 where
-    pub exactly : (a : Activity (M .Tag)) → List·Memᴰ a (enabled M s) ↔ Enabled s a
-    pub inOrder : InOrder 0 (enabled M s)
 
 -- ---- how a run ended: said of its outcome, here and at every level above
 
@@ -193,9 +176,6 @@ module _ (M : Machine) where
     -- what is no operand is never spent: results are not
     pub othersUnspent : (τ : M .Tag) (p : ℕ) → M .arity τ ≤ p → ¬ (SpentContent (find M (at M τ p) (x .tokens)))
 
-  abbrev pub ReachedInvariants : Type 0
-  ReachedInvariants = (s : StateOf M) → Start M s → (f o : ℕ) (x : StateOf M) → Reached s f o x → Invariants s f o x
-
   -- ---- how a run ends
 
   -- "every live token is at an OUT and none is deferred"
@@ -215,14 +195,3 @@ module _ (M : Machine) where
   Says hung budget n x = (enabled M x ≡ []) × ¬ (AllProper (x .tokens))
   Says budgetSpent budget n x = (n ≡ budget) × (a : Activity (M .Tag)) × List·Memᴰ a (enabled M x)
   Says (refused r place) budget n x = (n < budget) × (a : Activity (M .Tag)) × List·Memᴰ a (enabled M x) × (a .place ≡ place) × (fire M x (a .tag) ≡ notFired r)
-
-  -- after n firings of its own it is in a state that is reached by n firings
-  pub record Ended (s : StateOf M) (budget f : ℕ) (e : EndOf M) : Type 0 where
-    pub done : ℕ
-    pub sent : ℕ
-    pub firings : e .firings ≡ f + done
-    pub reached : Reached s done sent (e .state)
-    pub says : Says (e .outcome) budget done (e .state)
-
-  abbrev pub RunsEnd : Type 0
-  RunsEnd = (c : Choice M) → LawfulChoice M c → (s : StateOf M) (budget : ℕ) (picks : List ℕ) (f : ℕ) → Ended s budget f (runBy M c budget picks f s)

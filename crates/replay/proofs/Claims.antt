@@ -28,6 +28,7 @@ use Rattle.rules.specs.declared.answer.Checked.the-variants.{Passed, Failed}
 use Rattle.rules.specs.Check.{mostCells}
 use Rattle.rules.specs.InstructionSet.{machineOf}
 use Rattle.rules.specs.Run.{Result, refusedAtOnce, ranTo, answer, firstState, picksOf, Ran}
+use Rattle.rules.specs.Orders.{resultOutcome}
 use Rattle.rules.specs.Log.{LogResult, checkLogged, logUnlessFailed, logged, logAfter, namesIn, replayed, NotBy7, InFiring}
 use Rattle.rules.proofs.Accepted.{whole-bytes}
 use Rattle.record.proofs.LogRecords.{TagFits}
@@ -140,7 +141,7 @@ module _ (graph arrays inputs : List ℕ) (l : LentToLogged) where
       ∙ ap (λ (n : ℕ). rows logWidth (take logWidth) n (logAfter whole (l .log))) log-counted
       ∙ records-back (whole .log) (drop (length (joined encodeActivity (whole .log))) (l .log))
 
-  ends-at-rest : (x : LeftByLogged) → LoggedOn graph arrays inputs l x → Quiescent (outcomeIn (x .answer .outcome)) → Quiescent (Results.resultOutcome (whole .result))
+  ends-at-rest : (x : LeftByLogged) → LoggedOn graph arrays inputs l x → Quiescent (outcomeIn (x .answer .outcome)) → Quiescent (resultOutcome (whole .result))
   ends-at-rest x h q = subst Quiescent (ap (λ (a : Answer). outcomeIn (a .outcome)) (h .answered) ∙ outcome-said (whole .result)) q
 
 pub logs-agree : LogsAgree

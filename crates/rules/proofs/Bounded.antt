@@ -22,7 +22,7 @@ use Rattle.machine.specs.Machine.{Machine, State, End, Outcome, completed, hung
 use Rattle.machine.specs.Orders.{Completed, Hung, Quiescent, Refused}
 use Rattle.machine.specs.Sequences.{logOf}
 use Rattle.machine.specs.Saved.{Saved}
-use Rattle.machine.specs.Bounded.{RanBounded, runBounded, logBounded}
+use Rattle.machine.specs.Bounded.{runBounded, logBounded}
 use Rattle.machine.specs.Bounded as Machines
 use Rattle.machine.proofs.Ending.{rested}
 use Rattle.machine.proofs.Sequences.{firesGood, noLonger}
@@ -31,7 +31,7 @@ use Rattle.machine.proofs.Reached.{sequenceReaches}
 use Rattle.machine.proofs.Runs.{ran}
 use Rattle.machine.proofs.Bounds.{held-bounded}
 use Rattle.machine.proofs.Saved.{saved-reached, saved-firings}
-use Rattle.machine.proofs.Bounded.{unbounded, boundedLogged, boundedEnds, boundedUnrefused}
+use Rattle.machine.proofs.Bounded.{unbounded, boundedLogged, boundedEnds, boundedUnrefused, RanBounded}
 use Rattle.rules.specs.declared.answer.Refusal.{Refusal}
 use Rattle.rules.specs.declared.answer.Refusal.the-variants.{BadBound, DamagedState}
 use Rattle.rules.specs.declared.answer.Checked.{Checked}
@@ -47,7 +47,7 @@ use Rattle.rules.specs.Invariants.{LawfulResult}
 use Rattle.rules.specs.Small.{Small, CountsFit}
 use Rattle.rules.specs.Held.{heldIn}
 use Rattle.rules.specs.Bounded.{goodBound, andBound, checkBounded, bounded, checkBoundLogged, boundLogged, checkBoundSaved, boundCarried}
-use Rattle.rules.specs.Bounded.{BoundZero, LeavesNoneHeld, BoundedEndsAs, BoundedAsEveryOrder, NotRefused, BoundLoggedRuns, BoundLogFits, BoundedInvariants, BoundedFits, BoundedSmall, BoundedCounted}
+use Rattle.rules.specs.Bounded.{BoundZero, LeavesNoneHeld, BoundedEndsAs, BoundedAsEveryOrder, NotRefused}
 use Rattle.rules.proofs.Passed.{demand-passed, andThen-passed}
 use Rattle.rules.proofs.Lawful.{lawful}
 use Rattle.rules.proofs.Accepted.{whole-bytes, Whole, stores-whole, Accepted, accepted, law, good, by-check}
@@ -58,6 +58,32 @@ use Rattle.rules.proofs.Log.{log-stores, enough}
 use Rattle.rules.proofs.Small.{Below, then-below, demand-below, graph-below, arrays-below, stores-below, all-below, place-small, refused-small}
 use Rattle.rules.proofs.Counted.{at-once, placed, sequence}
 use Rattle.rules.proofs.Saved.{saved-under}
+
+-- ---- the claims
+
+-- a run that writes a log is the run, if the log suffices, and the log has room in what is lent
+abbrev pub BoundLoggedRuns : Type 0
+BoundLoggedRuns = (graph arrays inputs picks : List ℕ) (budget k ledger cells lent : ℕ) → logSuffices budget lent ≡ true
+    → boundLogged graph arrays inputs picks budget k ledger cells lent .result ≡ bounded graph arrays inputs picks budget k ledger cells
+
+abbrev pub BoundLogFits : Type 0
+BoundLogFits = (graph arrays inputs picks : List ℕ) (budget k ledger cells lent : ℕ) → length (boundLogged graph arrays inputs picks budget k ledger cells lent .log) * logWidth ≤ lent
+
+-- it is a firing sequence from the inputs, its tokens and cells fit their records, and its answer is small, as those of a run are
+abbrev pub BoundedInvariants : Type 0
+BoundedInvariants = (graph arrays inputs picks : List ℕ) (budget k ledger cells : ℕ) → LawfulResult graph arrays inputs ledger cells (bounded graph arrays inputs picks budget k ledger cells)
+
+abbrev pub BoundedFits : Type 0
+BoundedFits = (graph arrays inputs picks : List ℕ) (budget k ledger cells : ℕ) → Bytes graph → Bytes inputs
+    → AllFit (bounded graph arrays inputs picks budget k ledger cells) (capacityOf ledger) (cells / cellWidth)
+
+abbrev pub BoundedSmall : Type 0
+BoundedSmall = (graph arrays inputs picks : List ℕ) (budget k ledger cells : ℕ) → Small budget (answer (bounded graph arrays inputs picks budget k ledger cells))
+
+-- 16 bits are enough for each number of an answer
+pub record BoundedCounted : Type 0 where
+  pub byLogged : (graph arrays inputs picks : List ℕ) (budget k ledger cells lent : ℕ) → CountsFit (answer (boundLogged graph arrays inputs picks budget k ledger cells lent .result))
+  pub byCarried : (graph arrays picks ledger cells : List ℕ) (budget k firings tokens : ℕ) → CountsFit (answer (boundCarried graph arrays picks budget k ledger cells firings tokens))
 
 -- ---- the check
 

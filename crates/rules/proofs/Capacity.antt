@@ -3,6 +3,7 @@
 use Prim.Native.Nat.{ℕ, _/_, _≤_, _<_}
 use mathlib.Core.Path.{_≡_, refl, ap}
 use mathlib.Core.List.{List}
+use mathlib.Core.Bool.{true}
 use native.Mathlib.Decide.{decLe}
 use native.Mathlib.Omega.{arith}
 use borrow.Author.Tests.{le-leb, lt-leb}
@@ -11,7 +12,7 @@ use lib.IntN.{ℤ}
 use lib.Dec.{leb}
 use Rattle.record.specs.declared.tag.Tag.{Tag}
 use Rattle.record.specs.declared.instruction.Instruction.{Instruction}
-use Rattle.buffer.specs.Rows.{allRows}
+use Rattle.buffer.specs.Rows.{allRows, whole}
 use Rattle.record.specs.GraphRecords.{graphOf}
 use Rattle.record.specs.Arrays.{arraysOf}
 use Rattle.record.specs.TokensAndTags.{mostTokens, capacityOf}
@@ -30,10 +31,24 @@ use Rattle.rules.specs.Check.{demand, inTurn, goodInput, checkStores, ch
 use Rattle.rules.specs.InstructionSet.{machineOf}
 use Rattle.rules.specs.Run.{firstState, picksOf, ranTo, unlessFailed, result, answer}
 use Rattle.rules.specs.Orders.{resultOutcome, Allowed}
-use Rattle.rules.specs.Capacity.{EnoughRoomOfResults, TooSmallOfResults}
 use Rattle.rules.proofs.Passed.{andThen-passed}
 use Rattle.rules.proofs.Inputs.{tokens-first}
 use Rattle.rules.proofs.Accepted.{whole-bytes, Whole, stores-whole, Accepted, accepted, law, good}
+
+-- ---- the claims
+
+-- a run that "completed or hung with t tokens, budget 2,048: with any capacity from t to 2,048 and equal picks the end is the same": what it answers, and what
+-- it leaves in the records that it uses
+abbrev pub EnoughRoomOfResults : Type 0
+EnoughRoomOfResults = (graph arrays inputs picks : List ℕ) (ledger ledger′ cells : ℕ) → Quiescent (resultOutcome (result graph arrays inputs picks 2048 ledger cells))
+    → whole tokenWidth mostTokens ledger′ ≡ true → answer (result graph arrays inputs picks 2048 ledger cells) .tokens ≤ capacityOf ledger′
+    → result graph arrays inputs picks 2048 ledger′ cells ≡ result graph arrays inputs picks 2048 ledger cells
+
+-- "with any smaller one every order is refused by 8"
+abbrev pub TooSmallOfResults : Type 0
+TooSmallOfResults = (graph arrays inputs picks picks′ : List ℕ) (ledger ledger′ cells : ℕ) → Quiescent (resultOutcome (result graph arrays inputs picks 2048 ledger cells))
+    → Allowed picks′ ledger′ cells → capacityOf ledger′ < answer (result graph arrays inputs picks 2048 ledger cells) .tokens
+    → RefusedBy LedgerFull (resultOutcome (result graph arrays inputs picks′ 2048 ledger′ cells))
 
 -- ---- inputs and another capacity
 

@@ -1,4 +1,5 @@
 -- The laws of the rules. Assumes nothing.
+pub mod Computed
 pub mod Cases
 pub mod Passed
 pub mod Lists

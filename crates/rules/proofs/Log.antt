@@ -34,9 +34,20 @@ use Rattle.rules.specs.Check.{_andThen_, checkGraph, checkStores, checkA
 use Rattle.rules.specs.InstructionSet.{machineOf}
 use Rattle.rules.specs.Run.{firstState, picksOf, ranTo, unlessFailed, result}
 use Rattle.rules.specs.Orders.{resultOutcome}
-use Rattle.rules.specs.Log.{namesIn, logSuffices, checkLogStores, checkLogged, logUnlessFailed, logged, LoggedRuns, LogFits, LogsAgreeOfResults}
+use Rattle.rules.specs.Log.{namesIn, logSuffices, checkLogStores, checkLogged, logUnlessFailed, logged, LogsAgreeOfResults}
 use Rattle.rules.proofs.Passed.{both, demand-passed, andThen-passed}
 use Rattle.rules.proofs.Accepted.{whole-bytes, Whole, stores-whole, Accepted, accepted, law, good}
+
+-- ---- the claims
+
+-- a run that writes a log is the run, if the log suffices
+abbrev pub LoggedRuns : Type 0
+LoggedRuns = (graph arrays inputs picks : List ℕ) (budget ledger cells lent : ℕ) → logSuffices budget lent ≡ true
+    → logged graph arrays inputs picks budget ledger cells lent .result ≡ result graph arrays inputs picks budget ledger cells
+
+-- the log has room in what is lent
+abbrev pub LogFits : Type 0
+LogFits = (graph arrays inputs picks : List ℕ) (budget ledger cells lent : ℕ) → length (logged graph arrays inputs picks budget ledger cells lent .log) * logWidth ≤ lent
 
 -- ---- records
 

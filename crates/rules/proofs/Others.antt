@@ -28,10 +28,10 @@ use Rattle.machine.specs.Machine.{Machine, State, End, Outcome, completed, hung
 use Rattle.machine.specs.Orders.{Quiescent}
 use Rattle.machine.specs.Sequences.{Fires, Logged}
 use Rattle.machine.specs.Steps.{profile}
-use Rattle.machine.specs.Replay.{replay, Replayed, ReplayStopped, logEnds, oneEnabled, noneNamed, oneRefused}
+use Rattle.machine.specs.Replay.{replay}
 use Rattle.machine.proofs.Ending.{ending-rests}
 use Rattle.machine.proofs.Steps.{everyProfile}
-use Rattle.machine.proofs.Replay.{everyReplay, sequenceReplays, replayEnd}
+use Rattle.machine.proofs.Replay.{everyReplay, sequenceReplays, replayEnd, ReplayStopped, Replayed, logEnds, oneEnabled, noneNamed, oneRefused}
 use Rattle.rules.specs.declared.answer.Refusal.{Refusal}
 use Rattle.rules.specs.declared.answer.Refusal.the-variants.{ProfileFull, NotEnabled}
 use Rattle.rules.specs.declared.answer.Outcome as AnswerOutcome

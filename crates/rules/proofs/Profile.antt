@@ -29,10 +29,15 @@ use Rattle.rules.specs.Check.{demand, checkStores, checkArrays, check, m
 use Rattle.rules.specs.InstructionSet.{machineOf}
 use Rattle.rules.specs.Run.{firstState, picksOf, ranTo, outcomeOf, unlessFailed, result, answer}
 use Rattle.rules.specs.Orders.{resultOutcome, Allowed}
-use Rattle.rules.specs.Profile.{checkProfileStores, checkProfile, profileUnlessFailed, profiled, ProfileFits, ProfileEndsAs, ProfileAsEveryOrder}
+use Rattle.rules.specs.Profile.{checkProfileStores, checkProfile, profileUnlessFailed, profiled, ProfileEndsAs, ProfileAsEveryOrder}
 use Rattle.rules.proofs.Passed.{andThen-passed}
 use Rattle.rules.proofs.Accepted.{whole-bytes, Whole, stores-whole, Accepted, accepted, law, good}
 use Rattle.rules.proofs.Orders.{same-length, same-cells, alike-ends}
+
+-- ---- the claims
+
+abbrev pub ProfileFits : Type 0
+ProfileFits = (graph arrays inputs : List ℕ) (ledger cells lent : ℕ) → length (profiled graph arrays inputs ledger cells lent .records) * stepWidth ≤ lent
 
 -- ---- from inputs that passed
 

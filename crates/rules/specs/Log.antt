@@ -1,8 +1,8 @@
 -- 02, R-7, "Firing logs": the log that a run writes and the replay of a log, over bytes; and that a replay gives the run again and that logs agree, proved in
 -- proofs/Log and proofs/Replay. Assumes nothing.
-use Prim.Native.Nat.{ℕ, _+_, _-_, _*_, _/_, _%_, _≤_}
+use Prim.Native.Nat.{ℕ, _+_, _-_, _*_, _/_, _%_}
 use mathlib.Core.Path.{_≡_}
-use mathlib.Core.Bool.{Bool, true, _&&_, _||_}
+use mathlib.Core.Bool.{Bool, _&&_, _||_}
 use mathlib.Core.Option.{Option}
 use mathlib.Core.List.{List, [], List·Permᴰ}
 use lib.ListN.{length, take}
@@ -88,15 +88,6 @@ replayed graph arrays inputs log ledger cells =
     (ranTo (replay (machineOf (graphOf graph) (arraysOf arrays) (capacityOf ledger) (cells / cellWidth)) NotEnabled (namesIn log) 0 (firstState inputs (cells / cellWidth))))
 
 -- ---- what is stated
-
--- a run that writes a log is the run, if the log suffices
-abbrev pub LoggedRuns : Type 0
-LoggedRuns = (graph arrays inputs picks : List ℕ) (budget ledger cells lent : ℕ) → logSuffices budget lent ≡ true
-    → logged graph arrays inputs picks budget ledger cells lent .result ≡ result graph arrays inputs picks budget ledger cells
-
--- the log has room in what is lent
-abbrev pub LogFits : Type 0
-LogFits = (graph arrays inputs picks : List ℕ) (budget ledger cells lent : ℕ) → length (logged graph arrays inputs picks budget ledger cells lent .log) * logWidth ≤ lent
 
 abbrev pub NotBy7 : Result → Type 0
 NotBy7 (refusedAtOnce r place) = ¬ (r ≡ BadStore)

@@ -75,11 +75,6 @@ pub record ProfileRan (x : ProfileResult) (r : Profiled) (ledger ledger′ cells
   pub cellsLeft : cells′ ≡ cellsAfter (x .result) cells
   pub profileLeft : profile′ ≡ profileAfter x profile
 
--- ---- the records have room in what is lent
-
-abbrev pub ProfileFits : Type 0
-ProfileFits = (graph arrays inputs : List ℕ) (ledger cells lent : ℕ) → length (profiled graph arrays inputs ledger cells lent .records) * stepWidth ≤ lent
-
 -- ---- how many there can be
 
 -- a step has one firing at least: so no more records than firings, and 2,048 at most
