@@ -8,40 +8,32 @@ use lib.IntN.{ℤ}
 use Rattle.record.specs.declared.tag.Tag.{Tag}
 use Rattle.arithmetic.specs.declared.Range.{Range}
 use Rattle.arithmetic.specs.Ranges.{Holds}
-use Rattle.machine.specs.Machine.{Outcome, completed, hung, budgetSpent, refused, End}
-use Rattle.machine.specs.Orders as Orders
+use Rattle.machine.specs.Orders.{Quiescent}
 use Rattle.machine.specs.InStep.{RelatedToken, RelatedEnds}
 use Rattle.machine.proofs.InStep.{pairLength}
-use Rattle.rules.specs.declared.answer.Refusal.{Refusal}
 use Rattle.rules.specs.declared.answer.Outcome as AnswerOutcome
 use Rattle.rules.specs.Run as Plain
 use Rattle.rules.specs.Run.{Ran, outcomeOf, answer, ledgerAfter, cellsAfter}
-use Rattle.rules.specs.Runs.{Quiescent}
+use Rattle.rules.specs.Runs.{outcomeIn}
 use Rattle.rules.specs.Bounded.{bounded}
 use Rattle.rules.specs.RangeRun.{RangeResult, refusedAtOnce, ranTo, rangeResult, rangeAnswer, rangeLedgerAfter, rangeCellsAfter, RangesRan}
 use Rattle.rules.specs.Ranges.{Promised, SameEnds}
 use Rattle.rules.proofs.Ranges.{ranges-promise, any-two-range-orders}
+use Rattle.rules.proofs.Outcomes.{outcome-back}
 use Rattle.range_engine.specs.Promise.{LentToRun, LeftByRun}
 use Rattle.abi_ranges.specs.Choices.{WithinRanges, RangesHold, SameRanges, RangeOrders}
 
--- at rest by the answer, at rest by the machine
-at-rest : (o : Outcome Refusal) → Quiescent (outcomeOf o) → Orders.QuiescentEnd o
-at-rest completed q = tt
-at-rest hung q = tt
-at-rest budgetSpent q = q
-at-rest (refused r place) q = q
-
-rests : (X : RangeResult) (o : AnswerOutcome.Outcome) → o ≡ rangeAnswer X .outcome → Quiescent o → Quiescent (rangeAnswer X .outcome)
-rests X o e q = subst Quiescent e q
+rests : (X : RangeResult) (o : AnswerOutcome.Outcome) → o ≡ rangeAnswer X .outcome → Quiescent (outcomeIn o) → Quiescent (outcomeIn (rangeAnswer X .outcome))
+rests X o e q = subst Quiescent (ap outcomeIn e) q
 
 module _ (l m : LentToRun) (x y : LeftByRun) where
   within : (X : RangeResult) (Y : Plain.Result) → Promised X Y → RangesRan X (x .answer) (l .ledger) (x .ledger) (l .cells) (x .cells) → Ran Y (y .answer) (m .ledger) (y .ledger) (m .cells) (y .cells)
-      → Quiescent (rangeAnswer X .outcome) → WithinRanges l x m y
+      → Quiescent (outcomeIn (rangeAnswer X .outcome)) → WithinRanges l x m y
   unfolding rangeAnswer rangeLedgerAfter rangeCellsAfter answer ledgerAfter cellsAfter
   within (refusedAtOnce r p) Y h a b q = absurd q
   within (ranTo d) (Plain.refusedAtOnce r p) h a b q = absurd h
   within (ranTo d) (Plain.ranTo e) h a b q =
-      let alike = h (at-rest (d .outcome) q) in
+      let alike = h (subst Quiescent (outcome-back (d .outcome)) q) in
       record {
         answer = a .answered ∙ (λ i. record { outcome = outcomeOf (alike .outcome i); firings = alike .firings i; tokens = pairLength (RelatedToken Holds) (alike .state .tokens) i }) ∙ sym (b .answered);
         ranges = d .state .tokens;
@@ -57,12 +49,12 @@ module _ (l m : LentToRun) (x y : LeftByRun) where
       }
 
   same : (X Y : RangeResult) → SameEnds X Y → RangesRan X (x .answer) (l .ledger) (x .ledger) (l .cells) (x .cells) → RangesRan Y (y .answer) (m .ledger) (y .ledger) (m .cells) (y .cells)
-      → Quiescent (rangeAnswer X .outcome) → SameRanges l x m y
+      → Quiescent (outcomeIn (rangeAnswer X .outcome)) → SameRanges l x m y
   unfolding rangeAnswer rangeLedgerAfter rangeCellsAfter
   same (refusedAtOnce r p) Y h a b q = absurd q
   same (ranTo d) (refusedAtOnce r p) h a b q = absurd h
   same (ranTo d) (ranTo e) h a b q =
-      let alike = h .alike (at-rest (d .outcome) q) in
+      let alike = h .alike (subst Quiescent (outcome-back (d .outcome)) q) in
       record {
         answer = a .answered ∙ (λ i. record { outcome = outcomeOf (alike .outcome i); firings = alike .firings i; tokens = alike .count i }) ∙ sym (b .answered);
         tokens = d .state .tokens;

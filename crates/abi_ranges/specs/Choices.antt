@@ -16,8 +16,9 @@ use Rattle.arithmetic.specs.declared.Range.{Range}
 use Rattle.arithmetic.specs.Ranges.{Holds}
 use Rattle.machine.specs.Machine.{Token, Cell}
 use Rattle.machine.specs.InStep.{PlaceByPlace, RelatedToken, RelatedCell}
+use Rattle.machine.specs.Orders.{Quiescent}
 use Rattle.rules.specs.Run.{tokenRecord, cellRecord}
-use Rattle.rules.specs.Runs.{Quiescent}
+use Rattle.rules.specs.Runs.{outcomeIn}
 use Rattle.rules.specs.Bounded.{BoundedOn}
 use Rattle.rules.specs.RangeRun.{encodeRange, encodeRangeCell}
 use Rattle.rules.specs.Ranges.{ChosenInputs, AsManyRecords}
@@ -41,7 +42,7 @@ pub record WithinRanges (l : LentToRun) (x : LeftByRun) (m : LentToRun) (y : Lef
 abbrev pub RangesHold : Type 0
 RangesHold = (graph arrays ranges inputs : List ℕ) (budget k : ℕ) (l m : LentToRun) (x y : LeftByRun) → ChosenInputs ranges inputs → l .picks ≡ m .picks
     → AsManyRecords (length (l .ledger)) (length (l .cells)) (length (m .ledger)) (length (m .cells))
-    → RangesOn graph arrays ranges budget k l x → BoundedOn graph arrays inputs budget k m y → Quiescent (x .answer .outcome) → WithinRanges l x m y
+    → RangesOn graph arrays ranges budget k l x → BoundedOn graph arrays inputs budget k m y → Quiescent (outcomeIn (x .answer .outcome)) → WithinRanges l x m y
 
 -- as demand 3 compares runs: equal answers and cells, and the same tokens in some order
 pub record SameRanges (l : LentToRun) (x : LeftByRun) (m : LentToRun) (y : LeftByRun) : Type 0 where
@@ -60,4 +61,4 @@ abbrev pub RangeOrders : Type 0
 RangeOrders = (graph arrays ranges : List ℕ) (budget : ℕ) (l m : LentToRun) (x y : LeftByRun)
     → whole pickWidth mostTokens (length (l .picks)) ≡ true → whole pickWidth mostTokens (length (m .picks)) ≡ true
     → length (l .ledger) ≡ length (m .ledger) → length (l .cells) ≡ length (m .cells)
-    → RangesOn graph arrays ranges budget 0 l x → RangesOn graph arrays ranges budget 0 m y → Quiescent (x .answer .outcome) → SameRanges l x m y
+    → RangesOn graph arrays ranges budget 0 l x → RangesOn graph arrays ranges budget 0 m y → Quiescent (outcomeIn (x .answer .outcome)) → SameRanges l x m y

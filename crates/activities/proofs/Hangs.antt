@@ -19,13 +19,13 @@ use Rattle.record.specs.TokensAndTags.{mostTokens, capacityOf, ledgerOf}
 use Rattle.record.specs.Cells as Cells
 use Rattle.record.specs.Widths.{tokenWidth, cellWidth}
 use Rattle.machine.specs.Machine.{Machine, StateOf, State, Activity, Outcome, completed, hung, budgetSpent, refused, End, enabled, byPicks}
-use Rattle.machine.specs.Orders as Ends
-use Rattle.machine.specs.Bounded.{Held, freeOf, SaysFree, RanBounded, runBounded, logBounded}
+use Rattle.machine.specs.Orders.{Completed, Hung, Quiescent}
+use Rattle.machine.specs.Bounded.{Held, freeOf, runBounded, logBounded}
 use Rattle.machine.proofs.Lists.{no-member}
 use Rattle.machine.proofs.View.{falseTrue}
 use Rattle.machine.proofs.Orders.{byPicksLawful}
 use Rattle.machine.proofs.Reached.{sequenceReaches}
-use Rattle.machine.proofs.Bounded.{onlyHeld, properRests, boundedLogged}
+use Rattle.machine.proofs.Bounded.{onlyHeld, properRests, boundedLogged, SaysFree, RanBounded}
 use Rattle.rules.specs.declared.answer.Refusal.{Refusal}
 use Rattle.rules.specs.declared.answer.Refusal.the-variants.{BadBound}
 use Rattle.rules.specs.declared.answer.Answer.{Answer}
@@ -34,7 +34,7 @@ use Rattle.rules.specs.declared.answer.Checked.the-variants.{Passed, Failed}
 use Rattle.rules.specs.Check.{_andThen_, demand, checkGraph, checkStores, checkArrays, checkInputs, mostCells}
 use Rattle.rules.specs.InstructionSet.{machineOf}
 use Rattle.rules.specs.Run.{tokenRecord, cellRecord, firstState, picksOf, Result, refusedAtOnce, ranTo, outcomeOf, answer, ledgerAfter, cellsAfter}
-use Rattle.rules.specs.Runs.{LentToRun, LeftByRun, Completed, Quiescent}
+use Rattle.rules.specs.Runs.{LentToRun, LeftByRun, outcomeIn}
 use Rattle.rules.specs.Parts.{leftBy}
 use Rattle.rules.specs.Held.{heldIn}
 use Rattle.rules.specs.Saved.{stateTaken}
@@ -43,6 +43,7 @@ use Rattle.rules.proofs.Passed.{demand-passed, andThen-passed}
 use Rattle.rules.proofs.Accepted.{whole-bytes, stores-whole, Accepted, accepted, by-check}
 use Rattle.rules.proofs.Saved.{Resumable, resumable-reached, resumable-start, resumed, taken-again}
 use Rattle.rules.proofs.Written.{Rooms, ledger-size, cells-size}
+use Rattle.rules.proofs.Outcomes.{outcome-back}
 use Rattle.activities.specs.declared.Tally.the-variants.{Found}
 use Rattle.activities.specs.Counts.{heldOf, enabledIn, heldBackIn, countLentChecked, counted, counts}
 use Rattle.activities.specs.Hangs.{heldLeft, TellsHang, WhichHang}
@@ -63,9 +64,9 @@ module _ (M : Machine) (held : Held M) (x : StateOf M) where
 
   -- completed, or hung with none of the enabled held
   abbrev NoneHeld : Outcome (M .Refusal) → Type 0
-  NoneHeld o = Ends.CompletedEnd o ⊎ (Ends.HungEnd o × ((a : Activity (M .Tag)) → List·Memᴰ a (enabled M x) → held x a ≡ false))
+  NoneHeld o = Completed o ⊎ (Hung o × ((a : Activity (M .Tag)) → List·Memᴰ a (enabled M x) → held x a ≡ false))
 
-  tells : (o : Outcome (M .Refusal)) (budget n : ℕ) → Ends.QuiescentEnd o → SaysFree M held o budget n x
+  tells : (o : Outcome (M .Refusal)) (budget n : ℕ) → Quiescent o → SaysFree M held o budget n x
       → (length (heldOf M held x) ≡ length (enabled M x)) × (length (heldOf M held x) ≡ 0 ↔ NoneHeld o)
   tells completed budget n q (f, proper) =
       let e = all-held f in
@@ -149,39 +150,27 @@ module _ (graph arrays inputs : List ℕ) (graphBytes : Bytes graph) (inputBytes
   unfolding andBound checkStores
   passes = rw (a .graphPassed, ledger-size (e .state) ledger cells room, cells-size (e .state) ledger cells room, wholeLedger, wholeCells, bound)
 
-  quiet : (o : Outcome Refusal) → Quiescent (outcomeOf o) → Ends.QuiescentEnd o
-  quiet completed h = tt
-  quiet hung h = tt
-  quiet budgetSpent h = h
-  quiet (refused r p) h = h
-
-  said : Quiescent (outcomeOf (e .outcome)) → (length (heldOf M (heldIn (graphOf graph) k) (e .state)) ≡ length (enabled M (e .state)))
+  said : Quiescent (outcomeIn (outcomeOf (e .outcome))) → (length (heldOf M (heldIn (graphOf graph) k) (e .state)) ≡ length (enabled M (e .state)))
       × (length (heldOf M (heldIn (graphOf graph) k) (e .state)) ≡ 0 ↔ NoneHeld M (heldIn (graphOf graph) k) (e .state) (e .outcome))
-  said h = tells M (heldIn (graphOf graph) k) (e .state) (e .outcome) budget (length log) (quiet (e .outcome) h) (ran .says)
+  said h = tells M (heldIn (graphOf graph) k) (e .state) (e .outcome) budget (length log) (subst Quiescent (outcome-back (e .outcome)) h) (ran .says)
 
-  finds : Quiescent (outcomeOf (e .outcome)) → counts graph k (e .firings) (length (e .state .tokens)) ledger′ cells′ ≡ Found (heldBackIn graph k ledger′ cells′ (length (e .state .tokens))) (heldBackIn graph k ledger′ cells′ (length (e .state .tokens)))
+  finds : Quiescent (outcomeIn (outcomeOf (e .outcome))) → counts graph k (e .firings) (length (e .state .tokens)) ledger′ cells′ ≡ Found (heldBackIn graph k ledger′ cells′ (length (e .state .tokens))) (heldBackIn graph k ledger′ cells′ (length (e .state .tokens)))
   finds h =
       sym (is-counted graph ledger′ cells′ k (e .firings) (length (e .state .tokens)) (sym is-taken) _ _ (held-back ∙ said h .0 ∙ sym enabled-back) refl
       ∙ lent-counts graph ledger′ cells′ k (e .firings) (length (e .state .tokens)) passes)
 
-  none-left : Quiescent (outcomeOf (e .outcome)) → heldBackIn graph k ledger′ cells′ (length (e .state .tokens)) ≡ 0 ↔ LeavesNoneHeld graph arrays k (length ledger) (length cells) (ranTo e)
+  none-left : Quiescent (outcomeIn (outcomeOf (e .outcome))) → heldBackIn graph k ledger′ cells′ (length (e .state .tokens)) ≡ 0 ↔ LeavesNoneHeld graph arrays k (length ledger) (length cells) (ranTo e)
   none-left h = let (there, back) = said h .1 in (λ z. there (sym held-back ∙ z), λ n. held-back ∙ back n)
 
-  done : (o : Outcome Refusal) → Completed (outcomeOf o) → Ends.CompletedEnd o
-  done completed h = tt
-  done hung h = h
-  done budgetSpent h = h
-  done (refused r p) h = h
-
-  none-completed : Quiescent (outcomeOf (e .outcome)) → Completed (outcomeOf (e .outcome)) → heldBackIn graph k ledger′ cells′ (length (e .state .tokens)) ≡ 0
-  none-completed h c = none-left h .1 (inl (done (e .outcome) c))
+  none-completed : Quiescent (outcomeIn (outcomeOf (e .outcome))) → Completed (outcomeIn (outcomeOf (e .outcome))) → heldBackIn graph k ledger′ cells′ (length (e .state .tokens)) ≡ 0
+  none-completed h c = none-left h .1 (inl (subst Completed (outcome-back (e .outcome)) c))
 
 -- ---- of any run
 
 -- a result, and what it leaves
 record Tells (graph arrays : List ℕ) (k : ℕ) (ledger cells : List ℕ) (z : Result) : Type 0 where
   found : counts graph k (answer z .firings) (answer z .tokens) (ledgerAfter z ledger) (cellsAfter z cells) ≡ Found (heldLeft graph k (leftBy z ledger cells)) (heldLeft graph k (leftBy z ledger cells))
-  none : Completed (answer z .outcome) → heldLeft graph k (leftBy z ledger cells) ≡ 0
+  none : Completed (outcomeIn (answer z .outcome)) → heldLeft graph k (leftBy z ledger cells) ≡ 0
   exactly : heldLeft graph k (leftBy z ledger cells) ≡ 0 ↔ LeavesNoneHeld graph arrays k (length ledger) (length cells) z
 
 module _ (graph arrays inputs : List ℕ) (graphBytes : Bytes graph) (inputBytes : Bytes inputs) (picks ledger cells : List ℕ) (budget k : ℕ) where
@@ -195,11 +184,11 @@ module _ (graph arrays inputs : List ℕ) (graphBytes : Bytes graph) (inputBytes
       let (s, b) = andThen-passed stores (demand (goodBound k) BadBound 0) p in
       (s, demand-passed (goodBound k) BadBound 0 b, a)
 
-  result-tells : Quiescent (answer (bounded graph arrays inputs picks budget k (length ledger) (length cells)) .outcome)
+  result-tells : Quiescent (outcomeIn (answer (bounded graph arrays inputs picks budget k (length ledger) (length cells)) .outcome))
       → Tells graph arrays k ledger cells (bounded graph arrays inputs picks budget k (length ledger) (length cells))
   unfolding bounded answer ledgerAfter cellsAfter
   result-tells =
-      by-check (checkBounded graph arrays inputs picks k (length ledger) (length cells)) _ (λ z. Quiescent (answer z .outcome) → Tells graph arrays k ledger cells z) (λ r p e h. absurd h) (λ e h.
+      by-check (checkBounded graph arrays inputs picks k (length ledger) (length cells)) _ (λ z. Quiescent (outcomeIn (answer z .outcome)) → Tells graph arrays k ledger cells z) (λ r p e h. absurd h) (λ e h.
       let (s, b, a) = parts e in
       let w = stores-whole (length inputs) (length picks) (length ledger) (length cells) s in
       record {
@@ -212,5 +201,5 @@ pub which-hang : WhichHang
 which-hang graph arrays inputs graphBytes inputBytes budget k l x ran done =
     let z = bounded graph arrays inputs (l .picks) budget k (length (l .ledger)) (length (l .cells)) in
     let same : x ≡ leftBy z (l .ledger) (l .cells) = λ i. record { answer = ran .answered i; ledger = ran .ledgerLeft i; cells = ran .cellsLeft i } in
-    let t = result-tells graph arrays inputs graphBytes inputBytes (l .picks) (l .ledger) (l .cells) budget k (subst (λ (r : Answer). Quiescent (r .outcome)) (ran .answered) done) in
+    let t = result-tells graph arrays inputs graphBytes inputBytes (l .picks) (l .ledger) (l .cells) budget k (subst (λ (r : Answer). Quiescent (outcomeIn (r .outcome))) (ran .answered) done) in
     subst (TellsHang graph arrays inputs budget k l) (sym same) (record { found = t .found; completed = t .none; exactly = t .exactly })

@@ -2,7 +2,7 @@
 -- (`too-small`). From the same over the rules. Assumes nothing.
 use Prim.Native.Nat.{ℕ, _*_, _/_, _%_, _≤_, _<_}
 use native.Mathlib.Omega.{arith}
-use mathlib.Core.Path.{_≡_, refl, sym, ap, _∙_}
+use mathlib.Core.Path.{_≡_, refl, sym, ap, _∙_, subst}
 use mathlib.Core.List.{List, _++_, append-nil}
 use lib.ListN.{length, drop, length-map, drop-of-length-le}
 use lib.Seq.{take-at}
@@ -16,7 +16,7 @@ use Rattle.record.specs.Cells as Cells
 use Rattle.record.specs.Widths.{tokenWidth, cellWidth}
 use Rattle.record.proofs.Records.{length-token, length-cell}
 use Rattle.machine.specs.Machine.{Outcome, completed, hung, budgetSpent, refused, End}
-use Rattle.machine.specs.Capacity.{RefusedBy}
+use Rattle.machine.specs.Orders.{Quiescent, RefusedBy}
 use Rattle.rules.specs.declared.answer.Refusal.{Refusal}
 use Rattle.rules.specs.declared.answer.Answer.{Answer}
 use Rattle.rules.specs.declared.answer.Refusal.the-variants.{LedgerFull}
@@ -26,18 +26,16 @@ use Rattle.rules.specs.declared.answer.Checked.the-variants.{Passed, Failed}
 use Rattle.record.specs.GraphRecords.{graphOf}
 use Rattle.rules.specs.Check.{check, checkStores, checkArrays, mostCells}
 use Rattle.rules.specs.Run.{cellRecord, outcomeOf, Result, refusedAtOnce, ranTo, unlessFailed, result, answer, ledgerAfter, cellsAfter, tokenRecord}
-use Rattle.rules.specs.Orders.{resultTokens, resultCells, QuiescentResult, Allowed}
+use Rattle.rules.specs.Orders.{resultOutcome, resultTokens, resultCells, Allowed}
 use Rattle.rules.specs.Invariants.{LawfulResult}
-use Rattle.rules.specs.Capacity as Rules
 use Rattle.rules.proofs.Inputs.{tokens-first}
 use Rattle.rules.proofs.Accepted.{whole-bytes, accepted, stores-whole}
 use Rattle.rules.proofs.Invariants.{result-invariants}
 use Rattle.rules.specs.Fits.{CellCount}
 use Rattle.rules.proofs.Capacity as Laws
-use Rattle.rules.specs.Runs.{LentToRun, LeftByRun, RanOn}
-use Rattle.rules.specs.Runs as Runs
+use Rattle.rules.proofs.Outcomes.{outcome-said}
+use Rattle.rules.specs.Runs.{LentToRun, LeftByRun, RanOn, outcomeIn}
 use Rattle.bounds.specs.Capacity.{firstRecords, SameEnd, EnoughRoom, RefusedBy8, TooSmall}
-use Rattle.bounds.proofs.Runs.{quiescent}
 
 -- ---- what a run leaves, in bytes
 
@@ -54,7 +52,7 @@ module _ (graph arrays inputs : List ℕ) (ledger cells : ℕ) where
   inputs-among (Failed r place) e p h = let z : _≡_ {A = ℕ} 0 1 = cc in absurd (omega arith)
 
 -- the cells are all written
-cell-bytes : (x : Result) → QuiescentResult x → (lent : List ℕ) → length lent % cellWidth ≡ 0 → CellCount x (length lent / cellWidth) → cellsAfter x lent ≡ joined Cells.encodeCell (resultCells x)
+cell-bytes : (x : Result) → Quiescent (resultOutcome x) → (lent : List ℕ) → length lent % cellWidth ≡ 0 → CellCount x (length lent / cellWidth) → cellsAfter x lent ≡ joined Cells.encodeCell (resultCells x)
 unfolding cellsAfter
 cell-bytes (refusedAtOnce r p) h lent whole count = absurd h
 cell-bytes (ranTo e) h lent whole count =
@@ -63,18 +61,18 @@ cell-bytes (ranTo e) h lent whole count =
     let all : length lent ≤ length written = omega arith in
     ap (λ (l : List ℕ). written ++ l) (drop-of-length-le lent all) ∙ append-nil written
 
-token-bytes : (x : Result) → QuiescentResult x → length (joined encodeToken (resultTokens x)) ≡ answer x .tokens * tokenWidth
+token-bytes : (x : Result) → Quiescent (resultOutcome x) → length (joined encodeToken (resultTokens x)) ≡ answer x .tokens * tokenWidth
 unfolding answer
 token-bytes (refusedAtOnce r p) h = absurd h
 token-bytes (ranTo e) h = length-joined tokenWidth encodeToken length-token (resultTokens (ranTo e)) ∙ rw (length-map (e .state .tokens) tokenRecord)
 
-ledger-bytes : (x : Result) → QuiescentResult x → (lent : List ℕ) → ledgerAfter x lent ≡ joined encodeToken (resultTokens x) ++ drop (answer x .tokens * tokenWidth) lent
+ledger-bytes : (x : Result) → Quiescent (resultOutcome x) → (lent : List ℕ) → ledgerAfter x lent ≡ joined encodeToken (resultTokens x) ++ drop (answer x .tokens * tokenWidth) lent
 unfolding ledgerAfter
 ledger-bytes (refusedAtOnce r p) h lent = absurd h
 ledger-bytes (ranTo e) h lent = rw (token-bytes (ranTo e) h)
 
 -- the used records of one ledger, in another
-used-bytes : (x : Result) → QuiescentResult x → (lent lent′ : List ℕ) → ledgerAfter x lent′ ≡ firstRecords (answer x .tokens) (ledgerAfter x lent) ++ drop (answer x .tokens * tokenWidth) lent′
+used-bytes : (x : Result) → Quiescent (resultOutcome x) → (lent lent′ : List ℕ) → ledgerAfter x lent′ ≡ firstRecords (answer x .tokens) (ledgerAfter x lent) ++ drop (answer x .tokens * tokenWidth) lent′
 used-bytes x h lent lent′ =
     rw (ledger-bytes x h lent′, ledger-bytes x h lent, take-at (joined encodeToken (resultTokens x)) (drop (answer x .tokens * tokenWidth) lent) (answer x .tokens * tokenWidth) (token-bytes x h))
 
@@ -86,7 +84,7 @@ full hung h = absurd h
 full budgetSpent h = absurd h
 full (refused r place) h = (place, rw h)
 
-by-8 : (x : Result) → Rules.RefusedBy8OfResults x → (place : ℕ) × (answer x .outcome ≡ Refused LedgerFull place)
+by-8 : (x : Result) → RefusedBy LedgerFull (resultOutcome x) → (place : ℕ) × (answer x .outcome ≡ Refused LedgerFull place)
 unfolding answer
 by-8 (refusedAtOnce r place) h = (place, rw h)
 by-8 (ranTo e) h = full (e .outcome) h
@@ -96,13 +94,13 @@ same-place p q e = cc
 
 -- ---- two runs
 
-module _ (graph arrays inputs : List ℕ) (l m : LentToRun) (x y : LeftByRun) (ranX : RanOn graph arrays inputs 2048 l x) (rest : Runs.Quiescent (x .answer .outcome)) (ranY : RanOn graph arrays inputs 2048 m y)
+module _ (graph arrays inputs : List ℕ) (l m : LentToRun) (x y : LeftByRun) (ranX : RanOn graph arrays inputs 2048 l x) (rest : Quiescent (outcomeIn (x .answer .outcome))) (ranY : RanOn graph arrays inputs 2048 m y)
     (cells : length (m .cells) ≡ length (l .cells)) where
   abbrev resultOf : LentToRun → Result
   resultOf k = result graph arrays inputs (k .picks) 2048 (length (k .ledger)) (length (k .cells))
 
-  rests : QuiescentResult (resultOf l)
-  rests = quiescent (resultOf l) (rw (ranX .answered) at rest)
+  rests : Quiescent (resultOutcome (resultOf l))
+  rests = subst Quiescent (ap (λ (r : Answer). outcomeIn (r .outcome)) (ranX .answered) ∙ outcome-said (resultOf l)) rest
 
   tokens : x .answer .tokens ≡ answer (resultOf l) .tokens
   tokens = ap (λ (r : Answer). r .tokens) (ranX .answered)

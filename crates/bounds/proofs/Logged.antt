@@ -5,23 +5,24 @@ use mathlib.Core.Bool.{Bool, true, false}
 use mathlib.Core.List.{List}
 use native.Mathlib.Omega.{arith}
 use lib.ListN.{length}
+use Rattle.machine.specs.Orders.{Quiescent, Refused}
 use Rattle.rules.specs.declared.answer.Outcome.{Outcome}
 use Rattle.rules.specs.declared.answer.Outcome.the-variants as Outcomes
 use Rattle.rules.specs.Log.{logSuffices}
-use Rattle.rules.specs.Runs.{LentToLogged, LeftByLogged, RanOn, LoggedOn, lentBesideLog, leftBesideLog, Quiescent, Refused}
+use Rattle.rules.specs.Runs.{LentToLogged, LeftByLogged, RanOn, LoggedOn, lentBesideLog, leftBesideLog, outcomeIn}
 use Rattle.rules.proofs.Logged.{logged-runs-on, logged-else}
 use Rattle.bounds.specs.Logged.{NoLoggedExceeds, LoggedExact, LoggedEnoughRoom, LoggedTooSmall}
 use Rattle.bounds.proofs.Runs.{no-run-exceeds, bounds-exact}
 use Rattle.bounds.proofs.Capacity.{enough-room, too-small}
 
-not-both : (o : Outcome) → Quiescent o → ¬ (Refused o)
+not-both : (o : Outcome) → Quiescent (outcomeIn o) → ¬ (Refused (outcomeIn o))
 not-both Outcomes.Completed q r = r
 not-both Outcomes.Hung q r = r
 not-both Outcomes.Spent q r = r
 not-both (Outcomes.Refused n p) q r = q
 
 -- one that completed or hung had a log that suffices
-suffices : (graph arrays inputs : List ℕ) (l : LentToLogged) (x : LeftByLogged) → LoggedOn graph arrays inputs l x → Quiescent (x .answer .outcome) → logSuffices (l .budget) (length (l .log)) ≡ true
+suffices : (graph arrays inputs : List ℕ) (l : LentToLogged) (x : LeftByLogged) → LoggedOn graph arrays inputs l x → Quiescent (outcomeIn (x .answer .outcome)) → logSuffices (l .budget) (length (l .log)) ≡ true
 suffices graph arrays inputs l x h q = go (logSuffices (l .budget) (length (l .log))) refl
   where
     go : (b : Bool) → logSuffices (l .budget) (length (l .log)) ≡ b → b ≡ true

@@ -8,10 +8,11 @@ use lib.ListN.{length, take, drop}
 use Rattle.buffer.specs.Rows.{whole}
 use Rattle.record.specs.TokensAndTags.{mostTokens, capacityOf}
 use Rattle.record.specs.Widths.{tokenWidth}
+use Rattle.machine.specs.Orders.{Quiescent}
 use Rattle.rules.specs.declared.answer.Refusal.the-variants.{LedgerFull}
 use Rattle.rules.specs.declared.answer.Outcome.the-variants.{Refused}
 use Rattle.rules.specs.Orders.{Allowed}
-use Rattle.rules.specs.Runs.{LentToRun, LeftByRun, RanOn, Quiescent}
+use Rattle.rules.specs.Runs.{LentToRun, LeftByRun, RanOn, outcomeIn}
 
 -- ---- "with any capacity from t to 2,048 and equal picks the end is the same apart from unused bytes"
 
@@ -26,7 +27,7 @@ pub record SameEnd (x y : LeftByRun) (lent : List ℕ) : Type 0 where
   pub ledger : y .ledger ≡ firstRecords (x .answer .tokens) (x .ledger) ++ drop (x .answer .tokens * tokenWidth) lent
 
 abbrev pub EnoughRoom : Type 0
-EnoughRoom = (graph arrays inputs : List ℕ) (l m : LentToRun) (x y : LeftByRun) → RanOn graph arrays inputs 2048 l x → Quiescent (x .answer .outcome)
+EnoughRoom = (graph arrays inputs : List ℕ) (l m : LentToRun) (x y : LeftByRun) → RanOn graph arrays inputs 2048 l x → Quiescent (outcomeIn (x .answer .outcome))
     → m .picks ≡ l .picks → length (m .cells) ≡ length (l .cells) → whole tokenWidth mostTokens (length (m .ledger)) ≡ true → x .answer .tokens ≤ capacityOf (length (m .ledger))
     → RanOn graph arrays inputs 2048 m y → SameEnd x y (m .ledger)
 
@@ -41,6 +42,6 @@ pub record RefusedBy8 (inputs capacity : ℕ) (lent : LentToRun) (y : LeftByRun)
   pub inFiring : inputs ≤ capacity → inputs ≤ y .answer .tokens
 
 abbrev pub TooSmall : Type 0
-TooSmall = (graph arrays inputs : List ℕ) (l m : LentToRun) (x y : LeftByRun) → RanOn graph arrays inputs 2048 l x → Quiescent (x .answer .outcome)
+TooSmall = (graph arrays inputs : List ℕ) (l m : LentToRun) (x y : LeftByRun) → RanOn graph arrays inputs 2048 l x → Quiescent (outcomeIn (x .answer .outcome))
     → Allowed (m .picks) (length (m .ledger)) (length (m .cells)) → length (m .cells) ≡ length (l .cells) → capacityOf (length (m .ledger)) < x .answer .tokens
     → RanOn graph arrays inputs 2048 m y → RefusedBy8 (length inputs / tokenWidth) (capacityOf (length (m .ledger))) m y

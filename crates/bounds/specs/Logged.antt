@@ -8,11 +8,12 @@ use lib.ListN.{length}
 use Rattle.buffer.specs.Rows.{whole}
 use Rattle.record.specs.TokensAndTags.{mostTokens, capacityOf}
 use Rattle.record.specs.Widths.{tokenWidth}
+use Rattle.machine.specs.Orders.{Quiescent}
 use Rattle.rules.specs.declared.answer.Needs.the-variants.{AtMost}
 use Rattle.rules.specs.Needs.{needs, NoSwitchOrFetch}
 use Rattle.rules.specs.Log.{logSuffices}
 use Rattle.rules.specs.Orders.{Allowed}
-use Rattle.rules.specs.Runs.{LentToLogged, LeftByLogged, LoggedOn, lentBesideLog, leftBesideLog, Quiescent}
+use Rattle.rules.specs.Runs.{LentToLogged, LeftByLogged, LoggedOn, lentBesideLog, leftBesideLog, outcomeIn}
 use Rattle.bounds.specs.Capacity.{SameEnd, RefusedBy8}
 
 -- ---- R-3
@@ -24,18 +25,18 @@ NoLoggedExceeds = (graph arrays inputs : List ℕ) (firings tokens : ℕ) → ne
 
 abbrev pub LoggedExact : Type 0
 LoggedExact = (graph arrays inputs : List ℕ) (firings tokens : ℕ) → needs graph inputs ≡ AtMost firings tokens → NoSwitchOrFetch graph inputs
-    → (l : LentToLogged) (x : LeftByLogged) → LoggedOn graph arrays inputs l x → Quiescent (x .answer .outcome) → (x .answer .firings ≡ firings) × (x .answer .tokens ≡ tokens)
+    → (l : LentToLogged) (x : LeftByLogged) → LoggedOn graph arrays inputs l x → Quiescent (outcomeIn (x .answer .outcome)) → (x .answer .firings ≡ firings) × (x .answer .tokens ≡ tokens)
 
 -- ---- R-12: the other run's log suffices too
 
 abbrev pub LoggedEnoughRoom : Type 0
 LoggedEnoughRoom = (graph arrays inputs : List ℕ) (l m : LentToLogged) (x y : LeftByLogged) → l .budget ≡ 2048 → m .budget ≡ 2048 → logSuffices 2048 (length (m .log)) ≡ true
-    → LoggedOn graph arrays inputs l x → Quiescent (x .answer .outcome) → m .picks ≡ l .picks → length (m .cells) ≡ length (l .cells)
+    → LoggedOn graph arrays inputs l x → Quiescent (outcomeIn (x .answer .outcome)) → m .picks ≡ l .picks → length (m .cells) ≡ length (l .cells)
     → whole tokenWidth mostTokens (length (m .ledger)) ≡ true → x .answer .tokens ≤ capacityOf (length (m .ledger))
     → LoggedOn graph arrays inputs m y → SameEnd (leftBesideLog x) (leftBesideLog y) (m .ledger)
 
 abbrev pub LoggedTooSmall : Type 0
 LoggedTooSmall = (graph arrays inputs : List ℕ) (l m : LentToLogged) (x y : LeftByLogged) → l .budget ≡ 2048 → m .budget ≡ 2048 → logSuffices 2048 (length (m .log)) ≡ true
-    → LoggedOn graph arrays inputs l x → Quiescent (x .answer .outcome) → Allowed (m .picks) (length (m .ledger)) (length (m .cells)) → length (m .cells) ≡ length (l .cells)
+    → LoggedOn graph arrays inputs l x → Quiescent (outcomeIn (x .answer .outcome)) → Allowed (m .picks) (length (m .ledger)) (length (m .cells)) → length (m .cells) ≡ length (l .cells)
     → capacityOf (length (m .ledger)) < x .answer .tokens
     → LoggedOn graph arrays inputs m y → RefusedBy8 (length inputs / tokenWidth) (capacityOf (length (m .ledger))) (lentBesideLog m) (leftBesideLog y)

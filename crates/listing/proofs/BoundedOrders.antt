@@ -8,25 +8,27 @@ use Rattle.number.specs.Number.{Bytes}
 use Rattle.record.specs.TokensAndTags.{mostTokens, capacityOf}
 use Rattle.record.specs.GraphRecords.{graphOf}
 use Rattle.record.specs.Widths.{tokenWidth, cellWidth}
+use Rattle.machine.specs.Orders.{Quiescent, Refused}
 use Rattle.rules.specs.declared.answer.Answer.{Answer}
 use Rattle.rules.specs.declared.answer.Checked.{Checked}
 use Rattle.rules.specs.declared.answer.Checked.the-variants.{Passed, Failed}
 use Rattle.rules.specs.Check.{_andThen_, checkGraph, checkStores, checkArrays, checkInputs, mostCells}
 use Rattle.rules.specs.Run.{Result, Ran, result, unlessFailed}
 use Rattle.rules.specs.Log.{LogResult, LogRan}
-use Rattle.rules.specs.Runs.{LentToRun, LeftByRun, RanOn, LentToLogged, LeftByLogged, Quiescent}
+use Rattle.rules.specs.Runs.{LentToRun, LeftByRun, RanOn, LentToLogged, LeftByLogged, outcomeIn}
 use Rattle.rules.specs.Orders as Rules
 use Rattle.rules.specs.Bounded.{andBound, checkBounded, bounded, LeavesNoneHeld, BoundedEndsAs, BoundedOn}
 use Rattle.rules.proofs.Passed.{andThen-passed}
 use Rattle.rules.proofs.Accepted.{whole-bytes, Whole, stores-whole}
 use Rattle.rules.proofs.Fits.{result-fits}
 use Rattle.rules.proofs.Bounded.{bound-zero, as-every-order, not-refused, bounded-fits}
+use Rattle.rules.proofs.Outcomes.{outcome-said}
 use Rattle.listing.specs.Demand3.{AlikeBytes}
 use Rattle.listing.specs.BoundedOrders.{NoneHeldLeft, BoundedAsOrders, BoundedUnrefused, ZeroIsNone}
-use Rattle.listing.proofs.Demand3.{same-end, bytes-alike}
+use Rattle.listing.proofs.Demand3.{bytes-alike}
 
 -- a run with a bound that came to an end passed the check of its stores
-bounded-stores : (graph arrays inputs picks : List ℕ) (budget k ledger cells : ℕ) → Rules.QuiescentResult (bounded graph arrays inputs picks budget k ledger cells)
+bounded-stores : (graph arrays inputs picks : List ℕ) (budget k ledger cells : ℕ) → Quiescent (Rules.resultOutcome (bounded graph arrays inputs picks budget k ledger cells))
     → Whole (length inputs) (length picks) ledger cells
 unfolding bounded unlessFailed checkBounded andBound
 bounded-stores graph arrays inputs picks budget k ledger cells rests = go (checkBounded graph arrays inputs picks k ledger cells) refl
@@ -62,7 +64,7 @@ module _ (graph arrays inputs : List ℕ) (graphBytes : Bytes graph) (inputBytes
       let fits = bounded-fits graph arrays inputs (l .picks) budget k (length (l .ledger)) (length (l .cells)) graphBytes inputBytes in
       let others = result-fits graph arrays inputs (m .picks) 2048 (length (m .ledger)) (length (m .cells)) graphBytes inputBytes in
       let few = whole-bytes tokenWidth mostTokens (length (l .ledger)) (stores .wholeLedger) .1 in
-      let also = same-end second .rests .1 (subst Quiescent (ends .outcome) (same-end first .rests .0 (ends .rests))) in
+      let also = subst Quiescent (sym (outcome-said first) ∙ ap outcomeIn (ends .outcome) ∙ outcome-said second) (ends .rests) in
       bytes-alike first second ranX ranY (ends .rests) also outcomes (ends .alike) (fits .tokens) (omega (arith, fits .room, few))
       (whole-bytes cellWidth mostCells (length (l .cells)) (stores .wholeCells) .0, fits .cellCount) (whole-bytes cellWidth mostCells (length (m .cells)) (allowed .allowedCells) .0, others .cellCount)
 
@@ -73,9 +75,9 @@ pub bounded-unrefused : BoundedUnrefused
 bounded-unrefused graph arrays inputs budget k good l m allowed ledgers cells x y ranX ranY rests refused =
     let first = bounded graph arrays inputs (l .picks) budget k (length (l .ledger)) (length (l .cells)) in
     let second = result graph arrays inputs (m .picks) 2048 (length (m .ledger)) (length (m .cells)) in
-    let done = same-end second .rests .1 (subst (λ (r : Answer). Quiescent (r .outcome)) (ranY .answered) rests) in
+    let done = subst Quiescent (ap (λ (r : Answer). outcomeIn (r .outcome)) (ranY .answered) ∙ outcome-said second) rests in
     not-refused graph arrays inputs (l .picks) (m .picks) budget k (length (l .ledger)) (length (l .cells)) good allowed (rw (ledgers, cells) done)
-    (same-end first .refuses .1 (rw (ranX .answered) at refused))
+    (subst Refused (ap (λ (r : Answer). outcomeIn (r .outcome)) (ranX .answered) ∙ outcome-said first) refused)
 
 pub zero-is-none : ZeroIsNone
 zero-is-none = record {

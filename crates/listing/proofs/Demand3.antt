@@ -19,70 +19,54 @@ use Rattle.record.proofs.Records.{length-token, length-cell}
 use Rattle.buffer.proofs.Tables.{length-joined}
 use Rattle.record.specs.Widths.{tokenWidth, cellWidth}
 use Rattle.machine.specs.Machine as Machine
+use Rattle.machine.specs.Orders.{Completed, Hung, Quiescent, Spent, Refused}
 use Rattle.rules.specs.declared.answer.Refusal.{Refusal}
 use Rattle.rules.specs.declared.answer.Outcome.{Outcome}
 use Rattle.rules.specs.declared.answer.Outcome.the-variants as Outcomes
 use Rattle.rules.specs.declared.answer.Answer.{Answer}
 use Rattle.rules.specs.Check.{mostCells}
-use Rattle.rules.specs.Run.{Result, refusedAtOnce, ranTo, outcomeOf, result, Ran, ledgerAfter, cellsAfter, tokenRecord}
+use Rattle.rules.specs.Run.{Result, refusedAtOnce, ranTo, result, Ran, ledgerAfter, cellsAfter, tokenRecord}
 use Rattle.rules.specs.Run as Run
 use Rattle.rules.specs.Log.{logSuffices}
-use Rattle.rules.specs.Orders.{resultTokens, resultCells, EachOnce}
+use Rattle.rules.specs.Orders.{resultOutcome, resultTokens, resultCells, EachOnce}
 use Rattle.rules.specs.Orders as Rules
 use Rattle.rules.proofs.Accepted.{whole-bytes, Whole, stores-whole, Begun, begun-stores}
 use Rattle.rules.proofs.Orders.{any-two-orders, perm-map}
+use Rattle.rules.proofs.Outcomes.{outcome-said}
 use Rattle.rules.proofs.Budgets.{any-two-budgets}
 use Rattle.rules.proofs.Logged.{logged-runs-on}
 use Rattle.rules.specs.Fits.{CellCount, AllFit}
 use Rattle.rules.proofs.Fits.{result-fits}
 use Rattle.listing.specs.Listing.{records, listAnswer}
 use Rattle.listing.specs.Sorted.{Pairwise}
-use Rattle.rules.specs.Runs.{LentToRun, LeftByRun, RanOn, LentToLogged, LeftByLogged, LoggedOn, lentBesideLog, leftBesideLog, Completed, Hung, Quiescent, Spent, Refused}
+use Rattle.rules.specs.Runs.{LentToRun, LeftByRun, RanOn, LentToLogged, LeftByLogged, LoggedOn, lentBesideLog, leftBesideLog, outcomeIn}
 use Rattle.listing.specs.Demand3.{NotForOthers, usedBytes, AlikeBytes, BytesAgree, Demand3, AnyTwoBudgets, Demand3Logged}
 use Rattle.listing.proofs.Lists.{all-of}
 use Rattle.listing.proofs.Laws.{records-joined}
 use Rattle.listing.proofs.AnyTwoOrders.{places-differ, records-differ, used-records, length-tokens, list-orders}
 
--- ---- how a run ended: its result and its answer say the same
+-- ---- how a run ended
 
-pub record SameEnd (x : Result) (o : Outcome) : Type 0 where
-  pub completes : Rules.CompletedResult x ↔ Completed o
-  pub hangs : Rules.HungResult x ↔ Hung o
-  pub rests : Rules.QuiescentResult x ↔ Quiescent o
-  pub refuses : Rules.RefusedResult x ↔ Refused o
-  pub spends : Spent o → Rules.SpentResult x
-
-pub same-end : (x : Result) → SameEnd x (Run.answer x .outcome)
-unfolding Run.answer
-same-end (refusedAtOnce r p) = record { completes = (λ h. h, λ h. h); hangs = (λ h. h, λ h. h); rests = (λ h. h, λ h. h); refuses = (λ h. h, λ h. h); spends = λ h. h }
-same-end (ranTo e) = go (e .outcome)
-  where
-    go : (o : Machine.Outcome Refusal) → SameEnd (ranTo (record { outcome = o; firings = e .firings; state = e .state })) (outcomeOf o)
-    go Machine.completed = record { completes = (λ h. h, λ h. h); hangs = (λ h. h, λ h. h); rests = (λ h. h, λ h. h); refuses = (λ h. h, λ h. h); spends = λ h. h }
-    go Machine.hung = record { completes = (λ h. h, λ h. h); hangs = (λ h. h, λ h. h); rests = (λ h. h, λ h. h); refuses = (λ h. h, λ h. h); spends = λ h. h }
-    go Machine.budgetSpent = record { completes = (λ h. h, λ h. h); hangs = (λ h. h, λ h. h); rests = (λ h. h, λ h. h); refuses = (λ h. h, λ h. h); spends = λ h. h }
-    go (Machine.refused r p) = record { completes = (λ h. h, λ h. h); hangs = (λ h. h, λ h. h); rests = (λ h. h, λ h. h); refuses = (λ h. h, λ h. h); spends = λ h. h }
-
-is-completed : (o : Outcome) → Completed o → o ≡ Outcomes.Completed
+is-completed : (o : Outcome) → Completed (outcomeIn o) → o ≡ Outcomes.Completed
 is-completed Outcomes.Completed h = refl
 is-completed Outcomes.Hung h = absurd h
 is-completed Outcomes.Spent h = absurd h
 is-completed (Outcomes.Refused r place) h = absurd h
 
-is-hung : (o : Outcome) → Hung o → o ≡ Outcomes.Hung
+is-hung : (o : Outcome) → Hung (outcomeIn o) → o ≡ Outcomes.Hung
 is-hung Outcomes.Completed h = absurd h
 is-hung Outcomes.Hung h = refl
 is-hung Outcomes.Spent h = absurd h
 is-hung (Outcomes.Refused r place) h = absurd h
 
 -- two outcomes are equal if one is completed or hung, and the other alike
-same-outcome : (o p : Outcome) → Quiescent o → (Completed o → Completed p) → (Hung o → Hung p) → o ≡ p
+same-outcome : (o p : Outcome) → Quiescent (outcomeIn o) → (Completed (outcomeIn o) → Completed (outcomeIn p)) → (Hung (outcomeIn o) → Hung (outcomeIn p)) → o ≡ p
 same-outcome Outcomes.Completed p q c h = sym (is-completed p (c tt))
 same-outcome Outcomes.Hung p q c h = sym (is-hung p (h tt))
 same-outcome Outcomes.Spent p q c h = absurd q
 same-outcome (Outcomes.Refused r place) p q c h = absurd q
 
-quiescent-begun : (x : Result) → Rules.QuiescentResult x → Begun x
+quiescent-begun : (x : Result) → Quiescent (resultOutcome x) → Begun x
 quiescent-begun (refusedAtOnce r p) h = h
 quiescent-begun (ranTo e) h = tt
 
@@ -102,7 +86,7 @@ ran-cells e lent whole count =
     let all : length lent ≤ length written = omega arith in
     ap (λ (l : List ℕ). written ++ l) (drop-of-length-le lent all) ∙ append-nil written
 
-cell-bytes : (x : Result) → Rules.QuiescentResult x → (lent : List ℕ) → length lent % cellWidth ≡ 0 → CellCount x (length lent / cellWidth) → cellsAfter x lent ≡ joined Cells.encodeCell (resultCells x)
+cell-bytes : (x : Result) → Quiescent (resultOutcome x) → (lent : List ℕ) → length lent % cellWidth ≡ 0 → CellCount x (length lent / cellWidth) → cellsAfter x lent ≡ joined Cells.encodeCell (resultCells x)
 cell-bytes (refusedAtOnce r p) h lent whole count = absurd h
 cell-bytes (ranTo e) h lent whole count = ran-cells e lent whole count
 
@@ -124,7 +108,7 @@ records-of ts = records-joined encodeToken ts (all-of (λ t. length (encodeToken
 abbrev CellsLent : Result → List ℕ → Type 0
 CellsLent x lent = (length lent % cellWidth ≡ 0) × CellCount x (length lent / cellWidth)
 
-module _ (x y : Result) {r q : Answer} {l l′ c c′ m m′ d d′ : List ℕ} (ranX : Ran x r l l′ c c′) (ranY : Ran y q m m′ d d′) (cx : Rules.QuiescentResult x) (cy : Rules.QuiescentResult y) where
+module _ (x y : Result) {r q : Answer} {l l′ c c′ m m′ d d′ : List ℕ} (ranX : Ran x r l l′ c c′) (ranY : Ran y q m m′ d d′) (cx : Quiescent (resultOutcome x)) (cy : Quiescent (resultOutcome y)) where
   abbrev left : LeftByRun
   left = record { answer = r; ledger = l′; cells = c′ }
 
@@ -161,24 +145,28 @@ pub record Held (x : Result) (cells : List ℕ) : Type 0 where
 
 module _ (left right : Result) (l m : LentToRun) (x y : LeftByRun)
     (ranX : Ran left (x .answer) (l .ledger) (x .ledger) (l .cells) (x .cells)) (ranY : Ran right (y .answer) (m .ledger) (y .ledger) (m .cells) (y .cells))
-    (agreed : Rules.ResultsAgree left right) (heldX : Rules.QuiescentResult left → Held left (l .cells)) (heldY : Rules.QuiescentResult right → Held right (m .cells)) where
-  endedX : SameEnd left (x .answer .outcome)
-  endedX = subst (λ (r : Answer). SameEnd left (r .outcome)) (sym (ranX .answered)) (same-end left)
+    (agreed : Rules.ResultsAgree left right) (heldX : Quiescent (resultOutcome left) → Held left (l .cells)) (heldY : Quiescent (resultOutcome right) → Held right (m .cells)) where
+  endedX : outcomeIn (x .answer .outcome) ≡ resultOutcome left
+  endedX = ap (λ (r : Answer). outcomeIn (r .outcome)) (ranX .answered) ∙ outcome-said left
 
-  endedY : SameEnd right (y .answer .outcome)
-  endedY = subst (λ (r : Answer). SameEnd right (r .outcome)) (sym (ranY .answered)) (same-end right)
+  endedY : outcomeIn (y .answer .outcome) ≡ resultOutcome right
+  endedY = ap (λ (r : Answer). outcomeIn (r .outcome)) (ranY .answered) ∙ outcome-said right
 
-  completing : Completed (x .answer .outcome) ↔ Completed (y .answer .outcome)
-  completing = (λ h. endedY .completes .0 (agreed .completes .0 (endedX .completes .1 h)), λ h. endedX .completes .0 (agreed .completes .1 (endedY .completes .1 h)))
+  -- what is said of both results is said of both answers
+  ended : (P : Machine.Outcome Refusal → Type 0) → P (resultOutcome left) ↔ P (resultOutcome right) → P (outcomeIn (x .answer .outcome)) ↔ P (outcomeIn (y .answer .outcome))
+  ended P e = (λ h. subst P (sym endedY) (e .0 (subst P endedX h)), λ h. subst P (sym endedX) (e .1 (subst P endedY h)))
 
-  hanging : Hung (x .answer .outcome) ↔ Hung (y .answer .outcome)
-  hanging = (λ h. endedY .hangs .0 (agreed .hangs .0 (endedX .hangs .1 h)), λ h. endedX .hangs .0 (agreed .hangs .1 (endedY .hangs .1 h)))
+  completing : Completed (outcomeIn (x .answer .outcome)) ↔ Completed (outcomeIn (y .answer .outcome))
+  completing = ended Completed (agreed .completes)
 
-  alike : Quiescent (x .answer .outcome) → AlikeBytes x y
+  hanging : Hung (outcomeIn (x .answer .outcome)) ↔ Hung (outcomeIn (y .answer .outcome))
+  hanging = ended Hung (agreed .hangs)
+
+  alike : Quiescent (outcomeIn (x .answer .outcome)) → AlikeBytes x y
   alike done =
       let outcomes = same-outcome (x .answer .outcome) (y .answer .outcome) done (completing .0) (hanging .0) in
-      let cx = endedX .rests .1 done in
-      let cy = endedY .rests .1 (subst Quiescent outcomes done) in
+      let cx = subst Quiescent endedX done in
+      let cy = subst Quiescent (ap outcomeIn outcomes ∙ endedY) done in
       let hx = heldX cx in
       bytes-alike left right ranX ranY cx cy outcomes (agreed .alike cx) (hx .fits) (hx .few) (hx .cellsLent) (heldY cy .cellsLent)
 
@@ -187,8 +175,8 @@ module _ (left right : Result) (l m : LentToRun) (x y : LeftByRun)
     completes = completing;
     hangs = hanging;
     alike = alike;
-    refused = (λ h. endedY .refuses .0 (agreed .refused .0 (endedX .refuses .1 h)), λ h. endedX .refuses .0 (agreed .refused .1 (endedY .refuses .1 h)));
-    neverSpent = λ h. agreed .neverSpent (endedX .spends h);
+    refused = ended Refused (agreed .refused);
+    neverSpent = λ h. agreed .neverSpent (subst Spent endedX h);
   }
 
 -- where its stores were whole, it held what fits
@@ -209,7 +197,7 @@ demand3 graph arrays inputs graphBytes inputBytes l m a b capacities counts x y 
     resultOf k = result graph arrays inputs (k .picks) 2048 (length (k .ledger)) (length (k .cells))
 
     -- a run that completes or hangs passed the check of its stores
-    holds : (k : LentToRun) → Rules.QuiescentResult (resultOf k) → Held (resultOf k) (k .cells)
+    holds : (k : LentToRun) → Quiescent (resultOutcome (resultOf k)) → Held (resultOf k) (k .cells)
     holds k c =
         held (resultOf k) (length inputs) (length (k .picks)) (k .ledger) (k .cells)
         (stores-whole (length inputs) (length (k .picks)) (length (k .ledger)) (length (k .cells)) (begun-stores graph arrays inputs (k .picks) 2048 (length (k .ledger)) (length (k .cells)) (quiescent-begun (resultOf k) c)))
@@ -219,15 +207,15 @@ demand3 graph arrays inputs graphBytes inputBytes l m a b capacities counts x y 
 
 module _ (graph arrays inputs : List ℕ) (graphBytes : Bytes graph) (inputBytes : Bytes inputs) (a b : ℕ) (l m : LentToRun) (allowed : Rules.Allowed (m .picks) (length (m .ledger)) (length (m .cells)))
     (capacities : capacityOf (length (l .ledger)) ≡ capacityOf (length (m .ledger))) (counts : length (l .cells) / cellWidth ≡ length (m .cells) / cellWidth)
-    (x y : LeftByRun) (ranX : RanOn graph arrays inputs a l x) (ranY : RanOn graph arrays inputs b m y) (done : Quiescent (x .answer .outcome)) (enough : x .answer .firings ≤ b) where
+    (x y : LeftByRun) (ranX : RanOn graph arrays inputs a l x) (ranY : RanOn graph arrays inputs b m y) (done : Quiescent (outcomeIn (x .answer .outcome))) (enough : x .answer .firings ≤ b) where
   abbrev first : Result
   first = result graph arrays inputs (l .picks) a (length (l .ledger)) (length (l .cells))
 
   abbrev second : Result
   second = result graph arrays inputs (m .picks) b (length (m .ledger)) (length (m .cells))
 
-  rests : Rules.QuiescentResult first
-  rests = same-end first .rests .1 (subst (λ (r : Answer). Quiescent (r .outcome)) (ranX .answered) done)
+  rests : Quiescent (resultOutcome first)
+  rests = subst Quiescent (ap (λ (r : Answer). outcomeIn (r .outcome)) (ranX .answered) ∙ outcome-said first) done
 
   ends : Rules.ResultsEndAlike first second
   ends =
@@ -247,7 +235,7 @@ module _ (graph arrays inputs : List ℕ) (graphBytes : Bytes graph) (inputBytes
       let fits = result-fits graph arrays inputs (l .picks) a (length (l .ledger)) (length (l .cells)) graphBytes inputBytes in
       let others = result-fits graph arrays inputs (m .picks) b (length (m .ledger)) (length (m .cells)) graphBytes inputBytes in
       let few = whole-bytes tokenWidth mostTokens (length (l .ledger)) (stores .wholeLedger) .1 in
-      let also = same-end second .rests .1 (subst Quiescent (outcomes ∙ ap (λ (r : Answer). r .outcome) (ranY .answered)) done) in
+      let also = subst Quiescent (ap outcomeIn (outcomes ∙ ap (λ (r : Answer). r .outcome) (ranY .answered)) ∙ outcome-said second) done in
       bytes-alike first second ranX ranY rests also outcomes (ends .alike) (fits .tokens) (omega (arith, fits .room, few))
       (whole-bytes cellWidth mostCells (length (l .cells)) (stores .wholeCells) .0, fits .cellCount) (whole-bytes cellWidth mostCells (length (m .cells)) (allowed .allowedCells) .0, others .cellCount)
 

@@ -4,6 +4,7 @@ use mathlib.Core.Path.{_≡_, sym, subst}
 use mathlib.Core.List.{List}
 use lib.ListN.{length}
 use Rattle.number.specs.Number.{Bytes}
+use Rattle.machine.specs.Orders.{Quiescent}
 use Rattle.rules.specs.declared.answer.Checked.the-variants.{Passed}
 use Rattle.rules.specs.Check.{checkGraph}
 use Rattle.rules.specs.Run.{Result, refusedAtOnce, ranTo}
@@ -16,7 +17,7 @@ use Rattle.rules.proofs.Parts.{carried-fits, carried-stores}
 use Rattle.listing.specs.SavedOrders.{Demand3From}
 use Rattle.listing.proofs.Demand3.{Held, held, agree-in-bytes}
 
-quiescent-began : (x : Result) → Rules.QuiescentResult x → Began x
+quiescent-began : (x : Result) → Quiescent (Rules.resultOutcome x) → Began x
 quiescent-began (refusedAtOnce r p) h = h
 quiescent-began (ranTo e) h = tt
 
@@ -33,7 +34,7 @@ demand3-from graph arrays firings n graphBytes l m ledgerBytes otherBytes cellBy
         subst (λ (c : List ℕ). Rules.ResultsAgree (resultOf l) (carried graph arrays (m .picks) 2048 (m .ledger) c firings n)) (one .cells)
         (orders-from graph arrays (l .picks) (m .picks) (l .ledger) (m .ledger) (l .cells) firings n a (subst (λ (c : List ℕ). checkGraph graph ≡ Passed → Rules.Allowed (m .picks) (length (m .ledger)) (length c)) (sym (one .cells)) b) (one .capacity) (one .records))
 
-    holds : (k : LentToRun) → Bytes (k .ledger) → Bytes (k .cells) → Rules.QuiescentResult (resultOf k) → Held (resultOf k) (k .cells)
+    holds : (k : LentToRun) → Bytes (k .ledger) → Bytes (k .cells) → Quiescent (Rules.resultOutcome (resultOf k)) → Held (resultOf k) (k .cells)
     holds k lb cb c =
         held (resultOf k) 0 (length (k .picks)) (k .ledger) (k .cells)
         (carried-stores graph arrays (k .picks) (k .ledger) (k .cells) 2048 firings n (quiescent-began (resultOf k) c))

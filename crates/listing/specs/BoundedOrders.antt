@@ -9,7 +9,8 @@ use lib.ListN.{length}
 use Rattle.number.specs.Number.{Bytes}
 use Rattle.record.specs.TokensAndTags.{capacityOf}
 use Rattle.record.specs.Widths.{cellWidth}
-use Rattle.rules.specs.Runs.{LentToRun, LeftByRun, RanOn, LentToLogged, LeftByLogged, LoggedOn, Quiescent, Refused}
+use Rattle.machine.specs.Orders.{Quiescent, Refused}
+use Rattle.rules.specs.Runs.{LentToRun, LeftByRun, RanOn, LentToLogged, LeftByLogged, LoggedOn, outcomeIn}
 use Rattle.rules.specs.Orders.{Allowed}
 use Rattle.rules.specs.Saved.{CarriedOn}
 use Rattle.rules.specs.Bounded.{goodBound, bounded, LeavesNoneHeld, BoundedOn, BoundLoggedOn, BoundCarriedOn}
@@ -31,7 +32,7 @@ BoundedAsOrders = (graph arrays inputs : List ℕ) → Bytes graph → Bytes inp
 abbrev pub BoundedUnrefused : Type 0
 BoundedUnrefused = (graph arrays inputs : List ℕ) (budget k : ℕ) → goodBound k ≡ true → (l m : LentToRun) → Allowed (l .picks) (length (l .ledger)) (length (l .cells))
     → length (l .ledger) ≡ length (m .ledger) → length (l .cells) ≡ length (m .cells)
-    → (x y : LeftByRun) → BoundedOn graph arrays inputs budget k l x → RanOn graph arrays inputs 2048 m y → Quiescent (y .answer .outcome) → ¬ (Refused (x .answer .outcome))
+    → (x y : LeftByRun) → BoundedOn graph arrays inputs budget k l x → RanOn graph arrays inputs 2048 m y → Quiescent (outcomeIn (y .answer .outcome)) → ¬ (Refused (outcomeIn (x .answer .outcome)))
 
 -- "or 0 for none": what is claimed of runs, of runs that write a log and of runs from a saved state is claimed of them with bound 0
 pub record ZeroIsNone : Type 0 where

@@ -11,7 +11,8 @@ use Rattle.number.specs.Number.{Bytes}
 use Rattle.record.specs.TokensAndTags.{capacityOf}
 use Rattle.record.specs.Widths.{tokenWidth, cellWidth}
 use Rattle.engine.specs.Promise.{LentToRun, LeftByRun, RanOn, LentToLogged, LeftByLogged, LoggedOn}
-use Rattle.rules.specs.Runs.{lentBesideLog, leftBesideLog, Completed, Hung, Quiescent, Spent, Refused}
+use Rattle.machine.specs.Orders.{Completed, Hung, Quiescent, Spent, Refused}
+use Rattle.rules.specs.Runs.{lentBesideLog, leftBesideLog, outcomeIn}
 use Rattle.rules.specs.Orders.{Allowed, NotForOtherBuffers}
 use Rattle.rules.specs.Log.{logSuffices}
 use Rattle.listing.specs.Listing.{recordKey, records, listAnswer, listedOut}
@@ -46,13 +47,13 @@ pub record AlikeBytes (x y : LeftByRun) : Type 0 where
 
 pub record BytesAgree (x y : LeftByRun) : Type 0 where
   -- the demand: "one run completes exactly when the other does"
-  pub completes : Completed (x .answer .outcome) ↔ Completed (y .answer .outcome)
-  pub hangs : Hung (x .answer .outcome) ↔ Hung (y .answer .outcome)
-  pub alike : Quiescent (x .answer .outcome) → AlikeBytes x y
+  pub completes : Completed (outcomeIn (x .answer .outcome)) ↔ Completed (outcomeIn (y .answer .outcome))
+  pub hangs : Hung (outcomeIn (x .answer .outcome)) ↔ Hung (outcomeIn (y .answer .outcome))
+  pub alike : Quiescent (outcomeIn (x .answer .outcome)) → AlikeBytes x y
   -- 01: "If one run is refused, so is the other"
-  pub refused : Refused (x .answer .outcome) ↔ Refused (y .answer .outcome)
+  pub refused : Refused (outcomeIn (x .answer .outcome)) ↔ Refused (outcomeIn (y .answer .outcome))
   -- a budget of 2,048 is never spent
-  pub neverSpent : ¬ (Spent (x .answer .outcome))
+  pub neverSpent : ¬ (Spent (outcomeIn (x .answer .outcome)))
 
 -- 01: "two whole runs over one graph and one list of inputs, for every two lists of picks [..] Capacity and cell count are equal [..] What ledger and
 -- cells held beforehand may differ." They are "at a budget of 2,048"
@@ -68,7 +69,7 @@ abbrev pub AnyTwoBudgets : Type 0
 AnyTwoBudgets = (graph arrays inputs : List ℕ) → Bytes graph → Bytes inputs → (budget budget′ : ℕ) (l m : LentToRun) → Allowed (m .picks) (length (m .ledger)) (length (m .cells))
     → capacityOf (length (l .ledger)) ≡ capacityOf (length (m .ledger))
     → length (l .cells) / cellWidth ≡ length (m .cells) / cellWidth
-    → (x y : LeftByRun) → RanOn graph arrays inputs budget l x → RanOn graph arrays inputs budget′ m y → Quiescent (x .answer .outcome) → x .answer .firings ≤ budget′ → AlikeBytes x y
+    → (x y : LeftByRun) → RanOn graph arrays inputs budget l x → RanOn graph arrays inputs budget′ m y → Quiescent (outcomeIn (x .answer .outcome)) → x .answer .firings ≤ budget′ → AlikeBytes x y
 
 -- ---- runs that write a log
 

@@ -8,8 +8,9 @@ use Prim.Native.Nat.{ℕ, suc}
 use lib.ListN.{set}
 use Rattle.machine.specs.Machine.{Key, Content, live, Token, present, refuse, send, read, write, Machine, Activity, notFired, isThere, when, onOption, fill, cellAt, cellRead, contentRead, ifPresent, changed, Operands, firstPick}
 use Rattle.machine.specs.Machine.{Ledger, StateOf, EffectOf, sameKey, at, find, look, isOperandOf, operands, placeOf, isPlace, enabledFrom, enabled, spendAt, admit, commit, fire, allProper, ending, end, runBy}
-use Rattle.machine.specs.Orders.{Lawful, Good}
-use Rattle.machine.specs.Agreement.{withInstructions, AgreeAt, AgreeOn, SameRun}
+use Rattle.machine.specs.Orders.{Lawful, Good, LawfulChoice}
+use Rattle.machine.specs.Agreement.{withInstructions}
+use Rattle.machine.specs.Machine.{Choice}
 use Rattle.machine.proofs.View.{operandLive, operandZero}
 use Rattle.machine.proofs.Store.{findHead}
 use Rattle.machine.proofs.Enabled.{enabledReady}
@@ -17,6 +18,23 @@ use Rattle.machine.proofs.Sequences.{firing}
 use Rattle.machine.proofs.Runs.{along, runEmpty, runZero, runFired, runRefused}
 use Rattle.machine.proofs.Fired.{marked}
 use Rattle.machine.proofs.Kept.{Each}
+
+-- ---- the claims
+
+module _ (M : Machine) (arity : M .Tag → ℕ) (effect : M .Tag → M .Value → M .Value → EffectOf M) where
+  pub record AgreeAt (τ : M .Tag) : Type 0 where
+    pub arities : arity τ ≡ M .arity τ
+    pub effects : (v w : M .Value) → effect τ v w ≡ M .effect τ v w
+
+  -- at the tag of every token
+  abbrev pub AgreeOn : StateOf M → Type 0
+  AgreeOn x = (k : Key (M .Tag)) → isThere (look M x k) ≡ true → AgreeAt (k .tag)
+
+  abbrev pub SameRun : Type 0
+  SameRun = (c : Choice M) → LawfulChoice M c → (s : StateOf M) → Good M s → (budget : ℕ) (picks : List ℕ) (f : ℕ) → AgreeOn (runBy M c budget picks f s .state)
+      → runBy (withInstructions M arity effect) c budget picks f s ≡ runBy M c budget picks f s
+
+-- ---- the proofs
 
 module _ (M : Machine) (arity : M .Tag → ℕ) (effect : M .Tag → M .Value → M .Value → EffectOf M) where
   abbrev N : Machine

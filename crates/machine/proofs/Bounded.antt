@@ -4,28 +4,84 @@
 -- state that it is well-formed.
 use mathlib.Core.Path.{_≡_, refl, sym, ap, subst, _∙_, fun-ext}
 use mathlib.Core.List.{List, [], _∷_, List·Memᴰ, List·Memᴰ·head, List·Memᴰ·tail, List·Memᴰ·cases-cons, List·Memᴰ·not-nil}
-use mathlib.Core.Logic.{_⊎_, inl, inr}
+use mathlib.Core.Logic.{_⊎_, inl, inr, _↔_}
 use mathlib.Core.Option.{some}
 use mathlib.Core.Bool.{Bool, true, false, cond}
-use Prim.Native.Nat.{ℕ, zero, suc, _+_, _≤_}
+use Prim.Native.Nat.{ℕ, zero, suc, _+_, _≤_, _<_}
 use native.Mathlib.Omega.{arith}
 use native.Mathlib.Nat.{add-zero, zero-add}
 use lib.ListN.{length, getD}
 use Rattle.machine.specs.Machine.{Key, Content, live, Machine, Activity, fired, notFired, Outcome, completed, hung, budgetSpent, refused, onList, when}
 use Rattle.machine.specs.Machine.{Ledger, StateOf, FiredOf, EndOf, sameKey, at, find, look, enabled, fire, Choice, end, ending, runBy}
-use Rattle.machine.specs.Orders.{Lawful, Good, LawfulChoice, InOrder, CompletedEnd, HungEnd, RefusedEnd, QuiescentEnd, ProperContentAt, AllProper}
-use Rattle.machine.specs.Sequences.{Fires, NothingEnabled, logOf, Logged, EveryOrder}
+use Rattle.machine.specs.Orders.{Lawful, Good, LawfulChoice, Completed, Hung, Refused, Quiescent, ProperContentAt, AllProper}
+use Rattle.machine.specs.Sequences.{Fires, NothingEnabled, logOf, Logged}
 use Rattle.machine.specs.Choosers.{Chosen, takes, ends, Chooser, runFrom, logFrom, byPick}
-use Rattle.machine.specs.Bounded.{Held, withoutHeld, freeOf, byFree, outcomeHeld, settled, runBounded, logBounded}
-use Rattle.machine.specs.Bounded.{FreeOnce, OnlyHeld, ProperRests, SaysFree, RanBounded, BoundedLogged, HangsOnHeld, Unbounded, BoundedEnds, BoundedUnrefusedOfMachine}
+use Rattle.machine.specs.Bounded.{Held, withoutHeld, freeOf, byFree, outcomeHeld, settled, runBounded, logBounded, LeavesNoneHeldOfMachine}
 use Rattle.machine.proofs.Lists.{no-member}
 use Rattle.machine.proofs.View.{noneSome, falseTrue, operandLive, operandAt}
-use Rattle.machine.proofs.Enabled.{enabledReady, enabledIn, enabledOnce}
+use Rattle.machine.proofs.Enabled.{enabledReady, enabledIn, enabledOnce, InOrder}
 use Rattle.machine.proofs.Sequences.{neverFired, noLonger, noneRefused}
 use Rattle.machine.proofs.Ending.{ending-cases}
-use Rattle.machine.proofs.Runs.{along, oneTellsAll}
+use Rattle.machine.proofs.Runs.{along, oneTellsAll, EveryOrder}
 use Rattle.machine.proofs.Cut.{later-firings}
 use Rattle.machine.proofs.Choosers.{fromEnds, fromFired, fromRefused, fromZero, logEnds, logFired, logRefused, logZero, choosersLogged, picksChoose}
+
+-- ---- the claims
+
+module _ (M : Machine) where
+  -- those of the enabled that are not held, in order of place
+  pub record FreeOnce (held : Held M) (s : StateOf M) : Type 0 where
+    pub exactly : (a : Activity (M .Tag)) → List·Memᴰ a (freeOf M held s) ↔ List·Memᴰ a (enabled M s) × (held s a ≡ false)
+    pub inOrder : InOrder M 0 (freeOf M held s)
+
+  -- "only held ones remain"
+  abbrev pub OnlyHeld : Type 0
+  OnlyHeld = (held : Held M) (s : StateOf M) → freeOf M held s ≡ [] ↔ ((a : Activity (M .Tag)) → List·Memᴰ a (enabled M s) → held s a ≡ true)
+
+  -- where all tokens are proper nothing is enabled: so it is with a run that completes
+  abbrev pub ProperRests : Type 0
+  ProperRests = (x : StateOf M) → AllProper M (x .tokens) → NothingEnabled M x
+
+  -- by its outcome: completed or hung, no activity is free, and all tokens are proper or not all are. "Spent: the budget's firings are done
+  -- and one is still enabled", and free. Refused: a free activity is refused in the state that is left, and the place is its place
+  abbrev pub SaysFree : Held M → Outcome (M .Refusal) → (budget n : ℕ) → StateOf M → Type 0
+  SaysFree held completed budget n x = (freeOf M held x ≡ []) × AllProper M (x .tokens)
+  SaysFree held hung budget n x = (freeOf M held x ≡ []) × ¬ (AllProper M (x .tokens))
+  SaysFree held budgetSpent budget n x = (n ≡ budget) × (a : Activity (M .Tag)) × List·Memᴰ a (freeOf M held x)
+  SaysFree held (refused r place) budget n x = (n < budget) × (a : Activity (M .Tag)) × List·Memᴰ a (freeOf M held x) × (a .place ≡ place) × (fire M x (a .tag) ≡ notFired r)
+
+  -- it is a firing sequence, its log
+  pub record RanBounded (held : Held M) (s : StateOf M) (budget f : ℕ) (τs : List (M .Tag)) (e : EndOf M) : Type 0 where
+    pub logged : Logged M s f τs e
+    pub within : length τs ≤ budget
+    pub says : SaysFree held (e .outcome) budget (length τs) (e .state)
+
+  abbrev pub BoundedLogged : Type 0
+  BoundedLogged = (held : Held M) (c : Choice M) → LawfulChoice M c → (budget : ℕ) (picks : List ℕ) (f : ℕ) (s : StateOf M)
+      → RanBounded held s budget f (logBounded M held c budget picks s) (runBounded M held c budget picks f s)
+
+  -- "If only held ones remain, the answer is hung, at a used-up budget too."
+  abbrev pub HangsOnHeld : Type 0
+  HangsOnHeld = (held : Held M) (c : Choice M) (budget : ℕ) (picks : List ℕ) (f : ℕ) (s : StateOf M) → freeOf M held s ≡ [] → (a : Activity (M .Tag)) → List·Memᴰ a (enabled M s)
+      → runBounded M held c budget picks f s ≡ end M hung f s
+
+  -- "or 0 for none": where nothing is held it is a run without a bound, and so is its log
+  abbrev pub Unbounded : Type 0
+  Unbounded = (held : Held M) → ((s : StateOf M) (a : Activity (M .Tag)) → held s a ≡ false) → (c : Choice M) (budget : ℕ) (picks : List ℕ) (f : ℕ) (s : StateOf M)
+      → (runBounded M held c budget picks f s ≡ runBy M c budget picks f s) × (logBounded M held c budget picks s ≡ logOf M c budget picks s)
+
+  -- "At any budget, a bounded run that completes, or hangs with no held activity left, must equal the end of every unbounded order at
+  -- budget 2,048, as demand 3 compares them."
+  abbrev pub BoundedEnds : Type 0
+  BoundedEnds = (held : Held M) (c : Choice M) → LawfulChoice M c → (s : StateOf M) → Good M s → (budget : ℕ) (picks : List ℕ) (f : ℕ)
+      → LeavesNoneHeldOfMachine M held (runBounded M held c budget picks f s) → EveryOrder M s f (M .capacity) (runBounded M held c budget picks f s)
+
+  -- where some sequence ends with nothing enabled, a bounded run is never refused
+  abbrev pub BoundedUnrefusedOfMachine : Type 0
+  BoundedUnrefusedOfMachine = (held : Held M) (c : Choice M) → LawfulChoice M c → (s : StateOf M) → Good M s → (budget : ℕ) (picks : List ℕ) (f : ℕ)
+      → (τs : List (M .Tag)) (x : StateOf M) → Fires M s τs x → NothingEnabled M x → ¬ (Refused (runBounded M held c budget picks f s .outcome))
+
+-- ---- the proofs
 
 module _ (M : Machine) where
   -- ---- a list without what is held
@@ -233,7 +289,7 @@ module _ (M : Machine) where
   -- ---- as every order
 
   -- one that rests has the outcome of its state
-  restedFree : (held : Held M) (o : Outcome (M .Refusal)) (b n : ℕ) (x : StateOf M) → QuiescentEnd o → SaysFree M held o b n x → o ≡ ending M x
+  restedFree : (held : Held M) (o : Outcome (M .Refusal)) (b n : ℕ) (x : StateOf M) → Quiescent o → SaysFree M held o b n x → o ≡ ending M x
   restedFree held completed b n x q (e, h) = ending-cases M x (λ o. completed ≡ o) (λ k. refl) (λ k. absurd (k h))
   restedFree held hung b n x q (e, h) = ending-cases M x (λ o. hung ≡ o) (λ k. absurd (h k)) (λ k. refl)
   restedFree held budgetSpent b n x q h = absurd q
@@ -257,7 +313,7 @@ module _ (M : Machine) where
           oneTellsAll M law s g f log e (h .logged) rest said d od n (omega (arith, z .0, z .1)) qs
 
       tellsBy : (o : Outcome (M .Refusal)) → e .outcome ≡ o → SaysFree M held o b (length log) (e .state)
-          → CompletedEnd o ⊎ (HungEnd o × ((a : Activity (M .Tag)) → List·Memᴰ a (enabled M (e .state)) → held (e .state) a ≡ false)) → EveryOrder M s f (M .capacity) e
+          → Completed o ⊎ (Hung o × ((a : Activity (M .Tag)) → List·Memᴰ a (enabled M (e .state)) → held (e .state) a ≡ false)) → EveryOrder M s f (M .capacity) e
       tellsBy completed q t k = tells (properRests (e .state) (t .1)) (q ∙ restedFree held completed b (length log) (e .state) tt t)
       tellsBy hung q t (inl k) = absurd k
       tellsBy hung q t (inr k) = tells (noneHeldLeft held (e .state) (t .0) (k .1)) (q ∙ restedFree held hung b (length log) (e .state) tt t)
@@ -267,7 +323,7 @@ module _ (M : Machine) where
       tellsBy (refused r n) q t (inr k) = absurd (k .0)
 
       unrefused : (τs : List (M .Tag)) (x : StateOf M) → Fires M s τs x → NothingEnabled M x
-          → (o : Outcome (M .Refusal)) → SaysFree M held o b (length log) (e .state) → ¬ (RefusedEnd o)
+          → (o : Outcome (M .Refusal)) → SaysFree M held o b (length log) (e .state) → ¬ (Refused o)
       unrefused τs x p none completed t k = k
       unrefused τs x p none hung t k = k
       unrefused τs x p none budgetSpent t k = k

@@ -14,12 +14,12 @@ use Rattle.machine.specs.Machine.{Outcome, completed, hung, budgetSpent,
 use Rattle.machine.specs.Machine.{Ledger, StateOf, EffectOf, FiredOf, EndOf, look, operands, spendAt, anyTaken, exceeds, admit, commit, fire, Choice, byPicks, runBy, run}
 use Rattle.machine.specs.Orders.{Lawful, Good, LawfulChoice, Says}
 use Rattle.machine.specs.Sequences.{Fires, logOf}
-use Rattle.machine.specs.Bounded.{Held, SaysFree, runBounded, logBounded}
+use Rattle.machine.specs.Bounded.{Held, runBounded, logBounded}
 use Rattle.machine.proofs.Enabled.{enabledPlace}
 use Rattle.machine.proofs.Runs.{ran}
 use Rattle.machine.proofs.Orders.{byPicksLawful}
 use Rattle.machine.proofs.Reached.{reached-firings, reached-picks}
-use Rattle.machine.proofs.Bounded.{freeOnce, boundedLogged}
+use Rattle.machine.proofs.Bounded.{freeOnce, boundedLogged, SaysFree}
 
 module _ (M : Machine) where
   -- ---- a firing: "used records plus outputs exceed the capacity" is refused

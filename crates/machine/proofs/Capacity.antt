@@ -13,10 +13,35 @@ use borrow.Author.Tests.{lt-ltb, le-ltb}
 use Rattle.machine.specs.Machine.{Key, Content, live, Cell, absent, waiting, present, refuse, send, read, write, Machine, Activity, fired, notFired}
 use Rattle.machine.specs.Machine.{Outcome, completed, hung, budgetSpent, refused, onOption, fill, cellAt, contentRead, ifPresent, changed, output, Operands, firstPick, laterPicks}
 use Rattle.machine.specs.Machine.{Ledger, StateOf, EffectOf, FiredOf, EndOf, look, operands, spendAt, anyTaken, exceeds, enabled, admit, commit, fire, Choice, ending, runBy}
-use Rattle.machine.specs.Orders.{Lawful, Good, QuiescentEnd, BudgetSpent}
-use Rattle.machine.specs.Capacity.{withCapacity, RefusedBy, tokensUsed, EnoughRoomOfMachine, TooSmallOfMachine, MoreBudget}
+use Rattle.machine.specs.Orders.{Lawful, Good, Quiescent, Spent, RefusedBy, LawfulChoice}
+use Rattle.machine.specs.Agreement.{machineWith}
 use Rattle.machine.proofs.Runs.{along, runEmpty, runFired, runRefused}
 use Rattle.machine.proofs.Orders.{ordersBy, neverSpentBy}
+
+-- ---- the claims
+
+abbrev pub withCapacity : Machine → ℕ → Machine
+withCapacity M n = machineWith M (M .arity) (M .effect) n
+
+module _ (M : Machine) where
+  -- "Tokens used"
+  abbrev pub tokensUsed : EndOf M → ℕ
+  tokensUsed e = length (e .state .tokens)
+
+  -- of a run that "completed or hung with t tokens": "with any capacity from t [..] and equal picks the end is the same"
+  abbrev pub EnoughRoomOfMachine : Type 0
+  EnoughRoomOfMachine = (c : Choice M) (s : StateOf M) (budget : ℕ) (picks : List ℕ) (f : ℕ) → Quiescent (runBy M c budget picks f s .outcome)
+      → (n : ℕ) → tokensUsed (runBy M c budget picks f s) ≤ n → runBy (withCapacity M n) c budget picks f s ≡ runBy M c budget picks f s
+
+  -- "with any smaller one every order is refused by 8", where the start fits and the budget is no less than the capacity
+  abbrev pub TooSmallOfMachine : Type 0
+  TooSmallOfMachine = (c d : Choice M) → LawfulChoice M c → LawfulChoice M d → (s : StateOf M) → Good M s → (budget budget′ : ℕ) (picks picks′ : List ℕ) (f : ℕ)
+      → Quiescent (runBy M c budget picks f s .outcome) → (n : ℕ) → n < tokensUsed (runBy M c budget picks f s) → length (s .tokens) ≤ n → n ≤ budget′
+      → RefusedBy (M .ledgerFull) (runBy (withCapacity M n) d budget′ picks′ f s .outcome)
+
+  -- a run that is not spent has done what it can: with more budget it ends the same
+  abbrev pub MoreBudget : Type 0
+  MoreBudget = (c : Choice M) (a b : ℕ) (picks : List ℕ) (f : ℕ) (s : StateOf M) → a ≤ b → ¬ (Spent (runBy M c a picks f s .outcome)) → runBy M c b picks f s ≡ runBy M c a picks f s
 
 -- ---- more budget
 
@@ -24,8 +49,8 @@ module _ (M : Machine) where
   pub more-budget : MoreBudget M
   more-budget c a b ps f s l h = subst (λ (n : ℕ). runBy M c n ps f s ≡ runBy M c a ps f s) (omega arith) (with (b - a) a ps f s h)
     where
-      with : (k a : ℕ) (ps : List ℕ) (f : ℕ) (s : StateOf M) → ¬ (BudgetSpent (runBy M c a ps f s .outcome)) → runBy M c (a + k) ps f s ≡ runBy M c a ps f s
-      with k = along M c (λ a ps f s e. ¬ (BudgetSpent (e .outcome)) → runBy M c (a + k) ps f s ≡ e) (record {
+      with : (k a : ℕ) (ps : List ℕ) (f : ℕ) (s : StateOf M) → ¬ (Spent (runBy M c a ps f s .outcome)) → runBy M c (a + k) ps f s ≡ runBy M c a ps f s
+      with k = along M c (λ a ps f s e. ¬ (Spent (e .outcome)) → runBy M c (a + k) ps f s ≡ e) (record {
         rests = λ a ps f s e h. runEmpty M c (a + k) ps f s e;
         stops = λ ps f s x more e h. absurd (h tt);
         refuses = λ a ps f s x more r e g h. rw (suc-add a k) (runRefused M c (a + k) ps f s x more r e g);
@@ -93,9 +118,9 @@ module _ (M : Machine) (n : ℕ) where
     fits : tokensUsed M e ≤ n → runBy M′ c b ps f s ≡ e
     full : n < tokensUsed M e → length (s .tokens) ≤ n → RefusedBy (M .ledgerFull) (runBy M′ c b ps f s .outcome)
 
-  compared : (c : Choice M) (b : ℕ) (ps : List ℕ) (f : ℕ) (s : StateOf M) → QuiescentEnd (runBy M c b ps f s .outcome) → Compared c b ps f s (runBy M c b ps f s)
+  compared : (c : Choice M) (b : ℕ) (ps : List ℕ) (f : ℕ) (s : StateOf M) → Quiescent (runBy M c b ps f s .outcome) → Compared c b ps f s (runBy M c b ps f s)
   unfolding enabled ending
-  compared c = along M c (λ b ps f s e. QuiescentEnd (e .outcome) → Compared c b ps f s e) (record {
+  compared c = along M c (λ b ps f s e. Quiescent (e .outcome) → Compared c b ps f s e) (record {
     rests = λ b ps f s e q. record { grows = omega arith; fits = λ l. runEmpty M′ c b ps f s e; full = λ l m. absurd (omega arith) };
     stops = λ ps f s a more e q. absurd q;
     refuses = λ b ps f s a more r e g q. absurd q;
@@ -121,7 +146,7 @@ module _ (M : Machine) where
   pub enough-room : EnoughRoomOfMachine M
   enough-room c s b ps f q n l = compared M n c b ps f s q .fits l
 
-  unspent : (o : Outcome (M .Refusal)) → QuiescentEnd o → ¬ (BudgetSpent o)
+  unspent : (o : Outcome (M .Refusal)) → Quiescent o → ¬ (Spent o)
   unspent completed q h = h
   unspent hung q h = h
   unspent budgetSpent q h = q
@@ -140,4 +165,4 @@ module _ (M : Machine) where
       let count : tokensUsed M (runBy M c b ps f s) ≡ tokensUsed M (runBy M d (b + b′) qs f s) = rw long at (all .count) in
       let never = neverSpentBy (withCapacity M n) (lawful law n) d ld s (fitting s g n room) b′ qs f h in
       rw (more-budget (withCapacity M n) d b′ (b + b′) qs f s (omega arith) never) at
-      (compared M n d (b + b′) qs f s (subst QuiescentEnd (all .outcome) (rw long q)) .full (omega arith) room)
+      (compared M n d (b + b′) qs f s (subst Quiescent (all .outcome) (rw long q)) .full (omega arith) room)

@@ -1,7 +1,7 @@
 -- Every run by a chooser is a firing sequence, its log (`choosersLogged`); runs by picks, replays and ideal steps are such runs (`picksChoose`, `namesChoose`,
 -- `stepByPlaces`). Assumes nothing. The last takes that the instruction set is lawful, and of the state that it is well-formed.
 use mathlib.Core.Path.{_≡_, refl, sym, ap, subst, _∙_}
-use mathlib.Core.List.{List, [], _∷_, List·Memᴰ, List·Memᴰ·head, List·Memᴰ·tail, List·Memᴰ·cases-cons, List·Memᴰ·not-nil}
+use mathlib.Core.List.{List, [], _∷_, List·Memᴰ, List·Memᴰ·head, List·Memᴰ·tail, List·Memᴰ·cases-cons, List·Memᴰ·not-nil, map}
 use mathlib.Core.Option.{Option, none, some}
 use mathlib.Core.Logic.{_⊎_, inl, inr}
 use mathlib.Core.Bool.{Bool, true, false, cond}
@@ -13,16 +13,51 @@ use lib.ListN.{length, getD, drop}
 use borrow.Author.Tests.{eq-eqb, ne-eqb}
 use Rattle.machine.specs.Machine.{Machine, Activity, fired, notFired, Outcome, budgetSpent, refused, onList, onOption, firstPick, laterPicks}
 use Rattle.machine.specs.Machine.{StateOf, FiredOf, EndOf, enabled, fire, Choice, end, after, ending, runBy}
-use Rattle.machine.specs.Orders.{Lawful, Good, InOrder}
+use Rattle.machine.specs.Orders.{Lawful, Good}
 use Rattle.machine.specs.Sequences.{ifFired, Logged, logOf}
 use Rattle.machine.specs.Steps.{ProfileOf, endsHere, firesInTurn}
 use Rattle.machine.specs.Replay.{namedIn, replay}
 use Rattle.machine.specs.Saved.{ifRefused}
-use Rattle.machine.specs.Choosers.{Chosen, takes, ends, onChosen, Chooser, restsAt, runFrom, logFrom, ChoosersLogged, byPick, PicksChoose, orRefused, atPlace, placesOf, byName, byPlace, NamesChoose, idealStep, StepByPlaces}
-use Rattle.machine.proofs.Enabled.{enabledOnce}
+use Rattle.machine.specs.Choosers.{Chosen, takes, ends, onChosen, Chooser, restsAt, runFrom, logFrom, byPick, orRefused, byName}
+use Rattle.machine.proofs.Enabled.{enabledOnce, InOrder}
 use Rattle.machine.proofs.Ending.{ending-cases}
 use Rattle.machine.proofs.Sequences.{firing}
 use Rattle.machine.proofs.Steps.{Waiting, atStart, waitsOn}
+
+-- ---- the claims
+
+module _ (M : Machine) where
+  -- whatever chooses, the run is a firing sequence, its log
+  abbrev pub ChoosersLogged : Type 0
+  ChoosersLogged = (c : Chooser M) (budget f : ℕ) (s : StateOf M) → Logged M s f (logFrom M c budget f s) (runFrom M c budget f s) × (length (logFrom M c budget f s) ≤ budget)
+
+  abbrev pub PicksChoose : Type 0
+  PicksChoose = (c : Choice M) (picks : List ℕ) (budget : ℕ) (s : StateOf M)
+      → (runBy M c budget picks 0 s ≡ runFrom M (byPick M c picks) budget 0 s) × (logOf M c budget picks s ≡ logFrom M (byPick M c picks) budget 0 s)
+
+  -- the activity at this place, among the enabled
+  abbrev pub atPlace : ℕ → List (Activity (M .Tag)) → Option (Activity (M .Tag))
+  atPlace p [] = none
+  atPlace p (a ∷ more) = cond (eqb (a .place) p) (some a) (atPlace p more)
+
+  abbrev pub placesOf : List (Activity (M .Tag)) → List ℕ
+  placesOf = map (λ a. a .place)
+
+  module _ (notEnabled : M .Refusal) where
+    abbrev pub byPlace : (places : List ℕ) → Chooser M
+    byPlace places f s = orRefused M notEnabled f (atPlace (getD places f 0) (enabled M s))
+
+    abbrev pub NamesChoose : Type 0
+    NamesChoose = (names : List (Option (M .Tag))) (s : StateOf M) → replay M notEnabled names 0 s ≡ runFrom M (byName M notEnabled names) (length names) 0 s
+
+    -- an ideal step is the run by the places of what is enabled at its start
+    abbrev pub idealStep : StateOf M → EndOf M
+    idealStep s = runFrom M (byPlace (placesOf (enabled M s))) (length (enabled M s)) 0 s
+
+    abbrev pub StepByPlaces : Type 0
+    StepByPlaces = (s : StateOf M) → Good M s → (f : ℕ) (next : ℕ → StateOf M → ProfileOf M)
+        → let e = idealStep s in
+        firesInTurn M (enabled M s) f s next ≡ ifRefused (e .outcome) (endsHere M (end M (e .outcome) (f + e .firings) (e .state))) (next (f + e .firings) (e .state))
 
 -- ---- sources
 

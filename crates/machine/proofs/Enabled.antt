@@ -3,7 +3,7 @@
 use mathlib.Core.Path.{_≡_, refl, sym, ap, subst, _∙_}
 use mathlib.Core.List.{List, [], _∷_, List·Memᴰ, List·Memᴰ·head, List·Memᴰ·tail, List·Memᴰ·cases-cons, List·Memᴰ·not-nil, Memᴰ·cast}
 use mathlib.Core.Option.{some}
-use mathlib.Core.Logic.{_⊎_, inl, inr}
+use mathlib.Core.Logic.{_⊎_, inl, inr, _↔_}
 use mathlib.Core.Bool.{Bool, true, false, _&&_, cond}
 use Prim.Native.Nat.{ℕ, suc, _+_, _≤_, _<_}
 use native.Mathlib.Omega.{arith}
@@ -11,9 +11,28 @@ use lib.Dec.{eqb}
 use lib.ListN.{length}
 use borrow.Author.Tests.{eqb-true, eq-eqb}
 use Rattle.machine.specs.Machine.{Key, Content, live, Token, Machine, Activity, when, isLive, Ledger, StateOf, sameKey, at, find, look, isOperandOf, allLive, placeOf, isPlace, enabledFrom, enabled}
-use Rattle.machine.specs.Orders.{Live, InOrder, Enabled, EnabledOnce}
+use Rattle.machine.specs.Orders.{Live}
 use Rattle.machine.proofs.View.{when-no, noneSome, falseTrue, Ready, operandKey, operandAt, operandLive, operandsThere, operandsAll}
 use Rattle.machine.proofs.Store.{findHead, view}
+
+-- ---- the claims
+
+module _ (M : Machine) where
+  -- in order of place, each place once: the places from n on
+  abbrev pub InOrder : (n : ℕ) → List (Activity (M .Tag)) → Type 0
+  InOrder n [] = Unit {0}
+  InOrder n (a ∷ more) = (n ≤ a .place) × InOrder (suc (a .place)) more
+
+  -- all operands of its tag are live, and there is one; its place is that of its earliest operand
+  abbrev pub Enabled : StateOf M → Activity (M .Tag) → Type 0
+  Enabled s a = (0 < M .arity (a .tag)) × (allLive M (look M s) (a .tag) ≡ true) × (a .place ≡ placeOf M (a .tag) (s .tokens))
+
+  -- the list of the enabled holds exactly these, each once: two of one tag would have one place
+  pub record EnabledOnce (s : StateOf M) : Type 0 where
+    pub exactly : (a : Activity (M .Tag)) → List·Memᴰ a (enabled M s) ↔ Enabled s a
+    pub inOrder : InOrder 0 (enabled M s)
+
+-- ---- the proofs
 
 allTrue : (a b c d : Bool) → a && b && c && d ≡ true → (a ≡ true) × (b ≡ true) × (c ≡ true) × (d ≡ true)
 allTrue true true true d e = (refl, refl, refl, e)

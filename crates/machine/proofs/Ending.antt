@@ -6,7 +6,7 @@ use mathlib.Core.Bool.{Bool, true, false, _&&_, cond}
 use Prim.Native.Nat.{ℕ}
 use borrow.Author.Tests.{eqb-true, eq-eqb}
 use Rattle.machine.specs.Machine.{Content, live, spent, deferred, Machine, Outcome, completed, hung, budgetSpent, refused, isProper, Ledger, StateOf, allProper, ending}
-use Rattle.machine.specs.Orders.{QuiescentEnd, ProperContentAt, AllProper, Says}
+use Rattle.machine.specs.Orders.{Quiescent, ProperContentAt, AllProper, Says}
 use Rattle.machine.specs.Sequences.{NothingEnabled}
 use Rattle.machine.proofs.View.{falseTrue}
 
@@ -58,11 +58,11 @@ module _ (M : Machine) where
   pub ending-says : (s : StateOf M) (budget n : ℕ) → NothingEnabled M s → Says M (ending M s) budget n s
   ending-says s b n e = ending-cases s (λ o. Says M o b n s) (λ h. (e, h)) (λ h. (e, h))
 
-  pub ending-rests : (s : StateOf M) → QuiescentEnd (ending M s)
-  ending-rests s = ending-cases s QuiescentEnd (λ h. tt) (λ h. tt)
+  pub ending-rests : (s : StateOf M) → Quiescent (ending M s)
+  ending-rests s = ending-cases s Quiescent (λ h. tt) (λ h. tt)
 
   -- so it is with a run that completes or hangs
-  pub rested : (o : Outcome (M .Refusal)) (budget n : ℕ) (x : StateOf M) → QuiescentEnd o → Says M o budget n x → NothingEnabled M x × (o ≡ ending M x)
+  pub rested : (o : Outcome (M .Refusal)) (budget n : ℕ) (x : StateOf M) → Quiescent o → Says M o budget n x → NothingEnabled M x × (o ≡ ending M x)
   rested completed b n x q (e, h) = (e, ending-cases x (λ o. completed ≡ o) (λ k. refl) (λ k. absurd (k h)))
   rested hung b n x q (e, h) = (e, ending-cases x (λ o. hung ≡ o) (λ k. absurd (h k)) (λ k. refl))
   rested budgetSpent b n x q h = absurd q

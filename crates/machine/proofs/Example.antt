@@ -14,13 +14,13 @@ use Rattle.machine.specs.Orders.{CellsBelow, ReadsForSome, Lawful, Start
 use Rattle.machine.specs.Sequences.{logOf}
 use Rattle.machine.specs.Steps.{profile}
 use Rattle.machine.specs.Replay.{replay}
-use Rattle.machine.specs.Capacity.{withCapacity}
 use Rattle.machine.specs.Saved.{inParts, isSaved}
 use Rattle.machine.specs.Choosers.{runFrom}
 use Rattle.machine.specs.Bounded.{runBounded}
 use Rattle.machine.proofs.Orders.{startGood, orders}
 use Rattle.machine.proofs.Cut.{cut-runs}
 use Rattle.machine.proofs.Reached.{reached-invariants, reached-picks}
+use Rattle.machine.proofs.Capacity.{withCapacity}
 
 abbrev key : ℕ → ℕ → Key ℕ
 key τ p = record { tag = τ; port = p }

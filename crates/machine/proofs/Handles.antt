@@ -10,10 +10,35 @@ use Rattle.machine.specs.Machine.{Content, live, spent, Token, Cell, pre
 use Rattle.machine.specs.Machine.{StateOf, FiredOf, EndOf, enabled, commit, fire, end, ending}
 use Rattle.machine.specs.Choosers.{Chosen, takes, ends, Chooser, restsAt, runFrom}
 use Rattle.machine.specs.InStep.{PlaceByPlace, noMore, pair, RelatedContent, bothLive, bothSpent, bothDeferred, RelatedCell, bothAbsent, bothWaiting, bothPresent, RelatedToken, atKey, RelatedState}
-use Rattle.machine.specs.InStep.{RelatedFired, alone, neither, both, RelatedEnds, Over}
-use Rattle.machine.specs.Handles.{StandsAt, changedTo, meantContent, cellBy, stateBy, Step, TriedOf, TabledOf, tryStep, fireOn, tabled, runOn, NoRefusal, StepsRelated, HandlesInStep}
+use Rattle.machine.specs.InStep.{RelatedEnds, Over, RelatedEffect}
+use Rattle.machine.specs.Handles.{StandsAt, changedTo, meantContent, cellBy, stateBy, Step, TriedOf, TabledOf, tryStep, fireOn, tabled, runOn}
 use Rattle.machine.proofs.Choosers.{fromEnds, fromFired, fromRefused, fromZero}
-use Rattle.machine.proofs.InStep.{RelatedOption, bothNone, bothSome, RelatedOperands, stateGrows, operandsRelated, enabledSame, endingSame, commitRelated}
+use Rattle.machine.proofs.InStep.{RelatedOption, bothNone, bothSome, RelatedOperands, stateGrows, operandsRelated, enabledSame, endingSame, commitRelated, RelatedFired}
+use Rattle.machine.proofs.InStep.{alone, neither, both}
+
+-- ---- the claims
+
+module _ (M : Machine) (W : Type 0) (effect : M .Tag → W → W → Effect (M .Refusal) (M .Tag) W) (signal : W)
+    (step : List (M .Value) → M .Tag → W → W → Step (M .Refusal) (M .Tag) (M .Value) W) where
+  module _ (number : W → ℕ) where
+    -- by no refusal is one of the two refused alone
+    abbrev pub NoRefusal : M .Refusal → Type 0
+    NoRefusal r = ⊥
+
+    -- the effect of handles is that of the values for which they stand; what it sends stands in the table that it leaves
+    abbrev pub StepsRelated : Type 0
+    StepsRelated = (t : List (M .Value)) → StandsAt number t (M .signal) signal → (τ : M .Tag) (a b : M .Value) (c d : W) → StandsAt number t a c → StandsAt number t b d
+        → RelatedEffect (StandsAt number (t ++ step t τ c d .added)) NoRefusal (M .effect τ a b) (step t τ c d .asked)
+
+    -- the choosers look at nothing in which a state over handles differs from the one for which it stands
+    abbrev pub SameChooser : Chooser M → Chooser (Over M W effect signal) → Type 0
+    SameChooser c d = (t : List (M .Value)) (f : ℕ) (s : StateOf M) (u : StateOf (Over M W effect signal)) → RelatedState (StandsAt number t) s u → c f s ≡ d f u
+
+    -- at the end as at the start the state over handles stands for the state over values
+    abbrev pub HandlesInStep : Type 0
+    HandlesInStep = (c : Chooser M) (d : Chooser (Over M W effect signal)) → SameChooser c d
+        → (t : List (M .Value)) → StandsAt number t (M .signal) signal → (s : StateOf M) (u : StateOf (Over M W effect signal)) → RelatedState (StandsAt number t) s u → (budget f : ℕ)
+        → RelatedEnds (StandsAt number (runOn M W effect signal step d budget f t u .table)) (runFrom M c budget f s) (runOn M W effect signal step d budget f t u .ended)
 
 -- ---- tables
 

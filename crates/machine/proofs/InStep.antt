@@ -8,16 +8,25 @@ use mathlib.Core.Bool.{Bool, true, false, cond}
 use Prim.Native.Nat.{ℕ, zero, suc}
 use native.Mathlib.Decide.{ℕ-discrete}
 use lib.ListN.{length, getD, set}
-use Rattle.machine.specs.Machine.{Key, Content, live, spent, deferred, Token, Cell, absent, present, Effect, Machine, State, Activity, fired, notFired, refused}
+use Rattle.machine.specs.Machine.{Key, Content, live, spent, deferred, Token, Cell, absent, present, Effect, Machine, State, Activity, fired, notFired, refused, Fired}
 use Rattle.machine.specs.Machine.{when, onOption, liveValue, isLive, isProper, isThere, spend, fill, cellRead, contentRead, ifPresent, changed, output, Operands, allThere, twoValues}
 use Rattle.machine.specs.Machine.{Ledger, StateOf, EffectOf, FiredOf, EndOf, sameKey, at, find, look, isOperandOf, liveAt, allLive, operands, placeOf, isPlace, enabledFrom, enabled, spendAt, anyTaken, exceeds, admit, commit, fire, allProper, ending, Choice}
 use Rattle.machine.specs.InStep.{PlaceByPlace, noMore, pair, RelatedContent, bothLive, bothSpent, bothDeferred, RelatedCell, bothAbsent, bothWaiting, bothPresent, RelatedToken, atKey, RelatedState}
-use Rattle.machine.specs.InStep.{RelatedEffect, refusedAlone, bothRefuse, bothSend, bothRead, bothWrite, RelatedFired, alone, neither, both, InStep, alike, stopped, Over, Related, SameChoice, SameHeld, RunsInStepOfMachine}
+use Rattle.machine.specs.InStep.{RelatedEffect, refusedAlone, bothRefuse, bothSend, bothRead, bothWrite, InStep, alike, stopped, Over, Related, SameChoice, SameHeld, RunsInStepOfMachine}
 use Rattle.machine.specs.Orders.{Distinct, Good}
 use Rattle.machine.specs.Choosers.{runFrom}
 use Rattle.machine.specs.Bounded.{Held, withoutHeld, freeOf, byFree, settled}
 use Rattle.machine.proofs.View.{noneSome}
 use Rattle.machine.proofs.Bounded.{freeEmpty, freeZero, freeFired, freeRefused}
+
+-- ---- firings in step
+
+module _ {V₁ V₂ : Type 0} (R : V₁ → V₂ → Type 0) where
+  module _ {F T : Type 0} (Alone : F → Type 0) where
+    pub data RelatedFired : Fired F T V₁ → Fired F T V₂ → Type 0 where
+      alone : {r : F} {y : Fired F T V₂} → Alone r → RelatedFired (notFired r) y
+      neither : {r : F} → RelatedFired (notFired r) (notFired r)
+      both : {x : State T V₁} {y : State T V₂} → RelatedState R x y → RelatedFired (fired x) (fired y)
 
 -- ---- lists, place by place
 

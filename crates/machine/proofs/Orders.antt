@@ -9,7 +9,7 @@ use native.Mathlib.Omega.{arith}
 use lib.ListN.{length, getD, length-replicate}
 use Rattle.machine.specs.Machine.{absent, Machine, Outcome, completed, hung, budgetSpent, refused, pickedNumber}
 use Rattle.machine.specs.Machine.{StateOf, pickOf, Choice, byPicks, runBy, run}
-use Rattle.machine.specs.Orders.{Lawful, Good, Start, LawfulChoice, CompletedEnd, HungEnd, QuiescentEnd, BudgetSpent, RefusedEnd, AlikeEnds, EndsAgree, AnyTwoOrdersOfMachine, AnyTwoBudgetsOfMachine, NeverSpent, AllRefused, Says}
+use Rattle.machine.specs.Orders.{Lawful, Good, Start, LawfulChoice, Completed, Hung, Quiescent, Spent, Refused, AlikeEnds, EndsAgree, AnyTwoOrdersOfMachine, AnyTwoBudgetsOfMachine, NeverSpent, AllRefused, Says}
 use Rattle.machine.specs.Sequences.{Fires, logOf}
 use Rattle.machine.proofs.Sequences.{shorter}
 use Rattle.machine.proofs.Ending.{rested}
@@ -39,13 +39,13 @@ module _ (M : Machine) where
   -- ---- the theorems, for any two lawful choices
 
   -- one that completes and one that hangs are told apart by the outcome
-  kinds : (o q : Outcome (M .Refusal)) → (QuiescentEnd o → o ≡ q) → (CompletedEnd o → CompletedEnd q) × (HungEnd o → HungEnd q)
-  kinds completed q k = (λ c. subst CompletedEnd (k tt) c, λ c. absurd c)
-  kinds hung q k = (λ c. absurd c, λ c. subst HungEnd (k tt) c)
+  kinds : (o q : Outcome (M .Refusal)) → (Quiescent o → o ≡ q) → (Completed o → Completed q) × (Hung o → Hung q)
+  kinds completed q k = (λ c. subst Completed (k tt) c, λ c. absurd c)
+  kinds hung q k = (λ c. absurd c, λ c. subst Hung (k tt) c)
   kinds budgetSpent q k = (λ c. absurd c, λ c. absurd c)
   kinds (refused r p) q k = (λ c. absurd c, λ c. absurd c)
 
-  refusedToo : (o q : Outcome (M .Refusal)) → (CompletedEnd q → CompletedEnd o) → (HungEnd q → HungEnd o) → ¬ (BudgetSpent q) → RefusedEnd o → RefusedEnd q
+  refusedToo : (o q : Outcome (M .Refusal)) → (Completed q → Completed o) → (Hung q → Hung o) → ¬ (Spent q) → Refused o → Refused q
   refusedToo completed q h k e c = absurd c
   refusedToo hung q h k e c = absurd c
   refusedToo budgetSpent q h k e c = absurd c
@@ -62,7 +62,7 @@ module _ (M : Machine) where
         let (rest, said) = rested M (runBy M c b ps f s .outcome) b (length (logOf M c b ps s)) (runBy M c b ps f s .state) h (r .says) in
         oneTellsAll M law s g f (logOf M c b ps s) (runBy M c b ps f s) (r .logged) rest said d ld b′ (omega (arith, r .logged .firings)) qs
 
-    told : (c d : Choice M) → LawfulChoice M c → LawfulChoice M d → (s : StateOf M) → Good M s → (b : ℕ) (ps qs : List ℕ) (f : ℕ) → QuiescentEnd (runBy M c b ps f s .outcome)
+    told : (c d : Choice M) → LawfulChoice M c → LawfulChoice M d → (s : StateOf M) → Good M s → (b : ℕ) (ps qs : List ℕ) (f : ℕ) → Quiescent (runBy M c b ps f s .outcome)
         → AlikeEnds (runBy M c b ps f s) (runBy M d b qs f s)
     told c d lc ld s g b ps qs f h = let r = ran M c lc b ps f s in budgetsBy c d lc ld s g b b ps qs f h (omega (arith, r .logged .firings, r .within))
 
@@ -77,7 +77,7 @@ module _ (M : Machine) where
         let r = ran M c lc b ps f s in
         go (logOf M c b ps s) (runBy M c b ps f s .state) (runBy M c b ps f s .outcome) (r .logged .fires) (r .says)
       where
-        go : (τs : List (M .Tag)) (x : StateOf M) (o : Outcome (M .Refusal)) → Fires M s τs x → Says M o b (length τs) x → ¬ (BudgetSpent o)
+        go : (τs : List (M .Tag)) (x : StateOf M) (o : Outcome (M .Refusal)) → Fires M s τs x → Says M o b (length τs) x → ¬ (Spent o)
         go τs x completed p t i = i
         go τs x hung p t i = i
         go τs x budgetSpent p (n, a, m) i = let z = shorter M law s g τs x p a m in omega arith
@@ -95,14 +95,14 @@ module _ (M : Machine) where
     pub orders : (s : StateOf M) → Good M s → (budget : ℕ) (picks picks′ : List ℕ) → EndsAgree (run M budget picks s) (run M budget picks′ s)
     orders s g b ps qs = ordersBy (byPicks M) (byPicks M) byPicksLawful byPicksLawful s g b ps qs 0
 
-    pub neverSpent : (s : StateOf M) → Good M s → (budget : ℕ) (picks : List ℕ) → M .capacity ≤ budget → ¬ (BudgetSpent (run M budget picks s .outcome))
+    pub neverSpent : (s : StateOf M) → Good M s → (budget : ℕ) (picks : List ℕ) → M .capacity ≤ budget → ¬ (Spent (run M budget picks s .outcome))
     neverSpent s g b ps h = neverSpentBy (byPicks M) byPicksLawful s g b ps 0 h
 
-    pub completes : (s : StateOf M) → Good M s → (budget : ℕ) (picks picks′ : List ℕ) → CompletedEnd (run M budget picks s .outcome) ↔ CompletedEnd (run M budget picks′ s .outcome)
+    pub completes : (s : StateOf M) → Good M s → (budget : ℕ) (picks picks′ : List ℕ) → Completed (run M budget picks s .outcome) ↔ Completed (run M budget picks′ s .outcome)
     completes s g b ps qs = orders s g b ps qs .completes
 
-    pub hangs : (s : StateOf M) → Good M s → (budget : ℕ) (picks picks′ : List ℕ) → HungEnd (run M budget picks s .outcome) ↔ HungEnd (run M budget picks′ s .outcome)
+    pub hangs : (s : StateOf M) → Good M s → (budget : ℕ) (picks picks′ : List ℕ) → Hung (run M budget picks s .outcome) ↔ Hung (run M budget picks′ s .outcome)
     hangs s g b ps qs = orders s g b ps qs .hangs
 
-    pub refuses : (s : StateOf M) → Good M s → (budget : ℕ) (picks picks′ : List ℕ) → M .capacity ≤ budget → RefusedEnd (run M budget picks s .outcome) ↔ RefusedEnd (run M budget picks′ s .outcome)
+    pub refuses : (s : StateOf M) → Good M s → (budget : ℕ) (picks picks′ : List ℕ) → M .capacity ≤ budget → Refused (run M budget picks s .outcome) ↔ Refused (run M budget picks′ s .outcome)
     refuses s g b ps qs h = refusesBy (byPicks M) (byPicks M) byPicksLawful byPicksLawful s g b ps qs 0 h

@@ -8,7 +8,7 @@ use native.Mathlib.Omega.{arith}
 use lib.ListN.{drop, getD}
 use Rattle.machine.specs.Machine.{Machine, Activity, budgetSpent, firstPick, laterPicks}
 use Rattle.machine.specs.Machine.{StateOf, EndOf, Choice, enabled, fire, after, end, pickOf, byPicks, runBy, run}
-use Rattle.machine.specs.Orders.{QuiescentEnd}
+use Rattle.machine.specs.Orders.{Quiescent}
 use Rattle.machine.proofs.Ending.{ending-rests}
 use Rattle.machine.proofs.Runs.{along, runFired}
 
@@ -38,7 +38,7 @@ module _ (M : Machine) where
 
   pub goes-on : (c : Choice M) (b : ℕ) (ps : List ℕ) (f : ℕ) (s : StateOf M) → GoesOn c b ps f s (runBy M c b ps f s)
   goes-on c = along M c (GoesOn c) (record {
-    rests = λ b ps f s e n x h m k. absurd (subst QuiescentEnd (ap (λ (z : EndOf M). z .outcome) h) (ending-rests M s));
+    rests = λ b ps f s e n x h m k. absurd (subst Quiescent (ap (λ (z : EndOf M). z .outcome) h) (ending-rests M s));
     stops = λ ps f s a more e n x h m k.
         ap (λ (j : ℕ). runBy M c j ps f s) (zero-add k) ∙ ap (λ (z : EndOf M). runBy M c k ps (z .firings) (z .state)) h;
     refuses = λ b ps f s a more q e g n x h m k. let o = ap (λ (z : EndOf M). z .outcome) h in let z : _≡_ {A = ℕ} 0 1 = cc in absurd (omega arith);

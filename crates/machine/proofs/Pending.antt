@@ -13,11 +13,39 @@ use borrow.Author.Tests.{ne-eqb}
 use Rattle.machine.specs.Machine.{Key, Content, live, spent, deferred, Token, Machine, Fired, fired, notFired, when, onOption, isLive, isProper, changed, output, spend, Operands}
 use Rattle.machine.specs.Machine.{Ledger, StateOf, FiredOf, at, find, look, sameKey, isOperandOf, operands, commit, fire}
 use Rattle.machine.specs.Orders.{Lawful, Good, Distinct}
-use Rattle.machine.specs.Pending.{isPendingIn, pendingIn, isWoken, wokenIn, PendingAfter}
 use Rattle.machine.proofs.View.{noneSome, when-no, settle, DeltaOf, deltaOf, change, operandKey, operandLive, operandAt}
 use Rattle.machine.proofs.Store.{After, Answer, commitResult, findHead}
 use Rattle.machine.proofs.Unspent.{countBelow, countAll, OperandsLive}
 use Rattle.machine.proofs.Sequences.{neverFired}
+
+-- ---- the claims
+
+module _ (M : Machine) where
+  -- one that a completed run does not leave
+  abbrev pub isPendingIn : Token (M .Tag) (M .Value) → Bool
+  isPendingIn t = not (isProper (M .arity (t .key .tag)) (t .content))
+
+  -- the weights of the pending tokens together
+  abbrev pub pendingIn : (weight : M .Tag → ℕ) → Ledger M → ℕ
+  pendingIn w [] = 0
+  pendingIn w (t ∷ ts) = cond (isPendingIn t) (w (t .key .tag)) 0 + pendingIn w ts
+
+  -- a result that a firing wakes: it was deferred, and is live
+  abbrev pub isWoken : (before after : Token (M .Tag) (M .Value)) → Bool
+  isWoken t u = isPendingIn t && (isProper (M .arity (u .key .tag)) (u .content) && isLive (u .content))
+
+  -- of the tokens of a ledger, by what has become of them
+  abbrev pub wokenIn : (weight : M .Tag → ℕ) → (before after : Ledger M) → ℕ
+  wokenIn w [] us = 0
+  wokenIn w (t ∷ ts) [] = 0
+  wokenIn w (t ∷ ts) (u ∷ us) = cond (isWoken t u) (w (t .key .tag)) 0 + wokenIn w ts us
+
+  -- the operands of the activity are pending no more, nor are results that it wakes; of its outputs those are that are no results, or deferred
+  abbrev pub PendingAfter : Type 0
+  PendingAfter = (s : StateOf M) → Good M s → (τ : M .Tag) (x : StateOf M) → fire M s τ ≡ fired x → (w : M .Tag → ℕ)
+      → pendingIn w (x .tokens) + M .arity τ * w τ + wokenIn w (s .tokens) (x .tokens) ≡ pendingIn w (s .tokens) + pendingIn w (drop (length (s .tokens)) (x .tokens))
+
+-- ---- the proofs
 
 module _ (M : Machine) where
   -- ---- what a firing leaves, token by token

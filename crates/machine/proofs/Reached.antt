@@ -9,10 +9,10 @@ use Prim.Native.Nat.{ℕ, zero, suc, _+_, _≤_, _<_}
 use native.Mathlib.Decide.{ℕ-discrete}
 use native.Mathlib.Omega.{arith}
 use lib.ListN.{length, getD, replicate}
-use Rattle.machine.specs.Machine.{Key, Content, live, spent, deferred, Cell, absent, waiting, present, refuse, send, read, write, Machine, fired}
+use Rattle.machine.specs.Machine.{Key, Content, live, spent, deferred, Cell, absent, waiting, present, refuse, send, read, write, Machine, fired, Choice, EndOf}
 use Rattle.machine.specs.Machine.{when, onOption, spend, cellAt, contentRead, Operands}
 use Rattle.machine.specs.Machine.{Ledger, StateOf, EffectOf, sameKey, at, find, look, isOperandOf, operands, spendAt, among, fire, byPicks, runBy, run}
-use Rattle.machine.specs.Orders.{ReadsForSome, Lawful, Live, SpentContent, AllLive, Good, Start, effectKeys, outputs, Reached, ReachedInvariants, Ended, RunsEnd}
+use Rattle.machine.specs.Orders.{ReadsForSome, Lawful, Live, SpentContent, AllLive, Good, Start, effectKeys, outputs, Reached, Invariants, LawfulChoice, Says}
 use Rattle.machine.specs.Sequences.{Fires, spentTags, logOf}
 use Rattle.machine.proofs.Lists.{perm-length}
 use Rattle.machine.proofs.View.{when-yes, noneSome, falseTrue, omap, orElse, given, Source, value, fetched, resolve, settle, onlyAt, cellStep, cellAfter}
@@ -22,6 +22,23 @@ use Rattle.machine.proofs.Tags.{tagsLength}
 use Rattle.machine.proofs.Sequences.{firing}
 use Rattle.machine.proofs.Runs.{ran}
 use Rattle.machine.proofs.Orders.{byPicksLawful, startGood}
+
+-- ---- the claims
+
+module _ (M : Machine) where
+  abbrev pub ReachedInvariants : Type 0
+  ReachedInvariants = (s : StateOf M) → Start M s → (f o : ℕ) (x : StateOf M) → Reached M s f o x → Invariants M s f o x
+
+  -- after n firings of its own it is in a state that is reached by n firings
+  pub record Ended (s : StateOf M) (budget f : ℕ) (e : EndOf M) : Type 0 where
+    pub done : ℕ
+    pub sent : ℕ
+    pub firings : e .firings ≡ f + done
+    pub reached : Reached M s done sent (e .state)
+    pub says : Says M (e .outcome) budget done (e .state)
+
+  abbrev pub RunsEnd : Type 0
+  RunsEnd = (c : Choice M) → LawfulChoice M c → (s : StateOf M) (budget : ℕ) (picks : List ℕ) (f : ℕ) → Ended s budget f (runBy M c budget picks f s)
 
 -- ---- contents and cells
 

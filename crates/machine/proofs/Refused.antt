@@ -7,7 +7,7 @@ use native.Mathlib.Nat.{zero-add, add-zero}
 use native.Mathlib.Omega.{arith}
 use Rattle.machine.specs.Machine.{Machine, Activity, budgetSpent, refused}
 use Rattle.machine.specs.Machine.{StateOf, EndOf, Choice, enabled, end, byPicks, runBy, run}
-use Rattle.machine.specs.Orders.{QuiescentEnd}
+use Rattle.machine.specs.Orders.{Quiescent}
 use Rattle.machine.proofs.Ending.{ending-rests}
 use Rattle.machine.proofs.Runs.{along, runEmpty, runZero, runFired}
 
@@ -20,7 +20,7 @@ module _ (M : Machine) where
 
   pub refused-stops : (c : Choice M) (b : ℕ) (ps : List ℕ) (f : ℕ) (s : StateOf M) (r : M .Refusal) (p : ℕ) → runBy M c b ps f s .outcome ≡ refused r p → Before c ps f s (runBy M c b ps f s)
   refused-stops c b ps f s r p = along M c (λ b ps f s e. e .outcome ≡ refused r p → Before c ps f s e) (record {
-    rests = λ b ps f s e h. absurd (subst QuiescentEnd h (ending-rests M s));
+    rests = λ b ps f s e h. absurd (subst Quiescent h (ending-rests M s));
     stops = λ ps f s a more e h. let z : _≡_ {A = ℕ} 0 1 = cc in absurd (omega arith);
     refuses = λ b ps f s a more q e g h. record { done = 0; firings = omega arith; stopped = runZero M c ps f s a more e ∙ ap (λ (n : ℕ). end M budgetSpent n s) (sym (add-zero f)) };
     fires = λ b ps f s x a more z e g rest h.

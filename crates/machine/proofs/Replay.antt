@@ -2,7 +2,7 @@
 -- hold the same records, each once (`logsAgree`); and every replay fires its first records in turn (`everyReplay`).
 -- Assumes nothing. `logsAgree` takes that the instruction set is lawful, and of the state that it is well-formed.
 use mathlib.Core.Path.{_≡_, refl, sym, ap, subst, _∙_}
-use mathlib.Core.List.{List, [], _∷_, _++_, map, append-nil, List·Memᴰ, List·Memᴰ·head, List·Memᴰ·tail, List·Memᴰ·cases-cons, List·Memᴰ·not-nil}
+use mathlib.Core.List.{List, [], _∷_, _++_, map, append-nil, List·Memᴰ, List·Memᴰ·head, List·Memᴰ·tail, List·Memᴰ·cases-cons, List·Memᴰ·not-nil, List·Permᴰ}
 use mathlib.Core.Option.{Option, none, some}
 use mathlib.Core.Bool.{true}
 use mathlib.Core.Logic.{_⊎_, inl, inr}
@@ -10,16 +10,68 @@ use Prim.Native.Nat.{ℕ, suc, _+_, _<_}
 use native.Mathlib.Nat.{add-zero}
 use native.Mathlib.Omega.{arith}
 use lib.ListN.{length}
-use Rattle.machine.specs.Machine.{Machine, Activity, fired, notFired, Outcome, completed, hung, budgetSpent, refused, when, onOption, onList}
+use Rattle.machine.specs.Machine.{Machine, Activity, fired, notFired, Outcome, completed, hung, budgetSpent, refused, when, onOption, onList, Choice}
 use Rattle.machine.specs.Machine.{StateOf, FiredOf, EndOf, look, allLive, placeOf, enabled, fire, end, after, ending, runBy}
-use Rattle.machine.specs.Orders.{Lawful, QuiescentEnd, RefusedEnd, Says}
-use Rattle.machine.specs.Sequences.{NothingEnabled, logOf, RanBy}
-use Rattle.machine.specs.Replay.{withTag, namedIn, FoundByTag, LogsAgreeOfMachine, replay, SequenceReplays, RunReplays, ReplayStopped, logEnds, oneEnabled, noneNamed, oneRefused, Replayed, EveryReplay}
+use Rattle.machine.specs.Orders.{Lawful, Quiescent, Refused, Says, Good, LawfulChoice}
+use Rattle.machine.specs.Sequences.{NothingEnabled, logOf, RanBy, Fires, Logged, Once}
+use Rattle.machine.specs.Replay.{withTag, namedIn, replay}
 use Rattle.machine.proofs.View.{noneSome}
 use Rattle.machine.proofs.Enabled.{enabledIn, inEnabled}
 use Rattle.machine.proofs.Sequences.{firedEnabled, firesOnce, sequences}
 use Rattle.machine.proofs.Ending.{rested}
 use Rattle.machine.proofs.Runs.{ran}
+
+-- ---- the claims
+
+module _ (M : Machine) where
+  -- an enabled activity is found by its operands, so the enabled list need not be searched
+  pub record FoundByTag (s : StateOf M) (τ : M .Tag) : Type 0 where
+    pub present : 0 < M .arity τ → allLive M (look M s) τ ≡ true → withTag M τ (enabled M s) ≡ some (record { place = placeOf M τ (s .tokens); tag = τ })
+    pub absent : ¬ ((0 < M .arity τ) × (allLive M (look M s) τ ≡ true)) → withTag M τ (enabled M s) ≡ none
+
+  -- "The logs of two completed runs of one graph with equal inputs, capacity and cell count hold the same records, each once.": and of two
+  -- that hang; the budgets may differ
+  abbrev pub LogsAgreeOfMachine : Type 0
+  LogsAgreeOfMachine = (c d : Choice M) → LawfulChoice M c → LawfulChoice M d → (s : StateOf M) → Good M s → (b b′ : ℕ) (picks picks′ : List ℕ) (f : ℕ)
+      → Quiescent (runBy M c b picks f s .outcome) → Quiescent (runBy M d b′ picks′ f s .outcome)
+      → List·Permᴰ (logOf M c b picks s) (logOf M d b′ picks′ s) × Once (logOf M c b picks s)
+
+  module _ (notEnabled : M .Refusal) where
+    -- a firing sequence is replayed, whatever comes after it in the log
+    abbrev pub SequenceReplays : Type 0
+    SequenceReplays = (τs : List (M .Tag)) (s x : StateOf M) → Fires M s τs x → (more : List (Option (M .Tag))) (f : ℕ) → replay M notEnabled (map some τs ++ more) f s ≡ replay M notEnabled more (f + length τs) x
+
+    -- "Replaying the log of a run .. gives the same ledger, cells and counts in every byte.", and the outcome too unless it was refused
+    pub record SameAs (d e : EndOf M) : Type 0 where
+      pub state : e .state ≡ d .state
+      pub firings : e .firings ≡ d .firings
+      pub outcome : ¬ (Refused (d .outcome)) → e .outcome ≡ d .outcome
+
+    abbrev pub RunReplays : Type 0
+    RunReplays = (c : Choice M) → LawfulChoice M c → (budget : ℕ) (picks : List ℕ) (f : ℕ) (s : StateOf M) → SameAs (runBy M c budget picks f s) (replay M notEnabled (map some (logOf M c budget picks s)) f s)
+
+    -- why a replay stops in the state x, with the records `left` and place p
+    pub data ReplayStopped (left : List (Option (M .Tag))) (p : ℕ) (x : StateOf M) (o : Outcome (M .Refusal)) : Type 0 where
+      logEnds : left ≡ [] → NothingEnabled M x → o ≡ ending M x → ReplayStopped left p x o
+      oneEnabled : left ≡ [] → (a : Activity (M .Tag)) → List·Memᴰ a (enabled M x) → o ≡ budgetSpent → ReplayStopped left p x o
+      -- "when a record names no enabled activity"
+      noneNamed : (name : Option (M .Tag)) (more : List (Option (M .Tag))) → left ≡ name ∷ more → ((a : Activity (M .Tag)) → List·Memᴰ a (enabled M x) → ¬ (name ≡ some (a .tag)))
+          → o ≡ refused notEnabled p → ReplayStopped left p x o
+      oneRefused : (a : Activity (M .Tag)) (more : List (Option (M .Tag))) → left ≡ some (a .tag) ∷ more → List·Memᴰ a (enabled M x) → (r : M .Refusal) → fire M x (a .tag) ≡ notFired r
+          → o ≡ refused r (a .place) → ReplayStopped left p x o
+
+    -- whatever the log holds, its first records are fired in turn
+    pub record Replayed (s : StateOf M) (f : ℕ) (log : List (Option (M .Tag))) (e : EndOf M) : Type 0 where
+      pub done : List (M .Tag)
+      pub left : List (Option (M .Tag))
+      pub whole : log ≡ map some done ++ left
+      pub logged : Logged M s f done e
+      pub stopped : ReplayStopped left (f + length done) (e .state) (e .outcome)
+
+    abbrev pub EveryReplay : Type 0
+    EveryReplay = (log : List (Option (M .Tag))) (f : ℕ) (s : StateOf M) → Replayed s f log (replay M notEnabled log f s)
+
+-- ---- the proofs
 
 module _ (M : Machine) where
   -- ---- an activity found by its tag
@@ -154,10 +206,10 @@ module _ (M : Machine) where
         whole = ap (λ (l : List (Option (M .Tag))). replay M notEnabled l f s) (sym (append-nil (map some τs))) ∙ sequenceReplays τs s (e .state) (h .logged .fires) [] f
             ∙ ap (λ (n : ℕ). replay M notEnabled [] n (e .state)) (sym (h .logged .firings))
 
-        atRest : (o : Outcome (M .Refusal)) → QuiescentEnd o → Says M o b (length τs) (e .state) → replay M notEnabled [] (e .firings) (e .state) .outcome ≡ o
+        atRest : (o : Outcome (M .Refusal)) → Quiescent o → Says M o b (length τs) (e .state) → replay M notEnabled [] (e .firings) (e .state) .outcome ≡ o
         atRest o q t = let (p, z) = rested M o b (length τs) (e .state) q t in ap (λ (d : EndOf M). d .outcome) (replayRested (e .firings) (e .state) p) ∙ sym z
 
-        ends : (o : Outcome (M .Refusal)) → Says M o b (length τs) (e .state) → ¬ (RefusedEnd o) → replay M notEnabled [] (e .firings) (e .state) .outcome ≡ o
+        ends : (o : Outcome (M .Refusal)) → Says M o b (length τs) (e .state) → ¬ (Refused o) → replay M notEnabled [] (e .firings) (e .state) .outcome ≡ o
         ends completed t n = atRest completed tt t
         ends hung t n = atRest hung tt t
         ends budgetSpent (k, a, m) n = ap (λ (d : EndOf M). d .outcome) (replaySpent (e .firings) (e .state) a m)

@@ -8,11 +8,26 @@ use native.Mathlib.Omega.{arith}
 use lib.ListN.{length}
 use Rattle.machine.specs.Machine.{Machine, Activity, fired, notFired, Outcome, completed, hung, budgetSpent, refused, firstPick, laterPicks}
 use Rattle.machine.specs.Machine.{StateOf, FiredOf, EndOf, enabled, fire, Choice, end, ending, runBy}
-use Rattle.machine.specs.Orders.{Lawful, Good, Says}
-use Rattle.machine.specs.Sequences.{NothingEnabled, logOf, Logged, RanBy, RunsLogged, EveryOrder, OneTellsAll}
+use Rattle.machine.specs.Orders.{Lawful, Good, Says, AlikeEnds, LawfulChoice}
+use Rattle.machine.specs.Sequences.{NothingEnabled, logOf, Logged, RanBy, RunsLogged}
 use Rattle.machine.proofs.Lists.{perm-length}
 use Rattle.machine.proofs.Sequences.{neverFired, sequences, noneRefused}
 use Rattle.machine.proofs.Ending.{ending-says, rested, ending-perm}
+
+-- ---- the claims
+
+module _ (M : Machine) where
+  -- e is how every run ends that has the budget for it, with whatever choice and picks
+  abbrev pub EveryOrder : StateOf M → (f enough : ℕ) → EndOf M → Type 0
+  EveryOrder s f enough e = (c : Choice M) → LawfulChoice M c → (budget : ℕ) → enough ≤ budget → (picks : List ℕ)
+      → AlikeEnds e (runBy M c budget picks f s)
+
+  -- so one sequence to any end tells how every order ends: completed or hung, as its state says
+  abbrev pub OneTellsAll : Type 0
+  OneTellsAll = (s : StateOf M) → Good M s → (f : ℕ) (τs : List (M .Tag)) (e : EndOf M) → Logged M s f τs e → NothingEnabled M (e .state)
+      → e .outcome ≡ ending M (e .state) → EveryOrder s f (length τs) e
+
+-- ---- the proofs
 
 module _ (M : Machine) where
   -- ---- a run, a firing at a time

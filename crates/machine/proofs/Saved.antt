@@ -9,11 +9,19 @@ use lib.ListN.{length, List·getD-eq-default}
 use Rattle.machine.specs.Machine.{absent, waiting, Machine, cellAt, StateOf, Choice, runBy}
 use Rattle.machine.specs.Orders.{Lawful, Good, LawfulChoice, EndsAgree, Reached}
 use Rattle.machine.specs.Sequences.{spentTags}
-use Rattle.machine.specs.Saved.{Saved, StartSaved, RunsSave, SavedTags}
+use Rattle.machine.specs.Saved.{Saved, StartSaved, RunsSave}
 use Rattle.machine.proofs.Store.{view}
-use Rattle.machine.proofs.Tags.{tagsLength, startUnspent, tags-once}
+use Rattle.machine.proofs.Tags.{SpentTagsOnce, tagsLength, startUnspent, tags-once}
 use Rattle.machine.proofs.Orders.{startGood, ordersBy}
 use Rattle.machine.proofs.Reached.{absentWaiting, HoldsIn, keptStart, carried, reached-run}
+
+-- ---- the claims
+
+module _ (M : Machine) where
+  abbrev pub SavedTags : Type 0
+  SavedTags = (f : ℕ) (s : StateOf M) → Saved M f s → SpentTagsOnce M (s .tokens)
+
+-- ---- the proofs
 
 module _ (M : Machine) where
   -- ---- what a run leaves can be saved

@@ -11,7 +11,7 @@ use lib.Seq.{ext-getD}
 use Rattle.machine.specs.Machine.{absent, Machine, Activity, fired, notFired, onOption, Operands}
 use Rattle.machine.specs.Machine.{StateOf, FiredOf, at, look, operands, placeOf, enabled, commit, fire}
 use Rattle.machine.specs.Orders.{Lawful, Good}
-use Rattle.machine.specs.Sequences.{AlikeStates, spentTags, Fires, FiredEnabled, Joined, StaysEnabled, LedgerTells, FiresOnce, NoLonger, NothingEnabled, AnyTwoSequences, NoneRefused}
+use Rattle.machine.specs.Sequences.{AlikeStates, spentTags, Fires, NothingEnabled, AnyTwoSequences, NoneRefused, Once}
 use Rattle.machine.proofs.Lists.{perm-length, perm-once, once-front}
 use Rattle.machine.proofs.Swap.{Final, Run, goesOn, unique}
 use Rattle.machine.proofs.View.{noneSome, View, DeltaOf, deltaOf, Allowed, Ready, Step, operandLive, operandZero, laws}
@@ -21,6 +21,34 @@ use Rattle.machine.proofs.Unspent.{unspentAfter}
 use Rattle.machine.specs.Steps.{unspentIn}
 use Rattle.machine.proofs.Perm.{permOf}
 use Rattle.machine.proofs.Enabled.{enabledReady, readyEnabled, enabledIn, enabledPlace}
+
+-- ---- the claims
+
+module _ (M : Machine) where
+  -- each is enabled when it fires
+  abbrev pub FiredEnabled : Type 0
+  FiredEnabled = (s x : StateOf M) (τ : M .Tag) → fire M s τ ≡ fired x → (a : Activity (M .Tag)) × List·Memᴰ a (enabled M s) × (a .tag ≡ τ)
+
+  -- and an enabled activity stays enabled, at its place, while another fires
+  abbrev pub StaysEnabled : Type 0
+  StaysEnabled = (s : StateOf M) → Good M s → (x : StateOf M) (τ : M .Tag) (a : Activity (M .Tag)) → fire M s τ ≡ fired x → ¬ (τ ≡ a .tag) → List·Memᴰ a (enabled M s) → List·Memᴰ a (enabled M x)
+
+  abbrev pub Joined : Type 0
+  Joined = (τs υs : List (M .Tag)) (s x y : StateOf M) → Fires M s τs x → Fires M x υs y → Fires M s (τs ++ υs) y
+
+  -- the ledger tells which activities have fired
+  abbrev pub LedgerTells : Type 0
+  LedgerTells = (s : StateOf M) → Good M s → (τs : List (M .Tag)) (x : StateOf M) → Fires M s τs x → List·Permᴰ (spentTags M (x .tokens)) (τs ++ spentTags M (s .tokens))
+
+  -- none fires twice
+  abbrev pub FiresOnce : Type 0
+  FiresOnce = (s : StateOf M) → Good M s → (τs : List (M .Tag)) (x : StateOf M) → Fires M s τs x → Once τs
+
+  -- "Firings never exceed tokens.", which never exceed the capacity
+  abbrev pub NoLonger : Type 0
+  NoLonger = (s : StateOf M) → Good M s → (τs : List (M .Tag)) (x : StateOf M) → Fires M s τs x → (length τs ≤ length (x .tokens)) × (length (x .tokens) ≤ M .capacity)
+
+-- ---- the proofs
 
 module _ (M : Machine) where
   abbrev Steps : List (M .Tag) → View M → View M → Type 0

@@ -2,20 +2,79 @@
 -- records tell its firings (`everyProfile`); so it ends as every order does (`profileEnds`, `stepsEndToo`), within as many steps as
 -- the capacity (`stepsWithin`). Assumes nothing. Takes that the instruction set is lawful, and of the state that it is well-formed.
 use mathlib.Core.Path.{_≡_, refl, sym, ap, subst, _∙_}
-use mathlib.Core.List.{List, [], _∷_, _++_, List·Memᴰ, List·Memᴰ·head, List·Memᴰ·tail, List·Memᴰ·cases-cons, List·Memᴰ·not-nil}
+use mathlib.Core.List.{List, [], _∷_, _++_, List·Memᴰ, List·Memᴰ·head, List·Memᴰ·tail, List·Memᴰ·cases-cons, List·Memᴰ·not-nil, map}
 use mathlib.Core.Logic.{_⊎_, inl, inr}
-use Prim.Native.Nat.{ℕ, zero, suc, _+_, _≤_, _<_}
+use Prim.Native.Nat.{ℕ, zero, suc, _+_, _≤_, _<_, _-_}
 use native.Mathlib.Omega.{arith}
 use lib.ListN.{length, length-append, length-map}
 use Rattle.machine.specs.Machine.{Machine, Activity, fired, notFired, Outcome, refused, onList}
 use Rattle.machine.specs.Machine.{StateOf, FiredOf, placeOf, enabled, fire, end, ending}
-use Rattle.machine.specs.Orders.{Lawful, Good, InOrder, RefusedEnd}
-use Rattle.machine.specs.Sequences.{Once, Fires, NothingEnabled}
-use Rattle.machine.specs.Steps.{UnspentAfter, StepRecord, firingsIn, EachFires, ProfileOf, unspentIn, activityTags, endsHere, afterStep, firesInTurn, StillEnabled}
-use Rattle.machine.specs.Steps.{profile, ProfileStopped, noneLeft, full, oneRefused, Profiled, EveryProfile, StepsWithin, Unrefused, ProfileEnds, StepsEndToo}
-use Rattle.machine.proofs.Enabled.{enabledIn, enabledOnce}
+use Rattle.machine.specs.Orders.{Lawful, Good, Refused}
+use Rattle.machine.specs.Sequences.{Once, Fires, NothingEnabled, Logged}
+use Rattle.machine.specs.Steps.{StepRecord, firingsIn, EachFires, ProfileOf, unspentIn, endsHere, afterStep, firesInTurn}
+use Rattle.machine.specs.Steps.{profile}
+use Rattle.machine.proofs.Enabled.{enabledIn, enabledOnce, InOrder}
 use Rattle.machine.proofs.Sequences.{neverFired, joined, firing, staysEnabled, firesGood, noLonger, noneRefused}
-use Rattle.machine.proofs.Runs.{oneTellsAll}
+use Rattle.machine.proofs.Runs.{oneTellsAll, EveryOrder}
+
+-- ---- the claims
+
+module _ (M : Machine) where
+  -- a firing removes one unspent token per operand and adds one per output
+  abbrev pub UnspentAfter : Type 0
+  UnspentAfter = (s : StateOf M) → Good M s → (τ : M .Tag) (x : StateOf M) → fire M s τ ≡ fired x
+      → (length (s .tokens) ≤ length (x .tokens)) × (unspentIn M (x .tokens) + M .arity τ ≡ unspentIn M (s .tokens) + (length (x .tokens) - length (s .tokens)))
+
+  abbrev pub activityTags : List (Activity (M .Tag)) → List (M .Tag)
+  activityTags = map (λ a. a .tag)
+
+  -- each of them is still enabled, at its place, when its turn comes
+  abbrev pub StillEnabled : Type 0
+  StillEnabled = (s : StateOf M) → Good M s → (before : List (Activity (M .Tag))) (a : Activity (M .Tag)) (more : List (Activity (M .Tag))) (x : StateOf M)
+      → enabled M s ≡ before ++ (a ∷ more) → Fires M s (activityTags before) x → List·Memᴰ a (enabled M x)
+
+  module _ (profileFull : M .Refusal) where
+    -- why it stops in the state x; n of the records are used, and `cut` firings of a step that is not whole are done
+    pub data ProfileStopped (left n cut : ℕ) (x : StateOf M) (o : Outcome (M .Refusal)) : Type 0 where
+      noneLeft : NothingEnabled M x → cut ≡ 0 → o ≡ ending M x → ProfileStopped left n cut x o
+      full : n ≡ left → (a : Activity (M .Tag)) → List·Memᴰ a (enabled M x) → cut ≡ 0 → o ≡ refused profileFull 0 → ProfileStopped left n cut x o
+      oneRefused : (a : Activity (M .Tag)) → List·Memᴰ a (enabled M x) → (r : M .Refusal) → fire M x (a .tag) ≡ notFired r → o ≡ refused r (a .place) → ProfileStopped left n cut x o
+
+    pub record Profiled (s : StateOf M) (left f : ℕ) (p : ProfileOf M) : Type 0 where
+      -- it is a firing sequence
+      pub log : List (M .Tag)
+      pub logged : Logged M s f log (p .ended)
+      -- the records tell its firings, apart from those of a step that a refusal cut
+      pub cut : ℕ
+      pub counted : length log ≡ firingsIn (p .records) + cut
+      -- and each step has one at least
+      pub eachFires : EachFires (p .records)
+      pub within : length (p .records) ≤ left
+      pub stopped : ProfileStopped left (length (p .records)) cut (p .ended .state) (p .ended .outcome)
+
+    abbrev pub EveryProfile : Type 0
+    EveryProfile = (s : StateOf M) → Good M s → (left f : ℕ) → Profiled s left f (profile M profileFull left f s)
+
+    -- so there are no more steps than the ledger has room for tokens
+    abbrev pub StepsWithin : Type 0
+    StepsWithin = (s : StateOf M) → Good M s → (left f : ℕ) → length (profile M profileFull left f s .records) ≤ M .capacity
+
+    -- "if it isn't refused, its end must equal every order's as demand 3 compares them"
+    pub record Unrefused (s : StateOf M) (f : ℕ) (p : ProfileOf M) : Type 0 where
+      pub rested : NothingEnabled M (p .ended .state)
+      pub outcome : p .ended .outcome ≡ ending M (p .ended .state)
+      pub firings : p .ended .firings ≡ f + firingsIn (p .records)
+      pub ends : EveryOrder M s f (M .capacity) (p .ended)
+
+    abbrev pub ProfileEnds : Type 0
+    ProfileEnds = (s : StateOf M) → Good M s → (left f : ℕ) → ¬ (Refused (profile M profileFull left f s .ended .outcome)) → Unrefused s f (profile M profileFull left f s)
+
+    -- and where some sequence ends, the steps do, if there are as many records as it has firings
+    abbrev pub StepsEndToo : Type 0
+    StepsEndToo = (s : StateOf M) → Good M s → (τs : List (M .Tag)) (x : StateOf M) → Fires M s τs x → NothingEnabled M x → (left f : ℕ) → length τs ≤ left
+        → NothingEnabled M (profile M profileFull left f s .ended .state)
+
+-- ---- the proofs
 
 module _ (M : Machine) where
   -- ---- no two enabled activities have one tag
@@ -210,7 +269,7 @@ module _ (M : Machine) where
       pub profileEnds : ProfileEnds M profileFull
       profileEnds s g left f n = go (profile M profileFull left f s) (everyProfile s g left f) n
         where
-          go : (p : ProfileOf M) → Profiled M profileFull s left f p → ¬ (RefusedEnd (p .ended .outcome)) → Unrefused M profileFull s f p
+          go : (p : ProfileOf M) → Profiled M profileFull s left f p → ¬ (Refused (p .ended .outcome)) → Unrefused M profileFull s f p
           go p h n = byStop (h .stopped)
             where
               byStop : ProfileStopped M profileFull left (length (p .records)) (h .cut) (p .ended .state) (p .ended .outcome) → Unrefused M profileFull s f p

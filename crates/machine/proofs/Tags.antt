@@ -3,7 +3,7 @@ use mathlib.Core.Path.{_≡_, refl, sym, ap, _∙_}
 use mathlib.Core.List.{List, [], _∷_, _++_, map, append-nil, List·Memᴰ, List·Memᴰ·head, List·Memᴰ·tail, List·Memᴰ·cases-cons, List·Memᴰ·not-nil}
 use mathlib.Core.List.{List·Permᴰ, List·Permᴰ·cons, List·Permᴰ·swap, List·Permᴰ·trans, Permᴰ·refl}
 use mathlib.Core.Option.{Option, none, some}
-use mathlib.Core.Logic.{_⊎_, inl, inr}
+use mathlib.Core.Logic.{_⊎_, inl, inr, _↔_}
 use mathlib.Core.Bool.{Bool, true, false, _&&_, cond}
 use Prim.Native.Nat.{ℕ, suc, _≤_, _<_}
 use native.Mathlib.Decide.{decLt}
@@ -15,10 +15,17 @@ use Rattle.machine.specs.Machine.{Key, Content, live, spent, deferred, T
 use Rattle.machine.specs.Machine.{Ledger, StateOf, sameKey, at, find, look, isOperandOf, operands}
 use Rattle.machine.specs.Orders.{SpentContent, Distinct, AllLive}
 use Rattle.machine.specs.Sequences.{Once, isSpent, isSpentFirst, spentTags}
-use Rattle.machine.specs.Saved.{SpentTagsOnce}
 use Rattle.machine.proofs.View.{when-yes, when-no, noneSome, falseTrue, keyPath, Source, value, fetched, resolve, settle, cellAfter}
 use Rattle.machine.proofs.View.{DeltaOf, change, operandLive, operandZero}
 use Rattle.machine.proofs.Store.{After}
+
+-- ---- the claims
+
+module _ (M : Machine) where
+  -- its firings are counted by the right tags: exactly those that have a spent operand, each once
+  pub record SpentTagsOnce (ts : Ledger M) : Type 0 where
+    pub exactly : (τ : M .Tag) → List·Memᴰ τ (spentTags M ts) ↔ ((p : ℕ) × SpentContent (find M (at M τ p) ts))
+    pub once : Once (spentTags M ts)
 
 -- ---- contents
 

@@ -1,20 +1,14 @@
 -- A run by a chooser. In each turn a chooser looks at the state and at its own source, picks, the names of a log or places, and gives an activity to fire or the
--- run's end. Runs by picks, replays and ideal steps are cases of it, and what is said of firing sequences holds of all of them at once. Proved in
--- proofs/Choosers. Assumes nothing.
-use mathlib.Core.Path.{_≡_}
-use mathlib.Core.List.{List, [], _∷_, map}
+-- run's end. Runs by picks, replays and ideal steps are cases of it, as proofs/Choosers says, and what is said of firing sequences holds of all of them
+-- at once. Assumes nothing.
+use mathlib.Core.List.{List, [], _∷_}
 use mathlib.Core.Option.{Option, none, some}
-use mathlib.Core.Bool.{cond}
-use Prim.Native.Nat.{ℕ, zero, suc, _+_, _≤_}
-use lib.Dec.{eqb}
-use lib.ListN.{length, getD}
+use Prim.Native.Nat.{ℕ, zero, suc}
+use lib.ListN.{getD}
 use Rattle.machine.specs.Machine.{Machine, Activity, Outcome, budgetSpent, refused, onList}
-use Rattle.machine.specs.Machine.{StateOf, EndOf, enabled, fire, Choice, end, after, ending, runBy}
-use Rattle.machine.specs.Orders.{Good, Lawful}
-use Rattle.machine.specs.Sequences.{ifFired, Logged, logOf}
-use Rattle.machine.specs.Steps.{ProfileOf, endsHere, firesInTurn}
-use Rattle.machine.specs.Replay.{namedIn, replay}
-use Rattle.machine.specs.Saved.{ifRefused}
+use Rattle.machine.specs.Machine.{StateOf, EndOf, enabled, fire, Choice, end, after, ending}
+use Rattle.machine.specs.Sequences.{ifFired}
+use Rattle.machine.specs.Replay.{namedIn}
 
 -- what a chooser gives
 pub data Chosen (R T : Type 0) : Type 0 where
@@ -44,49 +38,18 @@ module _ (M : Machine) where
   logFrom choose zero f s = []
   logFrom choose (suc budget) f s = onChosen (choose f s) (λ o. []) (λ a. ifFired (fire M s (a .tag)) (λ x. a .tag ∷ logFrom choose budget (suc f) x) [])
 
-  -- whatever chooses, the run is a firing sequence, its log
-  abbrev pub ChoosersLogged : Type 0
-  ChoosersLogged = (c : Chooser) (budget f : ℕ) (s : StateOf M) → Logged M s f (logFrom c budget f s) (runFrom c budget f s) × (length (logFrom c budget f s) ≤ budget)
-
   -- ---- by picks
 
   -- 02, R-9, leaves held activities out of what is chosen from
   abbrev pub byPick : Choice M → (picks : List ℕ) → Chooser
   byPick choose picks f s = onList (enabled M s) (ends (ending M s)) (λ a more. takes (choose s (getD picks f 0) a more))
 
-  abbrev pub PicksChoose : Type 0
-  PicksChoose = (c : Choice M) (picks : List ℕ) (budget : ℕ) (s : StateOf M)
-      → (runBy M c budget picks 0 s ≡ runFrom (byPick c picks) budget 0 s) × (logOf M c budget picks s ≡ logFrom (byPick c picks) budget 0 s)
-
-  -- ---- by names and by places: `notEnabled` is the refusal of a turn that finds none
+  -- ---- by names: `notEnabled` is the refusal of a turn that finds none
 
   abbrev pub orRefused : M .Refusal → (turn : ℕ) → Option (Activity (M .Tag)) → Chosen (M .Refusal) (M .Tag)
   orRefused r f none = ends (refused r f)
   orRefused r f (some a) = takes a
 
-  -- the activity at this place, among the enabled
-  abbrev pub atPlace : ℕ → List (Activity (M .Tag)) → Option (Activity (M .Tag))
-  atPlace p [] = none
-  atPlace p (a ∷ more) = cond (eqb (a .place) p) (some a) (atPlace p more)
-
-  abbrev pub placesOf : List (Activity (M .Tag)) → List ℕ
-  placesOf = map (λ a. a .place)
-
   module _ (notEnabled : M .Refusal) where
     abbrev pub byName : (names : List (Option (M .Tag))) → Chooser
     byName names f s = orRefused notEnabled f (namedIn M (getD names f none) (enabled M s))
-
-    abbrev pub byPlace : (places : List ℕ) → Chooser
-    byPlace places f s = orRefused notEnabled f (atPlace (getD places f 0) (enabled M s))
-
-    abbrev pub NamesChoose : Type 0
-    NamesChoose = (names : List (Option (M .Tag))) (s : StateOf M) → replay M notEnabled names 0 s ≡ runFrom (byName names) (length names) 0 s
-
-    -- an ideal step is the run by the places of what is enabled at its start
-    abbrev pub idealStep : StateOf M → EndOf M
-    idealStep s = runFrom (byPlace (placesOf (enabled M s))) (length (enabled M s)) 0 s
-
-    abbrev pub StepByPlaces : Type 0
-    StepByPlaces = (s : StateOf M) → Good M s → (f : ℕ) (next : ℕ → StateOf M → ProfileOf M)
-        → let e = idealStep s in
-        firesInTurn M (enabled M s) f s next ≡ ifRefused (e .outcome) (endsHere M (end M (e .outcome) (f + e .firings) (e .state))) (next (f + e .firings) (e .state))

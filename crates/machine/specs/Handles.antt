@@ -1,14 +1,14 @@
 -- Working definition: no public promise cites it.
 -- A machine that works on handles: what stands for a value is its number in a table, and an effect may add to the table. Entries never change, so that a handle keeps
--- its meaning. Such a run goes in step with the run over the values themselves. The statements; proved in proofs/Handles. Assumes nothing.
+-- its meaning. Such a run goes in step with the run over the values themselves (proofs/Handles). Assumes nothing.
 use mathlib.Core.Path.{_≡_}
 use mathlib.Core.List.{List, _++_, map}
 use Prim.Native.Nat.{ℕ, zero, suc, _<_}
 use lib.ListN.{length, getD}
 use Rattle.machine.specs.Machine.{Content, live, spent, deferred, Token, Cell, absent, waiting, present, State, Effect, Machine, Activity, Fired, fired, notFired, refused, End, onOption}
 use Rattle.machine.specs.Machine.{StateOf, FiredOf, EndOf, look, operands, commit, end}
-use Rattle.machine.specs.Choosers.{onChosen, Chooser, restsAt, runFrom}
-use Rattle.machine.specs.InStep.{RelatedState, RelatedEffect, RelatedEnds, Over}
+use Rattle.machine.specs.Choosers.{onChosen, Chooser, restsAt}
+use Rattle.machine.specs.InStep.{Over}
 
 -- v stands in the table at the handle's number
 pub record StandsAt {X W : Type 0} (number : W → ℕ) (table : List X) (v : X) (handle : W) : Type 0 where
@@ -87,25 +87,3 @@ module _ (M : Machine) (W : Type 0) (effect : M .Tag → W → W → Effect (M .
       onChosen (choose f u) (λ o. tabled t (end N o f u)) (λ a.
       let x = fireOn t u (a .tag) in
       afterOn f (x .table) u a (x .result) (λ y. runOn choose budget (suc f) (x .table) y))
-
-  -- ---- in step with the machine over values
-
-  module _ (number : W → ℕ) where
-    -- by no refusal is one of the two refused alone
-    abbrev pub NoRefusal : M .Refusal → Type 0
-    NoRefusal r = ⊥
-
-    -- the effect of handles is that of the values for which they stand; what it sends stands in the table that it leaves
-    abbrev pub StepsRelated : Type 0
-    StepsRelated = (t : Table) → StandsAt number t (M .signal) signal → (τ : M .Tag) (a b : M .Value) (c d : W) → StandsAt number t a c → StandsAt number t b d
-        → RelatedEffect (StandsAt number (t ++ step t τ c d .added)) NoRefusal (M .effect τ a b) (step t τ c d .asked)
-
-    -- the choosers look at nothing in which a state over handles differs from the one for which it stands
-    abbrev pub SameChooser : Chooser M → Chooser N → Type 0
-    SameChooser c d = (t : Table) (f : ℕ) (s : StateOf M) (u : StateOf N) → RelatedState (StandsAt number t) s u → c f s ≡ d f u
-
-    -- at the end as at the start the state over handles stands for the state over values
-    abbrev pub HandlesInStep : Type 0
-    HandlesInStep = (c : Chooser M) (d : Chooser N) → SameChooser c d
-        → (t : Table) → StandsAt number t (M .signal) signal → (s : StateOf M) (u : StateOf N) → RelatedState (StandsAt number t) s u → (budget f : ℕ)
-        → RelatedEnds (StandsAt number (runOn d budget f t u .table)) (runFrom M c budget f s) (runOn d budget f t u .ended)

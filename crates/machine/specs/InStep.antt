@@ -5,7 +5,7 @@ use mathlib.Core.Path.{_≡_}
 use mathlib.Core.List.{List, [], _∷_}
 use Prim.Native.Nat.{ℕ}
 use Rattle.machine.specs.Machine.{Key, Content, live, spent, deferred, Token, Cell, absent, waiting, present, Effect, refuse, send, read, write, Machine}
-use Rattle.machine.specs.Machine.{State, Activity, Fired, fired, notFired, refused, End, output, StateOf, Choice}
+use Rattle.machine.specs.Machine.{State, Activity, refused, End, output, StateOf, Choice}
 use Rattle.machine.specs.Bounded.{Held, runBounded}
 
 -- ---- related place by place
@@ -49,11 +49,6 @@ module _ {V₁ V₂ : Type 0} (R : V₁ → V₂ → Type 0) where
       bothSend : {v : V₁} {w : V₂} {keys : List (Key T)} → R v w → RelatedEffect (send v keys) (send w keys)
       bothRead : {c : ℕ} {keys : List (Key T)} → RelatedEffect (read c keys) (read c keys)
       bothWrite : {c : ℕ} {v : V₁} {w : V₂} {keys : List (Key T)} → R v w → RelatedEffect (write c v keys) (write c w keys)
-
-    pub data RelatedFired : Fired F T V₁ → Fired F T V₂ → Type 0 where
-      alone : {r : F} {y : Fired F T V₂} → Alone r → RelatedFired (notFired r) y
-      neither : {r : F} → RelatedFired (notFired r) (notFired r)
-      both : {x : State T V₁} {y : State T V₂} → RelatedState x y → RelatedFired (fired x) (fired y)
 
     -- the ends are alike, unless the first was refused alone
     pub data InStep (d : End F T V₁) (e : End F T V₂) : Type 0 where

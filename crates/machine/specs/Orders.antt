@@ -1,15 +1,14 @@
 -- 01, "Any two orders", and what else is claimed of every run: the statements, over any machine with a lawful instruction set.
--- They are proved in proofs/: Enabled, Orders, Reached. Assumes nothing.
+-- They are proved in proofs/: Orders and Reached. Assumes nothing.
 use mathlib.Core.Path.{_≡_}
 use mathlib.Core.List.{List, [], _∷_, List·Memᴰ, List·Permᴰ}
 use mathlib.Core.Option.{Option, none, some}
 use mathlib.Core.Logic.{_↔_}
-use mathlib.Core.Bool.{true}
 use Prim.Native.Nat.{ℕ, zero, suc, _+_, _≤_, _<_}
 use lib.ListN.{length, replicate}
 use Rattle.machine.specs.Machine.{Key, Content, live, spent, deferred, absent, waiting, Effect, refuse, send, read, write, Machine, Activity, fired, notFired}
-use Rattle.machine.specs.Machine.{Outcome, completed, hung, budgetSpent, refused, End, onOption, cellAt, Ledger, StateOf, EndOf, Choice}
-use Rattle.machine.specs.Machine.{at, find, look, allLive, operands, placeOf, enabled, fire, runBy}
+use Rattle.machine.specs.Machine.{Outcome, completed, hung, budgetSpent, refused, End, onOption, cellAt, Ledger, StateOf, Choice}
+use Rattle.machine.specs.Machine.{at, find, look, allLive, operands, enabled, fire, runBy}
 
 -- ---- what is assumed of a machine and of the state from which it runs
 
@@ -64,54 +63,46 @@ module _ (M : Machine) where
   abbrev pub LawfulChoice : Choice M → Type 0
   LawfulChoice choose = (s : StateOf M) (pick : ℕ) (a : Activity (M .Tag)) (more : List (Activity (M .Tag))) → List·Memᴰ (choose s pick a more) (a ∷ more)
 
-  -- ---- the enabled
+-- ---- how a run ended: said of its outcome, here and at every level above
 
-  -- in order of place, each place once: the places from n on
-  abbrev pub InOrder : (n : ℕ) → List (Activity (M .Tag)) → Type 0
-  InOrder n [] = Unit {0}
-  InOrder n (a ∷ more) = (n ≤ a .place) × InOrder (suc (a .place)) more
+abbrev pub Completed : {R : Type 0} → Outcome R → Type 0
+Completed completed = Unit {0}
+Completed hung = ⊥
+Completed budgetSpent = ⊥
+Completed (refused r place) = ⊥
 
-  -- all operands of its tag are live, and there is one; its place is that of its earliest operand
-  abbrev pub Enabled : StateOf M → Activity (M .Tag) → Type 0
-  Enabled s a = (0 < M .arity (a .tag)) × (allLive M (look M s) (a .tag) ≡ true) × (a .place ≡ placeOf M (a .tag) (s .tokens))
-
-  -- the list of the enabled holds exactly these, each once: two of one tag would have one place
-  pub record EnabledOnce (s : StateOf M) : Type 0 where
-    pub exactly : (a : Activity (M .Tag)) → List·Memᴰ a (enabled M s) ↔ Enabled s a
-    pub inOrder : InOrder 0 (enabled M s)
-
--- ---- any two orders
-
-abbrev pub CompletedEnd : {R : Type 0} → Outcome R → Type 0
-CompletedEnd completed = Unit {0}
-CompletedEnd hung = ⊥
-CompletedEnd budgetSpent = ⊥
-CompletedEnd (refused r place) = ⊥
-
-abbrev pub HungEnd : {R : Type 0} → Outcome R → Type 0
-HungEnd completed = ⊥
-HungEnd hung = Unit {0}
-HungEnd budgetSpent = ⊥
-HungEnd (refused r place) = ⊥
+abbrev pub Hung : {R : Type 0} → Outcome R → Type 0
+Hung completed = ⊥
+Hung hung = Unit {0}
+Hung budgetSpent = ⊥
+Hung (refused r place) = ⊥
 
 -- completed or hung: nothing is enabled
-abbrev pub QuiescentEnd : {R : Type 0} → Outcome R → Type 0
-QuiescentEnd completed = Unit {0}
-QuiescentEnd hung = Unit {0}
-QuiescentEnd budgetSpent = ⊥
-QuiescentEnd (refused r place) = ⊥
+abbrev pub Quiescent : {R : Type 0} → Outcome R → Type 0
+Quiescent completed = Unit {0}
+Quiescent hung = Unit {0}
+Quiescent budgetSpent = ⊥
+Quiescent (refused r place) = ⊥
 
-abbrev pub BudgetSpent : {R : Type 0} → Outcome R → Type 0
-BudgetSpent completed = ⊥
-BudgetSpent hung = ⊥
-BudgetSpent budgetSpent = Unit {0}
-BudgetSpent (refused r place) = ⊥
+abbrev pub Spent : {R : Type 0} → Outcome R → Type 0
+Spent completed = ⊥
+Spent hung = ⊥
+Spent budgetSpent = Unit {0}
+Spent (refused r place) = ⊥
 
-abbrev pub RefusedEnd : {R : Type 0} → Outcome R → Type 0
-RefusedEnd completed = ⊥
-RefusedEnd hung = ⊥
-RefusedEnd budgetSpent = ⊥
-RefusedEnd (refused r place) = Unit {0}
+abbrev pub Refused : {R : Type 0} → Outcome R → Type 0
+Refused completed = ⊥
+Refused hung = ⊥
+Refused budgetSpent = ⊥
+Refused (refused r place) = Unit {0}
+
+abbrev pub RefusedBy : {R : Type 0} → R → Outcome R → Type 0
+RefusedBy r completed = ⊥
+RefusedBy r hung = ⊥
+RefusedBy r budgetSpent = ⊥
+RefusedBy r (refused q place) = q ≡ r
+
+-- ---- any two orders
 
 -- completed or hung alike, as many firings, as many tokens, the same cells, and the same tokens in whatever order they came
 pub record AlikeEnds {R T W : Type 0} (x y : End R T W) : Type 0 where
@@ -124,9 +115,9 @@ pub record AlikeEnds {R T W : Type 0} (x y : End R T W) : Type 0 where
 -- one completes exactly when the other does, one hangs exactly when the other does, and then they are alike. R-2: "completed or
 -- hung alike in all, with everything else equal"
 pub record EndsAgree {R T W : Type 0} (x y : End R T W) : Type 0 where
-  pub completes : CompletedEnd (x .outcome) ↔ CompletedEnd (y .outcome)
-  pub hangs : HungEnd (x .outcome) ↔ HungEnd (y .outcome)
-  pub alike : QuiescentEnd (x .outcome) → AlikeEnds x y
+  pub completes : Completed (x .outcome) ↔ Completed (y .outcome)
+  pub hangs : Hung (x .outcome) ↔ Hung (y .outcome)
+  pub alike : Quiescent (x .outcome) → AlikeEnds x y
 
 module _ (M : Machine) where
   -- from any well-formed state, for any two lawful choices, any two lists of picks, any budget; f firings were done before
@@ -137,17 +128,17 @@ module _ (M : Machine) where
   -- and for any two budgets that are each enough: a run that completes or hangs tells how every run ends whose budget has room for its firings
   abbrev pub AnyTwoBudgetsOfMachine : Type 0
   AnyTwoBudgetsOfMachine = (c d : Choice M) → LawfulChoice M c → LawfulChoice M d → (s : StateOf M) → Good M s → (budget budget′ : ℕ) (picks picks′ : List ℕ) (f : ℕ)
-      → QuiescentEnd (runBy M c budget picks f s .outcome) → runBy M c budget picks f s .firings ≤ f + budget′ → AlikeEnds (runBy M c budget picks f s) (runBy M d budget′ picks′ f s)
+      → Quiescent (runBy M c budget picks f s .outcome) → runBy M c budget picks f s .firings ≤ f + budget′ → AlikeEnds (runBy M c budget picks f s) (runBy M d budget′ picks′ f s)
 
   -- as many firings as the ledger has room for tokens are enough
   abbrev pub NeverSpent : Type 0
   NeverSpent = (c : Choice M) → LawfulChoice M c → (s : StateOf M) → Good M s → (budget : ℕ) (picks : List ℕ) (f : ℕ) → M .capacity ≤ budget
-      → ¬ (BudgetSpent (runBy M c budget picks f s .outcome))
+      → ¬ (Spent (runBy M c budget picks f s .outcome))
 
   -- "If one order is refused, every order is, though another may be refused by another number."
   abbrev pub AllRefused : Type 0
   AllRefused = (c d : Choice M) → LawfulChoice M c → LawfulChoice M d → (s : StateOf M) → Good M s → (budget : ℕ) (picks picks′ : List ℕ) (f : ℕ) → M .capacity ≤ budget
-      → RefusedEnd (runBy M c budget picks f s .outcome) ↔ RefusedEnd (runBy M d budget picks′ f s .outcome)
+      → Refused (runBy M c budget picks f s .outcome) ↔ Refused (runBy M d budget picks′ f s .outcome)
 
   -- ---- what is reached
 
@@ -185,9 +176,6 @@ module _ (M : Machine) where
     -- what is no operand is never spent: results are not
     pub othersUnspent : (τ : M .Tag) (p : ℕ) → M .arity τ ≤ p → ¬ (SpentContent (find M (at M τ p) (x .tokens)))
 
-  abbrev pub ReachedInvariants : Type 0
-  ReachedInvariants = (s : StateOf M) → Start M s → (f o : ℕ) (x : StateOf M) → Reached s f o x → Invariants s f o x
-
   -- ---- how a run ends
 
   -- "every live token is at an OUT and none is deferred"
@@ -207,14 +195,3 @@ module _ (M : Machine) where
   Says hung budget n x = (enabled M x ≡ []) × ¬ (AllProper (x .tokens))
   Says budgetSpent budget n x = (n ≡ budget) × (a : Activity (M .Tag)) × List·Memᴰ a (enabled M x)
   Says (refused r place) budget n x = (n < budget) × (a : Activity (M .Tag)) × List·Memᴰ a (enabled M x) × (a .place ≡ place) × (fire M x (a .tag) ≡ notFired r)
-
-  -- after n firings of its own it is in a state that is reached by n firings
-  pub record Ended (s : StateOf M) (budget f : ℕ) (e : EndOf M) : Type 0 where
-    pub done : ℕ
-    pub sent : ℕ
-    pub firings : e .firings ≡ f + done
-    pub reached : Reached s done sent (e .state)
-    pub says : Says (e .outcome) budget done (e .state)
-
-  abbrev pub RunsEnd : Type 0
-  RunsEnd = (c : Choice M) → LawfulChoice M c → (s : StateOf M) (budget : ℕ) (picks : List ℕ) (f : ℕ) → Ended s budget f (runBy M c budget picks f s)

@@ -1,7 +1,7 @@
 -- R-13, "Stop here and carry on tomorrow": a run in parts, and the states that a run leaves and can go on from. The statements, over any
 -- machine with a lawful instruction set; they are proved in proofs/: Cut, Saved, Taken. Assumes nothing.
 use mathlib.Core.Path.{_≡_}
-use mathlib.Core.List.{List, [], _∷_, List·Memᴰ}
+use mathlib.Core.List.{List, [], _∷_}
 use mathlib.Core.Logic.{_↔_}
 use mathlib.Core.Option.{some}
 use mathlib.Core.Bool.{Bool, true, false, _&&_, _||_, not, cond}
@@ -11,7 +11,7 @@ use lib.ListN.{length, take, drop}
 use Rattle.machine.specs.Machine.{Key, Content, live, spent, deferred, Cell, absent, waiting, present, Machine, Outcome, completed, hung, budgetSpent, refused, cellAt}
 use Rattle.machine.specs.Machine.{Ledger, StateOf, EndOf, Choice, at, find, isOperandOf, keyTaken, runBy}
 use Rattle.machine.specs.Orders.{SpentContent, Good, Start, LawfulChoice}
-use Rattle.machine.specs.Sequences.{Once, isSpent, isSpentThere, spentTags}
+use Rattle.machine.specs.Sequences.{isSpent, isSpentThere, spentTags}
 
 -- ---- a run in parts
 
@@ -80,14 +80,6 @@ module _ (M : Machine) where
   abbrev pub RunsSave : Type 0
   RunsSave = (c : Choice M) → LawfulChoice M c → (f : ℕ) (s : StateOf M) → Saved f s → (budget : ℕ) (picks : List ℕ)
       → Saved (runBy M c budget picks f s .firings) (runBy M c budget picks f s .state)
-
-  -- its firings are counted by the right tags: exactly those that have a spent operand, each once
-  pub record SpentTagsOnce (ts : Ledger M) : Type 0 where
-    pub exactly : (τ : M .Tag) → List·Memᴰ τ (spentTags M ts) ↔ ((p : ℕ) × SpentContent (find M (at M τ p) ts))
-    pub once : Once (spentTags M ts)
-
-  abbrev pub SavedTags : Type 0
-  SavedTags = (f : ℕ) (s : StateOf M) → Saved f s → SpentTagsOnce (s .tokens)
 
   -- ---- the same as a test, a condition of 02 at a time
 

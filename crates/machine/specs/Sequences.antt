@@ -1,15 +1,15 @@
 -- Firing sequences: activities that fire one after the other, whoever chose them; what is stated of any two of them; and that every run is
 -- one, its log. Proved in proofs/: Sequences and Runs. Assumes nothing.
 use mathlib.Core.Path.{_≡_}
-use mathlib.Core.List.{List, [], _∷_, _++_, List·Memᴰ, List·Permᴰ}
+use mathlib.Core.List.{List, [], _∷_, List·Memᴰ, List·Permᴰ}
 use mathlib.Core.Option.{Option, none, some}
 use mathlib.Core.Bool.{Bool, true, false, _&&_, cond}
 use Prim.Native.Nat.{ℕ, zero, suc, _+_, _≤_, _<_}
 use lib.Dec.{eqb}
 use lib.ListN.{length}
 use Rattle.machine.specs.Machine.{Content, live, spent, deferred, Token, State, Machine, Activity, Fired, fired, notFired, onList, firstPick, laterPicks}
-use Rattle.machine.specs.Machine.{Ledger, StateOf, EndOf, enabled, fire, Choice, ending, runBy}
-use Rattle.machine.specs.Orders.{Good, LawfulChoice, AlikeEnds, Says}
+use Rattle.machine.specs.Machine.{Ledger, StateOf, EndOf, enabled, fire, Choice, runBy}
+use Rattle.machine.specs.Orders.{Good, LawfulChoice, Says}
 
 -- each once: nothing stands in the list twice
 abbrev pub Once : {A : Type 0} → List A → Type 0
@@ -47,33 +47,10 @@ module _ (M : Machine) where
   Fires s [] x = s ≡ x
   Fires s (τ ∷ τs) x = (y : StateOf M) × (fire M s τ ≡ fired y) × Fires y τs x
 
-  -- each is enabled when it fires
-  abbrev pub FiredEnabled : Type 0
-  FiredEnabled = (s x : StateOf M) (τ : M .Tag) → fire M s τ ≡ fired x → (a : Activity (M .Tag)) × List·Memᴰ a (enabled M s) × (a .tag ≡ τ)
-
-  -- and an enabled activity stays enabled, at its place, while another fires
-  abbrev pub StaysEnabled : Type 0
-  StaysEnabled = (s : StateOf M) → Good M s → (x : StateOf M) (τ : M .Tag) (a : Activity (M .Tag)) → fire M s τ ≡ fired x → ¬ (τ ≡ a .tag) → List·Memᴰ a (enabled M s) → List·Memᴰ a (enabled M x)
-
-  abbrev pub Joined : Type 0
-  Joined = (τs υs : List (M .Tag)) (s x y : StateOf M) → Fires s τs x → Fires x υs y → Fires s (τs ++ υs) y
-
   -- the tags with spent operands: all of a tag are spent together, so that the one on port 0 stands for it
   abbrev pub spentTags : Ledger M → List (M .Tag)
   spentTags [] = []
   spentTags (t ∷ ts) = cond (isSpentFirst t) (t .key .tag ∷ spentTags ts) (spentTags ts)
-
-  -- the ledger tells which activities have fired
-  abbrev pub LedgerTells : Type 0
-  LedgerTells = (s : StateOf M) → Good M s → (τs : List (M .Tag)) (x : StateOf M) → Fires s τs x → List·Permᴰ (spentTags (x .tokens)) (τs ++ spentTags (s .tokens))
-
-  -- none fires twice
-  abbrev pub FiresOnce : Type 0
-  FiresOnce = (s : StateOf M) → Good M s → (τs : List (M .Tag)) (x : StateOf M) → Fires s τs x → Once τs
-
-  -- "Firings never exceed tokens.", which never exceed the capacity
-  abbrev pub NoLonger : Type 0
-  NoLonger = (s : StateOf M) → Good M s → (τs : List (M .Tag)) (x : StateOf M) → Fires s τs x → (length τs ≤ length (x .tokens)) × (length (x .tokens) ≤ M .capacity)
 
   -- ---- any two sequences
 
@@ -118,15 +95,3 @@ module _ (M : Machine) where
   abbrev pub RunsLogged : Type 0
   RunsLogged = (c : Choice M) → LawfulChoice M c → (budget : ℕ) (picks : List ℕ) (f : ℕ) (s : StateOf M)
       → RanBy s budget f (logOf c budget picks s) (runBy M c budget picks f s)
-
-  -- ---- every order
-
-  -- e is how every run ends that has the budget for it, with whatever choice and picks
-  abbrev pub EveryOrder : StateOf M → (f enough : ℕ) → EndOf M → Type 0
-  EveryOrder s f enough e = (c : Choice M) → LawfulChoice M c → (budget : ℕ) → enough ≤ budget → (picks : List ℕ)
-      → AlikeEnds e (runBy M c budget picks f s)
-
-  -- so one sequence to any end tells how every order ends: completed or hung, as its state says
-  abbrev pub OneTellsAll : Type 0
-  OneTellsAll = (s : StateOf M) → Good M s → (f : ℕ) (τs : List (M .Tag)) (e : EndOf M) → Logged s f τs e → NothingEnabled (e .state)
-      → e .outcome ≡ ending M (e .state) → EveryOrder s f (length τs) e

@@ -18,6 +18,7 @@ use Rattle.record.specs.TokensAndTags.{mostTokens, capacityOf}
 use Rattle.record.specs.TokensAndTags as Tokens
 use Rattle.record.specs.Widths.{tokenWidth, cellWidth, pickWidth, stepWidth}
 use Rattle.machine.specs.Steps.{StepRecord}
+use Rattle.machine.specs.Orders.{Completed, Hung, Quiescent}
 use Rattle.rules.specs.declared.answer.Answer.{Answer}
 use Rattle.rules.specs.declared.answer.Profiled.{Profiled}
 use Rattle.rules.specs.declared.answer.Outcome.{Outcome}
@@ -26,7 +27,7 @@ use Rattle.rules.specs.declared.answer.Refusal.the-variants.{BadBound}
 use Rattle.rules.specs.Check.{_andThen_, demand, checkStores, checkArrays, mostCells}
 use Rattle.rules.specs.Run.{Result, refusedAtOnce, ranTo, result, Ran, cellsAfter, tokenRecord}
 use Rattle.rules.specs.Run as Run
-use Rattle.rules.specs.Runs.{LentToRun, LeftByRun, RanOn, LentToProfile, LeftByProfile, Completed, Quiescent, Hung}
+use Rattle.rules.specs.Runs.{LentToRun, LeftByRun, RanOn, LentToProfile, LeftByProfile, outcomeIn}
 use Rattle.rules.specs.Orders.{resultTokens, Allowed}
 use Rattle.rules.specs.Profile.{ProfileResult, profiled, profileAnswer, encodeStep, profileAfter, ProfileRan}
 use Rattle.rules.specs.Fits.{CellCount}
@@ -44,13 +45,14 @@ use Rattle.listing.proofs.Answers.{Lengths, answers-done}
 use Rattle.listing.proofs.AnyTwoOrders.{length-tokens}
 use Rattle.listing.specs.Demand3 as Demand3
 use Rattle.listing.specs.BoundedOrders.{NoneHeldLeft}
-use Rattle.listing.proofs.Demand3.{same-end, used-bytes, ran-cells, two-budgets}
+use Rattle.listing.proofs.Demand3.{used-bytes, ran-cells, two-budgets}
 use Rattle.listing.proofs.BoundedOrders.{bounded-as-orders, zero-is-none}
 use Rattle.plot_cache.specs.declared.Limits.{Limits}
 use Rattle.plot_cache.specs.declared.Ended.{Ended}
 use Rattle.plot_cache.specs.Serves.{Request, sameBytes, sameMachine, sameOrder, rests, anyOrder, serves, RanAs, ProfiledAs, ShownAlike, PlottedAlike, KeptOf, Served, Decided}
 use Rattle.plot_cache.proofs.SameLists.{same-list}
 use Rattle.rules.proofs.Lists.{either}
+use Rattle.rules.proofs.Outcomes.{outcome-said}
 
 -- ---- what a result shows
 
@@ -118,7 +120,7 @@ module _ (graph arrays inputs : List ℕ) (graphBytes : Bytes graph) (inputBytes
 -- ---- two runs
 
 -- nothing is left enabled: it is completed or hung, and if it hung, nothing is held
-resting : (o : Outcome) (held : ℕ) → rests o held ≡ true → Quiescent o × (Hung o → held ≡ 0)
+resting : (o : Outcome) (held : ℕ) → rests o held ≡ true → Quiescent (outcomeIn o) × (Hung (outcomeIn o) → held ≡ 0)
 unfolding rests
 resting Outcomes.Completed held e = (tt, λ h. absurd h)
 resting Outcomes.Hung held e = (tt, λ h. eqb-true held 0 e)
@@ -185,7 +187,7 @@ module _ (k a : Request) (kept-end : Ended) (graphBytes : Bytes (k .graph)) (inp
     ran-full : RanOn (k .graph) (k .arrays) (k .inputs) 2048 m between
     ran-full = record { answered = refl; numbers = refl; ledgerLeft = refl; cellsLeft = refl }
 
-    module _ (of-kept : KeptOf k x kept-end) (quiet : Quiescent (x .answer .outcome)) (none : Hung (x .answer .outcome) → kept-end .held ≡ 0) where
+    module _ (of-kept : KeptOf k x kept-end) (quiet : Quiescent (outcomeIn (x .answer .outcome))) (none : Hung (outcomeIn (x .answer .outcome)) → kept-end .held ≡ 0) where
       -- "completes, or hangs with no held activity left"
       none-held : NoneHeldLeft (k .graph) (k .arrays) (k .inputs) (k .limits .budget) (k .limits .bound) l
       none-held = told .exactly .0 (go (x .answer .outcome) quiet (told .completed) (λ h. of-kept .held h ∙ none h))
@@ -193,7 +195,7 @@ module _ (k a : Request) (kept-end : Ended) (graphBytes : Bytes (k .graph)) (inp
           told : TellsHang (k .graph) (k .arrays) (k .inputs) (k .limits .budget) (k .limits .bound) l x
           told = which-hang (k .graph) (k .arrays) (k .inputs) graphBytes inputBytes (k .limits .budget) (k .limits .bound) l x (kept .ran) quiet
 
-          go : (o : Outcome) → Quiescent o → (Completed o → heldLeft (k .graph) (k .limits .bound) x ≡ 0) → (Hung o → heldLeft (k .graph) (k .limits .bound) x ≡ 0) → heldLeft (k .graph) (k .limits .bound) x ≡ 0
+          go : (o : Outcome) → Quiescent (outcomeIn o) → (Completed (outcomeIn o) → heldLeft (k .graph) (k .limits .bound) x ≡ 0) → (Hung (outcomeIn o) → heldLeft (k .graph) (k .limits .bound) x ≡ 0) → heldLeft (k .graph) (k .limits .bound) x ≡ 0
           go Outcomes.Completed q c h = c tt
           go Outcomes.Hung q c h = h tt
           go Outcomes.Spent q c h = absurd q
@@ -202,7 +204,7 @@ module _ (k a : Request) (kept-end : Ended) (graphBytes : Bytes (k .graph)) (inp
       allowed : whole pickWidth mostTokens (length (a .picks)) ≡ true → Allowed (m .picks) (length (m .ledger)) (length (m .cells))
       allowed w =
           let given = bounded (k .graph) (k .arrays) (k .inputs) (l .picks) (k .limits .budget) (k .limits .bound) (length (l .ledger)) (length (l .cells)) in
-          let rests = same-end given .rests .1 (subst (λ (z : Answer). Quiescent (z .outcome)) (kept .ran .answered) quiet) in
+          let rests = subst Quiescent (ap (λ (z : Answer). outcomeIn (z .outcome)) (kept .ran .answered) ∙ outcome-said given) quiet in
           let stores = begun-whole (k .graph) (k .arrays) (k .inputs) (l .picks) (k .limits .budget) (k .limits .bound) (length (l .ledger)) (length (l .cells)) (quiescent-begun given rests) in
           record { allowedPicks = rw (asked .picks) w; allowedLedger = rw ledger-size (stores .wholeLedger); allowedCells = rw cells-size (stores .wholeCells) }
 
@@ -210,7 +212,7 @@ module _ (k a : Request) (kept-end : Ended) (graphBytes : Bytes (k .graph)) (inp
       through : RanOn (k .graph) (k .arrays) (k .inputs) (a .limits .budget) m y → Allowed (m .picks) (length (m .ledger)) (length (m .cells)) → x .answer .firings ≤ a .limits .budget → ShownAlike l m x y
       through unbound may enough =
           let first = bounded-as-orders (k .graph) (k .arrays) (k .inputs) graphBytes inputBytes (k .limits .budget) (k .limits .bound) l m none-held may (ap capacityOf (sym ledger-size)) (ap (λ (n : ℕ). n / cellWidth) (sym cells-size)) x between (kept .ran) ran-full in
-          let second = two-budgets (k .graph) (k .arrays) (k .inputs) graphBytes inputBytes 2048 (a .limits .budget) m m may refl refl between y ran-full unbound (subst (λ (z : Answer). Quiescent (z .outcome)) (first .answers) quiet) (subst (λ (z : Answer). z .firings ≤ a .limits .budget) (first .answers) enough) in
+          let second = two-budgets (k .graph) (k .arrays) (k .inputs) graphBytes inputBytes 2048 (a .limits .budget) m m may refl refl between y ran-full unbound (subst (λ (z : Answer). Quiescent (outcomeIn (z .outcome))) (first .answers) quiet) (subst (λ (z : Answer). z .firings ≤ a .limits .budget) (first .answers) enough) in
           record {
             answers = first .answers ∙ second .answers;
             cells = inl (first .cells ∙ second .cells);
@@ -226,7 +228,7 @@ module _ (k a : Request) (kept-end : Ended) (graphBytes : Bytes (k .graph)) (inp
         let (q, later) = both (rests (kept-end .answer .outcome) (kept-end .held)) _ e in
         let (z, more) = both (eqb (a .limits .bound) 0) _ later in
         let (w, f) = both (whole pickWidth mostTokens (length (a .picks))) _ more in
-        let (quiet, none) = subst (λ (r : Answer). Quiescent (r .outcome) × (Hung (r .outcome) → kept-end .held ≡ 0)) (sym (of-kept .answer)) (resting (kept-end .answer .outcome) (kept-end .held) q) in
+        let (quiet, none) = subst (λ (r : Answer). Quiescent (outcomeIn (r .outcome)) × (Hung (outcomeIn (r .outcome)) → kept-end .held ≡ 0)) (sym (of-kept .answer)) (resting (kept-end .answer .outcome) (kept-end .held) q) in
         let unbound = zero-is-none .ofRuns (k .graph) (k .arrays) (k .inputs) (a .limits .budget) m y .0
         (subst (λ (b : ℕ). BoundedOn (k .graph) (k .arrays) (k .inputs) (a .limits .budget) b m y) (eqb-true (a .limits .bound) 0 z) ran) in
         through of-kept quiet none unbound (allowed of-kept quiet none w) (subst (λ (r : Answer). r .firings ≤ a .limits .budget) (sym (of-kept .answer)) (leb-true (kept-end .answer .firings) (a .limits .budget) f))

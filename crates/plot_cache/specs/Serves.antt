@@ -10,10 +10,10 @@ use lib.ListN.{length, take}
 use Rattle.buffer.specs.Rows.{whole}
 use Rattle.record.specs.TokensAndTags.{mostTokens}
 use Rattle.record.specs.Widths.{pickWidth, stepWidth}
+use Rattle.machine.specs.Orders as Ends
 use Rattle.rules.specs.declared.answer.Outcome.{Outcome}
 use Rattle.rules.specs.declared.answer.Outcome.the-variants.{Completed, Hung, Spent, Refused}
-use Rattle.rules.specs.Runs.{LentToRun, LeftByRun, LentToProfile, LeftByProfile, ProfiledOn}
-use Rattle.rules.specs.Runs as Runs
+use Rattle.rules.specs.Runs.{LentToRun, LeftByRun, LentToProfile, LeftByProfile, ProfiledOn, outcomeIn}
 use Rattle.rules.specs.Bounded.{BoundedOn}
 use Rattle.activities.specs.Hangs.{heldLeft}
 use Rattle.listing.specs.Listing.{listAnswer, listedOut}
@@ -101,7 +101,7 @@ pub record PlottedAlike (x y : LeftByProfile) : Type 0 where
 -- what is kept is of this run: its answer and, of a hang, how many activities its bound holds back in what it left
 pub record KeptOf (q : Request) (x : LeftByRun) (e : Ended) : Type 0 where
   pub answer : x .answer ≡ e .answer
-  pub held : Runs.Hung (x .answer .outcome) → heldLeft (q .graph) (q .limits .bound) x ≡ e .held
+  pub held : Ends.Hung (outcomeIn (x .answer .outcome)) → heldLeft (q .graph) (q .limits .bound) x ≡ e .held
 
 -- what is kept serves: the run that is asked for shows the same as the kept one; and so does its profile, in room for as many records
 pub record Served (kept : Request) (e : Ended) (asked : Request) : Type 0 where

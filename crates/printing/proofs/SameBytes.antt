@@ -11,15 +11,17 @@ use Rattle.number.specs.Number.{Bytes}
 use Rattle.buffer.specs.Rows.{whole}
 use Rattle.record.specs.TokensAndTags.{mostTokens}
 use Rattle.record.specs.Widths.{tokenWidth, cellWidth, pickWidth}
+use Rattle.machine.specs.Orders.{Quiescent}
 use Rattle.rules.specs.Answer.{valuesOf}
 use Rattle.rules.specs.Check.{mostCells}
 use Rattle.rules.specs.Run.{Result, result, answer, ledgerAfter, cellsAfter}
-use Rattle.rules.specs.Orders.{QuiescentResult}
+use Rattle.rules.specs.Orders.{resultOutcome}
 use Rattle.listing.specs.Listing.{listing}
 use Rattle.rules.specs.Runs.{LentToRun, LeftByRun, RanOn}
+use Rattle.rules.proofs.Outcomes.{outcome-said}
 use Rattle.listing.specs.Demand3.{NotForOthers, usedBytes, AlikeBytes}
 use Rattle.listing.proofs.Answers.{done}
-use Rattle.listing.proofs.Demand3.{same-end, demand3}
+use Rattle.listing.proofs.Demand3.{demand3}
 use Rattle.text.specs.declared.Printed.the-variants.{Done, TooSmall}
 use Rattle.text.specs.Text.{printedOf, printedOut}
 use Rattle.text.proofs.Laws.{same-text}
@@ -75,13 +77,13 @@ module _ (graph arrays inputs : List ℕ) (graphBytes : Bytes graph) (inputBytes
       let sorted : listing u ≡ listing v = sym (done u u (l .0) .1) ∙ l .2 ∙ done v v (l .1) .1 in
       same-text (answer x) (answer y) (listing u) (listing v) (cellsAfter x (replicate cellBytes 0)) (cellsAfter y (replicate cellBytes 0)) (ap valuesOf (a .answers)) sorted (a .cells)
 
-  same-texts : (picks picks′ : List ℕ) → whole pickWidth mostTokens (length picks) ≡ true → whole pickWidth mostTokens (length picks′) ≡ true → QuiescentResult (runOf graph arrays inputs picks)
+  same-texts : (picks picks′ : List ℕ) → whole pickWidth mostTokens (length picks) ≡ true → whole pickWidth mostTokens (length picks′) ≡ true → Quiescent (resultOutcome (runOf graph arrays inputs picks))
       → printedRun graph arrays inputs picks ≡ printedRun graph arrays inputs picks′
   unfolding printedRun
   same-texts picks picks′ w w′ c =
-      let rests : QuiescentResult (ended picks) = subst QuiescentResult (sym (same-run picks)) c in
+      let rests : Quiescent (resultOutcome (ended picks)) = subst Quiescent (ap resultOutcome (sym (same-run picks))) c in
       let agreed = demand3 graph arrays inputs graphBytes inputBytes (lent picks) (lent picks′) (allowed picks w) (allowed picks′ w′) refl refl (leftBy (ended picks)) (leftBy (ended picks′)) (ran picks) (ran picks′) in
-      let alike = agreed .alike (same-end (ended picks) .rests .0 rests) in
+      let alike = agreed .alike (subst Quiescent (sym (outcome-said (ended picks))) rests) in
       ap textLeft (sym (same-run picks)) ∙ same-left (ended picks) (ended picks′) alike ∙ ap textLeft (same-run picks′)
 
 pub orders-print-alike : OrdersPrintAlike

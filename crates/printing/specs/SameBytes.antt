@@ -9,7 +9,8 @@ use Rattle.number.specs.Number.{Bytes}
 use Rattle.buffer.specs.Rows.{whole}
 use Rattle.record.specs.TokensAndTags.{mostTokens}
 use Rattle.record.specs.Widths.{pickWidth}
-use Rattle.rules.specs.Orders.{QuiescentResult}
+use Rattle.machine.specs.Orders.{Quiescent}
+use Rattle.rules.specs.Orders.{resultOutcome}
 use Rattle.text.specs.declared.Printed.{Printed}
 use Rattle.text.specs.declared.Printed.the-variants.{Done}
 use Rattle.printing.specs.PrintedRun.{runOf, printedRun, PrintedRun}
@@ -23,6 +24,6 @@ pub record SameBytes (text text′ : List ℕ) (r r′ : Printed) (left left′ 
 -- one graph, one list of inputs, any two lists of picks of allowed length: if one order completes or hangs, both print the same, in outputs of one length
 abbrev pub OrdersPrintAlike : Type 0
 OrdersPrintAlike = (graph arrays inputs picks picks′ : List ℕ) → Bytes graph → Bytes inputs
-    → whole pickWidth mostTokens (length picks) ≡ true → whole pickWidth mostTokens (length picks′) ≡ true → QuiescentResult (runOf graph arrays inputs picks)
+    → whole pickWidth mostTokens (length picks) ≡ true → whole pickWidth mostTokens (length picks′) ≡ true → Quiescent (resultOutcome (runOf graph arrays inputs picks))
     → (r r′ : Printed) (out out′ left left′ : List ℕ) → PrintedRun graph arrays inputs picks r out left → PrintedRun graph arrays inputs picks′ r′ out′ left′ → length out ≡ length out′
     → SameBytes (printedRun graph arrays inputs picks) (printedRun graph arrays inputs picks′) r r′ left left′

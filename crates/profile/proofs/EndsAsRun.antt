@@ -9,29 +9,26 @@ use Rattle.number.specs.Number.{Bytes, number16}
 use Rattle.buffer.specs.Rows.{rows, All, joined}
 use Rattle.record.specs.TokensAndTags.{TokenFits, mostTokens, capacityOf}
 use Rattle.record.specs.Widths.{tokenWidth, cellWidth, stepWidth}
-use Rattle.machine.specs.Machine as Machine
-use Rattle.machine.specs.Orders as Ends
+use Rattle.machine.specs.Orders.{Quiescent, Refused}
 use Rattle.machine.specs.Steps.{StepRecord, firingsIn, EachFires}
-use Rattle.rules.specs.declared.answer.Refusal.{Refusal}
-use Rattle.rules.specs.declared.answer.Outcome.{Outcome}
 use Rattle.rules.specs.declared.answer.Profiled.{Profiled}
 use Rattle.rules.specs.Answer.{valuesOf}
 use Rattle.rules.specs.Check.{mostCells}
-use Rattle.rules.specs.Run.{Result, refusedAtOnce, ranTo, outcomeOf, result, Ran, tokenRecord}
+use Rattle.rules.specs.Run.{Result, refusedAtOnce, ranTo, result, Ran, tokenRecord}
 use Rattle.rules.specs.Run as Run
-use Rattle.rules.specs.Orders.{resultTokens, resultCells, Allowed}
-use Rattle.rules.specs.Orders as Rules
+use Rattle.rules.specs.Orders.{resultOutcome, resultTokens, resultCells, Allowed}
 use Rattle.rules.specs.Profile.{ProfileResult, profiled, profileAnswer, encodeStep, profileAfter, ProfileEndsAs}
 use Rattle.rules.proofs.Accepted.{whole-bytes}
 use Rattle.rules.specs.Fits.{CellCount}
 use Rattle.rules.proofs.Fits.{result-fits}
 use Rattle.rules.proofs.Small.{answer-small}
 use Rattle.rules.proofs.Profile.{passes, wholes, as-every-order}
-use Rattle.rules.specs.Runs.{LentToRun, LeftByRun, RanOn, LentToProfile, LeftByProfile, ProfiledOn, Quiescent, Refused}
+use Rattle.rules.proofs.Outcomes.{outcome-said}
+use Rattle.rules.specs.Runs.{LentToRun, LeftByRun, RanOn, LentToProfile, LeftByProfile, ProfiledOn, outcomeIn}
 use Rattle.listing.specs.Demand3.{AlikeBytes}
 use Rattle.profile.specs.EndsAsRun.{asRun, firingsRecorded, EndsAsRun, ProfileEndsAsRun}
 use Rattle.listing.proofs.Lists.{all-perm}
-use Rattle.listing.proofs.Demand3.{same-end, bytes-alike}
+use Rattle.listing.proofs.Demand3.{bytes-alike}
 use Rattle.machine.specs.Saved.{sum}
 
 -- ---- the records, read back
@@ -58,23 +55,12 @@ each-fires (r ∷ rs) h = (h .0, each-fires rs (h .1))
 
 -- ---- how it ended
 
-rests-said : (x : Result) → Rules.QuiescentResult x → Quiescent (Run.answer x .outcome)
-unfolding Run.answer
-rests-said (refusedAtOnce r p) h = absurd h
-rests-said (ranTo e) h = go (e .outcome) h
-  where
-    go : (o : Machine.Outcome Refusal) → Ends.QuiescentEnd o → Quiescent (outcomeOf o)
-    go Machine.completed k = k
-    go Machine.hung k = k
-    go Machine.budgetSpent k = k
-    go (Machine.refused r p) k = k
-
-token-count : (x : Result) → Rules.QuiescentResult x → length (resultTokens x) ≡ Run.answer x .tokens
+token-count : (x : Result) → Quiescent (resultOutcome x) → length (resultTokens x) ≡ Run.answer x .tokens
 unfolding Run.answer
 token-count (refusedAtOnce r p) h = absurd h
 token-count (ranTo e) h = length-map (e .state .tokens) tokenRecord
 
-cell-count : (x y : Result) (n : ℕ) → Rules.QuiescentResult x → Rules.QuiescentResult y → resultCells x ≡ resultCells y → CellCount y n → CellCount x n
+cell-count : (x y : Result) (n : ℕ) → Quiescent (resultOutcome x) → Quiescent (resultOutcome y) → resultCells x ≡ resultCells y → CellCount y n → CellCount x n
 cell-count (refusedAtOnce r p) y n h k e c = absurd h
 cell-count (ranTo e) (refusedAtOnce r p) n h k q c = absurd k
 cell-count (ranTo e) (ranTo f) n h k q c = ap length q ∙ c
@@ -83,7 +69,7 @@ cell-count (ranTo e) (ranTo f) n h k q c = ap length q ∙ c
 
 module _ (graph arrays inputs : List ℕ) (graphBytes : Bytes graph) (inputBytes : Bytes inputs) (l : LentToProfile) (m : LentToRun) (allowed : Allowed (m .picks) (length (m .ledger)) (length (m .cells)))
     (capacities : capacityOf (length (l .ledger)) ≡ capacityOf (length (m .ledger))) (counts : length (l .cells) / cellWidth ≡ length (m .cells) / cellWidth)
-    (x : LeftByProfile) (y : LeftByRun) (profiledX : ProfiledOn graph arrays inputs l x) (ranY : RanOn graph arrays inputs 2048 m y) (unrefused : ¬ (Refused (x .answer .answer .outcome))) where
+    (x : LeftByProfile) (y : LeftByRun) (profiledX : ProfiledOn graph arrays inputs l x) (ranY : RanOn graph arrays inputs 2048 m y) (unrefused : ¬ (Refused (outcomeIn (x .answer .answer .outcome)))) where
   abbrev p : ProfileResult
   p = profiled graph arrays inputs (length (l .ledger)) (length (l .cells)) (length (l .profile))
 
@@ -97,19 +83,22 @@ module _ (graph arrays inputs : List ℕ) (graphBytes : Bytes graph) (inputBytes
   outcome-is : x .answer .answer .outcome ≡ Run.answer (p .result) .outcome
   outcome-is = ap (λ a. a .outcome) (ranX .answered)
 
+  ended : outcomeIn (x .answer .answer .outcome) ≡ resultOutcome (p .result)
+  ended = ap outcomeIn outcome-is ∙ outcome-said (p .result)
+
   ends : ProfileEndsAs p r
   ends =
       as-every-order graph arrays inputs (m .picks) (length (l .ledger)) (length (m .ledger)) (length (l .cells)) (length (m .cells)) (length (l .profile))
-      (λ h. unrefused (subst Refused (sym outcome-is) (same-end (p .result) .refuses .0 h))) allowed capacities counts
+      (λ h. unrefused (subst Refused (sym ended) h)) allowed capacities counts
 
-  rests-y : Rules.QuiescentResult r
-  rests-y = same-end r .rests .1 (subst Quiescent (ends .outcome) (rests-said (p .result) (ends .rests)))
+  rests-y : Quiescent (resultOutcome r)
+  rests-y = subst Quiescent (sym (outcome-said (p .result)) ∙ ap outcomeIn (ends .outcome) ∙ outcome-said r) (ends .rests)
 
   alike : AlikeBytes (asRun x) y
   alike =
       let fits = result-fits graph arrays inputs (m .picks) 2048 (length (m .ledger)) (length (m .cells)) graphBytes inputBytes in
       let small = answer-small graph arrays inputs (m .picks) 2048 (length (m .ledger)) (length (m .cells)) in
-      let passed = passes graph arrays inputs (length (l .ledger)) (length (l .cells)) (length (l .profile)) (λ h. unrefused (subst Refused (sym outcome-is) (same-end (p .result) .refuses .0 h))) in
+      let passed = passes graph arrays inputs (length (l .ledger)) (length (l .cells)) (length (l .profile)) (λ h. unrefused (subst Refused (sym ended) h)) in
       let w = wholes graph arrays inputs (length (l .ledger)) (length (l .cells)) (length (l .profile)) passed .0 in
       let count : CellCount (p .result) (length (l .cells) / cellWidth) = cell-count (p .result) r (length (l .cells) / cellWidth) (ends .rests) rests-y (ends .alike .cells) (subst (CellCount r) (sym counts) (fits .cellCount)) in
       bytes-alike (p .result) r ranX ranY (ends .rests) rests-y (outcome-is ∙ ends .outcome ∙ sym (ap (λ a. a .outcome) (ranY .answered))) (ends .alike)
@@ -128,7 +117,7 @@ module _ (graph arrays inputs : List ℕ) (graphBytes : Bytes graph) (inputBytes
 
   ends-as-run : EndsAsRun x y
   ends-as-run = record {
-    rests = subst Quiescent (sym outcome-is) (rests-said (p .result) (ends .rests));
+    rests = subst Quiescent (sym ended) (ends .rests);
     alike = alike;
     firings = ap sum told ∙ sum-firings (p .records) ∙ sym (ends .firings) ∙ sym (ap (λ a. a .firings) (ranX .answered));
     eachFires = subst (All (λ n. 0 < n)) (sym told) (each-fires (p .records) (ends .eachFires));

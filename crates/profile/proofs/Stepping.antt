@@ -23,9 +23,9 @@ use Rattle.machine.specs.Machine.{Machine, State, Ledger, Activity, live, spent
 use Rattle.machine.specs.Orders.{Lawful, Good}
 use Rattle.machine.specs.Steps.{Profile, isUnspent, unspentIn, endsHere, afterStep, tried, firesInTurn, profile}
 use Rattle.machine.specs.Sequences.{Fires}
-use Rattle.machine.specs.Choosers.{placesOf}
 use Rattle.machine.proofs.Sequences.{joined}
 use Rattle.machine.proofs.Steps.{Waiting, atStart, waitsOn, unspentFired, profileRests, profileNoRecord, profileStep}
+use Rattle.machine.proofs.Choosers.{placesOf}
 use Rattle.rules.specs.declared.answer.Refusal.{Refusal}
 use Rattle.rules.specs.declared.answer.Refusal.the-variants.{ProfileFull}
 use Rattle.rules.specs.declared.answer.Outcome as AnswerOutcome

@@ -11,9 +11,10 @@ use Rattle.record.specs.TokensAndTags.{capacityOf}
 use Rattle.record.specs.Widths.{cellWidth, stepWidth}
 use Rattle.rules.specs.Orders.{Allowed}
 use Rattle.engine.specs.Promise.{LentToRun, LeftByRun, RanOn}
-use Rattle.rules.specs.Runs.{LentToProfile, LeftByProfile, ProfiledOn, Refused, Quiescent}
+use Rattle.rules.specs.Runs.{LentToProfile, LeftByProfile, ProfiledOn, outcomeIn}
 use Rattle.listing.specs.Demand3.{AlikeBytes}
 use Rattle.machine.specs.Saved.{sum}
+use Rattle.machine.specs.Orders.{Quiescent, Refused}
 
 -- what a run has too
 abbrev pub asRun : LeftByProfile → LeftByRun
@@ -25,7 +26,7 @@ firingsRecorded x = rows stepWidth (λ b. number16 b 0) (x .answer .records) (x 
 
 pub record EndsAsRun (x : LeftByProfile) (y : LeftByRun) : Type 0 where
   -- completed or hung
-  pub rests : Quiescent (x .answer .answer .outcome)
+  pub rests : Quiescent (outcomeIn (x .answer .answer .outcome))
   -- the answer, every byte of the cells, the same tokens, equal listings
   pub alike : AlikeBytes (asRun x) y
   -- the records' firings add up to the firings, and each record has one at least
@@ -35,4 +36,4 @@ pub record EndsAsRun (x : LeftByProfile) (y : LeftByRun) : Type 0 where
 abbrev pub ProfileEndsAsRun : Type 0
 ProfileEndsAsRun = (graph arrays inputs : List ℕ) → Bytes graph → Bytes inputs → (l : LentToProfile) (m : LentToRun) → Allowed (m .picks) (length (m .ledger)) (length (m .cells))
     → capacityOf (length (l .ledger)) ≡ capacityOf (length (m .ledger)) → length (l .cells) / cellWidth ≡ length (m .cells) / cellWidth
-    → (x : LeftByProfile) (y : LeftByRun) → ProfiledOn graph arrays inputs l x → RanOn graph arrays inputs 2048 m y → ¬ (Refused (x .answer .answer .outcome)) → EndsAsRun x y
+    → (x : LeftByProfile) (y : LeftByRun) → ProfiledOn graph arrays inputs l x → RanOn graph arrays inputs 2048 m y → ¬ (Refused (outcomeIn (x .answer .answer .outcome))) → EndsAsRun x y

@@ -16,9 +16,9 @@ use Rattle.buffer.proofs.Tables.{length-rows}
 use Rattle.arithmetic.specs.declared.Range.{Range}
 use Rattle.machine.specs.Machine.{Machine, State, Activity, Outcome, End, fired, notFired, refused, commit, end}
 use Rattle.machine.specs.Choosers.{Chosen, takes, ends, Chooser, restsAt}
-use Rattle.machine.specs.Handles.{Tabled, fireOn, runOn, StepsRelated}
+use Rattle.machine.specs.Handles.{Tabled, fireOn, runOn}
 use Rattle.machine.specs.Handles as Handles
-use Rattle.machine.proofs.Handles.{onZero, onEnds, onFired, onRefused}
+use Rattle.machine.proofs.Handles.{onZero, onEnds, onFired, onRefused, StepsRelated}
 use Rattle.rules.specs.declared.answer.Refusal.{Refusal}
 use Rattle.rules.specs.declared.answer.Outcome as AnswerOutcome
 use Rattle.rules.specs.InstructionSet.{effectIn, machineOf}

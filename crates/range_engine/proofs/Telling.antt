@@ -14,10 +14,10 @@ use Rattle.machine.specs.Machine.{Machine, State, Outcome, End, byPicks, ending
 use Rattle.machine.specs.Bounded.{withoutHeld, freeOf, byFree, outcomeHeld, settled, runBounded}
 use Rattle.machine.specs.Choosers.{Chooser, runFrom, byPick}
 use Rattle.machine.specs.InStep.{RelatedState, RelatedEnds}
-use Rattle.machine.specs.Handles.{StandsAt, stateBy, Tabled, SameChooser, runOn}
+use Rattle.machine.specs.Handles.{StandsAt, stateBy, Tabled, runOn}
 use Rattle.machine.proofs.Choosers.{picksChoose}
 use Rattle.machine.proofs.InStep.{enabledSame, endingSame}
-use Rattle.machine.proofs.Handles.{stands-at, stateRead, handlesInStep}
+use Rattle.machine.proofs.Handles.{stands-at, stateRead, handlesInStep, SameChooser}
 use Rattle.rules.specs.declared.answer.Refusal.{Refusal}
 use Rattle.rules.specs.InstructionSet.{effectIn, machineOf}
 use Rattle.rules.specs.Held.{heldIn}

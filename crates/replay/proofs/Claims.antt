@@ -16,19 +16,19 @@ use Rattle.record.specs.Arrays.{arraysOf}
 use Rattle.record.specs.TokensAndTags.{capacityOf}
 use Rattle.record.specs.Logs.{encodeActivity}
 use Rattle.record.specs.Widths.{cellWidth, logWidth}
-use Rattle.machine.specs.Machine.{Outcome, completed, hung, budgetSpent, refused, byPicks, run}
-use Rattle.machine.specs.Orders as Ends
+use Rattle.machine.specs.Machine.{byPicks, run}
+use Rattle.machine.specs.Orders.{Quiescent, Refused, RefusedBy}
 use Rattle.machine.specs.Sequences.{Once, logOf}
 use Rattle.machine.proofs.Runs.{ran}
 use Rattle.machine.proofs.Orders.{byPicksLawful}
 use Rattle.rules.specs.declared.answer.Answer.{Answer}
-use Rattle.rules.specs.declared.answer.Refusal.{Refusal}
+use Rattle.rules.specs.declared.answer.Refusal.the-variants.{BadStore}
 use Rattle.rules.specs.declared.answer.Checked.{Checked}
 use Rattle.rules.specs.declared.answer.Checked.the-variants.{Passed, Failed}
 use Rattle.rules.specs.Check.{mostCells}
 use Rattle.rules.specs.InstructionSet.{machineOf}
-use Rattle.rules.specs.Run.{Result, refusedAtOnce, ranTo, outcomeOf, answer, firstState, picksOf, Ran}
-use Rattle.rules.specs.Orders as Results
+use Rattle.rules.specs.Run.{Result, refusedAtOnce, ranTo, answer, firstState, picksOf, Ran}
+use Rattle.rules.specs.Orders.{resultOutcome}
 use Rattle.rules.specs.Log.{LogResult, checkLogged, logUnlessFailed, logged, logAfter, namesIn, replayed, NotBy7, InFiring}
 use Rattle.rules.proofs.Accepted.{whole-bytes}
 use Rattle.record.proofs.LogRecords.{TagFits}
@@ -36,38 +36,22 @@ use Rattle.rules.proofs.Log.{names-back, log-passed}
 use Rattle.rules.proofs.Log as Logs
 use Rattle.rules.proofs.Replay as Replays
 use Rattle.rules.proofs.Replay.{tags-fit}
-use Rattle.rules.specs.Runs.{LentToLogged, LeftByLogged, LoggedOn, ReplayedOn, Refused, Quiescent}
+use Rattle.rules.proofs.Outcomes.{outcome-back, outcome-said}
+use Rattle.rules.specs.Runs.{LentToLogged, LeftByLogged, LoggedOn, ReplayedOn, outcomeIn}
 use Rattle.rules.proofs.Logged.{refused-holds}
-use Rattle.replay.specs.Claims.{logIn, recordsIn, By7, RefusedInFiring, Again, LogReplays, LogsAgree}
+use Rattle.replay.specs.Claims.{logIn, recordsIn, RefusedInFiring, Again, LogReplays, LogsAgree}
 
 -- ---- how a run ended, by its answer
 
-not-by7 : (x : Result) → ¬ (By7 (answer x .outcome)) → NotBy7 x
+not-by7 : (x : Result) → ¬ (RefusedBy BadStore (outcomeIn (answer x .outcome))) → NotBy7 x
 unfolding answer
 not-by7 (refusedAtOnce r p) n = n
 not-by7 (ranTo e) n = tt
 
-refused-there : (x : Result) → InFiring x → Refused (answer x .outcome)
+refused-there : (x : Result) → InFiring x → Refused (outcomeIn (answer x .outcome))
 unfolding answer
 refused-there (refusedAtOnce r p) f = absurd f
-refused-there (ranTo e) f = go (e .outcome) f
-  where
-    go : (o : Outcome Refusal) → Ends.RefusedEnd o → Refused (outcomeOf o)
-    go completed h = h
-    go hung h = h
-    go budgetSpent h = h
-    go (refused r p) h = h
-
-at-rest : (x : Result) → Quiescent (answer x .outcome) → Results.QuiescentResult x
-unfolding answer
-at-rest (refusedAtOnce r p) q = q
-at-rest (ranTo e) q = go (e .outcome) q
-  where
-    go : (o : Outcome Refusal) → Quiescent (outcomeOf o) → Ends.QuiescentEnd o
-    go completed h = h
-    go hung h = h
-    go budgetSpent h = h
-    go (refused r p) h = h
+refused-there (ranTo e) f = subst Refused (sym (outcome-back (e .outcome))) f
 
 -- ---- a replay
 
@@ -76,7 +60,7 @@ log-replays graph arrays inputs graphBytes inputBytes l x h other r ledger′ ce
     let R = logged graph arrays inputs (l .picks) (l .budget) (length (l .ledger)) (length (l .cells)) (length (l .log)) in
     let same : logIn x ≡ take (answer (R .result) .firings * logWidth) (logAfter R (l .log)) = λ i. take (h .answered i .firings * logWidth) (h .logLeft i) in
     let q = subst (λ (log : List ℕ). ReplayedOn graph arrays inputs log (l .ledger) (l .cells) r ledger′ cells′) same p in
-    let n = not-by7 (R .result) (subst (λ (a : Answer). ¬ (By7 (a .outcome))) (h .answered) other) in
+    let n = not-by7 (R .result) (subst (λ (a : Answer). ¬ (RefusedBy BadStore (outcomeIn (a .outcome)))) (h .answered) other) in
     let holds = refused-holds graph arrays inputs (l .picks) (l .budget) (length (l .ledger)) (length (l .cells)) (length (l .log)) in
     let a = Replays.log-replays graph arrays inputs (l .picks) (l .budget) (length (l .ledger)) (length (l .cells)) (l .log) graphBytes inputBytes n in
     record {
@@ -157,8 +141,8 @@ module _ (graph arrays inputs : List ℕ) (l : LentToLogged) where
       ∙ ap (λ (n : ℕ). rows logWidth (take logWidth) n (logAfter whole (l .log))) log-counted
       ∙ records-back (whole .log) (drop (length (joined encodeActivity (whole .log))) (l .log))
 
-  ends-at-rest : (x : LeftByLogged) → LoggedOn graph arrays inputs l x → Quiescent (x .answer .outcome) → Results.QuiescentResult (whole .result)
-  ends-at-rest x h q = at-rest (whole .result) (subst (λ (a : Answer). Quiescent (a .outcome)) (h .answered) q)
+  ends-at-rest : (x : LeftByLogged) → LoggedOn graph arrays inputs l x → Quiescent (outcomeIn (x .answer .outcome)) → Quiescent (resultOutcome (whole .result))
+  ends-at-rest x h q = subst Quiescent (ap (λ (a : Answer). outcomeIn (a .outcome)) (h .answered) ∙ outcome-said (whole .result)) q
 
 pub logs-agree : LogsAgree
 logs-agree graph arrays inputs graphBytes inputBytes l m c d x y h k p q =

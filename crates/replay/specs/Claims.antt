@@ -9,11 +9,10 @@ use Rattle.buffer.specs.Rows.{rows}
 use Rattle.record.specs.TokensAndTags.{capacityOf}
 use Rattle.record.specs.Widths.{cellWidth, logWidth}
 use Rattle.machine.specs.Sequences.{Once}
+use Rattle.machine.specs.Orders.{Quiescent, Refused, RefusedBy}
 use Rattle.rules.specs.declared.answer.Answer.{Answer}
-use Rattle.rules.specs.declared.answer.Outcome.{Outcome}
-use Rattle.rules.specs.declared.answer.Outcome.the-variants as Outcomes
 use Rattle.rules.specs.declared.answer.Refusal.the-variants.{BadStore}
-use Rattle.rules.specs.Runs.{LentToLogged, LeftByLogged, LoggedOn, ReplayedOn, Refused, Quiescent}
+use Rattle.rules.specs.Runs.{LentToLogged, LeftByLogged, LoggedOn, ReplayedOn, outcomeIn}
 
 -- ---- the log of a run
 
@@ -27,15 +26,9 @@ recordsIn x = rows logWidth (take logWidth) (x .answer .firings) (x .log)
 
 -- ---- how it ended
 
-abbrev pub By7 : Outcome → Type 0
-By7 Outcomes.Completed = ⊥
-By7 Outcomes.Hung = ⊥
-By7 Outcomes.Spent = ⊥
-By7 (Outcomes.Refused r place) = r ≡ BadStore
-
 -- a refusal before any firing has no tokens, and one in a firing has the operands that were to be spent
 abbrev pub RefusedInFiring : Answer → Type 0
-RefusedInFiring a = Refused (a .outcome) × (0 < a .tokens)
+RefusedInFiring a = Refused (outcomeIn (a .outcome)) × (0 < a .tokens)
 
 -- ---- the claims
 
@@ -51,7 +44,7 @@ pub record Again (x : LeftByLogged) (r : Answer) (ledger′ cells′ : List ℕ)
 
 -- "Replaying the log of a run not refused by 7, buffers lent alike"
 abbrev pub LogReplays : Type 0
-LogReplays = (graph arrays inputs : List ℕ) → Bytes graph → Bytes inputs → (l : LentToLogged) (x : LeftByLogged) → LoggedOn graph arrays inputs l x → ¬ (By7 (x .answer .outcome))
+LogReplays = (graph arrays inputs : List ℕ) → Bytes graph → Bytes inputs → (l : LentToLogged) (x : LeftByLogged) → LoggedOn graph arrays inputs l x → ¬ (RefusedBy BadStore (outcomeIn (x .answer .outcome)))
     → (r : Answer) (ledger′ cells′ : List ℕ) → ReplayedOn graph arrays inputs (logIn x) (l .ledger) (l .cells) r ledger′ cells′ → Again x r ledger′ cells′
 
 -- "The logs of two completed runs of one graph with equal inputs, capacity and cell count hold the same records, each once.": and of two that hang;
@@ -59,5 +52,5 @@ LogReplays = (graph arrays inputs : List ℕ) → Bytes graph → Bytes inputs �
 abbrev pub LogsAgree : Type 0
 LogsAgree = (graph arrays inputs : List ℕ) → Bytes graph → Bytes inputs → (l m : LentToLogged)
     → capacityOf (length (l .ledger)) ≡ capacityOf (length (m .ledger)) → length (l .cells) / cellWidth ≡ length (m .cells) / cellWidth
-    → (x y : LeftByLogged) → LoggedOn graph arrays inputs l x → LoggedOn graph arrays inputs m y → Quiescent (x .answer .outcome) → Quiescent (y .answer .outcome)
+    → (x y : LeftByLogged) → LoggedOn graph arrays inputs l x → LoggedOn graph arrays inputs m y → Quiescent (outcomeIn (x .answer .outcome)) → Quiescent (outcomeIn (y .answer .outcome))
     → List·Permᴰ (recordsIn x) (recordsIn y) × Once (recordsIn x)

@@ -19,10 +19,10 @@ use Rattle.record.specs.Arrays.{arraysOf}
 use Rattle.record.specs.TokensAndTags.{mostTokens, capacityOf}
 use Rattle.record.specs.Widths.{tokenWidth, cellWidth, logWidth}
 use Rattle.machine.specs.Machine.{Machine, State, End, Outcome, completed, hung, budgetSpent, refused, byPicks, run, runBy}
-use Rattle.machine.specs.Orders as Ends
+use Rattle.machine.specs.Orders.{Completed, Hung, Quiescent, Refused}
 use Rattle.machine.specs.Sequences.{logOf}
 use Rattle.machine.specs.Saved.{Saved}
-use Rattle.machine.specs.Bounded.{RanBounded, runBounded, logBounded}
+use Rattle.machine.specs.Bounded.{runBounded, logBounded}
 use Rattle.machine.specs.Bounded as Machines
 use Rattle.machine.proofs.Ending.{rested}
 use Rattle.machine.proofs.Sequences.{firesGood, noLonger}
@@ -31,7 +31,7 @@ use Rattle.machine.proofs.Reached.{sequenceReaches}
 use Rattle.machine.proofs.Runs.{ran}
 use Rattle.machine.proofs.Bounds.{held-bounded}
 use Rattle.machine.proofs.Saved.{saved-reached, saved-firings}
-use Rattle.machine.proofs.Bounded.{unbounded, boundedLogged, boundedEnds, boundedUnrefused}
+use Rattle.machine.proofs.Bounded.{unbounded, boundedLogged, boundedEnds, boundedUnrefused, RanBounded}
 use Rattle.rules.specs.declared.answer.Refusal.{Refusal}
 use Rattle.rules.specs.declared.answer.Refusal.the-variants.{BadBound, DamagedState}
 use Rattle.rules.specs.declared.answer.Checked.{Checked}
@@ -41,13 +41,13 @@ use Rattle.rules.specs.InstructionSet.{machineOf}
 use Rattle.rules.specs.Run.{firstState, picksOf, Result, refusedAtOnce, ranTo, outcomeOf, unlessFailed, result, answer}
 use Rattle.rules.specs.Log.{logSuffices, checkLogStores, checkLogged, LogResult, logUnlessFailed, logged}
 use Rattle.rules.specs.Saved.{machineSaved, stateSaved, stateTaken, checkSaved, carried}
-use Rattle.rules.specs.Orders.{QuiescentResult, RefusedResult, Allowed}
+use Rattle.rules.specs.Orders.{resultOutcome, Allowed}
 use Rattle.rules.specs.Fits.{AllFit}
 use Rattle.rules.specs.Invariants.{LawfulResult}
 use Rattle.rules.specs.Small.{Small, CountsFit}
 use Rattle.rules.specs.Held.{heldIn}
 use Rattle.rules.specs.Bounded.{goodBound, andBound, checkBounded, bounded, checkBoundLogged, boundLogged, checkBoundSaved, boundCarried}
-use Rattle.rules.specs.Bounded.{BoundZero, LeavesNoneHeld, BoundedEndsAs, BoundedAsEveryOrder, NotRefused, BoundLoggedRuns, BoundLogFits, BoundedInvariants, BoundedFits, BoundedSmall, BoundedCounted}
+use Rattle.rules.specs.Bounded.{BoundZero, LeavesNoneHeld, BoundedEndsAs, BoundedAsEveryOrder, NotRefused}
 use Rattle.rules.proofs.Passed.{demand-passed, andThen-passed}
 use Rattle.rules.proofs.Lawful.{lawful}
 use Rattle.rules.proofs.Accepted.{whole-bytes, Whole, stores-whole, Accepted, accepted, law, good, by-check}
@@ -58,6 +58,32 @@ use Rattle.rules.proofs.Log.{log-stores, enough}
 use Rattle.rules.proofs.Small.{Below, then-below, demand-below, graph-below, arrays-below, stores-below, all-below, place-small, refused-small}
 use Rattle.rules.proofs.Counted.{at-once, placed, sequence}
 use Rattle.rules.proofs.Saved.{saved-under}
+
+-- ---- the claims
+
+-- a run that writes a log is the run, if the log suffices, and the log has room in what is lent
+abbrev pub BoundLoggedRuns : Type 0
+BoundLoggedRuns = (graph arrays inputs picks : List ℕ) (budget k ledger cells lent : ℕ) → logSuffices budget lent ≡ true
+    → boundLogged graph arrays inputs picks budget k ledger cells lent .result ≡ bounded graph arrays inputs picks budget k ledger cells
+
+abbrev pub BoundLogFits : Type 0
+BoundLogFits = (graph arrays inputs picks : List ℕ) (budget k ledger cells lent : ℕ) → length (boundLogged graph arrays inputs picks budget k ledger cells lent .log) * logWidth ≤ lent
+
+-- it is a firing sequence from the inputs, its tokens and cells fit their records, and its answer is small, as those of a run are
+abbrev pub BoundedInvariants : Type 0
+BoundedInvariants = (graph arrays inputs picks : List ℕ) (budget k ledger cells : ℕ) → LawfulResult graph arrays inputs ledger cells (bounded graph arrays inputs picks budget k ledger cells)
+
+abbrev pub BoundedFits : Type 0
+BoundedFits = (graph arrays inputs picks : List ℕ) (budget k ledger cells : ℕ) → Bytes graph → Bytes inputs
+    → AllFit (bounded graph arrays inputs picks budget k ledger cells) (capacityOf ledger) (cells / cellWidth)
+
+abbrev pub BoundedSmall : Type 0
+BoundedSmall = (graph arrays inputs picks : List ℕ) (budget k ledger cells : ℕ) → Small budget (answer (bounded graph arrays inputs picks budget k ledger cells))
+
+-- 16 bits are enough for each number of an answer
+pub record BoundedCounted : Type 0 where
+  pub byLogged : (graph arrays inputs picks : List ℕ) (budget k ledger cells lent : ℕ) → CountsFit (answer (boundLogged graph arrays inputs picks budget k ledger cells lent .result))
+  pub byCarried : (graph arrays picks ledger cells : List ℕ) (budget k firings tokens : ℕ) → CountsFit (answer (boundCarried graph arrays picks budget k ledger cells firings tokens))
 
 -- ---- the check
 
@@ -145,7 +171,7 @@ module _ (graph inputs : List ℕ) (table : List NamedArray) (capacity cells : �
   fires : RanBounded M (heldIn (graphOf graph) k) s budget 0 log e
   fires = boundedLogged M (heldIn (graphOf graph) k) (byPicks M) (byPicksLawful M) budget picks 0 s
 
-  quiet : {X : Type 0} (o : Outcome Refusal) → Ends.CompletedEnd o ⊎ (Ends.HungEnd o × X) → Ends.QuiescentEnd o
+  quiet : {X : Type 0} (o : Outcome Refusal) → Completed o ⊎ (Hung o × X) → Quiescent o
   quiet completed h = tt
   quiet hung h = tt
   quiet budgetSpent (inl h) = h
@@ -165,7 +191,7 @@ module _ (graph inputs : List ℕ) (table : List NamedArray) (capacity cells : �
         alike = alike-ends (graphOf graph) table capacity cells e (run M 2048 picks′ s) (firesGood M lawful s first log (e .state) (fires .logged .fires) .distinct) z;
       }
 
-  unrefused : (picks′ : List ℕ) → Ends.QuiescentEnd (run M 2048 picks′ s .outcome) → ¬ (Ends.RefusedEnd (e .outcome))
+  unrefused : (picks′ : List ℕ) → Quiescent (run M 2048 picks′ s .outcome) → ¬ (Refused (e .outcome))
   unrefused picks′ rests =
       let d = run M 2048 picks′ s in
       let h = ran M (byPicks M) (byPicksLawful M) 2048 picks′ 0 s in
@@ -226,7 +252,7 @@ pub not-refused : NotRefused
 unfolding bounded result unlessFailed check
 not-refused graph arrays inputs picks picks′ budget k ledger cells bound allowed rests = go (check graph arrays inputs picks′ ledger cells) refl
   where
-    go : (c : Checked) → check graph arrays inputs picks′ ledger cells ≡ c → ¬ (RefusedResult (bounded graph arrays inputs picks budget k ledger cells))
+    go : (c : Checked) → check graph arrays inputs picks′ ledger cells ≡ c → ¬ (Refused (resultOutcome (bounded graph arrays inputs picks budget k ledger cells)))
     go (Failed r p) e = absurd (rw e at rests)
     go Passed e =
         let (stores, (named, a)) = accepted graph inputs (capacityOf ledger) (checkStores (length inputs) (length picks′) ledger cells) (checkArrays (graphOf graph) (cells / cellWidth) arrays) e in

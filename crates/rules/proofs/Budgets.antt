@@ -12,18 +12,18 @@ use Rattle.record.specs.Arrays.{arraysOf}
 use Rattle.record.specs.TokensAndTags.{mostTokens, capacityOf}
 use Rattle.record.specs.Widths.{tokenWidth, cellWidth}
 use Rattle.machine.specs.Machine.{Machine, State, byPicks, run}
-use Rattle.machine.specs.Orders as Ends
+use Rattle.machine.specs.Orders.{Quiescent}
 use Rattle.machine.proofs.Orders.{byPicksLawful, budgetsBy}
 use Rattle.machine.proofs.Reached.{reached-good, reached-picks}
 use Rattle.rules.specs.declared.answer.Checked.the-variants.{Passed}
 use Rattle.rules.specs.Check.{checkStores, checkArrays, check, mostCells}
 use Rattle.rules.specs.InstructionSet.{machineOf}
 use Rattle.rules.specs.Run.{firstState, picksOf, Result, refusedAtOnce, ranTo, outcomeOf, unlessFailed, result, answer}
-use Rattle.rules.specs.Orders.{QuiescentResult, Allowed, ResultsEndAlike, AnyTwoBudgetsOfResults}
+use Rattle.rules.specs.Orders.{resultOutcome, Allowed, ResultsEndAlike, AnyTwoBudgetsOfResults}
 use Rattle.rules.proofs.Accepted.{whole-bytes, Whole, stores-whole, Accepted, accepted, Begun, begun-passed, law, good}
 use Rattle.rules.proofs.Orders.{same-length, same-cells, alike-ends}
 
-pub quiescent-begun : (x : Result) → QuiescentResult x → Begun x
+pub quiescent-begun : (x : Result) → Quiescent (resultOutcome x) → Begun x
 quiescent-begun (refusedAtOnce r p) h = h
 quiescent-begun (ranTo e) h = tt
 
@@ -36,7 +36,7 @@ module _ (graph inputs : List ℕ) (table : List NamedArray) (capacity cells : �
   abbrev s : State Tag ℤ
   s = firstState inputs cells
 
-  ends-alike : (budget budget′ : ℕ) (picks picks′ : List ℕ) → Ends.QuiescentEnd (run M budget picks s .outcome) → run M budget picks s .firings ≤ budget′
+  ends-alike : (budget budget′ : ℕ) (picks picks′ : List ℕ) → Quiescent (run M budget picks s .outcome) → run M budget picks s .firings ≤ budget′
       → ResultsEndAlike (ranTo (run M budget picks s)) (ranTo (run M budget′ picks′ s))
   unfolding answer
   ends-alike b b′ ps qs rests enough =
@@ -49,7 +49,7 @@ module _ (graph inputs : List ℕ) (table : List NamedArray) (capacity cells : �
 
 -- ---- whole runs
 
-module _ (graph arrays inputs picks : List ℕ) (budget ledger cells : ℕ) (rests : QuiescentResult (result graph arrays inputs picks budget ledger cells)) where
+module _ (graph arrays inputs picks : List ℕ) (budget ledger cells : ℕ) (rests : Quiescent (resultOutcome (result graph arrays inputs picks budget ledger cells))) where
   passed : check graph arrays inputs picks ledger cells ≡ Passed
   passed = begun-passed graph arrays inputs picks budget ledger cells (quiescent-begun (result graph arrays inputs picks budget ledger cells) rests)
 

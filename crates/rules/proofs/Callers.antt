@@ -31,12 +31,19 @@ use Rattle.machine.proofs.Kept.{Each, each-map, OfContent, OfCell, OfToken, OfS
 use Rattle.rules.specs.declared.answer.Checked.the-variants.{Passed}
 use Rattle.rules.specs.Check.{any, instructionAt, within, entersSite, otherReturn, checkGraph}
 use Rattle.rules.specs.InstructionSet.{keyUnder, returnOf, machineOf}
-use Rattle.rules.specs.Callers.{HasEnter, CallIn, PathIn, ReturnsTo, CallerIn, TokenIn, CallersKept, CallerFound, CallersKnown}
+use Rattle.rules.specs.Callers.{HasEnter, CallIn, PathIn, ReturnsTo, CallerIn, TokenIn, CallerFound, CallersKnown}
 use Rattle.rules.proofs.Passed.{both, getD-past}
 use Rattle.rules.proofs.PassedGraph.{past-operation, of-graph, enter-code, enter-named}
 use Rattle.rules.proofs.Lists.{neither, any-at, each-all}
 use Rattle.rules.proofs.Inputs.{start-keys}
 use Rattle.rules.proofs.Effects.{later, Asked, keeps-asked}
+
+-- ---- the claims
+
+-- a firing keeps it of all tokens, from any state that has it
+abbrev pub CallersKept : Type 0
+CallersKept = (graph : List ℕ) (table : List NamedArray) (capacity cells : ℕ) → checkGraph graph ≡ Passed → (s x : State Tag ℤ) (τ : Tag)
+    → All (TokenIn (graphOf graph)) (s .tokens) → fire (machineOf (graphOf graph) table capacity cells) s τ ≡ fired x → All (TokenIn (graphOf graph)) (x .tokens)
 
 -- ---- the return of a site
 

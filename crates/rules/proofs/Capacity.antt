@@ -3,6 +3,7 @@
 use Prim.Native.Nat.{ℕ, _/_, _≤_, _<_}
 use mathlib.Core.Path.{_≡_, refl, ap}
 use mathlib.Core.List.{List}
+use mathlib.Core.Bool.{true}
 use native.Mathlib.Decide.{decLe}
 use native.Mathlib.Omega.{arith}
 use borrow.Author.Tests.{le-leb, lt-leb}
@@ -11,14 +12,14 @@ use lib.IntN.{ℤ}
 use lib.Dec.{leb}
 use Rattle.record.specs.declared.tag.Tag.{Tag}
 use Rattle.record.specs.declared.instruction.Instruction.{Instruction}
-use Rattle.buffer.specs.Rows.{allRows}
+use Rattle.buffer.specs.Rows.{allRows, whole}
 use Rattle.record.specs.GraphRecords.{graphOf}
 use Rattle.record.specs.Arrays.{arraysOf}
 use Rattle.record.specs.TokensAndTags.{mostTokens, capacityOf}
 use Rattle.record.specs.TokensAndTags as Tokens
 use Rattle.record.specs.Widths.{tokenWidth, cellWidth}
 use Rattle.machine.specs.Machine.{Machine, State, End, byPicks, run}
-use Rattle.machine.specs.Orders as Ends
+use Rattle.machine.specs.Orders.{Quiescent, RefusedBy}
 use Rattle.machine.proofs.Orders.{byPicksLawful}
 use Rattle.machine.proofs.Reached.{reached-picks, reached-count}
 use Rattle.machine.proofs.Capacity as Machines
@@ -29,11 +30,25 @@ use Rattle.rules.specs.declared.answer.Checked.the-variants.{Passed, Fai
 use Rattle.rules.specs.Check.{demand, inTurn, goodInput, checkStores, checkArrays, checkInputs, check}
 use Rattle.rules.specs.InstructionSet.{machineOf}
 use Rattle.rules.specs.Run.{firstState, picksOf, ranTo, unlessFailed, result, answer}
-use Rattle.rules.specs.Orders.{QuiescentResult, Allowed}
-use Rattle.rules.specs.Capacity.{EnoughRoomOfResults, RefusedBy8OfResults, TooSmallOfResults}
+use Rattle.rules.specs.Orders.{resultOutcome, Allowed}
 use Rattle.rules.proofs.Passed.{andThen-passed}
 use Rattle.rules.proofs.Inputs.{tokens-first}
 use Rattle.rules.proofs.Accepted.{whole-bytes, Whole, stores-whole, Accepted, accepted, law, good}
+
+-- ---- the claims
+
+-- a run that "completed or hung with t tokens, budget 2,048: with any capacity from t to 2,048 and equal picks the end is the same": what it answers, and what
+-- it leaves in the records that it uses
+abbrev pub EnoughRoomOfResults : Type 0
+EnoughRoomOfResults = (graph arrays inputs picks : List ℕ) (ledger ledger′ cells : ℕ) → Quiescent (resultOutcome (result graph arrays inputs picks 2048 ledger cells))
+    → whole tokenWidth mostTokens ledger′ ≡ true → answer (result graph arrays inputs picks 2048 ledger cells) .tokens ≤ capacityOf ledger′
+    → result graph arrays inputs picks 2048 ledger′ cells ≡ result graph arrays inputs picks 2048 ledger cells
+
+-- "with any smaller one every order is refused by 8"
+abbrev pub TooSmallOfResults : Type 0
+TooSmallOfResults = (graph arrays inputs picks picks′ : List ℕ) (ledger ledger′ cells : ℕ) → Quiescent (resultOutcome (result graph arrays inputs picks 2048 ledger cells))
+    → Allowed picks′ ledger′ cells → capacityOf ledger′ < answer (result graph arrays inputs picks 2048 ledger cells) .tokens
+    → RefusedBy LedgerFull (resultOutcome (result graph arrays inputs picks′ 2048 ledger′ cells))
 
 -- ---- inputs and another capacity
 
@@ -57,7 +72,7 @@ module _ (g : List Instruction) (capacity n : ℕ) (inputs : List ℕ) (passed :
 
 -- ---- a run that completed or hung
 
-module _ (graph arrays inputs picks : List ℕ) (ledger cells : ℕ) (rests : QuiescentResult (result graph arrays inputs picks 2048 ledger cells)) where
+module _ (graph arrays inputs picks : List ℕ) (ledger cells : ℕ) (rests : Quiescent (resultOutcome (result graph arrays inputs picks 2048 ledger cells))) where
   abbrev M : Machine
   M = machineOf (graphOf graph) (arraysOf arrays) (capacityOf ledger) (cells / cellWidth)
 
@@ -82,7 +97,7 @@ module _ (graph arrays inputs picks : List ℕ) (ledger cells : ℕ) (rests : Qu
   wholes : Whole (length inputs) (length picks) ledger cells
   wholes = stores-whole (length inputs) (length picks) ledger cells (parts .0)
 
-  quiet : Ends.QuiescentEnd (e .outcome)
+  quiet : Quiescent (e .outcome)
   unfolding result unlessFailed
   quiet = rw passes at rests
 
@@ -121,7 +136,7 @@ pub too-small : TooSmallOfResults
 unfolding result unlessFailed
 too-small graph arrays inputs picks picks′ ledger ledger′ cells rests allowed less = go (decLe (length (allRows tokenWidth Tokens.decodeToken inputs)) (capacityOf ledger′))
   where
-    go : Dec (length (allRows tokenWidth Tokens.decodeToken inputs) ≤ capacityOf ledger′) → RefusedBy8OfResults (result graph arrays inputs picks′ 2048 ledger′ cells)
+    go : Dec (length (allRows tokenWidth Tokens.decodeToken inputs) ≤ capacityOf ledger′) → RefusedBy LedgerFull (resultOutcome (result graph arrays inputs picks′ 2048 ledger′ cells))
     go (no n) = rw (also-exceeds graph arrays inputs picks ledger cells rests picks′ ledger′ allowed (omega arith)) refl
     go (yes l) =
         let M = machineOf (graphOf graph) (arraysOf arrays) (capacityOf ledger) (cells / cellWidth) in

@@ -24,6 +24,8 @@ use Rattle.machine.proofs.Sequences.{firesGood, noLonger}
 use Rattle.machine.proofs.Runs.{ran}
 use Rattle.machine.proofs.Orders.{byPicksLawful}
 use Rattle.machine.proofs.Steps.{everyProfile}
+use Rattle.machine.proofs.Steps as StepLaws
+use Rattle.machine.proofs.Replay as ReplayLaws
 use Rattle.machine.proofs.Replay.{everyReplay}
 use Rattle.machine.proofs.Bounds.{PlaceWithin, run-bounded}
 use Rattle.machine.proofs.Saved.{saved-run, saved-firings}
@@ -117,11 +119,11 @@ module _ (graph inputs : List ℕ) (table : List NamedArray) (capacity cells : �
       let h = everyReplay M NotEnabled (namesIn log) 0 s in
       sequence e (h .done) (h .logged) (λ l m. go (e .outcome) (e .state) (h .left) (length (h .done)) (h .stopped) l m)
     where
-      go : (o : Outcome Refusal) (x : State Tag ℤ) (left : _) (n : ℕ) → Replays.ReplayStopped M NotEnabled left (0 + n) x o → n ≤ mostTokens → length (x .tokens) ≤ mostTokens → placeIn (outcomeOf o) ≤ mostTokens
-      go o x left n (Replays.logEnds p q e) l m = rw e (ending-place x)
-      go o x left n (Replays.oneEnabled p b q e) l m = rw e (omega arith)
-      go o x left n (Replays.noneNamed name more p q e) l m = rw e (omega arith)
-      go o x left n (Replays.oneRefused b more p q r f e) l m = rw e (omega (arith, enabledPlace M x b q))
+      go : (o : Outcome Refusal) (x : State Tag ℤ) (left : _) (n : ℕ) → ReplayLaws.ReplayStopped M NotEnabled left (0 + n) x o → n ≤ mostTokens → length (x .tokens) ≤ mostTokens → placeIn (outcomeOf o) ≤ mostTokens
+      go o x left n (ReplayLaws.logEnds p q e) l m = rw e (ending-place x)
+      go o x left n (ReplayLaws.oneEnabled p b q e) l m = rw e (omega arith)
+      go o x left n (ReplayLaws.noneNamed name more p q e) l m = rw e (omega arith)
+      go o x left n (ReplayLaws.oneRefused b more p q r f e) l m = rw e (omega (arith, enabledPlace M x b q))
 
   by-profile : (left : ℕ) → CountsFit (answer (ranTo (Steps.profile M ProfileFull left 0 s .ended)))
   by-profile left =
@@ -129,10 +131,10 @@ module _ (graph inputs : List ℕ) (table : List NamedArray) (capacity cells : �
       let h = everyProfile M (law graph inputs table capacity cells a) ProfileFull s (good graph inputs table capacity cells a) left 0 in
       sequence (p .ended) (h .log) (h .logged) (λ l m. go (p .ended .outcome) (p .ended .state) (length (p .records)) (h .cut) (h .stopped) m)
     where
-      go : (o : Outcome Refusal) (x : State Tag ℤ) (n cut : ℕ) → Steps.ProfileStopped M ProfileFull left n cut x o → length (x .tokens) ≤ mostTokens → placeIn (outcomeOf o) ≤ mostTokens
-      go o x n cut (Steps.noneLeft q c e) m = rw e (ending-place x)
-      go o x n cut (Steps.full q b i c e) m = rw e (omega arith)
-      go o x n cut (Steps.oneRefused b q r f e) m = rw e (omega (arith, enabledPlace M x b q))
+      go : (o : Outcome Refusal) (x : State Tag ℤ) (n cut : ℕ) → StepLaws.ProfileStopped M ProfileFull left n cut x o → length (x .tokens) ≤ mostTokens → placeIn (outcomeOf o) ≤ mostTokens
+      go o x n cut (StepLaws.noneLeft q c e) m = rw e (ending-place x)
+      go o x n cut (StepLaws.full q b i c e) m = rw e (omega arith)
+      go o x n cut (StepLaws.oneRefused b q r f e) m = rw e (omega (arith, enabledPlace M x b q))
 
   by-run : (budget : ℕ) (picks : List ℕ) → CountsFit (answer (ranTo (runBy M (byPicks M) budget picks 0 s)))
   by-run budget picks =

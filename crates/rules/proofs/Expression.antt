@@ -23,11 +23,10 @@ use Rattle.arithmetic.specs.declared.Computed.{Computed}
 use Rattle.arithmetic.specs.declared.Computed.the-variants.{Value, OutOfRange}
 use Rattle.machine.specs.Machine.{Key, Content, live, Token, Machine, State, Choice, at, find, look, sameKey, when, byPicks, run, runBy}
 use Rattle.machine.specs.Orders.{LawfulChoice}
-use Rattle.machine.specs.Trees.{first, Fed}
-use Rattle.machine.specs.Trees as Trees
 use Rattle.machine.proofs.View.{when-yes, when-no, noneSome}
 use Rattle.machine.proofs.Orders.{byPicksLawful}
-use Rattle.machine.proofs.Trees.{trees-evaluate}
+use Rattle.machine.proofs.Trees.{trees-evaluate, first, Fed}
+use Rattle.machine.proofs.Trees as Trees
 use Rattle.rules.specs.declared.answer.Checked.the-variants.{Passed}
 use Rattle.rules.specs.Check.{checkStores, check}
 use Rattle.rules.specs.InstructionSet.{machineOf}

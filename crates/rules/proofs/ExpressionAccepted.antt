@@ -36,11 +36,26 @@ use Rattle.rules.specs.declared.answer.Refusal.the-variants as Refusals
 use Rattle.rules.specs.declared.answer.Checked.{Checked}
 use Rattle.rules.specs.declared.answer.Checked.the-variants.{Passed}
 use Rattle.rules.specs.Check.{demand, any, inTurn, operandsAt, fanOutAllowed, isZero, unusedAreZero, goodArc, goodSite, checkRecord, checkGraph, namesGood, checkArrays, goodInput, secondInput, checkInputs}
-use Rattle.rules.specs.Expression.{termAt, isVariable, isOperation, instructionFor, goesTo, codeFor, sending, out, made, graphFor, graphBytes, inputsFor, inputBytes, ValuesFor, GraphsReadBack, GraphsAccepted, InputsAccepted}
+use Rattle.rules.specs.Expression.{termAt, isVariable, isOperation, instructionFor, goesTo, codeFor, sending, out, made, graphFor, graphBytes, inputsFor, inputBytes, ValuesFor}
+use Rattle.rules.specs.Expression.{OfEvery}
 use Rattle.rules.proofs.Lists.{or-right}
 use Rattle.rules.proofs.ExpressionPassed.{Proper, passed}
 use Rattle.rules.proofs.ExpressionGraph.{counted, count-both, length-graph, all-made, variable-number, number-low}
 use Rattle.rules.proofs.ExpressionTree.{copy-row, arithmetic-row, number, portsOf, operands-number, goes-to}
+
+-- ---- the claims
+
+-- the bytes of the graph are read back
+abbrev pub GraphsReadBack : Type 0
+GraphsReadBack = OfEvery (λ ts. Graph.graphOf (graphBytes ts) ≡ graphFor ts)
+
+-- 01's check lets the graph by
+abbrev pub GraphsAccepted : Type 0
+GraphsAccepted = OfEvery (λ ts. checkGraph (graphBytes ts) ≡ Passed)
+
+-- and what feeds it
+abbrev pub InputsAccepted : Type 0
+InputsAccepted = OfEvery (λ ts. (values : List ℤ) → ValuesFor ts values → (capacity : ℕ) → length values ≤ capacity → checkInputs (graphFor ts) capacity (inputBytes values) ≡ Passed)
 
 -- ---- what passes in turn
 

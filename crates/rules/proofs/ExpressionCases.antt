@@ -1,7 +1,7 @@
 -- The table of worked cases of R-14 holds: what the definitions give is what the table says, in one fact over all rows. Assumes nothing.
 use mathlib.Core.Path.{_≡_, refl}
 use mathlib.Core.List.{map}
-use Rattle.rules.specs.Computed.{rules}
+use Rattle.rules.proofs.Computed.{rules}
 use Rattle.rules.specs.Expression.{expressions}
 use Rattle.rules.specs.ExpressionCases.{seenExpression, expectedExpression, expressionCases}
 

@@ -16,10 +16,19 @@ use Rattle.record.specs.GraphRecords as Graph
 use Rattle.record.specs.declared.term.Term.{Term}
 use Rattle.record.specs.ExpressionRecords.{decodeTerm, expressionOf}
 use Rattle.rules.specs.Check.{instructionAt}
-use Rattle.rules.specs.Expression.{termAt, isVariable, isOperation, count, instructionFor, outFor, goesTo, codeFor, sending, out, graphFor, putBelow, putAt, putGraph, GraphsPut}
+use Rattle.rules.specs.Expression.{termAt, isVariable, isOperation, count, instructionFor, outFor, goesTo, codeFor, sending, out, graphFor, putBelow, putAt, putGraph}
+use Rattle.rules.specs.Expression.{OfEvery}
 use Rattle.rules.proofs.ExpressionPassed.{OperationAt, Proper, named-by, passed}
 use Rattle.rules.proofs.ExpressionGraph.{counted, count-both, length-graph, at-record, at-out, variable-number, operation-number, number-low}
 use Rattle.rules.proofs.ExpressionTree.{goes-side, goes-last}
+
+-- ---- the claims
+
+-- put into whatever has as many records, it is the whole graph
+abbrev pub GraphsPut : Type 0
+GraphsPut = OfEvery (λ ts. (g : List Instruction) → length g ≡ suc (length ts) → putGraph ts g ≡ graphFor ts)
+
+-- ---- the proofs
 
 pub length-put : (bound : ℕ) (ts : List Term) (i : ℕ) (d : Destination) (g : List Instruction) → length (putBelow bound ts i d g) ≡ length g
 unfolding putBelow

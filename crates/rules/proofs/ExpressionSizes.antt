@@ -15,10 +15,18 @@ use Rattle.record.specs.declared.term.Term.{Term}
 use Rattle.record.specs.ExpressionRecords.{decodeTerm, expressionOf}
 use Rattle.machine.proofs.Sets.{with, with-own, with-other, countBelow, none-below, all-count, same-count, one-more}
 use Rattle.rules.specs.Check.{any}
-use Rattle.rules.specs.Expression.{termAt, isVariable, isOperation, names, count, SizesFollow}
+use Rattle.rules.specs.Expression.{termAt, isVariable, isOperation, names, count, OfEvery}
 use Rattle.rules.proofs.Lists.{any-at}
 use Rattle.rules.proofs.ExpressionPassed.{none-of, found-at, Proper, named-by, passed}
 use Rattle.rules.proofs.ExpressionGraph.{count-both}
+
+-- ---- the claims
+
+-- there is one variable more than operations, and so 149 tokens at most: one for each variable and one from each record
+abbrev pub SizesFollow : Type 0
+SizesFollow = OfEvery (λ ts. (count isVariable ts ≡ suc (count isOperation ts)) × (count isVariable ts + length ts ≤ 149))
+
+-- ---- the proofs
 
 any-append : {A : Type 0} (f : A → Bool) (xs ys : List A) → any f (xs ++ ys) ≡ any f xs || any f ys
 any-append f [] ys = refl

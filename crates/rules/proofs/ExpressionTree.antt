@@ -5,7 +5,7 @@ use mathlib.Core.Path.{_≡_, refl, sym, ap, _∙_, subst}
 use mathlib.Core.Bool.{Bool, true, false, _&&_, _||_, cond}
 use mathlib.Core.List.{List, [], _∷_}
 use mathlib.Core.Option.{Option, none, some}
-use mathlib.Core.Logic.{_⊎_, inl, inr}
+use mathlib.Core.Logic.{_⊎_, inl, inr, _↔_}
 use native.Mathlib.Decide.{ℕ-discrete, decLe}
 use native.Mathlib.Omega.{arith}
 use lib.ListN.{length, getD}
@@ -25,15 +25,31 @@ use Rattle.arithmetic.specs.declared.Computed.{Computed}
 use Rattle.arithmetic.specs.declared.Computed.the-variants.{Value, OutOfRange}
 use Rattle.arithmetic.specs.Arithmetic.{computeOf}
 use Rattle.machine.specs.Machine.{Key, refuse, send, Machine, Operands, onOption, twoValues, at}
-use Rattle.machine.specs.Trees.{Source, input, from, comes, Tree, IsTree}
 use Rattle.machine.proofs.View.{noneSome}
-use Rattle.machine.proofs.Trees.{climbs}
+use Rattle.machine.proofs.Trees.{climbs, Source, comes, Tree, IsTree, input, from}
 use Rattle.rules.specs.declared.answer.Refusal.the-variants as Refusals
 use Rattle.rules.specs.Check.{instructionAt, operandsAt}
 use Rattle.rules.specs.InstructionSet.{keyUnder, sendComputed, effectOf, effectIn, isResult, arityIn, machineOf}
-use Rattle.rules.specs.Expression.{termAt, isVariable, names, arithmeticOf, combined, variableNumber, valueBelow, valueAt, expressionValue, instructionFor, outFor, goesTo, codeFor, sending, graphFor, OutAt, ValuesTell}
+use Rattle.rules.specs.Expression.{termAt, isVariable, names, arithmeticOf, combined, variableNumber, valueBelow, valueAt, expressionValue, instructionFor, outFor, goesTo, codeFor, sending, graphFor}
+use Rattle.rules.specs.Expression.{OfEvery, isOperation}
 use Rattle.rules.proofs.ExpressionPassed.{none-of, OperationAt, Proper, named-by, passed}
 use Rattle.rules.proofs.ExpressionGraph.{at-record, at-out, number-low, numbers-apart, goes-named, goes-out}
+
+-- ---- the claims
+
+-- the operation of record i is out of range, or has the divisor 0
+pub record OutAt (ts : List Term) (values : List ℤ) (i : ℕ) : Type 0 where
+  pub low : i < length ts
+  pub operation : isOperation (termAt ts i) ≡ true
+  pub left : ℤ
+  pub right : ℤ
+  pub leftValue : valueAt ts values (termAt ts i .left) ≡ Value left
+  pub rightValue : valueAt ts values (termAt ts i .right) ≡ Value right
+  pub outOfRange : computeOf (arithmeticOf (termAt ts i .kind)) left right ≡ OutOfRange
+
+-- an expression has no value exactly if an operation is: "each operation in it" is each of its records
+abbrev pub ValuesTell : Type 0
+ValuesTell = OfEvery (λ ts. (values : List ℤ) → (expressionValue ts values ≡ OutOfRange) ↔ ((i : ℕ) × OutAt ts values i))
 
 -- ---- the rows of COPY, of OUT, and of the codes 16 to 23
 

@@ -35,7 +35,7 @@ use Rattle.rules.specs.declared.answer.Checked.the-variants.{Passed}
 use Rattle.rules.specs.Check.{demand, any, inTurn, instructionAt, operandsAt, checkGraph, checkInputs}
 use Rattle.rules.specs.InstructionSet.{keyUnder, allUnder, effectIn, isResult, arityIn, machineOf}
 use Rattle.rules.specs.Run.{tokenHeld, firstState}
-use Rattle.rules.specs.Needs.{anyBelow, sumBelow, sendsTo, portReached, allReached, reached, Closed, firingsNeeded, outputsNeeded, total, loopFree, inputsOf, NoSwitchOrFetch}
+use Rattle.rules.specs.Needs.{anyBelow, sumBelow, sendsTo, portReached, allReached, reached, firingsNeeded, outputsNeeded, total, loopFree, inputsOf, NoSwitchOrFetch}
 use Rattle.rules.proofs.Passed.{both, demand-passed, turn-passed}
 use Rattle.rules.proofs.PassedGraph.{Good, past-operands, of-graph, coded, said-of, least-fan-out}
 use Rattle.rules.proofs.Lawful.{lawful}
@@ -44,7 +44,7 @@ use Rattle.rules.proofs.Accepted.{accepted}
 use Rattle.rules.proofs.Lists.{neither, either, or-left, or-right}
 use Rattle.rules.proofs.Effects.{both-sides, Asked, keeps-asked}
 use Rattle.rules.proofs.Below.{any-below, one-below, each-below, all-below, sum-least, sum-same, sum-none, sum-more}
-use Rattle.rules.proofs.Rounds.{all-more, reached-least, reached-inside}
+use Rattle.rules.proofs.Rounds.{all-more, reached-least, reached-inside, Closed}
 use Rattle.rules.proofs.LoopFree.{no-loop, no-destinations, keys-sent, not-switch, outputs-counted}
 use Rattle.rules.proofs.RootTokens.{sends-own, input-there, port-among}
 

@@ -14,11 +14,11 @@ use Rattle.record.specs.Arrays.{arraysOf}
 use Rattle.record.specs.TokensAndTags.{mostTokens, capacityOf}
 use Rattle.record.specs.Widths.{tokenWidth, cellWidth, stepWidth}
 use Rattle.machine.specs.Machine.{Machine, State, End, Outcome, completed, hung, budgetSpent, refused, enabled}
-use Rattle.machine.specs.Orders as Ends
-use Rattle.machine.specs.Steps.{Profile, Profiled, ProfileStopped, noneLeft, full, oneRefused, firingsIn, profile}
+use Rattle.machine.specs.Orders.{Quiescent}
+use Rattle.machine.specs.Steps.{Profile, firingsIn, profile}
 use Rattle.machine.proofs.Ending.{ending-rests}
 use Rattle.machine.proofs.Sequences.{shorter, noLonger}
-use Rattle.machine.proofs.Steps.{everyProfile, noMoreThanFirings}
+use Rattle.machine.proofs.Steps.{everyProfile, noMoreThanFirings, ProfileStopped, Profiled, noneLeft, full, oneRefused}
 use Rattle.rules.specs.declared.answer.Refusal.{Refusal}
 use Rattle.rules.specs.declared.answer.Refusal.the-variants.{ProfileFull}
 use Rattle.rules.specs.declared.answer.Outcome as AnswerOutcome
@@ -65,7 +65,7 @@ module _ (graph inputs : List ℕ) (table : List NamedArray) (capacity cells : �
     firings : p .ended .firings ≡ firingsIn (p .records)
     goesOn : length (steps .log) < capacity
 
-  rests-not : (o : Outcome Refusal) → Ends.QuiescentEnd o → ¬ (wordOf (outcomeOf o) ≡ 18)
+  rests-not : (o : Outcome Refusal) → Quiescent o → ¬ (wordOf (outcomeOf o) ≡ 18)
   rests-not completed q h = omega arith
   rests-not hung q h = omega arith
   rests-not budgetSpent q h = absurd q

@@ -5,6 +5,7 @@ use mathlib.Core.Path.{_≡_, refl, sym, ap, _∙_}
 use mathlib.Core.Bool.{Bool, true, false, _&&_, _||_, cond}
 use mathlib.Core.Option.{Option, none, some}
 use mathlib.Core.List.{List, [], _∷_, _++_}
+use mathlib.Core.Logic.{_↔_}
 use native.Mathlib.Omega.{arith}
 use lib.ListN.{length, length-append}
 use lib.IntN.{ℤ}
@@ -23,7 +24,37 @@ use Rattle.machine.specs.Machine.{Token, State, Activity, onOption}
 use Rattle.machine.proofs.View.{noneSome}
 use Rattle.rules.specs.Check.{any, instructionAt}
 use Rattle.rules.specs.Saved.{onLeft}
-use Rattle.rules.specs.Held.{standsWithin, standsIn, isPending, holdsBack, heldIn, Stands, there, enteredFrom, StandsByCalls, pendingAt, HeldFrom, HeldByCounts, OnlyNextHeld}
+use Rattle.rules.specs.Held.{standsWithin, standsIn, isPending, holdsBack, heldIn}
+
+-- ---- the claims
+
+-- a path of calls es, at an iteration, stands at iteration j of the path of calls cs: it is that path, or "a path entered from there, at any depth"
+pub data Stands (cs es : List Call) (iteration j : ℕ) : Type 0 where
+  there : es ≡ cs → j ≡ iteration → Stands cs es iteration j
+  enteredFrom : (ds : List Call) (c : Call) → es ≡ ds ++ c ∷ cs → j ≡ c .iteration → Stands cs es iteration j
+
+-- whatever the number of levels
+abbrev pub StandsByCalls : Type 0
+StandsByCalls = (cs es : List Call) → All CallFits cs → All CallFits es → (τ : Tag) → τ .path ≡ pathWords (pathOf es) → (j : ℕ) → standsIn (pathWords (pathOf cs)) τ ≡ some j ↔ Stands cs es (τ .iteration) j
+
+-- how many tokens that hold back stand at an iteration of a path
+abbrev pub pendingAt : List Instruction → Path → (iteration : ℕ) → List (Token Tag ℤ) → ℕ
+pendingAt g p j [] = 0
+pendingAt g p j (t ∷ ts) = cond (isPending g t && onOption (standsIn p (t .key .tag)) false (λ i. eqb i j)) 1 0 + pendingAt g p j ts
+
+-- of a NEXT activity at an iteration i of a path, where no such token stands below iteration l: it is free if l is above i + 1 - k, and held if one stands at l and l
+-- is not above. So l is counted up until one of the two tells
+pub record HeldFrom (g : List Instruction) (k : ℕ) (s : State Tag ℤ) (a : Activity Tag) (l : ℕ) : Type 0 where
+  pub free : a .tag .iteration + 1 < l + k → heldIn g k s a ≡ false
+  pub held : 0 < pendingAt g (a .tag .path) l (s .tokens) → l + k ≤ a .tag .iteration + 1 → heldIn g k s a ≡ true
+
+abbrev pub HeldByCounts : Type 0
+HeldByCounts = (g : List Instruction) (k : ℕ) → 1 ≤ k → (s : State Tag ℤ) (a : Activity Tag) → instructionAt g (a .tag .instruction) .code ≡ 7
+    → (l : ℕ) → ((j : ℕ) → j < l → pendingAt g (a .tag .path) j (s .tokens) ≡ 0) → HeldFrom g k s a l
+
+-- an activity at another instruction is never held
+abbrev pub OnlyNextHeld : Type 0
+OnlyNextHeld = (g : List Instruction) (k : ℕ) (s : State Tag ℤ) (a : Activity Tag) → ¬ (instructionAt g (a .tag .instruction) .code ≡ 7) → heldIn g k s a ≡ false
 
 -- ---- by calls
 

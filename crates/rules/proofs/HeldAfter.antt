@@ -28,23 +28,54 @@ use Rattle.record.proofs.Paths.{number-words, same-path}
 use Rattle.record.proofs.Calls.{leave-entered}
 use Rattle.machine.specs.Machine.{Key, Content, live, spent, deferred, Token, State, Activity, refuse, send, read, write, Machine, fired, when, onOption, isProper, changed, output, spend, find, look, sameKey, at, isOperandOf, fire}
 use Rattle.machine.specs.Orders.{Lawful, Good, effectKeys}
-use Rattle.machine.specs.Pending.{pendingIn}
 use Rattle.machine.proofs.View.{noneSome, falseTrue, settle, DeltaOf, change, operandLive, operandZero, operandKey}
 use Rattle.machine.proofs.Kept.{Each, OfEffect}
 use Rattle.machine.proofs.Reached.{keysKnown}
-use Rattle.machine.proofs.Pending.{FiredAs, firedAfter, newTokens}
+use Rattle.machine.proofs.Pending.{FiredAs, firedAfter, newTokens, pendingIn}
 use Rattle.rules.specs.declared.answer.Checked.the-variants.{Passed}
 use Rattle.rules.specs.Check.{any, instructionAt, checkGraph}
 use Rattle.rules.specs.InstructionSet.{EffectHere, keyUnder, allUnder, effectOf, effectIn, arityIn, machineOf}
 use Rattle.rules.specs.Saved.{onLeft}
-use Rattle.rules.specs.Held.{standsWithin, standsIn, isPending, holdsBack, heldIn, pendingAt, weightAt, CountsByWeights, StandsStep, FreedByClosing, EnteredHere, HeldAnew}
+use Rattle.rules.specs.Held.{standsWithin, standsIn, isPending, holdsBack, heldIn}
 use Rattle.rules.proofs.Passed.{both}
 use Rattle.rules.proofs.PassedGraph.{coded}
 use Rattle.rules.proofs.Lawful.{lawful}
 use Rattle.rules.proofs.Effects.{later, both-sides, Asked, of-operation}
 use Rattle.rules.proofs.Callers.{enters}
-use Rattle.rules.proofs.Held.{not-same, one-holds}
+use Rattle.rules.proofs.Held.{not-same, one-holds, pendingAt}
 use Rattle.rules.proofs.Lists.{either, or-right}
+
+-- ---- the claims
+
+-- a count is a sum by weights of tags, which is what a firing changes by its operands, its outputs and the results that it wakes (`PendingAfter` of machine/proofs/Pending)
+abbrev pub weightAt : Path → (iteration : ℕ) → Tag → ℕ
+weightAt p j τ = cond (onOption (standsIn p τ) false (λ i. eqb i j)) 1 0
+
+abbrev pub CountsByWeights : Type 0
+CountsByWeights = (g : List Instruction) (table : List NamedArray) (capacity cells : ℕ) (p : Path) (j : ℕ) (ts : List (Token Tag ℤ))
+    → pendingAt g p j ts ≡ pendingIn (machineOf g table capacity cells) (weightAt p j) ts
+
+-- where a tag stands is told level by level, by the tags that LEAVE would find
+abbrev pub StandsStep : Type 0
+StandsStep = (p : Path) (τ : Tag) → standsIn p τ ≡ cond (samePath (τ .path) p) (some (τ .iteration)) (onLeft (leaveOf τ) none (λ site caller. standsIn p caller))
+
+-- an activity that was held is free only if at some iteration of its path no token holds back any more
+abbrev pub FreedByClosing : Type 0
+FreedByClosing = (g : List Instruction) (k : ℕ) (s x : State Tag ℤ) (a : Activity Tag) → heldIn g k s a ≡ true → heldIn g k x a ≡ false
+    → (j : ℕ) × (0 < pendingAt g (a .tag .path) j (s .tokens)) × (pendingAt g (a .tag .path) j (x .tokens) ≡ 0)
+
+-- and one that was free is held only if the firing was of an ENTER (code 8) and sent into its path
+pub record EnteredHere (g : List Instruction) (s : State Tag ℤ) (τ : Tag) (x : State Tag ℤ) (path : Path) : Type 0 where
+  pub enter : instructionAt g (τ .instruction) .code ≡ 8
+  pub key : Key Tag
+  pub content : Content ℤ
+  pub sent : List·Memᴰ (record { key = key; content = content }) (drop (length (s .tokens)) (x .tokens))
+  pub there : key .tag .path ≡ path
+
+abbrev pub HeldAnew : Type 0
+HeldAnew = (graph : List ℕ) → checkGraph graph ≡ Passed → (table : List NamedArray) (capacity cells k : ℕ) (s : State Tag ℤ) → Good (machineOf (graphOf graph) table capacity cells) s
+    → (τ : Tag) → PathFits (τ .path) → τ .iteration < 256 → (x : State Tag ℤ) → fire (machineOf (graphOf graph) table capacity cells) s τ ≡ fired x
+    → (a : Activity Tag) → heldIn (graphOf graph) k s a ≡ false → heldIn (graphOf graph) k x a ≡ true → EnteredHere (graphOf graph) s τ x (a .tag .path)
 
 -- ---- where a tag stands
 

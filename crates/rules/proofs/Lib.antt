@@ -1,4 +1,5 @@
 -- The laws of the rules. Assumes nothing.
+pub mod Computed
 pub mod Cases
 pub mod Passed
 pub mod Lists
@@ -13,6 +14,7 @@ pub mod Callers
 pub mod RootLeave
 pub mod Fits
 pub mod Orders
+pub mod Outcomes
 pub mod Budgets
 pub mod Refusals
 pub mod Profile

@@ -25,6 +25,7 @@ use Rattle.machine.proofs.Sequences.{noLonger}
 use Rattle.machine.proofs.Runs.{ran}
 use Rattle.machine.proofs.Orders.{byPicksLawful}
 use Rattle.machine.proofs.Replay.{logsAgree}
+use Rattle.machine.specs.Orders.{Quiescent}
 use Rattle.rules.specs.declared.answer.Refusal.{Refusal}
 use Rattle.rules.specs.declared.answer.Refusal.the-variants.{BadStore}
 use Rattle.rules.specs.declared.answer.Checked.{Checked}
@@ -32,10 +33,21 @@ use Rattle.rules.specs.declared.answer.Checked.the-variants.{Passed, Fai
 use Rattle.rules.specs.Check.{_andThen_, checkGraph, checkStores, checkArrays, checkInputs, check}
 use Rattle.rules.specs.InstructionSet.{machineOf}
 use Rattle.rules.specs.Run.{firstState, picksOf, ranTo, unlessFailed, result}
-use Rattle.rules.specs.Orders.{QuiescentResult}
-use Rattle.rules.specs.Log.{namesIn, logSuffices, checkLogStores, checkLogged, logUnlessFailed, logged, LoggedRuns, LogFits, LogsAgreeOfResults}
+use Rattle.rules.specs.Orders.{resultOutcome}
+use Rattle.rules.specs.Log.{namesIn, logSuffices, checkLogStores, checkLogged, logUnlessFailed, logged, LogsAgreeOfResults}
 use Rattle.rules.proofs.Passed.{both, demand-passed, andThen-passed}
 use Rattle.rules.proofs.Accepted.{whole-bytes, Whole, stores-whole, Accepted, accepted, law, good}
+
+-- ---- the claims
+
+-- a run that writes a log is the run, if the log suffices
+abbrev pub LoggedRuns : Type 0
+LoggedRuns = (graph arrays inputs picks : List ℕ) (budget ledger cells lent : ℕ) → logSuffices budget lent ≡ true
+    → logged graph arrays inputs picks budget ledger cells lent .result ≡ result graph arrays inputs picks budget ledger cells
+
+-- the log has room in what is lent
+abbrev pub LogFits : Type 0
+LogFits = (graph arrays inputs picks : List ℕ) (budget ledger cells lent : ℕ) → length (logged graph arrays inputs picks budget ledger cells lent .log) * logWidth ≤ lent
 
 -- ---- records
 
@@ -120,7 +132,7 @@ logged-runs graph arrays inputs picks budget ledger cells lent enough = rw enoug
 
 module _ (graph arrays inputs picks : List ℕ) (budget ledger cells lent : ℕ) where
   -- a run that completes or hangs was not refused at once
-  rests-passed : QuiescentResult (logged graph arrays inputs picks budget ledger cells lent .result) → checkLogged graph arrays inputs picks budget ledger cells lent ≡ Passed
+  rests-passed : Quiescent (resultOutcome (logged graph arrays inputs picks budget ledger cells lent .result)) → checkLogged graph arrays inputs picks budget ledger cells lent ≡ Passed
   unfolding logged logUnlessFailed
   rests-passed q = go (checkLogged graph arrays inputs picks budget ledger cells lent) refl
     where

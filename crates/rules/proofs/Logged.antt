@@ -2,7 +2,7 @@
 -- refused in a firing has tokens (`refused-holds`). Assumes nothing.
 use Prim.Native.Nat.{ℕ, _/_, _<_}
 use mathlib.Core.Path.{_≡_, refl, ap, subst, sym, _∙_}
-use mathlib.Core.Bool.{false}
+use mathlib.Core.Bool.{false, true}
 use mathlib.Core.List.{List}
 use native.Mathlib.Omega.{arith}
 use lib.ListN.{length}
@@ -13,8 +13,7 @@ use Rattle.record.specs.Arrays.{arraysOf}
 use Rattle.record.specs.TokensAndTags.{capacityOf}
 use Rattle.record.specs.Widths.{cellWidth}
 use Rattle.machine.specs.Machine.{Machine, State, End, Outcome, completed, hung, budgetSpent, refused, StateOf, byPicks, run}
-use Rattle.machine.specs.Orders.{Says}
-use Rattle.machine.specs.Orders as Ends
+use Rattle.machine.specs.Orders.{Says, Refused}
 use Rattle.machine.specs.Sequences.{logOf}
 use Rattle.machine.proofs.Enabled.{enabledPlace}
 use Rattle.machine.proofs.Runs.{ran}
@@ -29,8 +28,22 @@ use Rattle.rules.specs.Check.{_andThen_, checkGraph, checkStores, checkA
 use Rattle.rules.specs.InstructionSet.{machineOf}
 use Rattle.rules.specs.Run.{firstState, picksOf, Result, answer, ledgerAfter, cellsAfter}
 use Rattle.rules.specs.Log.{logSuffices, checkLogStores, checkLogged, logUnlessFailed, logged, InFiring}
-use Rattle.rules.specs.Runs.{LoggedRunsOn, LoggedElse, Refused}
+use Rattle.rules.specs.Runs.{outcomeIn, LeftByLogged, LentToLogged, LoggedOn, RanOn, leftBesideLog, lentBesideLog}
 use Rattle.rules.proofs.Log.{logged-runs}
+
+-- ---- the claims
+
+-- a log that suffices changes nothing of the run: what is claimed of `run` holds of `run_logged` too (`logged-runs-on` in proofs/Logged)
+abbrev pub LoggedRunsOn : Type 0
+LoggedRunsOn = (graph arrays inputs : List ℕ) (l : LentToLogged) (x : LeftByLogged) → LoggedOn graph arrays inputs l x → logSuffices (l .budget) (length (l .log)) ≡ true
+    → RanOn graph arrays inputs (l .budget) (lentBesideLog l) (leftBesideLog x)
+
+-- and with one that does not suffice it is refused before any firing (`logged-else` in proofs/Logged)
+abbrev pub LoggedElse : Type 0
+LoggedElse = (graph arrays inputs : List ℕ) (l : LentToLogged) (x : LeftByLogged) → LoggedOn graph arrays inputs l x → logSuffices (l .budget) (length (l .log)) ≡ false
+    → Refused (outcomeIn (x .answer .outcome)) × (x .answer .firings ≡ 0) × (x .answer .tokens ≡ 0)
+
+-- ---- the proofs
 
 pub logged-runs-on : LoggedRunsOn
 logged-runs-on graph arrays inputs l x h enough =
@@ -43,7 +56,7 @@ logged-runs-on graph arrays inputs l x h enough =
     }
 
 abbrev AtOnce : Answer → Type 0
-AtOnce a = Refused (a .outcome) × (a .firings ≡ 0) × (a .tokens ≡ 0)
+AtOnce a = Refused (outcomeIn (a .outcome)) × (a .firings ≡ 0) × (a .tokens ≡ 0)
 
 too-short : (graph arrays inputs picks : List ℕ) (budget ledger cells lent : ℕ) → logSuffices budget lent ≡ false → AtOnce (answer (logged graph arrays inputs picks budget ledger cells lent .result))
 unfolding logged logUnlessFailed checkLogged checkLogStores answer
@@ -62,7 +75,7 @@ logged-else graph arrays inputs l x h e =
 
 -- ---- a refused firing has operands
 
-tokens-there : (M : Machine) (o : Outcome (M .Refusal)) (budget n : ℕ) (x : StateOf M) → Says M o budget n x → Ends.RefusedEnd o → 0 < length (x .tokens)
+tokens-there : (M : Machine) (o : Outcome (M .Refusal)) (budget n : ℕ) (x : StateOf M) → Says M o budget n x → Refused o → 0 < length (x .tokens)
 tokens-there M completed b n x h r = absurd r
 tokens-there M hung b n x h r = absurd r
 tokens-there M budgetSpent b n x h r = absurd r

@@ -2,7 +2,7 @@
 -- (FiredOnce). Assumes nothing.
 use Prim.Native.Nat.{ℕ, _+_, _/_, _≤_}
 use mathlib.Core.Path.{_≡_, refl}
-use mathlib.Core.List.{List}
+use mathlib.Core.List.{List, []}
 use native.Mathlib.Omega.{arith}
 use lib.ListN.{length}
 use lib.IntN.{ℤ}
@@ -12,9 +12,10 @@ use Rattle.record.specs.TokensAndTags.{capacityOf}
 use Rattle.record.specs.GraphRecords.{graphOf}
 use Rattle.record.specs.Arrays.{arraysOf}
 use Rattle.record.specs.Widths.{tokenWidth, cellWidth}
-use Rattle.machine.specs.Machine.{Machine, End, run}
-use Rattle.machine.specs.Orders.{Ended}
-use Rattle.machine.proofs.Reached.{reached-invariants, reached-picks}
+use Rattle.record.specs.declared.array.NamedArray.{NamedArray}
+use Rattle.machine.specs.Machine.{Machine, End, run, State, enabled}
+use Rattle.machine.specs.Orders.{Quiescent, Reached}
+use Rattle.machine.proofs.Reached.{reached-invariants, reached-picks, Ended}
 use Rattle.machine.proofs.Ending.{rested}
 use Rattle.rules.specs.declared.answer.Refusal.the-variants as Refusals
 use Rattle.rules.specs.declared.answer.Refusal.{Refusal}
@@ -24,13 +25,25 @@ use Rattle.rules.specs.declared.answer.Needs.the-variants.{AtMost}
 use Rattle.rules.specs.Check.{demand, inTurn, goodInput, checkGraph, checkStores, checkArrays, checkInputs, check}
 use Rattle.rules.specs.InstructionSet.{machineOf}
 use Rattle.rules.specs.Run.{firstState, picksOf, result, answer}
-use Rattle.rules.specs.Orders.{QuiescentResult}
-use Rattle.rules.specs.Needs.{firingsNeeded, outputsNeeded, total, loopFree, checkNeeds, inputsOf, needsUnlessRefused, needs, NoSwitchOrFetch, NoStateExceeds, ExactAtRest, NeverExceeded, Exact}
+use Rattle.rules.specs.Orders.{resultOutcome}
+use Rattle.rules.specs.Needs.{firingsNeeded, outputsNeeded, total, loopFree, checkNeeds, inputsOf, needsUnlessRefused, needs, NoSwitchOrFetch, NeverExceeded, Exact}
 use Rattle.rules.proofs.Passed.{andThen-passed}
 use Rattle.rules.proofs.Lawful.{lawful}
 use Rattle.rules.proofs.Inputs.{tokens-first}
 use Rattle.rules.proofs.Accepted.{accepted, by-check}
 use Rattle.rules.proofs.FiredOnce.{begun, within, at-rest}
+
+-- ---- the claims
+
+-- of every state that a run from inputs reaches
+abbrev pub NoStateExceeds : Type 0
+NoStateExceeds = (graph inputs : List ℕ) (table : List NamedArray) (capacity cells firings tokens : ℕ) → needs graph inputs ≡ AtMost firings tokens → checkInputs (graphOf graph) capacity inputs ≡ Passed
+    → (f o : ℕ) (x : State Tag ℤ) → Reached (machineOf (graphOf graph) table capacity cells) (firstState inputs cells) f o x → (f ≤ firings) × (length (x .tokens) ≤ tokens)
+
+abbrev pub ExactAtRest : Type 0
+ExactAtRest = (graph inputs : List ℕ) (table : List NamedArray) (capacity cells firings tokens : ℕ) → needs graph inputs ≡ AtMost firings tokens → NoSwitchOrFetch graph inputs → checkInputs (graphOf graph) capacity inputs ≡ Passed
+    → (f o : ℕ) (x : State Tag ℤ) → Reached (machineOf (graphOf graph) table capacity cells) (firstState inputs cells) f o x → enabled (machineOf (graphOf graph) table capacity cells) x ≡ []
+    → (f ≡ firings) × (length (x .tokens) ≡ tokens)
 
 -- ---- what the bounds are taken from
 
@@ -91,10 +104,10 @@ module _ (graph arrays inputs picks : List ℕ) (budget ledger cells firings tok
       let (f, t) = no-state-exceeds graph inputs (arraysOf arrays) (capacityOf ledger) (cells / cellWidth) firings tokens e (passes h) (reach .done) (reach .sent) (last .state) (reach .reached) in
       (omega (arith, reach .firings), t))
 
-  is-exact : NoSwitchOrFetch graph inputs → QuiescentResult (result graph arrays inputs picks budget ledger cells)
+  is-exact : NoSwitchOrFetch graph inputs → Quiescent (resultOutcome (result graph arrays inputs picks budget ledger cells))
       → (answer (result graph arrays inputs picks budget ledger cells) .firings ≡ firings) × (answer (result graph arrays inputs picks budget ledger cells) .tokens ≡ tokens)
   unfolding answer result
-  is-exact plain = by-check (check graph arrays inputs picks ledger cells) _ (λ x. QuiescentResult x → (answer x .firings ≡ firings) × (answer x .tokens ≡ tokens)) (λ r p f h. absurd h) (λ h q.
+  is-exact plain = by-check (check graph arrays inputs picks ledger cells) _ (λ x. Quiescent (resultOutcome x) → (answer x .firings ≡ firings) × (answer x .tokens ≡ tokens)) (λ r p f h. absurd h) (λ h q.
       let rest = rested Whole (last .outcome) budget (reach .done) (last .state) q (reach .says) .0 in
       let (f, t) = exact-at-rest graph inputs (arraysOf arrays) (capacityOf ledger) (cells / cellWidth) firings tokens e plain (passes h) (reach .done) (reach .sent) (last .state) (reach .reached) rest in
       (omega (arith, reach .firings), t))

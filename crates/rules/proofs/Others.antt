@@ -25,13 +25,13 @@ use Rattle.record.specs.Logs.{nameOf}
 use Rattle.record.specs.Widths.{tokenWidth, cellWidth, logWidth, stepWidth}
 use Rattle.record.proofs.Records.{front, own}
 use Rattle.machine.specs.Machine.{Machine, State, End, Outcome, completed, hung, budgetSpent, refused, enabled}
-use Rattle.machine.specs.Orders as Ends
+use Rattle.machine.specs.Orders.{Quiescent}
 use Rattle.machine.specs.Sequences.{Fires, Logged}
 use Rattle.machine.specs.Steps.{profile}
-use Rattle.machine.specs.Replay.{replay, Replayed, ReplayStopped, logEnds, oneEnabled, noneNamed, oneRefused}
+use Rattle.machine.specs.Replay.{replay}
 use Rattle.machine.proofs.Ending.{ending-rests}
 use Rattle.machine.proofs.Steps.{everyProfile}
-use Rattle.machine.proofs.Replay.{everyReplay, sequenceReplays, replayEnd}
+use Rattle.machine.proofs.Replay.{everyReplay, sequenceReplays, replayEnd, ReplayStopped, Replayed, logEnds, oneEnabled, noneNamed, oneRefused}
 use Rattle.rules.specs.declared.answer.Refusal.{Refusal}
 use Rattle.rules.specs.declared.answer.Refusal.the-variants.{ProfileFull, NotEnabled}
 use Rattle.rules.specs.declared.answer.Outcome as AnswerOutcome
@@ -155,7 +155,7 @@ module _ (g : List ℕ) (table : List NamedArray) (capacity cells : ℕ) (s : St
   abbrev before : End Refusal Tag ℤ
   before = replay M NotEnabled (namesIn (take (place * logWidth) log)) 0 s
 
-  rests-not : (o : Outcome Refusal) → Ends.QuiescentEnd o → ¬ (wordOf (outcomeOf o) ≡ 20)
+  rests-not : (o : Outcome Refusal) → Quiescent o → ¬ (wordOf (outcomeOf o) ≡ 20)
   rests-not completed q h = omega arith
   rests-not hung q h = omega arith
   rests-not budgetSpent q h = absurd q

@@ -16,7 +16,7 @@ use Rattle.record.specs.TokensAndTags.{mostTokens, capacityOf}
 use Rattle.record.specs.Widths.{tokenWidth, cellWidth, stepWidth}
 use Rattle.machine.specs.Machine.{Machine, State, byPicks, run}
 use Rattle.machine.specs.Machine as Machine
-use Rattle.machine.specs.Orders as Ends
+use Rattle.machine.specs.Orders.{Refused}
 use Rattle.machine.specs.Steps.{profile}
 use Rattle.machine.proofs.Ending.{ending-rests}
 use Rattle.machine.proofs.Sequences.{firesGood}
@@ -28,11 +28,16 @@ use Rattle.rules.specs.declared.answer.Checked.the-variants.{Passed, Fai
 use Rattle.rules.specs.Check.{demand, checkStores, checkArrays, check, mostCells}
 use Rattle.rules.specs.InstructionSet.{machineOf}
 use Rattle.rules.specs.Run.{firstState, picksOf, ranTo, outcomeOf, unlessFailed, result, answer}
-use Rattle.rules.specs.Orders.{RefusedResult, Allowed}
-use Rattle.rules.specs.Profile.{checkProfileStores, checkProfile, profileUnlessFailed, profiled, ProfileFits, ProfileEndsAs, ProfileAsEveryOrder}
+use Rattle.rules.specs.Orders.{resultOutcome, Allowed}
+use Rattle.rules.specs.Profile.{checkProfileStores, checkProfile, profileUnlessFailed, profiled, ProfileEndsAs, ProfileAsEveryOrder}
 use Rattle.rules.proofs.Passed.{andThen-passed}
 use Rattle.rules.proofs.Accepted.{whole-bytes, Whole, stores-whole, Accepted, accepted, law, good}
 use Rattle.rules.proofs.Orders.{same-length, same-cells, alike-ends}
+
+-- ---- the claims
+
+abbrev pub ProfileFits : Type 0
+ProfileFits = (graph arrays inputs : List ℕ) (ledger cells lent : ℕ) → length (profiled graph arrays inputs ledger cells lent .records) * stepWidth ≤ lent
 
 -- ---- from inputs that passed
 
@@ -43,7 +48,7 @@ module _ (graph inputs : List ℕ) (table : List NamedArray) (capacity cells : �
   abbrev s : State Tag ℤ
   s = firstState inputs cells
 
-  ends-as : (left : ℕ) → ¬ (Ends.RefusedEnd (profile M ProfileFull left 0 s .ended .outcome)) → (picks : List ℕ)
+  ends-as : (left : ℕ) → ¬ (Refused (profile M ProfileFull left 0 s .ended .outcome)) → (picks : List ℕ)
       → ProfileEndsAs (record { result = ranTo (profile M ProfileFull left 0 s .ended); records = profile M ProfileFull left 0 s .records }) (ranTo (run M 2048 picks s))
   unfolding answer
   ends-as left n picks =
@@ -63,7 +68,7 @@ module _ (graph inputs : List ℕ) (table : List NamedArray) (capacity cells : �
 -- ---- over bytes
 
 module _ (graph arrays inputs : List ℕ) (ledger cells lent : ℕ) where
-  pub passes : ¬ (RefusedResult (profiled graph arrays inputs ledger cells lent .result)) → checkProfile graph arrays inputs ledger cells lent ≡ Passed
+  pub passes : ¬ (Refused (resultOutcome (profiled graph arrays inputs ledger cells lent .result))) → checkProfile graph arrays inputs ledger cells lent ≡ Passed
   unfolding profiled profileUnlessFailed
   passes n = go (checkProfile graph arrays inputs ledger cells lent) refl
     where
@@ -82,7 +87,7 @@ module _ (graph arrays inputs : List ℕ) (ledger cells lent : ℕ) where
   unfolding check checkStores
   run-accepts picks allowed named a w = rw (a .graphPassed, w .wholeInputs, allowed .allowedPicks, w .wholeLedger, w .wholeCells, named) (a .inputsPassed)
 
-  as-orders : (picks : List ℕ) → Allowed picks ledger cells → ¬ (RefusedResult (profiled graph arrays inputs ledger cells lent .result))
+  as-orders : (picks : List ℕ) → Allowed picks ledger cells → ¬ (Refused (resultOutcome (profiled graph arrays inputs ledger cells lent .result)))
       → ProfileEndsAs (profiled graph arrays inputs ledger cells lent) (result graph arrays inputs picks 2048 ledger cells)
   unfolding profiled profileUnlessFailed result unlessFailed
   as-orders picks allowed n =

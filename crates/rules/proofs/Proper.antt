@@ -22,8 +22,7 @@ use Rattle.record.specs.Calls.{entered}
 use Rattle.record.specs.TokensAndTags.{capacityOf}
 use Rattle.record.specs.Widths.{cellWidth}
 use Rattle.machine.specs.Machine.{Key, Content, live, spent, deferred, Token, Machine, State, Outcome, completed, hung, budgetSpent, refused, run}
-use Rattle.machine.specs.Orders.{AllProper, ProperContentAt, Says}
-use Rattle.machine.specs.Orders as Ends
+use Rattle.machine.specs.Orders.{AllProper, ProperContentAt, Says, Completed, Quiescent}
 use Rattle.machine.proofs.View.{falseTrue}
 use Rattle.machine.proofs.Kept.{Each, OfToken, Keeps, reached-keeps}
 use Rattle.machine.proofs.Reached.{reached-picks}
@@ -32,7 +31,7 @@ use Rattle.rules.specs.declared.answer.Checked.the-variants.{Passed}
 use Rattle.rules.specs.Check.{all, instructionAt, operandsAt, goodArc, checkGraph, checkStores, checkArrays, check}
 use Rattle.rules.specs.InstructionSet.{keyUnder, allUnder, isResult, arityIn, machineOf}
 use Rattle.rules.specs.Run.{contentRecord, tokenRecord, firstState, picksOf, result}
-use Rattle.rules.specs.Orders.{CompletedResult, QuiescentResult, resultTokens}
+use Rattle.rules.specs.Orders.{resultOutcome, resultTokens}
 use Rattle.rules.specs.Proper.{ProperContent, ProperToken, CompletedExactly}
 use Rattle.rules.proofs.Passed.{both}
 use Rattle.rules.proofs.PassedGraph.{of-graph, past-operands, said-of, least-fan-out}
@@ -121,7 +120,7 @@ module _ (graph : List ℕ) (passed : checkGraph graph ≡ Passed) (table : List
 
   -- ---- the outcome
 
-  by-outcome : (o : Outcome Refusal) (budget n : ℕ) (x : State Tag ℤ) → Ends.QuiescentEnd o → Says M o budget n x → Ends.CompletedEnd o ↔ AllProper M (x .tokens)
+  by-outcome : (o : Outcome Refusal) (budget n : ℕ) (x : State Tag ℤ) → Quiescent o → Says M o budget n x → Completed o ↔ AllProper M (x .tokens)
   by-outcome completed b n x q (e, h) = (λ c. h, λ k. tt)
   by-outcome hung b n x q (e, h) = (λ c. absurd c, λ k. h k)
   by-outcome budgetSpent b n x q h = absurd q
@@ -130,7 +129,7 @@ module _ (graph : List ℕ) (passed : checkGraph graph ≡ Passed) (table : List
 pub completed-exactly : CompletedExactly
 unfolding result check
 completed-exactly graph arrays inputs picks budget ledger cells =
-    by-check (check graph arrays inputs picks ledger cells) _ (λ x. QuiescentResult x → CompletedResult x ↔ All (ProperToken (graphOf graph)) (resultTokens x)) (λ r p e q. absurd q) (λ h q.
+    by-check (check graph arrays inputs picks ledger cells) _ (λ x. Quiescent (resultOutcome x) → Completed (resultOutcome x) ↔ All (ProperToken (graphOf graph)) (resultTokens x)) (λ r p e q. absurd q) (λ h q.
     let a = accepted graph inputs (capacityOf ledger) (checkStores (length inputs) (length picks) ledger cells) (checkArrays (graphOf graph) (cells / cellWidth) arrays) h .1 .1 in
     let M = machineOf (graphOf graph) (arraysOf arrays) (capacityOf ledger) (cells / cellWidth) in
     let s = firstState inputs (cells / cellWidth) in

@@ -1,7 +1,7 @@
 -- The tables of records and of worked range runs hold, in one fact over the rows of each. Assumes nothing.
 use mathlib.Core.Path.{_≡_, refl}
 use mathlib.Core.List.{map}
-use Rattle.rules.specs.Computed.{rules}
+use Rattle.rules.proofs.Computed.{rules}
 use Rattle.rules.specs.RangeCases.{RangeRecord, rangeRecords, seenInRanges, seenRange, expectedRange, rangeCases}
 
 pub range-cases-hold : map seenRange rangeCases ≡ map expectedRange rangeCases

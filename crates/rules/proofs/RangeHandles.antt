@@ -27,11 +27,11 @@ use Rattle.machine.specs.Choosers.{Chooser, runFrom, byPick}
 use Rattle.machine.specs.Bounded.{runBounded}
 use Rattle.machine.specs.Orders.{effectKeys}
 use Rattle.machine.specs.InStep.{PlaceByPlace, noMore, pair, RelatedToken, atKey, bothLive, RelatedState, RelatedEffect, bothRefuse, bothSend, bothRead, bothWrite, RelatedEnds}
-use Rattle.machine.specs.Handles.{StandsAt, stateBy, Tabled, StepsRelated, SameChooser}
+use Rattle.machine.specs.Handles.{StandsAt, stateBy, Tabled}
 use Rattle.machine.proofs.Kept.{Each}
 use Rattle.machine.proofs.Choosers.{picksChoose}
 use Rattle.machine.proofs.InStep.{enabledSame, endingSame}
-use Rattle.machine.proofs.Handles.{stands-on, stands-new, stands-at, stateRead, handlesInStep}
+use Rattle.machine.proofs.Handles.{stands-on, stands-new, stands-at, stateRead, handlesInStep, StepsRelated, SameChooser}
 use Rattle.rules.specs.declared.answer.Refusal.{Refusal}
 use Rattle.rules.specs.declared.answer.Refusal.the-variants as Refusals
 use Rattle.rules.specs.declared.answer.Checked.the-variants.{Passed}

@@ -4,7 +4,7 @@
 use Prim.Native.Nat.{ℕ, _+_, _<_}
 use mathlib.Core.Path.{_≡_, refl}
 use mathlib.Core.Bool.{Bool, true, false, not, _&&_, cond}
-use mathlib.Core.Logic.{inl, inr}
+use mathlib.Core.Logic.{inl, inr, _⊎_}
 use mathlib.Core.List.{List, [], _∷_}
 use mathlib.Core.Option.{Option, none, some}
 use native.Mathlib.Omega.{arith}
@@ -45,8 +45,16 @@ use Rattle.rules.specs.declared.answer.Checked.the-variants.{Passed}
 use Rattle.rules.specs.Check.{any, instructionAt, checkGraph}
 use Rattle.rules.specs.InstructionSet.{EffectHere, EffectOver, keyUnder, allUnder, sideOf, sendComputed, sendNext, sendEntered, returnOf, sendReturned, sendLeft, onCell, cellNumber, effectOf, effectIn}
 use Rattle.rules.specs.Held.{isPending, holdsBack, heldIn}
-use Rattle.rules.specs.RangeSet.{RangeEffect, sendRange, isUndecided, sendSide, onSingle, rangeEffectOf, rangeEffectIn, rangeMachineOf, OfRanges}
+use Rattle.rules.specs.RangeSet.{RangeEffect, sendRange, isUndecided, sendSide, onSingle, rangeEffectOf, rangeEffectIn, rangeMachineOf}
 use Rattle.rules.proofs.Lawful.{reads, LawfulEffect, next-lawful, entered-lawful, left-lawful, on-cell, reader-has-key}
+
+-- ---- the claims
+
+-- the refusals that a range run may give where a plain one, with a choice out of the ranges, goes on
+abbrev pub OfRanges : Refusal → Type 0
+OfRanges r = (r ≡ Refusals.OutOfRange) ⊎ (r ≡ Refusals.Undecided)
+
+-- ---- the proofs
 
 abbrev pub InRange : RangeEffect → EffectHere → Type 0
 InRange e d = RelatedEffect Holds OfRanges e d

@@ -31,7 +31,7 @@ use Rattle.arithmetic.proofs.Order.{le-test}
 use Rattle.arithmetic.proofs.Corners.{holds-proper}
 use Rattle.machine.specs.Machine.{Key, Content, Token, absent, State, End, Machine, output, byPicks, run}
 use Rattle.machine.specs.Bounded.{runBounded}
-use Rattle.machine.specs.Orders.{Good, QuiescentEnd}
+use Rattle.machine.specs.Orders.{Good, Quiescent}
 use Rattle.machine.specs.InStep.{PlaceByPlace, noMore, pair, RelatedContent, bothLive, bothSpent, bothDeferred, RelatedCell, bothAbsent, RelatedToken, atKey, RelatedState, RelatedEnds, InStep, alike, stopped}
 use Rattle.machine.proofs.Kept.{Each}
 use Rattle.machine.proofs.InStep.{pairLength, pairMap, pairSame, pairGrows, goodRelated, inStep}
@@ -47,12 +47,34 @@ use Rattle.rules.specs.Run.{contentHeld, tokenHeld, firstState, picksOf,
 use Rattle.rules.specs.Held.{heldIn}
 use Rattle.rules.specs.Bounded.{andBound, checkBounded, bounded}
 use Rattle.rules.specs.Run as Plain
-use Rattle.rules.specs.RangeSet.{rangeMachineOf, OfRanges}
+use Rattle.rules.specs.RangeSet.{rangeMachineOf}
 use Rattle.rules.specs.RangeRun.{rangeIn, withHigh, decodeRange, rangeCapacityOf, checkRangeStores, isProperRange, checkRangeInputs, checkRanges, firstRanges, RangeResult, refusedAtOnce, ranTo, rangesUnlessFailed, rangeResult}
-use Rattle.rules.specs.Ranges.{StatesInStep, ChosenFrom, ChosenInputs, AsManyRecords, ResultsInStep, RunsInStep, Promised, RangesPromise, SameEnds, AnyTwoRangeOrders}
+use Rattle.rules.specs.Ranges.{ChosenFrom, ChosenInputs, AsManyRecords, Promised, RangesPromise, SameEnds, AnyTwoRangeOrders}
 use Rattle.rules.proofs.Passed.{both, demand-passed, andThen-passed}
 use Rattle.rules.proofs.Inputs.{inputs-distinct}
-use Rattle.rules.proofs.RangeSet.{effects-related, held-same, ranges-lawful}
+use Rattle.rules.proofs.RangeSet.{effects-related, held-same, ranges-lawful, OfRanges}
+
+-- ---- the claims
+
+-- the runs go in step, with a bound or none: keys and states are equal place by place and each value lies in its token's range, cells too, unless the range run is
+-- refused by 12 or 23
+abbrev pub StatesInStep : Type 0
+StatesInStep = (g : List Instruction) (table : List NamedArray) (capacity cells k : ℕ) (s : State Tag Range) (u : State Tag ℤ) → RelatedState Holds s u → (budget : ℕ) (picks : List ℕ)
+    → let M = rangeMachineOf g table capacity cells in
+    let N = machineOf g table capacity cells in
+    InStep Holds OfRanges (runBounded M (heldIn g k) (byPicks M) budget picks 0 s) (runBounded N (heldIn g k) (byPicks N) budget picks 0 u)
+
+-- refused at once alike; else they go in step
+abbrev pub ResultsInStep : RangeResult → Plain.Result → Type 0
+ResultsInStep (refusedAtOnce r p) (Plain.refusedAtOnce q o) = (r ≡ q) × (p ≡ o)
+ResultsInStep (refusedAtOnce r p) (Plain.ranTo e) = ⊥
+ResultsInStep (ranTo d) (Plain.refusedAtOnce q o) = ⊥
+ResultsInStep (ranTo d) (Plain.ranTo e) = InStep Holds OfRanges d e
+
+-- so the plain run answers as the range run does, with the same number and place if refused, unless that is refused by 12 or 23 in a firing
+abbrev pub RunsInStep : Type 0
+RunsInStep = (graph arrays ranges inputs picks : List ℕ) (budget k rangeLedger rangeCells ledger cells : ℕ) → ChosenInputs ranges inputs → AsManyRecords rangeLedger rangeCells ledger cells
+    → ResultsInStep (rangeResult graph arrays ranges picks budget k rangeLedger rangeCells) (bounded graph arrays inputs picks budget k ledger cells)
 
 -- ---- from states
 
@@ -62,9 +84,9 @@ states-in-step g table capacity cells k s u h budget picks =
     (byPicks (rangeMachineOf g table capacity cells)) (byPicks (machineOf g table capacity cells)) (λ x y r pick a more. refl) (heldIn g k) (heldIn g k) (held-same Holds g k) s u h budget picks 0
 
 -- completed or hung is not refused
-at-rest : (d : End Refusal Tag Range) (e : End Refusal Tag ℤ) → InStep Holds OfRanges d e → QuiescentEnd (d .outcome) → RelatedEnds Holds d e
+at-rest : (d : End Refusal Tag Range) (e : End Refusal Tag ℤ) → InStep Holds OfRanges d e → Quiescent (d .outcome) → RelatedEnds Holds d e
 at-rest d e (alike h) q = h
-at-rest d e (stopped r p f a) q = absurd (subst QuiescentEnd f q)
+at-rest d e (stopped r p f a) q = absurd (subst Quiescent f q)
 
 -- ---- rows
 

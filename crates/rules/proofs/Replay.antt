@@ -23,13 +23,13 @@ use Rattle.record.specs.Logs.{encodeActivity}
 use Rattle.record.specs.Widths.{tokenWidth, cellWidth, pickWidth, logWidth}
 use Rattle.machine.specs.Machine.{Token, Machine, State, End, byPicks, run}
 use Rattle.machine.specs.Sequences.{isSpentFirst, spentTags, logOf, RanBy}
-use Rattle.machine.specs.Replay.{SameAs, replay}
+use Rattle.machine.specs.Replay.{replay}
 use Rattle.machine.proofs.Lists.{perm-member}
 use Rattle.machine.proofs.Sequences.{ledgerTells}
 use Rattle.machine.proofs.Runs.{ran}
 use Rattle.machine.proofs.Orders.{byPicksLawful}
 use Rattle.machine.proofs.Reached.{sequenceReaches}
-use Rattle.machine.proofs.Replay.{runReplays}
+use Rattle.machine.proofs.Replay.{runReplays, SameAs}
 use Rattle.rules.specs.declared.answer.Refusal.{Refusal}
 use Rattle.rules.specs.declared.answer.Refusal.the-variants.{BadStore, NotEnabled}
 use Rattle.rules.specs.declared.answer.Checked.{Checked}

@@ -13,10 +13,9 @@ use Rattle.record.specs.declared.instruction.Instruction.{Instruction}
 use Rattle.record.specs.GraphRecords.{operandsOf, graphOf}
 use Rattle.machine.specs.Machine.{Key, Token, refuse, Machine, isThere, when, find, sameKey, byPicks, run}
 use Rattle.machine.specs.Orders.{CellsBelow, ReadsForSome, Lawful, Good}
-use Rattle.machine.specs.Agreement.{AgreeAt}
 use Rattle.machine.proofs.View.{falseTrue}
 use Rattle.machine.proofs.Orders.{byPicksLawful}
-use Rattle.machine.proofs.Agreement.{sameRun}
+use Rattle.machine.proofs.Agreement.{sameRun, AgreeAt}
 use Rattle.rules.specs.declared.answer.Refusal.{Refusal}
 use Rattle.rules.specs.Check.{instructionAt}
 use Rattle.rules.specs.InstructionSet.{effectIn, isResult, arityIn, machineOf}

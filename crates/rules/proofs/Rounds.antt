@@ -13,10 +13,23 @@ use Rattle.record.specs.declared.instruction.Instruction.{Instruction}
 use Rattle.record.specs.TokensAndTags.{rootOf, standsAt}
 use Rattle.machine.proofs.View.{falseTrue}
 use Rattle.rules.specs.Check.{any, instructionAt, operandsAt}
-use Rattle.rules.specs.Needs.{anyBelow, sumBelow, sendsTo, portReached, allReached, rounds, reached, Closed, ReachedLeast}
+use Rattle.rules.specs.Needs.{anyBelow, sumBelow, sendsTo, portReached, allReached, rounds, reached}
 use Rattle.rules.proofs.Passed.{both}
 use Rattle.rules.proofs.Lists.{either, or-left, or-right}
 use Rattle.rules.proofs.Below.{any-below, one-below, each-below, all-below, sum-tight, listed, unlisted}
+
+-- ---- the claims
+
+-- "nothing else is reached": the least set of instructions that has each whose ports it reaches
+abbrev pub Closed : List Token → List Instruction → (ℕ → Bool) → Type 0
+Closed inputs g s = (i : ℕ) → i < length g → allReached inputs g s i ≡ true → s i ≡ true
+
+pub record Least (inputs : List Token) (g : List Instruction) (s : ℕ → Bool) : Type 0 where
+  pub closed : Closed inputs g s
+  pub least : (t : ℕ → Bool) → Closed inputs g t → (i : ℕ) → s i ≡ true → t i ≡ true
+
+abbrev pub ReachedLeast : Type 0
+ReachedLeast = (inputs : List Token) (g : List Instruction) → Least inputs g (reached inputs g)
 
 -- ---- the rounds
 

@@ -19,16 +19,30 @@ use Rattle.arithmetic.specs.declared.Range.{Range}
 use Rattle.arithmetic.specs.Ranges.{single, mayBeZero, rangeOf, asRange}
 use Rattle.arithmetic.proofs.Ranged.{eq-eqZ}
 use Rattle.arithmetic.proofs.Singles.{single-exact}
-use Rattle.machine.specs.Machine.{Key, send, read, write, End, byPicks}
-use Rattle.machine.specs.InStep.{RelatedEffect, bothRefuse, bothSend, bothRead, bothWrite, RelatedEnds, InStep, alike, stopped, Related}
+use Rattle.machine.specs.Machine.{Key, send, read, write, End, byPicks, State}
+use Rattle.machine.specs.InStep.{RelatedEffect, bothRefuse, bothSend, bothRead, bothWrite, RelatedEnds, InStep, alike, stopped, Related, RelatedState}
+use Rattle.machine.specs.Bounded.{runBounded}
 use Rattle.machine.proofs.InStep.{inStep}
 use Rattle.rules.specs.declared.answer.Refusal.{Refusal}
 use Rattle.rules.specs.Check.{instructionAt}
 use Rattle.rules.specs.InstructionSet.{EffectHere, keyUnder, allUnder, sideOf, sendComputed, onCell, cellNumber, effectOf, effectIn, machineOf}
 use Rattle.rules.specs.Held.{heldIn}
 use Rattle.rules.specs.RangeSet.{RangeEffect, sendRange, isUndecided, sendSide, onSingle, rangeEffectOf, rangeEffectIn, rangeMachineOf}
-use Rattle.rules.specs.Ranges.{OnlyValue, SinglesAlike}
 use Rattle.rules.proofs.RangeSet.{next-related, entered-related, left-related, cell-related, held-same}
+
+-- ---- the claims
+
+abbrev pub OnlyValue : Range → ℤ → Type 0
+OnlyValue r v = r ≡ single v
+
+-- a range run of single values ends as the plain run, whatever its outcome
+abbrev pub SinglesAlike : Type 0
+SinglesAlike = (g : List Instruction) (table : List NamedArray) (capacity cells k : ℕ) (s : State Tag Range) (u : State Tag ℤ) → RelatedState OnlyValue s u → (budget : ℕ) (picks : List ℕ)
+    → let M = rangeMachineOf g table capacity cells in
+    let N = machineOf g table capacity cells in
+    RelatedEnds OnlyValue (runBounded M (heldIn g k) (byPicks M) budget picks 0 s) (runBounded N (heldIn g k) (byPicks N) budget picks 0 u)
+
+-- ---- the proofs
 
 abbrev NoRefusal : Refusal → Type 0
 NoRefusal r = ⊥

@@ -1,32 +1,29 @@
 -- 02, R-9, "Loop bounding": a run with a bound over bytes, one that writes a log and one from a saved state, and what is claimed of them; proved in proofs/Bounded. What
 -- such a run answers and leaves is said of a result as of a run's (`answer`, `ledgerAfter`, `cellsAfter`). A replay and a profile take no bound. Assumes nothing.
-use Prim.Native.Nat.{ℕ, _*_, _/_, _≤_}
+use Prim.Native.Nat.{ℕ, _/_}
 use mathlib.Core.Path.{_≡_}
 use mathlib.Core.Bool.{Bool, true, _&&_, _||_}
 use mathlib.Core.List.{List}
 use lib.ListN.{length}
 use lib.Dec.{eqb, leb}
-use Rattle.number.specs.Number.{Bytes}
 use Rattle.record.specs.GraphRecords.{graphOf}
 use Rattle.record.specs.Arrays.{arraysOf}
 use Rattle.record.specs.TokensAndTags.{capacityOf}
-use Rattle.record.specs.Widths.{cellWidth, logWidth}
+use Rattle.record.specs.Widths.{cellWidth}
 use Rattle.machine.specs.Machine.{byPicks}
 use Rattle.machine.specs.Bounded as Machines
 use Rattle.machine.specs.Bounded.{runBounded, logBounded}
+use Rattle.machine.specs.Orders.{Quiescent, Refused}
 use Rattle.rules.specs.declared.answer.Refusal.the-variants.{BadBound, DamagedState}
 use Rattle.rules.specs.declared.answer.Checked.{Checked}
 use Rattle.rules.specs.declared.answer.Answer.{Answer}
 use Rattle.rules.specs.Check.{demand, _andThen_, checkStores, checkInputs, checkWith}
 use Rattle.rules.specs.InstructionSet.{machineOf}
 use Rattle.rules.specs.Run.{firstState, picksOf, Result, refusedAtOnce, ranTo, unlessFailed, result, answer, Ran}
-use Rattle.rules.specs.Log.{logSuffices, checkLogStores, LogResult, logUnlessFailed, logged, LogRan}
+use Rattle.rules.specs.Log.{checkLogStores, LogResult, logUnlessFailed, logged, LogRan}
 use Rattle.rules.specs.Saved.{machineSaved, stateSaved, stateTaken, carried}
 use Rattle.rules.specs.Runs.{LentToRun, LeftByRun, LentToLogged, LeftByLogged}
-use Rattle.rules.specs.Orders.{QuiescentResult, RefusedResult, AlikeResults, Allowed}
-use Rattle.rules.specs.Invariants.{LawfulResult}
-use Rattle.rules.specs.Small.{Small, CountsFit}
-use Rattle.rules.specs.Fits.{AllFit}
+use Rattle.rules.specs.Orders.{resultOutcome, AlikeResults, Allowed}
 use Rattle.rules.specs.Held.{heldIn}
 
 -- ---- the run
@@ -109,7 +106,7 @@ LeavesNoneHeld graph arrays k ledger cells (ranTo e) = Machines.LeavesNoneHeldOf
 
 -- "must equal the end of every unbounded order [..] as demand 3 compares them"
 pub record BoundedEndsAs (x y : Result) : Type 0 where
-  pub rests : QuiescentResult x
+  pub rests : Quiescent (resultOutcome x)
   -- completed or hung
   pub outcome : answer x .outcome ≡ answer y .outcome
   pub alike : AlikeResults x y
@@ -124,28 +121,4 @@ BoundedAsEveryOrder = (graph arrays inputs picks picks′ : List ℕ) (budget k 
 -- where one order completes or hangs, a run with a bound is not refused: what it may still do is spend its budget or hang on held activities
 abbrev pub NotRefused : Type 0
 NotRefused = (graph arrays inputs picks picks′ : List ℕ) (budget k ledger cells : ℕ) → goodBound k ≡ true → Allowed picks ledger cells
-    → QuiescentResult (result graph arrays inputs picks′ 2048 ledger cells) → ¬ (RefusedResult (bounded graph arrays inputs picks budget k ledger cells))
-
--- a run that writes a log is the run, if the log suffices, and the log has room in what is lent
-abbrev pub BoundLoggedRuns : Type 0
-BoundLoggedRuns = (graph arrays inputs picks : List ℕ) (budget k ledger cells lent : ℕ) → logSuffices budget lent ≡ true
-    → boundLogged graph arrays inputs picks budget k ledger cells lent .result ≡ bounded graph arrays inputs picks budget k ledger cells
-
-abbrev pub BoundLogFits : Type 0
-BoundLogFits = (graph arrays inputs picks : List ℕ) (budget k ledger cells lent : ℕ) → length (boundLogged graph arrays inputs picks budget k ledger cells lent .log) * logWidth ≤ lent
-
--- it is a firing sequence from the inputs, its tokens and cells fit their records, and its answer is small, as those of a run are
-abbrev pub BoundedInvariants : Type 0
-BoundedInvariants = (graph arrays inputs picks : List ℕ) (budget k ledger cells : ℕ) → LawfulResult graph arrays inputs ledger cells (bounded graph arrays inputs picks budget k ledger cells)
-
-abbrev pub BoundedFits : Type 0
-BoundedFits = (graph arrays inputs picks : List ℕ) (budget k ledger cells : ℕ) → Bytes graph → Bytes inputs
-    → AllFit (bounded graph arrays inputs picks budget k ledger cells) (capacityOf ledger) (cells / cellWidth)
-
-abbrev pub BoundedSmall : Type 0
-BoundedSmall = (graph arrays inputs picks : List ℕ) (budget k ledger cells : ℕ) → Small budget (answer (bounded graph arrays inputs picks budget k ledger cells))
-
--- 16 bits are enough for each number of an answer
-pub record BoundedCounted : Type 0 where
-  pub byLogged : (graph arrays inputs picks : List ℕ) (budget k ledger cells lent : ℕ) → CountsFit (answer (boundLogged graph arrays inputs picks budget k ledger cells lent .result))
-  pub byCarried : (graph arrays picks ledger cells : List ℕ) (budget k firings tokens : ℕ) → CountsFit (answer (boundCarried graph arrays picks budget k ledger cells firings tokens))
+    → Quiescent (resultOutcome (result graph arrays inputs picks′ 2048 ledger cells)) → ¬ (Refused (resultOutcome (bounded graph arrays inputs picks budget k ledger cells)))

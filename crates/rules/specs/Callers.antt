@@ -15,7 +15,7 @@ use Rattle.buffer.specs.Rows.{All}
 use Rattle.record.specs.Paths.{pathNumber}
 use Rattle.record.specs.Calls.{mostLevels, leaveOf, Call, CallFits, pathOf}
 use Rattle.record.specs.GraphRecords.{graphOf}
-use Rattle.machine.specs.Machine.{Token, State, fire, fired}
+use Rattle.machine.specs.Machine.{Token, State}
 use Rattle.machine.specs.Orders.{Reached}
 use Rattle.rules.specs.declared.answer.Checked.the-variants.{Passed}
 use Rattle.rules.specs.Check.{any, instructionAt, entersSite, checkGraph, checkInputs}
@@ -56,11 +56,6 @@ CallerIn g NoCaller = Unit {0}
 pub record TokenIn (g : List Instruction) (t : Token Tag ℤ) : Type 0 where
   pub path : PathIn g (pathNumber (t .key .tag .path))
   pub iteration : t .key .tag .iteration < 256
-
--- a firing keeps it of all tokens, from any state that has it
-abbrev pub CallersKept : Type 0
-CallersKept = (graph : List ℕ) (table : List NamedArray) (capacity cells : ℕ) → checkGraph graph ≡ Passed → (s x : State Tag ℤ) (τ : Tag)
-    → All (TokenIn (graphOf graph)) (s .tokens) → fire (machineOf (graphOf graph) table capacity cells) s τ ≡ fired x → All (TokenIn (graphOf graph)) (x .tokens)
 
 -- and what LEAVE finds for such a token has its ENTER
 abbrev pub CallerFound : Type 0

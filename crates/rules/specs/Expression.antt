@@ -1,11 +1,10 @@
 -- 02, R-14, "From an expression to a graph", in its order: the records, the refusals, the value, the graph, what feeds it, and the claims, which are proved in
 -- proofs/Expression. Assumes nothing.
-use Prim.Native.Nat.{ℕ, zero, suc, _+_, _-_, _*_, _/_, _≤_, _<_}
+use Prim.Native.Nat.{ℕ, zero, suc, _+_, _-_, _*_, _/_, _≤_}
 use mathlib.Core.Path.{_≡_}
-use mathlib.Core.Bool.{Bool, true, not, _&&_, _||_, cond}
+use mathlib.Core.Bool.{Bool, not, _&&_, _||_, cond}
 use mathlib.Core.List.{List, [], _∷_, _++_}
 use mathlib.Core.Option.{some}
-use mathlib.Core.Logic.{_↔_}
 use lib.ListN.{length, getD, take, set}
 use lib.Dec.{eqb, leb, ltb}
 use lib.IntN.{ℤ, pos}
@@ -39,7 +38,7 @@ use Rattle.rules.specs.declared.answer.Made.{Made}
 use Rattle.rules.specs.declared.answer.Made.the-variants.{Records, Refused}
 use Rattle.rules.specs.declared.answer.Evaluated.{Evaluated}
 use Rattle.rules.specs.declared.answer.Evaluated.the-variants as Evaluations
-use Rattle.rules.specs.Check.{demand, _andThen_, any, inTurn, checkGraph, checkInputs}
+use Rattle.rules.specs.Check.{demand, _andThen_, any, inTurn}
 use Rattle.rules.specs.InstructionSet.{machineOf}
 use Rattle.rules.specs.Run.{firstState, ranTo, result}
 use Rattle.rules.specs.Orders.{Allowed}
@@ -253,44 +252,10 @@ evaluated expression values = evaluatedOf (checkValues expression (length values
 abbrev pub OfEvery : (List Term → Type 0) → Type 0
 OfEvery P = (expression : List ℕ) → checkExpression expression ≡ Passed → P (expressionOf expression)
 
--- there is one variable more than operations, and so 149 tokens at most: one for each variable and one from each record
-abbrev pub SizesFollow : Type 0
-SizesFollow = OfEvery (λ ts. (count isVariable ts ≡ suc (count isOperation ts)) × (count isVariable ts + length ts ≤ 149))
-
--- the operation of record i is out of range, or has the divisor 0
-pub record OutAt (ts : List Term) (values : List ℤ) (i : ℕ) : Type 0 where
-  pub low : i < length ts
-  pub operation : isOperation (termAt ts i) ≡ true
-  pub left : ℤ
-  pub right : ℤ
-  pub leftValue : valueAt ts values (termAt ts i .left) ≡ Value left
-  pub rightValue : valueAt ts values (termAt ts i .right) ≡ Value right
-  pub outOfRange : computeOf (arithmeticOf (termAt ts i .kind)) left right ≡ OutOfRange
-
--- an expression has no value exactly if an operation is: "each operation in it" is each of its records
-abbrev pub ValuesTell : Type 0
-ValuesTell = OfEvery (λ ts. (values : List ℤ) → (expressionValue ts values ≡ OutOfRange) ↔ ((i : ℕ) × OutAt ts values i))
-
--- put into whatever has as many records, it is the whole graph
-abbrev pub GraphsPut : Type 0
-GraphsPut = OfEvery (λ ts. (g : List Instruction) → length g ≡ suc (length ts) → putGraph ts g ≡ graphFor ts)
-
--- the bytes of the graph are read back
-abbrev pub GraphsReadBack : Type 0
-GraphsReadBack = OfEvery (λ ts. Graph.graphOf (graphBytes ts) ≡ graphFor ts)
-
--- 01's check lets the graph by
-abbrev pub GraphsAccepted : Type 0
-GraphsAccepted = OfEvery (λ ts. checkGraph (graphBytes ts) ≡ Passed)
-
 -- as many values as the expression has variables, each of 32 signed bits
 pub record ValuesFor (ts : List Term) (values : List ℤ) : Type 0 where
   pub number : length values ≡ count isVariable ts
   pub each : All (SFits w32) values
-
--- and what feeds it
-abbrev pub InputsAccepted : Type 0
-InputsAccepted = OfEvery (λ ts. (values : List ℤ) → ValuesFor ts values → (capacity : ℕ) → length values ≤ capacity → checkInputs (graphFor ts) capacity (inputBytes values) ≡ Passed)
 
 module _ (ts : List Term) (capacity cells : ℕ) where
   abbrev pub expressionMachine : Machine

@@ -4,7 +4,6 @@ pub mod Check
 pub mod InstructionSet
 pub mod Run
 pub mod Runs
-pub mod Computed
 pub mod CaseRows
 pub mod RequestCases
 pub mod Cases
@@ -20,7 +19,6 @@ pub mod RootLeave
 pub mod Profile
 pub mod Log
 pub mod Needs
-pub mod Capacity
 pub mod NamedArrays
 pub mod Expression
 pub mod ExpressionCases

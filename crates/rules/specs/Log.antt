@@ -1,8 +1,8 @@
 -- 02, R-7, "Firing logs": the log that a run writes and the replay of a log, over bytes; and that a replay gives the run again and that logs agree, proved in
 -- proofs/Log and proofs/Replay. Assumes nothing.
-use Prim.Native.Nat.{ℕ, _+_, _-_, _*_, _/_, _%_, _≤_}
+use Prim.Native.Nat.{ℕ, _+_, _-_, _*_, _/_, _%_}
 use mathlib.Core.Path.{_≡_}
-use mathlib.Core.Bool.{Bool, true, _&&_, _||_}
+use mathlib.Core.Bool.{Bool, _&&_, _||_}
 use mathlib.Core.Option.{Option}
 use mathlib.Core.List.{List, [], List·Permᴰ}
 use lib.ListN.{length, take}
@@ -17,7 +17,7 @@ use Rattle.record.specs.TokensAndTags.{mostTokens, capacityOf}
 use Rattle.record.specs.Logs.{encodeActivity, nameOf}
 use Rattle.record.specs.Widths.{cellWidth, logWidth}
 use Rattle.machine.specs.Machine.{End, byPicks, run}
-use Rattle.machine.specs.Orders as Ends
+use Rattle.machine.specs.Orders.{Quiescent, Refused}
 use Rattle.machine.specs.Sequences.{Once, logOf}
 use Rattle.machine.specs.Replay.{replay}
 use Rattle.rules.specs.declared.answer.Refusal.{Refusal}
@@ -29,7 +29,7 @@ use Rattle.rules.specs.Answer.{valuesOf}
 use Rattle.rules.specs.Check.{demand, _andThen_, checkStores, checkInputs, check, checkWith}
 use Rattle.rules.specs.InstructionSet.{machineOf}
 use Rattle.rules.specs.Run.{firstState, picksOf, Result, refusedAtOnce, ranTo, unlessFailed, result, answer, ledgerAfter, cellsAfter}
-use Rattle.rules.specs.Orders.{QuiescentResult}
+use Rattle.rules.specs.Orders.{resultOutcome}
 
 -- ---- records (`encodeActivity`, `nameOf`: specs/Logs of `record`)
 
@@ -89,22 +89,13 @@ replayed graph arrays inputs log ledger cells =
 
 -- ---- what is stated
 
--- a run that writes a log is the run, if the log suffices
-abbrev pub LoggedRuns : Type 0
-LoggedRuns = (graph arrays inputs picks : List ℕ) (budget ledger cells lent : ℕ) → logSuffices budget lent ≡ true
-    → logged graph arrays inputs picks budget ledger cells lent .result ≡ result graph arrays inputs picks budget ledger cells
-
--- the log has room in what is lent
-abbrev pub LogFits : Type 0
-LogFits = (graph arrays inputs picks : List ℕ) (budget ledger cells lent : ℕ) → length (logged graph arrays inputs picks budget ledger cells lent .log) * logWidth ≤ lent
-
 abbrev pub NotBy7 : Result → Type 0
 NotBy7 (refusedAtOnce r place) = ¬ (r ≡ BadStore)
 NotBy7 (ranTo e) = Unit {0}
 
 abbrev pub InFiring : Result → Type 0
 InFiring (refusedAtOnce r place) = ⊥
-InFiring (ranTo e) = Ends.RefusedEnd (e .outcome)
+InFiring (ranTo e) = Refused (e .outcome)
 
 -- "the same ledger, cells and counts in every byte"; the answer too, unless a firing was refused
 pub record AgainOfResults (x y : Result) : Type 0 where
@@ -125,5 +116,5 @@ LogReplaysOfResults = (graph arrays inputs picks : List ℕ) (budget ledger cell
 abbrev pub LogsAgreeOfResults : Type 0
 LogsAgreeOfResults = (graph arrays inputs picks picks′ : List ℕ) (budget budget′ ledger ledger′ cells cells′ lent lent′ : ℕ)
     → capacityOf ledger ≡ capacityOf ledger′ → cells / cellWidth ≡ cells′ / cellWidth
-    → QuiescentResult (logged graph arrays inputs picks budget ledger cells lent .result) → QuiescentResult (logged graph arrays inputs picks′ budget′ ledger′ cells′ lent′ .result)
+    → Quiescent (resultOutcome (logged graph arrays inputs picks budget ledger cells lent .result)) → Quiescent (resultOutcome (logged graph arrays inputs picks′ budget′ ledger′ cells′ lent′ .result))
     → List·Permᴰ (logged graph arrays inputs picks budget ledger cells lent .log) (logged graph arrays inputs picks′ budget′ ledger′ cells′ lent′ .log) × Once (logged graph arrays inputs picks budget ledger cells lent .log)

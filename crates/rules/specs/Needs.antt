@@ -1,14 +1,11 @@
 -- 02, R-3, "What a graph will need, before it runs", in its order: what is reached, the bounds, the refusals, and the claims, which are proved in proofs/Needs.
 -- Assumes nothing.
-use Prim.Native.Nat.{ℕ, zero, suc, _+_, _≤_, _<_}
+use Prim.Native.Nat.{ℕ, zero, suc, _+_, _≤_}
 use mathlib.Core.Path.{_≡_}
 use mathlib.Core.Bool.{Bool, true, false, not, _&&_, _||_, cond}
 use mathlib.Core.List.{List, [], _∷_}
 use lib.ListN.{length, getD}
-use lib.IntN.{ℤ}
 use lib.Dec.{eqb, leb}
-use Rattle.record.specs.declared.tag.Tag.{Tag}
-use Rattle.record.specs.declared.array.NamedArray.{NamedArray}
 use Rattle.record.specs.declared.token.Token.{Token}
 use Rattle.record.specs.declared.instruction.Instruction.{Instruction}
 use Rattle.buffer.specs.Rows.{allRows}
@@ -16,18 +13,16 @@ use Rattle.record.specs.GraphRecords.{graphOf, destinations}
 use Rattle.record.specs.TokensAndTags.{rootOf, standsAt}
 use Rattle.record.specs.TokensAndTags as Tokens
 use Rattle.record.specs.Widths.{tokenWidth}
-use Rattle.machine.specs.Machine.{State, enabled}
-use Rattle.machine.specs.Orders.{Reached}
+use Rattle.machine.specs.Orders.{Quiescent}
 use Rattle.rules.specs.declared.answer.Refusal.the-variants.{BadInput, NotLoopFree}
 use Rattle.rules.specs.declared.answer.Checked.{Checked}
 use Rattle.rules.specs.declared.answer.Checked.the-variants.{Passed, Failed}
 use Rattle.rules.specs.declared.answer.Needs.{Needs}
 use Rattle.rules.specs.declared.answer.Needs.the-variants.{AtMost, Refused}
 use Rattle.rules.specs.Answer.{valuesNeeded}
-use Rattle.rules.specs.Check.{demand, _andThen_, any, inTurn, instructionAt, operandsAt, checkGraph, checkStores, goodInput, checkInputs}
-use Rattle.rules.specs.InstructionSet.{machineOf}
-use Rattle.rules.specs.Run.{firstState, result, answer}
-use Rattle.rules.specs.Orders.{QuiescentResult}
+use Rattle.rules.specs.Check.{demand, _andThen_, any, inTurn, instructionAt, operandsAt, checkGraph, checkStores, goodInput}
+use Rattle.rules.specs.Run.{result, answer}
+use Rattle.rules.specs.Orders.{resultOutcome}
 
 -- ---- over the numbers below n
 
@@ -71,17 +66,6 @@ module _ (inputs : List Token) (g : List Instruction) where
   -- as many rounds as there are instructions: another round adds none (`reached-least`)
   unfoldable pub reached : (instruction : ℕ) → Bool
   reached i = getD (rounds (length g)) i false
-
--- "nothing else is reached": the least set of instructions that has each whose ports it reaches
-abbrev pub Closed : List Token → List Instruction → (ℕ → Bool) → Type 0
-Closed inputs g s = (i : ℕ) → i < length g → allReached inputs g s i ≡ true → s i ≡ true
-
-pub record Least (inputs : List Token) (g : List Instruction) (s : ℕ → Bool) : Type 0 where
-  pub closed : Closed inputs g s
-  pub least : (t : ℕ → Bool) → Closed inputs g t → (i : ℕ) → s i ≡ true → t i ≡ true
-
-abbrev pub ReachedLeast : Type 0
-ReachedLeast = (inputs : List Token) (g : List Instruction) → Least inputs g (reached inputs g)
 
 -- ---- "The bounds are the number of reached instructions that can fire, and inputs plus their outputs."
 
@@ -139,16 +123,6 @@ switchOrFetch r = eqb (r .code) 5 || eqb (r .code) 10
 abbrev pub NoSwitchOrFetch : (graph inputs : List ℕ) → Type 0
 NoSwitchOrFetch graph inputs = (i : ℕ) → reached (inputsOf inputs) (graphOf graph) i ≡ true → switchOrFetch (instructionAt (graphOf graph) i) ≡ false
 
--- of every state that a run from inputs reaches
-abbrev pub NoStateExceeds : Type 0
-NoStateExceeds = (graph inputs : List ℕ) (table : List NamedArray) (capacity cells firings tokens : ℕ) → needs graph inputs ≡ AtMost firings tokens → checkInputs (graphOf graph) capacity inputs ≡ Passed
-    → (f o : ℕ) (x : State Tag ℤ) → Reached (machineOf (graphOf graph) table capacity cells) (firstState inputs cells) f o x → (f ≤ firings) × (length (x .tokens) ≤ tokens)
-
-abbrev pub ExactAtRest : Type 0
-ExactAtRest = (graph inputs : List ℕ) (table : List NamedArray) (capacity cells firings tokens : ℕ) → needs graph inputs ≡ AtMost firings tokens → NoSwitchOrFetch graph inputs → checkInputs (graphOf graph) capacity inputs ≡ Passed
-    → (f o : ℕ) (x : State Tag ℤ) → Reached (machineOf (graphOf graph) table capacity cells) (firstState inputs cells) f o x → enabled (machineOf (graphOf graph) table capacity cells) x ≡ []
-    → (f ≡ firings) × (length (x .tokens) ≡ tokens)
-
 -- "No completed or hung run exceeds either", and no other
 abbrev pub NeverExceeded : Type 0
 NeverExceeded = (graph arrays inputs picks : List ℕ) (budget ledger cells firings tokens : ℕ) → needs graph inputs ≡ AtMost firings tokens
@@ -157,5 +131,5 @@ NeverExceeded = (graph arrays inputs picks : List ℕ) (budget ledger cells firi
 -- "and both are exact where no SWITCH or FETCH is reached"
 abbrev pub Exact : Type 0
 Exact = (graph arrays inputs picks : List ℕ) (budget ledger cells firings tokens : ℕ) → needs graph inputs ≡ AtMost firings tokens → NoSwitchOrFetch graph inputs
-    → QuiescentResult (result graph arrays inputs picks budget ledger cells)
+    → Quiescent (resultOutcome (result graph arrays inputs picks budget ledger cells))
     → (answer (result graph arrays inputs picks budget ledger cells) .firings ≡ firings) × (answer (result graph arrays inputs picks budget ledger cells) .tokens ≡ tokens)

@@ -11,33 +11,19 @@ use Rattle.record.specs.declared.cell.Cell.{Cell}
 use Rattle.buffer.specs.Rows.{whole, All}
 use Rattle.record.specs.TokensAndTags.{mostTokens, capacityOf}
 use Rattle.record.specs.Widths.{tokenWidth, cellWidth, pickWidth}
-use Rattle.machine.specs.Orders as Ends
+use Rattle.machine.specs.Machine.{Outcome, refused}
+use Rattle.machine.specs.Orders.{Completed, Hung, Quiescent, Spent, Refused}
+use Rattle.rules.specs.declared.answer.Refusal.{Refusal}
 use Rattle.rules.specs.declared.answer.Checked.the-variants.{Passed}
 use Rattle.rules.specs.Check.{checkGraph, mostCells}
 use Rattle.rules.specs.Run.{tokenRecord, cellRecord, Result, refusedAtOnce, ranTo, result, answer}
 
--- ---- how a run ended
+-- ---- how a run ended, and what it left
 
-abbrev pub CompletedResult : Result → Type 0
-CompletedResult (refusedAtOnce r p) = ⊥
-CompletedResult (ranTo e) = Ends.CompletedEnd (e .outcome)
-
-abbrev pub HungResult : Result → Type 0
-HungResult (refusedAtOnce r p) = ⊥
-HungResult (ranTo e) = Ends.HungEnd (e .outcome)
-
--- completed or hung: nothing is enabled
-abbrev pub QuiescentResult : Result → Type 0
-QuiescentResult (refusedAtOnce r p) = ⊥
-QuiescentResult (ranTo e) = Ends.QuiescentEnd (e .outcome)
-
-abbrev pub SpentResult : Result → Type 0
-SpentResult (refusedAtOnce r p) = ⊥
-SpentResult (ranTo e) = Ends.BudgetSpent (e .outcome)
-
-abbrev pub RefusedResult : Result → Type 0
-RefusedResult (refusedAtOnce r p) = Unit {0}
-RefusedResult (ranTo e) = Ends.RefusedEnd (e .outcome)
+-- the outcome: a refusal before any firing is one too
+abbrev pub resultOutcome : Result → Outcome Refusal
+resultOutcome (refusedAtOnce r p) = refused r p
+resultOutcome (ranTo e) = e .outcome
 
 -- the tokens of the ledger in order of arrival, and the cells, as their records
 abbrev pub resultTokens : Result → List Token
@@ -68,13 +54,13 @@ pub record AlikeResults (x y : Result) : Type 0 where
 
 pub record ResultsAgree (x y : Result) : Type 0 where
   -- "one run completes exactly when the other does"; R-2: "completed or hung alike in all, with everything else equal"
-  pub completes : CompletedResult x ↔ CompletedResult y
-  pub hangs : HungResult x ↔ HungResult y
-  pub alike : QuiescentResult x → AlikeResults x y
+  pub completes : Completed (resultOutcome x) ↔ Completed (resultOutcome y)
+  pub hangs : Hung (resultOutcome x) ↔ Hung (resultOutcome y)
+  pub alike : Quiescent (resultOutcome x) → AlikeResults x y
   -- "If one order is refused, every order is"
-  pub refused : RefusedResult x ↔ RefusedResult y
+  pub refused : Refused (resultOutcome x) ↔ Refused (resultOutcome y)
   -- a budget of 2,048 is never spent
-  pub neverSpent : ¬ (SpentResult x)
+  pub neverSpent : ¬ (Spent (resultOutcome x))
 
 -- demand 3: "picks, ledger and cells of allowed length", the last two by their lengths in bytes
 pub record Allowed (picks : List ℕ) (ledger cells : ℕ) : Type 0 where
@@ -103,7 +89,7 @@ pub record ResultsEndAlike (x y : Result) : Type 0 where
 
 -- demand 3 with any two budgets that are each enough: if a run completes or hangs, so does every order that may do as many firings
 abbrev pub AnyTwoBudgetsOfResults : Type 0
-AnyTwoBudgetsOfResults = (graph arrays inputs picks picks′ : List ℕ) (budget budget′ ledger ledger′ cells cells′ : ℕ) → QuiescentResult (result graph arrays inputs picks budget ledger cells)
+AnyTwoBudgetsOfResults = (graph arrays inputs picks picks′ : List ℕ) (budget budget′ ledger ledger′ cells cells′ : ℕ) → Quiescent (resultOutcome (result graph arrays inputs picks budget ledger cells))
     → Allowed picks′ ledger′ cells′ → capacityOf ledger ≡ capacityOf ledger′ → cells / cellWidth ≡ cells′ / cellWidth
     → answer (result graph arrays inputs picks budget ledger cells) .firings ≤ budget′
     → ResultsEndAlike (result graph arrays inputs picks budget ledger cells) (result graph arrays inputs picks′ budget′ ledger′ cells′)

@@ -10,10 +10,11 @@ use Rattle.record.specs.declared.token.Content.the-variants.{Live, Spent, Defer
 use Rattle.record.specs.declared.instruction.Instruction.{Instruction}
 use Rattle.buffer.specs.Rows.{All}
 use Rattle.record.specs.GraphRecords.{graphOf}
+use Rattle.machine.specs.Orders.{Completed, Quiescent}
 use Rattle.rules.specs.Check.{instructionAt}
 use Rattle.rules.specs.InstructionSet.{isResult}
 use Rattle.rules.specs.Run.{result}
-use Rattle.rules.specs.Orders.{CompletedResult, QuiescentResult, resultTokens}
+use Rattle.rules.specs.Orders.{resultOutcome, resultTokens}
 
 -- "every live token is at an OUT and none is deferred"; a token at a LEAVE under path 0 is a result too
 abbrev pub ProperContent : (atResult : Bool) → Content → Type 0
@@ -26,5 +27,5 @@ ProperToken g t = ProperContent (isResult (instructionAt g (t .tag .instruction)
 
 -- "a run with nothing enabled is completed only if" all are proper. "Otherwise the answer is hung"
 abbrev pub CompletedExactly : Type 0
-CompletedExactly = (graph arrays inputs picks : List ℕ) (budget ledger cells : ℕ) → QuiescentResult (result graph arrays inputs picks budget ledger cells)
-    → CompletedResult (result graph arrays inputs picks budget ledger cells) ↔ All (ProperToken (graphOf graph)) (resultTokens (result graph arrays inputs picks budget ledger cells))
+CompletedExactly = (graph arrays inputs picks : List ℕ) (budget ledger cells : ℕ) → Quiescent (resultOutcome (result graph arrays inputs picks budget ledger cells))
+    → Completed (resultOutcome (result graph arrays inputs picks budget ledger cells)) ↔ All (ProperToken (graphOf graph)) (resultTokens (result graph arrays inputs picks budget ledger cells))

@@ -1,10 +1,8 @@
 -- 02, R-11, "Inputs known only between limits": the operations over ranges as an instance of the machine. What differs from 01's table: CONST sends a single
 -- value, the arithmetic is that of ranges, and refusal 23 comes where control or cell is undecided. Assumes nothing.
 use Prim.Native.Nat.{ℕ}
-use mathlib.Core.Path.{_≡_}
 use mathlib.Core.Bool.{Bool, not, _&&_, cond}
 use mathlib.Core.List.{List, [], _∷_}
-use mathlib.Core.Logic.{_⊎_}
 use mathlib.Core.Option.{Option, none, some}
 use lib.IntN.{ℤ, pos, natAbs}
 use Rattle.record.specs.declared.tag.Tag.{Tag}
@@ -18,7 +16,6 @@ use Rattle.arithmetic.specs.declared.Range.{Range}
 use Rattle.arithmetic.specs.Ranges.{single, isSingle, mayBeZero, rangeOf}
 use Rattle.machine.specs.Machine.{Key, refuse, send, read, write, Machine}
 use Rattle.machine.specs.InStep.{Over}
-use Rattle.rules.specs.declared.answer.Refusal.{Refusal}
 use Rattle.rules.specs.declared.answer.Refusal.the-variants as Refusals
 use Rattle.rules.specs.Check.{instructionAt}
 use Rattle.rules.specs.InstructionSet.{EffectOver, keyUnder, allUnder, sideOf, sendNext, sendEntered, sendLeft, onCell, cellNumber, machineOf}
@@ -67,7 +64,3 @@ rangeEffectIn g table cells τ a b =
 -- tags, operands, named arrays, capacity and cells are those of the plain machine
 abbrev pub rangeMachineOf : List Instruction → List NamedArray → (capacity cells : ℕ) → Machine
 rangeMachineOf g table capacity cells = Over (machineOf g table capacity cells) Range (rangeEffectIn g table cells) (single (pos 0))
-
--- the refusals that a range run may give where a plain one, with a choice out of the ranges, goes on
-abbrev pub OfRanges : Refusal → Type 0
-OfRanges r = (r ≡ Refusals.OutOfRange) ⊎ (r ≡ Refusals.Undecided)

@@ -1,54 +1,22 @@
 -- 02, R-11: "For all choices of inputs within their ranges, a completed range run promises that the plain run with equal capacity, cell count and all else
--- completes with as many firings and that each value lies in its token's range." The statements; they are proved in proofs/Ranges and
--- proofs/Singles. Assumes nothing.
+-- completes with as many firings and that each value lies in its token's range." The statements; they are proved in proofs/Ranges.
+-- Assumes nothing.
 use Prim.Native.Nat.{ℕ, _/_, _%_}
 use mathlib.Core.Path.{_≡_}
 use mathlib.Core.Bool.{true}
 use mathlib.Core.List.{List}
 use lib.ListN.{length}
-use lib.IntN.{ℤ}
-use Rattle.record.specs.declared.tag.Tag.{Tag}
-use Rattle.record.specs.declared.array.NamedArray.{NamedArray}
-use Rattle.record.specs.declared.instruction.Instruction.{Instruction}
 use Rattle.number.specs.Number.{number32, signedOf}
 use Rattle.buffer.specs.Rows.{whole, allRows}
 use Rattle.record.specs.TokensAndTags.{tagIn, portIn, mostTokens, capacityOf}
 use Rattle.record.specs.Widths.{rangeTokenWidth, rangeCellWidth, tokenWidth, valueOffset, stateOffset, cellWidth, pickWidth}
-use Rattle.arithmetic.specs.declared.Range.{Range}
-use Rattle.arithmetic.specs.Ranges.{Holds, single}
-use Rattle.machine.specs.Machine.{State, byPicks}
-use Rattle.machine.specs.Bounded.{runBounded}
-use Rattle.machine.specs.Orders.{QuiescentEnd, EndsAgree}
-use Rattle.machine.specs.InStep.{PlaceByPlace, RelatedState, RelatedEnds, InStep}
+use Rattle.arithmetic.specs.Ranges.{Holds}
+use Rattle.machine.specs.Orders.{EndsAgree, Quiescent}
+use Rattle.machine.specs.InStep.{PlaceByPlace, RelatedEnds}
 use Rattle.rules.specs.Check.{mostCells}
-use Rattle.rules.specs.InstructionSet.{machineOf}
 use Rattle.rules.specs.Run as Plain
-use Rattle.rules.specs.Held.{heldIn}
 use Rattle.rules.specs.Bounded.{bounded}
-use Rattle.rules.specs.RangeSet.{rangeMachineOf, OfRanges}
 use Rattle.rules.specs.RangeRun.{rangeIn, rangeCapacityOf, RangeResult, refusedAtOnce, ranTo, rangeResult}
-
--- ---- from any two states of which one is within the other
-
--- the runs go in step, with a bound or none: keys and states are equal place by place and each value lies in its token's range, cells too, unless the range run is
--- refused by 12 or 23
-abbrev pub StatesInStep : Type 0
-StatesInStep = (g : List Instruction) (table : List NamedArray) (capacity cells k : ℕ) (s : State Tag Range) (u : State Tag ℤ) → RelatedState Holds s u → (budget : ℕ) (picks : List ℕ)
-    → let M = rangeMachineOf g table capacity cells in
-    let N = machineOf g table capacity cells in
-    InStep Holds OfRanges (runBounded M (heldIn g k) (byPicks M) budget picks 0 s) (runBounded N (heldIn g k) (byPicks N) budget picks 0 u)
-
--- ---- from single values
-
-abbrev pub OnlyValue : Range → ℤ → Type 0
-OnlyValue r v = r ≡ single v
-
--- a range run of single values ends as the plain run, whatever its outcome
-abbrev pub SinglesAlike : Type 0
-SinglesAlike = (g : List Instruction) (table : List NamedArray) (capacity cells k : ℕ) (s : State Tag Range) (u : State Tag ℤ) → RelatedState OnlyValue s u → (budget : ℕ) (picks : List ℕ)
-    → let M = rangeMachineOf g table capacity cells in
-    let N = machineOf g table capacity cells in
-    RelatedEnds OnlyValue (runBounded M (heldIn g k) (byPicks M) budget picks 0 s) (runBounded N (heldIn g k) (byPicks N) budget picks 0 u)
 
 -- ---- from inputs
 
@@ -74,23 +42,11 @@ pub record AsManyRecords (rangeLedger rangeCells ledger cells : ℕ) : Type 0 wh
   pub capacity : rangeCapacityOf rangeLedger ≡ capacityOf ledger
   pub cellCount : rangeCells / rangeCellWidth ≡ cells / cellWidth
 
--- refused at once alike; else they go in step
-abbrev pub ResultsInStep : RangeResult → Plain.Result → Type 0
-ResultsInStep (refusedAtOnce r p) (Plain.refusedAtOnce q o) = (r ≡ q) × (p ≡ o)
-ResultsInStep (refusedAtOnce r p) (Plain.ranTo e) = ⊥
-ResultsInStep (ranTo d) (Plain.refusedAtOnce q o) = ⊥
-ResultsInStep (ranTo d) (Plain.ranTo e) = InStep Holds OfRanges d e
-
--- so the plain run answers as the range run does, with the same number and place if refused, unless that is refused by 12 or 23 in a firing
-abbrev pub RunsInStep : Type 0
-RunsInStep = (graph arrays ranges inputs picks : List ℕ) (budget k rangeLedger rangeCells ledger cells : ℕ) → ChosenInputs ranges inputs → AsManyRecords rangeLedger rangeCells ledger cells
-    → ResultsInStep (rangeResult graph arrays ranges picks budget k rangeLedger rangeCells) (bounded graph arrays inputs picks budget k ledger cells)
-
 -- of a range run that completes or hangs: the plain run completes or hangs as it does, with as many firings, and what it leaves is within
 abbrev pub Promised : RangeResult → Plain.Result → Type 0
 Promised (refusedAtOnce r p) y = Unit {0}
 Promised (ranTo d) (Plain.refusedAtOnce r p) = ⊥
-Promised (ranTo d) (Plain.ranTo e) = QuiescentEnd (d .outcome) → RelatedEnds Holds d e
+Promised (ranTo d) (Plain.ranTo e) = Quiescent (d .outcome) → RelatedEnds Holds d e
 
 -- "and all else": the table of named arrays, the picks, the budget and the bound; bound 0 is none (`BoundZero` of Bounded)
 abbrev pub RangesPromise : Type 0

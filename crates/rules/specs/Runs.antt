@@ -1,16 +1,17 @@
 -- A run, a logged run, a replay and a profile as their callers see them: what each is lent, what it leaves, and what it promises of both; and how a run ended.
 -- `run`, `run_logged` (crate engine), `replay` and `profile` promise this by name, and the claims about them in bytes are stated in the same words. Assumes nothing.
 use Prim.Native.Nat.{ℕ}
-use mathlib.Core.Path.{_≡_}
-use mathlib.Core.Bool.{true, false}
 use mathlib.Core.List.{List}
 use lib.ListN.{length}
+use Rattle.machine.specs.Machine as Machine
+use Rattle.machine.specs.Orders.{Refused}
+use Rattle.rules.specs.declared.answer.Refusal.{Refusal}
 use Rattle.rules.specs.declared.answer.Answer.{Answer}
 use Rattle.rules.specs.declared.answer.Outcome.{Outcome}
 use Rattle.rules.specs.declared.answer.Outcome.the-variants as Outcomes
 use Rattle.rules.specs.declared.answer.Profiled.{Profiled}
 use Rattle.rules.specs.Run.{result, Ran}
-use Rattle.rules.specs.Log.{logSuffices, logged, LogRan, replayed}
+use Rattle.rules.specs.Log.{logged, LogRan, replayed}
 use Rattle.rules.specs.Profile.{profiled, ProfileRan}
 
 -- ---- a run
@@ -73,11 +74,6 @@ lentBesideLog l = lentToRun (l .picks) (l .ledger) (l .cells)
 abbrev pub leftBesideLog : LeftByLogged → LeftByRun
 leftBesideLog x = leftByRun (x .answer) (x .ledger) (x .cells)
 
--- a log that suffices changes nothing of the run: what is claimed of `run` holds of `run_logged` too (`logged-runs-on` in proofs/Logged)
-abbrev pub LoggedRunsOn : Type 0
-LoggedRunsOn = (graph arrays inputs : List ℕ) (l : LentToLogged) (x : LeftByLogged) → LoggedOn graph arrays inputs l x → logSuffices (l .budget) (length (l .log)) ≡ true
-    → RanOn graph arrays inputs (l .budget) (lentBesideLog l) (leftBesideLog x)
-
 -- the promise of `replay`
 abbrev pub ReplayedOn : (graph arrays inputs log ledger cells : List ℕ) → Answer → (ledger′ cells′ : List ℕ) → Type 0
 ReplayedOn graph arrays inputs log ledger cells r ledger′ cells′ = Ran (replayed graph arrays inputs log (length ledger) (length cells)) r ledger ledger′ cells cells′
@@ -111,38 +107,9 @@ ProfiledOn graph arrays inputs l x =
 
 -- ---- how a run ended
 
-abbrev pub Completed : Outcome → Type 0
-Completed Outcomes.Completed = Unit {0}
-Completed Outcomes.Hung = ⊥
-Completed Outcomes.Spent = ⊥
-Completed (Outcomes.Refused r place) = ⊥
-
-abbrev pub Hung : Outcome → Type 0
-Hung Outcomes.Completed = ⊥
-Hung Outcomes.Hung = Unit {0}
-Hung Outcomes.Spent = ⊥
-Hung (Outcomes.Refused r place) = ⊥
-
--- completed or hung
-abbrev pub Quiescent : Outcome → Type 0
-Quiescent Outcomes.Completed = Unit {0}
-Quiescent Outcomes.Hung = Unit {0}
-Quiescent Outcomes.Spent = ⊥
-Quiescent (Outcomes.Refused r place) = ⊥
-
-abbrev pub Spent : Outcome → Type 0
-Spent Outcomes.Completed = ⊥
-Spent Outcomes.Hung = ⊥
-Spent Outcomes.Spent = Unit {0}
-Spent (Outcomes.Refused r place) = ⊥
-
-abbrev pub Refused : Outcome → Type 0
-Refused Outcomes.Completed = ⊥
-Refused Outcomes.Hung = ⊥
-Refused Outcomes.Spent = ⊥
-Refused (Outcomes.Refused r place) = Unit {0}
-
--- and with one that does not suffice it is refused before any firing (`logged-else` in proofs/Logged)
-abbrev pub LoggedElse : Type 0
-LoggedElse = (graph arrays inputs : List ℕ) (l : LentToLogged) (x : LeftByLogged) → LoggedOn graph arrays inputs l x → logSuffices (l .budget) (length (l .log)) ≡ false
-    → Refused (x .answer .outcome) × (x .answer .firings ≡ 0) × (x .answer .tokens ≡ 0)
+-- the outcome in an answer as the machine's, of which machine/specs/Orders says that it is completed, hung, quiescent (either), spent or refused
+abbrev pub outcomeIn : Outcome → Machine.Outcome Refusal
+outcomeIn Outcomes.Completed = Machine.completed
+outcomeIn Outcomes.Hung = Machine.hung
+outcomeIn Outcomes.Spent = Machine.budgetSpent
+outcomeIn (Outcomes.Refused r place) = Machine.refused r place

@@ -1,4 +1,3 @@
--- Working definition: no public promise cites it.
 -- What a computed case looks through: a proof with the line `unfolding rules` computes with every definition of 01 and 02. Assumes nothing.
 use Rattle.number.specs.Number.{signedOf, bitsOf}
 use Rattle.record.specs.GraphRecords.{rowOf, namesArray, usesConstant}
