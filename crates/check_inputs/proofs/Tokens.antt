@@ -16,13 +16,18 @@ use Rattle.buffer.proofs.Tables.{length-rows, getD-rows}
 use Rattle.record.specs.Widths.{tokenWidth}
 use Rattle.rules.specs.Check.{any}
 use Rattle.check_inputs.specs.Inputs.{inputTokens, entryOf, SeenEntries}
-use Rattle.check_fields.proofs.Turns.{or-false, any-append, and-true-left, and-true-right}
+use Rattle.check_fields.proofs.Turns.{or-false, any-append, any-next, and-true-left, and-true-right}
 
 pub length-tokens : (l : List ℕ) → length (inputTokens l) ≡ length l / tokenWidth
 length-tokens l = length-rows tokenWidth decodeToken (length l / tokenWidth) l
 
 pub in-tokens : (l : List ℕ) (i : ℕ) → i < length l / tokenWidth → (d : Token) → getD (inputTokens l) i d ≡ tokenAt l i
 in-tokens l i h d = getD-rows tokenWidth decodeToken (length l / tokenWidth) i l d h
+
+-- f holds of none of the first j tokens: whether it holds of one of them or of the next, x
+pub any-token : (f : Token → Bool) (l : List ℕ) (j : ℕ) {x : Token} {b : Bool} → j < length l / tokenWidth → any f (take j (inputTokens l)) ≡ false → x ≡ tokenAt l j → b ≡ f x
+    → any f (take (j + 1) (inputTokens l)) ≡ b
+any-token f l j {x} h none e s = any-next f (inputTokens l) j x (omega (arith, length-tokens l)) (in-tokens l j h x ∙ sym e) ∙ rw (none, ← s)
 
 -- a token is found among more, too
 pub any-more : {A : Type 0} (f : A → Bool) (xs : List A) (i n : ℕ) → i ≤ n → any f (take i xs) ≡ true → any f (take n xs) ≡ true

@@ -16,7 +16,7 @@ use store_enabled::Tables;
 use store_flags::Flags;
 ghost use Prim.Native.Nat.{ℕ, _/_, _<_, _≤_};
 ghost use mathlib.Core.Path.{_≡_};
-ghost use lib.ListN.{length, getD, set};
+ghost use lib.ListN.{length};
 ghost use Rattle.buffer.specs.Rows.{putRow};
 ghost use Rattle.record.specs.GraphRecords.{graphOf};
 ghost use Rattle.record.specs.TokensAndTags.{tokens, tokenAt};
@@ -27,7 +27,7 @@ ghost use Rattle.rules.specs.declared.answer.Checked.the-variants.{Passed};
 ghost use Rattle.rules.specs.Run.{firstState};
 ghost use Rattle.rules.specs.Profile.{checkProfileStores, checkProfile, encodeStep};
 ghost use Rattle.rules.specs.Runs.{lentToProfile, leftByProfile, ProfiledOn};
-ghost use Rattle.store_flags.specs.Flags.{Counted, place, places, inWord, flagsOf};
+ghost use Rattle.store_flags.specs.Flags.{Counted, places, flagsOf};
 ghost use Rattle.store_enabled.specs.Enabled.{arityOf, enabledPlaces};
 ghost use Rattle.fire.specs.Running.{Prepared, Running};
 ghost use Rattle.start.specs.Begun.{machineLent};
@@ -146,21 +146,6 @@ fn no_record(tables: &Tables, flags: &Flags, ledger: &[u8], used: usize) -> Outc
     }
 }
 
-// The place of the first one of a word's flags, 64 where there is none.
-fn lowest(word: u64) -> usize
-    ensures { λ r. ⌜ r ≡ place 0 (inWord word) ⌝ }
-{
-    u64::trailing_zeros(word) as usize
-}
-
-// The word with flag k, which is raised, lowered.
-fn lowered(word: u64, k: usize) -> u64
-    requires { ⌜ (k < 64) × (getD (inWord word) k 0 ≡ 1) ⌝ }
-    ensures { λ r. ⌜ inWord r ≡ set (inWord word) k 0 ⌝ }
-{
-    word - (1 << k)
-}
-
 // Writes the places of so many enabled activities, which are all, in order. From the word of the first on, the flags of a word are
 // taken away in turn.
 fn put_places(flags: &Flags, count: usize, out: &mut [u16; 2048])
@@ -171,10 +156,10 @@ fn put_places(flags: &Flags, count: usize, out: &mut [u16; 2048])
     let mut rest = flags[b];
     let mut k = 0;
     while k < count {
-        let p = lowest(rest);
-        if p < 64 {
+        if 0 < rest {
+            let p = store_flags::lowest(rest);
             out[k] = (b * 64 + p) as u16;
-            rest = lowered(rest, p);
+            rest = store_flags::lowered(rest, p);
             k += 1;
         } else {
             b += 1;

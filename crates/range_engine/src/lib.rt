@@ -3,12 +3,12 @@
 use checks::arrays;
 use checks::bound;
 use checks::graph;
+use checks::stores;
 use engine::Choice;
 use engine::Order;
 use engine::Turn;
 use fire_commit::Fired;
 use record::cell;
-use record::pick;
 use record::token;
 use rules::answer;
 use rules::answer::Answer;
@@ -20,12 +20,10 @@ use store_enabled::Tables;
 use store_flags::Flags;
 ghost use Prim.Native.Nat.{_*_, _/_, _+_, _≤_, _<_};
 ghost use mathlib.Core.Path.{_≡_};
-ghost use mathlib.Core.Bool.{_&&_};
 ghost use lib.ListN.{length};
-ghost use Rattle.buffer.specs.Rows as Rows;
 ghost use Rattle.record.specs.GraphRecords.{graphOf};
 ghost use Rattle.record.specs.Arrays.{arraysOf};
-ghost use Rattle.record.specs.Widths.{tokenWidth, cellWidth, pickWidth, rangeTokenWidth, rangeCellWidth};
+ghost use Rattle.record.specs.Widths.{tokenWidth, cellWidth};
 ghost use Rattle.rules.specs.Run.{firstState};
 ghost use Rattle.rules.specs.RangeRun.{rangeCapacityOf, checkRangeStores, RangesRan};
 ghost use Rattle.abstraction.specs.Tables.{arraysIn};
@@ -467,20 +465,18 @@ fn with_inputs(
     )
 }
 
-fn all_whole(inputs: usize, picks: usize, ledger: usize, cells: usize) -> bool
-    ensures { λ r. ⌜ r ≡ (Rows.whole rangeTokenWidth 2048 inputs && (Rows.whole pickWidth 2048 picks && (Rows.whole rangeTokenWidth 2048 ledger && Rows.whole rangeCellWidth 1024 cells))) ⌝ }
-{
-    buffer::whole(range_output::TOKEN_WIDTH, token::MOST, inputs)
-        && (buffer::whole(pick::WIDTH, token::MOST, picks)
-            && (buffer::whole(range_output::TOKEN_WIDTH, token::MOST, ledger)
-                && buffer::whole(range_output::CELL_WIDTH, cell::MOST, cells)))
-}
-
 // Refusal 7, by the lengths in bytes.
 fn check_stores(inputs: usize, picks: usize, ledger: usize, cells: usize) -> Checked
     ensures { λ c. ⌜ c ≡ checkRangeStores inputs picks ledger cells ⌝ }
 {
-    if all_whole(inputs, picks, ledger, cells) {
+    if stores::all_whole(
+        range_output::TOKEN_WIDTH,
+        range_output::CELL_WIDTH,
+        inputs,
+        picks,
+        ledger,
+        cells,
+    ) {
         Checked::Passed
     } else {
         Checked::Failed(Refusal::BadStore, 0)

@@ -1,12 +1,17 @@
--- A pair is read back from its bytes, and is read from them alone; so a pair that is put behind the others is the table's last range. Assumes nothing.
+-- A pair is read back from its bytes, and is read from them alone; so a pair that is put behind the others is the table's last range. A range of two numbers
+-- that were read as bits (`range-of-bits`). Assumes nothing.
 use Prim.Native.Nat.{ℕ, suc, _+_, _*_, _≤_}
-use mathlib.Core.Path.{_≡_, refl, _∙_}
+use mathlib.Core.Path.{_≡_, refl, ap, _∙_}
 use mathlib.Core.List.{List, [], _∷_, _++_}
 use native.Mathlib.Numerals.{add-one}
 use native.Mathlib.Omega.{arith}
 use lib.ListN.{length, take, length-append, length-drop}
 use lib.Seq.{length-take-le}
-use Rattle.number.specs.Number.{bitsOf}
+use lib.IntN.{ℤ}
+use mir.Facts.{toZ-ofZ}
+use mir.Syntax.{w32}
+use mir.Val.{SFits, toZ, ofZ}
+use Rattle.number.specs.Number.{bitsOf, signedOf}
 use Rattle.number.proofs.Numbers.{number32-bytes, fits32, bits-fit, signed-bits}
 use Rattle.buffer.specs.Rows.{putRow}
 use Rattle.buffer.proofs.Tables.{rows-end}
@@ -14,6 +19,14 @@ use Rattle.record.proofs.Records.{front, own}
 use Rattle.arithmetic.specs.declared.Range.{Range}
 use Rattle.arithmetic.specs.Ranges.{FitsBits}
 use Rattle.range_table.specs.Table.{pairWidth, pairIn, pairBytes, tableOf}
+
+-- x and y are those of the numbers m and n, which were read as a and b
+pub range-of-bits : {x y : ℤ} {a b m n : ℕ} → SFits w32 x → x ≡ signedOf a → a ≡ m → SFits w32 y → y ≡ signedOf b → b ≡ n
+    → _≡_ {A = Range} (record { low = toZ w32 (ofZ w32 x); high = toZ w32 (ofZ w32 y) }) (record { low = signedOf m; high = signedOf n })
+range-of-bits f p q g r s =
+    let low = p ∙ ap signedOf q in
+    let high = r ∙ ap signedOf s in
+    rw (toZ-ofZ f, toZ-ofZ g) (λ i. record { low = low i; high = high i })
 
 pub length-pair : (r : Range) → length (pairBytes r) ≡ pairWidth
 unfolding pairBytes

@@ -59,7 +59,7 @@ pub fn decode(s: &[u8]) -> Token
     }
 }
 
-fn state_of(content: Content) -> u8
+pub fn state_of(content: Content) -> u8
     ensures { λ r. ⌜ r ≡ stateOf content ⌝ }
 {
     match content {

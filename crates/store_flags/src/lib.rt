@@ -31,7 +31,7 @@ fn raised(word: u64, k: usize) -> u64
 }
 
 // The word with flag k, which is raised, lowered.
-fn lowered(word: u64, k: usize) -> u64
+pub fn lowered(word: u64, k: usize) -> u64
     requires { ⌜ (k < 64) × (getD (inWord word) k 0 ≡ 1) ⌝ }
     ensures { λ r. ⌜ inWord r ≡ set (inWord word) k 0 ⌝ }
 {
@@ -62,7 +62,7 @@ fn has_none(word: u64) -> bool
 }
 
 // The place of the first one.
-fn lowest(word: u64) -> usize
+pub fn lowest(word: u64) -> usize
     requires { ⌜ 0 < word ⌝ }
     ensures { λ r. ⌜ (r ≡ place 0 (inWord word)) × (r < 64) ⌝ }
 {

@@ -18,7 +18,9 @@ use Rattle.number.proofs.Numbers.{bits-signed}
 use Rattle.buffer.specs.Rows.{rows}
 use Rattle.buffer.proofs.Tables.{length-rows, getD-rows}
 use Rattle.record.specs.TokensAndTags as Tokens
-use Rattle.record.specs.TokensAndTags.{contentOf, valueIn}
+use Rattle.record.specs.TokensAndTags.{contentOf, stateOf, valueIn}
+use Rattle.record.specs.declared.token.Content.{Content}
+use Rattle.record.specs.declared.token.Content.the-variants.{Live, Spent, Deferred}
 use Rattle.record.specs.Cells as Cells
 use Rattle.record.specs.declared.cell.Cell.the-variants.{Absent}
 use Rattle.record.specs.Widths.{tokenWidth, cellWidth}
@@ -102,6 +104,13 @@ module _ (b state : ℕ) where
   pub word-deferred : (state ≡ 0 → ⊥) → (state ≡ 1 → ⊥) → stateWord (contentOf b state) ≡ bytes "deferred"
   unfolding contentOf
   word-deferred n m = rw (ne-eqb state 0 n, ne-eqb state 1 m)
+
+-- the word goes by the state alone
+pub word-of-state : (x : Content) → stateWord (contentOf 0 (stateOf x)) ≡ stateWord x
+unfolding contentOf
+word-of-state (Live v) = refl
+word-of-state (Spent v) = refl
+word-of-state (Deferred cell) = refl
 
 -- ---- which line stands where
 

@@ -4,6 +4,7 @@ pub mod Paths
 pub mod Lines
 pub mod Whole
 pub mod Fields
+pub mod TokenFields
 pub mod Loosely
 pub mod Room
 pub mod Laws

@@ -3,6 +3,7 @@
 use crate::digits;
 use record::cell::Cell;
 use record::tag::Path;
+use record::token;
 use record::token::Content;
 use record::token::Token;
 use rules::answer;
@@ -195,18 +196,6 @@ fn value_in(content: Content) -> i32
     }
 }
 
-// Puts the state word of a token, which ends its line.
-fn put_state(out: &mut [u8], at: usize, content: Content) -> usize
-    requires { ⌜ RoomForText (now out) at (stateWord content ++ 10 ∷ []) ⌝ }
-    ensures { λ r. ⌜ AddedText (now (out .entry)) (now (out .exit)) at r (stateWord content ++ 10 ∷ []) ⌝ }
-{
-    match content {
-        Content::Live(_) => put_word(out, at, b"live", b'\n'),
-        Content::Spent(_) => put_word(out, at, b"spent", b'\n'),
-        Content::Deferred(_) => put_word(out, at, b"deferred", b'\n'),
-    }
-}
-
 // Puts a number below 1000 and a space: where it has more than one digit, those of the table.
 fn put_small(out: &mut [u8], at: usize, small: &[u32; 1000], n: usize) -> usize
     requires { ⌜ (n < 1000) × Table (now small) × RoomForText (now out) at (decimal n ++ 32 ∷ []) ⌝ }
@@ -382,7 +371,7 @@ pub fn put_token(out: &mut [u8], at: usize, t: Token) -> usize
     let instruction = put_number(out, iteration, tag.instruction as u64, b' ');
     let port = put_number(out, instruction, t.port as u64, b' ');
     let value = put_signed(out, port, value_in(content), b' ');
-    put_state(out, value, content)
+    put_state_of(out, value, 0, token::state_of(content))
 }
 
 // Puts the line of cell k with a state word and a value.

@@ -1,25 +1,14 @@
 -- `abi::refusal_of` meets its contract: an arm's number computes to its refusal, and the last arm's is no refusal's. Assumes nothing.
-use mathlib.Core.Path.{_≡_, refl, sym}
-use mathlib.Core.List.{List, [], _∷_}
-use Prim.Native.Nat.{ℕ}
-use borrow.Author.Tests.{ne-eqb}
 use Rattle.rules.specs.Answer.{numberOf}
-use Rattle.rules.specs.declared.answer.Refusal.{Refusal}
-use Rattle.abi.specs.declared.Numbered.the-variants.{NoRefusal}
-use Rattle.abi.specs.Numbers.{refusals, refusalWith, refusalOf}
-use Rattle.record.proofs.LastArm.{Absent, onto, turned}
+use Rattle.abi.specs.declared.Numbered.the-variants.{One, NoRefusal}
+use Rattle.abi.specs.Numbers.{refusals, refusalOf}
+use Rattle.record.proofs.LastArm.{last-arm}
 use Rattle.abi.proofs.refusal_of.Statement.{statement}
 use Rattle.abi.proofs.refusal_of.Tie as tie
 
-absent : (rs : List Refusal) (n : ℕ) → Absent numberOf rs n → refusalWith rs n ≡ NoRefusal
-absent [] n h = refl
-absent (r ∷ rs) n h = rw (ne-eqb n (numberOf r) (h .0)) (absent rs n (h .1))
-
 pub refusal-of-spec : {M : Type 1} → statement M
 unfolding refusalOf
-refusal-of-spec =
-    tie.close
-    (tie.spec
+refusal-of-spec = tie.close (tie.spec
     (λ c. rw (c .match .keys1))  -- returns
     (λ c. rw (c .match .keys2))  -- returns-2
     (λ c. rw (c .match .keys3))  -- returns-3
@@ -44,4 +33,4 @@ refusal-of-spec =
     (λ c. rw (c .match .keys22))  -- returns-22
     (λ c. rw (c .match .keys23))  -- returns-23
     (λ c. rw (c .match .keys24))  -- returns-24
-    (λ c. sym (absent refusals (c .before .args .word) (turned numberOf (onto numberOf refusals []) [] (c .before .args .word) (c .match .rest) tt))))  -- returns-25
+    (λ c. last-arm numberOf One (λ n. NoRefusal) refusals (c .before .args .word) (c .match .rest)))  -- returns-25

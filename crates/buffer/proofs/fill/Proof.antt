@@ -1,9 +1,8 @@
 -- `buffer::fill` meets its contract. The invariant: the first i bytes are those of `src`, and `dst` keeps its length. Assumes nothing.
 use native.Mathlib.Omega.{arith}
 use Prim.Native.Nat.{_-_}
-use mathlib.Core.Path.{refl}
 use lib.ListN.{length}
-use Rattle.buffer.proofs.Copies.{Copied, copied-more, copied-all}
+use Rattle.buffer.proofs.Copies.{Copied, copied-none, copied-more, copied-all}
 use Rattle.buffer.proofs.fill.Statement.{statement}
 use Rattle.buffer.proofs.fill.Tie as tie
 
@@ -17,15 +16,11 @@ pub fill-spec : {M : Type 1} → statement M
 fill-spec = tie.close (tie.spec
     Inv-loop
     μ-loop
-    (λ c. (omega arith, c .pre, refl))  -- loop-holds
+    (λ c. copied-none (c .pre))  -- loop-holds
     (λ c. omega arith)  -- shared-slice-read-dst
     (λ c. omega arith)  -- slice-write-dst
     (λ c. omega arith)  -- add-i
     (λ c. omega arith)  -- loop-less
-    (λ c.  -- loop-again
-    let l = c .before .before .loop in
-    copied-more (c .before .before .before .args .src .now) (l .dst) (l .i) (l .inv) (omega arith))
+    (λ c. copied-more (c .before .before .loop .inv) (omega arith))  -- loop-again
     (λ c. omega arith)  -- same-length
-    (λ c.  -- returns
-    let l = c .before .loop in
-    copied-all (c .before .before .args .src .now) (l .dst) (l .i) (l .inv) (omega arith)))
+    (λ c. copied-all (c .before .loop .inv) (omega arith)))  -- returns

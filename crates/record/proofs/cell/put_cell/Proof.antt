@@ -1,18 +1,12 @@
 -- `record::cell::put_cell` meets its contract. Assumes nothing.
-use mathlib.Core.Path.{_∙_}
 use borrow.Author.Needs.{needs}
 use Rattle.record.proofs.cell.put_cell.Statement.{statement}
 use Rattle.record.proofs.cell.put_cell.Tie as tie
 
 pub put-cell-spec : {M : Type 1} → statement M
-put-cell-spec =
-    tie.close
-    (tie.spec
+put-cell-spec = tie.close (tie.spec
     (λ c κs. search needs)  -- encode-requires
     (λ c. search needs)  -- slice-aggregate-put-row
     (λ c κs. search needs)  -- put-row-requires
     (λ c. search needs)  -- same-length
-    (λ c.  -- returns
-    let d = c .before .before in
-    let e = d .before .before .before .encode in
-    (d .put-row .ensures ∙ rw (e .ensures .0), e .ensures .1)))
+    (λ c. (cc, c .before .before .before .before .before .encode .ensures .1)))  -- returns

@@ -1,26 +1,13 @@
 -- `record::operation::decode` meets its contract: an arm's code computes to its row, and the last arm's is in no row. Assumes nothing.
-use mathlib.Core.Path.{_≡_, refl, sym}
-use mathlib.Core.List.{List, [], _∷_}
-use Prim.Native.Nat.{ℕ}
-use borrow.Author.Tests.{ne-eqb}
-use Rattle.record.specs.declared.operation.Operation.the-variants.{Unknown}
-use Rattle.record.specs.GraphRecords.{Row, table, rowWith, rowOf}
-use Rattle.record.proofs.LastArm.{Absent, onto, turned}
+use mathlib.Core.Path.{ap}
+use Rattle.record.specs.GraphRecords.{Row, table, noRow, rowOf}
+use Rattle.record.proofs.LastArm.{last-arm}
 use Rattle.record.proofs.operation.decode.Statement.{statement}
 use Rattle.record.proofs.operation.decode.Tie as tie
 
-abbrev code : Row → ℕ
-code r = r .code
-
-absent : (rs : List Row) (n : ℕ) → Absent code rs n → rowWith rs n .operation ≡ Unknown
-absent [] n h = refl
-absent (r ∷ rs) n h = rw (ne-eqb n (r .code) (h .0)) (absent rs n (h .1))
-
 pub decode-spec : {M : Type 1} → statement M
 unfolding rowOf
-decode-spec =
-    tie.close
-    (tie.spec
+decode-spec = tie.close (tie.spec
     (λ c. rw (c .match .keys1))  -- returns
     (λ c. rw (c .match .keys2))  -- returns-2
     (λ c. rw (c .match .keys3))  -- returns-3
@@ -48,4 +35,4 @@ decode-spec =
     (λ c. rw (c .match .keys25))  -- returns-25
     (λ c. rw (c .match .keys26))  -- returns-26
     (λ c. rw (c .match .keys27))  -- returns-27
-    (λ c. sym (absent table (c .before .args .code) (turned code (onto code table []) [] (c .before .args .code) (c .match .rest) tt))))  -- returns-28
+    (λ c. ap (λ (r : Row). r .operation) (last-arm (λ (r : Row). r .code) (λ r. r) noRow table (c .before .args .code) (c .match .rest))))  -- returns-28
