@@ -3,7 +3,6 @@ pub mod choice;
 pub mod turns;
 
 use crate::turns::Going;
-use checks::arrays;
 use checks::bound;
 use checks::graph;
 use checks::stores;
@@ -128,15 +127,8 @@ fn check_lent(
 ) -> Checked
     ensures { λ r. ⌜ r ≡ resumeLentChecked (now (graph .entry)) (now (arrays .entry)) picks bound ledger cells ⌝ }
 {
-    let of_graph = graph::check(graph);
-    let Checked::Passed = of_graph else {
-        return of_graph;
-    };
     let of_stores = bound::check(stores::check(0, picks, ledger, cells), bound);
-    let Checked::Passed = of_stores else {
-        return of_stores;
-    };
-    arrays::check(graph, arrays, cells / cell::WIDTH)
+    checks::check_lent(graph, arrays, of_stores, cells / cell::WIDTH)
 }
 
 // 02, R-13: a saved state is taken, and the run goes on from it; or it is refused by 24.

@@ -4,9 +4,7 @@ pub mod turns;
 
 use crate::turns::Going;
 use crate::turns::Ran;
-use checks::arrays;
 use checks::bound;
-use checks::graph;
 use record::cell;
 use record::pick;
 use record::token;
@@ -257,15 +255,8 @@ fn check_lent(
 ) -> Checked
     ensures { λ r. ⌜ r ≡ rangesLentChecked (now (graph .entry)) (now (arrays .entry)) inputs picks bound ledger cells ⌝ }
 {
-    let of_graph = graph::check(graph);
-    let Checked::Passed = of_graph else {
-        return of_graph;
-    };
     let of_stores = bound::check(check_stores(inputs, picks, ledger, cells), bound);
-    let Checked::Passed = of_stores else {
-        return of_stores;
-    };
-    arrays::check(graph, arrays, cells / range_output::CELL_WIDTH)
+    checks::check_lent(graph, arrays, of_stores, cells / range_output::CELL_WIDTH)
 }
 
 // A range run over lent bytes: its answer, and what it leaves in ledger and cells, are what the rules give. The bound is 0 for none.
