@@ -1,9 +1,9 @@
--- `fire_operands::beside` meets its contract. Assumes nothing.
+-- `fire_commit::admit::beside` meets its contract. Assumes nothing.
 use mathlib.Core.Path.{sym, ap, _∙_}
 use borrow.Author.Needs.{needs}
-use Rattle.fire_operands.proofs.Slots.{open-apart, open-beside}
-use Rattle.fire_operands.proofs.beside.Statement.{statement}
-use Rattle.fire_operands.proofs.beside.Tie as tie
+use Rattle.fire_commit.proofs.Slots.{open-apart, open-beside}
+use Rattle.fire_commit.proofs.admit.beside.Statement.{statement}
+use Rattle.fire_commit.proofs.admit.beside.Tie as tie
 
 pub beside-spec : {M : Type 1} → statement M
 beside-spec = tie.close (tie.spec

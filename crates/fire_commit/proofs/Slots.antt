@@ -18,7 +18,8 @@ use Rattle.store_chains.proofs.Search.{first-added, first-past, first-none-adde
 use Rattle.store_chains.proofs.Index.{stands-off, stands-other-port}
 use Rattle.store_enabled.proofs.Right.{tag-equal}
 use Rattle.fire_effect.specs.declared.output.Key.{Key}
-use Rattle.fire_operands.specs.Operands.{LowPortsBy, tokenOut, sameKeys, OpenKeysBy}
+use Rattle.fire_outputs.specs.Outputs.{LowPortsBy, tokenOut, OpenKeysBy}
+use Rattle.fire_commit.specs.Admitted.{sameKeys}
 
 module _ (j k : Key) (s : Slot) (ts : List Token) (x : Content) (low : (j .port < 2) × (k .port < 2)) (apart : sameKeys j k ≡ false) (free : Free ts (j .tag) (j .port)) (o : Open ts (k .tag) (k .port) s) where
   abbrev out : Token

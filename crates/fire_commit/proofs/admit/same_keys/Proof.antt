@@ -1,9 +1,9 @@
--- `fire_operands::same_keys` meets its contract. Assumes nothing.
+-- `fire_commit::admit::same_keys` meets its contract. Assumes nothing.
 use borrow.Author.Needs.{needs}
 use borrow.Author.Tests.{eq-eqb, ne-eqb}
-use Rattle.fire_operands.specs.Operands.{sameKeys}
-use Rattle.fire_operands.proofs.same_keys.Statement.{statement}
-use Rattle.fire_operands.proofs.same_keys.Tie as tie
+use Rattle.fire_commit.specs.Admitted.{sameKeys}
+use Rattle.fire_commit.proofs.admit.same_keys.Statement.{statement}
+use Rattle.fire_commit.proofs.admit.same_keys.Tie as tie
 
 pub same-keys-spec : {M : Type 1} → statement M
 unfolding sameKeys

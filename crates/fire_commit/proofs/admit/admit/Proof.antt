@@ -1,4 +1,4 @@
--- `fire_operands::admit` meets its contract. Assumes nothing.
+-- `fire_commit::admit::admit` meets its contract. Assumes nothing.
 use Prim.Native.Nat.{_<_}
 use mathlib.Core.Path.{_≡_, sym, _∙_}
 use borrow.Author.Needs.{needs}
@@ -9,10 +9,10 @@ use Rattle.record.specs.Widths.{tokenWidth}
 use Rattle.store_chains.specs.declared.Slot.{Slot}
 use Rattle.store_chains.specs.declared.Sought.the-variants as Sought
 use Rattle.store_chains.specs.Slots.{Open}
-use Rattle.fire_operands.specs.Operands.{isTaken, anyTakenOf, admittedOf}
-use Rattle.fire_operands.proofs.Slots.{low-first, low-second, open-two}
-use Rattle.fire_operands.proofs.admit.Statement.{statement}
-use Rattle.fire_operands.proofs.admit.Tie as tie
+use Rattle.fire_commit.specs.Admitted.{isTaken, anyTakenOf, admittedOf}
+use Rattle.fire_commit.proofs.Slots.{low-first, low-second, open-two}
+use Rattle.fire_commit.proofs.admit.admit.Statement.{statement}
+use Rattle.fire_commit.proofs.admit.admit.Tie as tie
 
 -- the first output may arrive
 opened : (k : tie.After-seek) {s : Slot} → k .seek .result ≡ Sought.Free s → let a = k .before .before .before .before .before .before .before .before .before .args in Open (tokens (a .used) (a .ledger .now)) (a .outputs .first .tag) (a .outputs .first .port) s
