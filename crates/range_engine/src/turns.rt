@@ -5,13 +5,13 @@ use engine::choice::Order;
 use engine::turns;
 use engine::turns::Turn;
 use fire_commit::Fired;
-use rules::answer;
 use rules::answer::Answer;
 use rules::answer::Outcome;
 use store_chains::Links;
 use store_enabled::Tables;
 use store_flags::Flags;
 ghost use Prim.Native.Nat.{_/_, _<_};
+ghost use mathlib.Core.Path.{_≡_};
 ghost use lib.ListN.{length};
 ghost use Rattle.record.specs.GraphRecords.{graphOf};
 ghost use Rattle.record.specs.Widths.{tokenWidth, cellWidth};
@@ -39,6 +39,18 @@ pub struct Going {
 pub struct Ran {
     pub answer: Answer,
     pub count: usize,
+}
+
+// The answer, with the number of ranges.
+fn answered(outcome: Outcome, firings: usize, tokens: usize, count: usize) -> Ran
+    ensures { λ r. ⌜ r ≡ record { answer = record { outcome = outcome; firings = firings; tokens = tokens }; count = count } ⌝ }
+{
+    let answer = Answer {
+        outcome,
+        firings,
+        tokens,
+    };
+    Ran { answer, count }
 }
 
 // The activity that is chosen fires over handles.
@@ -180,19 +192,11 @@ fn turns(
                 used = n;
                 firings += 1;
             }
-            Turn::Ended(outcome) => {
-                return Ran {
-                    answer: answer::answered(outcome, firings, used),
-                    count,
-                }
-            }
+            Turn::Ended(outcome) => return answered(outcome, firings, used, count),
         }
     }
     let outcome = ending::rest(tables, flags, ledger, used);
-    Ran {
-        answer: answer::answered(outcome, firings, used),
-        count,
-    }
+    answered(outcome, firings, used, count)
 }
 
 // A run goes on from a state under picks, with a bound or, where it is 0, without one. No other function calls the loop, so the compiler makes it part of
