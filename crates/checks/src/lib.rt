@@ -14,22 +14,13 @@ ghost use Rattle.record.specs.GraphRecords.{graphOf};
 ghost use Rattle.record.specs.TokensAndTags.{capacityOf};
 ghost use Rattle.record.specs.Widths.{cellWidth};
 ghost use Rattle.rules.specs.Check as Rules;
-ghost use Rattle.rules.specs.Check.{_andThen_, checkGraph, checkArrays, checkInputs};
+ghost use Rattle.rules.specs.Check.{_andThen_, checkGraph, checkArrays, checkInputs, checkWith};
 ghost use Rattle.rules.specs.Bounded.{checkBounded, checkBoundLogged};
 
-// The graph, what the check of the stores and of the bound said, the table of named arrays, and the inputs; the ledger
-// and the cells by their lengths in bytes.
-fn in_order(
-    graph: &[u8],
-    arrays: &[u8],
-    lent: Checked,
-    inputs: &[u8],
-    ledger: usize,
-    cells: usize,
-) -> Checked
-    ensures { λ r. ⌜ r
-        ≡ (checkGraph (now (graph .entry)) andThen lent andThen checkArrays (graphOf (now (graph .entry))) (cells / cellWidth) (now (arrays .entry))
-        andThen checkInputs (graphOf (now (graph .entry))) (capacityOf ledger) (now (inputs .entry))) ⌝ }
+// What is checked before the inputs or a saved state: the graph, what the check of the stores and of the bound said, and the
+// table of named arrays for this number of cells. The order stands here, for every kind of run.
+pub fn check_lent(graph: &[u8], arrays: &[u8], lent: Checked, cells: usize) -> Checked
+    ensures { λ r. ⌜ r ≡ (checkGraph (now (graph .entry)) andThen lent andThen checkArrays (graphOf (now (graph .entry))) cells (now (arrays .entry))) ⌝ }
 {
     let of_graph = graph::check(graph);
     let Checked::Passed = of_graph else {
@@ -38,9 +29,25 @@ fn in_order(
     let Checked::Passed = lent else {
         return lent;
     };
-    let of_arrays = arrays::check(graph, arrays, cells / cell::WIDTH);
-    let Checked::Passed = of_arrays else {
-        return of_arrays;
+    arrays::check(graph, arrays, cells)
+}
+
+// The same, and last the inputs; the ledger and the cells by their lengths in bytes.
+pub fn check_with(
+    graph: &[u8],
+    arrays: &[u8],
+    lent: Checked,
+    inputs: &[u8],
+    ledger: usize,
+    cells: usize,
+) -> Checked
+    ensures { λ r. ⌜ r
+        ≡ checkWith (now (graph .entry)) (now (arrays .entry)) (cells / cellWidth) lent
+        (checkInputs (graphOf (now (graph .entry))) (capacityOf ledger) (now (inputs .entry))) ⌝ }
+{
+    let before = check_lent(graph, arrays, lent, cells / cell::WIDTH);
+    let Checked::Passed = before else {
+        return before;
     };
     check_inputs::check(graph, inputs, ledger / token::WIDTH)
 }
@@ -57,7 +64,7 @@ pub fn check(
     ensures { λ r. ⌜ r ≡ Rules.check (now (graph .entry)) (now (arrays .entry)) (now (inputs .entry)) (now (picks .entry)) ledger cells ⌝ }
 {
     let of_stores = stores::check(inputs.len(), picks.len(), ledger, cells);
-    in_order(graph, arrays, of_stores, inputs, ledger, cells)
+    check_with(graph, arrays, of_stores, inputs, ledger, cells)
 }
 
 // The same of a run with a bound.
@@ -74,7 +81,7 @@ pub fn check_bounded(
 {
     let of_stores = stores::check(inputs.len(), picks.len(), ledger, cells);
     let of_bound = bound::check(of_stores, bound);
-    in_order(graph, arrays, of_bound, inputs, ledger, cells)
+    check_with(graph, arrays, of_bound, inputs, ledger, cells)
 }
 
 // The same of one that writes a log, by its length in bytes too.
@@ -93,5 +100,5 @@ pub fn check_logged(
 {
     let of_stores = stores::check_logged(inputs.len(), picks.len(), ledger, cells, budget, log);
     let of_bound = bound::check(of_stores, bound);
-    in_order(graph, arrays, of_bound, inputs, ledger, cells)
+    check_with(graph, arrays, of_bound, inputs, ledger, cells)
 }

@@ -37,8 +37,8 @@ use Rattle.fire.specs.Running.{machineOver, stateIn}
 use Rattle.start.specs.Begun.{machineLent, Accepted, Begun}
 use Rattle.start.specs.Ended.{EndedAt}
 use Rattle.start.proofs.Starting.{from-start, as-lent}
-use Rattle.engine.specs.declared.Order.{Order}
-use Rattle.engine.specs.declared.Order.the-variants.{Oldest, Picks, Log, Free}
+use Rattle.engine.specs.declared.choice.Order.{Order}
+use Rattle.engine.specs.declared.choice.Order.the-variants.{Oldest, Picks, Log, Free}
 use Rattle.engine.specs.Turns.{ByPicks, Plain, ByBound, BoundFits, endOf, firedBy, recorded, Proceeded, endBy, endBounded, firedBounded, endFromInputs, firedFromInputs}
 use Rattle.engine.proofs.Looping.{ended-at}
 

@@ -46,8 +46,8 @@ use Rattle.held.proofs.Deciding.{places-one, among}
 use Rattle.held.proofs.Following.{carried-later, carried-none}
 use Rattle.held.proofs.Free.{held-under, free-places}
 use Rattle.held.proofs.Fired.{went-later, flags-unspent}
-use Rattle.engine.specs.declared.Order.{Order}
-use Rattle.engine.specs.declared.Order.the-variants.{Oldest, Picks, Log, Free}
+use Rattle.engine.specs.declared.choice.Order.{Order}
+use Rattle.engine.specs.declared.choice.Order.the-variants.{Oldest, Picks, Log, Free}
 use Rattle.engine.specs.Turns.{BoundFits, HeldBeside, HeldBack, Bounding, Followed, FiredOn, TakesPlace, Ends, endOf, Proceeded, Settled, restsThere, asItWas, SettledBy, endBy}
 use Rattle.engine.proofs.Choosing.{getD-map, taken-there}
 

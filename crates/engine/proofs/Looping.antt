@@ -29,7 +29,7 @@ use Rattle.ending.specs.Endings.{RestsAs}
 use Rattle.ending.proofs.Laws.{rests-there}
 use Rattle.start.specs.Ended.{EndedAt}
 use Rattle.start.proofs.Ending.{left}
-use Rattle.engine.specs.declared.Order.{Order}
+use Rattle.engine.specs.declared.choice.Order.{Order}
 use Rattle.engine.specs.Turns.{chooserOf, chooserFor, Advanced, Stops, byChoice, byRefusal, Halted, endOf, firedBy, logNoted, recorded, Proceeded}
 use Rattle.engine.proofs.Recording.{recorded-none, length-recorded, noted-next}
 

@@ -24,8 +24,8 @@ use Rattle.abstraction.specs.States.{noToken}
 use Rattle.abstraction.specs.Tables.{arraysIn}
 use Rattle.fire_outputs.specs.Outputs.{cellsIn}
 use Rattle.fire.specs.Running.{machineOver, stateIn, Running, Went, Stopped, Prepared}
-use Rattle.engine.specs.declared.Order.{Order}
-use Rattle.engine.specs.declared.Choice.{Choice}
+use Rattle.engine.specs.declared.choice.Order.{Order}
+use Rattle.engine.specs.declared.choice.Choice.{Choice}
 use Rattle.engine.specs.Turns.{chooserFor, HeldBack, Chooses, ChosenAs, TakesPlace, Ends, Advanced, byChoice, byRefusal, Halted}
 use Rattle.engine.proofs.Choosing.{getD-map}
 use Rattle.engine.proofs.Places.{keys-kept}

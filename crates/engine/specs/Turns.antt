@@ -36,12 +36,12 @@ use Rattle.ending.specs.Endings.{EndsWith}
 use Rattle.held.specs.Deciding.{FlagsUnspent, HeldDecided, Carried, HeldKept}
 use Rattle.start.specs.Begun.{machineLent}
 use Rattle.fire.specs.Running.{machineOver, stateIn, Arrived, Running, Went}
-use Rattle.engine.specs.declared.Order.{Order}
-use Rattle.engine.specs.declared.Order.the-variants as Orders
-use Rattle.engine.specs.declared.Choice.{Choice}
-use Rattle.engine.specs.declared.Choice.the-variants as Choices
-use Rattle.engine.specs.declared.Turn.{Turn}
-use Rattle.engine.specs.declared.Turn.the-variants as Turns
+use Rattle.engine.specs.declared.choice.Order.{Order}
+use Rattle.engine.specs.declared.choice.Order.the-variants as Orders
+use Rattle.engine.specs.declared.choice.Choice.{Choice}
+use Rattle.engine.specs.declared.choice.Choice.the-variants as Choices
+use Rattle.engine.specs.declared.turns.Turn.{Turn}
+use Rattle.engine.specs.declared.turns.Turn.the-variants as Turns
 
 -- ---- who chooses
 

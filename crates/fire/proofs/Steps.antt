@@ -45,12 +45,13 @@ use Rattle.store_chains.proofs.Index.{and-left}
 use Rattle.store_enabled.specs.Enabled.{arityOf, isEnabled, earliestOf, leadsIn}
 use Rattle.abstraction.specs.Tables.{arraysIn}
 use Rattle.abstraction.specs.States.{noToken, stateHeld}
-use Rattle.fire_operands.specs.Operands.{Matched, Both, byPort, bothAt, matchedAt, LowPortsBy, Verdict, Yes, No, admittedOf}
+use Rattle.fire_operands.specs.Operands.{Matched, Both, byPort, bothAt, matchedAt}
 use Rattle.fire_operands.proofs.AsMachine.{valuesOf, Places, matched-places, held-operands}
-use Rattle.fire_outputs.specs.Outputs.{spendOne, spentAt, outputsBy, outputTokens, cellsIn, OnCells, contentGiven, cellsBy, wokenBy, writesAgain, Kept, CellsKept, Fireable}
+use Rattle.fire_outputs.specs.Outputs.{spendOne, spentAt, outputsBy, outputTokens, LowPortsBy, cellsIn, OnCells, contentGiven, cellsBy, wokenBy, writesAgain, Kept, CellsKept, Fireable}
 use Rattle.fire_outputs.proofs.Laws.{spent-by-port}
 use Rattle.fire_commit.specs.declared.Fired.{Fired}
 use Rattle.fire_commit.specs.declared.Fired.the-variants as Fires
+use Rattle.fire_commit.specs.Admitted.{Verdict, Yes, No, admittedOf}
 use Rattle.fire_commit.specs.Commit.{Committed, done, refused, ifAdmitted, committedOf, CommittedTo, Fitting}
 use Rattle.fire_commit.proofs.AsMachine.{firedOf, commit-held}
 use Rattle.fire.proofs.Place.{place-here, operands-here}

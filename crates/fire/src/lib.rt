@@ -68,14 +68,8 @@ pub fn fire(
     let r = instruction::instruction_at(graph, tag.instruction as usize);
     let o = operation::decode(r.code);
     // Operation.
-    let operated = operate::operate(
-        tables,
-        o,
-        r.constant,
-        cells.len() / cell::WIDTH,
-        left,
-        right,
-    );
+    let size = cells.len() / cell::WIDTH;
+    let operated = operate::operate(tables, o, r.constant, size, left, right);
     let action = match operated {
         Operated::Refuse(refusal) => return Fired::Refused(refusal),
         Operated::Act(action) => action,

@@ -26,12 +26,13 @@ use Rattle.fire_effect.specs.declared.operate.Action.{Action}
 use Rattle.fire_effect.specs.declared.operate.Action.the-variants.{Send, Read, Write}
 use Rattle.fire_effect.specs.Effects.{outputKeys, actionHeld}
 use Rattle.abstraction.specs.States.{cellHeld, stateHeld}
-use Rattle.fire_operands.specs.Operands.{Verdict, Yes, No, admittedOf}
-use Rattle.fire_operands.proofs.AsMachine.{byAdmitted, Places, held-admitted}
+use Rattle.fire_operands.proofs.AsMachine.{Places}
 use Rattle.fire_outputs.specs.Outputs.{spentAt, outputTokens, cellsFetched, contentFetched, isPresent}
 use Rattle.fire_outputs.proofs.Spent.{map-map, spent-one, spent-two}
 use Rattle.fire_outputs.proofs.AsMachine.{outputs-held, woken-held, cell-held, set-held, fetched-cell, fetched-content}
+use Rattle.fire_commit.specs.Admitted.{Verdict, Yes, No, admittedOf}
 use Rattle.fire_commit.specs.Commit.{Committed, done, refused, ifAdmitted, committedOf}
+use Rattle.fire_commit.proofs.Admitting.{byAdmitted, held-admitted}
 
 -- in the terms of the machine
 abbrev pub firedOf : Committed → Fired Refusal Tag ℤ

@@ -16,8 +16,8 @@ use Rattle.rules.specs.declared.answer.Refusal.{Refusal}
 use Rattle.rules.specs.declared.answer.Refusal.the-variants.{LedgerFull, SecondToken, SecondWrite}
 use Rattle.fire_effect.specs.declared.output.Outputs.{Outputs}
 use Rattle.fire_effect.specs.declared.operate.Action.{Action}
-use Rattle.fire_operands.specs.Operands.{anyTakenOf, Verdict, Yes, No, admittedOf}
 use Rattle.fire_outputs.specs.Outputs.{spentAt, outputTokens, contentGiven, cellsBy, wokenBy, writesAgain, Kept, CellsKept, Fireable}
+use Rattle.fire_commit.specs.Admitted.{anyTakenOf, Verdict, Yes, No, admittedOf}
 use Rattle.fire_commit.specs.Commit.{Committed, done, refused, ifAdmitted, committedOf, CommittedTo}
 use Rattle.fire_commit.specs.declared.Fired.the-variants as Fires
 

@@ -1,3 +1,5 @@
--- The proofs of what comes of an action and its outputs. Assumes nothing.
+-- The proofs of whether outputs can go into the ledger, and of what comes of an action and its outputs. Assumes nothing.
+pub mod Slots
+pub mod Admitting
 pub mod AsMachine
 pub mod Laws

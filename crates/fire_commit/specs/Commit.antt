@@ -12,8 +12,8 @@ use Rattle.fire_effect.specs.declared.output.Outputs.{Outputs}
 use Rattle.fire_effect.specs.declared.operate.Action.{Action}
 use Rattle.rules.specs.declared.answer.Refusal.{Refusal}
 use Rattle.rules.specs.declared.answer.Refusal.the-variants.{SecondWrite}
-use Rattle.fire_operands.specs.Operands.{Verdict, Yes, No, admittedOf}
 use Rattle.fire_outputs.specs.Outputs.{spentAt, outputTokens, LowPorts, OnCells, contentGiven, cellsBy, wokenBy, writesAgain, Kept, CellsKept}
+use Rattle.fire_commit.specs.Admitted.{Verdict, Yes, No, admittedOf}
 use Rattle.fire_commit.specs.declared.Fired.{Fired}
 use Rattle.fire_commit.specs.declared.Fired.the-variants as Fires
 

@@ -1,7 +1,9 @@
 // Output: the part of a firing that looks at ledger and cells and not at the instruction.
+pub mod admit;
+
+use crate::admit::Admitted;
 use fire_effect::operate::Action;
 use fire_effect::output::Outputs;
-use fire_operands::Admitted;
 use fire_outputs::Places;
 use rules::answer::Refusal;
 use store_chains::Links;
@@ -42,7 +44,7 @@ pub fn commit(
     if fire_outputs::writes_again(cells, action) {
         return Fired::Refused(Refusal::SecondWrite);
     }
-    let admitted = fire_operands::admit(links, ledger, used, sent);
+    let admitted = admit::admit(links, ledger, used, sent);
     match admitted {
         Admitted::No(r) => Fired::Refused(r),
         Admitted::Yes(first, second) => Fired::Done(fire_outputs::carry_out(

@@ -1,2 +1,2 @@
--- The definitions of the operands and of the outputs of a firing. Assumes nothing.
+-- The definitions of the operands of a firing. Assumes nothing.
 pub mod Operands

@@ -44,8 +44,8 @@ use Rattle.fire_effect.specs.declared.output.Outputs.{Outputs}
 use Rattle.fire_effect.specs.declared.operate.Action.{Action}
 use Rattle.fire_effect.specs.declared.operate.Action.the-variants.{Send, Read, Write}
 use Rattle.abstraction.specs.States.{noToken}
-use Rattle.fire_operands.specs.Operands.{byPort, LowPortsBy, OpenKeysBy}
-use Rattle.fire_outputs.specs.Outputs.{spendOne, spentAt, tokenOut, outputsBy, outputTokens, LowPorts, OpenKeys, cellsIn, CellStore, cellFetched, cellsFetched, contentFetched, isPresent, OnCells, contentGiven, wokenBy, writesAgain, Kept, CellsKept}
+use Rattle.fire_operands.specs.Operands.{byPort}
+use Rattle.fire_outputs.specs.Outputs.{spendOne, spentAt, tokenOut, outputsBy, outputTokens, LowPortsBy, LowPorts, OpenKeysBy, OpenKeys, cellsIn, CellStore, cellFetched, cellsFetched, contentFetched, isPresent, OnCells, contentGiven, wokenBy, writesAgain, Kept, CellsKept}
 
 -- ---- one record of a table is replaced
 

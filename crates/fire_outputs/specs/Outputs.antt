@@ -3,7 +3,7 @@
 use Prim.Native.Nat.{ℕ, zero, suc, _*_, _/_, _≤_, _<_}
 use mathlib.Core.Path.{_≡_}
 use mathlib.Core.Bool.{Bool, true, false, cond}
-use mathlib.Core.List.{List, [], _∷_, map}
+use mathlib.Core.List.{List, [], _∷_, _++_, map}
 use lib.ListN.{length, getD, set, drop}
 use lib.Dec.{eqb}
 use lib.IntN.{pos}
@@ -17,6 +17,8 @@ use Rattle.record.specs.TokensAndTags.{tokens}
 use Rattle.record.specs.Cells as Cells
 use Rattle.record.specs.Widths.{tokenWidth, cellWidth}
 use Rattle.store_flags.specs.Flags.{flagsOf}
+use Rattle.store_chains.specs.declared.Slot.{Slot}
+use Rattle.store_chains.specs.Slots.{Open}
 use Rattle.store_chains.specs.Deferred.{woken}
 use Rattle.store_enabled.specs.Store.{Spendable}
 use Rattle.store.specs.Matching.{spentToken, Matching}
@@ -25,7 +27,6 @@ use Rattle.fire_effect.specs.declared.operate.Action.the-variants.{Send, Read, 
 use Rattle.fire_effect.specs.declared.output.Key.{Key}
 use Rattle.fire_effect.specs.declared.output.Outputs.{Outputs}
 use Rattle.abstraction.specs.States.{noToken}
-pub use Rattle.fire_operands.specs.Operands.{tokenOut, LowPorts, OpenKeys}
 
 -- ---- the tokens
 
@@ -36,6 +37,9 @@ spendOne i ts = set ts i (spentToken (getD ts i noToken))
 unfoldable pub spentAt : (first second : ℕ) → List Token → List Token
 spentAt i j ts = cond (eqb i j) (spendOne i ts) (spendOne j (spendOne i ts))
 
+abbrev pub tokenOut : Content → Key → Token
+tokenOut x k = record { tag = k .tag; port = k .port; content = x }
+
 abbrev pub outputsBy : (count : ℕ) → (first second : Key) → Content → List Token
 outputsBy zero j k x = []
 outputsBy (suc zero) j k x = tokenOut x j ∷ []
@@ -44,6 +48,26 @@ outputsBy (suc (suc n)) j k x = tokenOut x j ∷ tokenOut x k ∷ []
 -- the outputs, destination 1 first, with one content
 abbrev pub outputTokens : Content → Outputs → List Token
 outputTokens x o = outputsBy (o .count) (o .first) (o .second) x
+
+-- ---- where the outputs may arrive
+
+abbrev pub LowPortsBy : (count : ℕ) → (first second : Key) → Type 0
+LowPortsBy zero j k = Unit {0}
+LowPortsBy (suc zero) j k = j .port < 2
+LowPortsBy (suc (suc n)) j k = (j .port < 2) × (k .port < 2)
+
+-- the outputs are at ports 0 and 1
+abbrev pub LowPorts : Outputs → Type 0
+LowPorts o = LowPortsBy (o .count) (o .first) (o .second)
+
+abbrev pub OpenKeysBy : List Token → (count : ℕ) → (first second : Key) → (s t : Slot) → Type 0
+OpenKeysBy ts zero j k s t = Unit {0}
+OpenKeysBy ts (suc zero) j k s t = Open ts (j .tag) (j .port) s
+OpenKeysBy ts (suc (suc n)) j k s t = Open ts (j .tag) (j .port) s × ((x : Content) → Open (ts ++ tokenOut x j ∷ []) (k .tag) (k .port) t)
+
+-- the outputs may arrive in two slots, the second once the first has arrived
+abbrev pub OpenKeys : List Token → Outputs → (s t : Slot) → Type 0
+OpenKeys ts o s t = OpenKeysBy ts (o .count) (o .first) (o .second) s t
 
 -- ---- the cells
 

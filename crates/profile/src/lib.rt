@@ -1,10 +1,7 @@
 // Profiles for the plotter (02, R-1): a run by ideal steps. In a step every activity that is enabled at its start fires, in ledger
 // order, and each whole step leaves a record.
-use checks::arrays;
-use checks::graph;
 use checks::stores;
 use fire_commit::Fired;
-use record::cell;
 use record::token;
 use rules::answer::Answer;
 use rules::answer::Checked;
@@ -78,19 +75,8 @@ fn check(
 ) -> Checked
     ensures { λ r. ⌜ r ≡ checkProfile (now (graph .entry)) (now (arrays .entry)) (now (inputs .entry)) ledger cells profile ⌝ }
 {
-    let of_graph = graph::check(graph);
-    let Checked::Passed = of_graph else {
-        return of_graph;
-    };
     let of_stores = check_stores(inputs.len(), ledger, cells, profile);
-    let Checked::Passed = of_stores else {
-        return of_stores;
-    };
-    let of_arrays = arrays::check(graph, arrays, cells / cell::WIDTH);
-    let Checked::Passed = of_arrays else {
-        return of_arrays;
-    };
-    check_inputs::check(graph, inputs, ledger / token::WIDTH)
+    checks::check_with(graph, arrays, of_stores, inputs, ledger, cells)
 }
 
 // The bytes of a step's record.

@@ -29,16 +29,16 @@ use Rattle.abstraction.specs.Tables.{Arities, arraysIn}
 use Rattle.store.proofs.Laws.{matching-few}
 use Rattle.fire.specs.Running.{machineOver, stateIn, Running, Prepared}
 use Rattle.ending.specs.Endings.{RestsAs}
-use Rattle.engine.specs.declared.Order.{Order}
-use Rattle.engine.specs.declared.Turn.{Turn}
-use Rattle.engine.specs.declared.Turn.the-variants as Turns
+use Rattle.engine.specs.declared.choice.Order.{Order}
+use Rattle.engine.specs.declared.turns.Turn.{Turn}
+use Rattle.engine.specs.declared.turns.Turn.the-variants as Turns
 use Rattle.engine.specs.Turns.{chooserOf, chooserFor, Bounding, FiredOn, Turned, Advanced, Stops, byChoice, byRefusal, Halted}
 use Rattle.engine.proofs.Bounding.{fired-on}
 use Rattle.engine.proofs.Looping.{Underway, none-fired, as-lent, went-on, ends-here, rests-here}
 use Rattle.range_table.specs.Table.{pairWidth, pairIn, tableOf}
 use Rattle.range_fire.specs.declared.Tried.{Tried}
 use Rattle.range_fire.specs.Tried.{RoomForOne, stepAt, TriedAs}
-use Rattle.range_engine.specs.declared.Ran.{Ran}
+use Rattle.range_engine.specs.declared.turns.Ran.{Ran}
 use Rattle.range_engine.specs.Over.{addedBy, TakenAs, Room, endOver, RanOver}
 use Rattle.range_engine.proofs.Stepping.{fires-step, step-below, step-one, went-few}
 

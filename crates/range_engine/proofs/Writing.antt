@@ -51,8 +51,8 @@ use Rattle.store.proofs.Laws.{matching-room}
 use Rattle.fire_outputs.specs.Outputs.{cellsIn}
 use Rattle.fire.specs.Running.{stateIn}
 use Rattle.start.specs.Begun.{Accepted, Begun}
-use Rattle.engine.specs.declared.Order.{Order}
-use Rattle.engine.specs.declared.Order.the-variants.{Oldest, Picks, Log, Free}
+use Rattle.engine.specs.declared.choice.Order.{Order}
+use Rattle.engine.specs.declared.choice.Order.the-variants.{Oldest, Picks, Log, Free}
 use Rattle.engine.specs.Turns.{chooserFor, ByPicks, ByBound, Bounding, Proceeded, SettledBy}
 use Rattle.engine.proofs.Bounding.{settled-end}
 use Rattle.range_table.specs.Table.{tableOf}
@@ -60,7 +60,7 @@ use Rattle.range_inputs.specs.Handles.{handlesOf, checkProper, Narrow}
 use Rattle.range_inputs.proofs.Rows.{fields-each, handles-count}
 use Rattle.range_inputs.proofs.First.{first-state}
 use Rattle.range_output.specs.Left.{tokensMeant, cellsMeant}
-use Rattle.range_engine.specs.declared.Ran.{Ran}
+use Rattle.range_engine.specs.declared.turns.Ran.{Ran}
 use Rattle.range_engine.specs.Over.{endOver, settledOver, rangeEnd, RanOver, AsRanges, Fits, StandsFor, Tells, ownBytes, storeBytes, AsManyHandles, LeftAs, Leaves, LentToRanges, withInputs, rangesLentChecked}
 use Rattle.range_engine.proofs.Telling.{told-plain, told-bounded}
 

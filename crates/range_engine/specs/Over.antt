@@ -34,11 +34,11 @@ use Rattle.rules.specs.RangeRun.{encodeRange, encodeRangeCell, rangeCapacityOf,
 use Rattle.rules.specs.RangeHandles.{StepHere, meaning, stepIn}
 use Rattle.abstraction.specs.Tables.{arraysIn}
 use Rattle.fire.specs.Running.{machineOver, stateIn}
-use Rattle.engine.specs.declared.Order.{Order}
+use Rattle.engine.specs.declared.choice.Order.{Order}
 use Rattle.engine.specs.Turns.{chooserFor, Turned, Proceeded}
 use Rattle.range_table.specs.Table.{pairWidth, tableOf}
-use Rattle.range_engine.specs.declared.Taken.{Taken}
-use Rattle.range_engine.specs.declared.Ran.{Ran}
+use Rattle.range_engine.specs.declared.turns.Taken.{Taken}
+use Rattle.range_engine.specs.declared.turns.Ran.{Ran}
 
 -- ---- a turn
 

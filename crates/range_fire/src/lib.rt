@@ -9,6 +9,7 @@ use record::cell;
 use record::instruction;
 use record::operation;
 use record::token;
+use rules::answer::Refusal;
 use store_chains::Links;
 use store_enabled::Tables;
 use store_flags::Flags;
@@ -18,6 +19,7 @@ ghost use mathlib.Core.Bool.{true};
 ghost use Rattle.record.specs.GraphRecords.{graphOf};
 ghost use Rattle.record.specs.TokensAndTags.{tokens, tokenAt};
 ghost use Rattle.store_enabled.specs.Enabled.{leadsIn};
+ghost use Rattle.fire_commit.specs.declared.Fired.the-variants.{Refused};
 ghost use Rattle.fire.specs.Running.{Prepared, Running};
 ghost use Rattle.range_table.specs.Table.{tableOf};
 ghost use Rattle.range_fire.specs.Tried.{RoomForOne, stepAt, TriedAs};
@@ -26,6 +28,16 @@ ghost use Rattle.range_fire.specs.Tried.{RoomForOne, stepAt, TriedAs};
 pub struct Tried {
     pub fired: Fired,
     pub count: usize,
+}
+
+// A refusal, with the ranges that the table has by then.
+fn refused(refusal: Refusal, count: usize) -> Tried
+    ensures { λ r. ⌜ r ≡ record { fired = Refused refusal; count = count } ⌝ }
+{
+    Tried {
+        fired: Fired::Refused(refusal),
+        count,
+    }
 }
 
 // The enabled activity whose place this is fires, or is refused with ledger and cells as they were.
@@ -67,36 +79,18 @@ pub fn fire(
     let o = operation::decode(r.code);
     // Operation.
     let control = range_table::meaning(table, count, right);
-    let asked = range_effect::operate(
-        tables,
-        table,
-        count,
-        o,
-        r.constant,
-        cells.len() / cell::WIDTH,
-        left,
-        right,
-    );
+    let size = cells.len() / cell::WIDTH;
+    let asked = range_effect::operate(tables, table, count, o, r.constant, size, left, right);
     let count = asked.count;
     let operated = asked.operated;
     let action = match operated {
-        Operated::Refuse(refusal) => {
-            return Tried {
-                fired: Fired::Refused(refusal),
-                count,
-            }
-        }
+        Operated::Refuse(refusal) => return refused(refusal, count),
         Operated::Act(action) => action,
     };
     // New tags.
     let made = tags::new_tags(graph, tables, o, tag, r, control.low);
     let outputs = match made {
-        NewTags::Refuse(refusal) => {
-            return Tried {
-                fired: Fired::Refused(refusal),
-                count,
-            }
-        }
+        NewTags::Refuse(refusal) => return refused(refusal, count),
         NewTags::To(outputs) => outputs,
     };
     // Output.

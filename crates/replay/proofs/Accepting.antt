@@ -29,7 +29,7 @@ use Rattle.fire.specs.Running.{machineOver, stateIn}
 use Rattle.start.specs.Begun.{machineLent, Begun}
 use Rattle.start.specs.Ended.{EndedAt}
 use Rattle.start.proofs.Starting.{accepted-by, from-start, as-lent}
-use Rattle.engine.specs.declared.Order.the-variants.{Log}
+use Rattle.engine.specs.declared.choice.Order.the-variants.{Log}
 use Rattle.engine.specs.Turns.{endOf, Proceeded}
 use Rattle.engine.proofs.Looping.{ended-at}
 

@@ -1,6 +1,7 @@
 // A replay (02, R-7): the activities that a log names fire in turn, by the engine's loop.
-use engine::Going;
-use engine::Order;
+use engine::choice::Order;
+use engine::turns;
+use engine::turns::Going;
 use record::log;
 use rules::answer;
 use rules::answer::Answer;
@@ -60,7 +61,7 @@ fn accepted(
         cells,
     );
     let mut none = [0u8; 0];
-    engine::proceed(
+    turns::proceed(
         graph,
         &tables,
         Order::Log,

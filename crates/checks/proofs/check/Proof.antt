@@ -9,5 +9,5 @@ pub check-spec : {M : Type 1} → statement M
 unfolding check
 check-spec = tie.close (tie.spec
     (λ c κs. search needs)  -- check-requires
-    (λ c κs. search needs)  -- in-order-requires
-    (λ c. c .in-order .ensures ∙ rw (c .before .check .ensures)))  -- returns
+    (λ c κs. search needs)  -- check-with-requires
+    (λ c. c .check-with .ensures ∙ rw (c .before .check .ensures)))  -- returns

@@ -10,5 +10,5 @@ unfolding checkBounded
 check-bounded-spec = tie.close (tie.spec
     (λ c κs. search needs)  -- check-requires
     (λ c κs. search needs)  -- check-requires-2
-    (λ c κs. search needs)  -- in-order-requires
-    (λ c. c .in-order .ensures ∙ rw (c .before .check2 .ensures, c .before .before .check .ensures)))  -- returns
+    (λ c κs. search needs)  -- check-with-requires
+    (λ c. c .check-with .ensures ∙ rw (c .before .check2 .ensures, c .before .before .check .ensures)))  -- returns

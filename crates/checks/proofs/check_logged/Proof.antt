@@ -10,5 +10,5 @@ unfolding checkBoundLogged
 check-logged-spec = tie.close (tie.spec
     (λ c κs. search needs)  -- check-logged-requires
     (λ c κs. search needs)  -- check-requires
-    (λ c κs. search needs)  -- in-order-requires
-    (λ c. c .in-order .ensures ∙ rw (c .before .check .ensures, c .before .before .check-logged .ensures)))  -- returns
+    (λ c κs. search needs)  -- check-with-requires
+    (λ c. c .check-with .ensures ∙ rw (c .before .check .ensures, c .before .before .check-logged .ensures)))  -- returns

@@ -7,9 +7,9 @@ use lib.ListN.{length}
 use Rattle.record.specs.TokensAndTags.{tokens}
 use Rattle.record.specs.Widths.{tokenWidth}
 use Rattle.store.proofs.Laws.{matching-known, matching-few}
-use Rattle.fire_operands.specs.declared.Admitted.{Admitted}
-use Rattle.fire_operands.specs.Operands.{admittedOf, AdmittedAs}
 use Rattle.fire_outputs.specs.Outputs.{cellsIn, writesAgain}
+use Rattle.fire_commit.specs.declared.admit.Admitted.{Admitted}
+use Rattle.fire_commit.specs.Admitted.{admittedOf, AdmittedAs}
 use Rattle.fire_commit.proofs.Laws.{admitted-room, second-write, act-refused, act-done, left-refused, left-done}
 use Rattle.fire_commit.proofs.commit.Statement.{statement}
 use Rattle.fire_commit.proofs.commit.Tie as tie

@@ -110,17 +110,18 @@ fire-spec =
     (λ c κs. let s = start (read (operands (c .before .before))) in omega (arith, s .pre .4))  -- meaning-requires
     (λ c κs. let s = start (read (operands (fetched (c .before .before .before)))) in s .pre .4)  -- operate-requires
     (λ c. search needs)  -- enum-known-operated
+    (λ c κs. search needs)  -- refused-requires
     (λ c. search needs)  -- same-length
     (λ c. search needs)  -- same-length-2
     (λ c.  -- returns
-    let e = c .before .before .before .before .before in
+    let e = c .before .before .before .before .before .before in
     let y = meant e in
     let f = fetched y in
     let m = operands f in
     let t = read m in
     let s = start t in
     let asks = rw (toZ-ofZ (constant-fits e), toZ-ofZ (left-fits f), toZ-ofZ (right-fits f)) at (e .operate .ensures) in
-    refused-first _ (s .pre .0) (s .pre .1) (s .args .place) (s .pre .2) (t .token-at .result) (t .token-at .ensures) _ _ _ (found m) _ _ (f .instruction-at .ensures) (y .before .before .decode .ensures) _ _ _ _ asks (c .before .operated .given .1))
+    rw (c .refused .ensures) (refused-first _ (s .pre .0) (s .pre .1) (s .args .place) (s .pre .2) (t .token-at .result) (t .token-at .ensures) _ _ _ (found m) _ _ (f .instruction-at .ensures) (y .before .before .decode .ensures) _ _ _ _ asks (c .before .before .operated .given .1)))
     (λ c. search needs)  -- enum-known-operated-2
     (λ c κs.  -- new-tags-requires
     let e = c .before .before .before .before .before .before in
@@ -130,10 +131,11 @@ fire-spec =
     let s = start t in
     rw (y .before .before .decode .ensures, f .instruction-at .ensures) (ready _ _ (in-graph t) _ (s .pre .0 .passed) (s .pre .0 .returnsRight)))
     (λ c. search needs)  -- enum-known-made
+    (λ c κs. search needs)  -- refused-requires-2
     (λ c. search needs)  -- same-length-3
     (λ c. search needs)  -- same-length-4
     (λ c.  -- returns-2
-    let n = c .before .before .before in
+    let n = c .before .before .before .before in
     let e = operated n in
     let y = meant e in
     let f = fetched y in
@@ -141,7 +143,7 @@ fire-spec =
     let t = read m in
     let s = start t in
     let asks = rw (toZ-ofZ (constant-fits e), toZ-ofZ (left-fits f), toZ-ofZ (right-fits f)) at (e .operate .ensures) in
-    refused-second _ (s .pre .0) (s .pre .1) (s .args .place) (s .pre .2) (t .token-at .result) (t .token-at .ensures) _ _ _ (found m) _ _ (f .instruction-at .ensures) (y .before .before .decode .ensures) _ _ _ _ asks (n .before .before .before .operated2 .given .1) (made n) (c .before .made .given .1))
+    rw (c .refused2 .ensures) (refused-second _ (s .pre .0) (s .pre .1) (s .args .place) (s .pre .2) (t .token-at .result) (t .token-at .ensures) _ _ _ (found m) _ _ (f .instruction-at .ensures) (y .before .before .decode .ensures) _ _ _ _ asks (n .before .before .before .operated2 .given .1) (made n) (c .before .before .made .given .1)))
     (λ c. search needs)  -- enum-known-made-2
     (λ c κs.  -- commit-requires
     let o = c .before .before .before .before .before in
