@@ -194,8 +194,6 @@ fn turns(
         );
         match turned {
             Turn::Fired(n, place) => {
-                // After a firing: the activity has its tag at its place, and there are n tokens.
-                note(log, firings, ledger, place);
                 follow(
                     order,
                     graph,
@@ -209,6 +207,8 @@ fn turns(
                     held,
                     marks,
                 );
+                // After a firing: the activity has its tag at its place, and there are n tokens. Noted before `follow`, the run would be longer.
+                note(log, firings, ledger, place);
                 used = n;
                 firings += 1;
             }

@@ -5,7 +5,7 @@ use mathlib.Core.Path.{_≡_}
 use mathlib.Core.List.{List}
 use lib.ListN.{length, take, drop}
 use Rattle.buffer.specs.Rows.{allRows}
-use Rattle.record.specs.TokensAndTags.{tokens, tokenAt, decodeToken}
+use Rattle.record.specs.TokensAndTags.{tokens, tokenAt, decodeToken, rootOf}
 use Rattle.record.specs.declared.token.Token.{Token}
 use Rattle.record.specs.Widths.{tokenWidth}
 use Rattle.store_chains.specs.Search.{Free}
@@ -13,8 +13,9 @@ use Rattle.store_chains.specs.Deferred.{LowCell}
 use Rattle.store_enabled.specs.Enabled.{arityOf}
 use Rattle.store.specs.Matching.{Matching}
 
--- what the matching store asks of a token that arrives: where one operand is waited for, it is on port 0
+-- an input has the root tag of its instruction; and what the matching store asks of a token that arrives: where one operand is waited for, it is on port 0
 pub record ProperArrival (tables : List ℕ) (t : Token) : Type 0 where
+  pub root : t .tag ≡ rootOf (t .tag .instruction)
   pub low : t .port < 2
   pub cell : LowCell (t .content)
   pub alone : arityOf tables (t .tag) ≡ 1 → t .port ≡ 0

@@ -1,4 +1,5 @@
 // What an accepted run does before its first firing: the cells are cleared, and the input tokens are written to the ledger.
+use record::tag::Tag;
 use record::token;
 use store_chains::Links;
 use store_chains::Sought;
@@ -45,7 +46,9 @@ pub fn inputs(
     while i < n {
         let t = token::token_at(inputs, i);
         token::put_token(ledger, i, t);
-        let tag = t.tag;
+        // 01, "Tokens and tags": an input carries the root tag, of which no bucket has to be worked out.
+        let own = t.tag;
+        let tag = Tag::root(own.instruction);
         let Sought::Free(slot) = store::seek(links, ledger, i, tag, t.port) else {
             // No two inputs stand on one port of a tag.
             return i;

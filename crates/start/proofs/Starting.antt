@@ -18,7 +18,7 @@ use Rattle.record.specs.declared.cell.Cell.the-variants.{Absent}
 use Rattle.buffer.specs.Rows.{All, rows, allRows, joined}
 use Rattle.record.specs.GraphRecords.{graphOf}
 use Rattle.record.specs.Arrays.{arraysOf}
-use Rattle.record.specs.TokensAndTags.{tokens}
+use Rattle.record.specs.TokensAndTags.{tokens, tagIn, rootOf}
 use Rattle.record.specs.TokensAndTags as Tokens
 use Rattle.record.specs.Cells as Cells
 use Rattle.buffer.proofs.Tables.{length-rows, length-joined}
@@ -78,28 +78,41 @@ module _ (graph inputs : List ℕ) (capacity count : ℕ) (accepted : checkInput
   inputs-arrive = rows-all (λ (t : Record.Token). t .port < operandsAt (graphOf graph) (t .tag .instruction)) (length inputs / tokenWidth) inputs
       (λ i h. passed-input (graphOf graph) (drop (i * tokenWidth) inputs) (inputs-good .good i h) .port)
 
+  abbrev Rooted : Record.Token → Type 0
+  Rooted t = t .tag ≡ rootOf (t .tag .instruction)
+
+  inputs-rooted : All Rooted (allRows tokenWidth Tokens.decodeToken inputs)
+  unfolding Tokens.decodeToken
+  inputs-rooted = rows-all Rooted (length inputs / tokenWidth) inputs (λ i h.
+      let l = drop (i * tokenWidth) inputs in
+      let p = passed-input (graphOf graph) l (inputs-good .good i h) in
+      λ k. record { path = p .path k; iteration = p .iteration k; instruction = tagIn l .instruction })
+
   low-cells : (ts : List Record.Token) → Orders.AllLive (machineOf (graphOf graph) [] capacity count) (map tokenHeld ts) → All (λ (t : Record.Token). LowCell (t .content)) ts
   low-cells [] a = tt
   low-cells (t ∷ ts) a = (low-live (t .content) (a .0), low-cells ts (a .1))
 
   module _ (tables : List ℕ) (arities : Arities (graphOf graph) tables) where
     -- where one operand is waited for, a token is on port 0
-    proper-one : (t : Record.Token) → t .port < operandsAt (graphOf graph) (t .tag .instruction) → (0 < arityIn (graphOf graph) (t .tag) → t .port < arityIn (graphOf graph) (t .tag)) → LowCell (t .content) → ProperArrival tables t
-    proper-one t a b c = record {
+    proper-one : (t : Record.Token) → t .port < operandsAt (graphOf graph) (t .tag .instruction) → (0 < arityIn (graphOf graph) (t .tag) → t .port < arityIn (graphOf graph) (t .tag)) → LowCell (t .content)
+        → t .tag ≡ rootOf (t .tag .instruction) → ProperArrival tables t
+    proper-one t a b c r = record {
+      root = r;
       low = arrives-port (graphOf graph) (record { tag = t .tag; port = t .port }) a;
       cell = c;
       alone = λ e. let one : arityIn (graphOf graph) (t .tag) ≡ 1 = sym (arities (t .tag)) ∙ e in omega (arith, one, b (omega (arith, one)));
     }
 
-    proper-all : (ts : List Record.Token) → Arrived (graphOf graph) ts → OnPorts (graphOf graph) ts → All (λ (t : Record.Token). LowCell (t .content)) ts → All (ProperArrival tables) ts
-    proper-all [] a b c = tt
-    proper-all (t ∷ ts) a b c = (proper-one t (a .0) (b .0) (c .0), proper-all ts (a .1) (b .1) (c .1))
+    proper-all : (ts : List Record.Token) → Arrived (graphOf graph) ts → OnPorts (graphOf graph) ts → All (λ (t : Record.Token). LowCell (t .content)) ts
+        → All Rooted ts → All (ProperArrival tables) ts
+    proper-all [] a b c r = tt
+    proper-all (t ∷ ts) a b c r = (proper-one t (a .0) (b .0) (c .0) (r .0), proper-all ts (a .1) (b .1) (c .1) (r .1))
 
     pub inputs-proper : All (ProperArrival tables) (allRows tokenWidth Tokens.decodeToken inputs)
     unfolding firstState
     inputs-proper =
         let ts = allRows tokenWidth Tokens.decodeToken inputs in
-        proper-all ts inputs-arrive (on-ports (graphOf graph) ts inputs-arrive) (low-cells ts (start (graphOf graph) [] capacity count inputs accepted .allLive))
+        proper-all ts inputs-arrive (on-ports (graphOf graph) ts inputs-arrive) (low-cells ts (start (graphOf graph) [] capacity count inputs accepted .allLive)) inputs-rooted
 
   pub inputs-alone : Alone inputs
   inputs-alone i h = alone-free (take i (allRows tokenWidth Tokens.decodeToken inputs)) (Tokens.tokenAt inputs i) (inputs-good .alone i h)

@@ -77,12 +77,16 @@ module _ (c : tie.After-put-token Inv-loop μ-loop) where
       let none = alone (start .args .inputs .now) (l .ledger) i (t .result) (t .ensures) left (l .inv .taken) (start .pre .4) in
       rw (written-before (l .ledger) i (t .result) (p .1) room written (p .0)) none
 
+-- the root tag of its instruction is its own
+own-tag : (c : tie.After-root Inv-loop μ-loop) → c .root .result ≡ c .before .before .before .before .before .before .token-at .result .tag
+own-tag c = c .root .ensures ∙ sym (fitting (c .before .before .before .before) .root)
+
 -- none stands where it does
 not-taken : (c : tie.After-enum-told Inv-loop μ-loop) → ⊥
 not-taken c =
     let k = c .before .before in
-    let none = free (k .before .before .before .before .before .before) in
-    let taken = rw (c .enum-told .given .1) at (k .seek .ensures) in
+    let none = free (k .before .before .before .before .before .before .before) in
+    let taken = rw (own-tag (k .before .before .before)) at (rw (c .enum-told .given .1) at (k .seek .ensures)) in
     let z : _≡_ {A = ℕ} 0 1 = ap (λ (b : Bool). cond b 1 0) (sym (ap isFound none) ∙ taken) in
     absurd (omega arith)
 
@@ -96,19 +100,20 @@ inputs-spec = tie.close (tie.spec
     taken-none (a .tables .now) (a .ledger .now) (a .inputs .now) (a .links .now) (a .flags .now) (s .pre .0))
     (λ c κs. omega (arith, c .loop-test .taken))  -- token-at-requires
     (λ c κs. omega (arith, c .before .before .loop-test .taken, c .before .before .before .before .before .before .pre .1, c .before .before .before .loop .inv .size))  -- put-token-requires
-    (λ c κs. let p = c .before .before .before .before .before in (matching-known (matching p), fitting p .low))  -- seek-requires
+    (λ c κs. search needs)  -- root-requires
+    (λ c κs. let p = c .before .before .before .before .before .before in (matching-known (matching p), fitting p .low))  -- seek-requires
     (λ c. search needs)  -- enum-known-slot
     (λ c. search needs)  -- enum-told
     (λ c. absurd (not-taken c))  -- same-length
     (λ c. absurd (not-taken c))  -- returns
     (λ c κs.  -- enter-requires
-    let p = c .before .before .before .before .before .before .before .before .before .before .before .before in
-    let o = rw (c .before .before .before .before .slot .given .1) at (c .before .before .before .before .before .before .seek .ensures) in
-    (matching p, omega (arith, room p, size p), omega (arith, left p, start p .pre .1, start p .pre .2), standing p, fitting p .cell, o))
-    (λ c. omega (arith, c .before .before .before .before .before .before .before .before .before .before .before .before .before .before .before .before .loop-test .taken))  -- add-i
-    (λ c. omega (arith, c .before .before .before .before .before .before .before .before .before .before .before .before .before .before .before .before .loop-test .taken))  -- loop-less
-    (λ c.  -- loop-again
     let p = c .before .before .before .before .before .before .before .before .before .before .before .before .before in
+    let o = rw (own-tag (c .before .before .before .before .before .before .before .before .before)) at (rw (c .before .before .before .before .slot .given .1) at (c .before .before .before .before .before .before .seek .ensures)) in
+    (matching p, omega (arith, room p, size p), omega (arith, left p, start p .pre .1, start p .pre .2), standing p, fitting p .cell, o))
+    (λ c. let p = c .before .before .before .before .before .before .before .before .before .before .before .before .before .before in omega (arith, left p, start p .pre .1, start p .pre .2))  -- add-i
+    (λ c. omega (arith, c .before .before .before .before .before .before .before .before .before .before .before .before .before .before .before .before .before .loop-test .taken))  -- loop-less
+    (λ c.  -- loop-again
+    let p = c .before .before .before .before .before .before .before .before .before .before .before .before .before .before in
     let s = start p in
     let a = s .args in
     let l = p .before .before .before .before .loop in

@@ -38,21 +38,21 @@ turns-spec = tie.close (tie.spec
     let o = s .args .order in
     (s .pre .0, l .inv .0 .under .running, beside-of (s .args .graph .now) (s .pre .0) (l .inv .0 .under .running) o (l .nexts) (l .held) (l .marks) (l .inv .2), back-of (s .args .graph .now) (s .pre .0) (l .inv .0 .under .running) o (l .nexts) (l .held) (l .marks) (l .inv .2)))
     (λ c. search needs)  -- enum-known-turned
-    (λ c κs.  -- note-requires
-    let a = rw (c .before .before .before .turned .given .1) at (c .before .before .before .before .before .before .before .before .before .take-turn .ensures) in
-    omega (arith, a .below, matching-room (a .went .running .matching)))
     (λ c κs.  -- follow-requires
-    let l = c .before .before .before .before .before .before .before .before .before .before .before .before .before .before .before .before .before .before .before .before .before .before .before .before .loop in
-    let s = c .before .before .before .before .before .before .before .before .before .before .before .before .before .before .before .before .before .before .before .before .before .before .before .before .before .before .before .before .before .before .before in
-    let a = rw (c .before .before .before .before .before .before .before .before .before .before .before .turned .given .1) at (c .before .before .before .before .before .before .before .before .before .before .before .before .before .before .before .before .before .take-turn .ensures) in
+    let l = c .before .before .before .before .before .before .before .before .before .before .before .before .before .before .before .before .before .before .before .loop in
+    let s = c .before .before .before .before .before .before .before .before .before .before .before .before .before .before .before .before .before .before .before .before .before .before .before .before .before .before in
+    let a = rw (c .before .before .before .before .before .before .turned .given .1) at (c .before .before .before .before .before .before .before .before .before .before .before .before .take-turn .ensures) in
     fired-on (s .args .graph .now) (s .pre .0) (l .inv .0 .under .running) (below-here (s .args .graph .now) (s .pre .0) (l .inv .0 .under .running) _) (a .went) (s .args .order) (l .nexts) (l .held) (l .marks) (l .inv .2))
+    (λ c κs.  -- note-requires
+    let a = rw (c .before .before .before .before .before .before .before .before .before .before .before .turned .given .1) at (c .before .before .before .before .before .before .before .before .before .before .before .before .before .before .before .before .before .take-turn .ensures) in
+    omega (arith, a .below, matching-room (a .went .running .matching)))
     (λ c. omega (arith, budget-fits (c .before .before .before .before .before .before .before .before .before .before .before .before .before .before .before .before .before .before .before .before .before .before .before .before .before .before .before .before .before .before .before .before .before .before), c .before .before .before .before .before .before .before .before .before .before .before .before .before .before .before .before .before .before .before .before .before .before .before .before .before .before .loop-test .taken))  -- add-firings
     (λ c. omega (arith, c .before .before .before .before .before .before .before .before .before .before .before .before .before .before .before .before .before .before .before .before .before .before .before .before .before .before .loop-test .taken))  -- loop-less
     (λ c.  -- loop-again
     let l = c .before .before .before .before .before .before .before .before .before .before .before .before .before .before .before .before .before .before .before .before .before .before .before .before .before .before .before .loop .inv in
     let h = c .before .before .before .before .before .before .before .before .before .before .before .before .before .before .before .before .before .before .before .before .before .before .before .before .before .before .loop-test .taken in
     let a = rw (c .before .before .before .before .before .before .before .before .before .before .before .before .before .before .turned .given .1) at (c .before .before .before .before .before .before .before .before .before .before .before .before .before .before .before .before .before .before .before .before .take-turn .ensures) in
-    (advanced _ _ _ _ _ _ _ _ (l .0) h a, noted-on _ _ _ _ _ _ _ _ (l .0) (l .1) h a _ (c .before .before .before .before .before .before .before .before .before .before .note .ensures), c .before .before .follow .ensures, c .before .marks .given ∙ l .3))
+    (advanced _ _ _ _ _ _ _ _ (l .0) h a, noted-on _ _ _ _ _ _ _ _ (l .0) (l .1) h a _ (c .before .before .note .ensures), c .before .before .before .before .before .before .before .follow .ensures, c .before .before .before .before .before .before .marks .given ∙ l .3))
     (λ c. search needs)  -- enum-known-turned-2
     (λ c κs. search needs)  -- answered-requires
     (λ c. c .before .before .before .before .before .before .before .before .before .before .before .before .before .before .before .loop .inv .3)  -- same-length
