@@ -49,19 +49,19 @@ low c = rw (c .before .before .content .given .1) at (start (c .before .before .
 
 pub enter-spec : {M : Type 1} → statement M
 enter-spec = tie.close (tie.spec
-    (λ c. search needs)
-    (λ c κs. let s = c .before in let b = in-heads s in (omega (arith, b), omega (arith, s .pre .0), s .pre .0))
-    (λ c κs. let s = c .before .before .before in (s .pre .0, s .pre .3))
-    (λ c. search needs)
-    (λ c. search needs)
-    (λ c. search needs)
-    (λ c. search needs)
-    (λ c. search needs)
-    (λ c. search needs)
-    (λ c κs. let u = start (c .before .before .before .before) .pre .0 in (omega (arith, low c), omega (arith, u), u))
-    (λ c. let f = c .before .before in (indexed f, (off f (ap chainOf (c .enum-told .given .1)), partnered f)))
-    (λ c. let f = c .before .before in (indexed f, (off f (ap chainOf (c .enum-told2 .given .1)), partnered f)))
-    (λ c.
+    (λ c. search needs)  -- add-link
+    (λ c κs. let s = c .before in let b = in-heads s in (omega (arith, b), omega (arith, s .pre .0), s .pre .0))  -- link-requires
+    (λ c κs. let s = c .before .before .before in (s .pre .0, s .pre .3))  -- pair-requires
+    (λ c. search needs)  -- enum-told
+    (λ c. search needs)  -- enum-told-2
+    (λ c. search needs)  -- enum-known-content
+    (λ c. search needs)  -- cast-link
+    (λ c. search needs)  -- add-link-2
+    (λ c. search needs)  -- add-link-3
+    (λ c κs. let u = start (c .before .before .before .before) .pre .0 in (omega (arith, low c), omega (arith, u), u))  -- link-requires-2
+    (λ c. let f = c .before .before in (indexed f, (off f (ap chainOf (c .enum-told .given .1)), partnered f)))  -- returns
+    (λ c. let f = c .before .before in (indexed f, (off f (ap chainOf (c .enum-told2 .given .1)), partnered f)))  -- returns-2
+    (λ c.  -- returns-3
     let f = c .before .before .before .before .before in
     let s = start f in
     let a = s .args in

@@ -12,20 +12,20 @@ low c = (rw (c .before .partner .given .1) at (c .before .before .before .pre .1
 
 pub pair-spec : {M : Type 1} → statement M
 pair-spec = tie.close (tie.spec
-    (λ c. search needs)
-    (λ c. omega (arith, low c .0, low c .1))
-    (λ c. omega (arith, low c .0, low c .1))
-    (λ c. omega (arith, low c .0, low c .1))
-    (λ c. omega (arith, low c .0, low c .1))
-    (λ c. omega (arith, low c .0, low c .1))
-    (λ c. omega (arith, low c .0, low c .1))
-    (λ c. omega (arith, low c .0, low c .1))
-    (λ c. omega (arith, low c .0, low c .1))
-    (λ c. omega (arith, low c .0, low c .1))
-    (λ c. omega (arith, low c .0, low c .1))
-    (λ c. search needs)
-    (λ c. search needs)
-    (λ c. search needs)
-    (λ c. search needs)
-    (λ c. rw (c .before .partner .given .1) refl)
-    (λ c. rw (c .enum-told .given .1) refl))
+    (λ c. search needs)  -- enum-known-partner
+    (λ c. omega (arith, low c .0, low c .1))  -- add-links
+    (λ c. omega (arith, low c .0, low c .1))  -- cast-links
+    (λ c. omega (arith, low c .0, low c .1))  -- add-links-2
+    (λ c. omega (arith, low c .0, low c .1))  -- mul-links
+    (λ c. omega (arith, low c .0, low c .1))  -- element-write-links
+    (λ c. omega (arith, low c .0, low c .1))  -- add-links-3
+    (λ c. omega (arith, low c .0, low c .1))  -- cast-links-2
+    (λ c. omega (arith, low c .0, low c .1))  -- add-links-4
+    (λ c. omega (arith, low c .0, low c .1))  -- mul-links-2
+    (λ c. omega (arith, low c .0, low c .1))  -- element-write-links-2
+    (λ c. search needs)  -- enum-told
+    (λ c. search needs)  -- add-links-5
+    (λ c. search needs)  -- mul-links-3
+    (λ c. search needs)  -- element-write-links-3
+    (λ c. rw (c .before .partner .given .1) refl)  -- returns
+    (λ c. rw (c .enum-told .given .1) refl))  -- returns-2
