@@ -9,7 +9,7 @@
    Nothing is checked of these three: whoever breaks one has no promise of what happens. All else is checked, and refused by a number.
    Where a row below names what is written, all other bytes lent stay as they were.
 
-   Stack: ttda_run_ranges takes at most 170 KB, ttda_carry_on 36, ttda_run, ttda_run_logged and ttda_held 35, ttda_profile 29, ttda_replay 25,
+   Stack: ttda_run_ranges takes at most 166 KB, ttda_run and ttda_run_logged 31, ttda_carry_on and ttda_held 32, ttda_profile 27, ttda_replay 22,
    ttda_list 17, the others below 8. */
 #ifndef TTDA_H
 #define TTDA_H

@@ -85,7 +85,7 @@ refusals =
     ∷ GraphTooLong
     ∷ []
 
--- the refusal in the list that has this number
+-- the one of some with a number
 abbrev pub refusal_with : List Refusal → ℕ → Numbered
 refusal_with [] n = NoRefusal
 refusal_with (r ∷ rs) n = cond (eqb n (number_of r)) (One r) (refusal_with rs n)

@@ -1,11 +1,11 @@
-// What Rust and C link: the run, with and without a log, the bounds, the activities that a bound holds back,
+// What Rust and C link: the run, with and without a log, the replay, the bounds, the activities that a bound holds back,
 // expressions, the listing and the printed lines over numbers and byte slices, with the promises of the crates behind them.
 ghost use Rattle.std.specs.Prelude.{◌≡◌, length, suc};
 ghost use Rattle.rules.specs.Answer.{place_in, values_of, values_needed};
 ghost use Rattle.rules.specs.Needs.{needs};
 ghost use Rattle.record.specs.ExpressionRecords.{expression_of};
 ghost use Rattle.rules.specs.Expression.{graph_for, check_made, made_of, output_of, evaluated};
-ghost use Rattle.rules.specs.Runs.{lent_to_run, left_by_run, lent_to_logged, left_by_logged};
+ghost use Rattle.rules.specs.Runs.{lent_to_run, left_by_run, lent_to_logged, left_by_logged, ReplayedOn};
 ghost use Rattle.rules.specs.Bounded.{BoundedOn, BoundLoggedOn, BoundCarriedOn};
 ghost use Rattle.activities.specs.Counts.{counts};
 ghost use Rattle.plot_cache.specs.Serves.{request};
@@ -205,6 +205,22 @@ pub extern "C" fn ttda_run_logged(
     number_of(engine::run_logged(
         graph, arrays, inputs, picks, budget, bound, ledger, cells, log,
     ))
+}
+
+#[unsafe(no_mangle)]
+pub extern "C" fn ttda_replay(
+    graph: &[u8],
+    arrays: &[u8],
+    inputs: &[u8],
+    log: &[u8],
+    ledger: &mut [u8],
+    cells: &mut [u8],
+) -> u64
+    ensures { AsNumber result (λ a.
+        ReplayedOn graph.now arrays.now inputs.now log.now
+        ledger.old cells.old a ledger.new cells.new) }
+{
+    number_of(replay::replay(graph, arrays, inputs, log, ledger, cells))
 }
 
 #[unsafe(no_mangle)]

@@ -1,44 +1,61 @@
--- The table of fan-outs has the rule's: a test at each of its 256 entries, which antt computes. Assumes nothing.
-use Prim.Native.Nat.{ℕ, zero, suc, ◌/◌, ◌%◌}
-use mathlib.Core.Path.{◌≡◌, refl}
-use mathlib.Core.Bool.{Bool, true, false, not, ◌&&◌, cond}
+-- What the rows of the table of operations have in common: fan-outs go by the operation alone. Assumes nothing.
+use Prim.Native.Nat.{ℕ}
+use mathlib.Core.Path.{◌≡◌, refl, sym, ◌∙◌}
+use mathlib.Core.Bool.{Bool, true, false, ◌&&◌, cond}
 use mathlib.Core.List.{List, [], ◌∷◌}
+use mathlib.Core.Logic.{⊎_elim}
 use lib.ListN.{get_or}
-use lib.Dec.{T, eqb, leb, eqb→eq}
-use Rattle.record.specs.GraphRecords.{row_of, names_array, uses_constant}
-use Rattle.record.proofs.Computed.{at}
-use Rattle.check_fields.specs.FanOuts.{FanOutRules}
-use Rattle.check_fields.proofs.Turns.{and_left, and_right}
+use lib.Dec.{T, eqb, eqb→eq}
+use denote.Enum.Declared.{tag_of}
+use types.Run.{OneOf}
+use Rattle.record.specs.declared.operation.Operation.TheVariants.{Unknown}
+use Rattle.record.specs.GraphRecords.{Row, table, row_with, no_row, row_of, operation_of}
+use Rattle.record.specs.contracts.operation.Operation.{the_type}
+use Rattle.rules.specs.Check.{all}
+use Rattle.check_fields.proofs.Turns.{and_true, and_left, and_right}
 
--- n entries v, and then xs
-abbrev run : ℕ → ℕ → List ℕ → List ℕ
-run zero v xs = xs
-run (suc n) v xs = v ∷ run n v xs
+-- a test that each row passes, and that a code in no row passes, each code passes
+found : (f : Row → Bool) (rs : List Row) → T (all f rs) → ((n : ℕ) → T (f (no_row n))) → (n : ℕ) → T (f (row_with rs n))
+found f [] t u n = u n
+found f (r ∷ rs) t u n = go (f r) (eqb n r.code) refl t (λ k. found f rs k u n)
+  where
+    go : (b e : Bool) → f r ≡ b → T (b && all f rs) → (T (all f rs) → T (f (row_with rs n))) → T (f (cond e r (row_with rs n)))
+    go true true p t k = rw p tt
+    go true false p t k = k t
+    go false e p t k = absurd t
 
--- the table of src/fan_out.rt, by its runs
-unfoldable pub rules : List ℕ
-rules = 0 ∷ 9 ∷ 0 ∷ 0 ∷ 25 ∷ 10 ∷ 9 ∷ 9 ∷ 26 ∷ 16 ∷ 25 ∷ 24 ∷ run 4 0 (run 8 9 (run 8 0 (run 8 25 (run 216 0 []))))
+every-row : (f : Row → Bool) → T (all f table) → ((n : ℕ) → T (f (no_row n))) → (n : ℕ) → T (f (row_of n))
+unfolding row_of
+every-row f t u n = found f table t u n
 
-same : Bool → Bool → Bool
-same a b = cond b a (not a)
+-- the fan-outs of each operation, in the order of its variants
+unfoldable pub leasts : List ℕ
+leasts = 1 ∷ 0 ∷ 0 ∷ 1 ∷ 2 ∷ 1 ∷ 1 ∷ 2 ∷ 0 ∷ 1 ∷ 0 ∷ 1 ∷ 1 ∷ 0 ∷ []
 
-same→eq : (a b : Bool) → T (same a b) → a ≡ b
-unfolding same
-same→eq true true t = refl
-same→eq true false t = absurd t
-same→eq false true t = absurd t
-same→eq false false t = refl
+unfoldable pub mosts : List ℕ
+mosts = 2 ∷ 0 ∷ 0 ∷ 2 ∷ 2 ∷ 2 ∷ 2 ∷ 2 ∷ 0 ∷ 2 ∷ 2 ∷ 2 ∷ 2 ∷ 0 ∷ []
 
-right : ℕ → ℕ → Bool
-right code n = eqb (n % 4) (row_of code).least_fan_out && (eqb (n / 4 % 4) (row_of code).most_fan_out && same (leb 16 n) (uses_constant code))
+-- at some variants they are all v
+among : (xs : List ℕ) (v : ℕ) (ks : List ℕ) → T (all (λ k. eqb (get_or xs k 0) v) ks) → (x : ℕ) → OneOf ks x → get_or xs x 0 ≡ v
+among xs v [] t x h = absurd h
+among xs v (k ∷ []) t x h = rw h (eqb→eq (get_or xs k 0) v (rw (and_true (eqb (get_or xs k 0) v)) at t))
+among xs v (k ∷ j ∷ ks) t x h =
+    ⊎_elim (λ e. rw e (eqb→eq (get_or xs k 0) v (and_left (eqb (get_or xs k 0) v) (all (λ m. eqb (get_or xs m 0) v) (j ∷ ks)) t))) (λ l. among xs v (j ∷ ks) (and_right (eqb (get_or xs k 0) v) (all (λ m. eqb (get_or xs m 0) v) (j ∷ ks)) t) x l) h
 
-pub ruled : FanOutRules rules
-unfolding rules right same row_of names_array uses_constant
-ruled code h =
-    let n = get_or rules code 0 in
-    let l = eqb (n % 4) (row_of code).least_fan_out in
-    let m = eqb (n / 4 % 4) (row_of code).most_fan_out in
-    let u = same (leb 16 n) (uses_constant code) in
-    let t = at right rules tt code h in
-    let s = and_right l (m && u) t in
-    (eqb→eq (n % 4) _ (and_left l (m && u) t), eqb→eq (n / 4 % 4) _ (and_left m u s), same→eq (leb 16 n) _ (and_right m u s))
+-- a column of the table that goes by the operation alone, at the operations that one arm of a `match` has
+by-variant : (column : Row → ℕ) (xs : List ℕ) → T (all (λ r. eqb (column r) (get_or xs (tag_of the_type r.operation) 0)) table)
+    → ((m : ℕ) → T (eqb (column (no_row m)) (get_or xs (tag_of the_type Unknown) 0)))
+    → (n v : ℕ) (ks : List ℕ) → OneOf ks (tag_of the_type (operation_of n)) → T (all (λ k. eqb (get_or xs k 0) v) ks) → v ≡ column (row_of n)
+by-variant column xs t u n v ks one k =
+    let at = tag_of the_type (operation_of n) in
+    let e = eqb→eq (column (row_of n)) (get_or xs at 0) (every-row (λ r. eqb (column r) (get_or xs (tag_of the_type r.operation) 0)) t u n) in
+    sym (e ∙ among xs v ks k at one)
+
+module _ (n v : ℕ) (ks : List ℕ) (one : OneOf ks (tag_of the_type (operation_of n))) where
+  pub least-among : T (all (λ k. eqb (get_or leasts k 0) v) ks) → v ≡ (row_of n).least_fan_out
+  unfolding leasts
+  least-among t = by-variant (λ r. r.least_fan_out) leasts tt (λ m. tt) n v ks one t
+
+  pub most-among : T (all (λ k. eqb (get_or mosts k 0) v) ks) → v ≡ (row_of n).most_fan_out
+  unfolding mosts
+  most-among t = by-variant (λ r. r.most_fan_out) mosts tt (λ m. tt) n v ks one t

@@ -1,4 +1,4 @@
--- `in_turn`, `any` and `all` of the rules, one element further. Assumes nothing.
+-- Lists gone through in turn: `in_turn`, `any` and `all` of the rules, one element further. Assumes nothing.
 use Prim.Native.Nat.{ℕ, zero, suc, ◌+◌, ◌≤◌, ◌<◌}
 use native.Mathlib.Numerals.{add-one}
 use native.Mathlib.Omega.{arith}

@@ -1,3 +1,2 @@
--- The definitions of the sites met so far and of the table of fan-outs. Assumes nothing.
+-- The definitions of the sites met so far. Assumes nothing.
 pub mod Sites
-pub mod FanOuts

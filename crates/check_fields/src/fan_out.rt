@@ -3,58 +3,49 @@ ghost use Rattle.std.specs.Prelude.{◌≡◌, ◌&&◌, ◌||◌, pos};
 ghost use Rattle.arithmetic.specs.Arithmetic.{eq_z};
 ghost use Rattle.record.specs.GraphRecords.{row_of, uses_constant};
 ghost use Rattle.rules.specs.Check.{fan_out_allowed, is_zero, unused_are_zero};
-ghost use Rattle.check_fields.specs.FanOuts.{FanOutRules};
 
 use crate::constant;
 use record::instruction::{Destination, Instruction};
+use record::operation;
+use record::operation::Operation;
 
-// Of each of the 256 codes the least fan-out, 4 times the most, and 16 if the constant is used.
-const RULES: [u8; 256] = [
-    0, 9, 0, 0, 25, 10, 9, 9, 26, 16, 25, 24, 0, 0, 0, 0, 9, 9, 9, 9, 9, 9, 9, 9, 0, 0, 0, 0, 0, 0,
-    0, 0, 25, 25, 25, 25, 25, 25, 25, 25, 0, 0, 0, 0, 0, 0, 0, 0, 0, 0, 0, 0, 0, 0, 0, 0, 0, 0, 0,
-    0, 0, 0, 0, 0, 0, 0, 0, 0, 0, 0, 0, 0, 0, 0, 0, 0, 0, 0, 0, 0, 0, 0, 0, 0, 0, 0, 0, 0, 0, 0, 0,
-    0, 0, 0, 0, 0, 0, 0, 0, 0, 0, 0, 0, 0, 0, 0, 0, 0, 0, 0, 0, 0, 0, 0, 0, 0, 0, 0, 0, 0, 0, 0, 0,
-    0, 0, 0, 0, 0, 0, 0, 0, 0, 0, 0, 0, 0, 0, 0, 0, 0, 0, 0, 0, 0, 0, 0, 0, 0, 0, 0, 0, 0, 0, 0, 0,
-    0, 0, 0, 0, 0, 0, 0, 0, 0, 0, 0, 0, 0, 0, 0, 0, 0, 0, 0, 0, 0, 0, 0, 0, 0, 0, 0, 0, 0, 0, 0, 0,
-    0, 0, 0, 0, 0, 0, 0, 0, 0, 0, 0, 0, 0, 0, 0, 0, 0, 0, 0, 0, 0, 0, 0, 0, 0, 0, 0, 0, 0, 0, 0, 0,
-    0, 0, 0, 0, 0, 0, 0, 0, 0, 0, 0, 0, 0, 0, 0, 0, 0, 0, 0, 0, 0, 0, 0, 0, 0, 0, 0, 0, 0, 0, 0, 0,
-    0, 0, 0, 0, 0,
-];
-
-// The table, for callers that look up many codes.
-pub fn rules() -> [u8; 256]
-    ensures { FanOutRules result }
-{
-    RULES
-}
-
-fn least(rules: &[u8; 256], code: u8) -> u8
-    requires { FanOutRules rules.now }
+fn least(code: u8) -> u8
     ensures { result ≡ (row_of code).least_fan_out }
 {
-    rules[code as usize] % 4
+    let operation = operation::decode(code);
+    match operation {
+        Operation::Switch | Operation::Enter => 2,
+        Operation::Sink
+        | Operation::Out
+        | Operation::Leave
+        | Operation::Store
+        | Operation::Unknown => 0,
+        _ => 1,
+    }
 }
 
-fn most(rules: &[u8; 256], code: u8) -> u8
-    requires { FanOutRules rules.now }
+fn most(code: u8) -> u8
     ensures { result ≡ (row_of code).most_fan_out }
 {
-    rules[code as usize] / 4 % 4
+    let operation = operation::decode(code);
+    match operation {
+        Operation::Sink | Operation::Out | Operation::Leave | Operation::Unknown => 0,
+        _ => 2,
+    }
 }
 
-fn allowed(rules: &[u8; 256], r: Instruction) -> bool
-    requires { FanOutRules rules.now }
+fn allowed(r: Instruction) -> bool
     ensures { result ≡ fan_out_allowed r }
 {
     let fan_out = r.fanout;
-    least(rules, r.code) <= fan_out && fan_out <= most(rules, r.code)
+    least(r.code) <= fan_out && fan_out <= most(r.code)
 }
 
-fn uses_constant(rules: &[u8; 256], code: u8) -> bool
-    requires { FanOutRules rules.now }
+fn uses_constant(code: u8) -> bool
     ensures { result ≡ uses_constant code }
 {
-    16 <= rules[code as usize]
+    code == 4
+        || (code == 8 || (code == 9 || (constant::names_array(code) || (32 <= code && code <= 39))))
 }
 
 // A destination is in use, or its fields are zero.
@@ -65,15 +56,13 @@ fn used_or_zero(used: bool, d: Destination) -> bool
 }
 
 // The constant is used, or it is zero.
-fn constant_used_or_zero(rules: &[u8; 256], code: u8, value: i32) -> bool
-    requires { FanOutRules rules.now }
+fn constant_used_or_zero(code: u8, value: i32) -> bool
     ensures { result ≡ uses_constant code || eq_z value (pos 0) }
 {
-    uses_constant(rules, code) || constant::is_zero(value)
+    uses_constant(code) || constant::is_zero(value)
 }
 
-fn unused_are_zero(rules: &[u8; 256], r: Instruction) -> bool
-    requires { FanOutRules rules.now }
+fn unused_are_zero(r: Instruction) -> bool
     ensures { result ≡ unused_are_zero r }
 {
     let fan_out = r.fanout;
@@ -81,12 +70,11 @@ fn unused_are_zero(rules: &[u8; 256], r: Instruction) -> bool
     let second = r.second;
     used_or_zero(1 <= fan_out, first)
         && (used_or_zero(2 <= fan_out, second)
-            && (constant_used_or_zero(rules, r.code, r.constant) && r.zeros == 0))
+            && (constant_used_or_zero(r.code, r.constant) && r.zeros == 0))
 }
 
-pub fn good(rules: &[u8; 256], r: Instruction) -> bool
-    requires { FanOutRules rules.now }
+pub fn good(r: Instruction) -> bool
     ensures { result ≡ fan_out_allowed r && unused_are_zero r }
 {
-    allowed(rules, r) && unused_are_zero(rules, r)
+    allowed(r) && unused_are_zero(r)
 }

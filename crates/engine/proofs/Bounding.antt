@@ -149,19 +149,16 @@ module _ (tables ledger : List ℕ) (used : ℕ) (g : List Instruction) (right :
 abbrev whole : List ℕ → List ℕ
 whole l = take (length l - 0) (drop 0 l)
 
-module _ (graph ledger : List ℕ) where
-  pub to_whole : (P : (graph ledger : List ℕ) → Type 0) → P graph ledger → P (whole graph) (whole ledger)
-  to_whole P p = subst (λ (l : List ℕ). P (whole graph) l) (sym (tail_part 0 ledger)) (subst (λ (l : List ℕ). P l ledger) (sym (tail_part 0 graph)) p)
+module _ (graph ledger : List ℕ) {k : ℕ} {tables flags : List ℕ} {n : ℕ} {nexts held marks : List ℕ} where
+  pub followed_whole : {used : ℕ} → Followed (graph_of graph) k tables flags ledger used n nexts held marks → Followed (graph_of (whole graph)) k tables flags (whole ledger) used n nexts held marks
+  followed_whole {used} f =
+      subst (λ (l : List ℕ). Followed (graph_of (whole graph)) k tables flags l used n nexts held marks) (sym (tail_part 0 ledger))
+      (subst (λ (l : List ℕ). Followed (graph_of l) k tables flags ledger used n nexts held marks) (sym (tail_part 0 graph)) f)
 
-  pub from_whole : (P : (graph ledger : List ℕ) → Type 0) → P (whole graph) (whole ledger) → P graph ledger
-  from_whole P p = subst (λ (l : List ℕ). P l ledger) (tail_part 0 graph) (subst (λ (l : List ℕ). P (whole graph) l) (tail_part 0 ledger) p)
-
-  module _ {k : ℕ} {tables flags : List ℕ} {n : ℕ} {nexts held marks : List ℕ} where
-    pub followed_whole : {used : ℕ} → Followed (graph_of graph) k tables flags ledger used n nexts held marks → Followed (graph_of (whole graph)) k tables flags (whole ledger) used n nexts held marks
-    followed_whole {used} f = to_whole (λ x l. Followed (graph_of x) k tables flags l used n nexts held marks) f
-
-    pub kept_whole : HeldKept (graph_of (whole graph)) tables flags (whole ledger) k n nexts held marks → HeldKept (graph_of graph) tables flags ledger k n nexts held marks
-    kept_whole h = from_whole (λ x l. HeldKept (graph_of x) tables flags l k n nexts held marks) h
+  pub kept_whole : HeldKept (graph_of (whole graph)) tables flags (whole ledger) k n nexts held marks → HeldKept (graph_of graph) tables flags ledger k n nexts held marks
+  kept_whole h =
+      subst (λ (l : List ℕ). HeldKept (graph_of l) tables flags ledger k n nexts held marks) (tail_part 0 graph)
+      (subst (λ (l : List ℕ). HeldKept (graph_of (whole graph)) tables flags l k n nexts held marks) (tail_part 0 ledger) h)
 
 module _ (graph : List ℕ) {tables links flags ledger cells : List ℕ} {used : ℕ} (ready : Prepared graph tables) (now : Running (graph_of graph) tables links flags ledger cells used) where
   abbrev g : List Instruction
@@ -185,7 +182,7 @@ module _ (graph : List ℕ) {tables links flags ledger cells : List ℕ} {used :
   pub below_here : (τ : Tag) → CellsBelow (length cells / cell_width) (asked_in g tables ledger cells used τ)
   below_here τ = asked_below (machine_over g tables ledger cells) (lawful graph ready.passed (arrays_in tables) (length ledger / token_width) (length cells / cell_width)) (state_in ledger cells used) τ
 
-  -- a firing of any effect
+  -- a firing of whatever effect
   module _ {τ : Tag} {e : Effect Refusal Tag ℤ} (below : CellsBelow (length cells / cell_width) e) {links' flags' ledger' cells' : List ℕ} {n : ℕ} (w : Went g τ e tables links' flags' ledger' cells' n used ledger cells) where
     pub fired_on : (order : Order) (nexts held marks : List ℕ) → Bounding order g tables flags ledger used nexts held marks → FiredOn order g tables flags' ledger' used n nexts held marks
     fired_on Oldest nexts held marks b = tt

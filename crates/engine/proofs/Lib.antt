@@ -7,4 +7,3 @@ pub mod Looping
 pub mod Bounding
 pub mod Accepting
 pub mod Resuming
-pub mod Playing

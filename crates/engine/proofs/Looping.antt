@@ -30,8 +30,7 @@ use Rattle.ending.proofs.Laws.{rests_there_lem}
 use Rattle.start.specs.Ended.{EndedAt}
 use Rattle.start.proofs.Ending.{left}
 use Rattle.engine.specs.declared.choice.Order.{Order}
-use Rattle.engine.specs.Turns.{chooser_of, chooser_for, Advanced, Stops, by_choice, by_refusal, Halted, end_of, fired_by, log_noted, recorded, Proceeded, SoFar, Noted}
-pub use Rattle.engine.specs.Turns.{Underway}
+use Rattle.engine.specs.Turns.{chooser_of, chooser_for, Advanced, Stops, by_choice, by_refusal, Halted, end_of, fired_by, log_noted, recorded, Proceeded}
 use Rattle.engine.proofs.Recording.{recorded_none, length_recorded, noted_next}
 
 -- ---- a turn that ends the run
@@ -59,6 +58,14 @@ ended_at {e} {r} {g} {tables} {ledger' = ledger'} {cells' = cells'} {ledger = le
     (left g p.running ledger cells p.rest p.cell_size p.outcome r.firings))
 
 -- ---- between firings, whatever they asked for
+
+-- after some firings, from a ledger and cells as lent
+pub record Underway (g : List Instruction) (ledger₀ cells₀ : List ℕ) (start : ℕ) (tables links flags ledger cells : List ℕ) (used : ℕ) : Type 0 where
+  pub running : Running g tables links flags ledger cells used
+  pub grown : start ≤ used
+  pub size : length ledger ≡ length ledger₀
+  pub rest : drop (used * token_width) ledger ≡ drop (used * token_width) ledger₀
+  pub cell_size : length cells ≡ length cells₀
 
 module _ (g : List Instruction) (ledger₀ cells₀ : List ℕ) (start : ℕ) (tables : List ℕ) where
   pub none_fired : {links flags : List ℕ} → Running g tables links flags ledger₀ cells₀ start → Underway g ledger₀ cells₀ start tables links flags ledger₀ cells₀ start
@@ -105,6 +112,24 @@ module _ (g : List Instruction) (ledger₀ cells₀ : List ℕ) (start : ℕ) (t
           ends_here_lem (run_by M (by_picks M) 0 [] f s).outcome w (sym told) (h ∙ rest_is M f s ∙ rests_there_lem M (by_picks M) [] f s) u.running refl refl
 
 -- ---- the loop
+
+-- after some firings, from a ledger and cells as lent
+pub record SoFar (g : List Instruction) (order : Order) (source ledger₀ cells₀ : List ℕ) (start budget : ℕ) (tables links flags ledger cells : List ℕ) (used firings : ℕ) : Type 0 where
+  pub within : firings ≤ budget
+  pub under : Underway g ledger₀ cells₀ start tables links flags ledger cells used
+  -- the run that is left to do
+  pub to_do : end_of order source g tables ledger₀ cells₀ start budget
+      ≡ run_from (machine_over g tables ledger₀ cells₀) (chooser_for order source g tables ledger₀ cells₀) (budget - firings) firings (state_in ledger cells used)
+
+-- the log after some firings, from one as lent
+pub record Noted (g : List Instruction) (order : Order) (source tables ledger₀ cells₀ log₀ : List ℕ) (start budget : ℕ) (ledger cells log : List ℕ) (used firings : ℕ) : Type 0 where
+  pub done : List Tag
+  pub count : length done ≡ firings
+  pub size : length log ≡ length log₀
+  pub written : log ≡ recorded done log₀
+  -- the log that is left to write
+  pub to_log : fired_by order source g tables ledger₀ cells₀ start budget
+      ≡ done ++ log_from (machine_over g tables ledger₀ cells₀) (chooser_for order source g tables ledger₀ cells₀) (budget - firings) firings (state_in ledger cells used)
 
 module _ (g : List Instruction) (order : Order) (source ledger₀ cells₀ : List ℕ) (start budget : ℕ) (tables : List ℕ) where
   abbrev M₀ : Machine

@@ -45,11 +45,21 @@ module _ (graph arrays picks ledger cells : List ℕ) (budget k firings used : �
   abbrev own : End Refusal Tag ℤ
   own = run_bounded N (held_in (graph_of graph) k) (by_picks N) budget (picks_of picks) 0 (state_saved ledger cells used)
 
+  -- no more than the budget
+  few : own.firings ≤ budget
+  few = let r = bounded_logged N (held_in (graph_of graph) k) (by_picks N) (by_picks_lawful N) budget (picks_of picks) 0 (state_saved ledger cells used) in omega (arith, r.logged.firings, r.within)
+
   -- by the tables that the loop goes by
   module _ (tables : List ℕ) (named : arrays_in tables ≡ arrays_of arrays) where
     same_own : end_bounded k picks (graph_of graph) tables ledger cells used budget ≡ own
     unfolding state_saved
     same_own = ap (λ (table : List NamedArray). let M = machine_saved graph table ledger cells in run_bounded M (held_in (graph_of graph) k) (by_picks M) budget (picks_of picks) 0 (state_saved ledger cells used)) named
+
+    pub own_few : (r : Answer) (ledger' cells' : List ℕ) → EndedAt (end_bounded k picks (graph_of graph) tables ledger cells used budget) r ledger cells ledger' cells' → r.firings ≤ budget
+    own_few r ledger' cells' h =
+        let e : r.firings ≡ (end_bounded k picks (graph_of graph) tables ledger cells used budget).firings = ap (λ (a : Answer). a.firings) h.answered in
+        let k : (end_bounded k picks (graph_of graph) tables ledger cells used budget).firings ≡ own.firings = ap (λ (x : End Refusal Tag ℤ). x.firings) same_own in
+        omega (arith, few)
 
     pub goes_on_lem : true ≡ state_taken graph ledger cells firings used → (r a : Answer) (ledger' cells' : List ℕ) → EndedAt (end_bounded k picks (graph_of graph) tables ledger cells used budget) r ledger cells ledger' cells'
         → a ≡ record { outcome = r.outcome; firings = firings + r.firings; tokens = r.tokens } → Ran (resumed graph arrays picks budget k ledger cells firings used) a ledger ledger' cells cells'

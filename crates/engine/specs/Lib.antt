@@ -2,4 +2,3 @@
 pub mod Promise
 pub mod Turns
 pub mod Resumed
-pub mod Played

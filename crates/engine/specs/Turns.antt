@@ -1,6 +1,6 @@
 -- Working definition: no public promise cites it.
 -- A run, a turn at a time, in the terms of the machine: who chooses, what a turn leaves, and what a run leaves in ledger, cells and log. Assumes nothing.
-use Rattle.std.specs.Prelude.{ℕ, ◌-◌, ◌*◌, ◌/◌, ◌≤◌, ◌<◌, ◌≡◌, true, cond, List, [], ◌++◌, ltb, length, take, drop, ℤ}
+use Rattle.std.specs.Prelude.{ℕ, ◌*◌, ◌/◌, ◌≤◌, ◌<◌, ◌≡◌, true, cond, List, [], ltb, length, take, drop, ℤ}
 use Rattle.record.specs.declared.array.NamedArray.{NamedArray}
 use Rattle.record.specs.declared.tag.Tag.{Tag}
 use Rattle.record.specs.declared.cell.Cell.{Cell}
@@ -36,8 +36,6 @@ use Rattle.engine.specs.declared.choice.Choice.{Choice}
 use Rattle.engine.specs.declared.choice.Choice.TheVariants as Choices
 use Rattle.engine.specs.declared.turns.Turn.{Turn}
 use Rattle.engine.specs.declared.turns.Turn.TheVariants as Turns
-use Rattle.engine.specs.declared.turns.Reached.{Reached}
-use Rattle.engine.specs.declared.turns.Reached.TheVariants as Reaches
 
 -- ---- who chooses
 
@@ -202,64 +200,6 @@ pub record Proceeded (e : End Refusal Tag ℤ) (r : Answer) (g : List Instructio
   pub size : length ledger' ≡ length ledger
   pub rest : drop (r.tokens * token_width) ledger' ≡ drop (r.tokens * token_width) ledger
   pub cell_size : length cells' ≡ length cells
-
--- ---- a part of a run
-
--- after some firings, from a ledger and cells as lent
-pub record Underway (g : List Instruction) (ledger₀ cells₀ : List ℕ) (start : ℕ) (tables links flags ledger cells : List ℕ) (used : ℕ) : Type 0 where
-  pub running : Running g tables links flags ledger cells used
-  pub grown : start ≤ used
-  pub size : length ledger ≡ length ledger₀
-  pub rest : drop (used * token_width) ledger ≡ drop (used * token_width) ledger₀
-  pub cell_size : length cells ≡ length cells₀
-
--- and what is left to do
-pub record SoFar (g : List Instruction) (order : Order) (source ledger₀ cells₀ : List ℕ) (start budget : ℕ) (tables links flags ledger cells : List ℕ) (used firings : ℕ) : Type 0 where
-  pub within : firings ≤ budget
-  pub under : Underway g ledger₀ cells₀ start tables links flags ledger cells used
-  -- the run that is left to do
-  pub to_do : end_of order source g tables ledger₀ cells₀ start budget
-      ≡ run_from (machine_over g tables ledger₀ cells₀) (chooser_for order source g tables ledger₀ cells₀) (budget - firings) firings (state_in ledger cells used)
-
--- the log after some firings, from one as lent
-pub record Noted (g : List Instruction) (order : Order) (source tables ledger₀ cells₀ log₀ : List ℕ) (start budget : ℕ) (ledger cells log : List ℕ) (used firings : ℕ) : Type 0 where
-  pub done : List Tag
-  pub count : length done ≡ firings
-  pub size : length log ≡ length log₀
-  pub written : log ≡ recorded done log₀
-  -- the log that is left to write
-  pub to_log : fired_by order source g tables ledger₀ cells₀ start budget
-      ≡ done ++ log_from (machine_over g tables ledger₀ cells₀) (chooser_for order source g tables ledger₀ cells₀) (budget - firings) firings (state_in ledger cells used)
-
--- the ledger, cells and log that a run was lent, and the tokens that it went on from
-pub record Lent : Type 0 where
-  pub ledger : List ℕ
-  pub cells : List ℕ
-  pub log : List ℕ
-  pub start : ℕ
-
--- a run that was lent these has come so far
-pub record Come (l : Lent) (order : Order) (source : List ℕ) (g : List Instruction) (budget : ℕ) (tables links flags ledger cells log : List ℕ) (used firings : ℕ) : Type 0 where
-  pub so_far : SoFar g order source l.ledger l.cells l.start budget tables links flags ledger cells used firings
-  pub noted : Noted g order source tables l.ledger l.cells l.log l.start budget ledger cells log used firings
-
--- a stretch of turns, from f firings on, ended with a firing after which the held activities have to be looked at again
-pub record PausedAt (l : Lent) (order : Order) (source : List ℕ) (g : List Instruction) (budget f : ℕ) (tables links flags ledger cells log nexts held marks : List ℕ) (firings before tokens : ℕ) : Type 0 where
-  pub come : Come l order source g budget tables links flags ledger cells log tokens firings
-  pub more : f < firings
-  pub fired : FiredOn order g tables flags ledger before tokens nexts held marks
-
--- or with the run
-pub record EndedWith (l : Lent) (order : Order) (source : List ℕ) (g : List Instruction) (budget : ℕ) (tables links flags ledger cells log nexts held marks : List ℕ) (r : Answer) : Type 0 where
-  pub proceeded : Proceeded (end_of order source g tables l.ledger l.cells l.start budget) r g tables links flags ledger cells l.start l.ledger l.cells
-  pub written : log ≡ recorded (fired_by order source g tables l.ledger l.cells l.start budget) l.log
-  pub bounding : Bounding order g tables flags ledger r.tokens nexts held marks
-
-abbrev pub CameTo : Reached → Lent → Order → (source : List ℕ) → List Instruction → (budget f : ℕ) → (tables links flags ledger cells log nexts held marks : List ℕ) → Type 0
-CameTo (Reaches.Paused firings before tokens place) l order source g budget f tables links flags ledger cells log nexts held marks =
-    PausedAt l order source g budget f tables links flags ledger cells log nexts held marks firings before tokens
-CameTo (Reaches.Ended r) l order source g budget f tables links flags ledger cells log nexts held marks =
-    EndedWith l order source g budget tables links flags ledger cells log nexts held marks r
 
 -- ---- with a bound (02, R-9)
 

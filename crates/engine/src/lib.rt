@@ -6,13 +6,14 @@ ghost use Rattle.std.specs.Prelude.{◌<◌, ◌≡◌, length};
 ghost use Rattle.record.specs.GraphRecords.{graph_of};
 ghost use Rattle.rules.specs.Answer.{values_checked};
 ghost use Rattle.rules.specs.Check.{check_graph};
+ghost use Rattle.rules.specs.Run.{Ran};
 ghost use Rattle.rules.specs.Bounded.{BoundCarriedOn};
 ghost use Rattle.fire.specs.Running.{Prepared, Running};
+ghost use Rattle.start.specs.Begun.{Accepted};
 ghost use Rattle.start.specs.Ended.{EndedAt};
 ghost use Rattle.engine.specs.Promise.{lent_to_run, left_by_run, BoundedOn, lent_to_logged, left_by_logged, BoundLoggedOn};
-ghost use Rattle.engine.specs.Resumed.{resume_lent_checked};
-ghost use Rattle.engine.specs.Played.{MayBegin, Played};
-ghost use Rattle.engine.specs.Turns.{recorded, end_bounded, fired_bounded};
+ghost use Rattle.engine.specs.Resumed.{resume_lent_checked, LentToResume, resumed};
+ghost use Rattle.engine.specs.Turns.{recorded, end_bounded, fired_bounded, end_from_inputs, fired_from_inputs};
 
 use crate::turns::Going;
 use checks::{bound, graph, stores};
@@ -22,13 +23,6 @@ use rules::answer::{Answer, Checked, Refusal};
 use store_chains::Links;
 use store_enabled::Tables;
 use store_flags::Flags;
-
-// Where a run begins: with its inputs, or in a saved state, told by its firings and tokens.
-#[derive(Drop)]
-pub enum Origin {
-    Inputs,
-    Saved(usize, usize),
-}
 
 // A run goes on from a state under picks, with a bound or, where it is 0, without one.
 fn go_on(
@@ -58,54 +52,42 @@ fn go_on(
     )
 }
 
-// A run that passed its checks begins and goes on. With inputs all cells are set absent, and the inputs go into the ledger; a saved state is taken, or
-// refused by 24 (02, R-13). No other function begins a run, so that the compiler has the loop and its arrays in one piece.
-fn play(
+// A run that passed every check: all cells are set absent, the inputs go into the ledger, and it
+// proceeds.
+fn accepted(
     graph: &[u8],
     arrays: &[u8],
     inputs: &[u8],
     picks: &[u8],
     budget: usize,
     bound: usize,
-    origin: Origin,
     ledger: &mut [u8],
     cells: &mut [u8],
     log: &mut [u8],
 ) -> Answer
-    requires { MayBegin origin graph.now arrays.now inputs.now (length ledger.old) (length cells.old) × (budget < 65536) × (bound < 65536) }
-    ensures { Played origin bound graph.now arrays.now inputs.now picks.now budget ledger.old
-        cells.old log.old result ledger.new cells.new log.new }
+    requires { Accepted graph.now arrays.now inputs.now (length ledger.old) (length cells.old) × (bound < 65536) }
+    ensures ended_at { EndedAt
+        (end_from_inputs bound picks.now budget graph.now arrays.now inputs.now ledger.old
+        cells.old) result ledger.old cells.old ledger.new cells.new }
+    ensures log_after { log.new
+        ≡ recorded
+        (fired_from_inputs bound picks.now budget graph.now arrays.now inputs.now ledger.old
+        cells.old) log.old }
 {
     let mut tables = [0u16; store_enabled::TABLES_LENGTH];
     let mut links = [0u16; store_chains::LENGTH];
     let mut flags = [0u64; store_flags::LENGTH];
-    let mut used = 0;
-    let mut earlier = 0;
-    match origin {
-        Origin::Inputs => {
-            used = start::begin(
-                graph,
-                arrays,
-                inputs,
-                &mut tables,
-                &mut links,
-                &mut flags,
-                ledger,
-                cells,
-            );
-        }
-        Origin::Saved(firings, tokens) => {
-            graph_tables::make(graph, arrays, &mut tables);
-            if !saved::take(
-                graph, &tables, &mut links, &mut flags, ledger, cells, firings, tokens,
-            ) {
-                return answer::refused(Refusal::DamagedState, 0);
-            }
-            used = tokens;
-            earlier = firings;
-        }
-    }
-    let own = go_on(
+    let used = start::begin(
+        graph,
+        arrays,
+        inputs,
+        &mut tables,
+        &mut links,
+        &mut flags,
+        ledger,
+        cells,
+    );
+    go_on(
         graph,
         &tables,
         picks,
@@ -116,9 +98,7 @@ fn play(
         cells,
         log,
         Going { used, budget },
-    );
-    let outcome = own.outcome;
-    answer::answered(outcome, earlier + own.firings, own.tokens)
+    )
 }
 
 // The check of what is lent beside a saved state: the graph, then picks, ledger and cells by their lengths in bytes, then the bound
@@ -135,6 +115,49 @@ fn check_lent(
 {
     let of_stores = bound::check(stores::check(0, picks, ledger, cells), bound);
     checks::check_lent(graph, arrays, of_stores, cells / cell::WIDTH)
+}
+
+// 02, R-13: a saved state is taken, and the run goes on from it; or it is refused by 24.
+fn resume(
+    graph: &[u8],
+    arrays: &[u8],
+    picks: &[u8],
+    budget: usize,
+    bound: usize,
+    firings: usize,
+    used: usize,
+    ledger: &mut [u8],
+    cells: &mut [u8],
+) -> Answer
+    requires { LentToResume graph.now arrays.now (length ledger.old) (length cells.old) × (budget < 65536) × (firings < 65536) × (bound < 65536) }
+    ensures { Ran
+        (resumed graph.now arrays.now picks.now budget bound ledger.old cells.old firings used)
+        result ledger.old ledger.new cells.old cells.new }
+{
+    let mut tables = [0u16; store_enabled::TABLES_LENGTH];
+    let mut links = [0u16; store_chains::LENGTH];
+    let mut flags = [0u64; store_flags::LENGTH];
+    graph_tables::make(graph, arrays, &mut tables);
+    if !saved::take(
+        graph, &tables, &mut links, &mut flags, ledger, cells, firings, used,
+    ) {
+        return answer::refused(Refusal::DamagedState, 0);
+    }
+    let mut none = [0u8; 0];
+    let own = go_on(
+        graph,
+        &tables,
+        picks,
+        bound,
+        &mut links,
+        &mut flags,
+        ledger,
+        cells,
+        &mut none,
+        Going { used, budget },
+    );
+    let outcome = own.outcome;
+    answer::answered(outcome, firings + own.firings, own.tokens)
 }
 
 // Refusals 1 to 5, without a run.
@@ -164,14 +187,13 @@ pub fn run(
         Checked::Failed(r, place) => answer::refused(r, place),
         Checked::Passed => {
             let mut none = [0u8; 0];
-            play(
+            accepted(
                 graph,
                 arrays,
                 inputs,
                 picks,
                 budget as usize,
                 k,
-                Origin::Inputs,
                 ledger,
                 cells,
                 &mut none,
@@ -211,18 +233,7 @@ pub fn run_logged(
     );
     match checked {
         Checked::Failed(r, place) => answer::refused(r, place),
-        Checked::Passed => play(
-            graph,
-            arrays,
-            inputs,
-            picks,
-            firings,
-            k,
-            Origin::Inputs,
-            ledger,
-            cells,
-            log,
-        ),
+        Checked::Passed => accepted(graph, arrays, inputs, picks, firings, k, ledger, cells, log),
     }
 }
 
@@ -246,20 +257,16 @@ pub fn carry_on(
     let checked = check_lent(graph, arrays, picks.len(), k, ledger.len(), cells.len());
     match checked {
         Checked::Failed(r, place) => answer::refused(r, place),
-        Checked::Passed => {
-            let mut none = [0u8; 0];
-            play(
-                graph,
-                arrays,
-                &graph[0..0],
-                picks,
-                budget as usize,
-                k,
-                Origin::Saved(firings as usize, tokens as usize),
-                ledger,
-                cells,
-                &mut none,
-            )
-        }
+        Checked::Passed => resume(
+            graph,
+            arrays,
+            picks,
+            budget as usize,
+            k,
+            firings as usize,
+            tokens as usize,
+            ledger,
+            cells,
+        ),
     }
 }

@@ -1,12 +1,12 @@
 // The turns of a run, whoever chooses: the activity that is chosen fires and is noted, what a bound holds back is known again; until the
 // run is at its end.
-ghost use Rattle.std.specs.Prelude.{◌/◌, ◌≤◌, ◌<◌, ◌≡◌, length, true};
+ghost use Rattle.std.specs.Prelude.{◌/◌, ◌≤◌, ◌<◌, ◌≡◌, length};
 ghost use Rattle.record.specs.GraphRecords.{graph_of};
 ghost use Rattle.record.specs.TokensAndTags.{token_at};
 ghost use Rattle.record.specs.Widths.{token_width};
 ghost use Rattle.fire.specs.Running.{state_in, asked_in, Prepared, Running};
 ghost use Rattle.store_flags.specs.Flags.{Under, flags_of, Counted};
-ghost use Rattle.engine.specs.Turns.{chooser_for, BoundFits, HeldBeside, HeldBack, Turned, fired_by, log_noted, recorded, Proceeded, Bounding, FiredOn, Settled, SettledBy, end_by, Lent, Come, CameTo};
+ghost use Rattle.engine.specs.Turns.{chooser_for, BoundFits, HeldBeside, HeldBack, Turned, end_of, fired_by, log_noted, recorded, Proceeded, Bounding, FiredOn, Settled, SettledBy, end_by};
 
 use crate::choice;
 use crate::choice::{Choice, Order};
@@ -30,19 +30,6 @@ pub enum Turn {
 pub struct Going {
     pub used: usize,
     pub budget: usize,
-}
-
-// What a stretch of turns comes to: the last firing, of the activity at a place, may have changed which activities are held, with the firings
-// of the run up to it and the tokens before and after it; or the run is at its end.
-#[derive(Drop)]
-pub enum Reached {
-    Paused {
-        firings: usize,
-        before: usize,
-        tokens: usize,
-        place: usize,
-    },
-    Ended(Answer),
 }
 
 // The activity that is chosen fires. No other function fires one.
@@ -94,95 +81,7 @@ fn note(log: &mut [u8], i: usize, ledger: &[u8], place: usize)
     }
 }
 
-// 02, R-9: whether a firing that left n tokens where there were `used` leaves the held activities as they were.
-pub fn calm(
-    order: Order,
-    graph: &[u8],
-    tables: &Tables,
-    flags: &Flags,
-    ledger: &[u8],
-    used: usize,
-    n: usize,
-    nexts: &Flags,
-    held: &Flags,
-    marks: &[u16],
-) -> bool
-    requires { FiredOn order (graph_of graph.now) tables.now flags.now ledger.now used n nexts.now held.now marks.now }
-    ensures { result ≡ true
-        → Bounding order (graph_of graph.now) tables.now flags.now ledger.now n nexts.now
-        held.now marks.now }
-{
-    match order {
-        Order::Free(bound) => held::calm(
-            graph, tables, flags, ledger, used, n, bound, nexts, held, marks,
-        ),
-        Order::Oldest => true,
-        Order::Picks => true,
-        Order::Log => true,
-    }
-}
-
-// A run goes on, and notes each firing, up to one after which the held activities have to be looked at again. Whoever chooses, this is
-// the loop. It calls nothing that does not become part of it.
-fn stretch(
-    graph: &[u8],
-    tables: &Tables,
-    order: Order,
-    source: &[u8],
-    links: &mut Links,
-    flags: &mut Flags,
-    nexts: &Flags,
-    held: &Flags,
-    marks: &[u16],
-    ledger: &mut [u8],
-    cells: &mut [u8],
-    log: &mut [u8],
-    going: Going,
-    done: usize,
-) -> Reached
-    requires { Prepared graph.now tables.now
-        × Running (graph_of graph.now) tables.now links.old flags.old ledger.old cells.old going.used
-        × Bounding order (graph_of graph.now) tables.now flags.old ledger.old going.used nexts.now held.now marks.now }
-    ensures { (l : Lent)
-        → Come l order source.now (graph_of graph.now) going.budget tables.now links.old flags.old
-        ledger.old cells.old log.old going.used done
-        → CameTo result l order source.now (graph_of graph.now) going.budget done tables.now links.new
-        flags.new ledger.new cells.new log.new nexts.now held.now marks.now }
-{
-    let budget = going.budget;
-    let mut used = going.used;
-    let mut firings = done;
-    while firings < budget {
-        let turned = take_turn(
-            graph, tables, order, source, firings, links, flags, held, ledger, cells, used,
-        );
-        match turned {
-            Turn::Fired(n, place) => {
-                note(log, firings, ledger, place);
-                firings += 1;
-                if !calm(
-                    order, graph, tables, flags, ledger, used, n, nexts, held, marks,
-                ) {
-                    return Reached::Paused {
-                        firings,
-                        before: used,
-                        tokens: n,
-                        place,
-                    };
-                }
-                used = n;
-            }
-            Turn::Ended(outcome) => {
-                return Reached::Ended(answer::answered(outcome, firings, used))
-            }
-        }
-    }
-    let outcome = ending::rest(tables, flags, ledger, used);
-    Reached::Ended(answer::answered(outcome, firings, used))
-}
-
-// 02, R-9: after a firing of the activity at a place, which left n tokens where there were `used`, the held activities are known again;
-// before the first one all are new.
+// 02, R-9: after a firing of the activity at a place, which left n tokens where there were `used`, the held activities are known again.
 pub fn follow(
     order: Order,
     graph: &[u8],
@@ -201,9 +100,24 @@ pub fn follow(
 {
     match order {
         Order::Free(bound) => {
-            held::follow(
-                graph, tables, flags, ledger, used, n, place, bound, nexts, held, marks,
-            );
+            if !held::calm(
+                graph, tables, flags, ledger, used, n, bound, nexts, held, marks,
+            ) {
+                // Parts that are the whole: the slices as they are would be stored in every turn.
+                held::follow(
+                    &graph[0..],
+                    tables,
+                    flags,
+                    &ledger[0..],
+                    used,
+                    n,
+                    place,
+                    bound,
+                    nexts,
+                    held,
+                    marks,
+                );
+            }
         }
         Order::Oldest => {}
         Order::Picks => {}
@@ -211,8 +125,8 @@ pub fn follow(
     }
 }
 
-// A run goes on from a state to its end. The arrays of what is held back are lent; an order that holds nothing back does not look at
-// them.
+// A run goes on from a state, and notes each firing. Whoever chooses, this is the loop. The arrays of what is held back are lent; an
+// order that holds nothing back does not look at them.
 fn turns(
     graph: &[u8],
     tables: &Tables,
@@ -232,49 +146,75 @@ fn turns(
         × Running (graph_of graph.now) tables.now links.old flags.old ledger.old cells.old going.used
         × Bounding order (graph_of graph.now) tables.now flags.old ledger.old going.used nexts.old held.old marks.old }
     ensures proceeded { Proceeded
-        (end_by order source.now (graph_of graph.now) tables.now ledger.old cells.old
+        (end_of order source.now (graph_of graph.now) tables.now ledger.old cells.old
         going.used going.budget) result (graph_of graph.now) tables.now links.new flags.new
         ledger.new cells.new going.used ledger.old cells.old }
     ensures log_after { log.new
         ≡ recorded
         (fired_by order source.now (graph_of graph.now) tables.now ledger.old cells.old
         going.used going.budget) log.old }
+    ensures bounding { Bounding order (graph_of graph.now) tables.now flags.new ledger.new result.tokens nexts.new
+        held.new marks.new }
 {
     let budget = going.budget;
     let mut used = going.used;
-    let mut done = 0;
-    loop {
-        let came = stretch(
-            graph,
-            tables,
-            order,
-            source,
-            links,
-            flags,
-            nexts,
-            held,
-            marks,
-            ledger,
-            cells,
-            log,
-            Going { used, budget },
-            done,
+    let mut firings = 0;
+    while firings < budget {
+        let turned = take_turn(
+            graph, tables, order, source, firings, links, flags, held, ledger, cells, used,
         );
-        match came {
-            Reached::Ended(own) => return settle_by(order, tables, flags, held, ledger, own),
-            Reached::Paused {
-                firings,
-                before,
-                tokens,
-                place,
-            } => {
+        match turned {
+            Turn::Fired(n, place) => {
                 follow(
-                    order, graph, tables, flags, ledger, before, tokens, place, nexts, held, marks,
+                    order, graph, tables, flags, ledger, used, n, place, nexts, held, marks,
                 );
-                used = tokens;
-                done = firings;
+                // After a firing: the activity has its tag at its place, and there are n tokens. Noted before `follow`, the run would be longer.
+                note(log, firings, ledger, place);
+                used = n;
+                firings += 1;
             }
+            Turn::Ended(outcome) => return answer::answered(outcome, firings, used),
         }
+    }
+    let outcome = ending::rest(tables, flags, ledger, used);
+    answer::answered(outcome, firings, used)
+}
+
+// 02, R-9: the held activities are known before the first turn. Not by `follow`: a second caller would cost each turn of every run a call.
+pub fn hold_first(
+    order: Order,
+    graph: &[u8],
+    tables: &Tables,
+    flags: &Flags,
+    ledger: &[u8],
+    used: usize,
+    nexts: &mut Flags,
+    held: &mut Flags,
+    marks: &mut [u16],
+)
+    requires { FiredOn order (graph_of graph.now) tables.now flags.now ledger.now 0 used nexts.old held.old marks.old }
+    ensures { Bounding order (graph_of graph.now) tables.now flags.now ledger.now used nexts.new
+        held.new marks.new }
+{
+    match order {
+        Order::Free(bound) => {
+            held::follow(
+                &graph[0..],
+                tables,
+                flags,
+                &ledger[0..],
+                0,
+                used,
+                0,
+                bound,
+                nexts,
+                held,
+                marks,
+            );
+        }
+        Order::Oldest => {}
+        Order::Picks => {}
+        Order::Log => {}
     }
 }
 
@@ -336,11 +276,12 @@ pub fn proceed(
     let mut nexts = [0u64; store_flags::LENGTH];
     let mut held = [0u64; store_flags::LENGTH];
     let mut marks = [0u16; 4096];
-    follow(
-        order, graph, tables, flags, ledger, 0, going.used, 0, &mut nexts, &mut held, &mut marks,
+    hold_first(
+        order, graph, tables, flags, ledger, going.used, &mut nexts, &mut held, &mut marks,
     );
-    turns(
+    let own = turns(
         graph, tables, order, source, links, flags, &mut nexts, &mut held, &mut marks, ledger,
         cells, log, going,
-    )
+    );
+    settle_by(order, tables, flags, &held, ledger, own)
 }

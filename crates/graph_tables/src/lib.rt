@@ -1,16 +1,15 @@
 // The tables of a run in one array, by which a firing need not look through the graph: returns by site, the named arrays, and
 // entries for operand counts by instruction.
-ghost use Rattle.std.specs.Prelude.{◌≡◌, List, ℕ, ◌+◌, ◌/◌, ◌≤◌, ◌<◌, length, get_or};
+ghost use Rattle.std.specs.Prelude.{◌≡◌, ℕ, ◌+◌, ◌/◌, ◌≤◌, ◌<◌, length, get_or};
 ghost use Rattle.record.specs.Widths.{array_width};
 ghost use Rattle.record.specs.Arrays.{most_arrays, arrays_of};
-ghost use Rattle.record.specs.GraphRecords.{graph_of};
-ghost use Rattle.record.specs.declared.instruction.Instruction.{Instruction};
+ghost use Rattle.record.specs.GraphRecords.{OperandCounts, graph_of};
 ghost use Rattle.record.specs.declared.tag.Tag.{Tag};
 ghost use Rattle.rules.specs.InstructionSet.{arity_in};
 ghost use Rattle.store_enabled.specs.Enabled.{waited_for};
 ghost use Rattle.check_fields.specs.Sites.{at_site};
 ghost use Rattle.rules.specs.declared.answer.Checked.TheVariants.{Passed};
-ghost use Rattle.rules.specs.Check.{check_graph, instruction_at};
+ghost use Rattle.rules.specs.Check.{check_graph};
 ghost use Rattle.abstraction.specs.Tables.{Arities, Returns, arrays_in, TablesOf};
 
 use check_fields::constant;
@@ -18,21 +17,35 @@ use record::instruction::Instruction;
 use record::{array, instruction, operation};
 use store_enabled::Tables;
 
-// The entry of each code, which says for each activity of such an instruction how many operands that waits for.
-fn entries_by_code() -> [u8; 256]
-    ensures { (g : List Instruction) (tag : Tag) (code : ℕ) → code < 256 → (instruction_at g tag.instruction).code ≡ code → waited_for (get_or result code 0) tag ≡ arity_in g tag }
+// The entry of instruction i, which says for each of its activities how many operands that waits for.
+fn entry_at(counts: &[u8; 256], graph: &[u8], i: usize) -> u16
+    requires { OperandCounts counts.now }
+    ensures { (tag : Tag) → tag.instruction ≡ i → waited_for result tag ≡ arity_in (graph_of graph.now) tag }
 {
-    let mut entries = operation::counts();
-    entries[3] = 0;
-    entries[9] = store_enabled::LEAVE_ENTRY as u8;
-    entries
+    if i < graph.len() / instruction::WIDTH {
+        let code = graph[i * instruction::WIDTH];
+        match code {
+            3 => 0,
+            9 => store_enabled::LEAVE_ENTRY,
+            _ => operation::count_of(counts, code) as u16,
+        }
+    } else {
+        0
+    }
 }
 
-// The entry of a code, by that table.
-fn entry_of(entries: &[u8; 256], code: u8) -> u8
-    ensures { result ≡ get_or entries.now code 0 }
+// The entries for operand counts, behind all else.
+fn arities(graph: &[u8], out: &mut Tables)
+    requires { (check_graph graph.now ≡ Passed) × (length out.old ≡ 641) }
+    ensures arities { Arities (graph_of graph.now) out.new × (length out.new ≡ 641) }
+    ensures returns { Returns (graph_of graph.now) out.old → Returns (graph_of graph.now) out.new }
 {
-    entries[code as usize]
+    let counts = operation::counts();
+    let mut i = 0;
+    while i < 256 {
+        out[i + 385] = entry_at(&counts, graph, i);
+        i += 1;
+    }
 }
 
 // Puts the return of an ENTER into the table.
@@ -49,21 +62,15 @@ fn note(out: &mut Tables, r: Instruction)
     }
 }
 
-// The returns, and the entries for operand counts behind all else. From the last record to the first, since the first ENTER of a site
-// counts; the entries past the graph stay 0.
-fn walk(graph: &[u8], out: &mut Tables)
-    requires { check_graph graph.now ≡ Passed }
-    ensures returns { Returns (graph_of graph.now) out.new × Arities (graph_of graph.now) out.new }
-    ensures out_len { length out.new ≡ 641 }
+// The returns, from the last record to the first, since the first ENTER of a site counts.
+fn returns(graph: &[u8], out: &mut Tables)
+    ensures { Returns (graph_of graph.now) out.new × (length out.new ≡ 641) }
 {
-    let entries = entries_by_code();
     *out = [0u16; store_enabled::TABLES_LENGTH];
     let mut i = graph.len() / instruction::WIDTH;
     while 0 < i {
         i -= 1;
-        let r = instruction::instruction_at(graph, i);
-        out[i + 385] = entry_of(&entries, r.code) as u16;
-        note(out, r);
+        note(out, instruction::instruction_at(graph, i));
     }
 }
 
@@ -90,6 +97,7 @@ pub fn make(graph: &[u8], arrays: &[u8], out: &mut Tables)
     requires { (check_graph graph.now ≡ Passed) × (length arrays.now / array_width ≤ most_arrays) }
     ensures { TablesOf graph.now arrays.now out.new }
 {
-    walk(graph, out);
+    returns(graph, out);
+    arities(graph, out);
     name(arrays, out);
 }

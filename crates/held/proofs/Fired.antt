@@ -87,7 +87,7 @@ get_d_map f (x ∷ l) (suc i) d = get_d_map f l i d
 held_there : (l : List ℕ) (k i : ℕ) → i < k → get_or (map token_held (tokens k l)) i (token_held no_token) ≡ token_held (token_at l i)
 held_there l k i h = get_d_map token_held (tokens k l) i no_token ∙ ap token_held (get_d_rows token_width decode_token k i l no_token h)
 
--- a firing of any effect that names cells of the store
+-- a firing of whatever effect, if that names cells of the store
 module _ (graph : List ℕ) {tables links flags links' flags' ledger' cells' : List ℕ} {n used : ℕ} {ledger cells : List ℕ} {τ : Tag} {e : Effect Refusal Tag ℤ}
     (now : Running (graph_of graph) tables links flags ledger cells used) (below : CellsBelow (length cells / cell_width) e) (w : Went (graph_of graph) τ e tables links' flags' ledger' cells' n used ledger cells) where
   abbrev M : Machine

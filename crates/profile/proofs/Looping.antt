@@ -23,7 +23,6 @@ use Rattle.machine.proofs.Sequences.{joined, no_longer}
 use Rattle.rules.specs.declared.answer.Refusal.{Refusal}
 use Rattle.rules.specs.declared.answer.Refusal.TheVariants.{ProfileFull}
 use Rattle.rules.specs.declared.answer.Outcome as AnswerOutcome
-use Rattle.rules.specs.declared.answer.Outcome.TheVariants as Outcomes
 use Rattle.rules.specs.declared.answer.Profiled.{Profiled}
 use Rattle.rules.specs.InstructionSet.{machine_of}
 use Rattle.rules.specs.Run.{outcome_of}
@@ -37,17 +36,8 @@ use Rattle.fire.specs.Running.{machine_over, state_in, Running, Prepared}
 use Rattle.fire.proofs.Place.{on_ports}
 use Rattle.start.specs.Ended.{EndedAt}
 use Rattle.start.proofs.Ending.{left}
-use Rattle.profile.specs.Steps.{unspent_at, profile_from, WentBy, AllFired, ProfileHalted, StepDone, LastAs, ProfiledTo}
+use Rattle.profile.specs.Steps.{unspent_at, profile_from, WentBy, SteppedWhole, ProfileHalted, LastAs, ProfiledTo}
 use Rattle.profile.proofs.Stepping.{held_size}
-
--- ---- a step, whatever its outcome
-
-pub went_of : (o : AnswerOutcome.Outcome) (spent : ℕ) {g : List Instruction} {tables links flags ledger' cells' : List ℕ} {count n used : ℕ} {ledger cells : List ℕ}
-    → StepDone o g tables links flags ledger' cells' count n spent used ledger cells → WentBy g tables links flags ledger' cells' count n used ledger cells
-went_of Outcomes.Completed gone d = d.went
-went_of Outcomes.Hung gone d = d.went
-went_of Outcomes.Spent gone d = d.went
-went_of (Outcomes.Refused r p) gone d = d.went
 
 -- ---- firings after firings
 
@@ -91,12 +81,12 @@ unfolding encode_step
 length_record r = refl
 
 -- after some whole steps, from ledger, cells and profile as lent
-pub record SoFar (g : List Instruction) (ledger₀ cells₀ profile₀ : List ℕ) (start room : ℕ) (tables links flags ledger cells profile' : List ℕ) (used spent firings records : ℕ) : Type 0 where
+pub record SoFar (g : List Instruction) (ledger₀ cells₀ profile₀ : List ℕ) (start room : ℕ) (tables links flags ledger cells profile' : List ℕ) (used unspent firings records : ℕ) : Type 0 where
   pub rs : List StepRecord
   pub counted : length rs ≡ records
   pub within : records ≤ room
   pub written : profile' ≡ Rows.joined encode_step rs ++ drop (records * step_width) profile₀
-  pub unspent_left : unspent_at g tables ledger cells used + spent ≡ used
+  pub unspent_left : unspent ≡ unspent_at g tables ledger cells used
   pub went : WentBy g tables links flags ledger cells firings used start ledger₀ cells₀
   -- the profile that is left to do
   pub to_do : profile_from g room 0 tables ledger₀ cells₀ start ≡ after rs (profile (machine_over g tables ledger₀ cells₀) ProfileFull (room - records) firings (state_in ledger cells used))
@@ -109,18 +99,18 @@ module _ (graph : List ℕ) {tables links₀ flags₀ ledger₀ cells₀ : List 
   abbrev M₀ : Machine
   M₀ = machine_over g tables ledger₀ cells₀
 
-  pub begun : start ≡ unspent_at g tables ledger₀ cells₀ start → SoFar g ledger₀ cells₀ profile₀ start room tables links₀ flags₀ ledger₀ cells₀ profile₀ start 0 0 0
+  pub begun : start ≡ unspent_at g tables ledger₀ cells₀ start → SoFar g ledger₀ cells₀ profile₀ start room tables links₀ flags₀ ledger₀ cells₀ profile₀ start start 0 0
   begun e = record {
     rs = [];
     counted = refl;
     within = omega arith;
     written = refl;
-    unspent_left = omega (arith, e);
+    unspent_left = e;
     went = record { log = []; fires = refl; counted = refl; running = now₀; grown = omega arith; size = refl; rest = refl; cell_size = refl };
     to_do = let b : room ≡ room - 0 = omega arith in ap (λ (n : ℕ). profile_from g n 0 tables ledger₀ cells₀ start) b;
   }
 
-  module _ {links flags ledger cells profile' : List ℕ} {used spent firings records : ℕ} (so : SoFar g ledger₀ cells₀ profile₀ start room tables links flags ledger cells profile' used spent firings records) where
+  module _ {links flags ledger cells profile' : List ℕ} {used unspent firings records : ℕ} (so : SoFar g ledger₀ cells₀ profile₀ start room tables links flags ledger cells profile' used unspent firings records) where
     to_do_lem : (b : ℕ) → room - records ≡ b → profile_from g room 0 tables ledger₀ cells₀ start ≡ after so.rs (profile M₀ ProfileFull b firings (state_in ledger cells used))
     to_do_lem b e = so.to_do ∙ ap (λ (n : ℕ). after so.rs (profile M₀ ProfileFull n firings (state_in ledger cells used))) e
 
@@ -130,12 +120,10 @@ module _ (graph : List ℕ) {tables links₀ flags₀ ledger₀ cells₀ : List 
         ap length so.written ∙ omega (arith, length-append (Rows.joined encode_step so.rs) (drop (records * step_width) profile₀), b, length-drop (records * step_width) profile₀, so.within)
 
     -- a whole step
-    pub advanced : records < room → {links' flags' ledger' cells' profile'' : List ℕ} {count n gone : ℕ} → AllFired g tables links' flags' ledger' cells' count n gone used ledger cells
-        → profile'' ≡ put_row step_width profile' records (encode_step (record { firings = count; unspent = n - gone }))
-        → SoFar g ledger₀ cells₀ profile₀ start room tables links' flags' ledger' cells' profile'' n gone (firings + count) (records + 1)
-    advanced h {ledger' = ledger'} {cells' = cells'} {count = count} {n = n} {gone = gone} w put =
-        let live = unspent_at g tables ledger' cells' n in
-        let same : n - gone ≡ live = omega (arith, w.unspent_left) in
+    pub advanced : records < room → {links' flags' ledger' cells' profile'' : List ℕ} {count n live : ℕ} → SteppedWhole g tables links' flags' ledger' cells' count n live used ledger cells
+        → profile'' ≡ put_row step_width profile' records (encode_step (record { firings = count; unspent = live }))
+        → SoFar g ledger₀ cells₀ profile₀ start room tables links' flags' ledger' cells' profile'' n live (firings + count) (records + 1)
+    advanced h {ledger' = ledger'} {cells' = cells'} {count = count} {n = n} {live = live} w put =
         let r : StepRecord = record { firings = count; unspent = live } in
         let s = state_in ledger cells used in
         let x = state_in ledger' cells' n in
@@ -150,7 +138,6 @@ module _ (graph : List ℕ) {tables links₀ flags₀ ledger₀ cells₀ : List 
           within = omega arith;
           written =
               put
-              ∙ ap (λ (u : ℕ). put_row step_width profile' records (encode_step (record { firings = count; unspent = u }))) same
               ∙ ap (λ (l : List ℕ). put_row step_width l records (encode_step r)) so.written
               ∙ ap (λ (k : ℕ). put_row step_width (Rows.joined encode_step so.rs ++ drop (records * step_width) profile₀) k (encode_step r)) (sym so.counted)
               ∙ put_end step_width encode_step length_record so.rs (drop (records * step_width) profile₀) r

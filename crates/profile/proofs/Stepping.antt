@@ -1,6 +1,6 @@
 -- A step of a profile: what is enabled at its start by the arrays is what the machine has enabled there, and the activities at their places, fired in turn, are the
 -- machine's step. Assumes nothing.
-use Prim.Native.Nat.{ℕ, zero, suc, ◌+◌, ◌*◌, ◌/◌, ◌<◌}
+use Prim.Native.Nat.{ℕ, zero, suc, ◌+◌, ◌-◌, ◌*◌, ◌/◌, ◌≤◌, ◌<◌}
 use mathlib.Core.Path.{◌≡◌, refl, sym, ap, ◌∙◌, subst}
 use mathlib.Core.List.Memᴰ
 use mathlib.Core.List.{List, [], ◌∷◌, ◌++◌, map, Memᴰ}
@@ -20,12 +20,11 @@ use Rattle.record.specs.TokensAndTags.{tokens, token_at}
 use Rattle.record.specs.TokensAndTags as Tokens
 use Rattle.record.specs.Widths.{token_width, cell_width}
 use Rattle.buffer.proofs.Tables.{length_rows, get_d_rows}
-use Rattle.machine.specs.Machine.{Machine, State, Outcome, completed, hung, Activity, refused, FiredOf, ending, enabled, fire, fired, not_fired, end}
+use Rattle.machine.specs.Machine.{Machine, State, Ledger, Activity, live, spent, deferred, Content, refused, FiredOf, ending, enabled, fire, fired, not_fired, end}
 use Rattle.machine.specs.Orders.{Lawful, Good}
-use Rattle.machine.specs.Steps.{Profile, unspent_in, ends_here, after_step, tried, fires_in_turn, profile}
+use Rattle.machine.specs.Steps.{Profile, is_unspent, unspent_in, ends_here, after_step, tried, fires_in_turn, profile}
 use Rattle.machine.specs.Sequences.{Fires}
 use Rattle.machine.proofs.Sequences.{joined}
-use Rattle.machine.proofs.Ending.{ending_cases}
 use Rattle.machine.proofs.Steps.{Waiting, at_start, waits_on, unspent_fired, profile_rests, profile_no_record, profile_step}
 use Rattle.machine.proofs.Choosers.{places_of}
 use Rattle.rules.specs.declared.answer.Refusal.{Refusal}
@@ -33,7 +32,7 @@ use Rattle.rules.specs.declared.answer.Refusal.TheVariants.{ProfileFull}
 use Rattle.rules.specs.declared.answer.Outcome as AnswerOutcome
 use Rattle.rules.specs.declared.answer.Outcome.TheVariants as Outcomes
 use Rattle.rules.specs.InstructionSet.{machine_of}
-use Rattle.rules.specs.Run.{token_held, outcome_of}
+use Rattle.rules.specs.Run.{token_held}
 use Rattle.rules.proofs.Lawful.{lawful}
 use Rattle.store_flags.specs.Flags.{places, flags_of}
 use Rattle.store_chains.proofs.Index.{and_right}
@@ -50,10 +49,24 @@ use Rattle.fire.specs.Running as Firing
 use Rattle.fire.proofs.Effects.{fires_asked}
 use Rattle.fire.proofs.Place.{on_ports}
 use Rattle.engine.proofs.Looping.{Underway, none_fired, as_lent, went_on}
-use Rattle.profile.specs.Steps.{OneOrTwo, PlacesIn, unspent_at, profile_from, WentBy, ProfileHalted, AllFired, StepDone, LastAs}
+use Rattle.profile.specs.Steps.{OneOrTwo, PlacesIn, unspent_at, WentBy, SteppedWhole, ProfileHalted, AllFired, LastAs}
+
+-- ---- live and deferred tokens
+
+one_at_most : {W : Type 0} (x : Content W) → is_unspent x ≤ 1
+one_at_most (live v) = omega arith
+one_at_most (spent v) = omega arith
+one_at_most (deferred c) = omega arith
+
+pub unspent-few : (M : Machine) (ts : Ledger M) → unspent_in M ts ≤ length ts
+unspent-few M [] = omega arith
+unspent-few M (t ∷ ts) = omega (arith, unspent-few M ts, one_at_most t.content)
 
 pub held_size : (used : ℕ) (ledger : List ℕ) → length (map token_held (tokens used ledger)) ≡ used
 held_size used ledger = length-map (tokens used ledger) token_held ∙ length_rows token_width Tokens.decode_token used ledger
+
+pub unspent-below : {g : List Instruction} {tables links flags ledger cells : List ℕ} {used live : ℕ} → Running g tables links flags ledger cells used → live ≡ unspent_at g tables ledger cells used → live ≤ used
+unspent-below {g} {tables} {ledger = ledger} {cells = cells} {used = used} now e = omega (arith, unspent-few (machine_over g tables ledger cells) (state_in ledger cells used).tokens, held_size used ledger)
 
 -- ---- what is enabled
 
@@ -105,7 +118,8 @@ pub record Midway (g : List Instruction) (tables ledger₀ cells₀ : List ℕ) 
   pub log : List Tag
   pub fires : Fires (machine_over g tables ledger₀ cells₀) (state_in ledger₀ cells₀ start) log (state_in ledger cells used)
   pub counted : length log ≡ k
-  pub unspent : unspent_in (machine_over g tables ledger₀ cells₀) (state_in ledger cells used).tokens + spent ≡ used
+  pub few : spent ≤ 2 * k
+  pub unspent : unspent_in (machine_over g tables ledger₀ cells₀) (state_in ledger cells used).tokens + spent ≡ unspent_at g tables ledger₀ cells₀ start + (used - start)
   pub under : Underway g ledger₀ cells₀ start tables links flags ledger cells used
   -- those that are left
   pub more : List (Activity Tag)
@@ -167,30 +181,20 @@ module _ (graph : List ℕ) {tables links₀ flags₀ ledger₀ cells₀ : List 
   acts_all : (count : ℕ) → count ≡ length (places (flags_of flags₀)) → count ≡ length acts
   acts_all count e = e ∙ ap length (sym places_here) ∙ length-map acts (λ (a : Activity Tag). a.place)
 
-  rests_as : (v : Outcome Refusal) → ((left f : ℕ) → profile_from g (suc left) f tables ledger₀ cells₀ start ≡ ends_here M₀ (end M₀ v (f + 0) s₀))
-      → ProfileHalted (outcome_of v) g tables links₀ flags₀ ledger₀ cells₀ 0 start start ledger₀ cells₀
-  rests_as v h = record {
-    went = record { log = []; fires = refl; counted = refl; running = now₀; grown = omega arith; size = refl; rest = refl; cell_size = refl };
-    outcome = v;
-    told = refl;
-    ends = h;
-  }
-
   -- nothing is enabled
-  pub step_none : (count gone : ℕ) → count ≡ length (places (flags_of flags₀)) → count ≡ 0 → (o : AnswerOutcome.Outcome) → EndsWith o tables (tokens start ledger₀)
-      → StepDone o g tables links₀ flags₀ ledger₀ cells₀ 0 start gone start ledger₀ cells₀
-  step_none count gone e z o said =
-      subst (λ (w : AnswerOutcome.Outcome). StepDone w g tables links₀ flags₀ ledger₀ cells₀ 0 start gone start ledger₀ cells₀)
-      (sym (said g ready.arities_right (arrays_in tables) (length ledger₀ / token_width) (length cells₀ / cell_width) (cells_in cells₀)))
-      (ending_cases M₀ s₀
-      (λ v. ((left f : ℕ) → profile_from g (suc left) f tables ledger₀ cells₀ start ≡ ends_here M₀ (end M₀ v (f + 0) s₀)) → StepDone (outcome_of v) g tables links₀ flags₀ ledger₀ cells₀ 0 start gone start ledger₀ cells₀)
-      (λ p h. rests_as completed h) (λ p h. rests_as hung h)
-      (λ left f.
-      let same : f ≡ f + 0 = omega arith in
-      profile_rests M₀ law ProfileFull (suc left) f s₀
-      (none_enabled g (arrays_in tables) (length ledger₀ / token_width) (length cells₀ / cell_width) tables (tokens start ledger₀) (cells_in cells₀) ready.arities_right (on_ports g (tokens start ledger₀) now₀.arrived)
-      (sym (e ∙ ap length (matching_places now₀.matching)) ∙ z))
-      ∙ ap (λ (n : ℕ). ends_here M₀ (end M₀ (ending M₀ s₀) n s₀)) same))
+  pub step_none : (count : ℕ) → count ≡ length (places (flags_of flags₀)) → count ≡ 0 → (o : AnswerOutcome.Outcome) → EndsWith o tables (tokens start ledger₀)
+      → ProfileHalted o g tables links₀ flags₀ ledger₀ cells₀ 0 start start ledger₀ cells₀
+  step_none count e z o said = record {
+    went = record { log = []; fires = refl; counted = refl; running = now₀; grown = omega arith; size = refl; rest = refl; cell_size = refl };
+    outcome = ending M₀ s₀;
+    told = sym (said g ready.arities_right (arrays_in tables) (length ledger₀ / token_width) (length cells₀ / cell_width) (cells_in cells₀));
+    ends = λ left f.
+        let same : f ≡ f + 0 = omega arith in
+        profile_rests M₀ law ProfileFull (suc left) f s₀
+        (none_enabled g (arrays_in tables) (length ledger₀ / token_width) (length cells₀ / cell_width) tables (tokens start ledger₀) (cells_in cells₀) ready.arities_right (on_ports g (tokens start ledger₀) now₀.arrived)
+        (sym (e ∙ ap length (matching_places now₀.matching)) ∙ z))
+        ∙ ap (λ (n : ℕ). ends_here M₀ (end M₀ (ending M₀ s₀) n s₀)) same;
+  }
 
   -- a step of the machine is its activities in turn
   by_turns : (left f : ℕ) → 0 < length acts
@@ -210,12 +214,13 @@ module _ (graph : List ℕ) {tables links₀ flags₀ ledger₀ cells₀ : List 
     some_enabled : 0 < count → 0 < length acts
     some_enabled h = omega (arith, acts_all count w.counted)
 
-    pub begun : {gone : ℕ} → unspent_at g tables ledger₀ cells₀ start + gone ≡ start → Midway g tables ledger₀ cells₀ start count from links₀ flags₀ ledger₀ cells₀ start 0 gone
-    begun e = record {
+    pub begun : Midway g tables ledger₀ cells₀ start count from links₀ flags₀ ledger₀ cells₀ start 0 0
+    begun = record {
       log = [];
       fires = refl;
       counted = refl;
-      unspent = e;
+      few = omega arith;
+      unspent = omega arith;
       under = none_fired g ledger₀ cells₀ start tables now₀;
       more = acts;
       waiting = at_start M₀ s₀;
@@ -314,6 +319,7 @@ module _ (graph : List ℕ) {tables links₀ flags₀ ledger₀ cells₀ : List 
               log = m.log ++ (τ ∷ []);
               fires = joined M₀ m.log (τ ∷ []) s₀ x y m.fires (y, e, refl);
               counted = length-append m.log (τ ∷ []) ∙ omega (arith, m.counted);
+              few = omega (arith, m.few, is, n.standing.arity.1);
               unspent = omega (arith, m.unspent, unspent, is, arity, held_size used ledger, held_size tokens' ledger', m.under.grown, d.grown);
               under = went_on g ledger₀ cells₀ start tables m.under d;
               more = n.after;
@@ -341,3 +347,15 @@ module _ (graph : List ℕ) {tables links₀ flags₀ ledger₀ cells₀ : List 
               ends = λ left f. by_turns left f (some_enabled some) ∙ m.to_do f (next left) ∙ ap (λ (l : List (Activity Tag)). fires_in_turn M₀ l (f + k) x (next left)) n.split
                   ∙ ap (λ (q : FiredOf M₀). tried M₀ (f + k) x a q (λ u. fires_in_turn M₀ n.after (suc (f + k)) u (next left))) e ∙ ap (λ (u : State Tag ℤ). ends_here M₀ (end M₀ (refused r place) (f + k) u)) same;
             }
+
+-- a whole step, by what was live or deferred before it
+pub step-whole : {g : List Instruction} {tables links flags ledger' cells' : List ℕ} {count n gone used unspent : ℕ} {ledger cells : List ℕ} → AllFired g tables links flags ledger' cells' count n gone used ledger cells
+    → unspent ≡ unspent_at g tables ledger cells used → SteppedWhole g tables links flags ledger' cells' count n (unspent + (n - used) - gone) used ledger cells
+step-whole {g} {tables} {ledger' = ledger'} {cells' = cells'} {count = count} {n = n} {gone = gone} {used = used} {unspent = before} {ledger = ledger} {cells = cells} a e =
+    let same : unspent_at g tables ledger' cells' n ≡ before + (n - used) - gone = omega (arith, a.unspent_left, e) in
+    let M = machine_over g tables ledger cells in
+    record {
+      went = a.went;
+      unspent_left = sym same;
+      goes_on = λ left f. a.goes_on left f ∙ (λ i. after_step M (record { firings = count; unspent = same i }) (profile M ProfileFull left (f + count) (state_in ledger' cells' n)));
+    }

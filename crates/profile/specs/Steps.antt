@@ -1,6 +1,6 @@
 -- Working definition: no public promise cites it.
 -- A profile, a step at a time, in the terms of the machine: what a step leaves, and what a profile leaves. Assumes nothing.
-use Rattle.std.specs.Prelude.{ℕ, suc, ◌+◌, ◌*◌, ◌≤◌, ◌<◌, ◌≡◌, List, length, get_or, drop, ℤ}
+use Rattle.std.specs.Prelude.{ℕ, suc, ◌+◌, ◌-◌, ◌*◌, ◌≤◌, ◌<◌, ◌≡◌, List, length, get_or, drop, ℤ}
 use Rattle.record.specs.declared.tag.Tag.{Tag}
 use Rattle.record.specs.declared.array.NamedArray.{NamedArray}
 use Rattle.record.specs.declared.token.Token.{Token}
@@ -25,6 +25,8 @@ use Rattle.abstraction.specs.States.{state_held, OnPorts}
 use Rattle.abstraction.specs.Tables.{Arities}
 use Rattle.fire.specs.Running.{machine_over, state_in, Running}
 use Rattle.start.specs.Ended.{EndedAt}
+use Rattle.profile.specs.declared.StepEnd.{StepEnd}
+use Rattle.profile.specs.declared.StepEnd.TheVariants as StepEnds
 
 -- live plus deferred tokens
 abbrev pub unspent_at : List Instruction → (tables ledger cells : List ℕ) → (used : ℕ) → ℕ
@@ -57,6 +59,13 @@ pub record WentBy (g : List Instruction) (tables links flags ledger' cells' : Li
   pub rest : drop (n * token_width) ledger' ≡ drop (n * token_width) ledger
   pub cell_size : length cells' ≡ length cells
 
+-- a whole step gave one record
+pub record SteppedWhole (g : List Instruction) (tables links flags ledger' cells' : List ℕ) (count n unspent used : ℕ) (ledger cells : List ℕ) : Type 0 where
+  pub went : WentBy g tables links flags ledger' cells' count n used ledger cells
+  pub unspent_left : unspent ≡ unspent_at g tables ledger' cells' n
+  pub goes_on : (left f : ℕ) → profile_from g (suc left) f tables ledger cells used
+      ≡ after_step (machine_over g tables ledger cells) (record { firings = count; unspent = unspent }) (profile (machine_over g tables ledger cells) ProfileFull left (f + count) (state_in ledger' cells' n))
+
 -- a step that ended the profile gave none
 pub record ProfileHalted (o : AnswerOutcome.Outcome) (g : List Instruction) (tables links flags ledger' cells' : List ℕ) (done n used : ℕ) (ledger cells : List ℕ) : Type 0 where
   pub went : WentBy g tables links flags ledger' cells' done n used ledger cells
@@ -64,23 +73,29 @@ pub record ProfileHalted (o : AnswerOutcome.Outcome) (g : List Instruction) (tab
   pub told : outcome_of outcome ≡ o
   pub ends : (left f : ℕ) → profile_from g (suc left) f tables ledger cells used ≡ ends_here (machine_over g tables ledger cells) (end (machine_over g tables ledger cells) outcome (f + done) (state_in ledger' cells' n))
 
--- all its activities fired, and gave one record: what is not spent then is live or deferred
+-- all its activities fired: less their operands, and more what they sent, are live or deferred
 pub record AllFired (g : List Instruction) (tables links flags ledger' cells' : List ℕ) (count n spent used : ℕ) (ledger cells : List ℕ) : Type 0 where
   pub went : WentBy g tables links flags ledger' cells' count n used ledger cells
-  pub unspent_left : unspent_at g tables ledger' cells' n + spent ≡ n
+  pub unspent_left : unspent_at g tables ledger' cells' n + spent ≡ unspent_at g tables ledger cells used + (n - used)
   pub goes_on : (left f : ℕ) → profile_from g (suc left) f tables ledger cells used
       ≡ after_step (machine_over g tables ledger cells) (record { firings = count; unspent = unspent_at g tables ledger' cells' n }) (profile (machine_over g tables ledger cells) ProfileFull left (f + count) (state_in ledger' cells' n))
 
--- a step, by its outcome: `Spent` where all fired
-abbrev pub StepDone : AnswerOutcome.Outcome → List Instruction → (tables links flags ledger' cells' : List ℕ) → (count n spent used : ℕ) → (ledger cells : List ℕ) → Type 0
-StepDone Outcomes.Spent g tables links flags ledger' cells' count n spent used ledger cells =
-    AllFired g tables links flags ledger' cells' count n spent used ledger cells
-StepDone Outcomes.Completed g tables links flags ledger' cells' count n spent used ledger cells =
-    ProfileHalted Outcomes.Completed g tables links flags ledger' cells' count n used ledger cells
-StepDone Outcomes.Hung g tables links flags ledger' cells' count n spent used ledger cells =
-    ProfileHalted Outcomes.Hung g tables links flags ledger' cells' count n used ledger cells
-StepDone (Outcomes.Refused r place) g tables links flags ledger' cells' count n spent used ledger cells =
+-- or one was refused
+abbrev pub FiredAs : AnswerOutcome.Outcome → List Instruction → (tables links flags ledger' cells' : List ℕ) → (count n spent used : ℕ) → (ledger cells : List ℕ) → Type 0
+FiredAs (Outcomes.Refused r place) g tables links flags ledger' cells' count n spent used ledger cells =
     ProfileHalted (Outcomes.Refused r place) g tables links flags ledger' cells' count n used ledger cells
+FiredAs Outcomes.Completed g tables links flags ledger' cells' count n spent used ledger cells =
+    AllFired g tables links flags ledger' cells' count n spent used ledger cells
+FiredAs Outcomes.Hung g tables links flags ledger' cells' count n spent used ledger cells =
+    AllFired g tables links flags ledger' cells' count n spent used ledger cells
+FiredAs Outcomes.Spent g tables links flags ledger' cells' count n spent used ledger cells =
+    AllFired g tables links flags ledger' cells' count n spent used ledger cells
+
+abbrev pub StepDone : StepEnd → List Instruction → (tables links flags ledger' cells' : List ℕ) → (used : ℕ) → (ledger cells : List ℕ) → Type 0
+StepDone (StepEnds.Whole count n unspent) g tables links flags ledger' cells' used ledger cells =
+    SteppedWhole g tables links flags ledger' cells' count n unspent used ledger cells
+StepDone (StepEnds.Ended o done n) g tables links flags ledger' cells' used ledger cells =
+    ProfileHalted o g tables links flags ledger' cells' done n used ledger cells
 
 -- the outcome where no record is left, whatever firings came before
 abbrev pub LastAs : AnswerOutcome.Outcome → (tables : List ℕ) → List Token → Type 0

@@ -1,6 +1,6 @@
 // Profiles for the plotter (02, R-1): a run by ideal steps. In a step every activity that is enabled at its start fires, in ledger
 // order, and each whole step leaves a record.
-ghost use Rattle.std.specs.Prelude.{ℕ, ◌+◌, ◌/◌, ◌<◌, ◌≤◌, ◌≡◌, length};
+ghost use Rattle.std.specs.Prelude.{ℕ, ◌/◌, ◌<◌, ◌≤◌, ◌≡◌, length};
 ghost use Rattle.buffer.specs.Rows.{put_row};
 ghost use Rattle.record.specs.GraphRecords.{graph_of};
 ghost use Rattle.record.specs.TokensAndTags.{tokens, token_at};
@@ -15,7 +15,7 @@ ghost use Rattle.store_flags.specs.Flags.{Counted, places, flags_of};
 ghost use Rattle.store_enabled.specs.Enabled.{arity_of, enabled_places};
 ghost use Rattle.fire.specs.Running.{Prepared, Running};
 ghost use Rattle.start.specs.Begun.{machine_lent};
-ghost use Rattle.profile.specs.Steps.{OneOrTwo, PlacesIn, unspent_at, profile_from, LastAs, StepDone, ProfiledTo};
+ghost use Rattle.profile.specs.Steps.{OneOrTwo, PlacesIn, unspent_at, profile_from, LastAs, FiredAs, StepDone, ProfiledTo};
 
 use checks::stores;
 use fire_commit::Fired;
@@ -28,8 +28,16 @@ use store_flags::Flags;
 // The bytes of a step's record.
 pub const WIDTH: usize = 4;
 
-// How far an ideal step came: all its activities fired, with the outcome `Spent`; or the profile is at its end. The firings of the
-// step that were done, the tokens then, and how many of them are spent.
+// What an ideal step comes to: all its activities fired, with their number, the tokens, and those of them that are live or
+// deferred; or the profile is at its end, with the firings of the step that were done and the tokens.
+#[derive(Drop)]
+pub enum StepEnd {
+    Whole(usize, usize, usize),
+    Ended(Outcome, usize, usize),
+}
+
+// How far the activities of a step came, fired in turn: all of them, or up to the one that was refused; with the tokens then, and the
+// operands that they spent.
 #[derive(Drop)]
 pub struct Progress {
     pub outcome: Outcome,
@@ -121,7 +129,7 @@ fn no_record(tables: &Tables, flags: &Flags, ledger: &[u8], used: usize) -> Outc
     }
 }
 
-// Writes the places of the enabled activities, of which there are `count`, in order. From the word of the first on, the flags of a word are
+// Writes the places of so many enabled activities, which are all, in order. From the word of the first on, the flags of a word are
 // taken away in turn.
 fn put_places(flags: &Flags, count: usize, out: &mut [u16; 2048])
     requires { Counted flags.now × (length out.old ≡ 2048) × (count ≡ length (places (flags_of flags.now))) × (0 < count) }
@@ -159,8 +167,7 @@ fn enabled_places(flags: &Flags, out: &mut [u16; 2048]) -> usize
     count
 }
 
-// The activities at the first places, which are all that are enabled, fire in turn, from a state of `start` tokens, of which `gone`
-// are spent.
+// The activities at the first places, which are all that are enabled, fire in turn.
 fn in_turn(
     graph: &[u8],
     tables: &Tables,
@@ -171,18 +178,16 @@ fn in_turn(
     places: &[u16; 2048],
     count: usize,
     start: usize,
-    gone: usize,
 ) -> Progress
     requires { Prepared graph.now tables.now
         × Running (graph_of graph.now) tables.now links.old flags.old ledger.old cells.old start
-        × (unspent_at (graph_of graph.now) tables.now ledger.old cells.old start + gone ≡ start)
         × PlacesIn count flags.old places.now
         × (0 < count) }
-    ensures { StepDone result.outcome (graph_of graph.now) tables.now links.new flags.new ledger.new
+    ensures { FiredAs result.outcome (graph_of graph.now) tables.now links.new flags.new ledger.new
         cells.new result.firings result.tokens result.spent start ledger.old cells.old }
 {
     let mut used = start;
-    let mut spent = gone;
+    let mut spent = 0;
     let mut firings = 0;
     while firings < count {
         let place = wide(places[firings]);
@@ -211,8 +216,8 @@ fn in_turn(
     }
 }
 
-// An ideal step from a state of `start` tokens, of which `gone` are spent. What becomes enabled within it fires in the next step
-// at the earliest, so the places are taken first.
+// An ideal step from a state of `start` tokens, of which `live` are live or deferred. What becomes enabled within it fires in
+// the next step at the earliest, so the places are taken first.
 fn step(
     graph: &[u8],
     tables: &Tables,
@@ -222,28 +227,31 @@ fn step(
     cells: &mut [u8],
     places: &mut [u16; 2048],
     start: usize,
-    gone: usize,
-) -> Progress
+    live: usize,
+) -> StepEnd
     requires { Prepared graph.now tables.now
         × Running (graph_of graph.now) tables.now links.old flags.old ledger.old cells.old start
-        × (unspent_at (graph_of graph.now) tables.now ledger.old cells.old start + gone ≡ start)
+        × (live ≡ unspent_at (graph_of graph.now) tables.now ledger.old cells.old start)
         × (length places.old ≡ 2048) }
-    ensures step_done { StepDone result.outcome (graph_of graph.now) tables.now links.new flags.new ledger.new
-        cells.new result.firings result.tokens result.spent start ledger.old cells.old }
+    ensures step_done { StepDone result (graph_of graph.now) tables.now links.new flags.new ledger.new
+        cells.new start ledger.old cells.old }
     ensures places_len { length places.new ≡ 2048 }
 {
     let count = enabled_places(flags, places);
     if count == 0 {
-        return Progress {
-            outcome: ending::ending(tables, ledger, start),
-            firings: 0,
-            tokens: start,
-            spent: gone,
-        };
+        return StepEnd::Ended(ending::ending(tables, ledger, start), 0, start);
     }
-    in_turn(
-        graph, tables, links, flags, ledger, cells, places, count, start, gone,
-    )
+    let done = in_turn(
+        graph, tables, links, flags, ledger, cells, places, count, start,
+    );
+    let outcome = done.outcome;
+    let n = done.tokens;
+    match outcome {
+        Outcome::Refused(r, place) => {
+            StepEnd::Ended(Outcome::Refused(r, place), done.firings, n)
+        }
+        _ => StepEnd::Whole(done.firings, n, live + (n - start) - done.spent),
+    }
 }
 
 // The answer, with the number of records.
@@ -280,11 +288,11 @@ fn proceed(
     let room = profile.len() / WIDTH;
     let mut places = [0u16; 2048];
     let mut used = start;
-    let mut spent = 0;
+    let mut unspent = start;
     let mut firings = 0;
     let mut records = 0;
     while records < room {
-        let done = step(
+        let ended = step(
             graph,
             tables,
             links,
@@ -293,18 +301,20 @@ fn proceed(
             cells,
             &mut places,
             used,
-            spent,
+            unspent,
         );
-        let outcome = done.outcome;
-        let count = done.firings;
-        used = done.tokens;
-        spent = done.spent;
-        firings += count;
-        let Outcome::Spent = outcome else {
-            return answered(outcome, firings, used, records);
-        };
-        put_record(profile, records, count, used - spent);
-        records += 1;
+        match ended {
+            StepEnd::Whole(count, n, live) => {
+                put_record(profile, records, count, live);
+                used = n;
+                unspent = live;
+                firings += count;
+                records += 1;
+            }
+            StepEnd::Ended(outcome, done, n) => {
+                return answered(outcome, firings + done, n, records);
+            }
+        }
     }
     let outcome = no_record(tables, flags, ledger, used);
     answered(outcome, firings, used, records)

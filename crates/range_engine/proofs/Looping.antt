@@ -1,4 +1,4 @@
--- The loop of a range run over handles: what holds of ledger, cells and table after some firings, and that a turn, the chooser's end, a refusal and a spent budget end it
+-- The loop of a range run over handles: what holds of ledger, cells and table after so many firings, and that a turn, the chooser's end, a refusal and a spent budget end it
 -- as the machine's run over handles ends. What holds of ledger and cells whatever was fired is the engine's (`Underway`). Assumes nothing.
 use Prim.Native.Nat.{ℕ, suc, ◌+◌, ◌-◌, ◌*◌, ◌/◌, ◌≤◌, ◌<◌}
 use mathlib.Core.Path.{◌≡◌, refl, sym, ap, ◌∙◌, subst}
@@ -65,7 +65,7 @@ taken_fired steps x h {table = table} {count = count} tried turned = record {
 
 -- ---- the loop
 
--- after some firings; t₀ are the ranges at the start
+-- after so many firings; t₀ are the ranges at the start
 pub record SoFar (g : List Instruction) (order : Order) (source ledger₀ cells₀ table₀ : List ℕ) (start budget : ℕ) (t₀ : List Range) (tables links flags ledger cells table : List ℕ) (used firings count : ℕ) : Type 0 where
   pub within : firings ≤ budget
   pub under : Underway g ledger₀ cells₀ start tables links flags ledger cells used
@@ -76,7 +76,7 @@ pub record SoFar (g : List Instruction) (order : Order) (source ledger₀ cells�
       ≡ run_on (range_machine_of g (arrays_in tables) (length ledger₀ / token_width) (length cells₀ / cell_width)) ℤ (effect_in g (arrays_in tables) (length cells₀ / cell_width)) (pos 0) (step_in g (arrays_in tables) (length cells₀ / cell_width))
       (chooser_for order source g tables ledger₀ cells₀) (budget - firings) firings (table_of count table) (state_in ledger cells used)
 
--- how many ranges were added
+-- the ranges that were added are so many
 grown_count : (count count' : ℕ) (table table' : List ℕ) (added : List Range) → table_of count' table' ≡ table_of count table ++ added → count' ≡ count + length added
 grown_count count count' table table' added h =
     sym (length_rows pair_width pair_in count' table') ∙ ap length h ∙ length-append (table_of count table) added ∙ ap (λ (n : ℕ). n + length added) (length_rows pair_width pair_in count table)

@@ -4,7 +4,7 @@ ghost use Rattle.record.specs.GraphRecords.{graph_of};
 ghost use Rattle.record.specs.Widths.{token_width, cell_width};
 ghost use Rattle.abstraction.specs.Tables.{arrays_in};
 ghost use Rattle.fire.specs.Running.{state_in, Prepared, Running};
-ghost use Rattle.engine.specs.Turns.{chooser_for, HeldBeside, HeldBack, Bounding, FiredOn};
+ghost use Rattle.engine.specs.Turns.{chooser_for, HeldBeside, HeldBack, Bounding};
 ghost use Rattle.range_table.specs.Table.{table_of};
 ghost use Rattle.range_fire.specs.Tried.{RoomForOne, step_at};
 ghost use Rattle.range_engine.specs.Over.{TakenAs, Room, end_over, RanOver, Tells, Fits};
@@ -106,51 +106,6 @@ fn take_turn(
     }
 }
 
-// 02, R-9: after a firing of the activity at a place, which left n tokens where there were `used`, the held activities are known again. By
-// `turns::calm` and `turns::follow`, which the engine calls outside of its loop, a range run would take 2 of 100 more.
-fn follow(
-    order: Order,
-    graph: &[u8],
-    tables: &Tables,
-    flags: &Flags,
-    ledger: &[u8],
-    used: usize,
-    n: usize,
-    place: usize,
-    nexts: &mut Flags,
-    held: &mut Flags,
-    marks: &mut [u16],
-)
-    requires { FiredOn order (graph_of graph.now) tables.now flags.now ledger.now used n nexts.old held.old marks.old }
-    ensures { Bounding order (graph_of graph.now) tables.now flags.now ledger.now n nexts.new held.new marks.new }
-{
-    match order {
-        Order::Free(bound) => {
-            if !held::calm(
-                graph, tables, flags, ledger, used, n, bound, nexts, held, marks,
-            ) {
-                // Parts that are the whole: the slices as they are would be stored in every turn.
-                held::follow(
-                    &graph[0..],
-                    tables,
-                    flags,
-                    &ledger[0..],
-                    used,
-                    n,
-                    place,
-                    bound,
-                    nexts,
-                    held,
-                    marks,
-                );
-            }
-        }
-        Order::Oldest => {}
-        Order::Picks => {}
-        Order::Log => {}
-    }
-}
-
 // The loop of the engine over handles.
 fn turns(
     graph: &[u8],
@@ -192,7 +147,7 @@ fn turns(
         count = taken.count;
         match turned {
             Turn::Fired(n, place) => {
-                follow(
+                turns::follow(
                     order, graph, tables, flags, ledger, used, n, place, nexts, held, marks,
                 );
                 used = n;
@@ -232,8 +187,8 @@ pub fn proceed(
     let mut held = [0u64; store_flags::LENGTH];
     let mut marks = [0u16; 4096];
     let order = choice::order_under(picks, bound);
-    turns::follow(
-        order, graph, tables, flags, ledger, 0, going.used, 0, &mut nexts, &mut held, &mut marks,
+    turns::hold_first(
+        order, graph, tables, flags, ledger, going.used, &mut nexts, &mut held, &mut marks,
     );
     let ran = turns(
         graph, tables, order, picks, table, links, flags, &mut nexts, &mut held, &mut marks,

@@ -47,18 +47,6 @@ const DEFAULT_RUNS: u64 = 20_000;
 const DEFAULT_SEED: u64 = 1;
 /// Failures that are written out; later ones are only counted.
 const WRITTEN_FAILURES: u64 = 10;
-/// Bytes of a token's key in which some records alone differ: the ends of the two words of the path, and every other one.
-const KEY_BYTES: [usize; 9] = [
-    token::PATH.start,
-    token::PATH.start + 1,
-    token::PATH.end / 2 - 1,
-    token::PATH.end / 2,
-    token::PATH.end - 1,
-    token::ITERATION,
-    token::PORT,
-    token::INSTRUCTION.start,
-    token::INSTRUCTION.end - 1,
-];
 
 struct Harness {
     seed: u64,
@@ -275,8 +263,8 @@ impl Harness {
         for record in records.chunks_exact_mut(TOKEN) {
             if prng.one_in(2) {
                 record[token::KEY].fill(0);
-                let at = KEY_BYTES[prng.below(KEY_BYTES.len())];
-                record[at] = prng.below(3) as u8;
+                let key = [0, 1, 7, 8, 15, 16, 17, 18, 19][prng.below(9)];
+                record[key] = prng.below(3) as u8;
             }
         }
         if prng.one_in(10) {

@@ -2,9 +2,7 @@
 
 use asm::{assemble, disassemble, read, read_order};
 use layout::fields::instruction;
-use layout::{
-    instruction as record_of, widths, ADD, CONST, COPY, ENTER, EQ, LEAVE, OUT, WITH_CONSTANT,
-};
+use layout::widths;
 
 const SUM: &str = "# the sum of 01
 sum: ADD -> out.0
@@ -17,7 +15,10 @@ picks 0 258
 #[test]
 fn a_text_gives_the_records() {
     let files = assemble(SUM).unwrap();
-    let graph = [record_of(ADD, &[(1, 0)], 0), record_of(OUT, &[], 0)];
+    let graph = [
+        [16, 1, 0, 0, 1, 0, 0, 0, 0, 0, 0, 0, 0, 0, 0, 0],
+        [3, 0, 0, 0, 0, 0, 0, 0, 0, 0, 0, 0, 0, 0, 0, 0],
+    ];
     assert_eq!(files.graph, graph.concat());
     let inputs = [layout::input(0, 0, 7), layout::input(0, 1, -9)];
     assert_eq!(files.inputs, inputs.concat());
@@ -50,12 +51,20 @@ fn every_form_of_an_instruction() {
     );
     let files = assemble(&FORMS.replace("i: STORE -> m.0", "i: STORE")).unwrap();
     let record = |number: usize| layout::record(&files.graph, number);
-    assert_eq!(record(0), record_of(COPY, &[(1, 0), (2, 1)], 0));
-    assert_eq!(record(1), record_of(CONST, &[(2, 0)], -5));
-    let compare = record_of(EQ + WITH_CONSTANT, &[(8, 0), (9, 1)], 3);
-    assert_eq!(record(7), compare);
-    assert_eq!(record(8), record_of(ENTER, &[(10, 0), (3, 0)], 255));
-    assert_eq!(record(10), record_of(LEAVE, &[], 255));
+    assert_eq!(record(0), [1, 2, 0, 1, 1, 0, 2, 0, 0, 0, 0, 0, 0, 0, 0, 0]);
+    assert_eq!(
+        record(1),
+        [4, 1, 0, 0, 2, 0, 0, 0, 0xfb, 0xff, 0xff, 0xff, 0, 0, 0, 0]
+    );
+    assert_eq!(record(7), [39, 2, 0, 1, 8, 0, 9, 0, 3, 0, 0, 0, 0, 0, 0, 0]);
+    assert_eq!(
+        record(8),
+        [8, 2, 0, 0, 10, 0, 3, 0, 255, 0, 0, 0, 0, 0, 0, 0]
+    );
+    assert_eq!(
+        record(10),
+        [9, 0, 0, 0, 0, 0, 0, 0, 255, 0, 0, 0, 0, 0, 0, 0]
+    );
     assert_eq!(record(12)[instruction::ZEROS.end - 1], 255);
 }
 

@@ -12,18 +12,18 @@ carry_on_spec = tie.close (tie.spec
     (λ c. search rules)  -- enum-known-checked
     (λ c κs. search rules)  -- refused-requires
     (λ c. search rules)  -- enum_told
-    (λ c. search rules)  -- sub-play
-    (λ c. search rules)  -- part-play-start
-    (λ c. search rules)  -- part-play-end
-    (λ c. search rules)  -- slice-aggregate-play
-    (λ c κs.  -- play-requires
-    let a = c.before.before.before.before.before.before.before.before.before.before.before.before.args in
-    ((lent a.graph.now a.arrays.now a.picks.now a.ledger.now a.cells.now a.budget a.bound a.firings a.tokens (sym c.before.before.before.before.before.before.check-lent.ensures ∙ c.before.before.before.before.enum_told.given.1), omega arith), omega arith, omega arith))
+    (λ c κs.  -- resume-requires
+    let k = c.before.before.before.before in
+    let a = k.before.before.before.before.before.before.args in
+    (lent a.graph.now a.arrays.now a.picks.now a.ledger.now a.cells.now a.budget a.bound a.firings a.tokens (sym k.check-lent.ensures ∙ c.before.before.enum_told.given.1), omega arith, omega arith, omega arith))
     (λ c.  -- returns
-    let a = c.before.before.before.before.before.before.before.before.before.before.args in
-    failed a.graph.now a.arrays.now a.picks.now a.ledger.now a.cells.now a.budget a.bound a.firings a.tokens _ _ (sym c.before.before.before.before.check-lent.ensures ∙ c.before.before.checked.given.1) _ c.refused.ensures)
+    let k = c.before.before.before.before in
+    let a = k.before.before.before.before.before.before.args in
+    failed a.graph.now a.arrays.now a.picks.now a.ledger.now a.cells.now a.budget a.bound a.firings a.tokens _ _ (sym k.check-lent.ensures ∙ c.before.before.checked.given.1) _ c.refused.ensures)
     (λ c. search rules)  -- same-length
     (λ c. search rules)  -- same-length-2
     (λ c.  -- returns-2
-    let a = c.before.before.before.before.before.before.before.before.before.before.before.before.before.before.before.before.before.before.args in
-    rw (lent_passed a.graph.now a.arrays.now a.picks.now a.ledger.now a.cells.now a.budget a.bound a.firings a.tokens (sym c.before.before.before.before.before.before.before.before.before.before.before.before.check-lent.ensures ∙ c.before.before.before.before.before.before.before.before.before.before.enum_told.given.1)) c.before.before.before.before.before.play.ensures))
+    let r = c.before.before.before.before in
+    let k = r.before.before.before.before.before in
+    let a = k.before.before.before.before.before.before.args in
+    rw (lent_passed a.graph.now a.arrays.now a.picks.now a.ledger.now a.cells.now a.budget a.bound a.firings a.tokens (sym k.check-lent.ensures ∙ r.before.before.before.enum_told.given.1)) r.resume.ensures))

@@ -19,10 +19,10 @@ run_spec =
     (λ c. search rules)  -- enum-known-checked
     (λ c κs. search rules)  -- refused-requires
     (λ c. search rules)  -- enum_told
-    (λ c. search rules)  -- slice-aggregate-play
-    (λ c κs.  -- play-requires
+    (λ c. search rules)  -- slice-aggregate-accepted
+    (λ c κs.  -- accepted-requires
     let a = c.before.before.before.before.before.before.before.before.before.before.before.before.args in
-    (accepted_bounded a.graph.now a.arrays.now a.inputs.now a.picks.now a.bound (length a.ledger.now) (length a.cells.now) (sym c.before.before.before.before.before.check-bounded.ensures ∙ c.before.before.before.enum_told.given.1), omega arith, omega arith))
+    (accepted_bounded a.graph.now a.arrays.now a.inputs.now a.picks.now a.bound (length a.ledger.now) (length a.cells.now) (sym c.before.before.before.before.before.check-bounded.ensures ∙ c.before.before.before.enum_told.given.1), omega arith))
     (λ c.  -- returns
     let e = sym c.before.before.before.before.check-bounded.ensures ∙ c.before.before.checked.given.1 in
     let a = c.refused.ensures in
@@ -31,5 +31,5 @@ run_spec =
     (λ c. search rules)  -- same-length-2
     (λ c.  -- returns-2
     let e = sym c.before.before.before.before.before.before.before.before.before.before.before.check-bounded.ensures ∙ c.before.before.before.before.before.before.before.before.before.enum_told.given.1 in
-    let l = c.before.before.before.before.before.play.ensures.0 in
+    let l = c.before.before.before.before.before.accepted.ensures.0 in
     rw e (record { answered = l.answered; numbers = ap values_of l.answered; ledger_left = l.ledger_left; cells_left = l.cells_left })))

@@ -24,9 +24,9 @@ run_logged_spec =
     (λ c. search rules)  -- enum-known-checked
     (λ c κs. search rules)  -- refused-requires
     (λ c. search rules)  -- enum_told
-    (λ c κs.  -- play-requires
+    (λ c κs.  -- accepted-requires
     let a = c.before.before.before.before.before.before.before.before.before.before.before.before.before.args in
-    (accepted_logged a.graph.now a.arrays.now a.inputs.now a.picks.now a.budget a.bound (length a.ledger.now) (length a.cells.now) (length a.log.now) (sym c.before.before.before.before.before.check-logged.ensures ∙ c.before.before.before.enum_told.given.1), omega arith, omega arith))
+    (accepted_logged a.graph.now a.arrays.now a.inputs.now a.picks.now a.budget a.bound (length a.ledger.now) (length a.cells.now) (length a.log.now) (sym c.before.before.before.before.before.check-logged.ensures ∙ c.before.before.before.enum_told.given.1), omega arith))
     (λ c.  -- returns
     let e = sym c.before.before.before.before.check-logged.ensures ∙ c.before.before.checked.given.1 in
     let r = c.refused.ensures in
@@ -37,6 +37,6 @@ run_logged_spec =
     (λ c.  -- returns-2
     let a = c.before.before.before.before.before.before.before.before.before.before.before.before.before.before.before.before.before.before.before.before.args in
     let e = sym c.before.before.before.before.before.before.before.before.before.before.before.before.check-logged.ensures ∙ c.before.before.before.before.before.before.before.before.before.before.enum_told.given.1 in
-    let r = c.before.before.before.before.before.before.play.ensures in
+    let r = c.before.before.before.before.before.before.accepted.ensures in
     let room = rw e at (bound_log_fits a.graph.now a.arrays.now a.inputs.now a.picks.now a.budget a.bound (length a.ledger.now) (length a.cells.now) (length a.log.now)) in
     rw e (record { answered = r.0.answered; numbers = ap values_of r.0.answered; ledger_left = r.0.ledger_left; cells_left = r.0.cells_left; log_left = r.1 ∙ recorded_all _ a.log.now (omega (arith, room)) })))

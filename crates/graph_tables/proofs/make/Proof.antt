@@ -8,13 +8,15 @@ use Rattle.graph_tables.proofs.make.Tie as tie
 
 pub make_spec : {M : Type 1} → statement M
 make_spec = tie.close (tie.spec
-    (λ c κs. search rules)  -- walk-requires
+    (λ c κs. search rules)  -- returns-requires
+    (λ c κs. search rules)  -- arities-requires
     (λ c κs. search rules)  -- name-requires
     (λ c.  -- returns
     let n = c.name.ensures in
-    let w = c.before.before.walk.ensures in
+    let a = c.before.before.arities.ensures in
+    let r = c.before.before.before.before.returns.ensures in
     record {
-      arities = λ tag. ap (λ (e : ℕ). waited_for e tag) (n.1.1 tag.instruction) ∙ w.0.1 tag;
-      returns = λ site h. n.1.0 site h ∙ w.0.0 site h;
+      arities = λ tag. ap (λ (e : ℕ). waited_for e tag) (n.1.1 tag.instruction) ∙ a.0.0 tag;
+      returns = λ site h. n.1.0 site h ∙ a.1 r.0 site h;
       named = n.0;
     }))

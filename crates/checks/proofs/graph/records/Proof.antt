@@ -16,30 +16,29 @@ use Rattle.checks.proofs.graph.records.Statement.{statement}
 use Rattle.checks.proofs.graph.records.Tie as tie
 
 abbrev invariant-loop : tie.invariant-loop
-invariant-loop graph counts rules sites₀ i₀ sites i =
+invariant-loop graph counts sites₀ i₀ sites i =
     (i ≤ length graph / graph_width)
     × (in_turn (check_record (graph_of graph)) 0 (graph_of graph) ≡ in_turn (check_record (graph_of graph)) i (drop i (graph_of graph)))
     × Sites (take i (graph_of graph)) sites
     × (length sites ≡ 256)
 
 abbrev decreases-loop : tie.decreases-loop
-decreases-loop graph counts rules sites₀ i₀ sites i = length graph / graph_width - i
+decreases-loop graph counts sites₀ i₀ sites i = length graph / graph_width - i
 
 pub records_spec : {M : Type 1} → statement M
 records_spec = tie.close (tie.spec
     invariant-loop
     decreases-loop
     (λ c κs. search rules)  -- counts-requires
-    (λ c κs. search rules)  -- rules-requires
     (λ c. (omega arith, refl, no_sites, refl))  -- loop-holds
     (λ c κs. omega arith)  -- instruction-at-requires
-    (λ c κs. (c.before.before.before.before.before.before.before.counts.ensures, c.before.before.before.before.before.before.rules.ensures, c.before.before.before.before.before.loop.invariant.2))  -- record-requires
+    (λ c κs. (c.before.before.before.before.before.counts.ensures, c.before.before.before.before.loop.invariant.2))  -- record-requires
     (λ c. search rules)  -- enum_told
     (λ c. search rules)  -- enum-told-2
     (λ c.  -- returns
-    let at-instruction-at = c.before.before.before.before.before.before.instruction-at in
-    let l = c.before.before.before.before.before.before.before.before.loop in
-    let g = c.before.before.before.before.before.before.before.before.before.before.before.before.args.graph.now in
+    let at-instruction-at = c.before.before.before.before.before.instruction-at in
+    let l = c.before.before.before.before.before.before.before.loop in
+    let g = c.before.before.before.before.before.before.before.before.before.before.args.graph.now in
     let r = at-instruction-at.result in
     let h : l.i < length g / graph_width = omega arith in
     let e = in_graph g l.i h r ∙ sym at-instruction-at.ensures in
@@ -49,10 +48,10 @@ records_spec = tie.close (tie.spec
     (λ c. omega arith)  -- add-i
     (λ c. omega arith)  -- loop-less
     (λ c.  -- loop-again
-    let at-instruction-at = c.before.before.before.before.before.before.before.before.instruction-at in
+    let at-instruction-at = c.before.before.before.before.before.before.before.instruction-at in
     let earlier = c.before.before.before.before in
-    let l = c.before.before.before.before.before.before.before.before.before.before.loop in
-    let g = c.before.before.before.before.before.before.before.before.before.before.before.before.before.before.args.graph.now in
+    let l = c.before.before.before.before.before.before.before.before.before.loop in
+    let g = c.before.before.before.before.before.before.before.before.before.before.before.before.args.graph.now in
     let r = at-instruction-at.result in
     let h : l.i < length g / graph_width = omega arith in
     let e = in_graph g l.i h r ∙ sym at-instruction-at.ensures in
@@ -66,5 +65,5 @@ records_spec = tie.close (tie.spec
       rw c.note.ensures (length_at_site l.sites r _ ∙ l.invariant.3),
     ))
     (λ c.  -- returns-2
-    let g = c.before.before.before.before.before.args.graph.now in
+    let g = c.before.before.before.before.args.graph.now in
     sym (c.before.loop.invariant.1 ∙ turn_end (check_record (graph_of g)) (graph_of g) c.before.loop.i (omega (arith, length_graph g)))))

@@ -11,15 +11,15 @@ use Rattle.range_engine.proofs.turns.proceed.Tie as tie
 pub proceed_spec : {M : Type 1} → statement M
 proceed_spec = tie.close (tie.spec
     (λ c κs. search rules)  -- order-under-requires
-    (λ c. search rules)  -- slice-aggregate-follow
-    (λ c κs.  -- follow-requires
+    (λ c. search rules)  -- slice-aggregate-hold-first
+    (λ c κs.  -- hold-first-requires
     let s = c.before.before.before.before.before.before.before.before.before.before.before in
     let o = c.before.before.before.before.before.order-under in
     started_by s.args.graph.now s.requires.0 s.requires.1 o.result (bound_fits s.args.picks.now s.args.bound s.requires.3 o.result o.ensures))
     (λ c. search rules)  -- slice-aggregate-turns
     (λ c κs.  -- turns-requires
     let s = c.before.before.before.before.before.before.before.before.before.before.before.before.before.before.before.before.before.before.before.before.before in
-    (s.requires.0, s.requires.1, c.before.before.before.before.before.before.before.before.before.follow.ensures, s.requires.2))
+    (s.requires.0, s.requires.1, c.before.before.before.before.before.before.before.before.before.hold-first.ensures, s.requires.2))
     (λ c κs.  -- settle-by-requires
     let s = c.before.before.before.before.before.before.before.before.before.before.before.before.before.before.before.before.before.before.before.before.before.before.before.before.before.before.before.before.before.before.before.before.before in
     let o = c.before.before.before.before.before.before.before.before.before.before.before.before.before.before.before.before.before.before.before.before.before.before.before.before.before.before.before.order-under in

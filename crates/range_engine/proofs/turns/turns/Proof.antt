@@ -1,4 +1,4 @@
--- `range_engine::turns::turns` meets its contract. The invariant is what holds after some firings (proofs/Looping), and what is known of the held activities (the engine's proofs/Bounding).
+-- `range_engine::turns::turns` meets its contract. The invariant is what holds after so many firings (proofs/Looping), and what is known of the held activities (the engine's proofs/Bounding).
 -- Assumes nothing.
 use Prim.Native.Nat.{◌-◌, ◌<◌}
 use mathlib.Core.Path.{◌≡◌, refl, ◌∙◌}

@@ -1,7 +1,7 @@
--- `abi_replay::ttda_replay` meets its contract: the replay as a number, from replay's promise. Assumes nothing.
+-- `abi::ttda_replay` meets its contract: the replay as a number, from the promise of `replay`. Assumes nothing.
 use borrow.Author.Rules.{rules}
-use Rattle.abi_replay.proofs.ttda_replay.Statement.{statement}
-use Rattle.abi_replay.proofs.ttda_replay.Tie as tie
+use Rattle.abi.proofs.ttda_replay.Statement.{statement}
+use Rattle.abi.proofs.ttda_replay.Tie as tie
 
 pub ttda_replay_spec : {M : Type 1} → statement M
 ttda_replay_spec = tie.close (tie.spec
