@@ -1,5 +1,7 @@
 // What Rust and C link: the run, with and without a log, the replay, the bounds, the activities that a bound holds back,
 // expressions, the listing and the printed lines over numbers and byte slices, with the promises of the crates behind them.
+#![tactic(auto)]
+
 ghost use Rattle.std.specs.Prelude.{◌≡◌, length, suc};
 ghost use Rattle.rules.specs.Answer.{place_in, values_of, values_needed};
 ghost use Rattle.rules.specs.Needs.{needs};
@@ -23,21 +25,21 @@ use rules::answer::{Answer, Evaluated, Made, Needs, Outcome, Refusal};
 use text::Printed;
 
 // What a word says of a refusal.
-#[derive(Drop)]
+#[derive(Clone, Copy)]
 enum Numbered {
     One(Refusal),
     NoRefusal,
 }
 
 // What a word and a place say of an outcome.
-#[derive(Drop)]
+#[derive(Clone, Copy)]
 enum Named {
     Ended(Outcome),
     NoOutcome,
 }
 
 // What a number says of an answer.
-#[derive(Drop)]
+#[derive(Clone, Copy)]
 enum Unpacked {
     Answered(Answer),
     NoAnswer,

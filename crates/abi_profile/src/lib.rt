@@ -1,5 +1,7 @@
 // What Rust and C link for profiles (02, R-1), in an archive of its own: the compiler inlines what one place calls, and the steps of a profile would be a
 // second caller of all that fires in a run.
+#![tactic(auto)]
+
 ghost use Rattle.rules.specs.Runs.{lent_to_profile, left_by_profile, ProfiledOn};
 ghost use Rattle.abi.specs.Numbers.{AsNumber};
 

@@ -1,5 +1,7 @@
 // What Rust and C link for range runs (02, R-11), in an archive of its own: the compiler inlines what one place calls, and a range run in the same archive
 // would be a second caller of all that fires in a plain one.
+#![tactic(auto)]
+
 ghost use Rattle.range_engine.specs.Promise.{lent_to_run, left_by_run, RangesOn};
 ghost use Rattle.abi.specs.Numbers.{AsNumber};
 

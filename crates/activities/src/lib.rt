@@ -1,4 +1,6 @@
 // How many activities of a saved state are enabled, and how many of these a bound holds back (02, R-9): which hang it was.
+#![tactic(auto)]
+
 ghost use Rattle.std.specs.Prelude.{ℕ, ◌<◌, ◌≡◌, List, length};
 ghost use Rattle.record.specs.declared.array.NamedArray.{NamedArray};
 ghost use Rattle.record.specs.declared.cell.Cell.{Cell};
@@ -17,7 +19,7 @@ use store_enabled::Tables;
 use store_flags::Flags;
 
 // What is found of a state: how many activities are enabled, and how many of these are held back; or it is refused.
-#[derive(Drop)]
+#[derive(Clone, Copy)]
 pub enum Tally {
     Found { enabled: usize, held: usize },
     Refused(Refusal, usize),

@@ -1,17 +1,19 @@
 // Signed 32-bit arithmetic: what an operation gives of two operands, or that it is out of range.
+#![tactic(auto)]
+
 ghost use Rattle.std.specs.Prelude.{◌≡◌};
 ghost use Rattle.arithmetic.specs.Arithmetic.{compute_of, ranged};
 
 use record::operation::Arithmetic;
 
-#[derive(Drop)]
+#[derive(Clone, Copy)]
 pub enum Computed {
     Value(i32),
     OutOfRange,
 }
 
 // The values from low to high.
-#[derive(Drop)]
+#[derive(Clone, Copy)]
 pub struct Range {
     pub low: i32,
     pub high: i32,

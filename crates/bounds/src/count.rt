@@ -9,7 +9,7 @@ use record::instruction;
 use record::instruction::Instruction;
 
 // The firings and the outputs of all reached instructions.
-#[derive(Drop)]
+#[derive(Clone, Copy)]
 pub struct Totals {
     pub firings: usize,
     pub outputs: usize,

@@ -1,5 +1,7 @@
 // What a graph will need, before it runs (02, R-3): for a graph without NEXT, ENTER and LEAVE the most
 // firings and tokens that a run from these inputs can have, worked out without firing.
+#![tactic(auto)]
+
 mod check;
 mod count;
 mod reach;

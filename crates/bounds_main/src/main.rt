@@ -1,4 +1,6 @@
 // Prints what some graphs will need: the bounds of firings and tokens, or the refusal's number and place.
+#![tactic(auto)]
+
 ghost use Rattle.std.specs.Prelude.{◌/◌, ◌≤◌, ◌<◌, length};
 ghost use Rattle.record.specs.Widths.{graph_width, token_width};
 

@@ -1,4 +1,6 @@
 // Records of one width in a buffer: whether it holds whole ones, record i lent, or written with every other byte kept.
+#![tactic(auto)]
+
 ghost use Rattle.std.specs.Prelude.{◌≡◌, ◌+◌, ◌*◌, ◌<◌, ◌≤◌, length, drop};
 ghost use Rattle.buffer.specs.Rows as Rows;
 ghost use Rattle.buffer.specs.Rows.{written, put_row};

@@ -1,4 +1,6 @@
 // Refusals 6, 8 and 9: the inputs.
+#![tactic(auto)]
+
 ghost use Rattle.std.specs.Prelude.{◌≡◌, false, ◌/◌, ◌≤◌, ◌<◌, length, take};
 ghost use Rattle.record.specs.GraphRecords.{OperandCounts, graph_of};
 ghost use Rattle.record.specs.TokensAndTags.{is_input, stands_at};

@@ -1,5 +1,7 @@
 // What is refused before any firing is tried (01, "The answer and the refusals"), in its order: the
 // graph record by record, the stores, the bound, the table of named arrays, the inputs.
+#![tactic(auto)]
+
 pub mod arrays;
 pub mod bound;
 pub mod graph;

@@ -1,5 +1,7 @@
 // Records from before R-8 of 02 made new ones: inputs and listings of 20 bytes a token, logs of 12 bytes a firing. The path
 // had 8 bytes and has 16; what stands behind it stays as it was.
+#![tactic(auto)]
+
 ghost use Rattle.std.specs.Prelude.{◌≡◌, ◌+◌, ◌*◌, ◌/◌, ◌≤◌, length, drop};
 ghost use Rattle.buffer.specs.Rows.{put_row};
 ghost use Rattle.convert.specs.Convert.{token_rest, log_rest, widened, converted, convert_accepted, ConvertedBy};
@@ -16,7 +18,7 @@ const TOKEN_REST: usize = 12;
 
 const LOG_REST: usize = 4;
 
-#[derive(Drop)]
+#[derive(Clone, Copy)]
 pub enum Converted {
     Done,
     BadStore,

@@ -1,4 +1,6 @@
 // How a run ends that fires no more: completed, hung or spent.
+#![tactic(auto)]
+
 ghost use Rattle.std.specs.Prelude.{◌≡◌, ◌/◌, ◌≤◌, ◌<◌, length};
 ghost use Rattle.record.specs.TokensAndTags.{tokens, token_at};
 ghost use Rattle.record.specs.Widths.{token_width};

@@ -21,7 +21,7 @@ use store_flags::Flags;
 
 // How the activity of a turn is chosen: the first of all, by picks, by the records of a log, or by picks among those that a
 // bound does not hold back.
-#[derive(Drop)]
+#[derive(Clone, Copy)]
 pub enum Order {
     Oldest,
     Picks,
@@ -30,7 +30,7 @@ pub enum Order {
 }
 
 // What is chosen for a turn: the enabled activity at a place; or the run is at its end.
-#[derive(Drop)]
+#[derive(Clone, Copy)]
 pub enum Choice {
     At(usize),
     Ended(Outcome),

@@ -1,4 +1,6 @@
 // The engine: a graph and its inputs are checked, and fired under picks. A run may write a log, and may go on from a saved state.
+#![tactic(auto)]
+
 pub mod choice;
 pub mod turns;
 

@@ -19,14 +19,14 @@ use store_enabled::Tables;
 use store_flags::Flags;
 
 // What a turn of a run comes to: the activity at a place fired, with the tokens that it left, or the run is at its end.
-#[derive(Drop)]
+#[derive(Clone, Copy)]
 pub enum Turn {
     Fired(usize, usize),
     Ended(Outcome),
 }
 
 // Where a run resumes: tokens in the ledger, firings left.
-#[derive(Drop)]
+#[derive(Clone, Copy)]
 pub struct Going {
     pub used: usize,
     pub budget: usize,

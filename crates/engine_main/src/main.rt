@@ -6,6 +6,8 @@
 // inputs, picks, ledger, cells, and two numbers of two bytes, the budget and the byte of the ledger from
 // which on its records are printed. A part is the number of its bytes that follow, the number of those
 // that are lent, and the bytes that follow; the rest of those lent are zeros.
+#![tactic(auto)]
+
 ghost use Rattle.std.specs.Prelude.{◌≡◌, ◌≤◌, ◌<◌, length};
 
 use libc::{STDIN_FILENO, STDOUT_FILENO};

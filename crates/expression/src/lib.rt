@@ -1,5 +1,7 @@
 // From an expression to a graph (02, R-14): the graph of an expression, and its value, with which a user compares what the
 // run of that graph gives.
+#![tactic(auto)]
+
 mod check;
 mod evaluate;
 mod numbers;

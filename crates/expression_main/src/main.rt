@@ -1,4 +1,6 @@
 // Prints what becomes of some expressions: the graph, the value, and what runs of the graph in two orders give.
+#![tactic(auto)]
+
 ghost use Rattle.std.specs.Prelude.{◌/◌, ◌≤◌, ◌<◌, length};
 ghost use Rattle.record.specs.Widths.{term_width, value_width, graph_width, token_width};
 

@@ -12,6 +12,8 @@
 // - A firing may be refused, and then writes nothing. The operation gives 10 and 12, the new tags give 13
 //   to 17, the output 11, then 8 and 9. No instruction has both a refusal of the operation and one of the
 //   new tags, and 11 is of STORE alone: so this is 01's order.
+#![tactic(auto)]
+
 ghost use Rattle.std.specs.Prelude.{◌<◌, ◌≡◌, true};
 ghost use Rattle.record.specs.GraphRecords.{graph_of};
 ghost use Rattle.record.specs.TokensAndTags.{tokens, token_at};

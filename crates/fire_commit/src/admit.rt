@@ -12,7 +12,7 @@ use rules::answer::Refusal;
 use store_chains::{Found, Links, Slot, Sought};
 
 // Whether outputs can go into the ledger: if so, where each may arrive once those before it have.
-#[derive(Drop)]
+#[derive(Clone, Copy)]
 pub enum Admitted {
     Yes(Slot, Slot),
     No(Refusal),

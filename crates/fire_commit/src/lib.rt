@@ -1,4 +1,6 @@
 // Output: the part of a firing that looks at ledger and cells and not at the instruction.
+#![tactic(auto)]
+
 pub mod admit;
 
 ghost use Rattle.std.specs.Prelude.{◌/◌, length};
@@ -17,7 +19,7 @@ use store_enabled::Tables;
 use store_flags::Flags;
 
 // What comes of a firing: the number of tokens in the ledger after it, or its refusal.
-#[derive(Drop)]
+#[derive(Clone, Copy)]
 pub enum Fired {
     Done(usize),
     Refused(Refusal),

@@ -10,7 +10,7 @@ use record::operation::Operation;
 use rules::answer::Refusal;
 
 // What an instruction does beside spending its operands.
-#[derive(Drop)]
+#[derive(Clone, Copy)]
 pub enum Action {
     // A value to each output.
     Send(i32),
@@ -20,14 +20,14 @@ pub enum Action {
     Write(u32, i32),
 }
 
-#[derive(Drop)]
+#[derive(Clone, Copy)]
 pub enum Operated {
     Refuse(Refusal),
     Act(Action),
 }
 
 // What an operand names, where a cell is asked for.
-#[derive(Drop)]
+#[derive(Clone, Copy)]
 enum Named {
     Cell(u32),
     NoSuchCell,

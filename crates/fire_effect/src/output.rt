@@ -6,14 +6,14 @@ ghost use Rattle.fire_effect.specs.Effects.{key_held, Sends};
 use record::instruction::{Destination, Instruction};
 use record::tag::Tag;
 
-#[derive(Drop)]
+#[derive(Clone, Copy)]
 pub struct Key {
     pub tag: Tag,
     pub port: u8,
 }
 
 // No, one or two outputs, destination 1 first: `count` says how many of the two keys are meant.
-#[derive(Drop)]
+#[derive(Clone, Copy)]
 pub struct Outputs {
     pub count: u8,
     pub first: Key,

@@ -18,7 +18,7 @@ use record::tag::{Entered, Left, Next, Tag};
 use rules::answer::Refusal;
 use store_enabled::Tables;
 
-#[derive(Drop)]
+#[derive(Clone, Copy)]
 pub enum NewTags {
     Refuse(Refusal),
     To(Outputs),

@@ -1,4 +1,6 @@
 // Matching: the operands of an enabled tag.
+#![tactic(auto)]
+
 ghost use Rattle.std.specs.Prelude.{◌≡◌};
 ghost use Rattle.record.specs.TokensAndTags.{tokens, token_at, value_in};
 ghost use Rattle.store_enabled.specs.Store.{Known, place_or};
@@ -11,7 +13,7 @@ use store_chains::{Found, Links};
 
 // The operands of an enabled activity: one stands at its place, the other here, and the values are by ports. Where one is waited for,
 // it stands for both.
-#[derive(Drop)]
+#[derive(Clone, Copy)]
 pub struct Operands {
     pub other: usize,
     pub left: i32,

@@ -1,5 +1,7 @@
 // What a firing writes: its operands are spent, cells are read or written, deferred tokens wake, and
 // its outputs go into the ledger. Whether it may is settled before.
+#![tactic(auto)]
+
 ghost use Rattle.std.specs.Prelude.{◌≡◌, [], ◌∷◌, ◌++◌, ◌+◌, ◌/◌, ◌≤◌, ◌<◌, length, get_or};
 ghost use Rattle.record.specs.TokensAndTags.{tokens};
 ghost use Rattle.record.specs.declared.cell.Cell.TheVariants.{Absent};
@@ -19,7 +21,7 @@ use store_enabled::Tables;
 use store_flags::Flags;
 
 // Where the operands of an activity stand in the ledger: at its place and at another; where it has one operand, that place twice.
-#[derive(Drop)]
+#[derive(Clone, Copy)]
 pub struct Places {
     pub place: usize,
     pub other: usize,

@@ -1,5 +1,7 @@
 // The tables of a run in one array, by which a firing need not look through the graph: returns by site, the named arrays, and
 // entries for operand counts by instruction.
+#![tactic(auto)]
+
 ghost use Rattle.std.specs.Prelude.{◌≡◌, ℕ, ◌+◌, ◌/◌, ◌≤◌, ◌<◌, length, get_or};
 ghost use Rattle.record.specs.Widths.{array_width};
 ghost use Rattle.record.specs.Arrays.{most_arrays, arrays_of};

@@ -2,6 +2,8 @@
 // each firing. What a record is to a NEXT activity does not come back: a token that is spent, or a result that is live, stays so, and
 // no token changes its tag. So the search for one that holds an activity back goes on where the last one ended, and passes over
 // records that none needs to look at again.
+#![tactic(auto)]
+
 ghost use Rattle.std.specs.Prelude.{ℕ, ◌+◌, ◌/◌, ◌≤◌, ◌<◌, ◌≡◌, true, false, not, length, get_or, set, eqb, leb};
 ghost use Rattle.record.specs.GraphRecords.{graph_of};
 ghost use Rattle.record.specs.Paths.{same_path};

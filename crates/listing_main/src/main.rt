@@ -1,6 +1,8 @@
 // Prints a ledger of twelve records from standard input, then its listing; then what is answered for
 // other lengths, with the output where it is small. A line is a record, two digits to each byte. Each
 // field decides between some two of the records, and two keys stand there more than once.
+#![tactic(auto)]
+
 ghost use Rattle.std.specs.Prelude.{◌*◌, ◌≤◌};
 ghost use Rattle.record.specs.Widths.{token_width};
 

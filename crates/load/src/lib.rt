@@ -1,4 +1,6 @@
 // What an accepted run does before its first firing: the cells are cleared, and the input tokens are written to the ledger.
+#![tactic(auto)]
+
 ghost use Rattle.std.specs.Prelude.{◌≡◌, ◌/◌, ◌≤◌, ◌<◌, length, replicate};
 ghost use Rattle.buffer.specs.Rows.{all_rows, All};
 ghost use Rattle.record.specs.TokensAndTags.{decode_token};

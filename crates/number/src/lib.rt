@@ -1,4 +1,6 @@
 // Little-endian numbers of 2, 4 and 8 bytes, and signed numbers of 32 bits in two's complement.
+#![tactic(auto)]
+
 ghost use Rattle.std.specs.Prelude.{◌≡◌, ◌+◌, ◌≤◌, ◌<◌, length};
 ghost use Rattle.number.specs.Number.{number16, number32, number64, signed_of, bits_of};
 

@@ -1,5 +1,7 @@
 // The cache of the profile plotter: whether what is kept of one run, its answer, listing, cells and profile, serves for a run
 // that is asked for.
+#![tactic(auto)]
+
 ghost use Rattle.std.specs.Prelude.{◌≡◌, true};
 ghost use Rattle.plot_cache.specs.Serves.{same_bytes, same_machine, same_order, rests, any_order, request, Decided};
 
@@ -8,7 +10,7 @@ use rules::answer::{Answer, Outcome};
 
 // What a run is given beside graph, table of named arrays, inputs and picks: its budget, its bound, and the lengths in bytes of ledger
 // and cells.
-#[derive(Drop)]
+#[derive(Clone, Copy)]
 pub struct Limits {
     pub budget: usize,
     pub bound: usize,
@@ -18,7 +20,7 @@ pub struct Limits {
 
 // How a run ended: its answer and, of a hang, how many activities its bound holds back in what it left. Only where there is none does it
 // end as every order does.
-#[derive(Drop)]
+#[derive(Clone, Copy)]
 pub struct Ended {
     pub answer: Answer,
     pub held: usize,

@@ -1,4 +1,6 @@
 // What the printing program prints: run, listing and printed lines in one, with 01's limits (01, "The printed listing").
+#![tactic(auto)]
+
 ghost use Rattle.std.specs.Prelude.{◌≡◌, ◌≤◌, length};
 ghost use Rattle.record.specs.TokensAndTags.{most_tokens, capacity_of};
 ghost use Rattle.text.specs.Text.{printed_of, printed_out};

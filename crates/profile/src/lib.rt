@@ -1,5 +1,7 @@
 // Profiles for the plotter (02, R-1): a run by ideal steps. In a step every activity that is enabled at its start fires, in ledger
 // order, and each whole step leaves a record.
+#![tactic(auto)]
+
 ghost use Rattle.std.specs.Prelude.{ℕ, ◌/◌, ◌<◌, ◌≤◌, ◌≡◌, length};
 ghost use Rattle.buffer.specs.Rows.{put_row};
 ghost use Rattle.record.specs.GraphRecords.{graph_of};
@@ -30,7 +32,7 @@ pub const WIDTH: usize = 4;
 
 // What an ideal step comes to: all its activities fired, with their number, the tokens, and those of them that are live or
 // deferred; or the profile is at its end, with the firings of the step that were done and the tokens.
-#[derive(Drop)]
+#[derive(Clone, Copy)]
 pub enum StepEnd {
     Whole(usize, usize, usize),
     Ended(Outcome, usize, usize),
@@ -38,7 +40,7 @@ pub enum StepEnd {
 
 // How far the activities of a step came, fired in turn: all of them, or up to the one that was refused; with the tokens then, and the
 // operands that they spent.
-#[derive(Drop)]
+#[derive(Clone, Copy)]
 pub struct Progress {
     pub outcome: Outcome,
     pub firings: usize,

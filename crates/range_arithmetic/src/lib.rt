@@ -1,4 +1,6 @@
 // Signed arithmetic over ranges (02, R-11): the smallest range that holds every outcome, or that one is out of range.
+#![tactic(auto)]
+
 mod outcomes;
 
 ghost use Rattle.std.specs.Prelude.{◌≡◌, ◌&&◌, cond, ℕ, ◌-◌, max, pos, neg_ℤ, nat_abs};
@@ -12,7 +14,7 @@ use arithmetic::{Computed, Range};
 use record::operation::Arithmetic;
 
 // What an operation gives.
-#[derive(Drop)]
+#[derive(Clone, Copy)]
 pub enum Ranged {
     Between(Range),
     OutOfRange,

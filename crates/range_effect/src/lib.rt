@@ -1,5 +1,7 @@
 // The operation of a range run (02, R-11), over handles: what an instruction makes of the ranges for which its operands stand. All but CONST
 // and the arithmetic is the plain operation, with a single cell number put in its place; 23 is asked before that.
+#![tactic(auto)]
+
 ghost use Rattle.std.specs.Prelude.{◌+◌, ◌*◌, ◌<◌, ◌≤◌, ◌≡◌, cond, length};
 ghost use Rattle.rules.specs.RangeSet.{is_undecided};
 ghost use Rattle.abstraction.specs.Tables.{arrays_in};
@@ -16,7 +18,7 @@ use record::operation::Operation;
 use rules::answer::Refusal;
 
 // What an operation asks for, and how many ranges the table has after it.
-#[derive(Drop)]
+#[derive(Clone, Copy)]
 pub struct Asked {
     pub operated: Operated,
     pub count: usize,

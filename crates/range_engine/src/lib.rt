@@ -1,5 +1,7 @@
 // A range run (02, R-11): the inputs become handles into a table of ranges, the engine's choices are fired over handles, and what is left is written as
 // ranges.
+#![tactic(auto)]
+
 pub mod turns;
 
 ghost use Rattle.std.specs.Prelude.{◌*◌, ◌/◌, ◌+◌, ◌≤◌, ◌<◌, ◌≡◌, length};

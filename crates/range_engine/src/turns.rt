@@ -19,14 +19,14 @@ use store_enabled::Tables;
 use store_flags::Flags;
 
 // A turn, and how many ranges the table has after it.
-#[derive(Drop)]
+#[derive(Clone, Copy)]
 pub struct Taken {
     pub turn: Turn,
     pub count: usize,
 }
 
 // What a run goes on from and how far: the tokens in the ledger, the ranges in the table, and the firings that it may do.
-#[derive(Drop)]
+#[derive(Clone, Copy)]
 pub struct Going {
     pub used: usize,
     pub count: usize,
@@ -34,7 +34,7 @@ pub struct Going {
 }
 
 // The answer of a run, and how many ranges the table has at its end.
-#[derive(Drop)]
+#[derive(Clone, Copy)]
 pub struct Ran {
     pub answer: Answer,
     pub count: usize,

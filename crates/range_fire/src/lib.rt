@@ -1,5 +1,7 @@
 // A firing of a range run (02, R-11), over handles: `fire` step for step, with the operation over ranges in the place of the plain one. The new
 // tags are given the low value of a SWITCH's control, which is decided by then.
+#![tactic(auto)]
+
 ghost use Rattle.std.specs.Prelude.{◌<◌, ◌≡◌, true};
 ghost use Rattle.record.specs.GraphRecords.{graph_of};
 ghost use Rattle.record.specs.TokensAndTags.{tokens, token_at};
@@ -21,7 +23,7 @@ use store_enabled::Tables;
 use store_flags::Flags;
 
 // What came of a firing, and how many ranges the table has after it.
-#[derive(Drop)]
+#[derive(Clone, Copy)]
 pub struct Tried {
     pub fired: Fired,
     pub count: usize,

@@ -1,5 +1,7 @@
 // The inputs of a range run (02, R-11): refusals 6, 23, 8 and 9 over records of 32 bytes, and the same inputs as handles: plain records
 // whose value is the number of a range in the table.
+#![tactic(auto)]
+
 ghost use Rattle.std.specs.Prelude.{◌≤◌, ◌≡◌, length};
 ghost use Rattle.record.specs.GraphRecords.{graph_of};
 ghost use Rattle.record.specs.Widths.{range_token_width};

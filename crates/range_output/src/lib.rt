@@ -1,5 +1,7 @@
 // What a range run leaves in the lent ledger and cells (02, R-11): tokens and cells over handles, written as ranges. Bytes behind the used
 // records stay as lent.
+#![tactic(auto)]
+
 ghost use Rattle.std.specs.Prelude.{◌*◌, ◌/◌, ◌≤◌, ◌≡◌, ◌++◌, length};
 ghost use Rattle.number.specs.Number.{bytes32};
 ghost use Rattle.buffer.specs.Rows.{written_over};
@@ -23,7 +25,7 @@ pub const TOKEN_WIDTH: usize = 32;
 pub const CELL_WIDTH: usize = 12;
 
 // What the two values of a record hold: the content with the low value, and the bits of the high value.
-#[derive(Drop)]
+#[derive(Clone, Copy)]
 pub struct Ends {
     pub low: Content,
     pub high: u32,

@@ -1,5 +1,7 @@
 // The table of a range run (02, R-11): pairs of a low and a high value, 8 bytes each. A token's value is the number of its pair, its
 // handle; entries are never changed, so that a handle keeps its meaning.
+#![tactic(auto)]
+
 ghost use Rattle.std.specs.Prelude.{◌+◌, ◌*◌, ◌≤◌, ◌≡◌, ◌++◌, length};
 ghost use Rattle.number.specs.Number.{bytes32};
 ghost use Rattle.arithmetic.specs.Ranges.{FitsBits};

@@ -7,7 +7,7 @@ ghost use Rattle.record.specs.Widths.{array_width};
 pub const WIDTH: usize = 4;
 
 // 02, R-10: first cell and length.
-#[derive(Drop)]
+#[derive(Clone, Copy)]
 pub struct NamedArray {
     pub first: u16,
     pub length: u16,

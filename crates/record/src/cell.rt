@@ -10,7 +10,7 @@ pub const WIDTH: usize = 8;
 pub const MOST: usize = 1024;
 
 // 01, "Firing": a cell is absent, waiting or present.
-#[derive(Drop)]
+#[derive(Clone, Copy)]
 pub enum Cell {
     Absent,
     Waiting,

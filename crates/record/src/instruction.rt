@@ -9,7 +9,7 @@ ghost use Rattle.record.specs.Widths.{graph_width};
 pub const WIDTH: usize = 16;
 
 // A port of an instruction.
-#[derive(Drop)]
+#[derive(Clone, Copy)]
 pub struct Destination {
     pub instruction: u16,
     pub port: u8,
@@ -17,7 +17,7 @@ pub struct Destination {
 
 // A graph record as it stands: `code` names the operation, `fanout` is the number of destinations in
 // use, and `zeros` are bytes 12 to 15.
-#[derive(Drop)]
+#[derive(Clone, Copy)]
 pub struct Instruction {
     pub code: u8,
     pub fanout: u8,

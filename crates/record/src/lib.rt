@@ -1,4 +1,6 @@
 // Bytes and values: the records of a graph, of a ledger, of the cells, of a log, of a table of arrays and of an expression, the tags of tokens, and the keys that a listing goes by.
+#![tactic(auto)]
+
 pub mod array;
 pub mod cell;
 pub mod instruction;

@@ -14,7 +14,7 @@ pub const WIDTH: usize = 20;
 const ZERO: usize = 17;
 
 // What a record names.
-#[derive(Drop)]
+#[derive(Clone, Copy)]
 pub enum Named {
     Activity(Tag),
     Nothing,

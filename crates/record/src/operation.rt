@@ -2,7 +2,7 @@
 ghost use Rattle.std.specs.Prelude.{◌≡◌};
 ghost use Rattle.record.specs.GraphRecords.{operation_of, operands_of, OperandCounts};
 
-#[derive(Drop)]
+#[derive(Clone, Copy)]
 pub enum Arithmetic {
     Add,
     Sub,
@@ -14,7 +14,7 @@ pub enum Arithmetic {
     Eq,
 }
 
-#[derive(Drop)]
+#[derive(Clone, Copy)]
 pub enum Operation {
     Copy,
     Sink,

@@ -6,14 +6,14 @@ ghost use Rattle.record.specs.Widths.{log_width};
 ghost use Rattle.record.specs.Calls.{enter_of, leave_of, next_of};
 
 // 02, R-8: a path is a number of 128 bits, 16 to a level, the newest four levels in its lower word.
-#[derive(Drop)]
+#[derive(Clone, Copy)]
 pub struct Path {
     pub low: u64,
     pub high: u64,
 }
 
 // Where a path stands to another.
-#[derive(Drop)]
+#[derive(Clone, Copy)]
 pub enum Compared {
     Before,
     Same,
@@ -21,26 +21,26 @@ pub enum Compared {
 }
 
 // 01, "Tokens and tags": a tag is path, iteration and instruction.
-#[derive(Drop)]
+#[derive(Clone, Copy)]
 pub struct Tag {
     pub path: Path,
     pub iteration: u8,
     pub instruction: u16,
 }
 
-#[derive(Drop)]
+#[derive(Clone, Copy)]
 pub enum Entered {
     In(Tag),
     TooDeep,
 }
 
-#[derive(Drop)]
+#[derive(Clone, Copy)]
 pub enum Left {
     To { site: u8, tag: Tag },
     NoCaller,
 }
 
-#[derive(Drop)]
+#[derive(Clone, Copy)]
 pub enum Next {
     Is(Tag),
     Last,

@@ -11,7 +11,7 @@ pub const VALUE_WIDTH: usize = 4;
 
 // A record as it stands: `kind` is 0 for a variable, else the code of an operation, `left` and `right`
 // are record numbers, and `zeros` are bytes 3 to 7.
-#[derive(Drop)]
+#[derive(Clone, Copy)]
 pub struct Term {
     pub kind: u8,
     pub left: u8,

@@ -21,14 +21,14 @@ pub const INSTRUCTION: usize = 18;
 pub const STATE: usize = 24;
 
 // The value of a live or a spent token; of a deferred one the number of the cell that it waits for.
-#[derive(Drop)]
+#[derive(Clone, Copy)]
 pub enum Content {
     Live(i32),
     Spent(i32),
     Deferred(u32),
 }
 
-#[derive(Drop)]
+#[derive(Clone, Copy)]
 pub struct Token {
     pub tag: Tag,
     pub port: u8,

@@ -1,4 +1,6 @@
 // Prints records of each kind with every field at its ends: their bytes, and what is read back.
+#![tactic(auto)]
+
 use record::cell::Cell;
 use record::instruction::{Destination, Instruction};
 use record::tag::{Entered, Left, Next, Path, Tag};

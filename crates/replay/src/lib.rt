@@ -1,4 +1,6 @@
 // A replay (02, R-7): the activities that a log names fire in turn, by the engine's loop.
+#![tactic(auto)]
+
 ghost use Rattle.std.specs.Prelude.{◌+◌, ◌-◌, ◌/◌, ◌≡◌, [], length};
 ghost use Rattle.record.specs.Widths.{cell_width, log_width};
 ghost use Rattle.machine.specs.Replay.{replay as Machine·replay};

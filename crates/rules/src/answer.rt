@@ -4,7 +4,7 @@ ghost use Rattle.rules.specs.declared.answer.Outcome.TheVariants.{Refused};
 ghost use Rattle.rules.specs.Answer.{number_of, word_of};
 
 // The words of 01's table of refusals in this order, 1 to 17 without 15 and 16, which R-5 and R-6 took out; then 02's.
-#[derive(Drop)]
+#[derive(Clone, Copy)]
 pub enum Refusal {
     GraphLength,
     UnknownOperation,
@@ -33,7 +33,7 @@ pub enum Refusal {
 }
 
 // A refusal comes with its place.
-#[derive(Drop)]
+#[derive(Clone, Copy)]
 pub enum Outcome {
     Completed,
     Hung,
@@ -41,7 +41,7 @@ pub enum Outcome {
     Refused(Refusal, usize),
 }
 
-#[derive(Drop)]
+#[derive(Clone, Copy)]
 pub struct Answer {
     pub outcome: Outcome,
     pub firings: usize,
@@ -67,35 +67,35 @@ pub fn refused(r: Refusal, place: usize) -> Answer
 }
 
 // What a profile answers, with the number of its records.
-#[derive(Drop)]
+#[derive(Clone, Copy)]
 pub struct Profiled {
     pub answer: Answer,
     pub records: usize,
 }
 
 // What a check before the first firing says.
-#[derive(Drop)]
+#[derive(Clone, Copy)]
 pub enum Checked {
     Passed,
     Failed(Refusal, usize),
 }
 
 // What a graph will need, before it runs: the most firings and the most tokens.
-#[derive(Drop)]
+#[derive(Clone, Copy)]
 pub enum Needs {
     AtMost { firings: usize, tokens: usize },
     Refused(Refusal, usize),
 }
 
 // What becomes of an expression: a graph, by the number of its records.
-#[derive(Drop)]
+#[derive(Clone, Copy)]
 pub enum Made {
     Records(usize),
     Refused(Refusal, usize),
 }
 
 // What an expression gives.
-#[derive(Drop)]
+#[derive(Clone, Copy)]
 pub enum Evaluated {
     Value(i32),
     Refused(Refusal, usize),

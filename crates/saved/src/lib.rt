@@ -1,5 +1,7 @@
 // The check of a saved state (02, R-13), and its matching store: a pass over its tokens and one over its cells. All conditions give
 // one answer, so they may be asked in any order.
+#![tactic(auto)]
+
 ghost use Rattle.std.specs.Prelude.{ℕ, ◌*◌, ◌/◌, ◌%◌, ◌≤◌, ◌<◌, ◌≡◌, true, cond, List, length, take, drop, replicate, eqb, ltb};
 ghost use Rattle.record.specs.declared.instruction.Instruction.{Instruction};
 ghost use Rattle.record.specs.GraphRecords.{graph_of};

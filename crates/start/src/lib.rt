@@ -1,5 +1,7 @@
 // The start of a run, a profile or a replay that passed its checks: the tables of graph and named arrays are made, all cells are set
 // absent, and the inputs go into the ledger.
+#![tactic(auto)]
+
 ghost use Rattle.std.specs.Prelude.{◌≡◌, length, replicate};
 ghost use Rattle.start.specs.Begun.{Accepted, Begun};
 

@@ -1,6 +1,8 @@
 // The matching store: a ledger, with two arrays beside it. By `links` a token is found by its tag and port, and the tokens
 // deferred on a cell are woken; by `flags` the enabled activities are counted and found by their number; an activity is found by its
 // tag; all without a scan of the ledger. `used` is the number of tokens in the ledger, and `tables` those of the graph.
+#![tactic(auto)]
+
 ghost use Rattle.std.specs.Prelude.{◌≡◌, List, [], ◌∷◌, ◌++◌, map, ℕ, ◌+◌, ◌*◌, ◌/◌, ◌<◌, length, get_or, drop};
 ghost use Rattle.buffer.specs.Rows.{put_row, joined};
 ghost use Rattle.record.specs.TokensAndTags.{encode_token, tokens, stands_at};

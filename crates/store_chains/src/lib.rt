@@ -1,5 +1,7 @@
 // Chains through the tokens of a ledger: by tag, and by the cell that a token is deferred on. A walk along
 // one finds what a scan of the ledger finds. All chains stand in one array, `links`, by these parts.
+#![tactic(auto)]
+
 ghost use Rattle.std.specs.Prelude.{◌≡◌, List, [], ◌∷◌, ◌++◌, ◌+◌, ◌/◌, ◌≤◌, ◌<◌, length, get_or, set};
 ghost use Rattle.buffer.specs.Rows.{All};
 ghost use Rattle.record.specs.TokensAndTags.{tokens, same_tag, stands_at};
@@ -31,21 +33,21 @@ pub const LATER: usize = 7168;
 const PARTNER: usize = 9216;
 
 // The place of what a search finds.
-#[derive(Drop)]
+#[derive(Clone, Copy)]
 pub enum Found {
     At(usize),
     Nothing,
 }
 
 // Where a token may arrive: the chain of its tag, and its partner, which stands on the other port of the tag.
-#[derive(Drop)]
+#[derive(Clone, Copy)]
 pub struct Slot {
     pub bucket: usize,
     pub partner: Found,
 }
 
 // What a search finds that asks where a token may arrive.
-#[derive(Drop)]
+#[derive(Clone, Copy)]
 pub enum Sought {
     Free(Slot),
     Taken,

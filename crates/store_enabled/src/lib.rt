@@ -1,5 +1,7 @@
 // The enabled activities of a ledger, kept as flags by place: a token is added, or one is changed, or the
 // operands of an activity are spent, and the flag of its activity is put right.
+#![tactic(auto)]
+
 ghost use Rattle.std.specs.Prelude.{◌≡◌, true, ◌&&◌, List, [], ◌∷◌, ◌++◌, ℕ, ◌+◌, ◌/◌, ◌<◌, ltb, length, get_or, set};
 ghost use Rattle.buffer.specs.Rows.{put_row};
 ghost use Rattle.record.specs.TokensAndTags.{encode_token, tokens, token_at, stands_at};

@@ -2,6 +2,8 @@
 // hold 64 flags each. The next word says which of these have any, so that the first one is found with no loop: a loop that
 // ends elsewhere at each call takes longer than what it does (docs/DECISIONS.md, 35). Behind it stand the counts of ones,
 // by words and by groups of eight words.
+#![tactic(auto)]
+
 ghost use Rattle.std.specs.Prelude.{◌≡◌, ◌+◌, ◌-◌, ◌*◌, ◌≤◌, ◌<◌, eqb, length, get_or, set, take, drop};
 ghost use Rattle.store_flags.specs.Flags.{ones, place, places, minus, Under, FirstIn, in_word, flags_of, any_set, Summed, Counted};
 

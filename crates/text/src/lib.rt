@@ -1,4 +1,6 @@
 // The printed lines of an answer, a listing and cells, in a lent buffer.
+#![tactic(auto)]
+
 mod digits;
 mod line;
 
@@ -15,7 +17,7 @@ use record::tag::Path;
 use record::{cell, token};
 use rules::answer::{Answer, Outcome};
 
-#[derive(Drop)]
+#[derive(Clone, Copy)]
 pub enum Printed {
     // How many bytes were written.
     Done(usize),

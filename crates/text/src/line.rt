@@ -91,7 +91,7 @@ fn put_number(out: &mut [u8], at: usize, n: u64, end: u8) -> usize
 }
 
 // A path divided by ten: the quotient, and the digit that is left.
-#[derive(Drop)]
+#[derive(Clone, Copy)]
 struct Divided {
     quotient: Path,
     digit: u8,

@@ -1,5 +1,7 @@
 // Prints answers with tokens and cells at the ends of their ranges. Each time: what `print` answers,
 // and then the whole buffer, which was lent as points.
+#![tactic(auto)]
+
 ghost use Rattle.std.specs.Prelude.{◌≡◌, ◌*◌, ◌≤◌, length};
 ghost use Rattle.record.specs.Widths.{token_width, cell_width};
 

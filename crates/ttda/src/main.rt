@@ -1,6 +1,8 @@
 // Prints what a run of the files `graph`, `arrays`, `inputs` and `picks` leaves (01, "The printed
 // listing"), or says on standard error why it cannot. The files are those of the folder that the first argument names, or
 // of the current one.
+#![tactic(auto)]
+
 ghost use Rattle.std.specs.Prelude.{◌≡◌, ◌≤◌, length};
 
 use libc::{ENAMETOOLONG, ENOENT, STDOUT_FILENO};
