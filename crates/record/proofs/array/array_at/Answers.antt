@@ -1,0 +1,10 @@
+-- `record::array::array_at` meets its contract. Assumes nothing.
+use Rattle.std.proofs.Common.{ap, ◌∙◌, arith, length-drop, rules}
+use Rattle.record.specs.Arrays.{decode_array}
+use Rattle.record.proofs.array.array_at.Goals as goal
+
+pub decode-requires : goal.decode-requires
+decode-requires c = rw (c.row_at.ensures, length-drop) (omega arith)
+
+pub returns : goal.returns
+returns c = c.decode.ensures ∙ ap decode_array c.row_at.ensures
