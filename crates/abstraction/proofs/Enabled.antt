@@ -1,7 +1,7 @@
 -- The machine's enabled activities are the enabled places of the token records, in order, each with the tag of the token there. Assumes nothing.
 use Prim.Native.Nat.{ℕ, zero, suc, ◌+◌, ◌<◌, ◌≤◌}
 use mathlib.Core.Path.{◌≡◌, refl, sym, ap, subst, ◌∙◌}
-use mathlib.Core.Bool.{Bool, true, false, ◌&&◌, cond, and_true, and_false_lem}
+use mathlib.Core.Bool.{Bool, true, false, ◌&&◌, cond, and-true, and-false}
 use mathlib.Core.List.{List, [], ◌∷◌, map}
 use mathlib.Core.Option.{some}
 use native.Mathlib.Omega.{arith}
@@ -140,7 +140,7 @@ module _ (g : List Instruction) (table : List NamedArray) (capacity cells : ℕ)
       → all_there (λ port. live_value (find M (record { tag = tag; port = port }) (map token_held ts))) n ≡ operands_live n ts tag
   unfolding operands_live
   held_below zero tag ts l h = absurd (omega arith)
-  held_below (suc zero) tag ts l h = held_live tag 0 ts true ∙ and_true (live_on ts tag 0)
+  held_below (suc zero) tag ts l h = held_live tag 0 ts true ∙ and-true (live_on ts tag 0)
   held_below (suc (suc zero)) tag ts l h =
       rw (held_live tag 0 ts true, held_live tag 1 ts (live_on ts tag 0 && true)) (and_turned (live_on ts tag 1) (live_on ts tag 0))
   held_below (suc (suc (suc n))) tag ts l h = absurd (omega arith)
@@ -190,7 +190,7 @@ module _ (g : List Instruction) (table : List NamedArray) (capacity cells : ℕ)
         go false f =
             let z : arity_in g t.tag ≡ 0 = omega (arith, ltb-false 0 (arity_in g t.tag) f) in
             rw (le-ltb t.port (arity_in g t.tag) (omega arith), none_live (arity_in g t.tag) ts t.tag z)
-            (none_of (is_live_record t.content) _ _ ∙ sym (and_false_lem (eqb (earliest_of ts t.tag) i)))
+            (none_of (is_live_record t.content) _ _ ∙ sym (and-false (eqb (earliest_of ts t.tag) i)))
 
     -- us are the tokens from place i on
     held_from : (i : ℕ) (us : List Record.Token) → OnPorts g us → i + length us ≡ length ts

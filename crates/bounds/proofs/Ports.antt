@@ -3,7 +3,7 @@ use Prim.Native.Nat.{ℕ, zero, suc, ◌+◌, ◌*◌, ◌/◌, ◌≤◌, ◌<�
 use native.Mathlib.Omega.{arith}
 use native.Mathlib.Decide.{ℕ_discrete}
 use mathlib.Core.Path.{◌≡◌, refl, sym, ◌∙◌}
-use mathlib.Core.Bool.{Bool, true, false, ◌&&◌, ◌||◌, or_false, and_comm, or_assoc}
+use mathlib.Core.Bool.{Bool, true, false, ◌&&◌, ◌||◌, or-false, and_comm, or_assoc}
 use mathlib.Core.List.{List, [], ◌∷◌}
 use lib.ListN.{length, get_or, set, drop, replicate, length-set, length-replicate, get_or-replicate}
 use lib.Seq.{get_or-set_same, get_or-set_other}
@@ -49,15 +49,15 @@ mark {f} {table} k j q m = record {
         let v : q ≡ p = omega (arith, l.one, m.one) in
         rw (e, ← x, ← y, eq-eqb j i u, eq-eqb q p v, or_right (f i p) true refl) (get_or-set_same table (port_entry j q) true false (omega (arith, k.size, m.low, m.one)))
     go i p l (no n) true true x y = absurd (n (rw (eqb-true j i x, eqb-true q p y)))
-    go i p l (no n) true false x y = rw or_false (get_or-set_other table (port_entry j q) (port_entry i p) true false n ∙ k.says i p l)
-    go i p l (no n) false b x y = rw or_false (get_or-set_other table (port_entry j q) (port_entry i p) true false n ∙ k.says i p l)
+    go i p l (no n) true false x y = rw or-false (get_or-set_other table (port_entry j q) (port_entry i p) true false n ∙ k.says i p l)
+    go i p l (no n) false b x y = rw or-false (get_or-set_other table (port_entry j q) (port_entry i p) true false n ∙ k.says i p l)
 
 abbrev pub InsideAll : List Destination → Type 0
 InsideAll ds = All (λ d. OnPort d.instruction d.port) ds
 
 pub mark_all : {f : ℕ → ℕ → Bool} {table : List Bool} → Ports f table → (ds : List Destination) → InsideAll ds
     → Ports (λ i p. f i p || any (λ d. eqb d.instruction i && eqb d.port p) ds) (marked table ds)
-mark_all {f} k [] l = alike k (λ i p. sym (or_false (f i p)))
+mark_all {f} k [] l = alike k (λ i p. sym (or-false (f i p)))
 mark_all {f} k (d ∷ ds) l =
     alike (mark_all (mark k d.instruction d.port l.0) ds l.1) (λ i p. or_assoc (f i p) (eqb d.instruction i && eqb d.port p) _)
 

@@ -5,7 +5,7 @@ use native.Mathlib.Omega.{arith}
 use native.Mathlib.Decide.{ℕ_discrete}
 use native.Mathlib.Numerals.{add-one}
 use mathlib.Core.Path.{◌≡◌, refl, sym, ◌∙◌}
-use mathlib.Core.Bool.{Bool, true, false, ◌&&◌, ◌||◌, or_false, or_assoc}
+use mathlib.Core.Bool.{Bool, true, false, ◌&&◌, ◌||◌, or-false, or_assoc}
 use mathlib.Core.List.{List}
 use lib.ListN.{length, get_or, set, replicate, length-set, length-replicate}
 use lib.Seq.{get_or-set_same, get_or-set_other}
@@ -97,7 +97,7 @@ module _ (ts : List Token) (g : List Instruction) where
   unfolding port_reached
   no_instruction i p =
       let none = any_none (length g) (λ k. flag (replicate 256 false) k && sends_to i p (instruction_at g k)) (λ k. rw (no_flag 256 k)) in
-      rw (none) (sym (or_false (any (stands_at (root_of i) p) ts)))
+      rw (none) (sym (or-false (any (stands_at (root_of i) p) ts)))
 
   -- whether all ports of an instruction are reached, by the table
   pub is_ready : {sent t : List Bool} → ReachedSoFar ts g sent t → (i : ℕ) → i < 256 → all_below (operands_at g i) (λ p. get_or sent (port_entry i p) false) ≡ all_reached ts g (flag t) i

@@ -13,7 +13,7 @@ use Rattle.rules.specs.declared.answer.Refusal.{Refusal}
 use Rattle.rules.specs.declared.answer.Checked.{Checked}
 use Rattle.rules.specs.declared.answer.Checked.TheVariants.{Passed, Failed}
 use Rattle.rules.specs.Check.{◌and_then◌, all, any, in_turn}
-pub use mathlib.Core.Bool.{and_true, or_false}
+pub use mathlib.Core.Bool.{and-true, or-false}
 pub use Rattle.rules.proofs.Passed.{and_then_passed as both-passed, demand_passed as demanded}
 
 pub and_left : (a b : Bool) → T (a && b) → T a
@@ -70,7 +70,7 @@ module _ {A : Type 0} where
 
   pub any_next : (f : A → Bool) (xs : List A) (i : ℕ) (x : A) → i < length xs → get_or xs i x ≡ x → any f (take (i + 1) xs) ≡ (any f (take i xs) || f x)
   any_next f xs i x h g =
-      rw (add-one i, take-suc xs i x h, g, any_append f (take i xs) (x ∷ []), or_false (f x))
+      rw (add-one i, take-suc xs i x h, g, any_append f (take i xs) (x ∷ []), or-false (f x))
 
   pub take_next : (xs : List A) (i : ℕ) (x : A) → i < length xs → get_or xs i x ≡ x → take (i + 1) xs ≡ take i xs ++ x ∷ []
   take_next xs i x h g = rw (add-one i, take-suc xs i x h, g)

@@ -1,7 +1,7 @@
 -- How a run ends that fires no more: what the tables say of the tokens is what the machine says of its state. Assumes nothing.
 use Prim.Native.Nat.{ℕ, zero, suc, ◌+◌, ◌-◌, ◌*◌, ◌<◌, ◌≤◌}
 use mathlib.Core.Path.{◌≡◌, refl, ap, ◌∙◌}
-use mathlib.Core.Bool.{Bool, true, false, ◌&&◌, and_false_lem}
+use mathlib.Core.Bool.{Bool, true, false, ◌&&◌, and-false}
 use mathlib.Core.List.{List, [], ◌∷◌, map}
 use native.Mathlib.Omega.{arith}
 use borrow.Author.Tests.{eqb-true, leb-true}
@@ -62,7 +62,7 @@ proper_spent tables ledger i e =
 one_of_all : (tables : List ℕ) (k : ℕ) (ts : List Token) → all_by tables (drop k ts) ≡ false → all_by tables ts ≡ false
 one_of_all tables zero ts e = e
 one_of_all tables (suc k) [] e = e
-one_of_all tables (suc k) (t ∷ ts) e = rw (one_of_all tables k ts e) (and_false_lem (proper_by tables t))
+one_of_all tables (suc k) (t ∷ ts) e = rw (one_of_all tables k ts e) (and-false (proper_by tables t))
 
 -- a pass over the records, the last first: record j comes after those from i on
 module _ (tables ledger : List ℕ) (used i j : ℕ) (next : suc j ≡ i) (within : i ≤ used) where

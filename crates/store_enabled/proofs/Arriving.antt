@@ -2,7 +2,7 @@
 -- on the other port says where the activity of its tag stands and whether it is ready. Assumes nothing.
 use Prim.Native.Nat.{ℕ, zero, suc, ◌+◌, ◌-◌, ◌/◌, ◌≤◌, ◌<◌}
 use mathlib.Core.Path.{◌≡◌, refl, sym, ap, ◌∙◌}
-use mathlib.Core.Bool.{Bool, true, false, ◌&&◌, cond, and_false_lem}
+use mathlib.Core.Bool.{Bool, true, false, ◌&&◌, cond, and-false}
 use mathlib.Core.List.{List, [], ◌∷◌, ◌++◌}
 use native.Mathlib.Omega.{arith}
 use native.Mathlib.Decide.{dec_le}
@@ -290,7 +290,7 @@ module _ (tag : Tag) (port i n : ℕ) (m : List ℕ) (h : i < n) (low : port < 2
       go true e false f true = refl
       go true e false f false = refl
       go false e true f two = absurd (omega (arith, eqb-false port 0 e, alone (eqb-true k 1 f)))
-      go false e false f true = and_false_lem x
+      go false e false f true = and-false x
       go false e false f false = refl
 
 -- ---- the token that arrived last

@@ -2,7 +2,7 @@
 -- Assumes nothing.
 use Prim.Native.Nat.{ℕ, zero, suc, ◌+◌, ◌*◌, ◌≤◌, ◌<◌}
 use mathlib.Core.Path.{◌≡◌, refl, sym, ap, ◌∙◌}
-use mathlib.Core.Bool.{Bool, true, false, ◌&&◌, cond, and_false_lem}
+use mathlib.Core.Bool.{Bool, true, false, ◌&&◌, cond, and-false}
 use mathlib.Core.List.{List, [], ◌∷◌}
 use native.Mathlib.Omega.{arith}
 use lib.Dec.{ltb, eqb}
@@ -119,7 +119,7 @@ module _ (tag : Tag) where
 
   pub stands_other : (port : ℕ) (t : Token) → same_tag t.tag tag ≡ false → stands_at tag port t ≡ false
   unfolding stands_at
-  stands_other port t s = rw s (and_false_lem (eqb t.port port))
+  stands_other port t s = rw s (and-false (eqb t.port port))
 
   first_tag : (ts : List Token) → All (λ (t : Token). t.port < 2) ts → earliest_of ts tag ≡ lower (seek 0 ts) (seek 1 ts)
   first_tag [] w = refl

@@ -2,7 +2,7 @@
 use Prim.Native.Nat.{ℕ, ◌/◌, ◌≤◌, ◌<◌}
 use native.Mathlib.Omega.{arith}
 use mathlib.Core.Path.{◌≡◌, refl, sym, ◌∙◌}
-use mathlib.Core.Bool.{true, or_false}
+use mathlib.Core.Bool.{true, or-false}
 use mathlib.Core.List.{List}
 use lib.ListN.{length}
 use borrow.Author.Tests.{leb-true, not-true, not-false}
@@ -33,7 +33,7 @@ module _ (graph : List ℕ) (i : ℕ) (passed : check_graph graph ≡ Passed) (h
 pub add_spec : {M : Type 1} → statement M
 add_spec = tie.close (tie.spec
     (λ c. let p = c.before.requires in low c.before.args.graph.now c.before.args.i p.0 p.1)  -- element-copy-out-if1
-    (λ c ts before added r. rw (or_false added) (leave ts (graph_of c.before.before.before.args.graph.now) r (λ e. c.if1.true)))  -- returns
+    (λ c ts before added r. rw (or-false added) (leave ts (graph_of c.before.before.before.args.graph.now) r (λ e. c.if1.true)))  -- returns
     (λ c κs.  -- ready-requires
     let entry = c.before.before.before.before in
     let a = entry.args in
@@ -43,7 +43,7 @@ add_spec = tie.close (tie.spec
     let a = c.before.before.before.before.before.before.args in
     let p = c.before.before.before.before.before.before.requires in
     let g = graph_of a.graph.now in
-    rw (or_false added) (leave ts g r (λ e. false_true (sym (not-true _ c.if2.true) ∙ c.before.ready.ensures ∙ is_ready ts g r.kept a.i (low a.graph.now a.i p.0 p.1) ∙ e))))
+    rw (or-false added) (leave ts g r (λ e. false_true (sym (not-true _ c.if2.true) ∙ c.before.ready.ensures ∙ is_ready ts g r.kept a.i (low a.graph.now a.i p.0 p.1) ∙ e))))
     (λ c.  -- element-write-reached
     let entry = c.before.before.before.before.before.before in
     let p = entry.requires in low entry.args.graph.now entry.args.i p.0 p.1)

@@ -2,7 +2,7 @@
 use Prim.Native.Nat.{ℕ, zero, suc, ◌*◌, ◌≤◌}
 use native.Mathlib.Omega.{arith}
 use native.Mathlib.Nat.{add-zero}
-use mathlib.Core.Bool.{Bool, true, false, ◌&&◌, and_true, and_false_lem}
+use mathlib.Core.Bool.{Bool, true, false, ◌&&◌, and-true, and-false}
 use mathlib.Core.List.{List}
 use mathlib.Core.Path.{◌≡◌, refl, sym, ◌∙◌}
 use lib.ListN.{get_or}
@@ -21,7 +21,7 @@ use Rattle.bounds.proofs.reach.ready.Tie as tie
 lacking : (n : ℕ) (f : ℕ → Bool) → 1 ≤ n → f 0 ≡ false → false ≡ all_below n f
 lacking zero f h e = absurd (omega arith)
 lacking (suc zero) f h e = rw e
-lacking (suc (suc n)) f h e = rw (← lacking (suc n) f (omega arith) e, and_false_lem (f (suc n)))
+lacking (suc (suc n)) f h e = rw (← lacking (suc n) f (omega arith) e, and-false (f (suc n)))
 
 two : (g : List Instruction) (i n : ℕ) → operands_at g i ≡ n → 1 ≤ operands_at g i → (n ≡ 1 → ⊥) → operands_at g i ≡ 2
 unfolding operands_at
@@ -52,4 +52,4 @@ ready_spec = tie.close (tie.spec
     let a = entry.args in
     let p = entry.requires in
     let e = operands_in a.graph.now a.i p.0 ∙ sym c.before.before.operands.ensures in
-    rw (two (graph_of a.graph.now) a.i _ e p.2 c.before.if2.false, add-zero (a.i * 2), not-false (get_or a.sent.now (a.i * 2) false) c.before.before.before.before.if1.false) (sym (and_true _))))
+    rw (two (graph_of a.graph.now) a.i _ e p.2 c.before.if2.false, add-zero (a.i * 2), not-false (get_or a.sent.now (a.i * 2) false) c.before.before.before.before.if1.false) (sym (and-true _))))

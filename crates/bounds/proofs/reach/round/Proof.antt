@@ -2,7 +2,7 @@
 use Prim.Native.Nat.{◌-◌, ◌/◌, ◌≤◌}
 use native.Mathlib.Omega.{arith}
 use mathlib.Core.Path.{◌≡◌, refl}
-use mathlib.Core.Bool.{true, or_false}
+use mathlib.Core.Bool.{true, or-false}
 use mathlib.Core.List.{List}
 use mathlib.Core.Logic.{⊎_elim}
 use lib.ListN.{length}
@@ -36,7 +36,7 @@ round_spec = tie.close (tie.spec
       λ ts k.
           let l = c.before.before.before.before.before.loop in
           let r = c.before.add.ensures ts _ l.added (l.invariant.1 ts k) in
-          ⊎_elim (λ w. rw w.1 (rw (w.0.taken, or_right l.added true refl) at r)) (λ w. rw w.1 (rw (w.0.left, or_false l.added) at r)) c.if1.branch,
+          ⊎_elim (λ w. rw w.1 (rw (w.0.taken, or_right l.added true refl) at r)) (λ w. rw w.1 (rw (w.0.left, or-false l.added) at r)) c.if1.branch,
     ))
     (λ c ts k.  -- returns
     let l = c.before.loop in
