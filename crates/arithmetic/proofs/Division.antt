@@ -1,6 +1,6 @@
 -- The laws of specs/Division (`divides`). Assumes nothing.
 use mathlib.Core.Path.{◌≡◌, refl, ap}
-use Prim.Native.Nat.{ℕ, zero, suc, ◌+◌, ◌*◌, ◌/◌, ◌%◌, ◌<◌, zero-le}
+use Prim.Native.Nat.{ℕ, zero, suc, ◌*◌, ◌/◌, ◌%◌, ◌<◌, zero-le}
 use native.Mathlib.Nat.{div-add-mod, mod-lt, mod-le, mul-zero}
 use native.Mathlib.Omega.{arith}
 use lib.Dec.{le→leb, leb→le}

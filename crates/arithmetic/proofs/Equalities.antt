@@ -1,5 +1,4 @@
 -- EQ over ranges: the bounds hold every outcome and are outcomes (`equalities_hold`, `equal_low`, `equal_high`). Assumes nothing.
-use Prim.Native.Nat.{◌≤◌}
 use mathlib.Core.Path.{◌≡◌, refl, sym, ap, ◌∙◌, subst}
 use mathlib.Core.Bool.{Bool, true, false, ◌&&◌}
 use mathlib.Core.Logic.{◌⊎◌, inl, inr}

@@ -1,6 +1,6 @@
 -- 02, R-11: the operations over ranges hold every outcome (`holds_every`); for all but REM the range is the smallest (`smallest`), and refusal 12 comes only
 -- for an outcome (`refused_for`), for REM only for a divisor 0 (`refused_for_zero`). What is given fits 32 bits (`gives_sound`). Assumes nothing.
-use Prim.Native.Nat.{ℕ, ◌≤◌}
+use Prim.Native.Nat.{ℕ}
 use mathlib.Core.Path.{◌≡◌, refl, sym, ap, ◌∙◌, subst}
 use mathlib.Core.Bool.{Bool, true, false, ◌&&◌, cond}
 use mathlib.Core.Option.{none, some}

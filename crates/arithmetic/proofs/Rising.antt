@@ -1,11 +1,11 @@
 -- How the outcome of an operation rises or falls with an operand, while the other is fixed: all but EQ and REM do, the quotient by divisors on one side of 0
 -- (`monotone`). Assumes nothing.
-use Prim.Native.Nat.{ℕ, zero, suc, ◌≤◌, zero-le}
+use Prim.Native.Nat.{ℕ, zero, suc, zero-le}
 use mathlib.Core.Path.{◌≡◌, refl, sym, ap, ◌∙◌, subst}
 use mathlib.Core.Bool.{Bool, true, false, not, ◌&&◌}
 use mathlib.Core.Logic.{inl, inr}
 use native.Mathlib.Omega.{arith}
-use lib.IntN.{ℤ, pos, negsuc, neg_ℤ, ◌+ℤ◌, ◌-ℤ◌, ◌*ℤ◌, *ℤ_comm, +ℤ_comm}
+use lib.IntN.{ℤ, pos, negsuc, neg_ℤ, ◌-ℤ◌, ◌*ℤ◌, *ℤ_comm, +ℤ_comm}
 use lib.Signed.{lt_z, le_z, quot_z, ◌≤ℤ◌, ≤ℤ_refl}
 use borrow.Author.Tests.{le-leb}
 use Rattle.record.specs.declared.operation.Arithmetic.{Arithmetic}

@@ -1,6 +1,6 @@
 -- 01, "Firing": ADD SUB MUL DIV REM LT LE EQ, over the integers. "Quotients go toward zero; the remainder has the dividend's sign;
 -- -2,147,483,648 REM -1 is 0. LT, LE and EQ give 1 or 0." Refusal 12: "result past 32 signed bits, or divisor 0". Assumes nothing.
-use Rattle.std.specs.Prelude.{zero, suc, Bool, true, false, cond, eqb, ℤ, pos, negsuc, ◌+ℤ◌, ◌-ℤ◌, ◌*ℤ◌}
+use Rattle.std.specs.Prelude.{zero, suc, Bool, false, cond, eqb, ℤ, pos, negsuc, ◌+ℤ◌, ◌-ℤ◌, ◌*ℤ◌}
 use Rattle.std.specs.Int.Signed.{lt_z, le_z, quot_z, rem_z}
 use Rattle.record.specs.declared.operation.Arithmetic.{Arithmetic}
 use Rattle.record.specs.declared.operation.Arithmetic.TheVariants.{Add, Sub, Mul, Div, Rem, Lt, Le, Eq}

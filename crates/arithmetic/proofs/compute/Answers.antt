@@ -1,6 +1,5 @@
 -- `arithmetic::compute` meets its contract: each arm calls the function of its operation. Assumes nothing.
 use mathlib.Core.Path.{◌≡◌}
-use borrow.Author.Rules.{rules}
 use mir.Syntax.{w32}
 use mir.Val.{to_z, of_z}
 use mir.Facts.{to_z-of_z}
@@ -15,24 +14,24 @@ arm : (s : Start) {o : Arithmetic} {r : Computed} → s.args.op ≡ o → r ≡ 
 arm s e h = rw (e, ← to_z-of_z s.ranges.a, ← to_z-of_z s.ranges.b) h
 
 pub returns-in-Add : goal.returns-in-Add
-returns-in-Add c = arm c.before.before.before c.in-Add.is c.add.ensures
+returns-in-Add c = arm c.before.before c.in-Add.is c.add.ensures
 
 pub returns-in-Sub : goal.returns-in-Sub
-returns-in-Sub c = arm c.before.before.before c.in-Sub.is c.sub.ensures
+returns-in-Sub c = arm c.before.before c.in-Sub.is c.sub.ensures
 
 pub returns-in-Mul : goal.returns-in-Mul
-returns-in-Mul c = arm c.before.before.before c.in-Mul.is c.mul.ensures
+returns-in-Mul c = arm c.before.before c.in-Mul.is c.mul.ensures
 
 pub returns-in-Div : goal.returns-in-Div
-returns-in-Div c = arm c.before.before.before c.in-Div.is c.div.ensures
+returns-in-Div c = arm c.before.before c.in-Div.is c.div.ensures
 
 pub returns-in-Rem : goal.returns-in-Rem
-returns-in-Rem c = arm c.before.before.before c.in-Rem.is c.rem.ensures
+returns-in-Rem c = arm c.before.before c.in-Rem.is c.rem.ensures
 
 pub returns-in-Lt : goal.returns-in-Lt
-returns-in-Lt c = arm c.before.before.before c.in-Lt.is c.lt.ensures
+returns-in-Lt c = arm c.before.before c.in-Lt.is c.lt.ensures
 
 pub returns-in-Le : goal.returns-in-Le
-returns-in-Le c = arm c.before.before.before c.in-Le.is c.le.ensures
+returns-in-Le c = arm c.before.before c.in-Le.is c.le.ensures
 
 -- GONE None: (λ c. arm c.before.before.before c.before.enum-told8.given.1 c.eq.ensures)

@@ -9,7 +9,6 @@ use Rattle.arithmetic.proofs.narrowed.Goals.{Else-z-gt2147483647}
 
 fits : (c : Else-z-gt2147483647) → SFits w32 c.args.z
 fits c =
-    
     between_fits c.args.z (rw (to_z-of_z c.ranges.z) at c.if-z-ltminus2147483648.false) (rw (to_z-of_z c.ranges.z) at c.if-z-gt2147483647.false)
 
 pub returns-then-z-ltminus2147483648 : goal.returns-then-z-ltminus2147483648

@@ -1,12 +1,11 @@
 -- `arithmetic::rem` meets its contract. The remainder is at most the dividend; by -1 it is 0. Assumes nothing.
 use mathlib.Core.Path.{◌≡◌, sym, ap, ◌∙◌}
-use native.Mathlib.Omega.{arith}
 use lib.IntN.{pos, negsuc}
 use mir.Syntax.{w32}
 use mir.Val.{of_z}
 use mir.Facts.{to_z-of_z, sfits_lit}
 use Rattle.arithmetic.specs.Arithmetic.{compute_of, divided, ranged}
-use Rattle.arithmetic.proofs.Signed.{same_bits, quotient_fits, remainder_fits, remainder_by_minus_one}
+use Rattle.arithmetic.proofs.Signed.{same_bits, remainder_fits, remainder_by_minus_one}
 use Rattle.arithmetic.proofs.Ranged.{by_nonzero, fits_ranged}
 use Rattle.arithmetic.proofs.rem.Goals as goal
 
