@@ -10,14 +10,14 @@ use mathlib.Core.Option.{some}
 use mathlib.Core.Bool.{Bool, true, false, cond}
 use Prim.Native.Nat.{ℕ, zero, suc, ◌+◌, ◌≤◌, ◌<◌}
 use native.Mathlib.Omega.{arith}
-use native.Mathlib.Nat.{add-zero, zero-add}
+use native.Mathlib.Nat.{add-zero}
 use lib.ListN.{length, get_or}
 use Rattle.machine.specs.Machine.{Key, Content, live, Machine, Activity, fired, not_fired, Outcome, completed, hung, budget_spent, refused, on_list, when}
 use Rattle.machine.specs.Machine.{Ledger, StateOf, FiredOf, EndOf, same_key, at, find, look, enabled, fire, Choice, end, ending, run_by}
 use Rattle.machine.specs.Orders.{Lawful, Good, LawfulChoice, Completed, Hung, Refused, Quiescent, ProperContentAt, AllProper}
 use Rattle.machine.specs.Sequences.{Fires, NothingEnabled, log_of, Logged}
-use Rattle.machine.specs.Choosers.{Chosen, takes, ends, Chooser, run_from, log_from, by_pick}
-use Rattle.machine.specs.Bounded.{Held, without_held, free_of, by_free, outcome_held, settled, run_bounded, log_bounded, LeavesNoneHeldOfMachine}
+use Rattle.machine.specs.Choosers.{Chosen, takes, ends, Chooser, run_from, log_from}
+use Rattle.machine.specs.Bounded.{Held, without_held, free_of, by_free, settled, run_bounded, log_bounded, LeavesNoneHeldOfMachine}
 use Rattle.machine.proofs.Lists.{no_member}
 use Rattle.machine.proofs.View.{none_some, false_true, operand_live, operand_at}
 use Rattle.machine.proofs.Enabled.{enabled_ready, enabled_in, enabled_once, InOrder}
@@ -25,7 +25,7 @@ use Rattle.machine.proofs.Sequences.{never_fired, no_longer, none_refused}
 use Rattle.machine.proofs.Ending.{ending_cases}
 use Rattle.machine.proofs.Runs.{along, one_tells_all, EveryOrder}
 use Rattle.machine.proofs.Cut.{later_firings}
-use Rattle.machine.proofs.Choosers.{from_ends, from_fired, from_refused, from_zero, log_ends, log_fired, log_refused, log_zero, choosers_logged, picks_choose}
+use Rattle.machine.proofs.Choosers.{from_ends, from_fired, from_refused, from_zero, log_fired, log_refused, log_zero, choosers_logged, picks_choose}
 
 -- ---- the claims
 

@@ -8,7 +8,7 @@ use mathlib.Core.Bool.{Bool, true, false, cond}
 use Prim.Native.Nat.{ℕ, zero, suc}
 use native.Mathlib.Decide.{ℕ_discrete}
 use lib.ListN.{length, get_or, set}
-use Rattle.machine.specs.Machine.{Key, Content, live, spent, deferred, Token, Cell, absent, present, Effect, Machine, State, Activity, fired, not_fired, refused, Fired}
+use Rattle.machine.specs.Machine.{Key, Content, live, deferred, Token, Cell, absent, present, Effect, Machine, State, Activity, fired, not_fired, refused, Fired}
 use Rattle.machine.specs.Machine.{when, on_option, live_value, is_live, is_proper, is_there, spend, fill, cell_read, content_read, if_present, changed, output, Operands, all_there, two_values}
 use Rattle.machine.specs.Machine.{Ledger, StateOf, EffectOf, FiredOf, EndOf, same_key, at, find, look, is_operand_of, live_at, all_live, operands, place_of, is_place, enabled_from, enabled, spend_at, any_taken, exceeds, admit, commit, fire, all_proper, ending, Choice}
 use Rattle.machine.specs.InStep.{PlaceByPlace, no_more, pair, RelatedContent, both_live, both_spent, both_deferred, RelatedCell, both_absent, both_waiting, both_present, RelatedToken, at_key, RelatedState}

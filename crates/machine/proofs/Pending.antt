@@ -4,14 +4,14 @@ use mathlib.Core.Path.{◌≡◌, refl, sym, ap, ◌∙◌}
 use mathlib.Core.List.{List, [], ◌∷◌, ◌++◌, map}
 use mathlib.Core.Option.{Option, none, some}
 use mathlib.Core.Bool.{Bool, true, false, not, ◌&&◌, cond}
-use Prim.Native.Nat.{ℕ, zero, suc, ◌+◌, ◌*◌, ◌<◌}
+use Prim.Native.Nat.{ℕ, ◌+◌, ◌*◌, ◌<◌}
 use native.Mathlib.Omega.{arith}
 use native.Mathlib.Nat.{zero-mul, suc-mul, add-mul}
-use lib.Dec.{eqb, ltb}
+use lib.Dec.{eqb}
 use lib.ListN.{length, drop, length-map}
 use borrow.Author.Tests.{ne_eqb}
-use Rattle.machine.specs.Machine.{Key, Content, live, spent, deferred, Token, Machine, Fired, fired, not_fired, when, on_option, is_live, is_proper, changed, output, spend, Operands}
-use Rattle.machine.specs.Machine.{Ledger, StateOf, FiredOf, at, find, look, same_key, is_operand_of, operands, commit, fire}
+use Rattle.machine.specs.Machine.{Content, live, spent, deferred, Token, Machine, fired, not_fired, on_option, is_live, is_proper, changed, output, spend, Operands}
+use Rattle.machine.specs.Machine.{Ledger, StateOf, at, find, look, same_key, is_operand_of, operands, commit, fire}
 use Rattle.machine.specs.Orders.{Lawful, Good, Distinct}
 use Rattle.machine.proofs.View.{none_some, when_no, settle, DeltaOf, delta_of, change, operand_key, operand_live, operand_at}
 use Rattle.machine.proofs.Store.{After, Answer, commit_result, find_head}

@@ -3,7 +3,7 @@ use mathlib.Core.Path.{◌≡◌}
 use mathlib.Core.List.{List}
 use mathlib.Core.Option.{Option, none, some}
 use mathlib.Core.Bool.{Bool, true, false, cond}
-use Rattle.machine.specs.Machine.{Key, Content, live, Cell, absent, waiting, present, Effect, refuse, send, read, write, Machine, Fired, fired, not_fired}
+use Rattle.machine.specs.Machine.{Key, Content, live, Cell, absent, waiting, present, Effect, refuse, send, read, write, Machine, fired, not_fired}
 use Rattle.machine.specs.Machine.{on_option, cell_at, content_read, if_present, Operands, Ledger, StateOf, EffectOf, FiredOf, look, operands, any_taken, exceeds, admit, commit, fire}
 
 -- an effect refuses by nothing else

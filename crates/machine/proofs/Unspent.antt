@@ -9,10 +9,10 @@ use lib.Dec.{ltb}
 use lib.ListN.{length}
 use borrow.Author.Tests.{ltb-true, lt-ltb, le-ltb, ltb-false}
 use Rattle.machine.specs.Machine.{Key, Content, live, spent, deferred, Token, Cell, absent, waiting, present, Machine, when, on_option, cell_at, content_read, changed, output, spend, Operands}
-use Rattle.machine.specs.Machine.{Ledger, StateOf, same_key, at, find, look, is_operand_of, operands, spend_at}
+use Rattle.machine.specs.Machine.{Ledger, StateOf, same_key, at, find, look, is_operand_of, operands}
 use Rattle.machine.specs.Orders.{Distinct}
 use Rattle.machine.specs.Steps.{is_unspent, unspent_in}
-use Rattle.machine.proofs.View.{when_yes, when_no, none_some, key_path, Source, value, fetched, resolve, settle, cell_after}
+use Rattle.machine.proofs.View.{when_no, none_some, key_path, Source, value, fetched, resolve, settle, cell_after}
 use Rattle.machine.proofs.View.{DeltaOf, change, operand_live, operand_at}
 use Rattle.machine.proofs.Store.{After, find_head}
 

@@ -5,7 +5,7 @@ use mathlib.Core.List.{List, [], ◌∷◌, Memᴰ, Permᴰ}
 use Rattle.std.proofs.Math.Option.{Option, none, some}
 use Rattle.machine.specs.Machine.{Key, Content, live, spent, deferred, absent, waiting, Effect, refuse, send, read, write, Machine, Activity, fired, not_fired}
 use Rattle.machine.specs.Machine.{Outcome, completed, hung, budget_spent, refused, End, on_option, cell_at, Ledger, StateOf, Choice}
-use Rattle.machine.specs.Machine.{at, find, look, all_live, operands, enabled, fire, run_by}
+use Rattle.machine.specs.Machine.{at, find, look, operands, enabled, fire, run_by}
 
 -- ---- what is assumed of a machine and of the state from which it runs
 

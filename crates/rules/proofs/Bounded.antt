@@ -2,8 +2,8 @@
 -- (`as_every_order`); where an order completes or hangs, none with a bound is refused (`not_refused`); one that writes a log is the run (`bound_logged_runs`,
 -- `bound_log_fits`); and what holds of every result holds of these (`bounded_invariants`, `bounded_fits`, `bounded_small`, `bounded_counted`). Assumes nothing.
 use Prim.Native.Nat.{ℕ, ◌+◌, ◌*◌, ◌/◌, ◌≤◌}
-use mathlib.Core.Path.{◌≡◌, refl, sym, ap, subst, ◌∙◌}
-use mathlib.Core.Bool.{Bool, true, ◌||◌}
+use mathlib.Core.Path.{◌≡◌, refl, ap}
+use mathlib.Core.Bool.{true, ◌||◌}
 use mathlib.Core.List.{List}
 use mathlib.Core.Logic.{◌⊎◌, inl, inr}
 use native.Mathlib.Omega.{arith}
@@ -18,10 +18,9 @@ use Rattle.record.specs.GraphRecords.{graph_of}
 use Rattle.record.specs.Arrays.{arrays_of}
 use Rattle.record.specs.TokensAndTags.{most_tokens, capacity_of}
 use Rattle.record.specs.Widths.{token_width, cell_width, log_width}
-use Rattle.machine.specs.Machine.{Machine, State, End, Outcome, completed, hung, budget_spent, refused, by_picks, run, run_by}
+use Rattle.machine.specs.Machine.{Machine, State, End, Outcome, completed, hung, budget_spent, refused, by_picks, run}
 use Rattle.machine.specs.Orders.{Completed, Hung, Quiescent, Refused}
 use Rattle.machine.specs.Sequences.{log_of}
-use Rattle.machine.specs.Saved.{Saved}
 use Rattle.machine.specs.Bounded.{run_bounded, log_bounded}
 use Rattle.machine.specs.Bounded as Machines
 use Rattle.machine.proofs.Ending.{rested}
@@ -38,8 +37,8 @@ use Rattle.rules.specs.declared.answer.Checked.{Checked}
 use Rattle.rules.specs.declared.answer.Checked.TheVariants.{Passed, Failed}
 use Rattle.rules.specs.Check.{demand, ◌and_then◌, check_graph, check_stores, check_arrays, check_inputs, check, most_cells}
 use Rattle.rules.specs.InstructionSet.{machine_of}
-use Rattle.rules.specs.Run.{first_state, picks_of, Result, refused_at_once, ran_to, outcome_of, unless_failed, result, answer}
-use Rattle.rules.specs.Log.{log_suffices, check_log_stores, check_logged, LogResult, log_unless_failed, logged}
+use Rattle.rules.specs.Run.{first_state, picks_of, ran_to, outcome_of, unless_failed, result, answer}
+use Rattle.rules.specs.Log.{log_suffices, check_log_stores, check_logged, log_unless_failed, logged}
 use Rattle.rules.specs.Saved.{machine_saved, state_saved, state_taken, check_saved, carried}
 use Rattle.rules.specs.Orders.{result_outcome, Allowed}
 use Rattle.rules.specs.Fits.{AllFit}

@@ -1,5 +1,5 @@
 -- Demand 3 with two budgets, over the rules: a run that completes or hangs ends as every order does that may do as many firings (`any_two_budgets`). Assumes nothing.
-use Prim.Native.Nat.{ℕ, ◌/◌, ◌%◌, ◌≤◌}
+use Prim.Native.Nat.{ℕ, ◌/◌, ◌≤◌}
 use mathlib.Core.Path.{◌≡◌, ap}
 use mathlib.Core.List.{List}
 use native.Mathlib.Omega.{arith}

@@ -1,7 +1,7 @@
 -- The answer of a logged run, a replay, a profile and a run from a saved state is small: firings are no more than tokens, tokens 2,048 at most, and so is the place
 -- (`all_counted`). Assumes nothing.
 use Prim.Native.Nat.{ℕ, ◌+◌, ◌/◌, ◌%◌, ◌≤◌, ◌<◌}
-use mathlib.Core.Path.{◌≡◌, refl, sym, subst}
+use mathlib.Core.Path.{◌≡◌, refl}
 use mathlib.Core.Bool.{true}
 use mathlib.Core.List.{List, []}
 use native.Mathlib.Omega.{arith}
@@ -20,7 +20,7 @@ use Rattle.machine.specs.Steps as Steps
 use Rattle.machine.specs.Replay as Replays
 use Rattle.machine.proofs.Ending.{ending_cases}
 use Rattle.machine.proofs.Enabled.{enabled_place}
-use Rattle.machine.proofs.Sequences.{fires_good, no_longer}
+use Rattle.machine.proofs.Sequences.{no_longer}
 use Rattle.machine.proofs.Runs.{ran}
 use Rattle.machine.proofs.Orders.{by_picks_lawful}
 use Rattle.machine.proofs.Steps.{every_profile}
@@ -34,9 +34,9 @@ use Rattle.rules.specs.declared.answer.Refusal.TheVariants.{BadStore, ProfileFul
 use Rattle.rules.specs.declared.answer.Checked.{Checked}
 use Rattle.rules.specs.declared.answer.Checked.TheVariants.{Passed, Failed}
 use Rattle.rules.specs.Answer.{place_in}
-use Rattle.rules.specs.Check.{demand, ◌and_then◌, check_graph, check_stores, check_arrays, check_inputs, check}
+use Rattle.rules.specs.Check.{demand, ◌and_then◌, check_graph, check_stores, check_arrays, check}
 use Rattle.rules.specs.InstructionSet.{machine_of}
-use Rattle.rules.specs.Run.{first_state, picks_of, refused_at_once, ran_to, outcome_of, unless_failed, answer}
+use Rattle.rules.specs.Run.{first_state, picks_of, refused_at_once, ran_to, outcome_of, answer}
 use Rattle.rules.specs.Log.{names_in, log_suffices, check_log_stores, check_logged, log_unless_failed, logged, replayed}
 use Rattle.rules.specs.Profile.{check_profile_stores, check_profile, profile_unless_failed, profiled}
 use Rattle.rules.specs.Saved.{state_saved, machine_saved, state_taken, check_saved, carried}

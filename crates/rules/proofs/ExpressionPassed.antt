@@ -17,7 +17,7 @@ use Rattle.record.specs.Widths.{term_width}
 use Rattle.machine.proofs.View.{false_true}
 use Rattle.rules.specs.declared.answer.Refusal.TheVariants.{BadExpression}
 use Rattle.rules.specs.declared.answer.Checked.TheVariants.{Passed}
-use Rattle.rules.specs.Check.{demand, ◌and_then◌, any, in_turn}
+use Rattle.rules.specs.Check.{demand, any, in_turn}
 use Rattle.rules.specs.Expression.{most_terms, is_expression_length, term_at, is_variable, is_operation, names, good_operation, good_term, check_terms, check_expression}
 use Rattle.rules.proofs.Passed.{both, demand_passed, and_then_passed, turn_passed}
 use Rattle.rules.proofs.Lists.{neither, either}

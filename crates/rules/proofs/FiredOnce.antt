@@ -40,7 +40,6 @@ use Rattle.rules.proofs.Passed.{both, demand_passed, turn_passed}
 use Rattle.rules.proofs.PassedGraph.{Good, past_operands, of_graph, coded, said_of, least_fan_out_lem}
 use Rattle.rules.proofs.Lawful.{lawful}
 use Rattle.rules.proofs.Inputs.{start_keys, start}
-use Rattle.rules.proofs.Accepted.{accepted}
 use Rattle.rules.proofs.Lists.{neither, either, or_left, or_right}
 use Rattle.rules.proofs.Effects.{both_sides, Asked, keeps_asked}
 use Rattle.rules.proofs.Below.{any_below_lem, one_below, each_below, all_below_lem, sum_least, sum_same, sum_none, sum_more}

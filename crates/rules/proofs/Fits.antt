@@ -8,7 +8,7 @@ use mathlib.Core.Option.{some}
 use native.Mathlib.Omega.{arith}
 use native.Mathlib.Decide.{dec_le}
 use lib.ListN.{length, get_or, length-map}
-use lib.Dec.{eqb, leb}
+use lib.Dec.{leb}
 use lib.IntN.{ℤ, pos, negsuc, nat_abs}
 use mir.Syntax.{w32}
 use mir.Val.{SFits}
@@ -50,7 +50,7 @@ use Rattle.rules.specs.declared.answer.Refusal.{Refusal}
 use Rattle.rules.specs.declared.answer.Refusal.TheVariants.{ProfileFull, NotEnabled}
 use Rattle.rules.specs.Check.{instruction_at, within, check_graph, check_stores, check_arrays, check, most_cells}
 use Rattle.rules.specs.InstructionSet.{key_under, all_under, machine_of}
-use Rattle.rules.specs.Run.{content_held, content_record, token_held, token_record, cell_record, first_state, picks_of, Result, refused_at_once, ran_to, result}
+use Rattle.rules.specs.Run.{content_held, content_record, token_held, token_record, cell_record, first_state, picks_of, refused_at_once, ran_to, result}
 use Rattle.rules.specs.Profile.{check_profile_stores, check_profile, profile_unless_failed, profiled}
 use Rattle.rules.specs.Log.{names_in, replayed}
 use Rattle.rules.specs.Invariants.{LawfulResult}

@@ -1,9 +1,8 @@
 -- R-1: how many steps a profile has (`no_more_steps_lem`), and where it is refused by 18: only with all its records written (`where_full`), and never with 2,048 of
 -- them (`never_full`). Assumes nothing.
-use Prim.Native.Nat.{ℕ, ◌+◌, ◌*◌, ◌/◌, ◌≤◌, ◌<◌}
-use mathlib.Core.Path.{◌≡◌, refl, sym, ap, subst, ◌∙◌}
+use Prim.Native.Nat.{ℕ, ◌/◌, ◌≤◌, ◌<◌}
+use mathlib.Core.Path.{◌≡◌, refl, sym, ap, ◌∙◌}
 use mathlib.Core.List.{List}
-use native.Mathlib.Nat.{zero-add}
 use native.Mathlib.Omega.{arith}
 use lib.ListN.{length}
 use lib.IntN.{ℤ}
@@ -13,7 +12,7 @@ use Rattle.record.specs.GraphRecords.{graph_of}
 use Rattle.record.specs.Arrays.{arrays_of}
 use Rattle.record.specs.TokensAndTags.{most_tokens, capacity_of}
 use Rattle.record.specs.Widths.{token_width, cell_width, step_width}
-use Rattle.machine.specs.Machine.{Machine, State, End, Outcome, completed, hung, budget_spent, refused, enabled}
+use Rattle.machine.specs.Machine.{Machine, State, Outcome, completed, hung, budget_spent, refused}
 use Rattle.machine.specs.Orders.{Quiescent}
 use Rattle.machine.specs.Steps.{Profile, firings_in, profile}
 use Rattle.machine.proofs.Ending.{ending_rests}
@@ -27,8 +26,8 @@ use Rattle.rules.specs.declared.answer.Checked.{Checked}
 use Rattle.rules.specs.declared.answer.Checked.TheVariants.{Passed, Failed}
 use Rattle.rules.specs.Answer.{number_of, word_of, place_in}
 use Rattle.rules.specs.InstructionSet.{machine_of}
-use Rattle.rules.specs.Run.{first_state, ran_to, outcome_of, answer}
-use Rattle.rules.specs.Profile.{check_profile, ProfileResult, profile_unless_failed, profiled, NoMoreSteps, Full, WhereFull, NeverFull}
+use Rattle.rules.specs.Run.{first_state, outcome_of, answer}
+use Rattle.rules.specs.Profile.{check_profile, profile_unless_failed, profiled, NoMoreSteps, Full, WhereFull, NeverFull}
 use Rattle.rules.proofs.Accepted.{whole_bytes, Accepted, law, good}
 use Rattle.rules.proofs.Profile.{wholes}
 use Rattle.rules.proofs.Refusals.{Common, profile_early, firing_early}

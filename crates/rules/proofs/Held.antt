@@ -10,13 +10,12 @@ use native.Mathlib.Omega.{arith}
 use lib.ListN.{length, length-append}
 use lib.IntN.{ℤ}
 use lib.Dec.{eqb, leb}
-use borrow.Author.Tests.{eqb-true, eqb-false, eq-eqb, ne_eqb, leb-true, leb-false, le-leb}
+use borrow.Author.Tests.{eqb-true, eq-eqb, ne_eqb, leb-true, le-leb}
 use Rattle.record.specs.declared.tag.Path.{Path}
 use Rattle.record.specs.declared.tag.Tag.{Tag}
-use Rattle.record.specs.declared.tag.Left.TheVariants.{To, NoCaller}
 use Rattle.record.specs.declared.instruction.Instruction.{Instruction}
 use Rattle.buffer.specs.Rows.{All}
-use Rattle.record.specs.Paths.{path_number, path_words, is_root, same_path}
+use Rattle.record.specs.Paths.{path_number, path_words, same_path}
 use Rattle.record.specs.Calls.{leave_of, Call, CallFits, path_of}
 use Rattle.record.proofs.Paths.{number_words, same_path_lem, path_same, is_root_lem}
 use Rattle.record.proofs.Calls.{different, left_path_lem}

@@ -1,14 +1,13 @@
 -- Which activities a firing holds back or frees: where a tag stands is told level by level (`stands_step`); counts are sums by weights of tags (`counts_by_weights`); what was held is
 -- free only where an iteration of its path is closed (`freed_by_closing`), and what was free is held only by an ENTER into its path (`held_anew`). Assumes nothing.
-use Prim.Native.Nat.{ℕ, zero, suc, ◌+◌, ◌-◌, ◌*◌, ◌/◌, ◌%◌, ◌≤◌, ◌<◌}
+use Prim.Native.Nat.{ℕ, zero, suc, ◌+◌, ◌/◌, ◌%◌, ◌≤◌, ◌<◌}
 use mathlib.Core.Path.{◌≡◌, refl, sym, ap, subst, ◌∙◌}
 use mathlib.Core.Bool.{Bool, true, false, not, ◌&&◌, ◌||◌, cond}
 use mathlib.Core.Option.{Option, none, some}
 use mathlib.Core.List.{List, [], ◌∷◌, ◌++◌, map, Memᴰ}
 use mathlib.Core.Logic.{◌⊎◌, inl, inr}
 use native.Mathlib.Omega.{arith}
-use native.Mathlib.Decide.{dec_le}
-use lib.ListN.{length, drop, length-map}
+use lib.ListN.{length, drop}
 use lib.IntN.{ℤ, nat_abs}
 use lib.Dec.{eqb, leb}
 use borrow.Author.Tests.{eqb-true, eqb-false, eq-eqb, ne_eqb, leb-true, le-leb}
@@ -27,8 +26,8 @@ use Rattle.record.specs.GraphRecords.{graph_of, destinations, operation_of}
 use Rattle.record.proofs.Paths.{number_words, same_path_lem}
 use Rattle.record.proofs.Calls.{leave_entered}
 use Rattle.machine.specs.Machine.{Key, Content, live, spent, deferred, Token, State, Activity, refuse, send, read, write, Machine, fired, when, on_option, is_proper, changed, output, spend, find, look, same_key, at, is_operand_of, fire}
-use Rattle.machine.specs.Orders.{Lawful, Good, effect_keys}
-use Rattle.machine.proofs.View.{none_some, false_true, settle, DeltaOf, change, operand_live, operand_zero, operand_key}
+use Rattle.machine.specs.Orders.{Good, effect_keys}
+use Rattle.machine.proofs.View.{none_some, false_true, settle, change, operand_live, operand_zero, operand_key}
 use Rattle.machine.proofs.Kept.{Each, OfEffect}
 use Rattle.machine.proofs.Reached.{keys_known}
 use Rattle.machine.proofs.Pending.{FiredAs, fired_after, new_tokens, pending_in}
@@ -40,7 +39,7 @@ use Rattle.rules.specs.Held.{stands_within, stands_in, is_pending, holds_back, h
 use Rattle.rules.proofs.Passed.{both}
 use Rattle.rules.proofs.PassedGraph.{coded}
 use Rattle.rules.proofs.Lawful.{lawful}
-use Rattle.rules.proofs.Effects.{later, both_sides, Asked, of_operation}
+use Rattle.rules.proofs.Effects.{later, Asked, of_operation}
 use Rattle.rules.proofs.Callers.{enters}
 use Rattle.rules.proofs.Held.{not_same, one_holds, pending_at}
 use Rattle.rules.proofs.Lists.{either, or_right}

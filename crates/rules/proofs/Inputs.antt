@@ -28,7 +28,7 @@ use Rattle.machine.proofs.View.{when_no, false_true}
 use Rattle.machine.proofs.Kept.{Each, each_map, OfContent, OfCell, OfToken, OfState}
 use Rattle.rules.specs.declared.answer.Refusal.TheVariants as Refusals
 use Rattle.rules.specs.declared.answer.Checked.TheVariants.{Passed}
-use Rattle.rules.specs.Check.{demand, ◌and_then◌, any, in_turn, good_input, second_input, check_inputs, operands_at}
+use Rattle.rules.specs.Check.{demand, any, in_turn, good_input, second_input, check_inputs, operands_at}
 use Rattle.rules.specs.InstructionSet.{machine_of}
 use Rattle.rules.specs.Run.{content_held, token_held, first_state}
 use Rattle.rules.proofs.Passed.{both, demand_passed, and_then_passed, turn_passed}

@@ -14,7 +14,6 @@ use lib.IntN.{ℤ}
 use lib.ListN.{length, take, drop, replicate, length-map, length-drop, length-replicate, replicate-append-replicate, drop_of_length-le}
 use lib.Seq.{get_or-take, length-take-le, drop_at, take_all}
 use Rattle.record.specs.declared.tag.Tag.{Tag}
-use Rattle.record.specs.declared.array.NamedArray.{NamedArray}
 use Rattle.record.specs.declared.token.Token as Record
 use Rattle.record.specs.declared.token.Content.TheVariants.{Live, Spent, Deferred}
 use Rattle.record.specs.declared.token.Content as RecordContent

@@ -5,7 +5,7 @@ use mathlib.Core.Bool.{Bool, true, false, ◌&&◌, cond}
 use mathlib.Core.List.{List, [], ◌∷◌}
 use native.Mathlib.Omega.{arith}
 use lib.ListN.{length, get_or}
-use lib.Dec.{leb, ltb}
+use lib.Dec.{leb}
 use lib.IntN.{ℤ, pos, negsuc}
 use borrow.Author.Tests.{leb-true, le-leb, lt-ltb}
 use Rattle.buffer.specs.Rows.{whole}
@@ -14,10 +14,9 @@ use Rattle.record.specs.Arrays.{most_arrays, arrays_of}
 use Rattle.record.specs.Widths.{array_width}
 use Rattle.machine.specs.Machine.{refuse}
 use Rattle.rules.specs.declared.answer.Refusal.TheVariants.{NoSuchCell, BadArray}
-use Rattle.rules.specs.declared.answer.Checked.TheVariants.{Passed}
 use Rattle.rules.specs.Check.{demand, all, within, inside_store, check_arrays}
 use Rattle.rules.specs.InstructionSet.{EffectHere, on_cell, number_in, array_at, cell_number}
-use Rattle.rules.specs.NamedArrays.{ByName, ArraysByName}
+use Rattle.rules.specs.NamedArrays.{ArraysByName}
 use Rattle.rules.proofs.Passed.{both, demand_passed, and_then_passed}
 
 -- what holds of all elements and of the default holds of whichever is read

@@ -1,16 +1,15 @@
 -- What a replay and a profile leave that have fired nothing: the inputs in the ledger and all cells absent (`others_start`); and what 20 leaves: what a replay of the
 -- records before it leaves (`not_enabled_stops`). Assumes nothing.
-use Prim.Native.Nat.{ℕ, suc, ◌+◌, ◌-◌, ◌*◌, ◌/◌, ◌%◌, ◌≤◌, ◌<◌}
-use mathlib.Core.Path.{◌≡◌, refl, sym, ap, subst, ◌∙◌}
-use mathlib.Core.Bool.{Bool, true, false, ◌&&◌, cond}
+use Prim.Native.Nat.{ℕ, suc, ◌+◌, ◌-◌, ◌*◌, ◌/◌, ◌≤◌}
+use mathlib.Core.Path.{◌≡◌, refl, sym, ap, ◌∙◌}
 use mathlib.Core.Option.{Option, some}
 use mathlib.Core.List.{List, [], ◌∷◌, ◌++◌, map, append-nil}
 use native.Mathlib.Nat.{zero-add}
 use native.Mathlib.Omega.{arith}
 use native.Mathlib.Decide.{dec_le}
-use borrow.Author.Tests.{le-leb, lt-leb}
-use lib.Dec.{eqb, leb}
-use lib.ListN.{length, take, drop, length-append, length-map}
+use borrow.Author.Tests.{le-leb}
+use lib.Dec.{leb}
+use lib.ListN.{length, take, length-append, length-map}
 use lib.Seq.{take_at, take_all, take-take, length-take-le}
 use lib.IntN.{ℤ}
 use Rattle.record.specs.declared.tag.Tag.{Tag}
@@ -20,13 +19,13 @@ use Rattle.buffer.specs.Rows.{rows}
 use Rattle.buffer.proofs.Tables.{length_rows}
 use Rattle.record.specs.GraphRecords.{graph_of}
 use Rattle.record.specs.Arrays.{arrays_of}
-use Rattle.record.specs.TokensAndTags.{tag_in, port_in, most_tokens, capacity_of}
+use Rattle.record.specs.TokensAndTags.{most_tokens, capacity_of}
 use Rattle.record.specs.Logs.{name_of}
 use Rattle.record.specs.Widths.{token_width, cell_width, log_width, step_width}
 use Rattle.record.proofs.Records.{front, own}
-use Rattle.machine.specs.Machine.{Machine, State, End, Outcome, completed, hung, budget_spent, refused, enabled}
+use Rattle.machine.specs.Machine.{Machine, State, End, Outcome, completed, hung, budget_spent, refused}
 use Rattle.machine.specs.Orders.{Quiescent}
-use Rattle.machine.specs.Sequences.{Fires, Logged}
+use Rattle.machine.specs.Sequences.{Logged}
 use Rattle.machine.specs.Steps.{profile}
 use Rattle.machine.specs.Replay.{replay}
 use Rattle.machine.proofs.Ending.{ending_rests}
@@ -41,7 +40,7 @@ use Rattle.rules.specs.declared.answer.Checked.TheVariants.{Passed, Failed}
 use Rattle.rules.specs.Answer.{number_of, word_of, place_in}
 use Rattle.rules.specs.Check.{check_stores, check_arrays, check, most_cells}
 use Rattle.rules.specs.InstructionSet.{machine_of}
-use Rattle.rules.specs.Run.{first_state, Result, refused_at_once, ran_to, outcome_of, unless_failed, answer, ledger_after, cells_after}
+use Rattle.rules.specs.Run.{first_state, ran_to, outcome_of, unless_failed, answer, ledger_after, cells_after}
 use Rattle.rules.specs.Log.{names_in, replayed}
 use Rattle.rules.specs.Profile.{check_profile, profile_unless_failed, profiled}
 use Rattle.rules.specs.Demand2.{InputsWritten, OthersStart, StoppedBefore, NotEnabledStops}

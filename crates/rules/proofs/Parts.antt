@@ -10,7 +10,6 @@ use lib.ListN.{length, take, drop, length-map, length-drop}
 use lib.Seq.{take_all, length-take-le}
 use lib.IntN.{ℤ}
 use Rattle.record.specs.declared.tag.Tag.{Tag}
-use Rattle.record.specs.declared.array.NamedArray.{NamedArray}
 use Rattle.number.specs.Number.{Bytes}
 use Rattle.buffer.specs.Rows.{whole, written_over}
 use Rattle.record.specs.GraphRecords.{graph_of}

@@ -15,7 +15,6 @@ use Rattle.record.specs.Arrays.{arrays_of}
 use Rattle.record.specs.TokensAndTags.{most_tokens, capacity_of}
 use Rattle.record.specs.Widths.{token_width, cell_width, step_width}
 use Rattle.machine.specs.Machine.{Machine, State, by_picks, run}
-use Rattle.machine.specs.Machine as Machine
 use Rattle.machine.specs.Orders.{Refused}
 use Rattle.machine.specs.Steps.{profile}
 use Rattle.machine.proofs.Ending.{ending_rests}

@@ -29,7 +29,7 @@ use Rattle.arithmetic.specs.declared.Range.{Range}
 use Rattle.arithmetic.specs.Ranges.{Holds}
 use Rattle.arithmetic.proofs.Order.{le_test}
 use Rattle.arithmetic.proofs.Corners.{holds_proper}
-use Rattle.machine.specs.Machine.{Key, Content, Token, absent, State, End, Machine, output, by_picks, run}
+use Rattle.machine.specs.Machine.{Key, Content, absent, State, End, Machine, output, by_picks, run}
 use Rattle.machine.specs.Bounded.{run_bounded}
 use Rattle.machine.specs.Orders.{Good, Quiescent}
 use Rattle.machine.specs.InStep.{PlaceByPlace, no_more, pair, RelatedContent, both_live, both_spent, both_deferred, RelatedCell, both_absent, RelatedToken, at_key, RelatedState, RelatedEnds, InStep, alike, stopped}

@@ -1,8 +1,7 @@
 -- 01, "The answer and the refusals": what is refused before any firing is tried. "Order: 1; records in turn, each 2 to 5; 7; inputs in turn for 6;
 -- then 8 if they exceed the capacity; then 9 by input in turn, against the inputs before it."; R-10: 22 "before inputs". Assumes nothing.
-use Rattle.std.specs.Prelude.{ℕ, zero, suc, ◌+◌, ◌/◌, Bool, true, false, not, ◌&&◌, ◌||◌, cond, List, [], ◌∷◌, length, take, get_or, ℤ, pos, eqb, leb, ltb}
+use Rattle.std.specs.Prelude.{ℕ, suc, ◌+◌, ◌/◌, Bool, true, false, not, ◌&&◌, ◌||◌, cond, List, [], ◌∷◌, length, take, get_or, ℤ, pos, eqb, leb, ltb}
 use Rattle.std.specs.Int.Signed.{le_z}
-use Rattle.record.specs.declared.tag.Tag.{Tag}
 use Rattle.record.specs.declared.array.NamedArray.{NamedArray}
 use Rattle.record.specs.declared.token.Token.{Token}
 use Rattle.record.specs.declared.instruction.Destination.{Destination}

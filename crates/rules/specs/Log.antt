@@ -23,7 +23,7 @@ use Rattle.rules.specs.declared.answer.Checked.TheVariants.{Passed, Failed}
 use Rattle.rules.specs.Answer.{values_of}
 use Rattle.rules.specs.Check.{demand, ◌and_then◌, check_stores, check_inputs, check, check_with}
 use Rattle.rules.specs.InstructionSet.{machine_of}
-use Rattle.rules.specs.Run.{first_state, picks_of, Result, refused_at_once, ran_to, unless_failed, result, answer, ledger_after, cells_after}
+use Rattle.rules.specs.Run.{first_state, picks_of, Result, refused_at_once, ran_to, unless_failed, answer, ledger_after, cells_after}
 use Rattle.rules.specs.Orders.{result_outcome}
 
 -- ---- records (`encode_activity`, `name_of`: specs/Logs of `record`)

@@ -1,5 +1,5 @@
 -- 02, R-13: what is claimed of runs that stop and carry on, in bytes. The statements; they are proved in proofs/: Resumed, Parts. Assumes nothing.
-use Rattle.std.specs.Prelude.{ℕ, ◌+◌, ◌*◌, ◌/◌, ◌≡◌, true, List, [], ◌∷◌, length, take, drop}
+use Rattle.std.specs.Prelude.{ℕ, ◌+◌, ◌*◌, ◌≡◌, true, List, [], ◌∷◌, length, take, drop}
 use Rattle.number.specs.Number.{Bytes}
 use Rattle.buffer.specs.Rows.{whole}
 use Rattle.record.specs.TokensAndTags.{most_tokens}

@@ -2,7 +2,6 @@
 -- `run`, `run_logged` (crate engine), `replay` and `profile` promise this by name, and the claims about them in bytes are stated in the same words. Assumes nothing.
 use Rattle.std.specs.Prelude.{ℕ, List, length}
 use Rattle.machine.specs.Machine as Machine
-use Rattle.machine.specs.Orders.{Refused}
 use Rattle.rules.specs.declared.answer.Refusal.{Refusal}
 use Rattle.rules.specs.declared.answer.Answer.{Answer}
 use Rattle.rules.specs.declared.answer.Outcome.{Outcome}
