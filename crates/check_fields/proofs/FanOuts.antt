@@ -12,7 +12,7 @@ use Rattle.record.specs.declared.operation.Operation.TheVariants.{Unknown}
 use Rattle.record.specs.GraphRecords.{Row, table, row_with, no_row, row_of, operation_of}
 use Rattle.record.specs.contracts.operation.Operation.{the_type}
 use Rattle.rules.specs.Check.{all}
-use Rattle.check_fields.proofs.Turns.{and_true, and_left, and_right}
+use Rattle.check_fields.proofs.Turns.{and-true, and_left, and_right}
 
 -- a test that each row passes, and that a code in no row passes, each code passes
 found : (f : Row → Bool) (rs : List Row) → T (all f rs) → ((n : ℕ) → T (f (no_row n))) → (n : ℕ) → T (f (row_with rs n))
@@ -38,7 +38,7 @@ mosts = 2 ∷ 0 ∷ 0 ∷ 2 ∷ 2 ∷ 2 ∷ 2 ∷ 2 ∷ 0 ∷ 2 ∷ 2 ∷ 2 ∷ 
 -- at some variants they are all v
 among : (xs : List ℕ) (v : ℕ) (ks : List ℕ) → T (all (λ k. eqb (get_or xs k 0) v) ks) → (x : ℕ) → OneOf ks x → get_or xs x 0 ≡ v
 among xs v [] t x h = absurd h
-among xs v (k ∷ []) t x h = rw h (eqb→eq (get_or xs k 0) v (rw (and_true (eqb (get_or xs k 0) v)) at t))
+among xs v (k ∷ []) t x h = rw h (eqb→eq (get_or xs k 0) v (rw (and-true (eqb (get_or xs k 0) v)) at t))
 among xs v (k ∷ j ∷ ks) t x h =
     ⊎_elim (λ e. rw e (eqb→eq (get_or xs k 0) v (and_left (eqb (get_or xs k 0) v) (all (λ m. eqb (get_or xs m 0) v) (j ∷ ks)) t))) (λ l. among xs v (j ∷ ks) (and_right (eqb (get_or xs k 0) v) (all (λ m. eqb (get_or xs m 0) v) (j ∷ ks)) t) x l) h
 

@@ -12,7 +12,7 @@ use borrow.Author.Tests.{eqb-true, eqb-false, not-true, not-false, ltb-true, ltb
 use Rattle.record.specs.declared.instruction.Instruction.{Instruction}
 use Rattle.rules.specs.Check.{any, within, enters_site, other_return, good_site}
 use Rattle.check_fields.specs.Sites.{small_of, enters_other, is_other, Sites, at_site}
-use Rattle.check_fields.proofs.Turns.{or_false, any_append, and_true_left, and_true_right}
+use Rattle.check_fields.proofs.Turns.{or-false, any_append, and_true_left, and_true_right}
 use Rattle.check_fields.proofs.Constants.{within_site, small_site, small_is}
 
 pub other_entry : (e i : ℕ) → (e ≡ 0 → ⊥) → not (eqb (e - 1) i) ≡ is_other e i
@@ -83,13 +83,13 @@ module _ (earlier : List Instruction) (t : List ℕ) (s : Sites earlier t) (r : 
   unfolding good_site enters_site
   note_sites n good site i h =
       any_append (enters_other site i) earlier (r ∷ [])
-      ∙ rw (or_false (enters_other site i r), s site i h, at_site_lem t r (suc j) site (omega (arith, n)) h) (go (enters_site (pos site) r) refl)
+      ∙ rw (or-false (enters_other site i r), s site i h, at_site_lem t r (suc j) site (omega (arith, n)) h) (go (enters_site (pos site) r) refl)
     where
       j : ℕ
       j = r.second.instruction
 
       go : (b : Bool) → enters_site (pos site) r ≡ b → (is_other (get_or t site 0) i || (b && not (eqb j i))) ≡ is_other (cond b (suc j) (get_or t site 0)) i
-      go false q = or_false (is_other (get_or t site 0) i)
+      go false q = or-false (is_other (get_or t site 0) i)
       go true q =
           let e = and_true_left (eqb r.code 8) _ q in
           let p : small_of r.constant ≡ site = eqb-true (small_of r.constant) site (sym (small_site r.constant site h) ∙ and_true_right (eqb r.code 8) _ q) in

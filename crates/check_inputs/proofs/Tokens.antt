@@ -16,7 +16,7 @@ use Rattle.buffer.proofs.Tables.{length_rows, get_d_rows}
 use Rattle.record.specs.Widths.{token_width}
 use Rattle.rules.specs.Check.{any}
 use Rattle.check_inputs.specs.Inputs.{input_tokens, entry_of, SeenEntries}
-use Rattle.check_fields.proofs.Turns.{or_false, any_append, any_next, and_true_left, and_true_right}
+use Rattle.check_fields.proofs.Turns.{or-false, any_append, any_next, and_true_left, and_true_right}
 
 pub length_tokens : (l : List ℕ) → length (input_tokens l) ≡ length l / token_width
 length_tokens l = length_rows token_width decode_token (length l / token_width) l
@@ -50,7 +50,7 @@ same_entry tag port t e =
 pub see : (ts : List Token) (table : List ℕ) (t : Token) → SeenEntries ts table → length table ≡ 512 → SeenEntries (ts ++ t ∷ []) (set table (entry_of t.tag t.port) 1)
 see ts table t seen n tag port z =
     any_append (stands_at tag port) ts (t ∷ [])
-    ∙ rw (or_false (stands_at tag port t)) (go (eqb (entry_of tag port) (entry_of t.tag t.port)) (stands_at tag port t) refl refl)
+    ∙ rw (or-false (stands_at tag port t)) (go (eqb (entry_of tag port) (entry_of t.tag t.port)) (stands_at tag port t) refl refl)
   where
     go : (b s : Bool) → eqb (entry_of tag port) (entry_of t.tag t.port) ≡ b → stands_at tag port t ≡ s → (any (stands_at tag port) ts || s) ≡ false
     go true s p q =
@@ -60,5 +60,5 @@ see ts table t seen n tag port z =
         absurd (omega arith)
     go false true p q = absurd (eqb-false (entry_of tag port) (entry_of t.tag t.port) p (same_entry tag port t q))
     go false false p q =
-        or_false (any (stands_at tag port) ts)
+        or-false (any (stands_at tag port) ts)
         ∙ seen tag port (sym (get_or-set_other table (entry_of t.tag t.port) (entry_of tag port) 1 0 (eqb-false (entry_of tag port) (entry_of t.tag t.port) p)) ∙ z)

@@ -14,7 +14,7 @@ use Rattle.rules.specs.Check.{any}
 use Rattle.rules.specs.Expression.{most_terms, is_variable, names, good_operation, good_term}
 use Rattle.rules.proofs.Passed.{both}
 use Rattle.rules.proofs.Lists.{or_right}
-use Rattle.check_fields.proofs.Turns.{or_false, any_append}
+use Rattle.check_fields.proofs.Turns.{or-false, any_append}
 use Rattle.expression.specs.Tables.{MarkedNamed, NamesInside}
 
 -- what a good record names comes before it
@@ -33,12 +33,12 @@ no_marks = record { size = length-replicate most_terms false; says = λ j l. get
 
 module _ (ts : List Term) (t : Term) where
   named_next : (j : ℕ) → any (names j) (ts ++ t ∷ []) ≡ any (names j) ts || names j t
-  named_next j = any_append (names j) ts (t ∷ []) ∙ ap (λ (b : Bool). any (names j) ts || b) (or_false (names j t))
+  named_next j = any_append (names j) ts (t ∷ []) ∙ ap (λ (b : Bool). any (names j) ts || b) (or-false (names j t))
 
   module _ (table : List Bool) (m : MarkedNamed ts table) where
     -- a variable names none
     pub mark_variable : is_variable t ≡ true → MarkedNamed (ts ++ t ∷ []) table
-    mark_variable v = record { size = m.size; says = λ j l. m.says j l ∙ sym (named_next j ∙ rw (v, or_false (any (names j) ts))) }
+    mark_variable v = record { size = m.size; says = λ j l. m.says j l ∙ sym (named_next j ∙ rw (v, or-false (any (names j) ts))) }
 
     pub mark_operation : is_variable t ≡ false → t.left < most_terms → t.right < most_terms → MarkedNamed (ts ++ t ∷ []) (set (set table t.left true) t.right true)
     mark_operation v left right = record {
@@ -60,5 +60,5 @@ module _ (ts : List Term) (t : Term) where
             rw (eq-eqb t.left j (sym p), or_right (any (names j) ts) true refl)
             (get_or-set_other first t.right j true false q ∙ ap (λ (k : ℕ). get_or first k false) p ∙ get_or-set_same table t.left true false (omega (arith, m.size)))
         go j l (no p) (no q) =
-            rw (ne_eqb t.left j (λ e. p (sym e)), ne_eqb t.right j (λ e. q (sym e)), or_false (any (names j) ts))
+            rw (ne_eqb t.left j (λ e. p (sym e)), ne_eqb t.right j (λ e. q (sym e)), or-false (any (names j) ts))
             (get_or-set_other first t.right j true false q ∙ get_or-set_other table t.left j true false p ∙ m.says j l)
