@@ -24,9 +24,9 @@ found f (r ∷ rs) t u n = go (f r) (eqb n r.code) refl t (λ k. found f rs k u 
     go true false p t k = k t
     go false e p t k = absurd t
 
-every-row : (f : Row → Bool) → T (all f table) → ((n : ℕ) → T (f (no_row n))) → (n : ℕ) → T (f (row_of n))
+every_row : (f : Row → Bool) → T (all f table) → ((n : ℕ) → T (f (no_row n))) → (n : ℕ) → T (f (row_of n))
 unfolding row_of
-every-row f t u n = found f table t u n
+every_row f t u n = found f table t u n
 
 -- the fan-outs of each operation, in the order of its variants
 unfoldable pub leasts : List ℕ
@@ -43,19 +43,19 @@ among xs v (k ∷ j ∷ ks) t x h =
     ⊎_elim (λ e. rw e (eqb→eq (get_or xs k 0) v (and_left (eqb (get_or xs k 0) v) (all (λ m. eqb (get_or xs m 0) v) (j ∷ ks)) t))) (λ l. among xs v (j ∷ ks) (and_right (eqb (get_or xs k 0) v) (all (λ m. eqb (get_or xs m 0) v) (j ∷ ks)) t) x l) h
 
 -- a column of the table that goes by the operation alone, at the operations that one arm of a `match` has
-by-variant : (column : Row → ℕ) (xs : List ℕ) → T (all (λ r. eqb (column r) (get_or xs (tag_of the_type r.operation) 0)) table)
+by_variant : (column : Row → ℕ) (xs : List ℕ) → T (all (λ r. eqb (column r) (get_or xs (tag_of the_type r.operation) 0)) table)
     → ((m : ℕ) → T (eqb (column (no_row m)) (get_or xs (tag_of the_type Unknown) 0)))
     → (n v : ℕ) (ks : List ℕ) → OneOf ks (tag_of the_type (operation_of n)) → T (all (λ k. eqb (get_or xs k 0) v) ks) → v ≡ column (row_of n)
-by-variant column xs t u n v ks one k =
+by_variant column xs t u n v ks one k =
     let at = tag_of the_type (operation_of n) in
-    let e = eqb→eq (column (row_of n)) (get_or xs at 0) (every-row (λ r. eqb (column r) (get_or xs (tag_of the_type r.operation) 0)) t u n) in
+    let e = eqb→eq (column (row_of n)) (get_or xs at 0) (every_row (λ r. eqb (column r) (get_or xs (tag_of the_type r.operation) 0)) t u n) in
     sym (e ∙ among xs v ks k at one)
 
 module _ (n v : ℕ) (ks : List ℕ) (one : OneOf ks (tag_of the_type (operation_of n))) where
-  pub least-among : T (all (λ k. eqb (get_or leasts k 0) v) ks) → v ≡ (row_of n).least_fan_out
+  pub least_among : T (all (λ k. eqb (get_or leasts k 0) v) ks) → v ≡ (row_of n).least_fan_out
   unfolding leasts
-  least-among t = by-variant (λ r. r.least_fan_out) leasts tt (λ m. tt) n v ks one t
+  least_among t = by_variant (λ r. r.least_fan_out) leasts tt (λ m. tt) n v ks one t
 
-  pub most-among : T (all (λ k. eqb (get_or mosts k 0) v) ks) → v ≡ (row_of n).most_fan_out
+  pub most_among : T (all (λ k. eqb (get_or mosts k 0) v) ks) → v ≡ (row_of n).most_fan_out
   unfolding mosts
-  most-among t = by-variant (λ r. r.most_fan_out) mosts tt (λ m. tt) n v ks one t
+  most_among t = by_variant (λ r. r.most_fan_out) mosts tt (λ m. tt) n v ks one t

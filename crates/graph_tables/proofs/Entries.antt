@@ -57,10 +57,10 @@ past_end (x ∷ l) zero h = absurd (omega arith)
 past_end (x ∷ l) (suc k) h = past_end l k (omega arith)
 
 -- an instruction past the table is past the graph too
-pub all-arities : (graph tables : List ℕ) → check_graph graph ≡ Passed → length tables ≡ 641
+pub all_arities : (graph tables : List ℕ) → check_graph graph ≡ Passed → length tables ≡ 641
     → ((τ : Tag) → τ.instruction < 256 → arity_of tables τ ≡ arity_in (graph_of graph) τ) → Arities (graph_of graph) tables
 unfolding waited_for
-all-arities graph tables passed size right τ = go (dec_le (suc τ.instruction) 256)
+all_arities graph tables passed size right τ = go (dec_le (suc τ.instruction) 256)
   where
     go : Dec (suc τ.instruction ≤ 256) → arity_of tables τ ≡ arity_in (graph_of graph) τ
     go (yes h) = right τ h

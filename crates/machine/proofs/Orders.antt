@@ -16,10 +16,10 @@ use Rattle.machine.proofs.Sequences.{shorter}
 use Rattle.machine.proofs.Ending.{rested}
 use Rattle.machine.proofs.Runs.{ran, one_tells_all}
 
-get_dMem : {A : Type 0} (l : List A) (i : ℕ) (d : A) → Memᴰ (get_or l i d) (d ∷ l)
-get_dMem [] i d = Memᴰ.head refl
-get_dMem (x ∷ xs) zero d = Memᴰ.tail (Memᴰ.head refl)
-get_dMem (x ∷ xs) (suc i) d = step (Memᴰ.cases_cons (get_dMem xs i d))
+get_or_mem : {A : Type 0} (l : List A) (i : ℕ) (d : A) → Memᴰ (get_or l i d) (d ∷ l)
+get_or_mem [] i d = Memᴰ.head refl
+get_or_mem (x ∷ xs) zero d = Memᴰ.tail (Memᴰ.head refl)
+get_or_mem (x ∷ xs) (suc i) d = step (Memᴰ.cases_cons (get_or_mem xs i d))
   where
     step : (get_or xs i d ≡ d) ⊎ Memᴰ (get_or xs i d) xs → Memᴰ (get_or xs i d) (d ∷ x ∷ xs)
     step (inl e) = Memᴰ.head e
@@ -28,7 +28,7 @@ get_dMem (x ∷ xs) (suc i) d = step (Memᴰ.cases_cons (get_dMem xs i d))
 module _ (M : Machine) where
   -- a pick takes one of the enabled
   pub by_picks_lawful : LawfulChoice M (by_picks M)
-  by_picks_lawful s p a more = step (Memᴰ.cases_cons (get_dMem (a ∷ more) (picked_number p (length (a ∷ more))) a))
+  by_picks_lawful s p a more = step (Memᴰ.cases_cons (get_or_mem (a ∷ more) (picked_number p (length (a ∷ more))) a))
     where
       step : (pick_of M p a more ≡ a) ⊎ Memᴰ (pick_of M p a more) (a ∷ more) → Memᴰ (pick_of M p a more) (a ∷ more)
       step (inl e) = Memᴰ.head e

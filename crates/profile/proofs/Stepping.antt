@@ -58,15 +58,15 @@ one_at_most (live v) = omega arith
 one_at_most (spent v) = omega arith
 one_at_most (deferred c) = omega arith
 
-pub unspent-few : (M : Machine) (ts : Ledger M) → unspent_in M ts ≤ length ts
-unspent-few M [] = omega arith
-unspent-few M (t ∷ ts) = omega (arith, unspent-few M ts, one_at_most t.content)
+pub unspent_few : (M : Machine) (ts : Ledger M) → unspent_in M ts ≤ length ts
+unspent_few M [] = omega arith
+unspent_few M (t ∷ ts) = omega (arith, unspent_few M ts, one_at_most t.content)
 
 pub held_size : (used : ℕ) (ledger : List ℕ) → length (map token_held (tokens used ledger)) ≡ used
 held_size used ledger = length-map (tokens used ledger) token_held ∙ length_rows token_width Tokens.decode_token used ledger
 
-pub unspent-below : {g : List Instruction} {tables links flags ledger cells : List ℕ} {used live : ℕ} → Running g tables links flags ledger cells used → live ≡ unspent_at g tables ledger cells used → live ≤ used
-unspent-below {g} {tables} {ledger = ledger} {cells = cells} {used = used} now e = omega (arith, unspent-few (machine_over g tables ledger cells) (state_in ledger cells used).tokens, held_size used ledger)
+pub unspent_below : {g : List Instruction} {tables links flags ledger cells : List ℕ} {used live : ℕ} → Running g tables links flags ledger cells used → live ≡ unspent_at g tables ledger cells used → live ≤ used
+unspent_below {g} {tables} {ledger = ledger} {cells = cells} {used = used} now e = omega (arith, unspent_few (machine_over g tables ledger cells) (state_in ledger cells used).tokens, held_size used ledger)
 
 -- ---- what is enabled
 
@@ -349,9 +349,9 @@ module _ (graph : List ℕ) {tables links₀ flags₀ ledger₀ cells₀ : List 
             }
 
 -- a whole step, by what was live or deferred before it
-pub step-whole : {g : List Instruction} {tables links flags ledger' cells' : List ℕ} {count n gone used unspent : ℕ} {ledger cells : List ℕ} → AllFired g tables links flags ledger' cells' count n gone used ledger cells
+pub step_whole : {g : List Instruction} {tables links flags ledger' cells' : List ℕ} {count n gone used unspent : ℕ} {ledger cells : List ℕ} → AllFired g tables links flags ledger' cells' count n gone used ledger cells
     → unspent ≡ unspent_at g tables ledger cells used → SteppedWhole g tables links flags ledger' cells' count n (unspent + (n - used) - gone) used ledger cells
-step-whole {g} {tables} {ledger' = ledger'} {cells' = cells'} {count = count} {n = n} {gone = gone} {used = used} {unspent = before} {ledger = ledger} {cells = cells} a e =
+step_whole {g} {tables} {ledger' = ledger'} {cells' = cells'} {count = count} {n = n} {gone = gone} {used = used} {unspent = before} {ledger = ledger} {cells = cells} a e =
     let same : unspent_at g tables ledger' cells' n ≡ before + (n - used) - gone = omega (arith, a.unspent_left, e) in
     let M = machine_over g tables ledger cells in
     record {

@@ -9,7 +9,7 @@ use Rattle.record.specs.declared.tag.Tag.{Tag}
 use Rattle.record.specs.GraphRecords.{graph_of}
 use Rattle.rules.specs.InstructionSet.{arity_in}
 use Rattle.store_enabled.specs.Enabled.{arity_of}
-use Rattle.graph_tables.proofs.Entries.{entry_next, all-arities}
+use Rattle.graph_tables.proofs.Entries.{entry_next, all_arities}
 use Rattle.graph_tables.proofs.arities.Statement.{statement}
 use Rattle.graph_tables.proofs.arities.Tie as tie
 
@@ -43,4 +43,4 @@ arities-spec = tie.close (tie.spec
     (λ c.  -- returns
     let l = c.before.loop in
     let s = c.before.before.before.before in
-    ((all-arities s.args.graph.now l.out s.requires.0 l.invariant.1 (λ τ h. l.invariant.2 τ (omega arith)), l.invariant.1), λ r site h. l.invariant.3 site h ∙ r site h)))
+    ((all_arities s.args.graph.now l.out s.requires.0 l.invariant.1 (λ τ h. l.invariant.2 τ (omega arith)), l.invariant.1), λ r site h. l.invariant.3 site h ∙ r site h)))

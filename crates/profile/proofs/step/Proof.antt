@@ -13,7 +13,7 @@ use Rattle.rules.specs.declared.answer.Outcome.{Outcome}
 use Rattle.rules.specs.declared.answer.Outcome.TheVariants as Outcomes
 use Rattle.rules.specs.contracts.answer.Outcome as Outcomes-laws
 use Rattle.profile.specs.Steps.{AllFired, FiredAs}
-use Rattle.profile.proofs.Stepping.{unspent-below, step_none, step-whole}
+use Rattle.profile.proofs.Stepping.{unspent_below, step_none, step_whole}
 use Rattle.profile.proofs.step.Statement.{statement}
 use Rattle.profile.proofs.step.Tie as tie
 
@@ -48,7 +48,7 @@ step_spec = tie.close (tie.spec
     let at-in-turn = c.before.before.before.before.before.in_turn in
     let s = c.before.before.before.before.before.before.before.before.before.before.before.before.before.before.before.before.before.before in
     let a = all_of at-in-turn.result.outcome c.match.keys2 at-in-turn.ensures in
-    omega (arith, unspent-below s.requires.1 s.requires.2, matching_few s.requires.1.matching, matching_few a.went.running.matching))
+    omega (arith, unspent_below s.requires.1 s.requires.2, matching_few s.requires.1.matching, matching_few a.went.running.matching))
     (λ c.  -- sub-t33
     let at-in-turn = c.before.before.before.before.before.before.in_turn in
     let s = c.before.before.before.before.before.before.before.before.before.before.before.before.before.before.before.before.before.before.before in let a = all_of at-in-turn.result.outcome c.before.match.keys2 at-in-turn.ensures in omega (arith, a.unspent_left, s.requires.2))
@@ -59,4 +59,4 @@ step_spec = tie.close (tie.spec
     (λ c. search rules)  -- same-length-5
     (λ c.  -- returns-3
     let at-in-turn = c.before.before.before.before.before.before.in_turn in
-    (step-whole (all_of at-in-turn.result.outcome c.before.match.keys2 at-in-turn.ensures) c.before.before.before.before.before.before.before.before.before.before.before.before.before.before.before.before.before.before.before.requires.2, c.before.before.before.before.before.before.before.before.before.before.before.before.before.enabled-places.ensures.size)))
+    (step_whole (all_of at-in-turn.result.outcome c.before.match.keys2 at-in-turn.ensures) c.before.before.before.before.before.before.before.before.before.before.before.before.before.before.before.before.before.before.before.requires.2, c.before.before.before.before.before.before.before.before.before.before.before.before.before.enabled-places.ensures.size)))

@@ -1,0 +1,17 @@
+-- `checks::graph::first_fault` meets its contract. Assumes nothing.
+use Rattle.checks.proofs.graph.first_fault.Goals as goal
+
+pub returns-then-not-known : goal.returns-then-not-known
+returns-then-not-known c = let a = c.args in rw (c.if-not-known.true)
+
+pub returns-then-not-fields : goal.returns-then-not-fields
+returns-then-not-fields c = let a = c.args in rw (c.if-not-known.false, c.if-not-fields.true)
+
+pub returns-then-not-arcs : goal.returns-then-not-arcs
+returns-then-not-arcs c = let a = c.args in rw (c.if-not-known.false, c.if-not-fields.false, c.if-not-arcs.true)
+
+pub returns-then-not-site : goal.returns-then-not-site
+returns-then-not-site c = let a = c.args in rw (c.if-not-known.false, c.if-not-fields.false, c.if-not-arcs.false, c.if-not-site.true)
+
+pub returns : goal.returns
+returns c = let a = c.args in rw (c.if-not-known.false, c.if-not-fields.false, c.if-not-arcs.false, c.if-not-site.false)
