@@ -4,8 +4,7 @@ use mathlib.Core.Path.{refl}
 use native.Mathlib.Omega.{arith}
 use borrow.Author.Rules.{rules}
 use Rattle.store_chains.specs.Chains.{mix}
-use Rattle.store_chains.proofs.mixed.Statement.{statement}
-use Rattle.store_chains.proofs.mixed.Tie as tie
+use Rattle.store_chains.proofs.mixed.Goals as goal
 
 -- of halves below 2 ^ 32
 small : (a b : ℕ) → a < 4294967296 → b < 4294967296 → a * 668265261 + b * 374761393 < 9223372036854775808
@@ -17,10 +16,18 @@ lower n = omega arith
 upper : (n : ℕ) → n < 18446744073709551616 → n / 4294967296 < 4294967296
 upper n h = omega arith
 
-pub mixed_spec : {M : Type 1} → statement M
+pub overflow_mul-result : goal.overflow_mul-result
 unfolding mix
-mixed_spec = tie.close (tie.spec
-    (λ c. search rules)  -- mul-result
-    (λ c. search rules)  -- mul-result-2
-    (λ c. search rules)  -- add-result
-    (λ c. (refl, small _ _ (lower c.args.calls) (upper c.args.calls (omega arith)))))  -- returns
+overflow_mul-result c = search rules
+
+pub overflow_mul-result-2 : goal.overflow_mul-result-2
+unfolding mix
+overflow_mul-result-2 c = search rules
+
+pub overflow_add-result : goal.overflow_add-result
+unfolding mix
+overflow_add-result c = search rules
+
+pub returns : goal.returns
+unfolding mix
+returns c = (refl, small _ _ (lower c.args.calls) (upper c.args.calls (omega arith)))
