@@ -7,8 +7,7 @@ use lib.ListN.{length, get_or}
 use Rattle.store_flags.specs.Flags.{ones, place, places, flags_of, Counted}
 use Rattle.store_flags.proofs.Laws.{place_lt, ones_places, place_places}
 use Rattle.store_flags.proofs.Words.{words_size}
-use Rattle.store_flags.proofs.select.Statement.{statement}
-use Rattle.store_flags.proofs.select.Tie as tie
+use Rattle.store_flags.proofs.select.Goals as goal
 
 module _ {ws : List ℕ} (c : Counted ws) (k : ℕ) (h : k < length (places (flags_of ws))) where
   among : k < ones (flags_of ws)
@@ -19,17 +18,14 @@ module _ {ws : List ℕ} (c : Counted ws) (k : ℕ) (h : k < length (places (fla
       let p = place_places 0 k (flags_of ws) c.tallied.binary among in
       (omega arith, omega (arith, place_lt k (flags_of ws) among, words_size c.summed))
 
-pub select_spec : {M : Type 1} → statement M
-select_spec = tie.close (tie.spec
-    (λ c κs.  -- first-requires
-    let s = c.before in
-    (s.requires.0.summed, omega (arith, among s.requires.0 s.args.k s.requires.1)))
-    (λ c κs.  -- select-group-requires
-    let s = c.before in
-    (s.requires.0, among s.requires.0 s.args.k s.requires.1))
-    (λ c.  -- returns
-    let s = c.before.before in
-    selected s.requires.0 s.args.k s.requires.1 c.first.result (c.first.ensures ∙ ap (λ (m : ℕ). place m (flags_of s.args.flags.now)) (sym c.before.if1.true)))
-    (λ c.  -- returns-2
-    let s = c.before.before in
-    selected s.requires.0 s.args.k s.requires.1 c.select-group.result c.select-group.ensures))
+pub first-requires : goal.first-requires
+first-requires c = (c.requires.0.summed, omega (arith, among c.requires.0 c.args.k c.requires.1))
+
+pub select_group-requires : goal.select_group-requires
+select_group-requires c = (c.requires.0, among c.requires.0 c.args.k c.requires.1)
+
+pub returns-then-k-eq0 : goal.returns-then-k-eq0
+returns-then-k-eq0 c = selected c.requires.0 c.args.k c.requires.1 c.first.result (c.first.ensures ∙ ap (λ (m : ℕ). place m (flags_of c.args.flags.now)) (sym c.if-k-eq0.true))
+
+pub returns-else-k-eq0 : goal.returns-else-k-eq0
+returns-else-k-eq0 c = selected c.requires.0 c.args.k c.requires.1 c.select_group.result c.select_group.ensures
