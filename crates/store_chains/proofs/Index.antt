@@ -1,7 +1,7 @@
 -- Laws of the chains by tag: a walk along one finds what a scan of the ledger finds. Assumes nothing.
 use Prim.Native.Nat.{ℕ, zero, suc, ◌+◌, ◌-◌, ◌≤◌, ◌<◌}
 use mathlib.Core.Path.{◌≡◌, refl, sym, ap, ◌∙◌}
-use mathlib.Core.Bool.{Bool, true, false, ◌&&◌, cond, and_false_lem}
+use mathlib.Core.Bool.{Bool, true, false, ◌&&◌, cond, and-false}
 use mathlib.Core.List.{List, map}
 use native.Mathlib.Omega.{arith}
 use lib.Dec.{eqb}
@@ -18,9 +18,9 @@ use Rattle.record.specs.Widths.{token_width}
 use Rattle.store_chains.specs.declared.Found.TheVariants.{At, Nothing}
 use Rattle.store_chains.specs.Search.{first_from, found_of, is_found, FoundWithin, Single}
 use Rattle.store_chains.specs.Chains.{bucket_of, bucket_key, last_below, Indexed}
-use Rattle.store_chains.proofs.Walks.{On, Walk, earliest, stands}
+use Rattle.store_chains.proofs.Walks.{Walk, earliest, stands}
 use Rattle.store_chains.proofs.Search.{first_step, first_end, first_within_lem, first_some, all_at}
-use Rattle.store_chains.proofs.Chains.{key_at_lem, chained_few, walk_first, on_first, walk_next, next_below, on_next}
+use Rattle.store_chains.proofs.Chains.{key_at_lem, walk_first, on_first, walk_next, next_below, on_next}
 
 -- places of other keys are passed
 earliest_skip : (q : ℕ → Bool) (b : ℕ) (ks : List ℕ) (n best : ℕ) → ((i : ℕ) → i < n → q i ≡ true → get_or ks i 0 ≡ b)
@@ -98,7 +98,7 @@ stands_key tag port t e = ap (λ (k : Tag). suc (bucket_of k)) (stands_is tag po
 -- one of another tag stands at no port of this one
 pub stands_off : (tag : Tag) (port : ℕ) (t : Token) → same_tag t.tag tag ≡ false → stands_at tag port t ≡ false
 unfolding stands_at
-stands_off tag port t e = rw e (and_false_lem (eqb t.port port))
+stands_off tag port t e = rw e (and-false (eqb t.port port))
 
 -- one of the tag that is not on a port below 2 is on the other
 pub stands_other_port : (tag : Tag) (port : ℕ) (t : Token) → port < 2 → t.port < 2 → same_tag t.tag tag ≡ true → (t.port ≡ port → ⊥)

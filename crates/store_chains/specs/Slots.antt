@@ -6,7 +6,6 @@ use Rattle.record.specs.declared.tag.Tag.{Tag}
 use Rattle.record.specs.declared.token.Token.{Token}
 use Rattle.store_chains.specs.declared.Slot.{Slot}
 use Rattle.store_chains.specs.declared.Sought.{Sought}
-use Rattle.store_chains.specs.declared.Sought.TheVariants as Sought
 use Rattle.store_chains.specs.Search.{first_from, is_found, Free}
 use Rattle.store_chains.specs.Chains.{bucket_of}
 

@@ -7,10 +7,9 @@ use mathlib.Core.List.{List, [], ◌∷◌, ◌++◌}
 use native.Mathlib.Omega.{arith}
 use native.Mathlib.Decide.{dec_le}
 use lib.Dec.{eqb, ltb}
+use lib.IntN.{ℤ}
 use lib.ListN.{length, get_or, set, length-map}
 use lib.Seq.{set-get_or}
-use mathlib.Core.Logic.{◌⊎◌, inl, inr}
-use denote.Enum.Declared.{tag_of as variant_of}
 use borrow.Author.Tests.{eqb-true, eqb-false, ne_eqb, ltb-true, lt-ltb, le-ltb}
 use Rattle.buffer.specs.Rows.{All}
 use Rattle.record.specs.TokensAndTags.{tokens, token_at, stands_at}
@@ -18,7 +17,6 @@ use Rattle.record.specs.Widths.{token_width}
 use Rattle.record.specs.declared.tag.Tag.{Tag}
 use Rattle.record.specs.declared.token.Token.{Token}
 use Rattle.record.specs.declared.token.Content.{Content}
-use Rattle.record.specs.contracts.token.Content.{the_type}
 use Rattle.record.specs.declared.token.Content.TheVariants.{Live, Spent, Deferred}
 use Rattle.store_flags.specs.Marks.{bit, first_of}
 use Rattle.store_flags.proofs.Marks.{marked_past}
@@ -296,9 +294,8 @@ module _ (tag : Tag) (port i n : ℕ) (m : List ℕ) (h : i < n) (low : port < 2
 -- ---- the token that arrived last
 
 -- what is spent or deferred is not live
-pub not_live : (x : Content) → (variant_of the_type x ≡ 1) ⊎ (variant_of the_type x ≡ 2) → is_live_record x ≡ false
-not_live (Live v) (inl e) = absurd (omega arith)
-not_live (Live v) (inr e) = absurd (omega arith)
+pub not_live : (x : Content) → ((v : ℤ) → x ≡ Live v → ⊥) → is_live_record x ≡ false
+not_live (Live v) k = absurd (k v refl)
 not_live (Spent v) k = refl
 not_live (Deferred cell) k = refl
 
