@@ -1,20 +1,19 @@
 -- R-8: a run that gave neither 7 nor 14 before it is the same with its inputs converted and buffers of as many records (`keeps_result`), and what it leaves in
 -- the ledger is converted (`keeps_ledger`); so is the log of one that writes a log (`keeps_logged`, `keeps_log`). Assumes nothing.
-use Prim.Native.Nat.{ℕ, zero, suc, ◌+◌, ◌*◌, ◌/◌, ◌%◌, ◌^◌, ◌≤◌, ◌<◌}
+use Prim.Native.Nat.{ℕ, suc, ◌+◌, ◌*◌, ◌/◌, ◌%◌, ◌^◌, ◌≤◌, ◌<◌}
 use mathlib.Core.Path.{◌≡◌, refl, sym, ap, ◌∙◌, subst}
-use mathlib.Core.Bool.{Bool, true, false, ◌&&◌, not, cond}
+use mathlib.Core.Bool.{Bool, true, false, ◌&&◌, cond}
 use mathlib.Core.Logic.{◌⊎◌, inl, inr}
 use mathlib.Core.List.{List, [], ◌∷◌, ◌++◌, map}
 use native.Mathlib.Omega.{arith}
 use native.Mathlib.Nat.{add-zero}
 use native.Mathlib.Decide.{dec_le}
-use lib.ListN.{length, take, drop, replicate, length-append, length-drop, length-map}
-use lib.Seq.{length-take-le}
-use lib.Dec.{eqb, leb, ltb}
+use lib.ListN.{length, length-map}
+use lib.Dec.{eqb, leb}
 use lib.IntN.{ℤ, pos, negsuc, nat_abs}
 use borrow.Author.Tests.{eq-eqb, le-leb, leb-true, leb-false}
 use Rattle.number.specs.Number.{number64}
-use Rattle.buffer.specs.Rows.{rows, all_rows, joined, whole, All}
+use Rattle.buffer.specs.Rows.{rows, all_rows, whole, All}
 use Rattle.buffer.proofs.Tables.{length_joined}
 use Rattle.record.specs.declared.array.NamedArray.{NamedArray}
 use Rattle.record.specs.declared.tag.Tag.{Tag}
@@ -38,12 +37,11 @@ use Rattle.machine.specs.Sequences.{log_of}
 use Rattle.machine.proofs.Kept.{Each, OfToken, OfState, OfEffect, Keeps, run_keeps}
 use Rattle.rules.specs.declared.answer.Refusal.{Refusal}
 use Rattle.rules.specs.declared.answer.Refusal.TheVariants as Refusals
-use Rattle.rules.specs.declared.answer.Outcome.TheVariants.{Refused}
 use Rattle.rules.specs.declared.answer.Checked.{Checked}
 use Rattle.rules.specs.declared.answer.Checked.TheVariants.{Passed, Failed}
-use Rattle.rules.specs.Check.{demand, ◌and_then◌, in_turn, within, instruction_at, check_graph, check_arrays, check_stores, check_inputs, check, good_input, operands_at, most_cells, second_input}
+use Rattle.rules.specs.Check.{demand, ◌and_then◌, within, instruction_at, check_graph, check_arrays, check_stores, check_inputs, check, good_input, most_cells}
 use Rattle.rules.specs.InstructionSet.{key_under, effect_in, machine_of}
-use Rattle.rules.specs.Run.{token_record, token_held, first_state, picks_of, Result, refused_at_once, ran_to, unless_failed, result, answer, outcome_of, ledger_after}
+use Rattle.rules.specs.Run.{token_record, first_state, picks_of, ran_to, unless_failed, result, answer, ledger_after}
 use Rattle.rules.specs.Log.{LogResult, log_suffices, check_log_stores, check_logged, log_unless_failed, logged, log_after}
 use Rattle.rules.specs.Invariants.{LawfulResult}
 use Rattle.record.proofs.LogRecords.{length_record}

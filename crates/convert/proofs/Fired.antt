@@ -5,7 +5,7 @@ use mathlib.Core.Path.{◌≡◌, refl}
 use mathlib.Core.List.{List, [], ◌∷◌}
 use mathlib.Core.Option.{Option, none, some}
 use Rattle.buffer.specs.Rows.{All}
-use Rattle.machine.specs.Machine.{Key, live, Machine, Activity, Fired, fired, not_fired, Operands, on_option, on_list, first_pick, later_picks}
+use Rattle.machine.specs.Machine.{Key, live, Machine, Activity, fired, not_fired, Operands, on_option, on_list, first_pick, later_picks}
 use Rattle.machine.specs.Machine.{StateOf, FiredOf, at, look, operands, enabled, commit, fire, Choice}
 use Rattle.machine.specs.Sequences.{if_fired, log_of}
 use Rattle.machine.proofs.View.{operand_live, operand_zero}

@@ -4,7 +4,7 @@ use mathlib.Core.Path.{◌≡◌, refl, sym, ap, ◌∙◌}
 use mathlib.Core.List.{List, [], ◌∷◌, ◌++◌, append_assoc, append-nil}
 use native.Mathlib.Omega.{arith}
 use native.Mathlib.Nat.{suc-mul, zero-mul, add_comm, not-suc-le-zero, le_of_suc-le-suc, mul-le-mul_right, div-mul-le_self}
-use lib.ListN.{length, get_or, take, drop, replicate, length-append, length-drop}
+use lib.ListN.{length, take, drop, replicate, length-append, length-drop}
 use lib.Seq.{get_or-drop, length-take-le, take_at, take-append-add, drop_at, drop-append-add, drop-drop}
 use Rattle.number.specs.Number.{byte_at}
 use Rattle.buffer.specs.Rows.{rows, all_rows, joined, written_over, written, put_row, All}

@@ -1,11 +1,11 @@
 -- An instruction set that refuses more, by one word, and is else the same: a run that is not refused by that word is the run of the other (`as_freely`), and so
 -- is its log. Assumes nothing.
 use Prim.Native.Nat.{ℕ, zero, suc}
-use mathlib.Core.Path.{◌≡◌, refl, sym, ◌∙◌}
+use mathlib.Core.Path.{◌≡◌, refl}
 use mathlib.Core.Logic.{◌⊎◌, inl, inr}
 use mathlib.Core.List.{List, [], ◌∷◌}
 use mathlib.Core.Option.{Option, none, some}
-use Rattle.machine.specs.Machine.{Machine, Activity, Fired, fired, not_fired, Outcome, refused, End, refuse, Operands, on_option, on_list, first_pick, later_picks}
+use Rattle.machine.specs.Machine.{Machine, Activity, fired, not_fired, refused, End, refuse, Operands, on_option, on_list, first_pick, later_picks}
 use Rattle.machine.specs.Machine.{StateOf, EffectOf, FiredOf, look, operands, enabled, commit, admit, fire, ending, end, after, Choice, run_by}
 use Rattle.machine.specs.Sequences.{if_fired, log_of}
 use Rattle.machine.specs.Agreement.{with_instructions}

@@ -1,8 +1,8 @@
 -- 02, R-8: "A run that gave neither 7 nor 14 answers as it did, with its inputs converted and buffers of as many records." The rules before R-8, in so far as
 -- they differ, and the statements; they are proved in proofs/Before. Assumes nothing.
-use Rattle.std.specs.Prelude.{ℕ, ◌*◌, ◌/◌, ◌%◌, ◌^◌, ◌≡◌, Bool, ◌&&◌, ◌||◌, not, cond, List, [], ◌∷◌, ◌++◌, map, length, take, drop, replicate, eqb, leb, ltb, ℤ}
+use Rattle.std.specs.Prelude.{ℕ, ◌*◌, ◌/◌, ◌%◌, ◌^◌, ◌≡◌, Bool, ◌&&◌, ◌||◌, not, cond, List, [], ◌∷◌, ◌++◌, map, length, take, replicate, eqb, leb, ltb, ℤ}
 use Rattle.number.specs.Number.{byte_at, number16, number32, number64, bytes16, bytes32, bytes64}
-use Rattle.buffer.specs.Rows.{all_rows, joined, whole, written_over}
+use Rattle.buffer.specs.Rows.{all_rows, whole, written_over}
 use Rattle.record.specs.declared.array.NamedArray.{NamedArray}
 use Rattle.record.specs.declared.tag.Tag.{Tag}
 use Rattle.record.specs.declared.token.Token as Record

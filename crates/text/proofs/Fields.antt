@@ -4,16 +4,16 @@ use native.Mathlib.Omega.{arith}
 use native.Mathlib.Nat.{zero-add}
 use mathlib.Core.Path.{◌≡◌, refl, sym, ap, ◌∙◌}
 use mathlib.Core.Bool.{Bool, true, false}
-use mathlib.Core.List.{List, [], ◌∷◌, ◌++◌, map, append-nil}
+use mathlib.Core.List.{List, [], ◌∷◌, ◌++◌, append-nil}
 use lib.Dec.{T, eqb, ltb, eqb→eq}
 use lib.Bits.{bit_or, or_comm, or_add_and, and_le_r}
 use lib.ListN.{length, get_or, drop, length-map}
 use lib.Seq.{get_or-drop}
-use borrow.Author.Tests.{eqb-true, eq-eqb, ne_eqb, lt-ltb, le-ltb, ltb-true, ltb-false}
+use borrow.Author.Tests.{eq-eqb, ne_eqb, lt-ltb, le-ltb, ltb-true, ltb-false}
 use mir.Syntax.{w32}
 use mir.Facts.{sfits_to_z}
 use mir.Val.{SFits}
-use Rattle.number.specs.Number.{byte_at, signed_of, bits_of}
+use Rattle.number.specs.Number.{byte_at, signed_of}
 use Rattle.number.proofs.Numbers.{bits_signed}
 use Rattle.buffer.specs.Rows.{rows}
 use Rattle.buffer.proofs.Tables.{length_rows, get_d_rows}

@@ -5,7 +5,7 @@ use native.Mathlib.Nat.{add-zero, not-suc-le-zero, le_of_suc-le-suc}
 use mathlib.Core.Path.{◌≡◌, refl, sym, ap, ◌∙◌}
 use mathlib.Core.List.{List, [], ◌∷◌, ◌++◌, append_assoc}
 use lib.ListN.{length, get_or, take, drop, length-append, length-drop}
-use lib.Seq.{length-take-le, take_at, drop_at, take-add, take-take, take-append-le, take-append-add, drop-drop}
+use lib.Seq.{length-take-le, take_at, drop_at, take-add, take-take, take-append-add, drop-drop}
 use Rattle.buffer.specs.Rows.{written}
 use Rattle.record.specs.Paths.{path_number}
 use Rattle.record.specs.declared.tag.Path.{Path}
