@@ -1,9 +1,7 @@
 -- `range_output::token_bytes` meets its contract. Assumes nothing.
 use mathlib.Core.Path.{◌≡◌, refl, ◌∙◌}
 use mathlib.Core.List.{List, ◌++◌}
-use borrow.Author.Rules.{rules}
 use Rattle.number.specs.Number.{bytes32}
-use Rattle.record.specs.declared.tag.Tag.{Tag}
 use Rattle.record.specs.declared.token.Content.{Content}
 use Rattle.record.specs.declared.token.Content.TheVariants.{Live, Spent, Deferred}
 use Rattle.record.specs.declared.token.Token.{Token}
@@ -11,8 +9,7 @@ use Rattle.record.specs.TokensAndTags as Tokens
 use Rattle.arithmetic.specs.declared.Range.{Range}
 use Rattle.rules.specs.RangeRun.{encode_range}
 use Rattle.range_output.specs.Left.{ends_of, token_meant}
-use Rattle.range_output.proofs.token_bytes.Statement.{statement}
-use Rattle.range_output.proofs.token_bytes.Tie as tie
+use Rattle.range_output.proofs.token_bytes.Goals as goal
 
 -- by the content
 in_ends : (t : List Range) (u : Token) (x : Content) → u.content ≡ x
@@ -22,10 +19,5 @@ in_ends t u (Live h) e = refl
 in_ends t u (Spent h) e = refl
 in_ends t u (Deferred c) e = refl
 
-pub token_bytes_spec : {M : Type 1} → statement M
-token_bytes_spec =
-    tie.close
-    (tie.spec
-    (λ c κs. search rules)  -- ends-of-requires
-    (λ c κs. search rules)  -- token-row-requires
-    (λ c. c.token-row.ensures ∙ rw c.before.before.ends_of.ensures (in_ends _ c.before.before.before.before.args.t _ refl)))  -- returns
+pub returns : goal.returns
+returns c = c.token_row.ensures ∙ rw c.ends_of-e.ensures (in_ends _ c.args.t _ refl)
