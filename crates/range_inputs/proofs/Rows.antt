@@ -1,12 +1,12 @@
 -- The inputs as handles, row by row: how many bytes they are (`length_handles`), that each row has its input's fields (`fields_each`), that they grow at their end
 -- (`put_next`). Assumes nothing.
-use Prim.Native.Nat.{ℕ, zero, suc, ◌+◌, ◌*◌, ◌/◌, ◌≤◌, ◌<◌}
+use Prim.Native.Nat.{ℕ, zero, suc, ◌+◌, ◌*◌, ◌/◌}
 use mathlib.Core.Path.{◌≡◌, refl, sym, ap, ◌∙◌}
 use mathlib.Core.List.{List, [], ◌∷◌, ◌++◌, append_assoc, append-nil}
 use native.Mathlib.Omega.{arith}
 use native.Mathlib.Nat.{suc-mul, zero-mul, add-zero, add_comm}
 use native.Mathlib.Numerals.{add-one}
-use lib.ListN.{length, take, drop, length-append}
+use lib.ListN.{length, drop, length-append}
 use lib.Seq.{take_at, drop-append-add, drop-drop}
 use Rattle.buffer.specs.Rows.{put_row, rows, all_rows}
 use Rattle.record.specs.Widths.{token_width, range_token_width}

@@ -1,6 +1,6 @@
 -- Working definition: no public promise cites it.
 -- Tokens and cells over handles, read through the table of ranges: what a range run leaves of them. Assumes nothing.
-use Rattle.std.specs.Prelude.{ℕ, List, map}
+use Rattle.std.specs.Prelude.{List, map}
 use Rattle.number.specs.Number.{bits_of}
 use Rattle.record.specs.declared.tag.Tag.{Tag}
 use Rattle.record.specs.declared.token.Token as Record

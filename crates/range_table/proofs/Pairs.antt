@@ -1,6 +1,6 @@
 -- A pair is read back from its bytes, and is read from them alone; so a pair that is put behind the others is the table's last range. A range of two numbers
 -- that were read as bits (`range_of_bits`). Assumes nothing.
-use Prim.Native.Nat.{ℕ, suc, ◌+◌, ◌*◌, ◌≤◌}
+use Prim.Native.Nat.{ℕ, ◌+◌, ◌*◌, ◌≤◌}
 use mathlib.Core.Path.{◌≡◌, refl, ap, ◌∙◌}
 use mathlib.Core.List.{List, [], ◌∷◌, ◌++◌}
 use native.Mathlib.Numerals.{add-one}
