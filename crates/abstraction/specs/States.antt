@@ -1,6 +1,6 @@
 -- Working definition: no public promise cites it.
 -- The machine's state of a list of token records and a list of cells, and what holds of every such state in a run. Assumes nothing.
-use Rattle.std.specs.Prelude.{ℕ, ◌<◌, ◌≤◌, ◌≡◌, List, [], map, ℤ}
+use Rattle.std.specs.Prelude.{◌<◌, List, [], map, ℤ}
 use Rattle.record.specs.declared.tag.Tag.{Tag}
 use Rattle.record.specs.declared.token.Token as Record
 use Rattle.record.specs.declared.cell.Cell as RecordCell
