@@ -1,0 +1,18 @@
+-- `store::arrive` meets its contract. Assumes nothing.
+use Rattle.store.proofs.Laws.{matching_stored}
+use Rattle.store.proofs.Changes.{arrived}
+use Rattle.store.proofs.arrive.Goals as goal
+
+pub append-requires : goal.append-requires
+append-requires c = let p = c.requires in (matching_stored p.0, p.1, p.2, p.3, p.4, p.5)
+
+pub returns : goal.returns
+returns c =
+    let a = c.args in
+    let p = c.append in
+    let m = p.new.ledger in record {
+      ledger_after = p.ensures.ledger_after;
+      ledger_after_2 = p.ensures.ledger_after_2;
+      cases = arrived a.tables.now a.links.now a.flags.now a.ledger.now a.used a.t c.requires.4 c.requires.0
+          p.new.links p.new.flags m p.ensures.ledger_after_2 p.ensures.stored p.ensures.waiting;
+    }
