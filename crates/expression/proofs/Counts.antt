@@ -1,14 +1,13 @@
 -- Counting variables, one record further, and the instruction of a record. Assumes nothing.
-use Prim.Native.Nat.{ℕ, suc, ◌+◌, ◌-◌, ◌≤◌, ◌<◌}
-use mathlib.Core.Path.{◌≡◌, refl, sym, ap, ◌∙◌}
-use mathlib.Core.Bool.{Bool, true, false, cond}
-use mathlib.Core.List.{List, [], ◌∷◌, ◌++◌}
+use Prim.Native.Nat.{ℕ, ◌+◌, ◌-◌, ◌≤◌, ◌<◌}
+use mathlib.Core.Path.{◌≡◌, refl, ap, ◌∙◌}
+use mathlib.Core.Bool.{cond}
+use mathlib.Core.List.{List, [], ◌∷◌}
 use native.Mathlib.Omega.{arith}
 use native.Mathlib.Decide.{ℕ_discrete}
 use lib.ListN.{length, get_or, take, set, replicate, length-set, length-replicate}
 use lib.Seq.{length-take-le, get_or-set_same, get_or-set_other}
 use Rattle.record.specs.declared.term.Term.{Term}
-use Rattle.record.specs.ExpressionRecords.{decode_term}
 use Rattle.rules.specs.Expression.{most_terms, term_at, is_variable, is_operation, count, variable_number, instruction_for}
 use Rattle.rules.proofs.ExpressionGraph.{count_both}
 use Rattle.rules.proofs.ExpressionSizes.{count_append}

@@ -1,11 +1,11 @@
 -- The graph in bytes, one call of `put` at a time (`puts_variable`, `puts_operation`), and whole (`whole_graph`). Assumes nothing.
-use Prim.Native.Nat.{ℕ, zero, suc, ◌+◌, ◌-◌, ◌*◌, ◌/◌, ◌≤◌, ◌<◌}
+use Prim.Native.Nat.{ℕ, zero, suc, ◌+◌, ◌-◌, ◌*◌, ◌≤◌, ◌<◌}
 use mathlib.Core.Path.{◌≡◌, refl, sym, ap, ◌∙◌}
 use mathlib.Core.Bool.{true, false}
-use mathlib.Core.List.{List, [], ◌++◌}
+use mathlib.Core.List.{List, ◌++◌}
 use native.Mathlib.Decide.{dec_le}
 use native.Mathlib.Omega.{arith}
-use native.Mathlib.Nat.{suc-mul, zero-mul, add_comm}
+use native.Mathlib.Nat.{suc-mul, add_comm}
 use lib.ListN.{length, get_or, take, drop, set, length-set, length-drop, take-append-drop}
 use lib.Seq.{take-add, length-take-le, get_or-take}
 use Rattle.number.specs.Number.{Bytes, byte_at}
@@ -22,7 +22,7 @@ use Rattle.record.proofs.Fitting.{bytes_drop}
 use Rattle.rules.specs.declared.answer.Checked.TheVariants.{Passed}
 use Rattle.rules.specs.Expression.{term_at, is_variable, instruction_for, out_for, code_for, sending, out, put_at, put_graph, graph_for, check_expression}
 use Rattle.rules.proofs.Passed.{get_d_past}
-use Rattle.rules.proofs.ExpressionPassed.{OperationAt, Proper, passed}
+use Rattle.rules.proofs.ExpressionPassed.{OperationAt, passed}
 use Rattle.rules.proofs.ExpressionGraph.{length_graph, number_low}
 use Rattle.rules.proofs.ExpressionPut.{length_put, put_variable, put_operation, graphs_put}
 use Rattle.expression.specs.Tables.{NumberedRecords}

@@ -1,11 +1,11 @@
 -- R-14 over bytes, proved (`expressions_run`): what `to_graph` wrote is the graph's bytes, and what the run of it leaves in the ledger tells what OUT received.
 -- Assumes nothing.
-use Prim.Native.Nat.{ℕ, zero, suc, ◌+◌, ◌*◌, ◌/◌, ◌%◌, ◌^◌, ◌≤◌, ◌<◌}
+use Prim.Native.Nat.{ℕ, zero, suc, ◌*◌, ◌/◌, ◌<◌}
 use mathlib.Core.Path.{◌≡◌, refl, sym, ap, subst, ◌∙◌}
-use mathlib.Core.List.{List, [], ◌∷◌, ◌++◌, map}
-use mathlib.Core.Option.{Option, none, some}
+use mathlib.Core.List.{List, [], ◌∷◌, map}
+use mathlib.Core.Option.{some}
 use native.Mathlib.Omega.{arith}
-use lib.ListN.{length, get_or, take, drop, length-map}
+use lib.ListN.{length, get_or, take, length-map}
 use lib.Seq.{take_at}
 use lib.IntN.{ℤ}
 use mir.Syntax.{w32}
@@ -29,15 +29,14 @@ use Rattle.arithmetic.specs.declared.Computed.TheVariants.{Value, OutOfRange}
 use Rattle.machine.specs.Machine.{Key, Content, live, Token, Machine, End, Ledger, same_key, at, find, when}
 use Rattle.machine.proofs.View.{none_some}
 use Rattle.rules.specs.declared.answer.Refusal.{Refusal}
-use Rattle.rules.specs.declared.answer.Refusal.TheVariants as Refusals
 use Rattle.rules.specs.declared.answer.Answer.{Answer}
 use Rattle.rules.specs.declared.answer.Checked.{Checked}
 use Rattle.rules.specs.declared.answer.Checked.TheVariants.{Passed, Failed}
-use Rattle.rules.specs.declared.answer.Made.TheVariants.{Records, Refused}
+use Rattle.rules.specs.declared.answer.Made.TheVariants.{Records}
 use Rattle.rules.specs.Fits.{AllFit}
-use Rattle.rules.specs.Run.{token_record, outcome_of, ran_to, Result, result, answer, ledger_after, Ran}
-use Rattle.rules.specs.Runs.{LentToRun, LeftByRun, RanOn}
-use Rattle.rules.specs.Expression.{is_variable, count, graph_for, graph_bytes, inputs_for, input_bytes, variables_of, expression_value, check_expression, check_made, check_values, made_of, output_of, MadeFrom, evaluated_of, evaluated, ValuesFor, expression_machine, Received, EvaluatesExpression}
+use Rattle.rules.specs.Run.{token_record, outcome_of, ran_to, Result, answer, ledger_after, Ran}
+use Rattle.rules.specs.Runs.{LeftByRun, RanOn}
+use Rattle.rules.specs.Expression.{is_variable, count, graph_for, graph_bytes, inputs_for, input_bytes, variables_of, expression_value, check_made, made_of, output_of, MadeFrom, evaluated_of, evaluated, ValuesFor, expression_machine, Received, EvaluatesExpression}
 use Rattle.rules.proofs.ExpressionPassed.{Proper, passed}
 use Rattle.rules.proofs.ExpressionGraph.{length_graph}
 use Rattle.rules.proofs.ExpressionAccepted.{fits, inputs_fit, few_values}

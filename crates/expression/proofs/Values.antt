@@ -1,14 +1,14 @@
 -- The value of an expression, one call of `value_at` at a time. Assumes nothing.
-use Prim.Native.Nat.{ℕ, ◌/◌, ◌<◌}
-use mathlib.Core.Path.{◌≡◌, sym, ap, ◌∙◌}
+use Prim.Native.Nat.{ℕ, ◌<◌}
+use mathlib.Core.Path.{◌≡◌, ◌∙◌}
 use mathlib.Core.Bool.{true, false}
 use mathlib.Core.List.{List}
 use lib.ListN.{length, get_or}
-use lib.IntN.{ℤ, pos}
+use lib.IntN.{pos}
 use Rattle.record.specs.declared.term.Term.{Term}
 use Rattle.record.specs.ExpressionRecords.{expression_of, term_in}
 use Rattle.arithmetic.specs.declared.Computed.TheVariants.{Value}
-use Rattle.rules.specs.Expression.{term_at, is_variable, count, arithmetic_of, combined, variable_number, variables_of, value_at}
+use Rattle.rules.specs.Expression.{term_at, is_variable, count, arithmetic_of, combined, variables_of, value_at}
 use Rattle.rules.proofs.ExpressionPassed.{passed}
 use Rattle.rules.proofs.ExpressionGraph.{variable_number_lem, variable_low}
 use Rattle.rules.proofs.ExpressionTree.{variable_value, operation_value}

@@ -1,6 +1,6 @@
 -- 02, R-14, in bytes: the run of a graph that was made of an expression, fed its variables. It speaks of what `to_graph`, `value` and `run` (crate engine)
 -- promise, `MadeFrom`, `evaluated` and `Ran`. The statement; it is proved in proofs/Runs. Assumes nothing.
-use Rattle.std.specs.Prelude.{ℕ, suc, ◌+◌, ◌*◌, ◌≤◌, ◌<◌, ◌≡◌, List, [], length, take, ℤ}
+use Rattle.std.specs.Prelude.{ℕ, suc, ◌*◌, ◌≤◌, ◌<◌, ◌≡◌, List, [], length, take, ℤ}
 use Rattle.number.specs.Number.{Bytes}
 use Rattle.record.specs.declared.token.Content.TheVariants.{Live}
 use Rattle.record.specs.TokensAndTags.{root_of, token_at, capacity_of}
