@@ -57,9 +57,9 @@ InsideAll ds = All (λ d. OnPort d.instruction d.port) ds
 
 pub mark_all : {f : ℕ → ℕ → Bool} {table : List Bool} → Ports f table → (ds : List Destination) → InsideAll ds
     → Ports (λ i p. f i p || any (λ d. eqb d.instruction i && eqb d.port p) ds) (marked table ds)
-mark_all {f} k [] l = alike k (λ i p. sym (or-false (f i p)))
-mark_all {f} k (d ∷ ds) l =
-    alike (mark_all (mark k d.instruction d.port l.0) ds l.1) (λ i p. or_assoc (f i p) (eqb d.instruction i && eqb d.port p) _)
+mark_all {f} {table} k [] l = alike k (λ i p. sym (or-false (f i p)))
+mark_all {f} {table} k (d ∷ ds) l =
+    alike (mark_all {f = λ i p. f i p || (eqb d.instruction i && eqb d.port p)} {table = set table (port_entry d.instruction d.port) true} (mark k d.instruction d.port l.0) ds l.1) (λ i p. or_assoc (f i p) (eqb d.instruction i && eqb d.port p) _)
 
 -- the first destination in use, and the second
 pub first_inside : (n : ℕ) (d e : Destination) → InsideAll (in_use n d e) → (n ≡ 0 → ⊥) → OnPort d.instruction d.port

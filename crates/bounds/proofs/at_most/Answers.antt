@@ -12,16 +12,14 @@ use Rattle.rules.specs.declared.answer.Refusal.TheVariants.{BadInput}
 use Rattle.rules.specs.declared.answer.Checked.TheVariants.{Passed}
 use Rattle.rules.specs.declared.answer.Needs.TheVariants.{AtMost}
 use Rattle.rules.specs.Check.{demand, in_turn, good_input, check_graph, check_stores}
-use Rattle.rules.specs.Needs.{firings_needed, outputs_needed, inputs_of, check_needs}
-use Rattle.rules.specs.Needs as goal
+use Rattle.rules.specs.Needs.{firings_needed, outputs_needed, inputs_of, check_needs, needs}
 use Rattle.check_fields.proofs.Turns.{both-passed}
 use Rattle.check_fields.proofs.Graphs.{length_graph}
 use Rattle.check_inputs.proofs.Tokens.{length_tokens}
 use Rattle.checks.proofs.Passed.{passed_length}
 use Rattle.bounds.proofs.Ports.{inputs_inside}
 use Rattle.bounds.proofs.Rounds.{totals}
-use Rattle.bounds.proofs.at_most.Statement.{statement}
-use Rattle.bounds.proofs.at_most.Tie as tie
+use Rattle.bounds.proofs.at_most.Goals as goal
 
 module _ (graph inputs : List ℕ) (passed : check_needs graph inputs ≡ Passed) where
   graph_passed_lem : check_graph graph ≡ Passed
@@ -37,31 +35,39 @@ module _ (graph inputs : List ℕ) (passed : check_needs graph inputs ≡ Passed
 alike : {f f' t t' : ℕ} → f ≡ f' → t ≡ t' → AtMost f t ≡ AtMost f' t'
 alike e d = cc
 
-pub at_most_spec : {M : Type 1} → statement M
-unfolding goal.needs
-at_most_spec = tie.close (tie.spec
-    (λ c κs.  -- given-requires
-    let a = c.before.before.args in
-    let p = c.before.before.requires in
-    inputs_inside a.graph.now (graph_passed_lem a.graph.now a.inputs.now p) a.inputs.now (inputs_passed_lem a.graph.now a.inputs.now p))
-    (λ c κs.  -- reach-requires
-    let entry = c.before.before.before.before in
-    let a = entry.args in
-    graph_passed_lem a.graph.now a.inputs.now entry.requires)
-    (λ c κs.  -- total-requires
-    let entry = c.before.before.before.before.before.before in
-    let a = entry.args in
-    omega (arith, (passed_length a.graph.now (graph_passed_lem a.graph.now a.inputs.now entry.requires)).1, length_graph a.graph.now))
-    (λ c. search rules)  -- add-t12
-    (λ c.  -- returns
-    let entry = c.before.before.before.before.before.before.before.before in
-    let at-reach = c.before.before.before.reach in
-    let a = entry.args in
-    let p = entry.requires in
+pub given-sent-requires : goal.given-sent-requires
+unfolding needs
+given-sent-requires c =
+    let a = c.args in
+    let p = c.requires in
+    inputs_inside a.graph.now (graph_passed_lem a.graph.now a.inputs.now p) a.inputs.now (inputs_passed_lem a.graph.now a.inputs.now p)
+
+pub reach-reached-requires : goal.reach-reached-requires
+unfolding needs
+reach-reached-requires c =
+    let a = c.args in
+    graph_passed_lem a.graph.now a.inputs.now c.requires
+
+pub total-totals-requires : goal.total-totals-requires
+unfolding needs
+total-totals-requires c =
+    let a = c.args in
+    omega (arith, (passed_length a.graph.now (graph_passed_lem a.graph.now a.inputs.now c.requires)).1, length_graph a.graph.now)
+
+pub overflow_add-result : goal.overflow_add-result
+unfolding needs
+overflow_add-result c = search rules
+
+pub returns : goal.returns
+unfolding needs
+returns c =
+    let at-reach = c.reach-reached in
+    let a = c.args in
+    let p = c.requires in
     let g = graph_of a.graph.now in
     let ts = inputs_of a.inputs.now in
-    let t = c.before.total.ensures in
-    let same = at-reach.ensures ts c.before.before.before.before.before.given.ensures in
+    let t = c.total-totals.ensures in
+    let same = at-reach.ensures ts c.given-sent.ensures in
     let reached = at-reach.result in
     let outputs = t.1 ∙ totals ts g reached same outputs_needed in
-    rw p (alike (t.0 ∙ totals ts g reached same firings_needed) (omega (arith, length_tokens a.inputs.now, outputs)))))
+    rw p (alike (t.0 ∙ totals ts g reached same firings_needed) (omega (arith, length_tokens a.inputs.now, outputs)))

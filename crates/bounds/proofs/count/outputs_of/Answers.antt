@@ -8,8 +8,7 @@ use borrow.Author.Tests.{eq-eqb, ne_eqb}
 use Rattle.record.specs.declared.instruction.Destination.{Destination}
 use Rattle.record.specs.GraphRecords.{in_use}
 use Rattle.rules.specs.Needs.{outputs_needed}
-use Rattle.bounds.proofs.count.outputs_of.Statement.{statement}
-use Rattle.bounds.proofs.count.outputs_of.Tie as tie
+use Rattle.bounds.proofs.count.outputs_of.Goals as goal
 
 two : (n : ℕ) (d e : Destination) → 2 ≤ n → 2 ≡ length (in_use n d e)
 two zero d e h = absurd (omega arith)
@@ -21,10 +20,18 @@ fewer zero d e h = refl
 fewer (suc zero) d e h = refl
 fewer (suc (suc n)) d e h = absurd (omega arith)
 
-pub outputs_of_spec : {M : Type 1} → statement M
+pub returns-then-r-eq5 : goal.returns-then-r-eq5
 unfolding outputs_needed
-outputs_of_spec = tie.close (tie.spec
-    (λ c. (rw (eq-eqb _ _ c.if1.true), omega arith))  -- returns
-    (λ c. (rw (ne_eqb _ _ c.before.before.if1.false) (two _ _ _ c.if2.true), omega arith))  -- returns-2
-    (λ c. search rules)  -- cast-result
-    (λ c. (rw (ne_eqb _ _ c.before.before.before.if1.false) (fewer _ _ _ c.before.if2.false), omega arith)))  -- returns-3
+returns-then-r-eq5 c = (rw (eq-eqb _ _ c.if-r-eq5.true), omega arith)
+
+pub returns-then-r-ge2 : goal.returns-then-r-ge2
+unfolding outputs_needed
+returns-then-r-ge2 c = (rw (ne_eqb _ _ c.if-r-eq5.false) (two _ _ _ c.if-r-ge2.true), omega arith)
+
+pub overflow_cast-result : goal.overflow_cast-result
+unfolding outputs_needed
+overflow_cast-result c = search rules
+
+pub returns : goal.returns
+unfolding outputs_needed
+returns c = (rw (ne_eqb _ _ c.if-r-eq5.false) (fewer _ _ _ c.if-r-ge2.false), omega arith)
