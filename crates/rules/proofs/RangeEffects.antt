@@ -1,32 +1,22 @@
 -- 02, R-11: an effect of ranges and the plain effect of any choice within them are related (`effects_related`): refused by 12 or 23 alone (`OfRanges`), or of one
 -- kind with the same keys and the same cell, and the value sent is in the range sent. Assumes nothing.
-use Prim.Native.Nat.{ℕ, ◌+◌, ◌<◌}
+use Prim.Native.Nat.{ℕ}
 use mathlib.Core.Path.{◌≡◌, refl}
 use mathlib.Core.Bool.{Bool, true, false, not, ◌&&◌, cond}
-use mathlib.Core.Logic.{inl, inr, ◌⊎◌}
+use mathlib.Core.Logic.{inl, inr}
 use mathlib.Core.List.{List, [], ◌∷◌}
 use mathlib.Core.Option.{Option, none, some}
 use native.Mathlib.Omega.{arith}
-use lib.ListN.{length}
-use lib.Dec.{ltb}
-use lib.IntN.{ℤ, pos, negsuc, nat_abs}
+use lib.IntN.{ℤ, pos, nat_abs}
 use lib.Signed.{≤ℤ_refl}
-use Rattle.record.specs.declared.tag.Path.{Path}
 use Rattle.record.specs.declared.tag.Tag.{Tag}
 use Rattle.record.specs.declared.array.NamedArray.{NamedArray}
-use Rattle.record.specs.declared.tag.Entered.{Entered}
-use Rattle.record.specs.declared.tag.Entered.TheVariants.{In, TooDeep}
-use Rattle.record.specs.declared.tag.Left.{Left}
-use Rattle.record.specs.declared.tag.Left.TheVariants.{To, NoCaller}
-use Rattle.record.specs.declared.tag.Next.{Next}
-use Rattle.record.specs.declared.tag.Next.TheVariants.{Is, Last}
 use Rattle.record.specs.declared.instruction.Instruction.{Instruction}
 use Rattle.record.specs.declared.operation.Arithmetic.{Arithmetic}
 use Rattle.record.specs.declared.operation.Operation.{Operation}
 use Rattle.record.specs.declared.operation.Operation.TheVariants as Operations
-use Rattle.record.specs.TokensAndTags.{to_of}
 use Rattle.record.specs.Calls.{next_of, enter_of, leave_of}
-use Rattle.record.specs.GraphRecords.{operation_of, graph_of}
+use Rattle.record.specs.GraphRecords.{operation_of}
 use Rattle.arithmetic.specs.Arithmetic.{compute_of, eq_z}
 use Rattle.arithmetic.specs.declared.Range.{Range}
 use Rattle.arithmetic.specs.Ranges.{Holds, single, is_single, may_be_zero, range_of}
@@ -35,17 +25,12 @@ use Rattle.arithmetic.proofs.Corners.{holds_low, holds_proper}
 use Rattle.arithmetic.proofs.Rising.{nonzero}
 use Rattle.arithmetic.proofs.Equalities.{same_ends}
 use Rattle.arithmetic.proofs.Ranges.{holds_every}
-use Rattle.machine.specs.Machine.{Key, refuse, send, read, write, Token, State, Activity}
-use Rattle.machine.specs.InStep.{PlaceByPlace, no_more, pair, both_live, both_spent, both_deferred, RelatedToken, at_key, RelatedState, RelatedEffect, refused_alone, both_refuse, both_send, both_read, both_write, Related}
-use Rattle.rules.specs.declared.answer.Refusal.{Refusal}
+use Rattle.machine.specs.Machine.{Key, refuse, send, read, write}
+use Rattle.machine.specs.InStep.{RelatedEffect, refused_alone, both_send, both_read, both_write, Related}
 use Rattle.rules.specs.declared.answer.Refusal.TheVariants as Refusals
-use Rattle.machine.specs.Orders.{Lawful}
-use Rattle.rules.specs.declared.answer.Checked.TheVariants.{Passed}
-use Rattle.rules.specs.Check.{any, instruction_at, check_graph}
-use Rattle.rules.specs.InstructionSet.{EffectHere, EffectOver, key_under, all_under, side_of, send_computed, send_next, send_entered, return_of, send_returned, send_left, on_cell, cell_number, effect_of, effect_in}
-use Rattle.rules.specs.Held.{is_pending, holds_back, held_in}
+use Rattle.rules.specs.Check.{instruction_at}
+use Rattle.rules.specs.InstructionSet.{EffectHere, key_under, all_under, side_of, send_computed, on_cell, cell_number, effect_of, effect_in}
 use Rattle.rules.specs.RangeSet.{RangeEffect, send_range, is_undecided, send_side, on_single, range_effect_of, range_effect_in, range_machine_of}
-use Rattle.rules.proofs.Lawful.{reads, LawfulEffect, next_lawful, entered_lawful, left_lawful, on_cell_lem, reader_has_key}
 use Rattle.rules.proofs.RangeSet.{OfRanges, next_related, entered_related, left_related, cell_related}
 
 abbrev pub InRange : RangeEffect → EffectHere → Type 0

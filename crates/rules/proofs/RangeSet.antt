@@ -2,15 +2,13 @@
 -- set over ranges is lawful (`ranges_lawful`). What a bound holds back does not depend on values (`held_same`). Assumes nothing.
 use Prim.Native.Nat.{ℕ, ◌+◌, ◌<◌}
 use mathlib.Core.Path.{◌≡◌, refl}
-use mathlib.Core.Bool.{Bool, true, false, not, ◌&&◌, cond}
-use mathlib.Core.Logic.{inl, inr, ◌⊎◌}
+use mathlib.Core.Bool.{Bool, true, false, cond}
+use mathlib.Core.Logic.{◌⊎◌}
 use mathlib.Core.List.{List, [], ◌∷◌}
 use mathlib.Core.Option.{Option, none, some}
-use native.Mathlib.Omega.{arith}
 use lib.ListN.{length}
 use lib.Dec.{ltb}
 use lib.IntN.{ℤ, pos, negsuc, nat_abs}
-use lib.Signed.{≤ℤ_refl}
 use Rattle.record.specs.declared.tag.Path.{Path}
 use Rattle.record.specs.declared.tag.Tag.{Tag}
 use Rattle.record.specs.declared.array.NamedArray.{NamedArray}
@@ -21,28 +19,21 @@ use Rattle.record.specs.declared.tag.Left.TheVariants.{To, NoCaller}
 use Rattle.record.specs.declared.tag.Next.{Next}
 use Rattle.record.specs.declared.tag.Next.TheVariants.{Is, Last}
 use Rattle.record.specs.declared.instruction.Instruction.{Instruction}
-use Rattle.record.specs.declared.operation.Arithmetic.{Arithmetic}
 use Rattle.record.specs.declared.operation.Operation.{Operation}
 use Rattle.record.specs.declared.operation.Operation.TheVariants as Operations
 use Rattle.record.specs.TokensAndTags.{to_of}
 use Rattle.record.specs.Calls.{next_of, enter_of, leave_of}
 use Rattle.record.specs.GraphRecords.{operation_of, graph_of}
-use Rattle.arithmetic.specs.Arithmetic.{compute_of, eq_z}
 use Rattle.arithmetic.specs.declared.Range.{Range}
-use Rattle.arithmetic.specs.Ranges.{Holds, single, is_single, may_be_zero, range_of}
-use Rattle.arithmetic.proofs.Ranged.{ne_eq_z}
-use Rattle.arithmetic.proofs.Corners.{holds_low, holds_proper}
-use Rattle.arithmetic.proofs.Rising.{nonzero}
-use Rattle.arithmetic.proofs.Equalities.{same_ends}
-use Rattle.arithmetic.proofs.Ranges.{holds_every}
+use Rattle.arithmetic.specs.Ranges.{single, is_single, range_of}
 use Rattle.machine.specs.Machine.{Key, refuse, send, read, write, Token, State, Activity}
-use Rattle.machine.specs.InStep.{PlaceByPlace, no_more, pair, both_live, both_spent, both_deferred, RelatedToken, at_key, RelatedState, RelatedEffect, refused_alone, both_refuse, both_send, both_read, both_write, Related}
+use Rattle.machine.specs.InStep.{PlaceByPlace, no_more, pair, both_live, both_spent, both_deferred, RelatedToken, at_key, RelatedState, RelatedEffect, both_refuse, both_send}
 use Rattle.rules.specs.declared.answer.Refusal.{Refusal}
 use Rattle.rules.specs.declared.answer.Refusal.TheVariants as Refusals
 use Rattle.machine.specs.Orders.{Lawful}
 use Rattle.rules.specs.declared.answer.Checked.TheVariants.{Passed}
 use Rattle.rules.specs.Check.{any, instruction_at, check_graph}
-use Rattle.rules.specs.InstructionSet.{EffectHere, EffectOver, key_under, all_under, side_of, send_computed, send_next, send_entered, return_of, send_returned, send_left, on_cell, cell_number, effect_of, effect_in}
+use Rattle.rules.specs.InstructionSet.{EffectOver, key_under, all_under, side_of, send_next, send_entered, return_of, send_returned, send_left, on_cell, cell_number}
 use Rattle.rules.specs.Held.{is_pending, holds_back, held_in}
 use Rattle.rules.specs.RangeSet.{RangeEffect, send_range, is_undecided, send_side, on_single, range_effect_of, range_effect_in, range_machine_of}
 use Rattle.rules.proofs.Lawful.{reads, LawfulEffect, next_lawful, entered_lawful, left_lawful, on_cell_lem, reader_has_key}
