@@ -1,5 +1,5 @@
 -- The table of operand counts has the rule's: a test at each of its 256 entries, which antt computes. Assumes nothing.
-use Rattle.std.proofs.Common.{◌≡◌, ℕ, zero, suc, ◌<◌, Bool, eqb, List, [], ◌∷◌, get_or, eqb→eq}
+use Rattle.std.proofs.Common.{ℕ, zero, suc, Bool, eqb, List, [], ◌∷◌, get_or, eqb→eq}
 use Rattle.record.specs.GraphRecords.{row_of, operands_of, OperandCounts}
 use Rattle.record.proofs.Computed.{at}
 

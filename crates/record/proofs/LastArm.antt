@@ -1,6 +1,6 @@
 -- The last arm of a match on the keys of a list: the number is none of them (`Absent`), and a search of the list by key finds nothing (`last_arm`). What the
 -- arm knows has the last key's fact outermost; it is turned round, one key at a time (`turned`). Assumes nothing.
-use Rattle.std.proofs.Common.{◌≡◌, ℕ, cond, eqb, List, [], ◌∷◌, sym, refl, ne_eqb}
+use Rattle.std.proofs.Common.{◌≡◌, ℕ, cond, eqb, List, [], ◌∷◌, refl, ne_eqb}
 
 module _ {A : Type 0} (key : A → ℕ) where
   -- n is no element's key

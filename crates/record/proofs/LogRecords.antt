@@ -1,5 +1,5 @@
 -- A log's record gives its tag back. Assumes nothing.
-use Rattle.std.proofs.Common.{◌≡◌, ℕ, ◌^◌, ◌<◌, true, leb, List, [], ◌∷◌, ◌++◌, length, refl, arith, length-append, le-leb}
+use Rattle.std.proofs.Common.{◌≡◌, ℕ, ◌^◌, ◌<◌, true, leb, List, [], ◌++◌, length, refl, arith, length-append, le-leb}
 use mathlib.Core.Option.{some}
 use Rattle.number.proofs.Numbers.{number16_bytes, number64_bytes, fits16, fits64}
 use Rattle.record.specs.declared.tag.Tag.{Tag}

@@ -1,5 +1,5 @@
 -- 01, "Tokens and tags", in its order. Assumes nothing.
-use Rattle.std.specs.Prelude.{ℕ, ◌+◌, ◌*◌, ◌/◌, ◌^◌, ◌<◌, Bool, true, false, cond, ◌&&◌, List, [], ◌∷◌, ◌++◌, length, drop, ℤ, FitsSigned, ◌==◌, nat_le}
+use Rattle.std.specs.Prelude.{ℕ, ◌*◌, ◌/◌, ◌^◌, ◌<◌, Bool, true, false, cond, ◌&&◌, List, [], ◌∷◌, ◌++◌, drop, ℤ, FitsSigned, ◌==◌, nat_le}
 use Rattle.std.specs.Int.{w32}
 use Rattle.number.specs.Number.{byte_at, number16, number32, number64, signed_of, bits_of, bytes16, bytes32, bytes64}
 use Rattle.buffer.specs.Rows.{rows, written_over}

@@ -1,8 +1,6 @@
 -- `buffer::fill` meets its contract. The invariant: the first i bytes are those of `src`, and `dst` keeps its length. Assumes nothing.
 use native.Mathlib.Omega.{arith}
-use Prim.Native.Nat.{◌-◌}
-use lib.ListN.{length}
-use Rattle.buffer.proofs.Copies.{Copied, copied_none, copied_more, copied_all}
+use Rattle.buffer.proofs.Copies.{copied_none, copied_more, copied_all}
 use Rattle.buffer.proofs.fill.Goals as goal
 
 pub loop-i-init : goal.loop-i-init

@@ -1,8 +1,7 @@
 -- `buffer::fill` meets its contract. The invariant: the first i bytes are those of `src`, and `dst` keeps its length. Assumes nothing.
-use native.Mathlib.Omega.{arith}
 use Prim.Native.Nat.{◌-◌}
 use lib.ListN.{length}
-use Rattle.buffer.proofs.Copies.{Copied, copied_none, copied_more, copied_all}
+use Rattle.buffer.proofs.Copies.{Copied}
 use Rattle.buffer.proofs.fill.Given as goal
 
 abbrev pub invariant-loop-i : goal.invariant-loop-i

@@ -1,6 +1,5 @@
 -- `buffer::put_row` meets its contract. Assumes nothing.
 use mathlib.Core.Path.{◌∙◌}
-use borrow.Author.Rules.{rules}
 use Rattle.buffer.proofs.Tables.{written_row}
 use Rattle.buffer.proofs.put_row.Goals as goal
 

@@ -1,6 +1,5 @@
 -- `buffer::row_at` meets its contract. Assumes nothing.
 use Prim.Native.Nat.{◌*◌}
-use borrow.Author.Rules.{rules}
 use Rattle.buffer.proofs.Tables.{tail_part}
 use Rattle.buffer.proofs.row_at.Goals as goal
 

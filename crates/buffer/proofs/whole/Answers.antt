@@ -1,6 +1,5 @@
 -- `buffer::whole` meets its contract. Assumes nothing.
 use borrow.Author.Tests.{eq-eqb, ne_eqb}
-use borrow.Author.Rules.{rules}
 use Rattle.buffer.proofs.whole.Goals as goal
 
 pub returns-then-len-width-eq0 : goal.returns-then-len-width-eq0

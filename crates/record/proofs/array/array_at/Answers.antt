@@ -1,5 +1,5 @@
 -- `record::array::array_at` meets its contract. Assumes nothing.
-use Rattle.std.proofs.Common.{ap, ◌∙◌, arith, length-drop, rules}
+use Rattle.std.proofs.Common.{ap, ◌∙◌, arith, length-drop}
 use Rattle.record.specs.Arrays.{decode_array}
 use Rattle.record.proofs.array.array_at.Goals as goal
 

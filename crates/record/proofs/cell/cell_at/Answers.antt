@@ -1,5 +1,5 @@
 -- `record::cell::cell_at` meets its contract. Assumes nothing.
-use Rattle.std.proofs.Common.{ap, ◌∙◌, arith, length-drop, rules}
+use Rattle.std.proofs.Common.{ap, ◌∙◌, arith, length-drop}
 use Rattle.record.specs.Cells.{decode_cell}
 use Rattle.record.proofs.cell.cell_at.Goals as goal
 

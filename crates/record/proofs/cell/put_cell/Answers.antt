@@ -1,5 +1,4 @@
 -- `record::cell::put_cell` meets its contract. Assumes nothing.
-use Rattle.std.proofs.Common.{rules}
 use Rattle.record.proofs.cell.put_cell.Goals as goal
 
 pub returns : goal.returns

@@ -1,5 +1,5 @@
 -- `record::instruction::instruction_at` meets its contract. Assumes nothing.
-use Rattle.std.proofs.Common.{ap, ◌∙◌, arith, length-drop, rules}
+use Rattle.std.proofs.Common.{ap, ◌∙◌, arith, length-drop}
 use Rattle.record.specs.GraphRecords.{decode_instruction}
 use Rattle.record.proofs.instruction.instruction_at.Goals as goal
 

@@ -1,5 +1,4 @@
 -- `record::instruction::put_instruction` meets its contract. Assumes nothing.
-use Rattle.std.proofs.Common.{rules}
 use Rattle.record.proofs.instruction.put_instruction.Goals as goal
 
 pub returns : goal.returns

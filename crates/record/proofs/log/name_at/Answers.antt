@@ -1,9 +1,7 @@
 -- `record::log::name_at` meets its contract. Assumes nothing.
-use Rattle.std.proofs.Common.{◌≡◌, ◌*◌, false, length, drop, ap, ◌∙◌, arith, length-drop, get_or-drop, rules, eq-eqb, ne_eqb, le-leb}
-use mathlib.Core.Option.{some}
+use Rattle.std.proofs.Common.{◌*◌, length, drop, arith, length-drop, get_or-drop, rules, eq-eqb, ne_eqb, le-leb}
 use borrow.Author.Tests.{lt-leb}
 use Rattle.record.specs.Logs.{name_of}
-use Rattle.record.specs.TokensAndTags.{tag_in}
 use Rattle.record.specs.Widths.{log_width}
 use Rattle.record.proofs.log.name_at.Goals as goal
 

@@ -1,5 +1,5 @@
 -- `record::pick::pick_or` meets its contract. Assumes nothing.
-use Rattle.std.proofs.Common.{◌≡◌, ℕ, ◌*◌, ◌/◌, ◌≤◌, List, length, drop, sym, ◌∙◌, add-zero, arith, get_or-drop, rules}
+use Rattle.std.proofs.Common.{◌≡◌, ℕ, ◌*◌, ◌/◌, ◌≤◌, List, length, drop, sym, ◌∙◌, add-zero, arith, get_or-drop}
 use lib.ListN.{get_or-eq_default}
 use Rattle.number.specs.Number.{number16}
 use Rattle.buffer.specs.Rows.{all_rows}

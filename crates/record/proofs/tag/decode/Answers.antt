@@ -1,5 +1,4 @@
 -- `record::tag::decode` meets its contract. Assumes nothing.
-use Rattle.std.proofs.Common.{rules}
 use Rattle.record.proofs.tag.decode.Goals as goal
 
 pub returns : goal.returns

@@ -1,5 +1,5 @@
 -- `record::term::term_at` meets its contract. Assumes nothing.
-use Rattle.std.proofs.Common.{ap, ◌∙◌, arith, length-drop, rules}
+use Rattle.std.proofs.Common.{ap, ◌∙◌, arith, length-drop}
 use Rattle.record.specs.ExpressionRecords.{decode_term}
 use Rattle.record.proofs.term.term_at.Goals as goal
 

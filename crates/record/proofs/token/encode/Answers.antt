@@ -17,8 +17,7 @@ bytes_of-requires c = search rules
 
 pub returns : goal.returns
 unfolding encode_token
-returns c =
-    ( 
-      c.bytes_of.ensures ∙ rw (c.state_of.ensures, c.value_of.ensures.0),
-      record { path = search rules; iteration = search rules; instruction = search rules; port = search rules; content = c.value_of.ensures.1 },
-    )
+returns c = (
+  c.bytes_of.ensures ∙ rw (c.state_of.ensures, c.value_of.ensures.0),
+  record { path = search rules; iteration = search rules; instruction = search rules; port = search rules; content = c.value_of.ensures.1 },
+)

@@ -1,5 +1,4 @@
 -- `record::token::put_token` meets its contract. Assumes nothing.
-use Rattle.std.proofs.Common.{rules}
 use Rattle.record.proofs.token.put_token.Goals as goal
 
 pub returns : goal.returns

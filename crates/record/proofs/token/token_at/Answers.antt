@@ -1,5 +1,5 @@
 -- `record::token::token_at` meets its contract. Assumes nothing.
-use Rattle.std.proofs.Common.{ap, ◌∙◌, arith, length-drop, rules}
+use Rattle.std.proofs.Common.{ap, ◌∙◌, arith, length-drop}
 use Rattle.record.specs.TokensAndTags.{decode_token}
 use Rattle.record.proofs.token.token_at.Goals as goal
 
