@@ -147,8 +147,7 @@ fn unpack(number: u64) -> Unpacked
     }
 }
 
-#[unsafe(no_mangle)]
-pub extern "C" fn ttda_run(
+pub fn ttda_run(
     graph: &[u8],
     arrays: &[u8],
     inputs: &[u8],
@@ -166,8 +165,7 @@ pub extern "C" fn ttda_run(
     number_of(engine::run(graph, arrays, inputs, picks, budget, bound, ledger, cells))
 }
 
-#[unsafe(no_mangle)]
-pub extern "C" fn ttda_carry_on(
+pub fn ttda_carry_on(
     graph: &[u8],
     arrays: &[u8],
     picks: &[u8],
@@ -187,8 +185,7 @@ pub extern "C" fn ttda_carry_on(
     ))
 }
 
-#[unsafe(no_mangle)]
-pub extern "C" fn ttda_run_logged(
+pub fn ttda_run_logged(
     graph: &[u8],
     arrays: &[u8],
     inputs: &[u8],
@@ -209,8 +206,7 @@ pub extern "C" fn ttda_run_logged(
     ))
 }
 
-#[unsafe(no_mangle)]
-pub extern "C" fn ttda_replay(
+pub fn ttda_replay(
     graph: &[u8],
     arrays: &[u8],
     inputs: &[u8],
@@ -225,8 +221,7 @@ pub extern "C" fn ttda_replay(
     number_of(replay::replay(graph, arrays, inputs, log, ledger, cells))
 }
 
-#[unsafe(no_mangle)]
-pub extern "C" fn ttda_bounds(graph: &[u8], inputs: &[u8]) -> u64
+pub fn ttda_bounds(graph: &[u8], inputs: &[u8]) -> u64
     ensures { result ≡ packed (values_needed (needs graph.now inputs.now)) }
 {
     let needs = bounds::bounds(graph, inputs);
@@ -244,8 +239,7 @@ pub extern "C" fn ttda_bounds(graph: &[u8], inputs: &[u8]) -> u64
     }
 }
 
-#[unsafe(no_mangle)]
-pub extern "C" fn ttda_expression(expression: &[u8], graph: &mut [u8]) -> u64
+pub fn ttda_expression(expression: &[u8], graph: &mut [u8]) -> u64
     ensures value { result ≡ packed (made_number (made_of (check_made expression.now (length graph.old)) (suc (length (expression_of expression.now))))) }
     ensures graph_after { graph.new ≡ output_of (check_made expression.now (length graph.old)) (graph_for (expression_of expression.now)) graph.old }
 {
@@ -260,8 +254,7 @@ pub extern "C" fn ttda_expression(expression: &[u8], graph: &mut [u8]) -> u64
     }
 }
 
-#[unsafe(no_mangle)]
-pub extern "C" fn ttda_expression_value(expression: &[u8], values: &[u8]) -> u64
+pub fn ttda_expression_value(expression: &[u8], values: &[u8]) -> u64
     ensures { result ≡ packed (value_number (evaluated expression.now values.now)) }
 {
     let evaluated = expression::value(expression, values);
@@ -278,8 +271,7 @@ pub extern "C" fn ttda_expression_value(expression: &[u8], values: &[u8]) -> u64
     }
 }
 
-#[unsafe(no_mangle)]
-pub extern "C" fn ttda_list(ledger: &[u8], out: &mut [u8]) -> u64
+pub fn ttda_list(ledger: &[u8], out: &mut [u8]) -> u64
     ensures { (result ≡ Listing·answer ledger.now out.old) × (out.new ≡ listed_out ledger.now out.old) }
 {
     let listed = listing::list(ledger, out);
@@ -290,8 +282,7 @@ pub extern "C" fn ttda_list(ledger: &[u8], out: &mut [u8]) -> u64
 }
 
 // How many activities a bound holds back in a saved state, and how many are enabled in all.
-#[unsafe(no_mangle)]
-pub extern "C" fn ttda_held(
+pub fn ttda_held(
     graph: &[u8],
     bound: u16,
     firings: u16,
@@ -325,8 +316,7 @@ fn limits_in(numbers: &[u64; 4]) -> Limits
 }
 
 // 1 if what is kept of a run that ended so serves for the run that is asked for, else 0.
-#[unsafe(no_mangle)]
-pub extern "C" fn ttda_serves(
+pub fn ttda_serves(
     kept_graph: &[u8],
     kept_arrays: &[u8],
     kept_inputs: &[u8],
@@ -382,24 +372,21 @@ fn converted_number(converted: Converted) -> u64
     }
 }
 
-#[unsafe(no_mangle)]
-pub extern "C" fn ttda_convert(old: &[u8], out: &mut [u8]) -> u64
+pub fn ttda_convert(old: &[u8], out: &mut [u8]) -> u64
     ensures value { result ≡ Convert·answer token_rest old.now out.old }
     ensures out_after { out.new ≡ Convert·outAfter token_rest old.now out.old }
 {
     converted_number(convert::convert(old, out))
 }
 
-#[unsafe(no_mangle)]
-pub extern "C" fn ttda_convert_log(old: &[u8], out: &mut [u8]) -> u64
+pub fn ttda_convert_log(old: &[u8], out: &mut [u8]) -> u64
     ensures value { result ≡ Convert·answer log_rest old.now out.old }
     ensures out_after { out.new ≡ Convert·outAfter log_rest old.now out.old }
 {
     converted_number(convert::convert_log(old, out))
 }
 
-#[unsafe(no_mangle)]
-pub extern "C" fn ttda_print(answer: u64, listing: &[u8], cells: &[u8], out: &mut [u8]) -> u64
+pub fn ttda_print(answer: u64, listing: &[u8], cells: &[u8], out: &mut [u8]) -> u64
     ensures value { result ≡ print_answer (unpacked answer) listing.now cells.now out.old }
     ensures out_after { out.new ≡ print_after (unpacked answer) listing.now cells.now out.old }
 {

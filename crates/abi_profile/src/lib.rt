@@ -6,8 +6,7 @@ ghost use Rattle.rules.specs.Runs.{lent_to_profile, left_by_profile, ProfiledOn}
 ghost use Rattle.abi.specs.Numbers.{AsNumber};
 
 // The number of records goes to `records`.
-#[unsafe(no_mangle)]
-pub extern "C" fn ttda_profile(
+pub fn ttda_profile(
     graph: &[u8],
     arrays: &[u8],
     inputs: &[u8],

@@ -5,8 +5,7 @@
 ghost use Rattle.range_engine.specs.Promise.{lent_to_run, left_by_run, RangesOn};
 ghost use Rattle.abi.specs.Numbers.{AsNumber};
 
-#[unsafe(no_mangle)]
-pub extern "C" fn ttda_run_ranges(
+pub fn ttda_run_ranges(
     graph: &[u8],
     arrays: &[u8],
     inputs: &[u8],

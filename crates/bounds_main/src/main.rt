@@ -4,38 +4,36 @@
 ghost use Rattle.std.specs.Prelude.{◌/◌, ◌≤◌, ◌<◌, length};
 ghost use Rattle.record.specs.Widths.{graph_width, token_width};
 
-use libc::STDOUT_FILENO;
+use console::{say, say_decimal};
 use record::instruction::{Destination, Instruction};
 use record::tag::Tag;
 use record::token::{Content, Token};
 use record::{instruction, token};
 use rules::answer;
 use rules::answer::Needs;
+use std::io;
 
-fn say(text: &[u8]) {
-    io::write_all(STDOUT_FILENO, text);
+fn say_number(rt: &impl Print, text: &[u8], n: usize) -> io::Result<()> {
+    say(rt, text)?;
+    say_decimal(rt, n as u64)
 }
 
-fn say_number(text: &[u8], n: usize) {
-    say(text);
-    io::print_decimal(STDOUT_FILENO, n as u64);
-}
-
-fn say_bounds(name: &[u8], graph: &[u8], inputs: &[u8]) {
-    say(name);
+fn say_bounds(rt: &impl Print, name: &[u8], graph: &[u8], inputs: &[u8]) -> io::Result<()> {
+    say(rt, name)?;
     let needs = bounds::bounds(graph, inputs);
     match needs {
         Needs::AtMost { firings, tokens } => {
-            say_number(b": at most ", firings);
-            say_number(b" firings and ", tokens);
-            say(b" tokens\n");
+            say_number(rt, b": at most ", firings)?;
+            say_number(rt, b" firings and ", tokens)?;
+            say(rt, b" tokens\n")?;
         }
         Needs::Refused(r, place) => {
-            say_number(b": refused ", answer::number(r) as usize);
-            say_number(b" at ", place);
-            say(b"\n");
+            say_number(rt, b": refused ", answer::number(r) as usize)?;
+            say_number(rt, b" at ", place)?;
+            say(rt, b"\n")?;
         }
     }
+    Ok(())
 }
 
 // A SWITCH has two destinations, OUT and LEAVE have none, and the others here one.
@@ -81,25 +79,31 @@ fn put_input(inputs: &mut [u8], i: usize, instruction: u16, port: u8, value: i32
 }
 
 // ADD to OUT.
-fn say_sums() {
+fn say_sums(rt: &impl Print) -> io::Result<()> {
     let mut graph = [0u8; 2 * instruction::WIDTH];
     let mut inputs = [0u8; 2 * token::WIDTH];
     put(&mut graph, 0, 16, 1, 0);
     put(&mut graph, 1, 3, 0, 0);
     put_input(&mut inputs, 0, 0, 0, 7);
     put_input(&mut inputs, 1, 0, 1, -9);
-    say_bounds(b"ADD", &graph, &inputs);
-    say_bounds(b"ADD with one operand", &graph, &inputs[0..token::WIDTH]);
+    say_bounds(rt, b"ADD", &graph, &inputs)?;
     say_bounds(
+        rt,
+        b"ADD with one operand",
+        &graph,
+        &inputs[0..token::WIDTH],
+    )?;
+    say_bounds(
+        rt,
         b"inputs not whole",
         &graph,
         &inputs[0..2 * token::WIDTH - 1],
-    );
-    say_bounds(b"no graph", &graph[0..0], &inputs);
+    )?;
+    say_bounds(rt, b"no graph", &graph[0..0], &inputs)
 }
 
 // SWITCH to two COPYs to one OUT.
-fn say_switch() {
+fn say_switch(rt: &impl Print) -> io::Result<()> {
     let mut graph = [0u8; 4 * instruction::WIDTH];
     let mut inputs = [0u8; 2 * token::WIDTH];
     put(&mut graph, 0, 5, 1, 2);
@@ -108,28 +112,28 @@ fn say_switch() {
     put(&mut graph, 3, 3, 0, 0);
     put_input(&mut inputs, 0, 0, 0, 7);
     put_input(&mut inputs, 1, 0, 1, 0);
-    say_bounds(b"SWITCH", &graph, &inputs);
+    say_bounds(rt, b"SWITCH", &graph, &inputs)
 }
 
 // COPY to an operation of that code to OUT, with an input to this instruction.
-fn say_through(name: &[u8], code: u8, to: u16) {
+fn say_through(rt: &impl Print, name: &[u8], code: u8, to: u16) -> io::Result<()> {
     let mut graph = [0u8; 3 * instruction::WIDTH];
     let mut inputs = [0u8; token::WIDTH];
     put(&mut graph, 0, 1, 1, 0);
     put(&mut graph, 1, code, 2, 0);
     put(&mut graph, 2, 3, 0, 0);
     put_input(&mut inputs, 0, to, 0, 7);
-    say_bounds(name, &graph, &inputs);
+    say_bounds(rt, name, &graph, &inputs)
 }
 
 // COPY to LEAVE.
-fn say_leave() {
+fn say_leave(rt: &impl Print) -> io::Result<()> {
     let mut graph = [0u8; 2 * instruction::WIDTH];
     let mut inputs = [0u8; token::WIDTH];
     put(&mut graph, 0, 1, 1, 0);
     put(&mut graph, 1, 9, 0, 0);
     put_input(&mut inputs, 0, 0, 0, 7);
-    say_bounds(b"LEAVE", &graph, &inputs);
+    say_bounds(rt, b"LEAVE", &graph, &inputs)
 }
 
 // Each record sends to the one before it, the first is OUT.
@@ -148,20 +152,20 @@ fn put_chain(graph: &mut [u8])
 }
 
 // A round adds one of 256 records.
-fn say_chain() {
+fn say_chain(rt: &impl Print) -> io::Result<()> {
     let mut graph = [0u8; 256 * instruction::WIDTH];
     let mut inputs = [0u8; token::WIDTH];
     put_chain(&mut graph);
     put_input(&mut inputs, 0, 255, 0, 7);
-    say_bounds(b"chain in falling order", &graph, &inputs);
+    say_bounds(rt, b"chain in falling order", &graph, &inputs)
 }
 
-fn main() {
-    say_sums();
-    say_switch();
-    say_through(b"NEXT", 7, 0);
-    say_through(b"NEXT and an input to 9", 7, 9);
-    say_through(b"COPY in its place", 1, 0);
-    say_leave();
-    say_chain();
+fn main(rt: HostRuntime) -> io::Result<()> {
+    say_sums(&rt)?;
+    say_switch(&rt)?;
+    say_through(&rt, b"NEXT", 7, 0)?;
+    say_through(&rt, b"NEXT and an input to 9", 7, 9)?;
+    say_through(&rt, b"COPY in its place", 1, 0)?;
+    say_leave(&rt)?;
+    say_chain(&rt)
 }

@@ -8,20 +8,17 @@
 // that are lent, and the bytes that follow; the rest of those lent are zeros.
 #![tactic(auto)]
 
-ghost use Rattle.std.specs.Prelude.{◌≡◌, ◌≤◌, ◌<◌, length};
+ghost use Rattle.std.specs.Prelude.{◌≡◌, ◌≤◌, ◌<◌, length, IfOk};
 
-use libc::{STDIN_FILENO, STDOUT_FILENO};
+use console::{read_full, say, say_decimal};
 use record::{cell, instruction, pick, token};
 use rules::answer::Answer;
+use std::io;
 use text::Printed;
 
-fn say(text: &[u8]) {
-    io::write_all(STDOUT_FILENO, text);
-}
-
-fn say_number(text: &[u8], n: usize) {
-    say(text);
-    io::print_decimal(STDOUT_FILENO, n as u64);
+fn say_number(rt: &HostRuntime, text: &[u8], n: usize) -> io::Result<()> {
+    say(rt, text)?;
+    say_decimal(rt, n as u64)
 }
 
 fn least(a: usize, b: usize) -> usize
@@ -31,22 +28,22 @@ fn least(a: usize, b: usize) -> usize
 }
 
 // Reads a part of a case to the start of buf, and answers how many bytes of buf are lent.
-fn read_part(buf: &mut [u8]) -> usize
-    ensures { result ≤ length buf.new }
+fn read_part(rt: &HostRuntime, buf: &mut [u8]) -> io::Result<usize>
+    ensures { IfOk result (λ lent. lent ≤ length buf.new) }
 {
     let mut head = [0u8; 4];
-    io::read_full(STDIN_FILENO, &mut head);
+    read_full(&mut rt.stdin(), &mut head)?;
     let given = least(number::u16_at(&head, 0) as usize, buf.len());
     let lent = least(number::u16_at(&head, 2) as usize, buf.len());
-    io::read_full(STDIN_FILENO, &mut buf[0..given]);
-    lent
+    read_full(&mut rt.stdin(), &mut buf[0..given])?;
+    Ok(lent)
 }
 
 // Whether the next byte is the one before a case, or behind the last.
-fn read_mark() -> bool {
+fn read_mark(rt: &HostRuntime) -> io::Result<bool> {
     let mut mark = [0u8; 1];
-    io::read_full(STDIN_FILENO, &mut mark);
-    mark[0] == b'\n'
+    read_full(&mut rt.stdin(), &mut mark)?;
+    Ok(mark[0] == b'\n')
 }
 
 // The number of the first byte from `from` on that is not as lent, or else the length.
@@ -81,28 +78,35 @@ fn sum(s: &[u8]) -> usize {
 }
 
 // A line on a buffer that a run was lent and left: whether it is as lent from a byte on.
-fn say_buffer(word: &[u8], left: &[u8], lent: &[u8], from: usize)
+fn say_buffer(
+    rt: &HostRuntime,
+    word: &[u8],
+    left: &[u8],
+    lent: &[u8],
+    from: usize,
+) -> io::Result<()>
     requires { length left.now ≡ length lent.now }
 {
     let changed = first_changed(left, lent, from);
-    say(word);
+    say(rt, word)?;
     if changed == left.len() {
-        say_number(b" as lent from byte ", from);
+        say_number(rt, b" as lent from byte ", from)?;
     } else {
-        say_number(b" changed at byte ", changed);
+        say_number(rt, b" changed at byte ", changed)?;
     }
-    say_number(b" of ", left.len());
-    say_number(b", sum ", sum(left));
-    say(b"\n");
+    say_number(rt, b" of ", left.len())?;
+    say_number(rt, b", sum ", sum(left))?;
+    say(rt, b"\n")
 }
 
 // The lines of an answer, records of the ledger and cells.
-fn say_run(answer: Answer, records: &[u8], cells: &[u8]) {
+fn say_run(rt: &HostRuntime, answer: Answer, records: &[u8], cells: &[u8]) -> io::Result<()> {
     let mut out = [0u8; 200778];
     match text::print(answer, records, cells, &mut out) {
-        Printed::Done(n) => say(&out[..n]),
-        Printed::TooSmall => say(b"no room\n"),
+        Printed::Done(n) => say(rt, &out[..n])?,
+        Printed::TooSmall => say(rt, b"no room\n")?,
     }
+    Ok(())
 }
 
 // The bytes of the used records, at most the ledger's.
@@ -125,33 +129,42 @@ fn cell_bytes(used: usize, cells: &[u8]) -> usize
 }
 
 // The lines of an answer, of the ledger's records from byte `first` on, and of the cells.
-fn say_tokens(answer: Answer, first: usize, ledger: &[u8], cells: &[u8], used: usize)
+fn say_tokens(
+    rt: &HostRuntime,
+    answer: Answer,
+    first: usize,
+    ledger: &[u8],
+    cells: &[u8],
+    used: usize,
+) -> io::Result<()>
     requires { used ≤ length ledger.now }
 {
     let start = least(first, used);
     let shown = cell_bytes(used, cells);
-    say_run(answer, &ledger[start..used], &cells[0..shown]);
+    say_run(rt, answer, &ledger[start..used], &cells[0..shown])
 }
 
 // Prints what a run answered and left of what it was lent.
 fn say_left(
+    rt: &HostRuntime,
     answer: Answer,
     first: usize,
     ledger: &[u8],
     cells: &[u8],
     lent_ledger: &[u8],
     lent_cells: &[u8],
-)
+) -> io::Result<()>
     requires { (length ledger.now ≡ length lent_ledger.now) × (length cells.now ≡ length lent_cells.now) }
 {
     let used = used_bytes(answer.tokens, ledger);
-    say_tokens(answer, first, ledger, cells, used);
-    say_buffer(b"ledger", ledger, lent_ledger, used);
-    say_buffer(b"cells", cells, lent_cells, 0);
+    say_tokens(rt, answer, first, ledger, cells, used)?;
+    say_buffer(rt, b"ledger", ledger, lent_ledger, used)?;
+    say_buffer(rt, b"cells", cells, lent_cells, 0)
 }
 
 // Runs a case, and prints what it answered and left.
 fn show(
+    rt: &HostRuntime,
     graph: &[u8],
     inputs: &[u8],
     picks: &[u8],
@@ -161,25 +174,26 @@ fn show(
     lent_cells: &[u8],
     ledger: &mut [u8],
     cells: &mut [u8],
-)
+) -> io::Result<()>
     requires { (length ledger.old ≡ length lent_ledger.now) × (length cells.old ≡ length lent_cells.now) }
 {
     let answer = engine::run(graph, b"", inputs, picks, budget, 0, ledger, cells);
-    say_left(answer, first, ledger, cells, lent_ledger, lent_cells);
+    say_left(rt, answer, first, ledger, cells, lent_ledger, lent_cells)
 }
 
 // Reads ledger, cells and numbers of a case, and shows its run.
-fn show_lent(graph: &[u8], inputs: &[u8], picks: &[u8]) {
+fn show_lent(rt: &HostRuntime, graph: &[u8], inputs: &[u8], picks: &[u8]) -> io::Result<()> {
     // These too are longer than the longest that a run accepts.
     let mut ledger = [0u8; 2050 * token::WIDTH];
     let mut cells = [0u8; 1026 * cell::WIDTH];
     let mut numbers = [0u8; 4];
-    let l = read_part(&mut ledger);
-    let c = read_part(&mut cells);
-    read_part(&mut numbers);
+    let l = read_part(rt, &mut ledger)?;
+    let c = read_part(rt, &mut cells)?;
+    read_part(rt, &mut numbers)?;
     let lent_ledger = ledger;
     let lent_cells = cells;
     show(
+        rt,
         graph,
         inputs,
         picks,
@@ -189,51 +203,52 @@ fn show_lent(graph: &[u8], inputs: &[u8], picks: &[u8]) {
         &lent_cells[0..c],
         &mut ledger[0..l],
         &mut cells[0..c],
-    );
+    )
 }
 
 // Reads the parts of a case behind its name, and shows its run.
-fn show_parts() {
+fn show_parts(rt: &HostRuntime) -> io::Result<()> {
     // Each is longer than the longest that a run accepts.
     let mut graph = [0u8; 258 * instruction::WIDTH];
     let mut inputs = [0u8; 2050 * token::WIDTH];
     let mut picks = [0u8; 2056 * pick::WIDTH];
-    let g = read_part(&mut graph);
-    let i = read_part(&mut inputs);
-    let p = read_part(&mut picks);
-    show_lent(&graph[0..g], &inputs[0..i], &picks[0..p]);
+    let g = read_part(rt, &mut graph)?;
+    let i = read_part(rt, &mut inputs)?;
+    let p = read_part(rt, &mut picks)?;
+    show_lent(rt, &graph[0..g], &inputs[0..i], &picks[0..p])
 }
 
 // Reads the name of a case, and prints it as a line.
-fn show_name() {
+fn show_name(rt: &HostRuntime) -> io::Result<()> {
     let mut name = [0u8; 256];
-    let n = read_part(&mut name);
-    say(&name[0..n]);
-    say(b"\n");
+    let n = read_part(rt, &mut name)?;
+    say(rt, &name[0..n])?;
+    say(rt, b"\n")
 }
 
 // Shows n cases, or those before one whose mark is missing, and answers how many.
-fn show_cases(n: usize) -> usize {
+fn show_cases(rt: &HostRuntime, n: usize) -> io::Result<usize> {
     let mut shown = 0;
     while shown < n {
-        if !read_mark() {
-            return shown;
+        if !read_mark(rt)? {
+            return Ok(shown);
         }
-        show_name();
-        show_parts();
+        show_name(rt)?;
+        show_parts(rt)?;
         shown += 1;
     }
-    shown
+    Ok(shown)
 }
 
-fn main() {
+fn main(rt: HostRuntime) -> io::Result<()> {
     let mut head = [0u8; 2];
-    io::read_full(STDIN_FILENO, &mut head);
-    let shown = show_cases(number::u16_at(&head, 0) as usize);
-    say_number(b"cases ", shown);
-    if read_mark() {
-        say(b", all\n");
+    read_full(&mut rt.stdin(), &mut head)?;
+    let shown = show_cases(&rt, number::u16_at(&head, 0) as usize)?;
+    say_number(&rt, b"cases ", shown)?;
+    if read_mark(&rt)? {
+        say(&rt, b", all\n")?;
     } else {
-        say(b", and then none where one should be\n");
+        say(&rt, b", and then none where one should be\n")?;
     }
+    Ok(())
 }

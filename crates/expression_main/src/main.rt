@@ -4,34 +4,29 @@
 ghost use Rattle.std.specs.Prelude.{◌/◌, ◌≤◌, ◌<◌, length};
 ghost use Rattle.record.specs.Widths.{term_width, value_width, graph_width, token_width};
 
-use libc::STDOUT_FILENO;
+use console::{say, say_decimal};
 use record::instruction::Instruction;
 use record::tag::{Path, Tag};
 use record::token::{Content, Token};
 use record::{instruction, term, token};
 use rules::answer;
 use rules::answer::{Answer, Evaluated, Made};
+use std::io;
 
-fn say(text: &[u8]) {
-    io::write_all(STDOUT_FILENO, text);
+fn say_number(rt: &impl Print, text: &[u8], n: usize) -> io::Result<()> {
+    say(rt, text)?;
+    say_decimal(rt, n as u64)
 }
 
-fn say_number(text: &[u8], n: usize) {
-    say(text);
-    io::print_decimal(STDOUT_FILENO, n as u64);
-}
-
-fn say_value(text: &[u8], value: i32) {
-    say(text);
+fn say_value(rt: &impl Print, text: &[u8], value: i32) -> io::Result<()> {
+    say(rt, text)?;
     if value < 0 {
-        say(b"-");
-        io::print_decimal(
-            STDOUT_FILENO,
-            (4294967296 - number::bits(value) as u64) as u64,
-        );
+        say(rt, b"-")?;
+        say_decimal(rt, (4294967296 - number::bits(value) as u64) as u64)?;
     } else {
-        io::print_decimal(STDOUT_FILENO, number::bits(value) as u64);
+        say_decimal(rt, number::bits(value) as u64)?;
     }
+    Ok(())
 }
 
 // Record i of an expression.
@@ -68,120 +63,146 @@ fn put_value(values: &mut [u8], inputs: &mut [u8], k: usize, value: i32)
 }
 
 // An instruction with its destination.
-fn say_instruction(i: usize, r: Instruction) {
+fn say_instruction(rt: &impl Print, i: usize, r: Instruction) -> io::Result<()> {
     let first = r.first;
-    say_number(b"  ", i);
-    say_number(b": code ", r.code as usize);
+    say_number(rt, b"  ", i)?;
+    say_number(rt, b": code ", r.code as usize)?;
     if r.fanout == 1 {
-        say_number(b" to ", first.instruction as usize);
-        say_number(b" port ", first.port as usize);
+        say_number(rt, b" to ", first.instruction as usize)?;
+        say_number(rt, b" port ", first.port as usize)?;
     }
-    say(b"\n");
+    say(rt, b"\n")
 }
 
-fn say_graph(graph: &[u8]) {
+fn say_graph(rt: &impl Print, graph: &[u8]) -> io::Result<()> {
     let mut i = 0;
     while i < graph.len() / instruction::WIDTH {
-        say_instruction(i, instruction::instruction_at(graph, i));
+        say_instruction(rt, i, instruction::instruction_at(graph, i))?;
         i += 1;
     }
+    Ok(())
 }
 
-fn say_if_out(t: Token, out: usize) {
+fn say_if_out(rt: &impl Print, t: Token, out: usize) -> io::Result<()> {
     let tag = t.tag;
     let content = t.content;
     if tag.instruction as usize == out {
         if let Content::Live(v) = content {
-            say_value(b", OUT has ", v);
+            say_value(rt, b", OUT has ", v)?;
         }
     }
+    Ok(())
 }
 
 // The token at OUT, which is the graph's last instruction. Bytes past the used records are zeros, which name the first.
-fn say_out(ledger: &[u8], out: usize) {
+fn say_out(rt: &impl Print, ledger: &[u8], out: usize) -> io::Result<()> {
     let mut i = 0;
     while i < ledger.len() / token::WIDTH {
-        say_if_out(token::token_at(ledger, i), out);
+        say_if_out(rt, token::token_at(ledger, i), out)?;
         i += 1;
     }
+    Ok(())
 }
 
-fn say_run(name: &[u8], graph: &[u8], inputs: &[u8], picks: &[u8], out: usize) {
+fn say_run(
+    rt: &impl Print,
+    name: &[u8],
+    graph: &[u8],
+    inputs: &[u8],
+    picks: &[u8],
+    out: usize,
+) -> io::Result<()> {
     let mut ledger = [0u8; 300 * token::WIDTH];
     let mut cells = [0u8; 8];
     let a: Answer = engine::run(graph, b"", inputs, picks, 2048, 0, &mut ledger, &mut cells);
     let outcome = a.outcome;
-    say(name);
-    say_number(b"word ", answer::word(outcome) as usize);
-    say_number(b", firings ", a.firings);
-    say_number(b", tokens ", a.tokens);
-    say_out(&ledger, out);
-    say(b"\n");
+    say(rt, name)?;
+    say_number(rt, b"word ", answer::word(outcome) as usize)?;
+    say_number(rt, b", firings ", a.firings)?;
+    say_number(rt, b", tokens ", a.tokens)?;
+    say_out(rt, &ledger, out)?;
+    say(rt, b"\n")
 }
 
-fn say_evaluated(expression: &[u8], values: &[u8]) {
+fn say_evaluated(rt: &impl Print, expression: &[u8], values: &[u8]) -> io::Result<()> {
     let evaluated = expression::value(expression, values);
     match evaluated {
         Evaluated::Value(v) => {
-            say_value(b"  value ", v);
-            say(b"\n");
+            say_value(rt, b"  value ", v)?;
+            say(rt, b"\n")?;
         }
         Evaluated::Refused(r, place) => {
-            say_number(b"  no value: refused ", answer::number(r) as usize);
-            say_number(b" at ", place);
-            say(b"\n");
+            say_number(rt, b"  no value: refused ", answer::number(r) as usize)?;
+            say_number(rt, b" at ", place)?;
+            say(rt, b"\n")?;
         }
     }
+    Ok(())
 }
 
 // The graph that was made, its value and its runs; where `whole`, with every instruction.
-fn say_made(whole: bool, graph: &[u8], expression: &[u8], values: &[u8], inputs: &[u8]) {
+fn say_made(
+    rt: &impl Print,
+    whole: bool,
+    graph: &[u8],
+    expression: &[u8],
+    values: &[u8],
+    inputs: &[u8],
+) -> io::Result<()> {
     let picks = [7u8; 400];
     if graph.len() < instruction::WIDTH {
-        return;
+        return Ok(());
     }
     let out = graph.len() / instruction::WIDTH - 1;
     if whole {
-        say_graph(graph);
+        say_graph(rt, graph)?;
     }
-    say_evaluated(expression, values);
-    say_run(b"  oldest first: ", graph, inputs, b"", out);
-    say_run(b"  by picks: ", graph, inputs, &picks, out);
+    say_evaluated(rt, expression, values)?;
+    say_run(rt, b"  oldest first: ", graph, inputs, b"", out)?;
+    say_run(rt, b"  by picks: ", graph, inputs, &picks, out)
 }
 
-fn say_expression(name: &[u8], whole: bool, expression: &[u8], values: &[u8], inputs: &[u8]) {
+fn say_expression(
+    rt: &impl Print,
+    name: &[u8],
+    whole: bool,
+    expression: &[u8],
+    values: &[u8],
+    inputs: &[u8],
+) -> io::Result<()> {
     let mut graph = [0u8; 100 * instruction::WIDTH];
     let made = expression::to_graph(expression, &mut graph);
-    say(name);
+    say(rt, name)?;
     match made {
         Made::Records(records) => {
-            say_number(b": records ", records);
-            say(b"\n");
+            say_number(rt, b": records ", records)?;
+            say(rt, b"\n")?;
             if 100 < records {
-                return;
+                return Ok(());
             }
             let end = records * instruction::WIDTH;
-            say_made(whole, &graph[0..end], expression, values, inputs);
+            say_made(rt, whole, &graph[0..end], expression, values, inputs)?;
         }
         Made::Refused(r, place) => {
-            say_number(b": refused ", answer::number(r) as usize);
-            say_number(b" at ", place);
-            say(b"\n");
+            say_number(rt, b": refused ", answer::number(r) as usize)?;
+            say_number(rt, b" at ", place)?;
+            say(rt, b"\n")?;
         }
     }
+    Ok(())
 }
 
 // A variable alone.
-fn say_variable() {
+fn say_variable(rt: &impl Print) -> io::Result<()> {
     let expression = [0u8; term::WIDTH];
     let mut values = [0u8; term::VALUE_WIDTH];
     let mut inputs = [0u8; token::WIDTH];
     put_value(&mut values, &mut inputs, 0, -7);
-    say_expression(b"x", true, &expression, &values, &inputs);
+    say_expression(rt, b"x", true, &expression, &values, &inputs)
 }
 
 // (x SUB y) DIV z, with z before y.
-fn say_quotient(name: &[u8], x: i32, y: i32, z: i32) {
+fn say_quotient(rt: &impl Print, name: &[u8], x: i32, y: i32, z: i32) -> io::Result<()> {
     let mut expression = [0u8; 5 * term::WIDTH];
     let mut values = [0u8; 3 * term::VALUE_WIDTH];
     let mut inputs = [0u8; 3 * token::WIDTH];
@@ -190,40 +211,48 @@ fn say_quotient(name: &[u8], x: i32, y: i32, z: i32) {
     put_value(&mut values, &mut inputs, 0, x);
     put_value(&mut values, &mut inputs, 1, z);
     put_value(&mut values, &mut inputs, 2, y);
-    say_expression(name, true, &expression, &values, &inputs);
+    say_expression(rt, name, true, &expression, &values, &inputs)
 }
 
 // x and y, and an operation of that kind on those records.
-fn say_pair(name: &[u8], kind: u8, left: u8, right: u8, x: i32, y: i32) {
+fn say_pair(
+    rt: &impl Print,
+    name: &[u8],
+    kind: u8,
+    left: u8,
+    right: u8,
+    x: i32,
+    y: i32,
+) -> io::Result<()> {
     let mut expression = [0u8; 3 * term::WIDTH];
     let mut values = [0u8; 2 * term::VALUE_WIDTH];
     let mut inputs = [0u8; 2 * token::WIDTH];
     put_term(&mut expression, 2, kind, left, right);
     put_value(&mut values, &mut inputs, 0, x);
     put_value(&mut values, &mut inputs, 1, y);
-    say_expression(name, false, &expression, &values, &inputs);
+    say_expression(rt, name, false, &expression, &values, &inputs)
 }
 
 // What `to_graph` says where the output has 31 bytes.
-fn say_room(name: &[u8], expression: &[u8]) {
+fn say_room(rt: &impl Print, name: &[u8], expression: &[u8]) -> io::Result<()> {
     let mut graph = [9u8; 31];
     let made = expression::to_graph(expression, &mut graph);
-    say(name);
+    say(rt, name)?;
     match made {
-        Made::Records(records) => say_number(b": records ", records),
+        Made::Records(records) => say_number(rt, b": records ", records)?,
         Made::Refused(r, place) => {
-            say_number(b": refused ", answer::number(r) as usize);
-            say_number(b" at ", place);
+            say_number(rt, b": refused ", answer::number(r) as usize)?;
+            say_number(rt, b" at ", place)?;
         }
     }
-    say(b"\n");
+    say(rt, b"\n")
 }
 
-fn say_rooms() {
+fn say_rooms(rt: &impl Print) -> io::Result<()> {
     let expression = [0u8; 9];
-    say_room(b"no records", &expression[0..0]);
-    say_room(b"a record and a byte", &expression);
-    say_room(b"31 bytes of room", &expression[0..8]);
+    say_room(rt, b"no records", &expression[0..0])?;
+    say_room(rt, b"a record and a byte", &expression)?;
+    say_room(rt, b"31 bytes of room", &expression[0..8])
 }
 
 // Sums from the left: a variable at each odd record and at 0, an ADD at each even one.
@@ -248,32 +277,32 @@ fn put_counts(values: &mut [u8], inputs: &mut [u8])
 }
 
 // The longest: 50 variables, whose values are 0 to 49, and 49 operations.
-fn say_longest() {
+fn say_longest(rt: &impl Print) -> io::Result<()> {
     let mut expression = [0u8; 99 * term::WIDTH];
     let mut values = [0u8; 50 * term::VALUE_WIDTH];
     let mut inputs = [0u8; 50 * token::WIDTH];
     put_sums(&mut expression);
     put_counts(&mut values, &mut inputs);
-    say_expression(b"sum of 50", false, &expression, &values, &inputs);
+    say_expression(rt, b"sum of 50", false, &expression, &values, &inputs)
 }
 
 // An even number of records has one that is never named.
-fn say_even() {
+fn say_even(rt: &impl Print) -> io::Result<()> {
     let mut expression = [0u8; 100 * term::WIDTH];
     put_sums(&mut expression);
-    say_expression(b"100 records", false, &expression, b"", b"");
+    say_expression(rt, b"100 records", false, &expression, b"", b"")
 }
 
-fn main() {
-    say_variable();
-    say_quotient(b"(x SUB y) DIV z", 7, 14, 2);
-    say_quotient(b"(x SUB y) DIV 0", 7, 14, 0);
-    say_pair(b"LT", 21, 0, 1, -3, 4);
-    say_pair(b"MUL past 32 bits", 18, 0, 1, 65536, 65536);
-    say_pair(b"kind 24", 24, 0, 1, 1, 1);
-    say_pair(b"a record names itself", 16, 0, 2, 1, 1);
-    say_pair(b"one named twice", 16, 1, 1, 1, 1);
-    say_rooms();
-    say_longest();
-    say_even();
+fn main(rt: HostRuntime) -> io::Result<()> {
+    say_variable(&rt)?;
+    say_quotient(&rt, b"(x SUB y) DIV z", 7, 14, 2)?;
+    say_quotient(&rt, b"(x SUB y) DIV 0", 7, 14, 0)?;
+    say_pair(&rt, b"LT", 21, 0, 1, -3, 4)?;
+    say_pair(&rt, b"MUL past 32 bits", 18, 0, 1, 65536, 65536)?;
+    say_pair(&rt, b"kind 24", 24, 0, 1, 1, 1)?;
+    say_pair(&rt, b"a record names itself", 16, 0, 2, 1, 1)?;
+    say_pair(&rt, b"one named twice", 16, 1, 1, 1, 1)?;
+    say_rooms(&rt)?;
+    say_longest(&rt)?;
+    say_even(&rt)
 }

@@ -6,64 +6,68 @@
 ghost use Rattle.std.specs.Prelude.{◌*◌, ◌≤◌};
 ghost use Rattle.record.specs.Widths.{token_width};
 
+use console::{read_full, say, say_hex};
 use listing::Listed;
 use record::token;
+use std::io;
 
-fn print_bytes(s: &[u8]) {
+fn print_bytes(rt: &impl Print, s: &[u8]) -> io::Result<()> {
     let mut i = 0;
     while i < s.len() {
-        io::print_hex(1, s[i] as u64, 2);
+        say_hex(rt, s[i])?;
         i += 1;
         if i % token::WIDTH == 0 || i == s.len() {
-            io::write_all(1, b"\n");
+            say(rt, b"\n")?;
         }
     }
+    Ok(())
 }
 
-fn print_answer(answer: Listed) {
+fn print_answer(rt: &impl Print, answer: Listed) -> io::Result<()> {
     match answer {
         Listed::Done => {
-            io::write_all(1, b"0\n");
+            say(rt, b"0\n")?;
         }
         Listed::BadStore => {
-            io::write_all(1, b"7\n");
+            say(rt, b"7\n")?;
         }
     }
+    Ok(())
 }
 
-fn print_listing(ledger: &[u8], out: &mut [u8]) {
-    print_answer(listing::list(ledger, out));
-    print_bytes(out);
+fn print_listing(rt: &impl Print, ledger: &[u8], out: &mut [u8]) -> io::Result<()> {
+    print_answer(rt, listing::list(ledger, out))?;
+    print_bytes(rt, out)
 }
 
 // The same with an output of `bytes` bytes, each 170.
-fn print_lent(ledger: &[u8], bytes: usize)
+fn print_lent(rt: &impl Print, ledger: &[u8], bytes: usize) -> io::Result<()>
     requires { bytes ≤ 12 * token_width }
 {
     let mut out = [170u8; 12 * token::WIDTH];
-    print_listing(ledger, &mut out[0..bytes]);
+    print_listing(rt, ledger, &mut out[0..bytes])
 }
 
 // The answer for a ledger of zeros.
-fn print_limit(bytes: usize)
+fn print_limit(rt: &impl Print, bytes: usize) -> io::Result<()>
     requires { bytes ≤ 65536 }
 {
-    let zeros = io::large_buffer();
-    let mut out = io::large_buffer();
-    print_answer(listing::list(&zeros[0..bytes], &mut out[0..bytes]));
+    let zeros = [0u8; 65536];
+    let mut out = [0u8; 65536];
+    print_answer(rt, listing::list(&zeros[0..bytes], &mut out[0..bytes]))
 }
 
-fn main() {
+fn main(rt: HostRuntime) -> io::Result<()> {
     let mut ledger = [0u8; 12 * token::WIDTH];
-    io::read_full(0, &mut ledger);
-    print_bytes(&ledger);
-    print_lent(&ledger, 12 * token::WIDTH);
+    read_full(&mut rt.stdin(), &mut ledger)?;
+    print_bytes(&rt, &ledger)?;
+    print_lent(&rt, &ledger, 12 * token::WIDTH)?;
     // An output that is shorter or longer, and a ledger that is not whole records.
-    print_lent(&ledger, token::WIDTH);
-    print_lent(&ledger[0..token::WIDTH], 2 * token::WIDTH);
-    print_lent(&ledger[0..token::WIDTH + 10], token::WIDTH + 10);
+    print_lent(&rt, &ledger, token::WIDTH)?;
+    print_lent(&rt, &ledger[0..token::WIDTH], 2 * token::WIDTH)?;
+    print_lent(&rt, &ledger[0..token::WIDTH + 10], token::WIDTH + 10)?;
     // No record, 2,048 records and 2,049.
-    print_limit(0);
-    print_limit(token::MOST * token::WIDTH);
-    print_limit((token::MOST + 1) * token::WIDTH);
+    print_limit(&rt, 0)?;
+    print_limit(&rt, token::MOST * token::WIDTH)?;
+    print_limit(&rt, (token::MOST + 1) * token::WIDTH)
 }

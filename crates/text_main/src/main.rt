@@ -5,34 +5,48 @@
 ghost use Rattle.std.specs.Prelude.{◌≡◌, ◌*◌, ◌≤◌, length};
 ghost use Rattle.record.specs.Widths.{token_width, cell_width};
 
+use console::{say, say_decimal};
 use record::cell::Cell;
 use record::tag::{Path, Tag};
 use record::token::{Content, Token};
 use record::{cell, token};
 use rules::answer::{Answer, Outcome, Refusal};
+use std::io;
 use text::Printed;
 
-fn show(answer: Answer, listing: &[u8], cells: &[u8], out: &mut [u8]) {
+fn show(
+    rt: &impl Print,
+    answer: Answer,
+    listing: &[u8],
+    cells: &[u8],
+    out: &mut [u8],
+) -> io::Result<()> {
     match text::print(answer, listing, cells, out) {
         Printed::Done(n) => {
-            io::write_all(1, b"done ");
-            io::print_decimal(1, n as u64);
-            io::write_all(1, b"\n");
+            say(rt, b"done ")?;
+            say_decimal(rt, n as u64)?;
+            say(rt, b"\n")?;
         }
         Printed::TooSmall => {
-            io::write_all(1, b"too small\n");
+            say(rt, b"too small\n")?;
         }
     }
-    io::write_all(1, out);
-    io::write_all(1, b"\n");
+    say(rt, out)?;
+    say(rt, b"\n")
 }
 
 // In a buffer of `bytes` bytes.
-fn show_in(answer: Answer, listing: &[u8], cells: &[u8], bytes: usize)
+fn show_in(
+    rt: &impl Print,
+    answer: Answer,
+    listing: &[u8],
+    cells: &[u8],
+    bytes: usize,
+) -> io::Result<()>
     requires { bytes ≤ 512 }
 {
     let mut out = [b'.'; 512];
-    show(answer, listing, cells, &mut out[0..bytes]);
+    show(rt, answer, listing, cells, &mut out[0..bytes])
 }
 
 const GREATEST: Path = Path {
@@ -97,7 +111,7 @@ fn put_cells(cells: &mut [u8])
     cell::put_cell(cells, 11, Cell::Absent);
 }
 
-fn show_example(bytes: usize)
+fn show_example(rt: &impl Print, bytes: usize) -> io::Result<()>
     requires { bytes ≤ 512 }
 {
     let mut listing = [0u8; 3 * token::WIDTH];
@@ -107,10 +121,10 @@ fn show_example(bytes: usize)
         firings: 1,
         tokens: 3,
     };
-    show_in(answer, &listing, &[0u8; 2 * cell::WIDTH], bytes);
+    show_in(rt, answer, &listing, &[0u8; 2 * cell::WIDTH], bytes)
 }
 
-fn show_ends(outcome: Outcome, bytes: usize)
+fn show_ends(rt: &impl Print, outcome: Outcome, bytes: usize) -> io::Result<()>
     requires { bytes ≤ 512 }
 {
     let mut listing = [0u8; 5 * token::WIDTH];
@@ -123,27 +137,28 @@ fn show_ends(outcome: Outcome, bytes: usize)
         firings: 18446744073709551615,
         tokens: 0,
     };
-    show_in(answer, &listing, &cells, bytes);
+    show_in(rt, answer, &listing, &cells, bytes)
 }
 
-fn main() {
+fn main(rt: HostRuntime) -> io::Result<()> {
     // As long as the text, one byte less, and three more.
-    show_example(65);
-    show_example(64);
-    show_example(68);
-    show_example(0);
-    show_ends(Outcome::Spent, 512);
-    show_ends(Outcome::Hung, 512);
+    show_example(&rt, 65)?;
+    show_example(&rt, 64)?;
+    show_example(&rt, 68)?;
+    show_example(&rt, 0)?;
+    show_ends(&rt, Outcome::Spent, 512)?;
+    show_ends(&rt, Outcome::Hung, 512)?;
     show_ends(
+        &rt,
         Outcome::Refused(Refusal::NoReturn, 18446744073709551615),
         512,
-    );
+    )?;
     let refused = Answer {
         outcome: Outcome::Refused(Refusal::LedgerFull, 1),
         firings: 0,
         tokens: 0,
     };
     // No records, and bytes that are no whole record.
-    show_in(refused, &[0u8; 0], &[0u8; 0], 16);
-    show_in(refused, &[1u8; token::WIDTH - 1], &[2u8; 7], 15);
+    show_in(&rt, refused, &[0u8; 0], &[0u8; 0], 16)?;
+    show_in(&rt, refused, &[1u8; token::WIDTH - 1], &[2u8; 7], 15)
 }

@@ -3,83 +3,133 @@
 // of the current one.
 #![tactic(auto)]
 
-ghost use Rattle.std.specs.Prelude.{◌≡◌, ◌≤◌, length};
+ghost use Rattle.std.specs.Prelude.{◌≡◌, ◌≤◌, length, IfSome};
 
-use libc::{ENAMETOOLONG, ENOENT, STDOUT_FILENO};
+use console::read_full;
 use record::{array, instruction, pick, token};
+use std::env::{Env, FillError};
+use std::{fs, io};
 use text::Printed;
 
-// Reads a file to the start of buf, and answers how many bytes, or -1 after saying why not. A missing
+// The system's number for a name that is too long.
+const ENAMETOOLONG: i32 = 36;
+
+// Says on standard error why what has that name failed.
+fn fail(rt: &HostRuntime, what: &str, error: io::Error) {
+    let _ = eprintln!(rt; "{what}: {error}");
+}
+
+// Reads a file to the start of buf, and answers how many bytes, or none after saying why not. A missing
 // file counts as empty. Where the file is longer than buf, buf is longer than what a run accepts.
-fn read_file(path: &[u8], buf: &mut [u8]) -> isize {
-    let fd = os::open_read(path);
-    if fd < 0 {
-        if os::errno() == ENOENT {
-            return 0;
+fn read_file(rt: &HostRuntime, path: &str, buf: &mut [u8]) -> Option<usize>
+    ensures { IfSome result (λ n. n ≤ length buf.new) }
+{
+    let mut file = match fs::open(rt, path) {
+        Ok(file) => file,
+        Err(error) => {
+            if error.kind() == io::ErrorKind::NotFound {
+                return Some(0);
+            }
+            fail(rt, path, error);
+            return None;
         }
-        os::fail(path);
-        return -1;
+    };
+    match read_full(&mut file, buf) {
+        Ok(n) => Some(n),
+        Err(error) => {
+            fail(rt, path, error);
+            None
+        }
     }
-    let n = io::read_full(fd, buf);
-    // `read_full` stops at a read that fails as at the end: this one tells them apart.
-    let mut more = [0u8; 1];
-    let after = libc::read(fd, &mut more);
-    if after < 0 {
-        os::fail(path);
-        libc::close(fd);
-        return -1;
+}
+
+// The path of those bytes. The library takes text alone.
+fn path_of(bytes: &[u8]) -> io::Result<&str> {
+    match str::from_utf8(bytes) {
+        Ok(path) => Ok(path),
+        Err(_) => Err(io::Error::from(io::ErrorKind::InvalidFilename)),
     }
-    libc::close(fd);
-    n as isize
 }
 
 // Reads a file of the folder whose name is the first n bytes of path, of the current one where n is 0.
-fn read_in(path: &mut [u8], n: usize, name: &[u8], buf: &mut [u8]) -> isize
+fn read_in(rt: &HostRuntime, path: &mut [u8], n: usize, name: &str, buf: &mut [u8]) -> Option<usize>
     requires { (length path.old ≡ 4096) × (n ≤ 4000) × (length name.now ≤ 6) }
+    ensures { IfSome result (λ m. m ≤ length buf.new) }
 {
     if n == 0 {
-        return read_file(name, buf);
+        return read_file(rt, name, buf);
     }
     path[n] = b'/';
-    buffer::write_at(path, n + 1, name);
-    read_file(&path[..n + 1 + name.len()], buf)
+    buffer::write_at(path, n + 1, name.as_bytes());
+    match path_of(&path[..n + 1 + name.len()]) {
+        Ok(file) => read_file(rt, file, buf),
+        Err(error) => {
+            fail(rt, "folder", error);
+            None
+        }
+    }
 }
 
-// Puts the first argument at the start of buf, and answers its length, 0 without one, or -1 after
-// saying why it names no folder.
-fn folder_in(buf: &mut [u8]) -> isize {
-    let n = os::arg(1, buf);
-    if os::errno() == ENAMETOOLONG {
-        os::fail(b"folder");
-        return -1;
-    }
-    if n > 0 {
-        let fd = os::open_read(&buf[..n]);
-        if fd < 0 {
-            os::fail(&buf[..n]);
-            return -1;
+// Whether a folder, or a file, of that name can be opened, after saying why not.
+fn opens(rt: &HostRuntime, name: &[u8]) -> bool {
+    match path_of(name) {
+        Ok(path) => match fs::open(rt, path) {
+            Ok(_) => true,
+            Err(error) => {
+                fail(rt, path, error);
+                false
+            }
+        },
+        Err(error) => {
+            fail(rt, "folder", error);
+            false
         }
-        libc::close(fd);
     }
-    n as isize
+}
+
+// Puts the first argument at the start of buf, and answers its length, 0 without one, or none after
+// saying why it names no folder.
+fn folder_in(rt: &HostRuntime, buf: &mut [u8]) -> Option<usize>
+    ensures { IfSome result (λ n. n ≤ length buf.new) }
+{
+    match rt.arg(1, buf) {
+        Ok(n) => {
+            if n > 0 && !opens(rt, &buf[..n]) {
+                return None;
+            }
+            Some(n)
+        }
+        Err(FillError::NotPresent) => Some(0),
+        Err(FillError::TooLong) => {
+            fail(rt, "folder", io::Error::from_raw_os_error(ENAMETOOLONG));
+            None
+        }
+    }
 }
 
 // Prints the run of what the files hold or, where it cannot, a line on standard error.
-fn show(graph: &[u8], arrays: &[u8], inputs: &[u8], picks: &[u8], out: &mut [u8]) {
+fn show(
+    rt: &HostRuntime,
+    graph: &[u8],
+    arrays: &[u8],
+    inputs: &[u8],
+    picks: &[u8],
+    out: &mut [u8],
+) {
     match printing::print_run(graph, arrays, inputs, picks, out) {
         Printed::Done(n) => {
-            if !io::write_all(STDOUT_FILENO, &out[..n]) {
-                os::fail(b"write");
+            if let Err(error) = rt.write_all(&out[..n]) {
+                fail(rt, "write", error);
             }
         }
         Printed::TooSmall => {
-            os::fail(b"text");
+            fail(rt, "text", io::Error::other("too long"));
         }
     }
 }
 
 // Reads the four files of the folder whose name is the first n bytes of path, and shows their run.
-fn show_folder(path: &mut [u8], n: usize)
+fn show_folder(rt: &HostRuntime, path: &mut [u8], n: usize)
     requires { (length path.old ≡ 4096) × (n ≤ 4000) }
 {
     // Each a record longer than the longest that a run accepts.
@@ -87,20 +137,18 @@ fn show_folder(path: &mut [u8], n: usize)
     let mut arrays = [0u8; 65 * array::WIDTH];
     let mut inputs = [0u8; 2049 * token::WIDTH];
     let mut picks = [0u8; 2049 * pick::WIDTH];
-    let g = read_in(path, n, b"graph", &mut graph);
-    let a = read_in(path, n, b"arrays", &mut arrays);
-    let i = read_in(path, n, b"inputs", &mut inputs);
-    let p = read_in(path, n, b"picks", &mut picks);
-    if g < 0 || a < 0 || i < 0 || p < 0 {
-        return;
-    }
-    let g = io::count(g, &graph);
-    let a = io::count(a, &arrays);
-    let i = io::count(i, &inputs);
-    let p = io::count(p, &picks);
+    let g = read_in(rt, path, n, "graph", &mut graph);
+    let a = read_in(rt, path, n, "arrays", &mut arrays);
+    let i = read_in(rt, path, n, "inputs", &mut inputs);
+    let p = read_in(rt, path, n, "picks", &mut picks);
+    let Some(g) = g else { return };
+    let Some(a) = a else { return };
+    let Some(i) = i else { return };
+    let Some(p) = p else { return };
     // Room for every text (`EveryTextFits` of the crate printing).
     let mut out = [0u8; 200778];
     show(
+        rt,
         &graph[..g],
         &arrays[..a],
         &inputs[..i],
@@ -109,13 +157,10 @@ fn show_folder(path: &mut [u8], n: usize)
     );
 }
 
-fn main() {
+fn main(rt: HostRuntime) {
     // The name of the folder, and behind it room for that of a file.
-    let mut path = io::buffer();
-    let n = folder_in(&mut path[..4000]);
-    if n < 0 {
-        return;
+    let mut path = [0u8; 4096];
+    if let Some(n) = folder_in(&rt, &mut path[..4000]) {
+        show_folder(&rt, &mut path, n);
     }
-    let n = io::count(n, &path[..4000]);
-    show_folder(&mut path, n);
 }
