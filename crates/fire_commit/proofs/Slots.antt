@@ -4,7 +4,6 @@ use mathlib.Core.Path.{◌≡◌, refl, sym, ap, ◌∙◌}
 use mathlib.Core.Bool.{true, false, cond}
 use mathlib.Core.List.{List, [], ◌∷◌, ◌++◌}
 use native.Mathlib.Omega.{arith}
-use lib.Dec.{eqb}
 use lib.ListN.{length}
 use borrow.Author.Tests.{eq-eqb}
 use Rattle.record.specs.TokensAndTags.{same_tag, stands_at}
@@ -12,7 +11,7 @@ use Rattle.record.specs.declared.token.Token.{Token}
 use Rattle.record.specs.declared.token.Content.{Content}
 use Rattle.store_chains.specs.declared.Slot.{Slot}
 use Rattle.store_chains.specs.declared.Found.TheVariants.{At}
-use Rattle.store_chains.specs.Search.{first_from, Free}
+use Rattle.store_chains.specs.Search.{Free}
 use Rattle.store_chains.specs.Slots.{Open}
 use Rattle.store_chains.proofs.Search.{first_added, first_past, first_none_added}
 use Rattle.store_chains.proofs.Index.{stands_off, stands_other_port}

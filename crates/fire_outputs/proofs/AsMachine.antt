@@ -14,7 +14,7 @@ use Rattle.record.specs.declared.token.Content.TheVariants.{Live, Spent, Deferre
 use Rattle.record.specs.declared.cell.Cell as RecordCell
 use Rattle.record.specs.declared.cell.Cell.TheVariants.{Absent, Waiting, Present}
 use Rattle.store_chains.specs.Deferred.{content_woken, woken}
-use Rattle.machine.specs.Machine.{Key, Content, live, deferred, Token, Cell, when, changed, output, fill, cell_at, cell_read, content_read}
+use Rattle.machine.specs.Machine.{live, deferred, when, changed, output, fill, cell_at, cell_read, content_read}
 use Rattle.rules.specs.Run.{content_held, token_held}
 use Rattle.fire_effect.specs.declared.output.Outputs.{Outputs}
 use Rattle.fire_effect.specs.declared.output.Key as EffectKey
