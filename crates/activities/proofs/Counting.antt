@@ -5,15 +5,13 @@ use mathlib.Core.Bool.{Bool, true, false, not, cond}
 use mathlib.Core.List.{List, [], ◌∷◌, map}
 use native.Mathlib.Omega.{arith}
 use lib.ListN.{length, get_or, length-map}
-use lib.IntN.{ℤ}
 use Rattle.record.specs.declared.array.NamedArray.{NamedArray}
 use Rattle.record.specs.declared.tag.Tag.{Tag}
 use Rattle.record.specs.declared.cell.Cell.{Cell}
-use Rattle.record.specs.declared.instruction.Instruction.{Instruction}
 use Rattle.record.specs.GraphRecords.{graph_of}
 use Rattle.record.specs.TokensAndTags.{tokens, capacity_of}
 use Rattle.record.specs.Cells as Cells
-use Rattle.record.specs.Widths.{token_width, cell_width}
+use Rattle.record.specs.Widths.{cell_width}
 use Rattle.buffer.specs.Rows.{all_rows}
 use Rattle.machine.specs.Machine.{Machine, StateOf, Activity, enabled}
 use Rattle.machine.specs.Bounded.{without_held, free_of}
@@ -25,8 +23,8 @@ use Rattle.rules.specs.InstructionSet.{machine_of}
 use Rattle.rules.specs.Held.{held_in}
 use Rattle.rules.specs.Bounded.{and_bound}
 use Rattle.rules.specs.Saved.{state_saved, machine_saved, state_taken}
-use Rattle.store_flags.specs.Flags.{places, minus, flags_of, Under, Counted}
-use Rattle.store.proofs.Laws.{matching_counted, matching_places}
+use Rattle.store_flags.specs.Flags.{places, minus, flags_of, Under}
+use Rattle.store.proofs.Laws.{matching_places}
 use Rattle.abstraction.specs.States.{no_token, state_held}
 use Rattle.abstraction.proofs.Enabled.{held_enabled}
 use Rattle.check_fields.proofs.Turns.{both-passed}

@@ -13,7 +13,6 @@ use Rattle.number.specs.Number.{Bytes}
 use Rattle.buffer.specs.Rows.{whole, written_over}
 use Rattle.record.specs.declared.tag.Tag.{Tag}
 use Rattle.record.specs.declared.array.NamedArray.{NamedArray}
-use Rattle.record.specs.declared.instruction.Instruction.{Instruction}
 use Rattle.record.specs.GraphRecords.{graph_of}
 use Rattle.record.specs.Arrays.{arrays_of}
 use Rattle.record.specs.TokensAndTags.{most_tokens, capacity_of, ledger_of}
@@ -31,22 +30,22 @@ use Rattle.rules.specs.declared.answer.Refusal.{Refusal}
 use Rattle.rules.specs.declared.answer.Refusal.TheVariants.{BadBound}
 use Rattle.rules.specs.declared.answer.Answer.{Answer}
 use Rattle.rules.specs.declared.answer.Checked.{Checked}
-use Rattle.rules.specs.declared.answer.Checked.TheVariants.{Passed, Failed}
-use Rattle.rules.specs.Check.{◌and_then◌, demand, check_graph, check_stores, check_arrays, check_inputs, most_cells}
+use Rattle.rules.specs.declared.answer.Checked.TheVariants.{Passed}
+use Rattle.rules.specs.Check.{demand, check_stores, check_arrays, most_cells}
 use Rattle.rules.specs.InstructionSet.{machine_of}
-use Rattle.rules.specs.Run.{token_record, cell_record, first_state, picks_of, Result, refused_at_once, ran_to, outcome_of, answer, ledger_after, cells_after}
-use Rattle.rules.specs.Runs.{LentToRun, LeftByRun, outcome_in}
+use Rattle.rules.specs.Run.{token_record, cell_record, first_state, picks_of, Result, ran_to, outcome_of, answer, ledger_after, cells_after}
+use Rattle.rules.specs.Runs.{outcome_in}
 use Rattle.rules.specs.Parts.{left_by}
 use Rattle.rules.specs.Held.{held_in}
 use Rattle.rules.specs.Saved.{state_taken}
-use Rattle.rules.specs.Bounded.{good_bound, and_bound, check_bounded, bounded, LeavesNoneHeld, BoundedOn}
+use Rattle.rules.specs.Bounded.{good_bound, and_bound, check_bounded, bounded, LeavesNoneHeld}
 use Rattle.rules.proofs.Passed.{demand_passed, and_then_passed}
 use Rattle.rules.proofs.Accepted.{whole_bytes, stores_whole, Accepted, accepted, by_check}
 use Rattle.rules.proofs.Saved.{Resumable, resumable_reached, resumable_start, resumed, taken_again}
 use Rattle.rules.proofs.Written.{Rooms, ledger_size, cells_size}
 use Rattle.rules.proofs.Outcomes.{outcome_back}
 use Rattle.activities.specs.declared.Tally.TheVariants.{Found}
-use Rattle.activities.specs.Counts.{held_of, enabled_in, held_back_in, count_lent_checked, counted, counts}
+use Rattle.activities.specs.Counts.{held_of, enabled_in, held_back_in, count_lent_checked, counts}
 use Rattle.activities.specs.Hangs.{held_left, TellsHang, WhichHang}
 use Rattle.activities.proofs.Counting.{both_ways, is_counted, lent_counts}
 

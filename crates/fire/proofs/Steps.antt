@@ -28,7 +28,7 @@ use Rattle.store.proofs.Laws.{matching_room, matching_ports, matching_raised}
 use Rattle.machine.specs.Machine.{Key, Machine, State, Effect, refuse, fired, not_fired, look, operands, commit}
 use Rattle.machine.specs.Orders.{Good, CellsBelow, ReadsForSome}
 use Rattle.rules.specs.declared.answer.Refusal.{Refusal}
-use Rattle.rules.specs.declared.answer.Refusal.TheVariants.{SecondToken, SecondWrite}
+use Rattle.rules.specs.declared.answer.Refusal.TheVariants.{SecondWrite}
 use Rattle.rules.specs.declared.answer.Checked.TheVariants.{Passed}
 use Rattle.rules.specs.Check.{operands_at, check_graph}
 use Rattle.rules.specs.InstructionSet.{arity_in, machine_of, effect_in}

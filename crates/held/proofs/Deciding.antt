@@ -7,7 +7,7 @@ use native.Mathlib.Omega.{arith}
 use lib.Dec.{eqb, leb, ltb}
 use lib.ListN.{length, get_or, set}
 use lib.Seq.{get_or-set_same, get_or-set_other}
-use borrow.Author.Tests.{eqb-true, eqb-false, ltb-true, ltb-false, lt-ltb}
+use borrow.Author.Tests.{eqb-true, eqb-false, ltb-true, ltb-false}
 use Rattle.record.specs.declared.tag.Tag.{Tag}
 use Rattle.record.specs.declared.token.Token.{Token}
 use Rattle.record.specs.declared.instruction.Instruction.{Instruction}
@@ -16,12 +16,12 @@ use lib.IntN.{ℤ}
 use Rattle.machine.specs.Machine as Rules
 use Rattle.rules.specs.Check.{instruction_at}
 use Rattle.rules.specs.Run.{token_held}
-use Rattle.store_flags.specs.Flags.{ones, place, places, places_from, Under, flags_of, Counted}
+use Rattle.store_flags.specs.Flags.{ones, place, places, places_from, Under}
 use Rattle.store_flags.specs.Marks.{bit}
 use Rattle.store_flags.proofs.Laws.{Binary, ones_places, place_places, place_one}
 use Rattle.abstraction.specs.Tables.{Arities}
 use Rattle.held.specs.Searching.{holds_by, HolderFrom, Skipped, MarkedPast}
-use Rattle.held.specs.Deciding.{held_by, ClearFrom, held_at, HeldDecided, is_next, is_late_next, Listed, Standing, AllStanding, LookedAt}
+use Rattle.held.specs.Deciding.{held_by, ClearFrom, held_at, is_next, is_late_next, Listed, Standing, AllStanding, LookedAt}
 use Rattle.held.proofs.Searching.{holds_old, any_by_first}
 use Rattle.held.proofs.Laws.{and_false_lem, other_free, early_free, next_held}
 

@@ -1,6 +1,6 @@
 -- What a firing does to the records, whatever it asked for: it keeps their tags, a proper token stays proper and a spent one spent (`went_later`); and the earliest token
 -- of an enabled activity is not spent (`flags_unspent`). Assumes nothing.
-use Prim.Native.Nat.{ℕ, zero, suc, ◌+◌, ◌/◌, ◌≤◌, ◌<◌}
+use Prim.Native.Nat.{ℕ, zero, suc, ◌+◌, ◌/◌, ◌<◌}
 use mathlib.Core.Path.{◌≡◌, refl, sym, ap, subst, ◌∙◌}
 use mathlib.Core.Bool.{Bool, true, false, ◌&&◌, cond}
 use mathlib.Core.Option.{Option, none, some}
@@ -10,7 +10,6 @@ use lib.Dec.{eqb}
 use lib.ListN.{length, get_or, length-map}
 use lib.IntN.{ℤ}
 use borrow.Author.Tests.{eqb-true, eqb-false}
-use Rattle.buffer.specs.Rows.{All}
 use Rattle.record.specs.declared.tag.Tag.{Tag}
 use Rattle.record.specs.declared.token.Token as Record
 use Rattle.record.specs.declared.token.Content as RecordContent
@@ -42,7 +41,6 @@ use Rattle.store.specs.Matching.{Matching}
 use Rattle.store.proofs.Laws.{matching_stored, matching_places, matching_leads}
 use Rattle.abstraction.specs.States.{no_token, OnPorts}
 use Rattle.abstraction.specs.Tables.{Arities}
-use Rattle.ending.specs.Endings.{proper_by}
 use Rattle.fire.specs.Running.{machine_over, state_in, Running, Went}
 use Rattle.held.specs.Deciding.{FlagsUnspent, Later}
 use Rattle.held.proofs.Deciding.{among}

@@ -1,28 +1,27 @@
 -- From firing to firing: what was kept is right of the records as they are then, and the new ones are listed. Assumes nothing.
 use Prim.Native.Nat.{ℕ, zero, suc, ◌+◌, ◌≤◌, ◌<◌}
-use mathlib.Core.Path.{◌≡◌, refl, sym, ap, subst, ◌∙◌}
+use mathlib.Core.Path.{◌≡◌, refl, sym, ap, ◌∙◌}
 use mathlib.Core.Bool.{Bool, true, false, not, ◌&&◌}
 use mathlib.Core.List.{List, [], ◌∷◌}
 use native.Mathlib.Omega.{arith}
 use lib.Dec.{eqb, leb, ltb}
-use lib.ListN.{length, get_or, set, replicate, length-replicate}
-use lib.Seq.{get_or-set_same, get_or-set_other}
+use lib.ListN.{get_or, set, replicate, length-replicate}
+use lib.Seq.{get_or-set_other}
 use borrow.Author.Tests.{eqb-true, eqb-false, ltb-true, ltb-false}
 use Rattle.record.specs.declared.tag.Path.{Path}
 use Rattle.record.specs.declared.tag.Tag.{Tag}
-use Rattle.record.specs.declared.token.Token.{Token}
 use Rattle.record.specs.declared.instruction.Instruction.{Instruction}
 use Rattle.record.specs.TokensAndTags.{token_at, is_spent_record}
 use Rattle.machine.specs.Machine.{on_option}
 use Rattle.rules.specs.Check.{instruction_at}
 use Rattle.rules.specs.Held.{stands_in}
-use Rattle.store_flags.specs.Flags.{Under, flags_of, Counted}
+use Rattle.store_flags.specs.Flags.{Under, flags_of}
 use Rattle.store_flags.specs.Marks.{bit}
 use Rattle.store_flags.proofs.Laws.{zero_at}
 use Rattle.store_flags.proofs.Words.{none_set, counted_none}
 use Rattle.ending.specs.Endings.{proper_by}
 use Rattle.held.specs.Searching.{holds_by, MarkedPast}
-use Rattle.held.specs.Deciding.{ClearFrom, is_next, is_late_next, Listed, NewListed, Dropped, spent_there, as_before, FlagsUnspent, Standing, AllStanding, Later, Carried, HeldKept}
+use Rattle.held.specs.Deciding.{ClearFrom, is_next, is_late_next, Listed, NewListed, Dropped, spent_there, as_before, FlagsUnspent, Standing, AllStanding, Later, Carried}
 
 set_zero : (l : List ℕ) (i : ℕ) → get_or (set l i 0) i 0 ≡ 0
 set_zero [] i = refl

@@ -16,7 +16,7 @@ use Rattle.record.specs.declared.instruction.Instruction.{Instruction}
 use Rattle.record.specs.TokensAndTags.{tokens, token_at, decode_token}
 use Rattle.record.specs.Widths.{token_width}
 use Rattle.buffer.proofs.Tables.{length_rows, get_d_rows}
-use Rattle.machine.specs.Machine.{Machine, Activity, enabled}
+use Rattle.machine.specs.Machine.{Machine, Activity}
 use Rattle.machine.specs.Bounded.{without_held, free_of}
 use Rattle.rules.specs.InstructionSet.{machine_of}
 use Rattle.rules.specs.Run.{token_held}

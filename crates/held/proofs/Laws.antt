@@ -5,11 +5,11 @@ use mathlib.Core.Bool.{Bool, true, false, ◌&&◌}
 use mathlib.Core.Option.{Option, none, some}
 use mathlib.Core.List.{List, [], ◌∷◌}
 use native.Mathlib.Omega.{arith}
-use lib.Dec.{eqb, leb, ltb}
+use lib.Dec.{eqb, leb}
 use lib.ListN.{length, get_or, set, drop}
 use lib.Seq.{get_or-drop, get_or-set_same, get_or-set_other, set-get_or}
 use lib.IntN.{ℤ}
-use borrow.Author.Tests.{eqb-true, eqb-false, leb-false, ltb-true, ltb-false, le-ltb, le-leb, lt-leb}
+use borrow.Author.Tests.{eqb-true, eqb-false, leb-false, le-leb, lt-leb}
 use Rattle.record.specs.declared.tag.Path.{Path}
 use Rattle.record.specs.declared.tag.Tag.{Tag}
 use Rattle.number.specs.Number.{byte_at, number32}
@@ -20,7 +20,6 @@ use Rattle.record.specs.declared.token.Token as Record
 use Rattle.machine.specs.Machine.{Token, State, Activity, on_option}
 use Rattle.rules.specs.Check.{any, instruction_at}
 use Rattle.rules.specs.Held.{stands_in, is_pending, holds_back, held_in}
-use Rattle.store_flags.specs.Flags.{flags_of}
 use Rattle.store_flags.specs.Marks.{bit}
 use Rattle.held.specs.Deciding.{held_by, ClearFrom, is_next, is_late_next, NewListed}
 

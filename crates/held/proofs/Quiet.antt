@@ -13,9 +13,8 @@ use Rattle.record.specs.TokensAndTags.{tokens, token_at, is_spent_record}
 use Rattle.rules.specs.Run.{token_held}
 use Rattle.store_flags.specs.Flags.{places, flags_of}
 use Rattle.store_flags.specs.Marks.{bit}
-use Rattle.store_flags.proofs.Laws.{Binary}
 use Rattle.abstraction.specs.Tables.{Arities}
-use Rattle.held.specs.Deciding.{held_by, held_at, is_next, is_late_next, FlagsUnspent, Standing, Carried, HeldKept, NoneNew, HeldStill, AllStill}
+use Rattle.held.specs.Deciding.{held_at, is_next, is_late_next, FlagsUnspent, Standing, Carried, HeldKept, NoneNew, HeldStill, AllStill}
 use Rattle.held.proofs.Searching.{still_holds, any_by_one}
 use Rattle.held.proofs.Laws.{next_held}
 use Rattle.held.proofs.Deciding.{among, listed_free}

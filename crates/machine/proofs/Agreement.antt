@@ -89,14 +89,15 @@ module _ (M : Machine) (arity : M.Tag → ℕ) (effect : M.Tag → M.Value → M
   commit_same s τ a (write c v keys) =
       ap (λ (f : Spending). if_present (cell_at s.cells c) (not_fired M.second_write) (admit M s (map (changed (λ k x. fill c v (f k x))) s.tokens) (set s.cells c (present v)) (live M.signal) keys)) (spend_same τ a)
 
-  fire_same : (s : StateOf M) (τ : M.Tag) → At τ → fire N s τ ≡ fire M s τ
+  -- whatever operands are found
+  fired_same : (s : StateOf M) (τ : M.Tag) → At τ → ((v w : M.Value) → effect τ v w ≡ M.effect τ v w) → fire N s τ ≡ fire M s τ
   unfolding fire
-  fire_same s τ a = rw a.arities (go (operands M (look M s) τ))
+  fired_same s τ a h = rw a.arities (go (operands M (look M s) τ))
     where
       go : (q : Option (Operands M.Value)) → on_option q (not_fired M.second_token) (λ p. commit N s τ (effect τ p.left p.right))
           ≡ on_option q (not_fired M.second_token) (λ p. commit M s τ (M.effect τ p.left p.right))
       go none = refl
-      go (some p) = rw (a.effects p.left p.right) (commit_same s τ a (M.effect τ p.left p.right))
+      go (some p) = rw (h p.left p.right) (commit_same s τ a (M.effect τ p.left p.right))
 
   -- ---- a run
 
@@ -118,6 +119,9 @@ module _ (M : Machine) (arity : M.Tag → ℕ) (effect : M.Tag → M.Value → M
   pub same_run : Lawful M → SameRun M arity effect
   same_run law c ok s g b ps f a = (with b ps f s g a).1
     where
+      fire_same : (s : StateOf M) (τ : M.Tag) → At τ → fire N s τ ≡ fire M s τ
+      fire_same s τ a = fired_same s τ a a.effects
+
       -- the run agrees from its start on: a token stays where it is
       with : (b : ℕ) (ps : List ℕ) (f : ℕ) (s : StateOf M) → Good M s → AgreeOn M arity effect (run_by M c b ps f s).state → AgreeOn M arity effect s × (run_by N c b ps f s ≡ run_by M c b ps f s)
       with = along M c (λ b ps f s e. Good M s → AgreeOn M arity effect e.state → AgreeOn M arity effect s × (run_by N c b ps f s ≡ e)) (record {

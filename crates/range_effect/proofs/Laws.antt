@@ -21,7 +21,7 @@ use Rattle.record.specs.GraphRecords.{operation_of, graph_of, destinations}
 use Rattle.record.specs.GraphRecords as Graph
 use Rattle.arithmetic.specs.declared.Range.{Range}
 use Rattle.arithmetic.specs.Ranges.{single, is_single, range_of}
-use Rattle.machine.specs.Machine.{Key, refuse}
+use Rattle.machine.specs.Machine.{refuse}
 use Rattle.machine.specs.Orders.{CellsBelow, ReadsForSome}
 use Rattle.rules.specs.declared.answer.Refusal.TheVariants as Refusals
 use Rattle.rules.specs.declared.answer.Checked.TheVariants.{Passed}
@@ -33,7 +33,6 @@ use Rattle.rules.proofs.Passed.{both}
 use Rattle.rules.proofs.PassedGraph.{of_graph}
 use Rattle.rules.proofs.Lawful.{lawful}
 use Rattle.fire_effect.specs.declared.operate.Operated.{Operated}
-use Rattle.fire_effect.specs.declared.operate.Operated.TheVariants.{Refuse}
 use Rattle.fire_effect.specs.Effects.{Arrives, AllSent, operated_of, new_tags_of, then_tags}
 use Rattle.fire_effect.proofs.Arrives.{all_arrive}
 use Rattle.fire_effect.proofs.Parted.{parted}

@@ -1,7 +1,7 @@
 -- A firing over handles, from matching to output: the operation is refused (`refused_first_lem`), or the new tags are (`refused_second`), or what the step asks for
 -- is committed (`committed`). The commit is that of `fire`, whatever was asked for. Assumes nothing.
-use Prim.Native.Nat.{ℕ, ◌/◌, ◌≤◌, ◌<◌}
-use mathlib.Core.Path.{◌≡◌, refl, sym, ap, subst, ◌∙◌}
+use Prim.Native.Nat.{ℕ, ◌/◌, ◌<◌}
+use mathlib.Core.Path.{◌≡◌, sym, ap, subst, ◌∙◌}
 use mathlib.Core.List.{List, ◌++◌}
 use lib.ListN.{length}
 use lib.IntN.{ℤ}

@@ -54,6 +54,7 @@ pub mod HeldAfter
 pub mod Bounded
 pub mod BoundedCases
 pub mod RangeSet
+pub mod RangeEffects
 pub mod Ranges
 pub mod RangeHandles
 pub mod Singles

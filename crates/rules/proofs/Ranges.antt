@@ -52,7 +52,8 @@ use Rattle.rules.specs.RangeRun.{range_in, with_high, decode_range, range_capaci
 use Rattle.rules.specs.Ranges.{ChosenFrom, ChosenInputs, AsManyRecords, Promised, RangesPromise, SameEnds, AnyTwoRangeOrders}
 use Rattle.rules.proofs.Passed.{both, demand_passed, and_then_passed}
 use Rattle.rules.proofs.Inputs.{inputs_distinct}
-use Rattle.rules.proofs.RangeSet.{effects_related, held_same, ranges_lawful, OfRanges}
+use Rattle.rules.proofs.RangeSet.{held_same, ranges_lawful, OfRanges}
+use Rattle.rules.proofs.RangeEffects.{effects_related}
 
 -- ---- the claims
 

@@ -1,5 +1,5 @@
 -- The three passes ask what 02 lists: a saved state passes them exactly if it is taken (`passes_taken`, `taken_passes`). Assumes nothing.
-use Prim.Native.Nat.{ℕ, zero, suc, ◌+◌, ◌-◌, ◌*◌, ◌/◌, ◌≤◌, ◌<◌}
+use Prim.Native.Nat.{ℕ, zero, suc, ◌-◌, ◌*◌, ◌/◌, ◌≤◌, ◌<◌}
 use mathlib.Core.Path.{◌≡◌, refl, sym, ap, ◌∙◌, subst}
 use mathlib.Core.Bool.{Bool, true, false, not, ◌&&◌, ◌||◌, cond}
 use mathlib.Core.Option.{none, some}
@@ -28,7 +28,7 @@ use Rattle.record.specs.TokensAndTags.{tokens, token_at, stands_at, capacity_of,
 use Rattle.record.specs.Calls.{most_levels}
 use Rattle.record.specs.Cells as Cells
 use Rattle.record.specs.Widths.{token_width, cell_width}
-use Rattle.machine.specs.Machine.{Key, Content, spent, Token, Cell, Machine, when, cell_at, at, find, same_key, is_operand_of}
+use Rattle.machine.specs.Machine.{Key, Content, Token, Machine, when, cell_at, at, find, same_key, is_operand_of}
 use Rattle.machine.specs.Orders.{Distinct}
 use Rattle.machine.specs.Sequences.{is_spent_there, is_spent_first, spent_tags}
 use Rattle.machine.specs.Sequences as Sequences

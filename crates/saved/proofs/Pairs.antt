@@ -6,7 +6,6 @@ use mathlib.Core.Bool.{Bool, true, false, not, ◌&&◌, ◌||◌, cond}
 use native.Mathlib.Omega.{arith}
 use native.Mathlib.Decide.{ℕ_discrete}
 use Rattle.machine.proofs.View.{false_true}
-use Rattle.rules.proofs.Passed.{both}
 use Rattle.saved.specs.Passes.{count_up_to}
 
 -- ---- counts

@@ -1,0 +1,15 @@
+-- `saved::port_allowed` meets its contract. Assumes nothing.
+use Rattle.record.specs.GraphRecords.{graph_of}
+use Rattle.saved.proofs.Laws.{operands_of_lem}
+use Rattle.saved.proofs.port_allowed.Goals as goal
+
+pub operands_at-requires : goal.operands_at-requires
+operands_at-requires c = c.counts-counts.ensures
+
+pub returns-then-operands-eq0 : goal.returns-then-operands-eq0
+returns-then-operands-eq0 c = rw c.operands_at.ensures
+
+pub returns : goal.returns
+returns c =
+    let x = c.args in
+    rw (c.wide16.ensures, operands_of_lem (graph_of x.graph.now) x.tables.now c.requires x.t.tag (rw c.arity-operands.ensures at c.if-operands-eq0.false), c.arity-operands.ensures)
