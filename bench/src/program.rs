@@ -93,7 +93,7 @@ fn second_job(work: &Work) -> Vec<u8> {
 fn program() -> PathBuf {
     match std::env::var_os("TTDA") {
         Some(program) => program.into(),
-        None => Path::new(env!("CARGO_MANIFEST_DIR")).join("../target/bin/ttda"),
+        None => Path::new(env!("CARGO_MANIFEST_DIR")).join("../crates/ttda/out/ttda"),
     }
 }
 
