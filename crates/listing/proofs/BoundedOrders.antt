@@ -1,23 +1,22 @@
 -- R-9 in bytes, proved: a run with a bound that completes, or hangs with no held activity left, ends as every order does, in every byte that demand 3 compares. Assumes nothing.
-use Prim.Native.Nat.{ℕ, ◌/◌, ◌≤◌}
+use Prim.Native.Nat.{ℕ, ◌/◌}
 use mathlib.Core.Path.{◌≡◌, refl, sym, ap, subst, ◌∙◌}
 use mathlib.Core.List.{List}
 use native.Mathlib.Omega.{arith}
 use lib.ListN.{length}
 use Rattle.number.specs.Number.{Bytes}
 use Rattle.record.specs.TokensAndTags.{most_tokens, capacity_of}
-use Rattle.record.specs.GraphRecords.{graph_of}
 use Rattle.record.specs.Widths.{token_width, cell_width}
 use Rattle.machine.specs.Orders.{Quiescent, Refused}
 use Rattle.rules.specs.declared.answer.Answer.{Answer}
 use Rattle.rules.specs.declared.answer.Checked.{Checked}
 use Rattle.rules.specs.declared.answer.Checked.TheVariants.{Passed, Failed}
-use Rattle.rules.specs.Check.{◌and_then◌, check_graph, check_stores, check_arrays, check_inputs, most_cells}
+use Rattle.rules.specs.Check.{check_graph, check_stores, most_cells}
 use Rattle.rules.specs.Run.{Result, Ran, result, unless_failed}
 use Rattle.rules.specs.Log.{LogResult, LogRan}
-use Rattle.rules.specs.Runs.{LentToRun, LeftByRun, RanOn, LentToLogged, LeftByLogged, outcome_in}
+use Rattle.rules.specs.Runs.{LentToRun, LeftByRun, RanOn, outcome_in}
 use Rattle.rules.specs.Orders as Rules
-use Rattle.rules.specs.Bounded.{and_bound, check_bounded, bounded, LeavesNoneHeld, BoundedEndsAs, BoundedOn}
+use Rattle.rules.specs.Bounded.{and_bound, check_bounded, bounded, BoundedEndsAs, BoundedOn}
 use Rattle.rules.proofs.Passed.{and_then_passed}
 use Rattle.rules.proofs.Accepted.{whole_bytes, Whole, stores_whole}
 use Rattle.rules.proofs.Fits.{result_fits}

@@ -37,10 +37,10 @@ use Rattle.rules.proofs.Budgets.{any_two_budgets}
 use Rattle.rules.proofs.Logged.{logged_runs_on}
 use Rattle.rules.specs.Fits.{CellCount, AllFit}
 use Rattle.rules.proofs.Fits.{result_fits}
-use Rattle.listing.specs.Listing.{records, list_answer}
+use Rattle.listing.specs.Listing.{records}
 use Rattle.listing.specs.Sorted.{Pairwise}
 use Rattle.rules.specs.Runs.{LentToRun, LeftByRun, RanOn, LentToLogged, LeftByLogged, LoggedOn, lent_beside_log, left_beside_log, outcome_in}
-use Rattle.listing.specs.Demand3.{NotForOthers, used_bytes, AlikeBytes, BytesAgree, Demand3, AnyTwoBudgets, Demand3Logged}
+use Rattle.listing.specs.Demand3.{used_bytes, AlikeBytes, BytesAgree, Demand3, AnyTwoBudgets, Demand3Logged}
 use Rattle.listing.proofs.Lists.{all_of}
 use Rattle.listing.proofs.Laws.{records_joined}
 use Rattle.listing.proofs.AnyTwoOrders.{places_differ, records_differ, used_records, length_tokens, list_orders}
