@@ -1,7 +1,7 @@
 -- 02, R-9: a choice among the activities that are not held back; what is known of them from firing to firing; and how a run with a bound is settled. Assumes nothing.
 use Prim.Native.Nat.{ℕ, zero, suc, ◌+◌, ◌-◌, ◌/◌, ◌%◌, ◌≤◌, ◌<◌}
 use mathlib.Core.Path.{◌≡◌, refl, sym, ap, subst, ◌∙◌}
-use mathlib.Core.Bool.{Bool, true, false, ◌&&◌}
+use mathlib.Core.Bool.{◌&&◌}
 use mathlib.Core.List.{List, [], ◌∷◌, map}
 use native.Mathlib.Omega.{arith}
 use native.Mathlib.Nat.{mod-lt}
@@ -14,7 +14,7 @@ use Rattle.record.specs.declared.token.Token as Record
 use Rattle.record.specs.declared.cell.Cell.{Cell}
 use Rattle.record.specs.declared.instruction.Instruction.{Instruction}
 use Rattle.record.specs.GraphRecords.{graph_of}
-use Rattle.record.specs.TokensAndTags.{tokens, token_at}
+use Rattle.record.specs.TokensAndTags.{tokens}
 use Rattle.record.specs.Widths.{token_width, cell_width}
 use Rattle.buffer.proofs.Tables.{tail_part}
 use Rattle.machine.specs.Machine.{Machine, StateOf, Effect, Activity, Outcome, End, on_list, ending, pick_of, by_picks, end}
@@ -25,7 +25,7 @@ use Rattle.rules.specs.declared.answer.Refusal.{Refusal}
 use Rattle.rules.specs.declared.answer.Outcome as AnswerOutcome
 use Rattle.rules.specs.declared.answer.Answer.{Answer}
 use Rattle.rules.specs.InstructionSet.{machine_of}
-use Rattle.rules.specs.Run.{picks_of, outcome_of}
+use Rattle.rules.specs.Run.{outcome_of}
 use Rattle.rules.specs.Held.{held_in}
 use Rattle.rules.proofs.Lawful.{lawful}
 use Rattle.store_flags.specs.Flags.{places, places_from, minus, flags_of}

@@ -29,7 +29,7 @@ use Rattle.store_enabled.specs.Enabled.{operands_live, is_enabled, tag_same, ear
 use Rattle.store_enabled.specs.Store.{enabled_at}
 use Rattle.store_enabled.proofs.Right.{tag_equal}
 use Rattle.store.specs.Matching.{Matching}
-use Rattle.store.proofs.Laws.{matching_counted, matching_places, matching_enabled_below, matching_leads}
+use Rattle.store.proofs.Laws.{matching_places, matching_enabled_below, matching_leads}
 use Rattle.machine.specs.Machine.{Machine, StateOf, Activity, on_list, look, ending, enabled, pick_of, by_picks}
 use Rattle.machine.specs.Machine as Machines
 use Rattle.machine.specs.Replay.{with_tag, named_in}

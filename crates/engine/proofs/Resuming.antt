@@ -31,7 +31,6 @@ use Rattle.rules.specs.Bounded.{and_bound, check_bound_saved, bound_carried, Bou
 use Rattle.check_fields.proofs.Turns.{both-passed}
 use Rattle.checks.proofs.Passed.{passed_stores, passed_arrays}
 use Rattle.abstraction.specs.Tables.{arrays_in}
-use Rattle.fire.specs.Running.{state_in}
 use Rattle.start.specs.Ended.{EndedAt}
 use Rattle.engine.specs.Turns.{end_bounded}
 use Rattle.engine.specs.Resumed.{resume_lent_checked, LentToResume, resumed}

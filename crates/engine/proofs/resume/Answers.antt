@@ -1,0 +1,39 @@
+-- `engine::resume` meets its contract: a state that is not taken is refused, and from one that is the loop goes on. Assumes nothing.
+use mathlib.Core.Path.{refl, sym, ◌∙◌}
+use native.Mathlib.Omega.{arith}
+use Rattle.fire.specs.Running.{Prepared}
+use Rattle.engine.proofs.Resuming.{own_few, goes_on_lem, refuses}
+use Rattle.engine.proofs.resume.Goals as goal
+use Rattle.engine.proofs.resume.Goals.{After-make}
+
+pub make-requires : goal.make-requires
+make-requires c = let p = c.requires.0 in (p.graph_passed, p.few_arrays)
+
+pub take-requires : goal.take-requires
+take-requires c =
+    let prepared : Prepared c.args.graph.now c.make.new.out = record { passed = c.requires.0.graph_passed; returns_right = c.make.ensures.returns; arities_right = c.make.ensures.arities } in
+    (prepared, c.requires.0.few, c.requires.0.cell_records.0, c.requires.0.cell_records.1, refl, refl)
+
+pub returns-then-not-take : goal.returns-then-not-take
+returns-then-not-take c =
+    let a = c.args in
+    refuses a.graph.now a.arrays.now a.picks.now a.ledger.now a.cells.now a.budget a.bound a.firings a.used
+    (sym (c.if-not-take.true) ∙ c.take.ensures.value) _ _ c.refused.ensures refl
+
+pub go_on-own-requires : goal.go_on-own-requires
+go_on-own-requires c =
+    let prepared : Prepared c.args.graph.now c.make.new.out = record { passed = c.requires.0.graph_passed; returns_right = c.make.ensures.returns; arities_right = c.make.ensures.arities } in
+    (prepared, c.take.ensures.running (c.if-not-take.false), c.requires.3)
+
+pub overflow_add-firings : goal.overflow_add-firings
+overflow_add-firings c =
+    let p = c.go_on-own in
+    let a = c.args in
+    omega (arith, own_few a.graph.now a.arrays.now a.picks.now a.ledger.now a.cells.now a.budget a.bound a.firings a.used _ c.make.ensures.named _ _ _ p.ensures.ended_at, c.requires.1, c.requires.2)
+
+pub returns : goal.returns
+returns c =
+    let p = c.go_on-own in
+    let a = c.args in
+    goes_on_lem a.graph.now a.arrays.now a.picks.now a.ledger.now a.cells.now a.budget a.bound a.firings a.used _ c.make.ensures.named
+    (sym (c.if-not-take.false) ∙ c.take.ensures.value) p.result _ _ _ p.ensures.ended_at c.answered.ensures
