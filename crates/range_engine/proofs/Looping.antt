@@ -1,7 +1,7 @@
 -- The loop of a range run over handles: what holds of ledger, cells and table after so many firings, and that a turn, the chooser's end, a refusal and a spent budget end it
 -- as the machine's run over handles ends. What holds of ledger and cells whatever was fired is the engine's (`Underway`). Assumes nothing.
-use Prim.Native.Nat.{ℕ, suc, ◌+◌, ◌-◌, ◌*◌, ◌/◌, ◌≤◌, ◌<◌}
-use mathlib.Core.Path.{◌≡◌, refl, sym, ap, ◌∙◌, subst}
+use Prim.Native.Nat.{ℕ, suc, ◌+◌, ◌-◌, ◌/◌, ◌≤◌, ◌<◌}
+use mathlib.Core.Path.{◌≡◌, refl, sym, ap, ◌∙◌}
 use mathlib.Core.List.{List, [], ◌++◌, append-nil}
 use native.Mathlib.Omega.{arith}
 use native.Mathlib.Numerals.{add-one}
@@ -14,14 +14,14 @@ use Rattle.record.specs.TokensAndTags.{tokens, token_at}
 use Rattle.record.specs.Widths.{token_width, cell_width}
 use Rattle.buffer.proofs.Tables.{length_rows}
 use Rattle.arithmetic.specs.declared.Range.{Range}
-use Rattle.machine.specs.Machine.{Machine, State, Activity, Outcome, End, fired, not_fired, refused, commit, end}
-use Rattle.machine.specs.Choosers.{Chosen, takes, ends, Chooser, rests_at}
+use Rattle.machine.specs.Machine.{Machine, State, Activity, Outcome, commit, end}
+use Rattle.machine.specs.Choosers.{Chosen, takes, ends}
 use Rattle.machine.specs.Handles.{Tabled, fire_on, run_on}
 use Rattle.machine.specs.Handles as Handles
 use Rattle.machine.proofs.Handles.{on_zero, on_ends, on_fired, on_refused, StepsRelated}
 use Rattle.rules.specs.declared.answer.Refusal.{Refusal}
 use Rattle.rules.specs.declared.answer.Outcome as AnswerOutcome
-use Rattle.rules.specs.InstructionSet.{effect_in, machine_of}
+use Rattle.rules.specs.InstructionSet.{effect_in}
 use Rattle.rules.specs.RangeSet.{range_machine_of}
 use Rattle.rules.specs.RangeHandles.{StepHere, step_in}
 use Rattle.rules.proofs.RangeHandles.{steps_related}
@@ -38,7 +38,6 @@ use Rattle.engine.proofs.Looping.{Underway, none_fired, as_lent, went_on, ends_h
 use Rattle.range_table.specs.Table.{pair_width, pair_in, table_of}
 use Rattle.range_fire.specs.declared.Tried.{Tried}
 use Rattle.range_fire.specs.Tried.{RoomForOne, step_at, TriedAs}
-use Rattle.range_engine.specs.declared.turns.Ran.{Ran}
 use Rattle.range_engine.specs.Over.{added_by, TakenAs, Room, end_over, RanOver}
 use Rattle.range_engine.proofs.Stepping.{fires_step, step_below, step_one, went_few}
 

@@ -2,11 +2,11 @@
 -- cells of the store (`step_below`), and adds one range at most (`step_one`), and none that no output takes (`went_few`). Assumes nothing.
 use Prim.Native.Nat.{ℕ, ◌+◌, ◌/◌, ◌≤◌, zero-le}
 use mathlib.Core.Path.{◌≡◌, refl, sym, ap, ◌∙◌}
-use mathlib.Core.List.{List, [], ◌∷◌, ◌++◌, map, append-nil}
+use mathlib.Core.List.{List, [], ◌++◌, map, append-nil}
 use mathlib.Core.Option.{Option, none, some}
 use native.Mathlib.Omega.{arith}
 use lib.ListN.{length, length-append, length-map}
-use lib.IntN.{ℤ, pos}
+use lib.IntN.{ℤ}
 use Rattle.record.specs.declared.array.NamedArray.{NamedArray}
 use Rattle.record.specs.declared.tag.Tag.{Tag}
 use Rattle.record.specs.declared.instruction.Instruction.{Instruction}
@@ -19,23 +19,22 @@ use Rattle.record.specs.Widths.{token_width, cell_width}
 use Rattle.buffer.proofs.Tables.{length_rows}
 use Rattle.arithmetic.specs.declared.Range.{Range}
 use Rattle.arithmetic.specs.Ranges.{single, range_of}
-use Rattle.machine.specs.Machine.{Key, Token, Machine, StateOf, EffectOf, Effect, Operands, refuse, fired, output, changed, on_option, look, operands, commit}
+use Rattle.machine.specs.Machine.{Key, Machine, StateOf, EffectOf, Effect, Operands, refuse, fired, output, changed, on_option, look, operands, commit}
 use Rattle.machine.specs.Orders.{CellsBelow, Distinct, effect_keys}
 use Rattle.machine.specs.InStep.{Over}
 use Rattle.machine.specs.Handles.{Step, Tried, fire_on, try_step}
 use Rattle.machine.proofs.View.{DeltaOf, delta_of, change}
-use Rattle.machine.proofs.Store.{After, Answer, commit_result}
+use Rattle.machine.proofs.Store.{Answer, commit_result}
 use Rattle.machine.proofs.Reached.{keys_known}
-use Rattle.rules.specs.declared.answer.Refusal.{Refusal}
 use Rattle.rules.specs.declared.answer.Refusal.TheVariants.{SecondToken}
 use Rattle.rules.specs.declared.answer.Checked.TheVariants.{Passed}
 use Rattle.rules.specs.Check.{instruction_at, check_graph}
-use Rattle.rules.specs.InstructionSet.{all_under, machine_of}
+use Rattle.rules.specs.InstructionSet.{all_under}
 use Rattle.rules.specs.Run.{token_held}
 use Rattle.rules.specs.RangeHandles.{StepHere, as_is, meaning, send_new, range_step, step_in}
 use Rattle.rules.proofs.RangeHandles.{steps_add_few}
 use Rattle.abstraction.specs.Tables.{arrays_in}
-use Rattle.fire.specs.Running.{machine_over, state_in, Running, Went, Prepared}
+use Rattle.fire.specs.Running.{machine_over, state_in, Running, Went}
 use Rattle.range_effect.proofs.Laws.{asked_fine}
 use Rattle.range_fire.specs.Tried.{step_at}
 

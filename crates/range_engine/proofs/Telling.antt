@@ -1,17 +1,15 @@
 -- What a run over handles tells of the range run of every state for which its own stands: without a bound (`told_plain`) and with one (`told_bounded`). Assumes nothing.
-use Prim.Native.Nat.{ℕ, ◌+◌, ◌/◌, ◌≤◌}
-use mathlib.Core.Path.{◌≡◌, refl, sym, ap, subst, ◌∙◌, fun_ext}
-use mathlib.Core.List.{List, []}
-use native.Mathlib.Omega.{arith}
-use lib.ListN.{length}
+use Prim.Native.Nat.{ℕ, ◌+◌}
+use mathlib.Core.Path.{◌≡◌, sym, ap, ◌∙◌, fun_ext}
+use mathlib.Core.List.{List}
 use lib.IntN.{ℤ, pos, nat_abs}
 use Rattle.record.specs.declared.array.NamedArray.{NamedArray}
 use Rattle.record.specs.declared.tag.Tag.{Tag}
 use Rattle.record.specs.declared.instruction.Instruction.{Instruction}
 use Rattle.arithmetic.specs.declared.Range.{Range}
 use Rattle.arithmetic.specs.Ranges.{single}
-use Rattle.machine.specs.Machine.{Machine, State, Outcome, End, by_picks, ending, on_list, enabled}
-use Rattle.machine.specs.Bounded.{without_held, free_of, by_free, outcome_held, settled, run_bounded}
+use Rattle.machine.specs.Machine.{Machine, State, End, by_picks, ending, on_list}
+use Rattle.machine.specs.Bounded.{free_of, by_free, settled, run_bounded}
 use Rattle.machine.specs.Choosers.{Chooser, run_from, by_pick}
 use Rattle.machine.specs.InStep.{RelatedState, RelatedEnds}
 use Rattle.machine.specs.Handles.{StandsAt, state_by, Tabled, run_on}

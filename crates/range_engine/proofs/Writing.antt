@@ -5,26 +5,23 @@ use mathlib.Core.Path.{◌≡◌, refl, sym, ap, subst, ◌∙◌}
 use mathlib.Core.List.{List, [], ◌∷◌, ◌++◌, map, append-nil}
 use native.Mathlib.Omega.{arith}
 use native.Mathlib.Nat.{mul-div_cancel, sub-zero}
-use lib.ListN.{length, take, drop, replicate, length-map, length-replicate, drop_of_length-le}
+use lib.ListN.{length, take, replicate, length-map, length-replicate, drop_of_length-le}
 use lib.Seq.{length-take-le}
-use lib.IntN.{ℤ, pos, nat_abs}
+use lib.IntN.{ℤ, nat_abs}
 use lib.Dec.{eqb}
 use mathlib.Core.Bool.{true}
 use borrow.Author.Tests.{leb-true}
 use Rattle.record.specs.declared.array.NamedArray.{NamedArray}
 use Rattle.record.specs.declared.tag.Tag.{Tag}
-use Rattle.record.specs.declared.token.Token as Record
-use Rattle.record.specs.declared.cell.Cell as RecordCell
 use Rattle.record.specs.declared.instruction.Instruction.{Instruction}
 use Rattle.record.specs.GraphRecords.{graph_of}
-use Rattle.record.specs.Arrays.{most_arrays, arrays_of}
+use Rattle.record.specs.Arrays.{arrays_of}
 use Rattle.record.specs.TokensAndTags.{tokens, most_tokens, capacity_of}
 use Rattle.record.specs.TokensAndTags as Tokens
 use Rattle.record.specs.Widths.{token_width, cell_width, pick_width, range_token_width, range_cell_width}
 use Rattle.buffer.specs.Rows.{whole, written_over, all_rows}
 use Rattle.buffer.proofs.Tables.{length_rows}
 use Rattle.arithmetic.specs.declared.Range.{Range}
-use Rattle.arithmetic.specs.Ranges.{single}
 use Rattle.machine.specs.Machine.{Machine, State, StateOf, End, Activity, Token, Cell, on_list, end, ending, completed, budget_spent, enabled}
 use Rattle.machine.specs.Choosers.{ends, rests_at, run_from}
 use Rattle.machine.specs.InStep.{RelatedState}
@@ -37,7 +34,7 @@ use Rattle.rules.specs.declared.answer.Refusal.TheVariants.{BadInput}
 use Rattle.rules.specs.Check.{demand, ◌and_then◌, in_turn, check_graph, check_arrays, good_input, check_inputs, most_cells}
 use Rattle.rules.specs.Bounded.{and_bound}
 use Rattle.rules.specs.InstructionSet.{machine_of}
-use Rattle.rules.specs.Run.{picks_of, token_held, cell_held, outcome_of, first_state}
+use Rattle.rules.specs.Run.{picks_of, token_held, cell_held, first_state}
 use Rattle.rules.specs.RangeSet.{range_machine_of}
 use Rattle.rules.specs.RangeRun.{encode_range, encode_range_cell, range_capacity_of, check_range_stores, check_range_inputs, check_ranges, first_ranges, refused_at_once, ranges_unless_failed, range_result}
 use Rattle.rules.specs.RangeHandles.{meaning, first_table, first_handles, handle_run}

@@ -6,9 +6,8 @@ use mathlib.Core.Logic.{◌⊎◌, inl, inr}
 use mathlib.Core.Option.{some}
 use mathlib.Core.List.Memᴰ
 use mathlib.Core.List.Permᴰ
-use mathlib.Core.List.{List, [], ◌∷◌, ◌++◌, map, append-nil, Memᴰ, Permᴰ}
+use mathlib.Core.List.{List, [], ◌∷◌, ◌++◌, map, Memᴰ}
 use native.Mathlib.Nat.{zero-add}
-use native.Mathlib.Omega.{arith}
 use lib.ListN.{length, take, drop}
 use Rattle.number.specs.Number.{Bytes}
 use Rattle.buffer.specs.Rows.{rows, joined, All}
@@ -29,9 +28,9 @@ use Rattle.rules.specs.declared.answer.Checked.{Checked}
 use Rattle.rules.specs.declared.answer.Checked.TheVariants.{Passed, Failed}
 use Rattle.rules.specs.Check.{most_cells}
 use Rattle.rules.specs.InstructionSet.{machine_of}
-use Rattle.rules.specs.Run.{Result, refused_at_once, ran_to, answer, first_state, picks_of, Ran}
+use Rattle.rules.specs.Run.{Result, refused_at_once, ran_to, answer, first_state, picks_of}
 use Rattle.rules.specs.Orders.{result_outcome}
-use Rattle.rules.specs.Log.{LogResult, check_logged, log_unless_failed, logged, log_after, names_in, replayed, NotBy7, InFiring}
+use Rattle.rules.specs.Log.{LogResult, check_logged, log_unless_failed, logged, log_after, names_in, NotBy7, InFiring}
 use Rattle.rules.proofs.Accepted.{whole_bytes}
 use Rattle.record.proofs.LogRecords.{TagFits}
 use Rattle.rules.proofs.Log.{names_back, log_passed}
@@ -41,7 +40,7 @@ use Rattle.rules.proofs.Replay.{tags_fit}
 use Rattle.rules.proofs.Outcomes.{outcome_back, outcome_said}
 use Rattle.rules.specs.Runs.{LentToLogged, LeftByLogged, LoggedOn, ReplayedOn, outcome_in}
 use Rattle.rules.proofs.Logged.{refused_holds}
-use Rattle.replay.specs.Claims.{log_in, records_in, RefusedInFiring, Again, LogReplays, LogsAgree}
+use Rattle.replay.specs.Claims.{log_in, records_in, RefusedInFiring, LogReplays, LogsAgree}
 
 -- ---- how a run ended, by its answer
 

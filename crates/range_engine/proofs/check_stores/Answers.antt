@@ -1,0 +1,11 @@
+-- `range_engine::check_stores` meets its contract. Assumes nothing.
+use Rattle.rules.specs.RangeRun.{check_range_stores}
+use Rattle.range_engine.proofs.check_stores.Goals as goal
+
+pub returns-then-all_whole : goal.returns-then-all_whole
+unfolding check_range_stores
+returns-then-all_whole c = rw (← c.all_whole.ensures, c.if-all_whole.true)
+
+pub returns-else-all_whole : goal.returns-else-all_whole
+unfolding check_range_stores
+returns-else-all_whole c = rw (← c.all_whole.ensures, c.if-all_whole.false)
