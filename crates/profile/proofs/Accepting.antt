@@ -29,7 +29,6 @@ use Rattle.rules.proofs.Accepted.{whole_bytes, law, begins, good}
 use Rattle.rules.proofs.Accepted as Rules
 use Rattle.rules.proofs.Profile.{wholes}
 use Rattle.checks.proofs.Passed.{passed_arrays}
-use Rattle.fire.specs.Running.{machine_over, state_in}
 use Rattle.start.specs.Begun.{machine_lent, Accepted, Begun}
 use Rattle.start.proofs.Starting.{from_start, as_lent}
 use Rattle.profile.specs.Steps.{unspent_at, profile_from, ProfiledTo}

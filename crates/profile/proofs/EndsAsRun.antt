@@ -1,6 +1,6 @@
 -- R-1 in bytes, proved: a profile that is not refused ends as every run does, in every byte that demand 3 compares, and its records tell its firings. From the
 -- claim over the rules (`as_every_order`), and from what it takes to read a record back: no step has more firings than 16 bits tell. Assumes nothing.
-use Prim.Native.Nat.{ℕ, ◌+◌, ◌*◌, ◌/◌, ◌%◌, ◌≤◌, ◌<◌}
+use Prim.Native.Nat.{ℕ, ◌+◌, ◌*◌, ◌/◌, ◌%◌, ◌<◌}
 use mathlib.Core.Path.{◌≡◌, refl, sym, ap, ◌∙◌, subst}
 use mathlib.Core.List.Permᴰ
 use mathlib.Core.List.{List, [], ◌∷◌, ◌++◌, map}
@@ -8,8 +8,8 @@ use native.Mathlib.Omega.{arith}
 use lib.ListN.{length, length-map}
 use Rattle.number.specs.Number.{Bytes, number16}
 use Rattle.buffer.specs.Rows.{rows, All, joined}
-use Rattle.record.specs.TokensAndTags.{TokenFits, most_tokens, capacity_of}
-use Rattle.record.specs.Widths.{token_width, cell_width, step_width}
+use Rattle.record.specs.TokensAndTags.{TokenFits, capacity_of}
+use Rattle.record.specs.Widths.{cell_width, step_width}
 use Rattle.machine.specs.Orders.{Quiescent, Refused}
 use Rattle.machine.specs.Steps.{StepRecord, firings_in, EachFires}
 use Rattle.rules.specs.declared.answer.Profiled.{Profiled}

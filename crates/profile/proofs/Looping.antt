@@ -16,14 +16,13 @@ use Rattle.record.specs.Widths.{token_width, cell_width, step_width}
 use Rattle.buffer.specs.Rows.{put_row}
 use Rattle.buffer.specs.Rows as Rows
 use Rattle.buffer.proofs.Tables.{length_joined, put_end}
-use Rattle.machine.specs.Machine.{Machine, State, Outcome, end}
+use Rattle.machine.specs.Machine.{Machine, Outcome, end}
 use Rattle.machine.specs.Sequences.{Fires}
 use Rattle.machine.specs.Steps.{StepRecord, Profile, ends_here, after_step, profile}
 use Rattle.machine.proofs.Sequences.{joined, no_longer}
 use Rattle.rules.specs.declared.answer.Refusal.{Refusal}
 use Rattle.rules.specs.declared.answer.Refusal.TheVariants.{ProfileFull}
 use Rattle.rules.specs.declared.answer.Outcome as AnswerOutcome
-use Rattle.rules.specs.declared.answer.Profiled.{Profiled}
 use Rattle.rules.specs.InstructionSet.{machine_of}
 use Rattle.rules.specs.Run.{outcome_of}
 use Rattle.rules.specs.Profile.{encode_step}

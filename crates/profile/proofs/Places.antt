@@ -1,10 +1,10 @@
 -- The places at the start of a step: found one after the other, and written. Assumes nothing.
-use Prim.Native.Nat.{ℕ, zero, suc, ◌+◌, ◌-◌, ◌*◌, ◌/◌, ◌%◌, ◌≤◌, ◌<◌}
-use mathlib.Core.Path.{◌≡◌, refl, sym, ap, ◌∙◌}
+use Prim.Native.Nat.{ℕ, zero, suc, ◌+◌, ◌-◌, ◌*◌, ◌/◌, ◌≤◌, ◌<◌}
+use mathlib.Core.Path.{◌≡◌, sym, ap, ◌∙◌}
 use mathlib.Core.List.{List, [], ◌∷◌, ◌++◌}
 use native.Mathlib.Omega.{arith}
 use native.Mathlib.Decide.{dec_le}
-use lib.ListN.{length, get_or, set, take, drop, length-set, take-append-drop}
+use lib.ListN.{length, get_or, set, take, drop, take-append-drop}
 use lib.Seq.{take_all, get_or-set_same, get_or-set_other, get_or-drop, drop-drop, length-take-le, set-append_left}
 use Rattle.store_flags.specs.Flags.{places, place, ones, in_word, flags_of, Counted}
 use Rattle.store_flags.proofs.Laws.{Binary, ones_le, ones_places, ones_split, ones_append, ones_set, ones_past, place_skip, place_left, place_right, place_rest, place_lt, place_one}

@@ -1,7 +1,7 @@
 -- 02, R-1, in bytes: "if it isn't refused, its end must equal every order's as demand 3 compares them". One claim about a profile and a run over one graph and one
 -- list of inputs, for every list of picks, and whatever the buffers held before. It speaks of what `profile`, `run` (crate engine) and `list` (crate listing)
 -- promise. The statement; it is proved in proofs/EndsAsRun. Assumes nothing.
-use Rattle.std.specs.Prelude.{ℕ, ◌+◌, ◌/◌, ◌<◌, ◌≡◌, List, ◌∷◌, length}
+use Rattle.std.specs.Prelude.{ℕ, ◌/◌, ◌<◌, ◌≡◌, List, length}
 use Rattle.number.specs.Number.{Bytes, number16}
 use Rattle.buffer.specs.Rows.{rows, All}
 use Rattle.record.specs.TokensAndTags.{capacity_of}

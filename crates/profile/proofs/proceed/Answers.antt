@@ -1,0 +1,84 @@
+-- `profile::proceed` meets its contract. The invariant is what holds after some whole steps (proofs/Looping), the measure how many records are left.
+-- Assumes nothing.
+use Prim.Native.Nat.{◌/◌, ◌<◌}
+use mathlib.Core.Path.{◌∙◌}
+use native.Mathlib.Omega.{arith}
+use lib.ListN.{length}
+use borrow.Author.Rules.{rules}
+use Rattle.store.proofs.Laws.{matching_counted, matching_places, matching_room}
+use Rattle.profile.proofs.Looping.{went_joined, firings_few, begun, same_profile, advanced, halted, finished}
+use Rattle.record.specs.Widths.{step_width}
+use Rattle.profile.proofs.proceed.Goals as goal
+
+pub loop-records-init : goal.loop-records-init
+loop-records-init c = (begun _ _ _ c.requires.0 c.requires.1 c.requires.2, search rules)
+
+pub step-ended-requires : goal.step-ended-requires
+step-ended-requires c =
+    (c.requires.0, c.loop-records.invariant.0.went.running, c.loop-records.invariant.0.unspent_left, c.loop-records.invariant.1)
+
+pub put_record-requires : goal.put_record-requires
+put_record-requires c =
+    omega (arith, same_profile _ _ _ c.requires.0 c.requires.1 c.loop-records.invariant.0 (omega arith), c.loop-records-test.true)
+
+pub overflow_add-firings : goal.overflow_add-firings
+overflow_add-firings c =
+    let w = rw c.in-Whole.is at c.step-ended.ensures.step_done in
+    omega (arith, firings_few _ c.requires.0 c.requires.1 (went_joined _ _ _ _ c.loop-records.invariant.0.went w.went))
+
+pub overflow_add-records : goal.overflow_add-records
+overflow_add-records c =
+    let more : c.loop-records.records < length c.args.profile.now / step_width = c.loop-records-test.true in
+    omega (arith, more)
+
+pub loop-records-smaller : goal.loop-records-smaller
+loop-records-smaller c = omega (arith, c.loop-records-test.true)
+
+pub loop-records-preserved : goal.loop-records-preserved
+loop-records-preserved c =
+    let at-step = c.step-ended in
+    let w = rw c.in-Whole.is at at-step.ensures.step_done in
+    (advanced _ _ _ c.requires.0 c.requires.1 c.loop-records.invariant.0 c.loop-records-test.true w c.put_record.ensures, at-step.ensures.places_len)
+
+pub overflow_add-firings-in-Ended : goal.overflow_add-firings-in-Ended
+overflow_add-firings-in-Ended c =
+    let w = rw c.in-Ended.is at c.step-ended.ensures.step_done in
+    omega (arith, firings_few _ c.requires.0 c.requires.1 (went_joined _ _ _ _ c.loop-records.invariant.0.went w.went))
+
+pub shape_of-ledger-in-Ended : goal.shape_of-ledger-in-Ended
+shape_of-ledger-in-Ended c =
+    let w = rw c.in-Ended.is at c.step-ended.ensures.step_done in
+    w.went.size ∙ c.loop-records.invariant.0.went.size
+
+pub shape_of-cells-in-Ended : goal.shape_of-cells-in-Ended
+shape_of-cells-in-Ended c =
+    let w = rw c.in-Ended.is at c.step-ended.ensures.step_done in
+    w.went.cell_size ∙ c.loop-records.invariant.0.went.cell_size
+
+pub shape_of-profile-in-Ended : goal.shape_of-profile-in-Ended
+shape_of-profile-in-Ended c =
+    same_profile _ _ _ c.requires.0 c.requires.1 c.loop-records.invariant.0 (omega arith)
+
+pub returns-in-Ended : goal.returns-in-Ended
+returns-in-Ended c =
+    let w = rw c.in-Ended.is at c.step-ended.ensures.step_done in
+    rw c.answered.ensures (halted _ _ _ c.requires.0 c.requires.1 c.loop-records.invariant.0 c.loop-records-test.true w)
+
+pub no_record-outcome-requires : goal.no_record-outcome-requires
+no_record-outcome-requires c =
+    let m = c.loop-records.invariant.0.went.running.matching in
+    (matching_counted m, matching_places m, matching_room m)
+
+pub shape_of-ledger : goal.shape_of-ledger
+shape_of-ledger c = c.loop-records.invariant.0.went.size
+
+pub shape_of-cells : goal.shape_of-cells
+shape_of-cells c = c.loop-records.invariant.0.went.cell_size
+
+pub shape_of-profile : goal.shape_of-profile
+shape_of-profile c =
+    same_profile _ _ _ c.requires.0 c.requires.1 c.loop-records.invariant.0 (omega arith)
+
+pub returns : goal.returns
+returns c =
+    rw c.answered-2.ensures (finished _ _ _ c.requires.0 c.requires.1 c.loop-records.invariant.0 c.loop-records-test.false _ c.no_record-outcome.ensures)
