@@ -1,14 +1,14 @@
 -- The promise of the cache: where `serves` says yes, the run that is asked for shows what the kept run shows, and its profile is the kept one (`decided`). The same run in every
 -- byte leaves the same; another order ends alike by demand 3, and by R-9 if the kept run had a bound. Assumes nothing.
-use Prim.Native.Nat.{ℕ, ◌*◌, ◌/◌, ◌%◌, ◌≤◌}
+use Prim.Native.Nat.{ℕ, ◌*◌, ◌/◌, ◌≤◌}
 use mathlib.Core.Path.{◌≡◌, refl, sym, ap, subst, ◌∙◌}
 use mathlib.Core.Logic.{◌⊎◌, inl, inr}
-use mathlib.Core.Bool.{Bool, true, false, ◌&&◌, ◌||◌}
-use mathlib.Core.List.{List, [], ◌∷◌, ◌++◌}
+use mathlib.Core.Bool.{Bool, true}
+use mathlib.Core.List.{List}
 use native.Mathlib.Omega.{arith}
 use borrow.Author.Tests.{eqb-true, leb-true}
-use lib.Dec.{eqb, leb}
-use lib.ListN.{length, take, drop, length-map}
+use lib.Dec.{eqb}
+use lib.ListN.{length, take, length-map}
 use lib.Seq.{take_at}
 use Rattle.number.specs.Number.{Bytes}
 use Rattle.buffer.specs.Rows.{whole, joined}
@@ -16,15 +16,14 @@ use Rattle.buffer.proofs.Tables.{length_joined}
 use Rattle.record.specs.GraphRecords.{graph_of}
 use Rattle.record.specs.TokensAndTags.{most_tokens, capacity_of}
 use Rattle.record.specs.TokensAndTags as Tokens
-use Rattle.record.specs.Widths.{token_width, cell_width, pick_width, step_width}
+use Rattle.record.specs.Widths.{cell_width, pick_width, step_width}
 use Rattle.machine.specs.Steps.{StepRecord}
 use Rattle.machine.specs.Orders.{Completed, Hung, Quiescent}
 use Rattle.rules.specs.declared.answer.Answer.{Answer}
-use Rattle.rules.specs.declared.answer.Profiled.{Profiled}
 use Rattle.rules.specs.declared.answer.Outcome.{Outcome}
 use Rattle.rules.specs.declared.answer.Outcome.TheVariants as Outcomes
 use Rattle.rules.specs.declared.answer.Refusal.TheVariants.{BadBound}
-use Rattle.rules.specs.Check.{◌and_then◌, demand, check_stores, check_arrays, most_cells}
+use Rattle.rules.specs.Check.{demand, check_stores, check_arrays, most_cells}
 use Rattle.rules.specs.Run.{Result, refused_at_once, ran_to, result, Ran, cells_after, token_record}
 use Rattle.rules.specs.Run as Run
 use Rattle.rules.specs.Runs.{LentToRun, LeftByRun, RanOn, LentToProfile, LeftByProfile, outcome_in}
@@ -43,11 +42,9 @@ use Rattle.listing.specs.Listing.{listing, list_answer, listed_out}
 use Rattle.listing.specs.Demand3.{used_bytes}
 use Rattle.listing.proofs.Answers.{Lengths, answers_done}
 use Rattle.listing.proofs.AnyTwoOrders.{length_tokens}
-use Rattle.listing.specs.Demand3 as Demand3
 use Rattle.listing.specs.BoundedOrders.{NoneHeldLeft}
 use Rattle.listing.proofs.Demand3.{used_bytes_lem, ran_cells, two_budgets}
 use Rattle.listing.proofs.BoundedOrders.{bounded_as_orders, zero_is_none}
-use Rattle.plot_cache.specs.declared.Limits.{Limits}
 use Rattle.plot_cache.specs.declared.Ended.{Ended}
 use Rattle.plot_cache.specs.Serves.{Request, same_bytes, same_machine, same_order, rests, any_order, serves, RanAs, ProfiledAs, ShownAlike, PlottedAlike, KeptOf, Served, Decided}
 use Rattle.plot_cache.proofs.SameLists.{same_list}
