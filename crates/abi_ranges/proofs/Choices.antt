@@ -1,15 +1,12 @@
 -- 02, R-11, proved in bytes: a range run at rest holds every plain run of inputs within its ranges (`ranges_hold`), and any two orders of a range run agree (`range_orders`).
 -- Assumes nothing.
 use Prim.Native.Nat.{ℕ}
-use mathlib.Core.Path.{◌≡◌, refl, sym, ap, subst, ◌∙◌}
+use mathlib.Core.Path.{◌≡◌, sym, ap, subst, ◌∙◌}
 use mathlib.Core.List.{List}
 use lib.ListN.{length}
-use lib.IntN.{ℤ}
-use Rattle.record.specs.declared.tag.Tag.{Tag}
-use Rattle.arithmetic.specs.declared.Range.{Range}
 use Rattle.arithmetic.specs.Ranges.{Holds}
 use Rattle.machine.specs.Orders.{Quiescent}
-use Rattle.machine.specs.InStep.{RelatedToken, RelatedEnds}
+use Rattle.machine.specs.InStep.{RelatedToken}
 use Rattle.machine.proofs.InStep.{pair_length}
 use Rattle.rules.specs.declared.answer.Outcome as AnswerOutcome
 use Rattle.rules.specs.Run as Plain
