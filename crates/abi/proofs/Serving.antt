@@ -7,7 +7,7 @@ use Rattle.rules.specs.declared.answer.Answer.{Answer}
 use Rattle.plot_cache.specs.Serves.{Request, Served, Decided}
 use Rattle.abi.specs.declared.Unpacked.{Unpacked}
 use Rattle.abi.specs.declared.Unpacked.TheVariants.{Answered, NoAnswer}
-use Rattle.abi.specs.Numbers.{unpacked, ended, serves_number, ServesNumber}
+use Rattle.abi.specs.Numbers.{unpacked, ended, ServesNumber}
 
 abbrev answer_in : Unpacked → Answer → Answer
 answer_in (Answered a) b = a
